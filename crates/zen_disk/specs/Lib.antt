@@ -1,0 +1,9 @@
+pub mod Asked
+pub mod Disk
+pub mod Faults
+pub mod Fuse
+pub mod Moments
+pub mod Orders
+pub mod Past
+pub mod Runs
+pub mod State

@@ -1,0 +1,80 @@
+// A file as the journal sees it: what a read gives, and what a crash may leave.
+ghost use Rattle.std.specs.Prelude.{◌≡◌, ◌+◌, ◌^◌, ◌≤◌, List, ℕ, length, is_ok, Bool, IfOk, OnOk};
+ghost use Rattle.zen_disk.specs.Disk.{written, part, Torn};
+ghost use Rattle.zen_disk.specs.Faults.{HasCause};
+ghost use Rattle.zen_disk.specs.Asked.{Asked, Length, Reads, Writes, Syncs};
+ghost use Rattle.zen_disk.specs.Moments.{Follows, Within, Only, Elapses};
+
+/// The disk has failed, and its count of faults rose.
+#[derive(Clone, Copy, Debug, PartialEq, Eq)]
+pub struct Failed;
+
+pub trait Disk {
+    /// Whether it tells what it holds. A real file does not.
+    ghost told: { Type 0 };
+
+    /// The bytes that a read gives.
+    ghost seen: { Self → List ℕ };
+
+    /// What a crash at this moment may leave.
+    ghost may_leave: { Self → List ℕ → Type 0 };
+
+    /// The moment, as a number that doesn't fall.
+    ghost moment: { Self → ℕ };
+
+    /// What a crash at some moment from that one on might have left, during a call or between two.
+    ghost left_since: { Self → ℕ → List ℕ → Type 0 };
+
+    /// How often the disk has failed.
+    ghost faults: { Self → ℕ };
+
+    /// Whether a call that is asked and answered so leads from one to the other, as far as that is told.
+    ghost steps: { Self → Asked → Self → Bool → Type 0 };
+
+    fn len(&mut self) -> Result<u64, Failed>
+        ensures value { told → IfOk result (λ n. n ≡ length (seen self.old)) }
+        ensures seen { seen self.new ≡ seen self.old }
+        ensures crash { Within (may_leave self.old) (may_leave self.new) }
+        ensures time { Elapses (moment self.old) (moment self.new) (left_since self.old) (left_since self.new) (may_leave self.new) }
+        ensures step { steps self.old Length self.new (is_ok result) }
+        ensures cause { HasCause (faults self.old) (faults self.new) result };
+
+    /// Reads the bytes at an offset.
+    fn read(&mut self, at: u64, into: &mut [u8]) -> Result<(), Failed>
+        requires { told → at + length into.old ≤ length (seen self.old) }
+        ensures value { told → OnOk result (into.new ≡ part at (length into.old) (seen self.old)) }
+        ensures seen { seen self.new ≡ seen self.old }
+        ensures crash { Within (may_leave self.old) (may_leave self.new) }
+        ensures time { Elapses (moment self.old) (moment self.new) (left_since self.old) (left_since self.new) (may_leave self.new) }
+        ensures step { steps self.old (Reads at (length into.old)) self.new (is_ok result) }
+        ensures cause { HasCause (faults self.old) (faults self.new) result };
+
+    /// Writes over what is there, and past the end. Until a sync, a crash may leave any bytes in the range,
+    /// also of a write that failed.
+    fn write_at(&mut self, at: u64, bytes: &[u8]) -> Result<(), Failed>
+        requires { told → at ≤ length (seen self.old) }
+        ensures written { told → OnOk result (seen self.new ≡ written (seen self.old) at bytes.now) }
+        ensures limit { OnOk result (at + length bytes.now ≤ 2 ^ 62) }
+        ensures crash { Follows (Torn at (length bytes.now)) (may_leave self.old) (may_leave self.new) }
+        ensures time { Elapses (moment self.old) (moment self.new) (left_since self.old) (left_since self.new) (may_leave self.new) }
+        ensures step { steps self.old (Writes at bytes.now) self.new (is_ok result) }
+        ensures cause { HasCause (faults self.old) (faults self.new) result };
+
+    /// After it, a crash leaves what a read gives.
+    fn sync(&mut self) -> Result<(), Failed>
+        ensures durable { OnOk result (Only (seen self.old) (may_leave self.new)) }
+        ensures seen { seen self.new ≡ seen self.old }
+        ensures crash { Within (may_leave self.old) (may_leave self.new) }
+        ensures time { Elapses (moment self.old) (moment self.new) (left_since self.old) (left_since self.new) (may_leave self.new) }
+        ensures step { steps self.old Syncs self.new (is_ok result) }
+        ensures cause { HasCause (faults self.old) (faults self.new) result };
+
+    /// A disk as it reads is one of the outcomes of a crash.
+    ghost seen_may_stay: { (d : Self) → told → may_leave d (seen d) };
+
+    /// This moment is one of those since an earlier one.
+    ghost counts_now: { (d : Self) (t : ℕ) (c : List ℕ) → t ≤ moment d → may_leave d c → left_since d t c };
+
+    /// Since this moment there is no other.
+    ghost only_now: { (d : Self) (c : List ℕ) → left_since d (moment d) c → may_leave d c };
+}
