@@ -4,6 +4,7 @@ ghost use Rattle.voting_config.specs.Ids.{is_id as is_id_of, is_id_byte as byte_
 ghost use Rattle.voting_config.specs.Parse.{parsed};
 
 use std::cmp::Ordering;
+use std::fmt;
 use std::hash::{Hash, Hasher};
 use std::marker::Model;
 
@@ -92,6 +93,18 @@ impl NodeId {
             Ok(text) => text,
             Err(_) => unreachable!(),
         }
+    }
+}
+
+impl fmt::Display for NodeId {
+    fn fmt<W: fmt::Write>(&self, f: &mut fmt::Formatter<W>) -> fmt::Result {
+        f.write_str(self.as_str())
+    }
+}
+
+impl fmt::Debug for NodeId {
+    fn fmt<W: fmt::Write>(&self, f: &mut fmt::Formatter<W>) -> fmt::Result {
+        f.write_str(self.as_str())
     }
 }
 

@@ -1,0 +1,9 @@
+pub mod Faults
+pub mod Initial
+pub mod JoinCheck
+pub mod Order
+pub mod Field
+pub mod Settings
+pub mod Fields
+pub mod States
+pub mod Json

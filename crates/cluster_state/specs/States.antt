@@ -1,0 +1,50 @@
+-- A state as bytes.
+use Rattle.std.specs.Prelude.{◌≡◌, ℕ, ◌≤◌, ◌^◌, ◌==◌, List, length, Option, Result, Ok, Err, if◌then◌else◌}
+use Rattle.voting_config.specs.Ids.{Id, most_ids}
+use Rattle.cluster_state.specs.declared.fault.FieldError.{FieldError}
+use Rattle.cluster_state.specs.declared.fault.StateFault.{StateFault}
+use Rattle.cluster_state.specs.declared.fault.StateFault.TheVariants as fault
+use Rattle.cluster_state.specs.declared.state.ClusterState.{ClusterState}
+use Rattle.cluster_state.specs.declared.state.ClusterValue.{ClusterValue}
+use Rattle.cluster_state.specs.declared.state.StateId.{StateId}
+use Rattle.cluster_state.specs.Field.{Field, optional, ◌then◌, shaped}
+use Rattle.cluster_state.specs.Fields.{term, version, id, ids, settings, AreFitSettings}
+use Rattle.cluster_state.specs.Settings.{Setting}
+
+-- the fields of a value, and of a state, one after the other
+abbrev pub ValueParts : Type 0
+ValueParts = (Option Id) × ((List Id) × ((List Id) × (List Setting)))
+
+abbrev pub value : Field ClusterValue
+value = shaped
+    (λ p. record { master = p.0; members = p.1.0; exclusions = p.1.1.0; settings = p.1.1.1 })
+    (λ v. (v.master, (v.members, (v.exclusions, v.settings))))
+    (optional id then ids most_ids then ids 10 then settings)
+
+abbrev pub state : Field ClusterState
+state = shaped
+    (λ p. record { term = p.0; version = p.1.0; config = p.1.1.0; committed = p.1.1.1.0; value = p.1.1.1.1 })
+    (λ s. (s.term, (s.version, (s.config, (s.committed, s.value)))))
+    (term then version then ids most_ids then ids most_ids then value)
+
+-- the bytes are one field and nothing else
+abbrev pub whole : {A : Type 0} → Result (A × List ℕ) FieldError → Result A StateFault
+whole (Ok x) = if length x.1 == 0 then Ok x.0 else Err fault.Trailing
+whole (Err e) = Err (fault.Field e)
+
+-- the bytes are the value's spelling, all of them
+abbrev pub Spells : {A : Type 0} → Field A → A → List ℕ → Type 0
+Spells f x bytes = f.Fits x × (bytes ≡ f.spelling x)
+
+-- the value, the state is within the limits
+pub record IsFitValue (v : ClusterValue) : Type 0 where
+  pub exclusions : length v.exclusions ≤ 10
+  pub settings : AreFitSettings v.settings
+
+pub record IsFit (s : ClusterState) : Type 0 where
+  pub term : s.term ≤ 2 ^ 62
+  pub version : s.version ≤ 2 ^ 62
+  pub value : IsFitValue s.value
+
+abbrev pub id_of : ClusterState → StateId
+id_of s = record { term = s.term; version = s.version }

@@ -1,0 +1,252 @@
+//! Fields read from the front of bytes: each gives the value, or the first fault.
+
+ghost use Rattle.std.specs.Prelude.{◌≡◌, ◌≤◌, ◌==◌, [], length, if◌then◌else◌, true};
+ghost use Rattle.std.specs.Option.{option_copied};
+ghost use Rattle.std.specs.Str.{is_utf8};
+ghost use Rattle.cluster_state.specs.Faults.{Reads, ReadsInMemory};
+ghost use Rattle.cluster_state.specs.Field.{number, byte, short, flag, optional, elements_at};
+ghost use Rattle.cluster_state.specs.Fields.{term, version, id, ids, text, setting, settings};
+ghost use Rattle.cluster_state.specs.Settings.{comes_after_keys};
+ghost use Rattle.voting_config.specs.Ids.{comes_after, most_ids};
+
+use crate::fault::{FieldError, ReadError};
+use crate::settings::Settings;
+use std::alloc::Global;
+use std::marker::Model;
+use voting_config::{MAX_IDS, NodeId, NodeSet, VotingConfig};
+
+/// How many settings a state has at most.
+pub const MAX_SETTINGS: u16 = 1024;
+
+/// Bytes that are read field by field, seen as those that are left.
+#[derive(Drop)]
+pub struct Reader<'a> {
+    rest: &'a [u8],
+}
+
+impl<'a> Model for Reader<'a> {
+    ghost use Rattle.std.specs.Prelude.{ℕ, List};
+
+    ghost Value = { List ℕ };
+
+    ghost view = { λ r. r.rest.now };
+}
+
+impl<'a> Reader<'a> {
+    pub fn new(bytes: &'a [u8]) -> Reader<'a>
+        ensures { result ≡ bytes.now }
+    {
+        Reader { rest: bytes }
+    }
+
+    /// Whether nothing is left.
+    pub fn is_at_end(&self) -> bool
+        ensures { result ≡ (length self.now == 0) }
+    {
+        self.rest.is_empty()
+    }
+
+    fn number(&mut self, too_large: FieldError) -> Result<u64, FieldError>
+        ensures { Reads (λ x. x) result self.new ((number too_large).at self.old) }
+    {
+        let bytes = self.rest;
+        if bytes.len() < 8 {
+            return Err(FieldError::Short);
+        }
+        let (front, rest) = bytes.split_at(8);
+        let number = u64::from_be_bytes([
+            front[0], front[1], front[2], front[3], front[4], front[5], front[6], front[7],
+        ]);
+        if number > 1 << 62 {
+            return Err(too_large);
+        }
+        self.rest = rest;
+        Ok(number)
+    }
+
+    pub fn term(&mut self) -> Result<u64, FieldError>
+        ensures { Reads (λ x. x) result self.new (term.at self.old) }
+    {
+        self.number(FieldError::TermTooLarge)
+    }
+
+    pub fn version(&mut self) -> Result<u64, FieldError>
+        ensures { Reads (λ x. x) result self.new (version.at self.old) }
+    {
+        self.number(FieldError::VersionTooLarge)
+    }
+
+    pub fn byte(&mut self) -> Result<u8, FieldError>
+        ensures { Reads (λ x. x) result self.new (byte.at self.old) }
+    {
+        match self.rest {
+            [] => Err(FieldError::Short),
+            [byte, rest @ ..] => {
+                self.rest = rest;
+                Ok(*byte)
+            }
+        }
+    }
+
+    fn short(&mut self) -> Result<u16, FieldError>
+        ensures { Reads (λ x. x) result self.new (short.at self.old) }
+    {
+        let bytes = self.rest;
+        if bytes.len() < 2 {
+            return Err(FieldError::Short);
+        }
+        let (front, rest) = bytes.split_at(2);
+        self.rest = rest;
+        Ok(u16::from_be_bytes([front[0], front[1]]))
+    }
+
+    pub fn flag(&mut self) -> Result<bool, FieldError>
+        ensures { Reads (λ x. x) result self.new (flag.at self.old) }
+    {
+        match self.rest {
+            [] => Err(FieldError::Short),
+            [0, rest @ ..] => {
+                self.rest = rest;
+                Ok(false)
+            }
+            [1, rest @ ..] => {
+                self.rest = rest;
+                Ok(true)
+            }
+            [_, ..] => Err(FieldError::BadFlag),
+        }
+    }
+
+    pub fn id(&mut self) -> Result<NodeId, FieldError>
+        ensures { Reads (λ x. x) result self.new (id.at self.old) }
+    {
+        let len = usize::from(self.byte()?);
+        if len < 1 {
+            return Err(FieldError::BadId);
+        }
+        if len > 32 {
+            return Err(FieldError::BadId);
+        }
+        let bytes = self.rest;
+        if bytes.len() < len {
+            return Err(FieldError::Short);
+        }
+        let (front, rest) = bytes.split_at(len);
+        self.rest = rest;
+        NodeId::from_bytes(front).ok_or(FieldError::BadId)
+    }
+
+    pub fn optional_id(&mut self) -> Result<Option<NodeId>, FieldError>
+        ensures { Reads (λ x. x) result self.new ((optional id).at self.old) }
+    {
+        if self.flag()? {
+            let id = self.id()?;
+            Ok(Some(id))
+        } else {
+            Ok(None)
+        }
+    }
+
+    // So many ids.
+    fn elements(&mut self, count: u8) -> Result<NodeSet, FieldError>
+        requires { count ≤ most_ids }
+        ensures { Reads (λ x. x) result self.new (elements_at comes_after id.at count [] self.old) }
+    {
+        let mut ids = NodeSet::new();
+        for _ in 0..count {
+            let id = self.id()?;
+            if !ids.comes_last(id) {
+                return Err(FieldError::NotOrdered);
+            }
+            ids.push(id);
+        }
+        Ok(ids)
+    }
+
+    /// A set of at most so many ids.
+    pub fn ids(&mut self, limit: u8) -> Result<NodeSet, FieldError>
+        requires { limit ≤ most_ids }
+        ensures { Reads (λ x. x) result self.new ((ids limit).at self.old) }
+    {
+        let count = self.byte()?;
+        if count > limit {
+            return Err(FieldError::TooMany);
+        }
+        self.elements(count)
+    }
+
+    /// A voting configuration.
+    pub fn config(&mut self) -> Result<VotingConfig, FieldError>
+        ensures { Reads (λ x. x) result self.new ((ids most_ids).at self.old) }
+    {
+        let members = self.ids(MAX_IDS as u8)?;
+        Ok(VotingConfig::of(&members))
+    }
+
+    /// A text of `low` to `high` bytes.
+    pub fn text(&mut self, low: u16, high: u16) -> Result<&'a str, FieldError>
+        ensures { Reads (λ x. x.now) result self.new ((text low high).at self.old) }
+    {
+        let len = self.short()?;
+        if len < low {
+            return Err(FieldError::BadText);
+        }
+        if len > high {
+            return Err(FieldError::BadText);
+        }
+        let len = usize::from(len);
+        let bytes = self.rest;
+        if bytes.len() < len {
+            return Err(FieldError::Short);
+        }
+        let (front, rest) = bytes.split_at(len);
+        self.rest = rest;
+        match text_of(front) {
+            Some(text) => Ok(text),
+            None => Err(FieldError::BadText),
+        }
+    }
+
+    fn setting(&mut self) -> Result<(&'a str, &'a str), FieldError>
+        ensures { Reads (λ x. (x.0.now, x.1.now)) result self.new (setting.at self.old) }
+    {
+        let key = self.text(1, 128)?;
+        let value = self.text(0, 1024)?;
+        Ok((key, value))
+    }
+
+    // So many settings.
+    fn entries(&mut self, alloc: Global, count: u16) -> Result<Settings, ReadError>
+        ensures { ReadsInMemory result self.new (elements_at comes_after_keys setting.at count [] self.old) }
+    {
+        let mut settings = Settings::new(alloc);
+        for _ in 0..count {
+            let (key, value) = self.setting()?;
+            if !settings.comes_last(key) {
+                return Err(ReadError::Field(FieldError::NotOrdered));
+            }
+            settings.push(key, value)?;
+        }
+        Ok(settings)
+    }
+
+    pub fn settings(&mut self, alloc: Global) -> Result<Settings, ReadError>
+        ensures { ReadsInMemory result self.new (settings.at self.old) }
+    {
+        let count = self.short()?;
+        if count > MAX_SETTINGS {
+            return Err(ReadError::Field(FieldError::TooMany));
+        }
+        self.entries(alloc, count)
+    }
+}
+
+// The bytes as a text, where they are UTF-8.
+fn text_of(bytes: &[u8]) -> Option<&str>
+    ensures { option_copied result ≡ (if is_utf8 bytes.now then Some bytes.now else None) }
+{
+    match str::from_utf8(bytes) {
+        Ok(text) => Some(text),
+        Err(_) => None,
+    }
+}

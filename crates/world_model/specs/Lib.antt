@@ -1,0 +1,10 @@
+pub mod Acts
+pub mod NodeState
+pub mod Replies
+pub mod Histories
+pub mod Safety
+pub mod Steps
+pub mod Local
+pub mod Laws
+pub mod Literal
+pub mod Restarts

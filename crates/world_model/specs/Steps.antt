@@ -1,0 +1,70 @@
+-- What one more act makes of a node, told from what the node was.
+use Rattle.std.specs.Prelude.{◌≡◌, max, Bool, true, false, cond, ◌||◌, [], refl}
+use Rattle.voting_config.specs.Ids.{with_id}
+use Rattle.world_model.specs.Acts.{Act, Outcome, NodeHistory, Bootstrap, StartJoin, TakeJoin, Value, Publish, Response, Commit, Open, Then, is_ok, is_effective, wins, is_disk}
+use Rattle.world_model.specs.NodeState.{NodeState, node_state, initial_state}
+
+-- the part after an act that is no opening
+abbrev pub node_state_after : NodeState → Act → Outcome → NodeState
+node_state_after p (Bootstrap config) o = record p {
+  accepted = cond (is_effective o) (initial_state config) p.accepted;
+  committed = cond (is_effective o) config p.committed;
+  stopped = is_disk o || p.stopped;
+}
+node_state_after p (StartJoin candidate term) o = record p {
+  term = cond (is_effective o) (max term p.term) p.term;
+  started = is_ok o || p.started;
+  votes = cond (is_ok o) [] p.votes;
+  won = cond (is_ok o) false p.won;
+  version = cond (is_ok o) 0 p.version;
+  config = cond (is_ok o) p.accepted.config p.config;
+  acks = cond (is_ok o) [] p.acks;
+  stopped = is_disk o || p.stopped;
+}
+node_state_after p (TakeJoin join) o = record p {
+  votes = cond (is_ok o) (with_id join.source p.votes) p.votes;
+  won = wins o || p.won;
+  version = cond (wins o) p.accepted.version p.version;
+  stopped = is_disk o || p.stopped;
+}
+node_state_after p (Value version config value) o = record p {
+  version = cond (is_ok o) version p.version;
+  config = cond (is_ok o) config p.config;
+  acks = cond (is_ok o) [] p.acks;
+  stopped = is_disk o || p.stopped;
+}
+node_state_after p (Publish request) o = record p {
+  accepted = cond (is_effective o) request.state p.accepted;
+  committed = cond (is_effective o) request.state.committed p.committed;
+  stopped = is_disk o || p.stopped;
+}
+node_state_after p (Response response) o = record p {
+  acks = cond (is_ok o) (with_id response.source p.acks) p.acks;
+  stopped = is_disk o || p.stopped;
+}
+node_state_after p (Commit commit) o = record p {
+  committed = cond (is_effective o) p.accepted.config p.committed;
+  stopped = is_disk o || p.stopped;
+}
+node_state_after p (Open found) o = p
+
+abbrev pub is_opening : Act → Bool
+is_opening (Open found) = true
+is_opening (Bootstrap config) = false
+is_opening (StartJoin candidate term) = false
+is_opening (TakeJoin join) = false
+is_opening (Value version config value) = false
+is_opening (Publish request) = false
+is_opening (Response response) = false
+is_opening (Commit commit) = false
+
+-- the look-ups over one more act are those of before, moved by this act
+pub node_state-Then : (g : NodeHistory) (act : Act) (o : Outcome) → is_opening act ≡ false → node_state (Then g act o) ≡ node_state_after (node_state g) act o
+node_state-Then g (Bootstrap config) o h = refl
+node_state-Then g (StartJoin candidate term) o h = refl
+node_state-Then g (TakeJoin join) o h = refl
+node_state-Then g (Value version config value) o h = refl
+node_state-Then g (Publish request) o h = refl
+node_state-Then g (Response response) o h = refl
+node_state-Then g (Commit commit) o h = refl
+node_state-Then g (Open found) o h = cc

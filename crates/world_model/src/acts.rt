@@ -1,0 +1,67 @@
+//! What a node does: its acts, what they send, and how they end.
+
+use cluster_state::{
+    ApplyCommit, ClusterValue, CommitCause, InitialCause, Join, JoinCause, Kept, PublishCause,
+    PublishRequest, PublishResponse, ResponseCause, StartCause, ValueCause,
+};
+use voting_config::{NodeId, VotingConfig};
+
+/// An act of a node, with its whole message.
+#[derive(Drop)]
+pub enum Act {
+    /// The initial configuration is taken.
+    Bootstrap(VotingConfig),
+    /// A join is started for a candidate in a term.
+    StartJoin(NodeId, u64),
+    /// A join is counted.
+    TakeJoin(Join),
+    /// A client's value is published, as this version and with this configuration.
+    Value(u64, VotingConfig, ClusterValue),
+    /// A published state is accepted.
+    Publish(PublishRequest),
+    /// The response to a publication is counted.
+    Response(PublishResponse),
+    /// The accepted state is committed.
+    Commit(ApplyCommit),
+    /// The journal is opened, and holds this record.
+    Open(Kept),
+}
+
+/// What an act sends.
+#[derive(Drop)]
+pub enum Message {
+    Join(Join),
+    Publish(PublishRequest),
+    Response(PublishResponse),
+    Commit(ApplyCommit),
+}
+
+/// Why an act is refused.
+#[derive(Clone, Copy, Debug, PartialEq, Eq)]
+pub enum Cause {
+    Initial(InitialCause),
+    Start(StartCause),
+    Join(JoinCause),
+    Value(ValueCause),
+    Publish(PublishCause),
+    Response(ResponseCause),
+    Commit(CommitCause),
+}
+
+/// What an act answers.
+#[derive(Drop)]
+pub enum Reply {
+    /// It is taken. It may send a message, and a join may win the election.
+    Taken(Option<Message>, bool),
+    Refused(Cause),
+    /// An earlier act met a fault of the disk, and the journal was not opened since.
+    Stopped,
+}
+
+/// How an act ended: with its reply, at a fault of the disk, or at a crash. The last two kept what the act writes, or not.
+#[derive(Drop)]
+pub enum Outcome {
+    Answered(Reply),
+    Disk(bool),
+    Crashed(bool),
+}
