@@ -8,7 +8,7 @@ use Rattle.cluster_state.specs.declared.state.ClusterState.{ClusterState}
 use Rattle.cluster_state.specs.declared.state.ClusterValue.{ClusterValue}
 use Rattle.cluster_state.specs.declared.state.StateId.{StateId}
 use Rattle.cluster_state.specs.Field.{Field, optional, ◌then◌, shaped}
-use Rattle.cluster_state.specs.Fields.{term, version, id, ids, settings, AreFitSettings}
+use Rattle.cluster_state.specs.Fields.{term, version, id, ids, most_exclusions, settings, AreFitSettings}
 use Rattle.cluster_state.specs.Settings.{Setting}
 
 -- the fields of a value, and of a state, one after the other
@@ -19,7 +19,7 @@ abbrev pub value : Field ClusterValue
 value = shaped
     (λ p. record { master = p.0; members = p.1.0; exclusions = p.1.1.0; settings = p.1.1.1 })
     (λ v. (v.master, (v.members, (v.exclusions, v.settings))))
-    (optional id then ids most_ids then ids 10 then settings)
+    (optional id then ids most_ids then ids most_exclusions then settings)
 
 abbrev pub state : Field ClusterState
 state = shaped
@@ -38,7 +38,7 @@ Spells f x bytes = f.Fits x × (bytes ≡ f.spelling x)
 
 -- the value, the state is within the limits
 pub record IsFitValue (v : ClusterValue) : Type 0 where
-  pub exclusions : length v.exclusions ≤ 10
+  pub exclusions : length v.exclusions ≤ most_exclusions
   pub settings : AreFitSettings v.settings
 
 pub record IsFit (s : ClusterState) : Type 0 where

@@ -15,6 +15,9 @@ use std::alloc::Global;
 use std::marker::Model;
 use voting_config::{MAX_IDS, NodeId, NodeSet, VotingConfig};
 
+/// How many exclusions from voting a state has at most.
+pub const MAX_EXCLUSIONS: u8 = 10;
+
 /// How many settings a state has at most.
 pub const MAX_SETTINGS: u16 = 1024;
 
@@ -33,6 +36,7 @@ impl<'a> Model for Reader<'a> {
 }
 
 impl<'a> Reader<'a> {
+    /// A reader of these bytes, from their front.
     pub fn new(bytes: &'a [u8]) -> Reader<'a>
         ensures { result ≡ bytes.now }
     {
@@ -64,18 +68,21 @@ impl<'a> Reader<'a> {
         Ok(number)
     }
 
+    /// A term: 8 bytes, big-endian. `Short`, then `TermTooLarge` over 2^62.
     pub fn term(&mut self) -> Result<u64, FieldError>
         ensures { Reads (λ x. x) result self.new (term.at self.old) }
     {
         self.number(FieldError::TermTooLarge)
     }
 
+    /// A version: 8 bytes, big-endian. `Short`, then `VersionTooLarge` over 2^62.
     pub fn version(&mut self) -> Result<u64, FieldError>
         ensures { Reads (λ x. x) result self.new (version.at self.old) }
     {
         self.number(FieldError::VersionTooLarge)
     }
 
+    /// One byte. `Short` where there is none.
     pub fn byte(&mut self) -> Result<u8, FieldError>
         ensures { Reads (λ x. x) result self.new (byte.at self.old) }
     {
@@ -100,6 +107,7 @@ impl<'a> Reader<'a> {
         Ok(u16::from_be_bytes([front[0], front[1]]))
     }
 
+    /// A flag: one byte. `Short`, then `BadFlag` where it is neither 0 nor 1.
     pub fn flag(&mut self) -> Result<bool, FieldError>
         ensures { Reads (λ x. x) result self.new (flag.at self.old) }
     {
@@ -117,6 +125,7 @@ impl<'a> Reader<'a> {
         }
     }
 
+    /// An id: one byte of length, and so many bytes. `Short`, then `BadId` on the length, `Short`, `BadId` on a byte.
     pub fn id(&mut self) -> Result<NodeId, FieldError>
         ensures { Reads (λ x. x) result self.new (id.at self.old) }
     {
@@ -136,6 +145,7 @@ impl<'a> Reader<'a> {
         NodeId::from_bytes(front).ok_or(FieldError::BadId)
     }
 
+    /// A flag, and behind a 1 an id.
     pub fn optional_id(&mut self) -> Result<Option<NodeId>, FieldError>
         ensures { Reads (λ x. x) result self.new ((optional id).at self.old) }
     {
@@ -163,7 +173,8 @@ impl<'a> Reader<'a> {
         Ok(ids)
     }
 
-    /// A set of at most so many ids.
+    /// A set of at most `limit` ids: one byte of count, then ids, ascending. `Short`, then `TooMany` on the count; after each id
+    /// `NotOrdered` where it is not above the one before.
     pub fn ids(&mut self, limit: u8) -> Result<NodeSet, FieldError>
         requires { limit ≤ most_ids }
         ensures { Reads (λ x. x) result self.new ((ids limit).at self.old) }
@@ -183,7 +194,8 @@ impl<'a> Reader<'a> {
         Ok(VotingConfig::of(&members))
     }
 
-    /// A text of `low` to `high` bytes.
+    /// A text of `low` to `high` bytes: 2 bytes of length, then UTF-8. `Short`, then `BadText` on the length, `Short`, `BadText`
+    /// where the bytes are not UTF-8.
     pub fn text(&mut self, low: u16, high: u16) -> Result<&'a str, FieldError>
         ensures { Reads (λ x. x.now) result self.new ((text low high).at self.old) }
     {
@@ -230,6 +242,8 @@ impl<'a> Reader<'a> {
         Ok(settings)
     }
 
+    /// Settings: 2 bytes of count, then keys and values, the keys ascending. `Short`, then `TooMany` on the count; after each
+    /// setting `NotOrdered` where its key is not above the one before.
     pub fn settings(&mut self, alloc: Global) -> Result<Settings, ReadError>
         ensures { ReadsInMemory result self.new (settings.at self.old) }
     {

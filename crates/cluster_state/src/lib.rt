@@ -19,7 +19,7 @@ pub use causes::{
 pub use decoding::decode_state;
 pub use encoding::encode_state;
 pub use fault::{DecodeError, FieldError, ReadError, StateFault};
-pub use fields::{MAX_SETTINGS, Reader};
+pub use fields::{MAX_EXCLUSIONS, MAX_SETTINGS, Reader};
 pub use json::{to_json, value_to_json};
 pub use messages::{ApplyCommit, Join, PublishRequest, PublishResponse, StartJoin};
 pub use settings::Settings;

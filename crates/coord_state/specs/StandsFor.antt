@@ -1,0 +1,55 @@
+-- When a node's fields stand for its acts so far, and what an act makes of them.
+use Rattle.std.specs.Prelude.{◌≡◌, ℕ, ◌≤◌, Bool, true, false}
+use Rattle.std.proofs.Common.{subst, sym, ◌∙◌, ap}
+use Rattle.zen_disk.specs.Faults.{Rose}
+use Rattle.cluster_state.specs.declared.state.Kept.{Kept}
+use Rattle.world_model.specs.declared.acts.Act.{Act}
+use Rattle.world_model.specs.declared.acts.Outcome.{Outcome}
+use Rattle.world_model.specs.Acts.{NodeHistory, Then, is_disk, is_crashed}
+use Rattle.world_model.specs.NodeState.{NodeState, node_state}
+use Rattle.world_model.specs.Replies.{IsOutcome, IsOutcomeAt}
+use Rattle.world_model.specs.Steps.{node_state_after, node_state-Then, is_opening}
+use Rattle.coord_state.specs.declared.coord.CoordState.{CoordState}
+
+module _ {K : Type 0} (record_of : K → Kept) (has_stopped : K → Bool) (faults : K → ℕ) where
+  -- the node's state, as its fields tell it
+  abbrev pub fields_of : CoordState K → NodeState
+  fields_of c = record {
+    term = (record_of c.keeper).term;
+    accepted = (record_of c.keeper).accepted;
+    committed = (record_of c.keeper).committed;
+    started = c.started;
+    votes = c.votes;
+    won = c.won;
+    version = c.version;
+    config = c.config;
+    acks = c.acks;
+    stopped = has_stopped c.keeper;
+  }
+
+  -- the fields are what the acts so far make of a node
+  abbrev pub StandsFor : CoordState K → NodeHistory → Type 0
+  StandsFor c g = fields_of c ≡ node_state g
+
+  -- one act, told by the fields alone
+  pub record ActsAt (old new : CoordState K) (act : Act) (outcome : Outcome) : Type 0 where
+    pub me : new.me ≡ old.me
+    pub answers : IsOutcomeAt old.me (fields_of old) act outcome
+    pub after : fields_of new ≡ node_state_after (fields_of old) act outcome
+    pub runs : is_crashed outcome ≡ false
+    pub later : faults old.keeper ≤ faults new.keeper
+    pub fault : is_disk outcome ≡ true → Rose (faults old.keeper) (faults new.keeper)
+
+  -- one act: whatever acts the node stood for, the outcome is the reply to it, and the node stands for them with it
+  pub record Acts (old new : CoordState K) (act : Act) (outcome : Outcome) : Type 0 where
+    pub at : ActsAt old new act outcome
+    pub answers : (g : NodeHistory) → StandsFor old g → IsOutcome old.me g act outcome
+    pub stands : (g : NodeHistory) → StandsFor old g → StandsFor new (Then g act outcome)
+
+  -- what is told by the fields holds of all acts that they stand for
+  pub acts : (old new : CoordState K) (act : Act) (outcome : Outcome) → is_opening act ≡ false → ActsAt old new act outcome → Acts old new act outcome
+  acts old new act outcome h a = record {
+    at = a;
+    answers = λ g s. subst (λ (p : NodeState). IsOutcomeAt old.me p act outcome) s a.answers;
+    stands = λ g s. a.after ∙ ap (λ (p : NodeState). node_state_after p act outcome) s ∙ sym (node_state-Then g act outcome h);
+  }

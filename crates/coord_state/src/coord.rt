@@ -1,0 +1,397 @@
+ghost use Rattle.std.specs.Prelude.{◌≡◌, false, ◌&&◌, ◌<◌, ◌⊎◌, true, length};
+ghost use Rattle.voting_config.specs.Ids.{has, is_quorum_of, most_ids};
+ghost use Rattle.world_model.specs.declared.acts.Act.TheVariants as act;
+ghost use Rattle.cluster_state.specs.Initial.{initial_state};
+ghost use Rattle.world_model.specs.NodeState.{opened};
+ghost use Rattle.coord_state.specs.Outcomes.{initial_outcome, start_outcome, join_outcome, value_outcome, publish_outcome, response_outcome, commit_outcome, HandsBack};
+ghost use Rattle.coord_state.specs.StandsFor.{Acts, StandsFor};
+
+use cluster_state::{
+    ApplyCommit, ClusterState, ClusterValue, CommitCause, InitialCause, Join, JoinCause, Kept,
+    LAST_NUMBER, PublishCause, PublishRequest, PublishResponse, ResponseCause, StartCause,
+    ValueCause,
+};
+use join_rules::{JoinVotes, join_check};
+use state_journal::{Keeper, Ready};
+use voting_config::{NodeId, NodeSet, VotingConfig};
+
+/// Why an act was not taken. What the call took is handed back, but where the disk failed.
+#[derive(Drop)]
+pub enum ActError<C, T> {
+    /// An earlier act met a fault of the disk, and the journal was not opened since.
+    Stopped(T),
+    /// The first cause that holds.
+    Refused(C, T),
+    /// The disk failed: its count of faults rose in this call.
+    Disk,
+}
+
+/// A join that was counted, and whether it won the election.
+#[derive(Clone, Copy)]
+pub struct Joined {
+    pub won: bool,
+}
+
+/// The rules of one node, over what keeps its record: those of `ZenWithTerms.tla` of elastic/elasticsearch-formal-models,
+/// under the names of Elasticsearch 7. A refused act changes nothing, in memory and on disk, and no act takes memory.
+#[derive(Drop)]
+pub struct CoordState<K> {
+    me: NodeId,
+    keeper: K,
+    started: bool,
+    won: bool,
+    votes: JoinVotes,
+    version: u64,
+    config: VotingConfig,
+    acks: JoinVotes,
+}
+
+// Whether the votes are a quorum of the committed and of the accepted configuration.
+fn is_elected(kept: &Kept, votes: &JoinVotes) -> bool
+    ensures { result ≡ (is_quorum_of kept.now.committed votes.now && is_quorum_of kept.now.accepted.config votes.now) }
+{
+    kept.committed.is_quorum(votes.ids()) && kept.accepted.config.is_quorum(votes.ids())
+}
+
+impl<K: Keeper> CoordState<K> {
+    /// The node's id.
+    pub fn me(&self) -> NodeId
+        ensures { result ≡ self.now.me }
+    {
+        self.me
+    }
+
+    /// What the node keeps durably.
+    pub fn kept(&self) -> &Kept
+        ensures { result.now ≡ K.record_of self.now.keeper }
+    {
+        self.keeper.kept()
+    }
+
+    /// Whether the node has started a join since it was opened.
+    pub fn started(&self) -> bool
+        ensures { result ≡ self.now.started }
+    {
+        self.started
+    }
+
+    /// Whether the node has won the election of its current term.
+    pub fn won(&self) -> bool
+        ensures { result ≡ self.now.won }
+    {
+        self.won
+    }
+
+    /// The sources of the joins counted in this round.
+    pub fn votes(&self) -> NodeSet
+        ensures { result ≡ self.now.votes }
+    {
+        self.votes.sources()
+    }
+
+    /// The sources of the responses counted since the last value was published.
+    pub fn acks(&self) -> NodeSet
+        ensures { result ≡ self.now.acks }
+    {
+        self.acks.sources()
+    }
+
+    /// The version and the configuration that were published last.
+    pub fn published(&self) -> (u64, &VotingConfig)
+        ensures version { result.0 ≡ self.now.version }
+        ensures config { result.1.now ≡ self.now.config }
+    {
+        (self.version, &self.config)
+    }
+
+    /// What keeps the node's record.
+    pub fn keeper(&self) -> &K
+        ensures { result.now ≡ self.now.keeper }
+    {
+        &self.keeper
+    }
+
+    /// What kept the node's record, given up by the node.
+    pub fn into_keeper(self) -> K
+        ensures { result ≡ self.keeper }
+    {
+        self.keeper
+    }
+
+    /// A node that was just opened over what keeps its record.
+    pub fn new(me: NodeId, keeper: K) -> CoordState<K>
+        requires { K.has_stopped keeper ≡ false }
+        ensures me { result.me ≡ me }
+        ensures keeper { result.keeper ≡ keeper }
+        ensures stands { StandsFor K.record_of K.has_stopped K.faults result (opened (K.record_of keeper)) }
+    {
+        CoordState {
+            me,
+            keeper,
+            started: false,
+            won: false,
+            votes: JoinVotes::new(),
+            version: 0,
+            config: VotingConfig::of(&NodeSet::new()),
+            acks: JoinVotes::new(),
+        }
+    }
+
+    /// Starts a join for the candidate `from` in a term, which must be greater than the current one. All votes are dropped.
+    /// Answers the join that is to be sent, with the id of the accepted state.
+    pub fn start_join(&mut self, from: NodeId, term: u64) -> Result<Join, ActError<StartCause, ()>>
+        ensures { Acts K.record_of K.has_stopped K.faults self.old self.new (act.StartJoin from term) (start_outcome result) }
+    {
+        if self.keeper.stopped() {
+            return Err(ActError::Stopped(()));
+        }
+        let kept = self.keeper.kept();
+        let current = kept.term;
+        let last_term = kept.accepted.term;
+        let last_version = kept.accepted.version;
+        if term <= current {
+            return Err(ActError::Refused(StartCause::TermNotGreater(current, term), ()));
+        }
+        if term > LAST_NUMBER {
+            return Err(ActError::Refused(StartCause::TermTooLarge(term), ()));
+        }
+        let config = VotingConfig::of(kept.accepted.config.members());
+        if self.keeper.set_term(term).is_err() {
+            return Err(ActError::Disk);
+        }
+        self.started = true;
+        self.won = false;
+        self.votes = JoinVotes::new();
+        self.version = 0;
+        self.config = config;
+        self.acks = JoinVotes::new();
+        Ok(Join {
+            source: self.me,
+            target: from,
+            term,
+            last_term,
+            last_version,
+        })
+    }
+
+    /// Takes the initial configuration, where the node has none. Elasticsearch calls this bootstrapping.
+    pub fn set_initial(&mut self, initial: Ready) -> Result<(), ActError<InitialCause, Ready>>
+        requires { initial.state ≡ initial_state initial.state.config }
+        ensures act { Acts K.record_of K.has_stopped K.faults self.old self.new (act.Bootstrap initial.state.config) (initial_outcome result) }
+        ensures back { HandsBack initial result }
+    {
+        if self.keeper.stopped() {
+            return Err(ActError::Stopped(initial));
+        }
+        let kept = self.keeper.kept();
+        if !kept.accepted.config.is_empty() {
+            return Err(ActError::Refused(InitialCause::AlreadySet, initial));
+        }
+        if initial.state.config.is_empty() {
+            return Err(ActError::Refused(InitialCause::EmptyConfig, initial));
+        }
+        match self.keeper.set_accepted(initial) {
+            Ok(()) => Ok(()),
+            Err(_) => Err(ActError::Disk),
+        }
+    }
+
+    /// Counts a join. The node wins the election where it has not won yet and its votes are now a quorum both of the
+    /// committed configuration and of the accepted state's.
+    pub fn join(&mut self, j: &Join) -> Result<Joined, ActError<JoinCause, ()>>
+        requires { (has j.now.source self.old.votes ≡ true) ⊎ (length self.old.votes < most_ids) }
+        ensures { Acts K.record_of K.has_stopped K.faults self.old self.new (act.TakeJoin j.now) (join_outcome result) }
+    {
+        if self.keeper.stopped() {
+            return Err(ActError::Stopped(()));
+        }
+        let kept = self.keeper.kept();
+        if let Err(cause) = join_check(
+            self.me,
+            kept.term,
+            kept.accepted.id(),
+            &kept.accepted.config,
+            self.started,
+            j,
+        ) {
+            return Err(ActError::Refused(cause, ()));
+        }
+        self.votes.add(j.source);
+        if self.won || !is_elected(kept, &self.votes) {
+            return Ok(Joined { won: false });
+        }
+        self.version = kept.accepted.version;
+        self.won = true;
+        Ok(Joined { won: true })
+    }
+
+    /// Publishes a new value with a version and a configuration, where the node has won and has accepted what it published
+    /// last. Another configuration than the accepted one is taken only once the accepted one is committed, and only if the
+    /// node's votes are a quorum of it.
+    pub fn client_value(
+        &mut self,
+        version: u64,
+        config: VotingConfig,
+        value: ClusterValue,
+    ) -> Result<PublishRequest, ActError<ValueCause, (VotingConfig, ClusterValue)>>
+        ensures act { Acts K.record_of K.has_stopped K.faults self.old self.new (act.Value version config value) (value_outcome result) }
+        ensures back { HandsBack (record { 0 = config; 1 = value }) result }
+    {
+        if self.keeper.stopped() {
+            return Err(ActError::Stopped((config, value)));
+        }
+        let kept = self.keeper.kept();
+        let accepted = kept.accepted.version;
+        if !self.won {
+            return Err(ActError::Refused(ValueCause::NotWon, (config, value)));
+        }
+        if self.version != accepted {
+            return Err(ActError::Refused(
+                ValueCause::NotAccepted(self.version, accepted),
+                (config, value),
+            ));
+        }
+        if version <= self.version {
+            return Err(ActError::Refused(
+                ValueCause::VersionNotGreater(self.version, version),
+                (config, value),
+            ));
+        }
+        if version > LAST_NUMBER {
+            return Err(ActError::Refused(ValueCause::VersionTooLarge(version), (config, value)));
+        }
+        if !config.is_same(&kept.accepted.config)
+            && !kept.committed.is_same(&kept.accepted.config)
+        {
+            return Err(ActError::Refused(ValueCause::Reconfiguring, (config, value)));
+        }
+        if !config.is_quorum(self.votes.ids()) {
+            return Err(ActError::Refused(ValueCause::NoJoinQuorum, (config, value)));
+        }
+        self.version = version;
+        self.config = VotingConfig::of(config.members());
+        self.acks = JoinVotes::new();
+        Ok(PublishRequest {
+            source: self.me,
+            state: ClusterState {
+                term: kept.term,
+                version,
+                committed: VotingConfig::of(kept.committed.members()),
+                config,
+                value,
+            },
+        })
+    }
+
+    /// Accepts a published state of the current term, whose id is above that of the accepted one.
+    pub fn publish_request(
+        &mut self,
+        source: NodeId,
+        state: Ready,
+    ) -> Result<PublishResponse, ActError<PublishCause, Ready>>
+        ensures act { Acts K.record_of K.has_stopped K.faults self.old self.new (act.Publish (record { source = source; state = state.state })) (publish_outcome result) }
+        ensures back { HandsBack state result }
+    {
+        if self.keeper.stopped() {
+            return Err(ActError::Stopped(state));
+        }
+        let kept = self.keeper.kept();
+        let term = state.state.term;
+        let version = state.state.version;
+        if kept.term != term {
+            return Err(ActError::Refused(PublishCause::TermMismatch(kept.term, term), state));
+        }
+        if term == kept.accepted.term && version <= kept.accepted.version {
+            return Err(ActError::Refused(
+                PublishCause::VersionNotGreater(kept.accepted.version, version),
+                state,
+            ));
+        }
+        match self.keeper.set_accepted(state) {
+            Ok(()) => Ok(PublishResponse {
+                source: self.me,
+                target: source,
+                term,
+                version,
+            }),
+            Err(_) => Err(ActError::Disk),
+        }
+    }
+
+    /// Counts the response to a publication. Answers a commit wherever the responses are a quorum both of the committed
+    /// configuration and of the published one, so also at later responses.
+    pub fn publish_response(
+        &mut self,
+        r: &PublishResponse,
+    ) -> Result<Option<ApplyCommit>, ActError<ResponseCause, ()>>
+        requires { (has r.now.source self.old.acks ≡ true) ⊎ (length self.old.acks < most_ids) }
+        ensures { Acts K.record_of K.has_stopped K.faults self.old self.new (act.Response r.now) (response_outcome result) }
+    {
+        if self.keeper.stopped() {
+            return Err(ActError::Stopped(()));
+        }
+        let kept = self.keeper.kept();
+        if r.target != self.me {
+            return Err(ActError::Refused(ResponseCause::NotForMe(r.target), ()));
+        }
+        if !self.won {
+            return Err(ActError::Refused(ResponseCause::NotWon, ()));
+        }
+        if kept.term != r.term {
+            return Err(ActError::Refused(ResponseCause::TermMismatch(kept.term, r.term), ()));
+        }
+        if self.version != r.version {
+            return Err(ActError::Refused(
+                ResponseCause::VersionMismatch(self.version, r.version),
+                (),
+            ));
+        }
+        self.acks.add(r.source);
+        if kept.committed.is_quorum(self.acks.ids()) && self.config.is_quorum(self.acks.ids()) {
+            Ok(Some(ApplyCommit {
+                source: self.me,
+                term: r.term,
+                version: r.version,
+            }))
+        } else {
+            Ok(None)
+        }
+    }
+
+    /// Takes it that the accepted state is committed: its configuration becomes the committed one. A winner does not take
+    /// the commit of a state while its newer publication is not accepted.
+    pub fn commit(&mut self, c: &ApplyCommit) -> Result<(), ActError<CommitCause, ()>>
+        ensures { Acts K.record_of K.has_stopped K.faults self.old self.new (act.Commit c.now) (commit_outcome result) }
+    {
+        if self.keeper.stopped() {
+            return Err(ActError::Stopped(()));
+        }
+        let kept = self.keeper.kept();
+        let accepted = &kept.accepted;
+        if kept.term != c.term {
+            return Err(ActError::Refused(CommitCause::TermMismatch(kept.term, c.term), ()));
+        }
+        if accepted.term != c.term {
+            return Err(ActError::Refused(
+                CommitCause::AcceptedTermMismatch(accepted.term, c.term),
+                (),
+            ));
+        }
+        if accepted.version != c.version {
+            return Err(ActError::Refused(
+                CommitCause::VersionMismatch(accepted.version, c.version),
+                (),
+            ));
+        }
+        if self.won && accepted.version != self.version {
+            return Err(ActError::Refused(
+                CommitCause::Publishing(accepted.version, self.version),
+                (),
+            ));
+        }
+        match self.keeper.mark_committed() {
+            Ok(()) => Ok(()),
+            Err(_) => Err(ActError::Disk),
+        }
+    }
+}

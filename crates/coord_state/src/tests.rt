@@ -1,0 +1,77 @@
+use crate::{ActError, CoordState};
+use cluster_state::{ClusterValue, Join, PublishResponse};
+use state_journal::{PlainKeeper, Ready};
+use std::alloc::Global;
+use std::test::Fail;
+use voting_config::{NodeId, NodeSet, VotingConfig};
+
+fn a() -> NodeId {
+    NodeId::parse("a").unwrap_or(NodeId::default())
+}
+
+fn only_a() -> NodeSet {
+    let mut ids = NodeSet::new();
+    let _ = ids.insert(a());
+    ids
+}
+
+fn opened(alloc: Global) -> CoordState<PlainKeeper> {
+    CoordState::new(a(), PlainKeeper::new(alloc))
+}
+
+fn own_join(node: &mut CoordState<PlainKeeper>) -> Option<Join> {
+    node.start_join(a(), 1).ok()
+}
+
+#[test]
+fn a_node_alone_wins_and_commits(rt: HostRuntime) -> Result<(), Fail> {
+    let alloc = rt.alloc();
+    let mut node = opened(alloc);
+    assert!(rt; node.set_initial(Ready::initial(alloc, &only_a())).is_ok());
+    let join = own_join(&mut node).ok_or("no join")?;
+    assert!(rt; node.started() && !node.won());
+    match node.join(&join) {
+        Ok(joined) => assert!(rt; joined.won),
+        Err(_) => panic!(rt; "the join is refused"),
+    }
+    assert!(rt; node.won() && node.votes().len() == 1);
+    let config = VotingConfig::of(&only_a());
+    let Ok(request) = node.client_value(1, config, ClusterValue::empty(alloc)) else {
+        panic!(rt; "the value is refused");
+    };
+    assert!(rt; node.published().0 == 1);
+    let Ok(response) = node.publish_request(request.source, Ready::new(request.state)) else {
+        panic!(rt; "the state is refused");
+    };
+    commits(&rt, &mut node, &response);
+    assert!(rt; node.kept().committed.members().len() == 1);
+    Ok(())
+}
+
+fn commits(
+    rt: &HostRuntime,
+    node: &mut CoordState<PlainKeeper>,
+    response: &PublishResponse,
+) {
+    let _ = rt;
+    if node.acks().len() < 32 {
+        if let Ok(Some(commit)) = node.publish_response(response) {
+            let _ = node.commit(&commit);
+        }
+    }
+}
+
+#[test]
+fn a_refused_value_is_handed_back(rt: HostRuntime) {
+    let alloc = rt.alloc();
+    let mut node = opened(alloc);
+    let config = VotingConfig::of(&only_a());
+    match node.client_value(7, config, ClusterValue::empty(alloc)) {
+        Err(ActError::Refused(_, (config, _))) => {
+            assert!(rt; config.members().len() == 1);
+        }
+        _ => panic!(rt; "a node that has not won took a value"),
+    }
+    assert!(rt; node.keeper().kept.term == 0);
+    assert!(rt; node.into_keeper().kept.term == 0);
+}

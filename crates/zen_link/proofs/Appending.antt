@@ -1,0 +1,39 @@
+-- What was written to a sink, piece by piece.
+use Rattle.std.proofs.Common.{◌≡◌, ℕ, ◌+◌, Option, None, Some, List, [], ◌++◌, take, drop, sym, ◌∙◌, ap, subst, append_assoc, append-nil}
+use Rattle.std.proofs.Math.Seq.{take-add}
+use Rattle.zen_link.specs.Streams.{Appended, AppendedFront}
+
+pub appended_more : (a b c : Option (List ℕ)) (xs ys : List ℕ) → Appended a b xs → Appended b c ys → Appended a c (xs ++ ys)
+appended_more None b c xs ys g h = subst (λ (x : Option (List ℕ)). Appended x c ys) g h
+appended_more (Some was) b c xs ys g h =
+    let next = subst (λ (x : Option (List ℕ)). Appended x c ys) g h in
+    next ∙ ap (λ (l : List ℕ). Some l) (append_assoc was xs ys)
+
+pub appended_on : (a b c : Option (List ℕ)) (bytes : List ℕ) (at count : ℕ) → Appended a b (take at bytes) → Appended b c (take count (drop at bytes)) → Appended a c (take (at + count) bytes)
+appended_on a b c bytes at count g h = subst (λ (l : List ℕ). Appended a c l) (sym (take-add at count bytes)) (appended_more a b c (take at bytes) (take count (drop at bytes)) g h)
+
+pub appended_none : (a : Option (List ℕ)) → Appended a a []
+appended_none None = λ i. None
+appended_none (Some was) = ap (λ (l : List ℕ). Some l) (sym (append-nil was))
+
+-- nothing is a front of anything
+pub front_none : (a : Option (List ℕ)) (bytes : List ℕ) → AppendedFront a a bytes
+front_none a bytes = record { front = []; rest = bytes; whole = λ i. bytes; appended = appended_none a }
+
+-- a piece, and then a front of what follows it
+pub front_after : (a b c : Option (List ℕ)) (piece rest : List ℕ) → Appended a b piece → AppendedFront b c rest → AppendedFront a c (piece ++ rest)
+front_after a b c piece rest g h = record {
+  front = piece ++ h.front;
+  rest = h.rest;
+  whole = append_assoc piece h.front h.rest ∙ ap (λ (l : List ℕ). piece ++ l) h.whole;
+  appended = appended_more a b c piece h.front g h.appended;
+}
+
+-- a front of a front
+pub front_within : (a b : Option (List ℕ)) (piece rest all : List ℕ) → piece ++ rest ≡ all → AppendedFront a b piece → AppendedFront a b all
+front_within a b piece rest all e h = record {
+  front = h.front;
+  rest = h.rest ++ rest;
+  whole = sym (append_assoc h.front h.rest rest) ∙ ap (λ (l : List ℕ). l ++ rest) h.whole ∙ e;
+  appended = h.appended;
+}

@@ -1,0 +1,50 @@
+ghost use Rattle.std.specs.Prelude.{◌≡◌, ℕ, ◌<◌, ◌≤◌, List, Option};
+ghost use Rattle.zen_disk.specs.Faults.{HasCause};
+ghost use Rattle.zen_link.specs.Streams.{Reads, Writes, WritesAll};
+
+use zen_disk::Failed;
+
+/// What text is read from.
+pub trait Source {
+    /// The bytes left, where the source tells.
+    ghost left: { Self → Option (List ℕ) };
+
+    /// How many faults there were.
+    ghost faults: { Self → ℕ };
+
+    /// Reads the next bytes into a front of the buffer, and says how many. Zero into a buffer that is not empty is
+    /// the end of input. `Failed` only where the count of faults rose; nothing is taken then.
+    fn read(&mut self, into: &mut [u8]) -> Result<usize, Failed>
+        ensures reads { Reads (left self.old) (left self.new) into.new result }
+        ensures cause { HasCause (faults self.old) (faults self.new) result };
+}
+
+/// What text is written to.
+pub trait Sink {
+    /// The bytes that were written, where the sink tells.
+    ghost written: { Self → Option (List ℕ) };
+
+    /// How many faults there were.
+    ghost faults: { Self → ℕ };
+
+    /// Writes a front of the bytes, and says how many: at least one of a piece that is not empty. `Failed` only where
+    /// the count of faults rose; nothing is written then.
+    fn write(&mut self, bytes: &[u8]) -> Result<usize, Failed>
+        ensures writes { Writes (written self.old) (written self.new) bytes.now result }
+        ensures cause { HasCause (faults self.old) (faults self.new) result };
+}
+
+/// Writes all of the bytes. `Failed` only where the sink's count of faults rose; a front of them is written then.
+pub fn write_all<S: Sink>(out: &mut S, bytes: &[u8]) -> Result<(), Failed>
+    ensures writes { WritesAll (S.written out.old) (S.written out.new) bytes.now result }
+    ensures cause { HasCause (S.faults out.old) (S.faults out.new) result }
+{
+    let mut at = 0;
+    while at < bytes.len() {
+        let Ok(count) = out.write(&bytes[at..]) else {
+            return Err(Failed);
+        };
+        at += count;
+    }
+    Ok(())
+}
