@@ -11,9 +11,10 @@ use crate::words::{config_at, cut, node_at, number_at, text_at};
 use std::alloc::Global;
 use voting_config::{NodeId, NodeSet};
 
-/// The greatest number that a line counts messages by.
+/// The greatest number that a `deliver` line has.
 pub const MAX_ORDINAL: u64 = 4294967295;
 
+/// The one word behind a verb, and `Arity` where there is another number of words.
 pub fn one_word(rest: Option<&[u8]>) -> Result<&[u8], Why>
     ensures { Gives (λ w. w.now) result (one_word_of (parts_in 32 rest.entry)) }
 {
@@ -53,28 +54,28 @@ fn three_words(rest: Option<&[u8]>) -> Result<(&[u8], &[u8], &[u8]), Why>
 fn boot(ids: &NodeSet, rest: Option<&[u8]>) -> Result<Line, Why>
     ensures { result ≡ boot_at ids.now (parts_in 32 rest.entry) }
 {
-    let n = one_word(rest)?;
-    let n = node_at(ids, n)?;
-    Ok(Line::Boot(n))
+    let node = one_word(rest)?;
+    let node = node_at(ids, node)?;
+    Ok(Line::Boot(node))
 }
 
 fn start_join(ids: &NodeSet, rest: Option<&[u8]>) -> Result<Line, Why>
     ensures { result ≡ start_join_at ids.now (parts_in 32 rest.entry) }
 {
-    let (n, candidate, term) = three_words(rest)?;
-    let n = node_at(ids, n)?;
+    let (node, candidate, term) = three_words(rest)?;
+    let node = node_at(ids, node)?;
     let candidate = node_at(ids, candidate)?;
     let term = number_at(term, 0, u64::MAX)?;
-    Ok(Line::StartJoin(n, candidate, term))
+    Ok(Line::StartJoin(node, candidate, term))
 }
 
 fn deliver(ids: &NodeSet, rest: Option<&[u8]>) -> Result<Line, Why>
     ensures { result ≡ deliver_at ids.now (parts_in 32 rest.entry) }
 {
-    let (n, number) = two_words(rest)?;
-    let n = node_at(ids, n)?;
-    let number = number_at(number, 1, MAX_ORDINAL)?;
-    Ok(Line::Deliver(n, number))
+    let (node, message) = two_words(rest)?;
+    let node = node_at(ids, node)?;
+    let message = number_at(message, 1, MAX_ORDINAL)?;
+    Ok(Line::Deliver(node, message))
 }
 
 fn four_words(rest: Option<&[u8]>) -> Result<(&[u8], &[u8], &[u8], &[u8]), Why>
@@ -92,8 +93,8 @@ fn four_words(rest: Option<&[u8]>) -> Result<(&[u8], &[u8], &[u8], &[u8]), Why>
 fn value_parts(ids: &NodeSet, rest: Option<&[u8]>) -> Result<ValueParts, Why>
     ensures { Gives (λ v. Line.Value v.node v.version v.text v.config) result (value_at ids.now (parts_in 32 rest.entry)) }
 {
-    let (n, version, text, config) = four_words(rest)?;
-    let node = node_at(ids, n)?;
+    let (node, version, text, config) = four_words(rest)?;
+    let node = node_at(ids, node)?;
     let version = number_at(version, 0, u64::MAX)?;
     let text = text_at(text)?;
     let config = config_at(ids, config)?;
@@ -141,7 +142,7 @@ fn verb_line(ids: &NodeSet, verb: &[u8], rest: Option<&[u8]>) -> Result<Line, Wh
     Err(Why::Verb)
 }
 
-/// The line that these bytes are.
+/// The line that these bytes are, which have no line feed, or why they are no line of these nodes.
 pub fn read_line(alloc: Global, ids: &NodeSet, bytes: &[u8]) -> Result<Line, ReadError<Why>>
     ensures { Answers result (line_at ids.now bytes.now) }
 {

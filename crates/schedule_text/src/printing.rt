@@ -18,7 +18,8 @@ impl Text {
     }
 }
 
-/// The text of a schedule that names nodes.
+/// The text of a schedule: its two header lines and its lines, each with its line feed. For the schedule of no nodes, which
+/// is spelled by no bytes, it is two lines that no schedule has.
 pub fn write_schedule(alloc: Global, schedule: &Schedule) -> Result<Text, AllocError>
     ensures { IfOk result (λ t. t ≡ schedule_text schedule.now) }
 {

@@ -200,7 +200,7 @@ fn read_exact(alloc: Global, bytes: &[u8]) -> Result<Schedule, ReadError<BadSche
     }
 }
 
-/// The schedule that the bytes spell.
+/// The schedule that the bytes spell, or the first bad line and why it is bad. `Memory` may come for any bytes.
 pub fn read_schedule(alloc: Global, bytes: &[u8]) -> Result<Schedule, ReadError<BadSchedule>>
     // What is read is spelled so.
     ensures found { IfOk result (λ s. Spells bytes.now s) }
@@ -210,7 +210,7 @@ pub fn read_schedule(alloc: Global, bytes: &[u8]) -> Result<Schedule, ReadError<
     ensures fault { Faulted result (fault_of bytes.now) }
 {
     match read_exact(alloc, bytes) {
-        Ok(schedule) => Ok(schedule),
+        Ok(read) => Ok(read),
         Err(fault) => Err(fault),
     }
 }

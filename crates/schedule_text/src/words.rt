@@ -26,7 +26,7 @@ pub fn place_of(bytes: &[u8], wanted: u8) -> Option<usize>
     bytes.iter().position(|b| *b == wanted)
 }
 
-/// The listed node that a word names.
+/// The listed node that a word names, and else `Id`.
 pub fn node_at(ids: &NodeSet, word: &[u8]) -> Result<NodeId, Why>
     ensures { result ≡ (listed ids.now).at word.now }
 {
@@ -38,7 +38,7 @@ pub fn node_at(ids: &NodeSet, word: &[u8]) -> Result<NodeId, Why>
     Err(Why::Id)
 }
 
-/// The text that a word is.
+/// The text that a word is, and else `Text`.
 pub fn text_at(word: &[u8]) -> Result<SettingText, Why>
     ensures { result ≡ text_word.at word.now }
 {
@@ -48,7 +48,7 @@ pub fn text_at(word: &[u8]) -> Result<SettingText, Why>
     }
 }
 
-/// The number within bounds that a word is.
+/// The number from `low` to `high` that a word is in decimal, and else `Number`.
 pub fn number_at(word: &[u8], low: u64, high: u64) -> Result<u64, Why>
     ensures { result ≡ (number_word low high).at word.now }
 {
@@ -104,7 +104,7 @@ fn value_of(word: &[u8]) -> Option<u64>
     Some(value)
 }
 
-/// The list of ids that a word is.
+/// The ascending ids that a word lists, which may be none, and None where it is no such list.
 pub fn set_of(word: &[u8]) -> Option<NodeSet>
     ensures { result ≡ (if are_ids_after [] (items_of word.now) then Some (items_of word.now) else None) }
 {
@@ -158,7 +158,7 @@ pub fn are_among(ids: &NodeSet, some: &NodeSet) -> bool
     some.as_slice().iter().all(|id| ids.contains(*id))
 }
 
-/// The listed nodes that a word names.
+/// The listed nodes that a word lists, and else `List`.
 pub fn config_at(ids: &NodeSet, word: &[u8]) -> Result<NodeSet, Why>
     ensures { result ≡ (config ids.now).at word.now }
 {
