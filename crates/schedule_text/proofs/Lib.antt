@@ -1,0 +1,6 @@
+pub mod Written
+pub mod IdListLaws
+pub mod LineLaws
+pub mod ScheduleLaws
+pub mod Splitting
+pub mod WordLaws

@@ -1,0 +1,7 @@
+pub mod Limits
+pub mod Words
+pub mod Lines
+pub mod Reading
+pub mod Spelled
+pub mod Answers
+pub mod Printed

@@ -1,0 +1,142 @@
+-- The lines of a schedule by their words.
+use Rattle.std.specs.Prelude.{ℕ, ◌-◌, ◌^◌, Result, Ok, Err, List, [], ◌∷◌, codes, if◌then◌else◌}
+use Rattle.std.specs.List.{join_with_byte}
+use Rattle.std.specs.Str.{bytes_eq}
+use Rattle.voting_config.specs.Ids.{Id}
+use Rattle.schedule_text.specs.declared.fault.Why.{Why}
+use Rattle.schedule_text.specs.declared.fault.Why.TheVariants as why
+use Rattle.schedule_text.specs.declared.schedule.Line.{Line}
+use Rattle.schedule_text.specs.declared.schedule.Line.TheVariants as line
+use Rattle.schedule_text.specs.Words.{parts_of, ◌>>=◌, Word, listed, text, number, config}
+
+-- ---- the words behind a verb
+
+-- So many words, each of its kind: how they are spelled, and what words are read as. Another number of words is Arity, and
+-- then the first bad word from the left says why.
+pub record Args (A : Type 0) : Type 1 where
+  pub spelling : A → List (List ℕ)
+  pub at : List (List ℕ) → Result A Why
+  pub Fits : A → Type 0
+
+abbrev pub one_word : List (List ℕ) → Result (List ℕ) Why
+one_word [] = Err why.Arity
+one_word (v ∷ []) = Ok v
+one_word (v ∷ w ∷ ws) = Err why.Arity
+
+abbrev pub two_words : List (List ℕ) → Result (List ℕ × List ℕ) Why
+two_words [] = Err why.Arity
+two_words (v ∷ ws) = one_word ws >>= λ w. Ok (v, w)
+
+abbrev pub three_words : List (List ℕ) → Result (List ℕ × List ℕ × List ℕ) Why
+three_words [] = Err why.Arity
+three_words (v ∷ ws) = two_words ws >>= λ w. Ok (v, w.0, w.1)
+
+abbrev pub four_words : List (List ℕ) → Result (List ℕ × List ℕ × List ℕ × List ℕ) Why
+four_words [] = Err why.Arity
+four_words (v ∷ ws) = three_words ws >>= λ w. Ok (v, w.0, w.1, w.2)
+
+abbrev pub one : {A : Type 0} → Word A → Args A
+one a = record {
+  spelling = λ x. a.spelling x ∷ [];
+  at = λ ws. one_word ws >>= a.at;
+  Fits = a.Fits;
+}
+
+abbrev pub two : {A B : Type 0} → Word A → Word B → Args (A × B)
+two {A} {B} a b = record {
+  spelling = λ x. a.spelling x.0 ∷ b.spelling x.1 ∷ [];
+  at = λ ws. two_words ws >>= λ w. a.at w.0 >>= λ x. b.at w.1 >>= λ y. Ok (x, y);
+  Fits = λ x. a.Fits x.0 × b.Fits x.1;
+}
+
+abbrev pub three : {A B C : Type 0} → Word A → Word B → Word C → Args (A × B × C)
+three {A} {B} {C} a b c = record {
+  spelling = λ x. a.spelling x.0 ∷ b.spelling x.1 ∷ c.spelling x.2 ∷ [];
+  at = λ ws. three_words ws >>= λ w. a.at w.0 >>= λ x. b.at w.1 >>= λ y. c.at w.2 >>= λ z. Ok (x, y, z);
+  Fits = λ x. a.Fits x.0 × b.Fits x.1 × c.Fits x.2;
+}
+
+abbrev pub four : {A B C D : Type 0} → Word A → Word B → Word C → Word D → Args (A × B × C × D)
+four {A} {B} {C} {D} a b c d = record {
+  spelling = λ x. a.spelling x.0 ∷ b.spelling x.1 ∷ c.spelling x.2 ∷ d.spelling x.3 ∷ [];
+  at = λ ws. four_words ws >>= λ w. a.at w.0 >>= λ x. b.at w.1 >>= λ y. c.at w.2 >>= λ z. d.at w.3 >>= λ u. Ok (x, y, z, u);
+  Fits = λ x. a.Fits x.0 × b.Fits x.1 × c.Fits x.2 × d.Fits x.3;
+}
+
+-- ---- the verbs
+
+abbrev pub any_number : Word ℕ
+any_number = number 0 (2 ^ 64 - 1)
+
+-- the greatest number that a line counts by
+abbrev pub most_ordinal : ℕ
+most_ordinal = 4294967295
+
+abbrev pub ordinal : Word ℕ
+ordinal = number 1 most_ordinal
+
+abbrev pub boot : List Id → Args Id
+boot ids = one (listed ids)
+
+abbrev pub start_join : List Id → Args (Id × Id × ℕ)
+start_join ids = three (listed ids) (listed ids) any_number
+
+abbrev pub value : List Id → Args (Id × ℕ × List ℕ × List Id)
+value ids = four (listed ids) any_number text (config ids)
+
+abbrev pub deliver : List Id → Args (Id × ℕ)
+deliver ids = two (listed ids) ordinal
+
+-- ---- a line
+
+-- the words of a line, which stand one space apart
+abbrev pub words_of : List ℕ → List (List ℕ)
+words_of bytes = parts_of 32 bytes
+
+abbrev pub line_words : Line → List (List ℕ)
+line_words (line.Boot n) = codes "boot" ∷ n ∷ []
+line_words (line.StartJoin n c t) = codes "startjoin" ∷ n ∷ c ∷ any_number.spelling t ∷ []
+line_words (line.Value n v x cfg) = codes "value" ∷ n ∷ any_number.spelling v ∷ x ∷ (config []).spelling cfg ∷ []
+line_words (line.Deliver n k) = codes "deliver" ∷ n ∷ ordinal.spelling k ∷ []
+
+-- a line as it is written
+abbrev pub line_text : Line → List ℕ
+line_text l = join_with_byte 32 (line_words l)
+
+-- a line of these nodes
+abbrev pub FitsLine : List Id → Line → Type 0
+FitsLine ids (line.Boot n) = (boot ids).Fits n
+FitsLine ids (line.StartJoin n c t) = (start_join ids).Fits (n, c, t)
+FitsLine ids (line.Value n v x cfg) = (value ids).Fits (n, v, x, cfg)
+FitsLine ids (line.Deliver n k) = (deliver ids).Fits (n, k)
+
+-- what the words behind a verb are read as
+abbrev pub boot_at : List Id → List (List ℕ) → Result Line Why
+boot_at ids ws = (boot ids).at ws >>= λ x. Ok (line.Boot x)
+
+abbrev pub start_join_at : List Id → List (List ℕ) → Result Line Why
+start_join_at ids ws = (start_join ids).at ws >>= λ x. Ok (line.StartJoin x.0 x.1 x.2)
+
+abbrev pub value_at : List Id → List (List ℕ) → Result Line Why
+value_at ids ws = (value ids).at ws >>= λ x. Ok (line.Value x.0 x.1 x.2 x.3)
+
+abbrev pub deliver_at : List Id → List (List ℕ) → Result Line Why
+deliver_at ids ws = (deliver ids).at ws >>= λ x. Ok (line.Deliver x.0 x.1)
+
+-- a line by its verb; the line `value` has a list of its own, and stands first
+abbrev pub verb_at : List Id → List ℕ → List (List ℕ) → Result Line Why
+verb_at ids verb ws =
+    if bytes_eq verb (codes "boot") then boot_at ids ws
+    else (if bytes_eq verb (codes "startjoin") then start_join_at ids ws
+    else (if bytes_eq verb (codes "deliver") then deliver_at ids ws
+    else Err why.Verb))
+
+abbrev pub any_verb_at : List Id → List ℕ → List (List ℕ) → Result Line Why
+any_verb_at ids verb ws = if bytes_eq verb (codes "value") then value_at ids ws else verb_at ids verb ws
+
+abbrev pub words_at : List Id → List (List ℕ) → Result Line Why
+words_at ids [] = Err why.Verb
+words_at ids (verb ∷ ws) = any_verb_at ids verb ws
+
+abbrev pub line_at : List Id → List ℕ → Result Line Why
+line_at ids bytes = words_at ids (words_of bytes)

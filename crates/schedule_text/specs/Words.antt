@@ -1,0 +1,110 @@
+-- The words of a line: how each kind is spelled, and what a word is read as.
+use Rattle.std.specs.Prelude.{ℕ, ◌+◌, ◌-◌, ◌*◌, ◌≤◌, ◌==◌, Bool, true, false, not, ◌&&◌, ◌||◌, Option, None, Some, Result, Ok, Err, List, [], ◌∷◌, ◌++◌, length, codes, decimal, IsTrue, nat_le, nat_lt, if◌then◌else◌}
+use Rattle.std.specs.List.{slice_split, join_with_byte, list_all}
+use Rattle.std.specs.Str.{bytes_eq}
+use Rattle.std.specs.Borrow.{Bor}
+use Rattle.voting_config.specs.Ids.{Id, is_id, has, comes_after, most_ids}
+use Rattle.schedule_text.specs.declared.fault.Why.{Why}
+use Rattle.schedule_text.specs.declared.fault.Why.TheVariants as why
+
+-- what stands between the bytes c
+abbrev pub parts_of : ℕ → List ℕ → List (List ℕ)
+parts_of c bytes = slice_split (λ b. b == c) bytes
+
+-- the parts after the first one, where there are some
+abbrev pub parts_in : ℕ → Option (Bor (List ℕ)) → List (List ℕ)
+parts_in c None = []
+parts_in c (Some rest) = parts_of c rest.now
+
+-- how many bytes are left
+abbrev pub left_in : Option (Bor (List ℕ)) → ℕ
+left_in None = 0
+left_in (Some rest) = 1 + length rest.now
+
+infixl 10 ◌>>=◌
+abbrev pub ◌>>=◌ : {A B : Type 0} → Result A Why → (A → Result B Why) → Result B Why
+(Ok x) >>= f = f x
+(Err e) >>= f = Err e
+
+-- A kind of word: how a value is spelled, what a word is read as, and which values have a spelling.
+pub record Word (A : Type 0) : Type 1 where
+  pub spelling : A → List ℕ
+  pub at : List ℕ → Result A Why
+  pub Fits : A → Type 0
+
+-- a word that stands for itself, where it passes the test
+abbrev pub itself : (List ℕ → Bool) → Why → Word (List ℕ)
+itself good bad = record {
+  spelling = λ w. w;
+  at = λ w. if good w then Ok w else Err bad;
+  Fits = λ w. IsTrue (good w);
+}
+
+-- a listed node
+abbrev pub listed : List Id → Word Id
+listed ids = itself (λ w. has w ids) why.Id
+
+-- 1 to 32 bytes of those of an id
+abbrev pub text : Word (List ℕ)
+text = itself is_id why.Text
+
+-- ---- numbers
+
+abbrev pub is_digit : ℕ → Bool
+is_digit b = nat_le 48 b && nat_le b 57
+
+-- the number that these digits say, after this one
+abbrev pub value_from : ℕ → List ℕ → ℕ
+value_from n [] = n
+value_from n (b ∷ bs) = value_from (n * 10 + (b - 48)) bs
+
+-- digits, without a zero before others
+abbrev pub is_decimal : List ℕ → Bool
+is_decimal [] = false
+is_decimal (b ∷ bs) = list_all is_digit (b ∷ bs) && (not (b == 48) || length bs == 0)
+
+-- a decimal number within bounds
+abbrev pub number : ℕ → ℕ → Word ℕ
+number low high = record {
+  spelling = decimal;
+  at = λ w. if is_decimal w && nat_le low (value_from 0 w) && nat_le (value_from 0 w) high then Ok (value_from 0 w) else Err why.Number;
+  Fits = λ n. (low ≤ n) × (n ≤ high);
+}
+
+-- ---- lists
+
+-- an id that comes after these, and there is room for it
+abbrev pub may_follow : List Id → List ℕ → Bool
+may_follow front x = is_id x && nat_lt (length front) most_ids && comes_after x front
+
+-- each is an id that comes after those before it, and no set has more ids
+abbrev pub are_ids_after : List Id → List (List ℕ) → Bool
+are_ids_after front [] = true
+are_ids_after front (x ∷ xs) = may_follow front x && are_ids_after (front ++ x ∷ []) xs
+
+-- what stands between the commas of a list
+abbrev pub items_of : List ℕ → List (List ℕ)
+items_of w = if bytes_eq w (codes "_") then [] else parts_of 44 w
+
+-- ids with commas between them
+abbrev pub list_text : List Id → List ℕ
+list_text [] = codes "_"
+list_text (x ∷ xs) = join_with_byte 44 (x ∷ xs)
+
+-- a list of ids, which passes the test
+abbrev pub list : (List Id → Bool) → Word (List Id)
+list good = record {
+  spelling = list_text;
+  at = λ w. if are_ids_after [] (items_of w) && good (items_of w) then Ok (items_of w) else Err why.List;
+  Fits = λ xs. IsTrue (are_ids_after [] xs && good xs);
+}
+
+abbrev pub are_among : List Id → List Id → Bool
+are_among ids xs = list_all (λ x. has x ids) xs
+
+-- some of the listed nodes
+abbrev pub config : List Id → Word (List Id)
+config ids = list (are_among ids)
+
+abbrev pub is_some_list : List Id → Bool
+is_some_list xs = nat_lt 0 (length xs)

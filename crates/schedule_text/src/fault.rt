@@ -1,0 +1,80 @@
+ghost use Rattle.std.specs.Prelude.{◌≡◌};
+ghost use Rattle.schedule_text.specs.Printed.{why_text};
+
+use thiserror::Error;
+
+/// Why a line is bad. Where several hold, it is the first of them in this order, and among the last four that of the
+/// first bad word from the left.
+#[derive(Clone, Copy, Debug, PartialEq, Eq, Error)]
+pub enum Why {
+    /// The line, its line feed counted, reaches past [`MAX_BYTES`](crate::MAX_BYTES) bytes of text.
+    #[error("the text has too many bytes")]
+    TooBig,
+    /// [`MAX_LINES`](crate::MAX_LINES) lines stand before this one.
+    #[error("the text has too many lines")]
+    TooMany,
+    /// The text ends before the line does.
+    #[error("the last line has no line feed")]
+    NoNewline,
+    /// The line has over [`MAX_LINE_BYTES`](crate::MAX_LINE_BYTES) bytes before its line feed.
+    #[error("the line has too many bytes")]
+    TooLong,
+    /// It is line 1 or 2, and no `nodes` or `initial` line that may stand there; or there is no line 2.
+    #[error("the line is no header")]
+    Header,
+    /// The first word is no verb.
+    #[error("the first word is no verb")]
+    Verb,
+    /// The verb has another number of words behind it.
+    #[error("the verb takes another number of words")]
+    Arity,
+    /// The word is no listed node.
+    #[error("a word names no listed node")]
+    Id,
+    /// The word is no decimal number without leading zeros, or it is out of bounds.
+    #[error("a word is no number within bounds")]
+    Number,
+    /// The word is not 1 to 32 bytes of `a-z`, `0-9` and `-`.
+    #[error("a word is no text of a setting")]
+    Text,
+    /// The word is no ascending list of listed nodes.
+    #[error("a word is no list of listed nodes")]
+    List,
+}
+
+impl Why {
+    /// The name of the reason, as it stands in the printed form of a fault.
+    pub fn name(self) -> &'static str
+        ensures { result.now ≡ why_text self }
+    {
+        match self {
+            Why::TooBig => "TooBig",
+            Why::TooMany => "TooMany",
+            Why::NoNewline => "NoNewline",
+            Why::TooLong => "TooLong",
+            Why::Header => "Header",
+            Why::Verb => "Verb",
+            Why::Arity => "Arity",
+            Why::Id => "Id",
+            Why::Number => "Number",
+            Why::Text => "Text",
+            Why::List => "List",
+        }
+    }
+}
+
+/// The first bad line of a text, and why it is bad.
+#[derive(Clone, Copy, Debug, PartialEq, Eq, Error)]
+#[error("bad schedule at line {line}: {why}")]
+pub struct BadSchedule {
+    /// The number of the line, counted from 1.
+    pub line: usize,
+    pub why: Why,
+}
+
+/// Why nothing was read: a fault of the bytes, or too little memory.
+#[derive(Clone, Copy, Debug, PartialEq, Eq)]
+pub enum ReadError<E> {
+    Bad(E),
+    Memory,
+}

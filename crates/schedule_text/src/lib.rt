@@ -1,0 +1,27 @@
+//! Schedules as text: read whole or with the first bad line, and written again.
+#![tactic(auto)]
+
+pub mod fault;
+pub mod id_list;
+pub mod laws;
+pub mod lines;
+pub mod place;
+pub mod printing;
+pub mod reading;
+pub mod schedule;
+pub mod setting_text;
+pub mod text;
+pub mod words;
+
+pub use fault::{BadSchedule, ReadError, Why};
+pub use id_list::IdList;
+pub use lines::MAX_ORDINAL;
+pub use place::{MAX_BYTES, MAX_LINE_BYTES, MAX_LINES};
+pub use printing::write_schedule;
+pub use reading::read_schedule;
+pub use schedule::{Line, Lines, Schedule};
+pub use setting_text::SettingText;
+pub use text::Text;
+
+#[cfg(test)]
+mod tests;

@@ -1,0 +1,157 @@
+ghost use Rattle.std.specs.Prelude.{◌≡◌, Option};
+ghost use Rattle.schedule_text.specs.Words.{parts_in};
+ghost use Rattle.schedule_text.specs.Lines.{one_word as one_word_of, two_words as two_words_of, three_words as three_words_of, four_words as four_words_of, boot_at, start_join_at, value_at, deliver_at, verb_at, line_at, Args};
+ghost use Rattle.schedule_text.specs.Answers.{Gives, Answers};
+
+use crate::fault::{ReadError, Why};
+use crate::id_list::IdList;
+use crate::schedule::Line;
+use crate::setting_text::SettingText;
+use crate::words::{config_at, cut, node_at, number_at, text_at};
+use std::alloc::Global;
+use voting_config::{NodeId, NodeSet};
+
+/// The greatest number that a `deliver` line has.
+pub const MAX_ORDINAL: u64 = 4294967295;
+
+/// The one word behind a verb, and `Arity` where there is another number of words.
+pub fn one_word(rest: Option<&[u8]>) -> Result<&[u8], Why>
+    ensures { Gives (λ w. w.now) result (one_word_of (parts_in 32 rest.entry)) }
+{
+    let Some(rest) = rest else {
+        return Err(Why::Arity);
+    };
+    let (word, rest) = cut(rest, b' ');
+    let Some(rest) = rest else {
+        return Ok(word);
+    };
+    let _ = cut(rest, b' ');
+    Err(Why::Arity)
+}
+
+fn two_words(rest: Option<&[u8]>) -> Result<(&[u8], &[u8]), Why>
+    ensures { Gives (λ w. (w.0.now, w.1.now)) result (two_words_of (parts_in 32 rest.entry)) }
+{
+    let Some(rest) = rest else {
+        return Err(Why::Arity);
+    };
+    let (first, rest) = cut(rest, b' ');
+    let last = one_word(rest)?;
+    Ok((first, last))
+}
+
+fn three_words(rest: Option<&[u8]>) -> Result<(&[u8], &[u8], &[u8]), Why>
+    ensures { Gives (λ w. (w.0.now, w.1.now, w.2.now)) result (three_words_of (parts_in 32 rest.entry)) }
+{
+    let Some(rest) = rest else {
+        return Err(Why::Arity);
+    };
+    let (first, rest) = cut(rest, b' ');
+    let (second, third) = two_words(rest)?;
+    Ok((first, second, third))
+}
+
+fn boot(ids: &NodeSet, rest: Option<&[u8]>) -> Result<Line, Why>
+    ensures { result ≡ boot_at ids.now (parts_in 32 rest.entry) }
+{
+    let node = one_word(rest)?;
+    let node = node_at(ids, node)?;
+    Ok(Line::Boot(node))
+}
+
+fn start_join(ids: &NodeSet, rest: Option<&[u8]>) -> Result<Line, Why>
+    ensures { result ≡ start_join_at ids.now (parts_in 32 rest.entry) }
+{
+    let (node, candidate, term) = three_words(rest)?;
+    let node = node_at(ids, node)?;
+    let candidate = node_at(ids, candidate)?;
+    let term = number_at(term, 0, u64::MAX)?;
+    Ok(Line::StartJoin(node, candidate, term))
+}
+
+fn deliver(ids: &NodeSet, rest: Option<&[u8]>) -> Result<Line, Why>
+    ensures { result ≡ deliver_at ids.now (parts_in 32 rest.entry) }
+{
+    let (node, message) = two_words(rest)?;
+    let node = node_at(ids, node)?;
+    let message = number_at(message, 1, MAX_ORDINAL)?;
+    Ok(Line::Deliver(node, message))
+}
+
+fn four_words(rest: Option<&[u8]>) -> Result<(&[u8], &[u8], &[u8], &[u8]), Why>
+    ensures { Gives (λ w. (w.0.now, w.1.now, w.2.now, w.3.now)) result (four_words_of (parts_in 32 rest.entry)) }
+{
+    let Some(rest) = rest else {
+        return Err(Why::Arity);
+    };
+    let (first, rest) = cut(rest, b' ');
+    let (second, third, fourth) = three_words(rest)?;
+    Ok((first, second, third, fourth))
+}
+
+// The line `value`, but for its configuration, which is not yet copied.
+fn value_parts(ids: &NodeSet, rest: Option<&[u8]>) -> Result<ValueParts, Why>
+    ensures { Gives (λ v. Line.Value v.node v.version v.text v.config) result (value_at ids.now (parts_in 32 rest.entry)) }
+{
+    let (node, version, text, config) = four_words(rest)?;
+    let node = node_at(ids, node)?;
+    let version = number_at(version, 0, u64::MAX)?;
+    let text = text_at(text)?;
+    let config = config_at(ids, config)?;
+    Ok(ValueParts {
+        node,
+        version,
+        text,
+        config,
+    })
+}
+
+#[derive(Drop)]
+struct ValueParts {
+    node: NodeId,
+    version: u64,
+    text: SettingText,
+    config: NodeSet,
+}
+
+fn value(alloc: Global, ids: &NodeSet, rest: Option<&[u8]>) -> Result<Line, ReadError<Why>>
+    ensures { Answers result (value_at ids.now (parts_in 32 rest.entry)) }
+{
+    let parts = match value_parts(ids, rest) {
+        Ok(parts) => parts,
+        Err(why) => return Err(ReadError::Bad(why)),
+    };
+    let Ok(config) = IdList::of(alloc, &parts.config) else {
+        return Err(ReadError::Memory);
+    };
+    Ok(Line::Value(parts.node, parts.version, parts.text, config))
+}
+
+fn verb_line(ids: &NodeSet, verb: &[u8], rest: Option<&[u8]>) -> Result<Line, Why>
+    ensures { result ≡ verb_at ids.now verb.now (parts_in 32 rest.entry) }
+{
+    if verb == b"boot".as_slice() {
+        return boot(ids, rest);
+    }
+    if verb == b"startjoin".as_slice() {
+        return start_join(ids, rest);
+    }
+    if verb == b"deliver".as_slice() {
+        return deliver(ids, rest);
+    }
+    Err(Why::Verb)
+}
+
+/// The line that these bytes are, which have no line feed, or why they are no line of these nodes.
+pub fn read_line(alloc: Global, ids: &NodeSet, bytes: &[u8]) -> Result<Line, ReadError<Why>>
+    ensures { Answers result (line_at ids.now bytes.now) }
+{
+    let (verb, rest) = cut(bytes, b' ');
+    if verb == b"value".as_slice() {
+        return value(alloc, ids, rest);
+    }
+    match verb_line(ids, verb, rest) {
+        Ok(line) => Ok(line),
+        Err(why) => Err(ReadError::Bad(why)),
+    }
+}

@@ -1,0 +1,34 @@
+ghost use Rattle.std.specs.Prelude.{◌≡◌, ◌++◌, OnOk, IfOk, map};
+ghost use Rattle.schedule_text.specs.Lines.{line_text};
+ghost use Rattle.schedule_text.specs.Spelled.{schedule_text, with_feeds};
+
+use crate::schedule::{Line, Schedule};
+use crate::text::Text;
+use std::alloc::{AllocError, Global};
+
+impl Text {
+    fn lines(&mut self, lines: &[Line]) -> Result<(), AllocError>
+        ensures { OnOk result (self.new ≡ self.old ++ with_feeds (map (λ l. line_text l) lines.now)) }
+    {
+        for line in lines {
+            self.line(line)?;
+            self.word("\n")?;
+        }
+        Ok(())
+    }
+}
+
+/// The text of a schedule: its two header lines and its lines, each with its line feed. For the schedule of no nodes, which
+/// is spelled by no bytes, it is two lines that no schedule has.
+pub fn write_schedule(alloc: Global, schedule: &Schedule) -> Result<Text, AllocError>
+    ensures { IfOk result (λ t. t ≡ schedule_text schedule.now) }
+{
+    let mut text = Text::new(alloc);
+    text.word("nodes ")?;
+    text.ids(schedule.nodes.as_slice())?;
+    text.word("\ninitial ")?;
+    text.ids(schedule.initial.as_slice())?;
+    text.word("\n")?;
+    text.lines(schedule.lines.as_slice())?;
+    Ok(text)
+}

@@ -1,0 +1,216 @@
+ghost use Rattle.std.specs.Prelude.{◌≡◌, ◌+◌, ◌<◌, ◌≤◌, ◌^◌, length, OnOk, IfOk, Result, []};
+ghost use Rattle.schedule_text.specs.Limits.{most_lines};
+ghost use Rattle.schedule_text.specs.Words.{parts_of};
+ghost use Rattle.schedule_text.specs.Reading.{header_at, initial_line_at, in_line, sized_at, one_line_at, first_line_at, second_line_at, lines_at, initial_at, schedule_at, fault_of, end_at, no_initial};
+ghost use Rattle.schedule_text.specs.Answers.{Gives, Answers, Faulted};
+ghost use Rattle.schedule_text.specs.Spelled.{Spells};
+ghost use Rattle.schedule_text.specs.declared.schedule.Schedule.{Schedule};
+
+use crate::fault::{BadSchedule, ReadError, Why};
+use crate::lines::{one_word, read_line};
+use crate::place::Place;
+use crate::schedule::{Line, Lines, Schedule};
+use crate::words::{are_among, cut, set_of};
+use std::alloc::Global;
+use voting_config::NodeSet;
+
+fn header(name: &[u8], line: &[u8]) -> Result<NodeSet, Why>
+    ensures { result ≡ header_at name.now line.now }
+{
+    let (verb, rest) = cut(line, b' ');
+    if verb != name {
+        return Err(Why::Header);
+    }
+    let Ok(word) = one_word(rest) else {
+        return Err(Why::Header);
+    };
+    let Some(ids) = set_of(word) else {
+        return Err(Why::Header);
+    };
+    if ids.len() == 0 {
+        return Err(Why::Header);
+    }
+    Ok(ids)
+}
+
+fn initial_line(ids: &NodeSet, line: &[u8]) -> Result<NodeSet, Why>
+    ensures { result ≡ initial_line_at ids.now line.now }
+{
+    let initial = header(b"initial", line)?;
+    if !are_among(ids, &initial) {
+        return Err(Why::Header);
+    }
+    Ok(initial)
+}
+
+fn first_line(place: Place, line: &[u8]) -> Result<NodeSet, BadSchedule>
+    requires { place.before + length line.now + 1 < 2 ^ 64 }
+    ensures { result ≡ first_line_at place line.now }
+{
+    if let Err(why) = place.check_size(line) {
+        return Err(place.bad(why));
+    }
+    match header(b"nodes", line) {
+        Ok(ids) => Ok(ids),
+        Err(why) => Err(place.bad(why)),
+    }
+}
+
+fn second_line(ids: &NodeSet, place: Place, line: &[u8]) -> Result<NodeSet, BadSchedule>
+    requires { place.before + length line.now + 1 < 2 ^ 64 }
+    ensures { result ≡ second_line_at ids.now place line.now }
+{
+    if let Err(why) = place.check_size(line) {
+        return Err(place.bad(why));
+    }
+    match initial_line(ids, line) {
+        Ok(ids) => Ok(ids),
+        Err(why) => Err(place.bad(why)),
+    }
+}
+
+// One line that has its line feed.
+fn one_line(
+    alloc: Global,
+    ids: &NodeSet,
+    place: Place,
+    line: &[u8],
+) -> Result<Line, ReadError<BadSchedule>>
+    requires { place.before + length line.now + 1 < 2 ^ 64 }
+    ensures read { Answers result (one_line_at ids.now place line.now) }
+    ensures counted { OnOk result (place.number ≤ most_lines) }
+{
+    match place.check_size(line) {
+        Ok(()) => (),
+        Err(why) => return Err(ReadError::Bad(place.bad(why))),
+    }
+    match read_line(alloc, ids, line) {
+        Ok(line) => Ok(line),
+        Err(ReadError::Memory) => Err(ReadError::Memory),
+        Err(ReadError::Bad(why)) => Err(ReadError::Bad(place.bad(why))),
+    }
+}
+
+// What stands behind the last line feed must be nothing.
+fn check_end(place: Place, line: &[u8]) -> Result<(), BadSchedule>
+    requires { place.before + length line.now < 2 ^ 64 }
+    ensures { result ≡ end_at place line.now tt }
+{
+    if line.is_empty() {
+        return Ok(());
+    }
+    Err(place.bad(place.why_cut(line)))
+}
+
+fn read_lines(
+    alloc: Global,
+    ids: &NodeSet,
+    start: Place,
+    bytes: &[u8],
+) -> Result<Lines, ReadError<BadSchedule>>
+    requires bytes { start.before + length bytes.now < 2 ^ 64 }
+    ensures { Answers result (lines_at ids.now start [] (parts_of 10 bytes.now)) }
+{
+    let mut lines = Vec::new(alloc);
+    let mut place = start;
+    let (mut line, mut rest) = cut(bytes, b'\n');
+    while let Some(more) = rest {
+        let next = cut(more, b'\n');
+        let read = match one_line(alloc, ids, place, line) {
+            Ok(read) => read,
+            Err(fault) => return Err(fault),
+        };
+        if lines.push(read).is_err() {
+            return Err(ReadError::Memory);
+        }
+        place = place.after(line);
+        line = next.0;
+        rest = next.1;
+    }
+    if let Err(bad) = check_end(place, line) {
+        return Err(ReadError::Bad(bad));
+    }
+    Ok(Lines::of(lines))
+}
+
+// The lines behind the header's first one.
+fn read_rest(
+    alloc: Global,
+    nodes: NodeSet,
+    place: Place,
+    bytes: &[u8],
+) -> Result<Schedule, ReadError<BadSchedule>>
+    requires bytes { place.before + length bytes.now < 2 ^ 64 }
+    requires number { place.number ≤ most_lines }
+    ensures { Answers result (initial_at nodes place (parts_of 10 bytes.now)) }
+{
+    let (line, rest) = cut(bytes, b'\n');
+    let Some(rest) = rest else {
+        return Err(ReadError::Bad(no_second(place, line)));
+    };
+    let _ = cut(rest, b'\n');
+    let initial = match second_line(&nodes, place, line) {
+        Ok(initial) => initial,
+        Err(bad) => return Err(ReadError::Bad(bad)),
+    };
+    let lines = match read_lines(alloc, &nodes, place.after(line), rest) {
+        Ok(lines) => lines,
+        Err(fault) => return Err(fault),
+    };
+    Ok(Schedule {
+        nodes,
+        initial,
+        lines,
+    })
+}
+
+fn no_second(place: Place, line: &[u8]) -> BadSchedule
+    requires { place.before + length line.now < 2 ^ 64 }
+    ensures { no_initial {A = Unit {0}} place line.now ≡ Err result }
+{
+    if line.is_empty() {
+        return place.bad(Why::Header);
+    }
+    place.bad(place.why_cut(line))
+}
+
+fn read_exact(alloc: Global, bytes: &[u8]) -> Result<Schedule, ReadError<BadSchedule>>
+    ensures { Answers result (schedule_at bytes.now) }
+{
+    let place = Place::first();
+    let (line, rest) = cut(bytes, b'\n');
+    let Some(rest) = rest else {
+        if let Err(bad) = check_end(place, line) {
+            return Err(ReadError::Bad(bad));
+        }
+        return Ok(Schedule {
+            nodes: NodeSet::new(),
+            initial: NodeSet::new(),
+            lines: Lines::of(Vec::new(alloc)),
+        });
+    };
+    let _ = cut(rest, b'\n');
+    let nodes = match first_line(place, line) {
+        Ok(nodes) => nodes,
+        Err(bad) => return Err(ReadError::Bad(bad)),
+    };
+    match read_rest(alloc, nodes, place.after(line), rest) {
+        Ok(schedule) => Ok(schedule),
+        Err(fault) => Err(fault),
+    }
+}
+
+/// The schedule that the bytes spell, or the first bad line and why it is bad. `Memory` may come for any bytes.
+pub fn read_schedule(alloc: Global, bytes: &[u8]) -> Result<Schedule, ReadError<BadSchedule>>
+    // What is read is spelled so.
+    ensures found { IfOk result (λ s. Spells bytes.now s) }
+    // What is spelled so is read, unless memory runs out.
+    ensures only { (s : Schedule) → Spells bytes.now s → Answers result (Ok s) }
+    // Which fault it is, where there is one.
+    ensures fault { Faulted result (fault_of bytes.now) }
+{
+    match read_exact(alloc, bytes) {
+        Ok(read) => Ok(read),
+        Err(fault) => Err(fault),
+    }
+}

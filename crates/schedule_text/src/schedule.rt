@@ -1,0 +1,61 @@
+ghost use Rattle.std.specs.Prelude.{◌≡◌};
+
+use crate::id_list::IdList;
+use crate::setting_text::SettingText;
+use std::marker::Model;
+use voting_config::{NodeId, NodeSet};
+
+/// A line of a schedule behind its header. The first id is the node that acts.
+#[derive(Drop)]
+pub enum Line {
+    /// The node takes the initial configuration.
+    Boot(NodeId),
+    /// The node starts a join for a candidate in a term.
+    StartJoin(NodeId, NodeId, u64),
+    /// A client's value reaches the node: as this version, with this text as its one setting, and with this
+    /// configuration.
+    Value(NodeId, u64, SettingText, IdList),
+    /// The node is handed the message with this number, counted from 1.
+    Deliver(NodeId, u64),
+}
+
+/// The lines of a schedule, seen as a list.
+#[derive(Drop)]
+pub struct Lines {
+    lines: Vec<Line>,
+}
+
+impl Model for Lines {
+    ghost use Rattle.std.specs.Prelude.{List};
+    ghost use Rattle.schedule_text.specs.declared.schedule.Line.{Line};
+
+    ghost Value = { List Line };
+
+    ghost view = { λ l. l.lines.items };
+}
+
+impl Lines {
+    /// These lines.
+    pub fn of(lines: Vec<Line>) -> Lines
+        ensures { result ≡ lines.items }
+    {
+        Lines { lines }
+    }
+
+    /// The lines, in order.
+    pub fn as_slice(&self) -> &[Line]
+        ensures { result.now ≡ self.now }
+    {
+        self.lines.as_slice()
+    }
+}
+
+/// A schedule: its header, and the lines behind it. A text of no bytes names no node and has no line.
+#[derive(Drop)]
+pub struct Schedule {
+    /// All nodes.
+    pub nodes: NodeSet,
+    /// The nodes of the initial configuration.
+    pub initial: NodeSet,
+    pub lines: Lines,
+}

@@ -1,0 +1,150 @@
+use crate::fault::{BadSchedule, ReadError, Why};
+use crate::printing::write_schedule;
+use crate::reading::read_schedule;
+use crate::schedule::Line;
+use crate::text::Text;
+use std::alloc::Global;
+use std::test::Fail;
+
+const HEADER: &[u8] = b"nodes a\ninitial a\n";
+
+// The line and the reason of a text's fault.
+fn fault(alloc: Global, text: &[u8]) -> Option<(usize, Why)> {
+    match read_schedule(alloc, text) {
+        Err(ReadError::Bad(bad)) => Some((bad.line, bad.why)),
+        _ => None,
+    }
+}
+
+// A text with so many times these bytes behind a header.
+fn many(alloc: Global, count: usize, bytes: &[u8]) -> Option<Vec<u8>> {
+    let Ok(mut text) = Vec::from_slice(alloc, HEADER) else {
+        return None;
+    };
+    for _ in 0..count {
+        if text.extend_from_slice(bytes).is_err() {
+            return None;
+        }
+    }
+    Some(text)
+}
+
+// The fault of a text with so many times these bytes behind a header.
+fn fault_of_many(alloc: Global, count: usize, bytes: &[u8]) -> Option<(usize, Why)> {
+    match many(alloc, count, bytes) {
+        Some(text) => fault(alloc, text.as_slice()),
+        None => None,
+    }
+}
+
+#[test]
+fn names_the_reason_of_a_third_line(rt: HostRuntime) {
+    let a = rt.alloc();
+    for (line, why) in [
+        ("tick a 0 0\n", Why::Verb),
+        ("deliver a\n", Why::Arity),
+        ("deliver z x\n", Why::Id),
+        ("deliver a 01\n", Why::Number),
+        ("deliver a 0\n", Why::Number),
+        ("deliver a 4294967296\n", Why::Number),
+        ("startjoin a a 18446744073709551616\n", Why::Number),
+        ("value a 1 X a\n", Why::Text),
+        ("value a 1 x a,a\n", Why::List),
+        ("boot a", Why::NoNewline),
+        ("boot  a\n", Why::Arity),
+        ("boot a \n", Why::Arity),
+        (" boot a\n", Why::Verb),
+        ("boot \n", Why::Id),
+        ("boot\ta\n", Why::Verb),
+        ("\n", Why::Verb),
+    ] {
+        assert_eq!(rt;
+            fault_of_many(a, 1, line.as_bytes()),
+            Some((3, why)),
+            "at {line}"
+        );
+    }
+}
+
+#[test]
+fn names_the_reason_of_a_header(rt: HostRuntime) {
+    let a = rt.alloc();
+    for (text, line, why) in [
+        ("nodes a\ninitial _\n", 2, Why::Header),
+        ("nodes a\ninitial b\n", 2, Why::Header),
+        ("nodes a\ninitial a", 2, Why::NoNewline),
+        ("nodes a\n", 2, Why::Header),
+        ("nodes a", 1, Why::NoNewline),
+        ("nodes b,a\n", 1, Why::Header),
+        ("\n", 1, Why::Header),
+    ] {
+        assert_eq!(rt; fault(a, text.as_bytes()), Some((line, why)), "at {text}");
+    }
+    assert!(rt; read_schedule(a, b"").is_ok());
+    assert!(rt; read_schedule(a, HEADER).is_ok());
+}
+
+#[test]
+fn prints_what_it_has_read(rt: HostRuntime) {
+    let a = rt.alloc();
+    let text =
+        b"nodes a,b\ninitial a\nboot a\nstartjoin a b 18446744073709551615\nvalue b 0 x-1 _\nvalue b 7 x a,b\ndeliver a 4294967295\n";
+    let Ok(schedule) = read_schedule(a, text) else {
+        return;
+    };
+    let Ok(printed) = write_schedule(a, &schedule) else {
+        return;
+    };
+    assert!(rt; printed.as_bytes() == text.as_slice());
+    let lines = schedule.lines.as_slice();
+    assert_eq!(rt; lines.len(), 5);
+    if let Line::Value(_, version, text, config) = &lines[3] {
+        assert_eq!(rt; *version, 7);
+        assert_eq!(rt; text.as_str(), "x");
+        assert_eq!(rt; config.to_set().len(), 2);
+    }
+}
+
+#[test]
+fn prints_a_fault(rt: HostRuntime) {
+    let mut text = Text::new(rt.alloc());
+    let bad = BadSchedule {
+        line: 3,
+        why: Why::Id,
+    };
+    assert!(rt; text.word("act ").is_ok());
+    assert_eq!(rt; text.len(), 4);
+    text.clear();
+    assert!(rt; text.bad_schedule(&bad).is_ok());
+    assert!(rt; text.as_bytes() == b"zen: bad schedule at line 3: Id\n".as_slice());
+}
+
+#[test]
+fn takes_a_million_lines(rt: HostRuntime) {
+    let a = rt.alloc();
+    let Some(mut text) = many(a, 999998, b"deliver a 1\n") else {
+        return;
+    };
+    assert!(rt; read_schedule(a, text.as_slice()).is_ok());
+    assert!(rt; text.push(b'x').is_ok());
+    assert_eq!(rt; fault(a, text.as_slice()), Some((1000001, Why::TooMany)));
+}
+
+#[test]
+fn names_a_text_that_is_too_big(rt: HostRuntime) {
+    // The header has 18 bytes.
+    let too_big = fault_of_many(rt.alloc(), 16777199, b"x");
+    assert_eq!(rt; too_big, Some((3, Why::TooBig)));
+}
+
+#[test]
+fn names_a_line_that_is_too_long(rt: HostRuntime) {
+    let a = rt.alloc();
+    for (bytes, why) in [(16384, Why::Verb), (16385, Why::TooLong)] {
+        let Some(mut text) = many(a, bytes, b"x") else {
+            return;
+        };
+        assert!(rt; text.push(b'\n').is_ok());
+        assert_eq!(rt; fault(a, text.as_slice()), Some((3, why)), "at {bytes}");
+    }
+}

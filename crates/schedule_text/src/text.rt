@@ -1,0 +1,185 @@
+ghost use Rattle.std.specs.Prelude.{◌≡◌, ◌++◌, [], length, OnOk, decimal};
+ghost use Rattle.schedule_text.specs.Words.{list_text};
+ghost use Rattle.schedule_text.specs.Lines.{line_text};
+ghost use Rattle.schedule_text.specs.Printed.{bad_line, reason_text};
+
+use crate::fault::{BadSchedule, Why};
+use crate::schedule::Line;
+use crate::setting_text::SettingText;
+use itoa::Buffer;
+use std::alloc::{AllocError, Global};
+use std::marker::Model;
+use voting_config::NodeId;
+
+/// A text that grows at its end. Contracts see its bytes.
+///
+/// Where a call answers an error, memory has run out, and any part of what it was to write may stand at the end.
+#[derive(Drop)]
+pub struct Text {
+    bytes: Vec<u8>,
+}
+
+impl Model for Text {
+    ghost use Rattle.std.specs.Prelude.{ℕ, List};
+
+    ghost Value = { List ℕ };
+
+    ghost view = { λ t. t.bytes.items };
+}
+
+impl Text {
+    /// The empty text, which takes no memory yet.
+    pub fn new(alloc: Global) -> Text
+        ensures { result ≡ [] }
+    {
+        Text {
+            bytes: Vec::new(alloc),
+        }
+    }
+
+    /// The bytes of the text.
+    pub fn as_bytes(&self) -> &[u8]
+        ensures { result.now ≡ self.now }
+    {
+        self.bytes.as_slice()
+    }
+
+    /// How many bytes the text has.
+    pub fn len(&self) -> usize
+        ensures { result ≡ length self.now }
+    {
+        self.bytes.len()
+    }
+
+    /// Makes the text empty. Its memory stays, for what is written next.
+    pub fn clear(&mut self)
+        ensures { self.new ≡ [] }
+    {
+        self.bytes.clear();
+    }
+
+    /// Writes a text.
+    pub fn word(&mut self, word: &str) -> Result<(), AllocError>
+        ensures { OnOk result (self.new ≡ self.old ++ word.now) }
+    {
+        self.bytes(word.as_bytes())
+    }
+
+    /// Writes bytes.
+    pub fn bytes(&mut self, bytes: &[u8]) -> Result<(), AllocError>
+        ensures { OnOk result (self.new ≡ self.old ++ bytes.now) }
+    {
+        self.bytes.extend_from_slice(bytes)?;
+        Ok(())
+    }
+
+    /// Writes an id.
+    pub fn id(&mut self, id: NodeId) -> Result<(), AllocError>
+        ensures { OnOk result (self.new ≡ self.old ++ id) }
+    {
+        self.bytes(id.as_bytes())
+    }
+
+    /// Writes a number in decimal, without leading zeros.
+    pub fn number(&mut self, number: u64) -> Result<(), AllocError>
+        ensures { OnOk result (self.new ≡ self.old ++ decimal number) }
+    {
+        let mut buffer = Buffer::new();
+        self.word(buffer.format(number))
+    }
+
+    /// Writes ids with a comma between each two, or `_` where there is none.
+    pub fn ids(&mut self, ids: &[NodeId]) -> Result<(), AllocError>
+        ensures { OnOk result (self.new ≡ self.old ++ list_text ids.now) }
+    {
+        let [first, others @ ..] = ids else {
+            return self.word("_");
+        };
+        self.id(*first)?;
+        for id in others {
+            self.word(",")?;
+            self.id(*id)?;
+        }
+        Ok(())
+    }
+
+    /// Writes a line of a schedule, without its line feed.
+    pub fn line(&mut self, line: &Line) -> Result<(), AllocError>
+        ensures { OnOk result (self.new ≡ self.old ++ line_text line.now) }
+    {
+        match line {
+            Line::Boot(node) => {
+                self.word("boot ")?;
+                self.id(*node)
+            }
+            Line::StartJoin(node, candidate, term) => {
+                self.word("startjoin ")?;
+                self.id(*node)?;
+                self.word(" ")?;
+                self.id(*candidate)?;
+                self.word(" ")?;
+                self.number(*term)
+            }
+            Line::Value(node, version, text, config) => self.value(
+                *node,
+                *version,
+                *text,
+                config.as_slice(),
+            ),
+            Line::Deliver(node, message) => {
+                self.word("deliver ")?;
+                self.id(*node)?;
+                self.word(" ")?;
+                self.number(*message)
+            }
+        }
+    }
+
+    fn value(
+        &mut self,
+        node: NodeId,
+        version: u64,
+        text: SettingText,
+        config: &[NodeId],
+    ) -> Result<(), AllocError>
+        ensures { OnOk result (self.new ≡ self.old ++ line_text (Line.Value node version text config.now)) }
+    {
+        self.word("value ")?;
+        self.id(node)?;
+        self.word(" ")?;
+        self.number(version)?;
+        self.word(" ")?;
+        self.setting(text)?;
+        self.word(" ")?;
+        self.ids(config)
+    }
+
+    fn setting(&mut self, text: SettingText) -> Result<(), AllocError>
+        ensures { OnOk result (self.new ≡ self.old ++ text) }
+    {
+        self.bytes(text.as_bytes())
+    }
+
+    /// Writes which line of a schedule is bad and why, as `zen: bad schedule at line 3: Verb` with a line feed.
+    pub fn bad_schedule(&mut self, bad: &BadSchedule) -> Result<(), AllocError>
+        ensures { OnOk result (self.new ≡ self.old ++ bad_line bad.now) }
+    {
+        self.word("zen: bad schedule at line ")?;
+        self.line_number(bad.line)?;
+        self.reason(bad.why)
+    }
+
+    fn line_number(&mut self, line: usize) -> Result<(), AllocError>
+        ensures { OnOk result (self.new ≡ self.old ++ decimal line) }
+    {
+        self.number(line as u64)
+    }
+
+    fn reason(&mut self, why: Why) -> Result<(), AllocError>
+        ensures { OnOk result (self.new ≡ self.old ++ reason_text why) }
+    {
+        self.word(": ")?;
+        self.word(why.name())?;
+        self.word("\n")
+    }
+}
