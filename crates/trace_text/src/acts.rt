@@ -1,0 +1,131 @@
+ghost use Rattle.std.specs.Prelude.{◌≡◌, ◌++◌, OnOk, codes, decimal};
+ghost use Rattle.world_model.specs.declared.acts.Act.TheVariants as act;
+ghost use Rattle.trace_text.specs.Trace.{act_text, ending_text, id_text, state_text};
+
+use crate::{Ending, write_ending};
+use cluster_state::{
+    ApplyCommit, ClusterState, ClusterValue, Join, PublishRequest, PublishResponse, to_json,
+    value_to_json,
+};
+use schedule_text::Text;
+use std::alloc::{AllocError, Global};
+use voting_config::{NodeId, NodeSet, VotingConfig};
+
+/// Writes a term and a version, as `1/2`.
+pub fn write_state_id(text: &mut Text, term: u64, version: u64) -> Result<(), AllocError>
+    ensures { OnOk result (text.new ≡ text.old ++ id_text term version) }
+{
+    text.number(term)?;
+    text.word("/")?;
+    text.number(version)
+}
+
+/// Writes a state as JSON.
+pub fn write_state_json(
+    text: &mut Text,
+    alloc: Global,
+    state: &ClusterState,
+) -> Result<(), AllocError>
+    ensures { OnOk result (text.new ≡ text.old ++ state_text state.now) }
+{
+    let json = to_json(alloc, state)?;
+    text.bytes(json.as_slice())
+}
+
+/// Writes the front of an act's line: `act`, the node, and how the act ended.
+pub fn write_act_head(text: &mut Text, node: NodeId, ending: Ending) -> Result<(), AllocError>
+    ensures { OnOk result (text.new ≡ text.old ++ (codes "act " ++ node ++ codes " " ++ ending_text ending ++ codes " ")) }
+{
+    text.word("act ")?;
+    text.id(node)?;
+    text.word(" ")?;
+    write_ending(text, ending)?;
+    text.word(" ")
+}
+
+/// Writes the act by which a node takes the initial configuration.
+pub fn write_boot(text: &mut Text, initial: &NodeSet) -> Result<(), AllocError>
+    ensures { OnOk result (text.new ≡ text.old ++ act_text (act.Bootstrap initial.now)) }
+{
+    text.word("boot ")?;
+    text.ids(initial.as_slice())
+}
+
+/// Writes the act by which a node starts a join.
+pub fn write_start_join(text: &mut Text, candidate: NodeId, term: u64) -> Result<(), AllocError>
+    ensures { OnOk result (text.new ≡ text.old ++ act_text (act.StartJoin candidate term)) }
+{
+    text.word("startjoin ")?;
+    text.id(candidate)?;
+    text.word(" ")?;
+    text.number(term)
+}
+
+/// Writes the act by which a node counts a join.
+pub fn write_join(text: &mut Text, join: &Join) -> Result<(), AllocError>
+    ensures { OnOk result (text.new ≡ text.old ++ act_text (act.TakeJoin join.now)) }
+{
+    text.word("join ")?;
+    text.id(join.source)?;
+    text.word(" ")?;
+    text.id(join.target)?;
+    text.word(" ")?;
+    text.number(join.term)?;
+    text.word(" ")?;
+    write_state_id(text, join.last_term, join.last_version)
+}
+
+/// Writes the act by which a node publishes a client's value.
+pub fn write_value(
+    text: &mut Text,
+    alloc: Global,
+    version: u64,
+    config: &VotingConfig,
+    value: &ClusterValue,
+) -> Result<(), AllocError>
+    ensures { OnOk result (text.new ≡ text.old ++ act_text (act.Value version config.now value.now)) }
+{
+    let json = value_to_json(alloc, value)?;
+    text.word("value ")?;
+    text.number(version)?;
+    text.word(" ")?;
+    text.ids(config.members().as_slice())?;
+    text.word(" ")?;
+    text.bytes(json.as_slice())
+}
+
+/// Writes the act by which a node accepts a published state.
+pub fn write_publish(
+    text: &mut Text,
+    alloc: Global,
+    request: &PublishRequest,
+) -> Result<(), AllocError>
+    ensures { OnOk result (text.new ≡ text.old ++ act_text (act.Publish request.now)) }
+{
+    text.word("publish ")?;
+    text.id(request.source)?;
+    text.word(" ")?;
+    write_state_json(text, alloc, &request.state)
+}
+
+/// Writes the act by which a node counts the response to its publication.
+pub fn write_response(text: &mut Text, response: &PublishResponse) -> Result<(), AllocError>
+    ensures { OnOk result (text.new ≡ text.old ++ act_text (act.Response response.now)) }
+{
+    text.word("response ")?;
+    text.id(response.source)?;
+    text.word(" ")?;
+    text.id(response.target)?;
+    text.word(" ")?;
+    write_state_id(text, response.term, response.version)
+}
+
+/// Writes the act by which a node takes it that its accepted state is committed.
+pub fn write_commit(text: &mut Text, commit: &ApplyCommit) -> Result<(), AllocError>
+    ensures { OnOk result (text.new ≡ text.old ++ act_text (act.Commit commit.now)) }
+{
+    text.word("commit ")?;
+    text.id(commit.source)?;
+    text.word(" ")?;
+    write_state_id(text, commit.term, commit.version)
+}

@@ -1,0 +1,20 @@
+//! The lines of a trace: what each act of a node did, and what it sent.
+#![tactic(auto)]
+
+pub mod acts;
+pub mod causes;
+pub mod ending;
+pub mod messages;
+#[cfg(test)]
+mod tests;
+
+pub use acts::{
+    write_act_head, write_boot, write_commit, write_join, write_publish, write_response,
+    write_start_join, write_value,
+};
+pub use causes::{write_cause, write_ending};
+pub use ending::Ending;
+pub use messages::{
+    write_commit_message, write_committed, write_join_message, write_publish_message,
+    write_response_message, write_won,
+};
