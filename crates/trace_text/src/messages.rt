@@ -1,6 +1,6 @@
 ghost use Rattle.std.specs.Prelude.{◌≡◌, ◌++◌, OnOk, Some, codes, decimal};
 ghost use Rattle.world_model.specs.declared.acts.Message.TheVariants as message;
-ghost use Rattle.trace_text.specs.Trace.{message_line, won_text, committed_text};
+ghost use Rattle.trace_text.specs.Trace.{message_line, message_text, won_text, committed_text};
 
 use crate::acts::{write_state_id, write_state_json};
 use cluster_state::{ApplyCommit, ClusterState, Join, PublishRequest, PublishResponse};
@@ -51,16 +51,55 @@ fn between(text: &mut Text, source: NodeId, target: NodeId) -> Result<(), AllocE
     text.id(target)
 }
 
+fn to_any(text: &mut Text, source: NodeId) -> Result<(), AllocError>
+    ensures { OnOk result (text.new ≡ text.old ++ (source ++ codes "->*")) }
+{
+    text.id(source)?;
+    text.word("->*")
+}
+
+fn join_fields(text: &mut Text, join: &Join) -> Result<(), AllocError>
+    ensures { OnOk result (text.new ≡ text.old ++ message_text (message.Join join.now)) }
+{
+    text.word("join ")?;
+    text.number(join.term)?;
+    text.word(" ")?;
+    write_state_id(text, join.last_term, join.last_version)
+}
+
+fn publish_fields(
+    text: &mut Text,
+    alloc: Global,
+    request: &PublishRequest,
+) -> Result<(), AllocError>
+    ensures { OnOk result (text.new ≡ text.old ++ message_text (message.Publish request.now)) }
+{
+    text.word("publish ")?;
+    write_state_json(text, alloc, &request.state)
+}
+
+fn response_fields(text: &mut Text, response: &PublishResponse) -> Result<(), AllocError>
+    ensures { OnOk result (text.new ≡ text.old ++ message_text (message.Response response.now)) }
+{
+    text.word("response ")?;
+    write_state_id(text, response.term, response.version)
+}
+
+fn commit_fields(text: &mut Text, commit: &ApplyCommit) -> Result<(), AllocError>
+    ensures { OnOk result (text.new ≡ text.old ++ message_text (message.Commit commit.now)) }
+{
+    text.word("commit ")?;
+    write_state_id(text, commit.term, commit.version)
+}
+
 /// Writes the line of a join that is sent as message `ordinal`.
 pub fn write_join_message(text: &mut Text, ordinal: u64, join: &Join) -> Result<(), AllocError>
     ensures { OnOk result (text.new ≡ text.old ++ message_line ordinal (message.Join join.now)) }
 {
     number(text, ordinal)?;
     between(text, join.source, join.target)?;
-    text.word(" join ")?;
-    text.number(join.term)?;
     text.word(" ")?;
-    write_state_id(text, join.last_term, join.last_version)?;
+    join_fields(text, join)?;
     text.word("\n")
 }
 
@@ -74,9 +113,9 @@ pub fn write_publish_message(
     ensures { OnOk result (text.new ≡ text.old ++ message_line ordinal (message.Publish request.now)) }
 {
     number(text, ordinal)?;
-    text.id(request.source)?;
-    text.word("->* publish ")?;
-    write_state_json(text, alloc, &request.state)?;
+    to_any(text, request.source)?;
+    text.word(" ")?;
+    publish_fields(text, alloc, request)?;
     text.word("\n")
 }
 
@@ -90,8 +129,8 @@ pub fn write_response_message(
 {
     number(text, ordinal)?;
     between(text, response.source, response.target)?;
-    text.word(" response ")?;
-    write_state_id(text, response.term, response.version)?;
+    text.word(" ")?;
+    response_fields(text, response)?;
     text.word("\n")
 }
 
@@ -104,8 +143,8 @@ pub fn write_commit_message(
     ensures { OnOk result (text.new ≡ text.old ++ message_line ordinal (message.Commit commit.now)) }
 {
     number(text, ordinal)?;
-    text.id(commit.source)?;
-    text.word("->* commit ")?;
-    write_state_id(text, commit.term, commit.version)?;
+    to_any(text, commit.source)?;
+    text.word(" ")?;
+    commit_fields(text, commit)?;
     text.word("\n")
 }

@@ -1,0 +1,4 @@
+pub mod Replayed
+pub mod Trace
+pub mod Sent
+pub mod Did

@@ -1,0 +1,6 @@
+//! A schedule replayed over the rules of the core, and its trace.
+#![tactic(auto)]
+
+pub mod did;
+pub mod message;
+pub mod node;
