@@ -1,4 +1,6 @@
-pub mod Replayed
-pub mod Trace
-pub mod Sent
 pub mod Did
+pub mod Replayed
+pub mod Sent
+pub mod SoFar
+pub mod Stands
+pub mod Trace

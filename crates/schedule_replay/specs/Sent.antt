@@ -1,5 +1,5 @@
 -- The messages that a replay holds.
-use Rattle.std.specs.Prelude.{Bool, Option, None, Some, List, map}
+use Rattle.std.specs.Prelude.{Bool, Option, None, Some, List, [], ◌∷◌}
 use Rattle.std.specs.List.{list_all}
 use Rattle.voting_config.specs.Ids.{Id, has}
 use Rattle.world_model.specs.declared.acts.Message.{Message}
@@ -16,6 +16,10 @@ message_of (message.Commit c) = CommitMessage c
 abbrev pub message_of_some : Option SentMessage → Option Message
 message_of_some None = None
 message_of_some (Some m) = Some (message_of m)
+
+abbrev pub some_message : Option SentMessage → List Message
+some_message None = []
+some_message (Some m) = message_of m ∷ []
 
 -- from whom a message is
 abbrev pub source_of : Message → Id

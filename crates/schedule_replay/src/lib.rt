@@ -4,3 +4,6 @@
 pub mod did;
 pub mod message;
 pub mod node;
+pub mod nodes;
+pub mod replayer;
+pub mod writing;

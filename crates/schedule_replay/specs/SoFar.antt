@@ -1,0 +1,29 @@
+-- Between two lines of a replay.
+use Rattle.std.specs.Prelude.{◌≡◌, ℕ, Option, Result, Ok, Err, List, ◌++◌}
+use Rattle.voting_config.specs.Ids.{Id}
+use Rattle.world_model.specs.Histories.{History}
+use Rattle.schedule_text.specs.declared.schedule.Line.{Line}
+use Rattle.zen_link.specs.Streams.{Appended, AppendedFront}
+use Rattle.schedule_replay.specs.declared.message.SentMessage.{SentMessage}
+use Rattle.schedule_replay.specs.declared.node.ReplayNode.{ReplayNode}
+use Rattle.schedule_replay.specs.Trace.{trace_from}
+use Rattle.schedule_replay.specs.Stands.{Stands}
+
+-- The replay stands for the history so far. What was written, what is held back, and the trace of the lines that are left are the whole
+-- trace.
+pub record SoFar (ids initial : List Id) (nodes : List ReplayNode) (messages : List SentMessage) (was now : Option (List ℕ)) (pending : List ℕ) (left : List Line) (all : List ℕ) : Type 0 where
+  pub history : History
+  pub stands : Stands ids nodes messages history
+  pub front : List ℕ
+  pub written : Appended was now front
+  pub whole : front ++ (pending ++ trace_from initial history left) ≡ all
+
+-- a piece was added to what is held back, and a front of it all was written; at an error a front of it was
+pub record HoldsBack (was now : Option (List ℕ)) (before after piece : List ℕ) : Type 0 where
+  pub front : List ℕ
+  pub written : Appended was now front
+  pub whole : front ++ after ≡ before ++ piece
+
+abbrev pub Holds : {E : Type 0} → Option (List ℕ) → Option (List ℕ) → (before after piece : List ℕ) → Result (Unit {0}) E → Type 0
+Holds was now before after piece (Ok u) = HoldsBack was now before after piece
+Holds was now before after piece (Err e) = AppendedFront was now (before ++ piece)
