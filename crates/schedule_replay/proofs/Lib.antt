@@ -1,2 +1,6 @@
+pub mod Legal
+pub mod Lines
 pub mod Movement
+pub mod Progress
 pub mod Room
+pub mod Sources

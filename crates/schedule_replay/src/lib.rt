@@ -6,4 +6,7 @@ pub mod message;
 pub mod node;
 pub mod nodes;
 pub mod replayer;
+pub mod replaying;
 pub mod writing;
+
+pub use replaying::{ReplayError, replay};

@@ -1,0 +1,13 @@
+use Rattle.std.proofs.Common.{ap, length, List, ◌∙◌, ◌≡◌, subst}
+use Rattle.std.specs.declared.vec.Vec.{Vec}
+use Rattle.std.specs.declared.alloc.Global.{Global}
+use Rattle.schedule_replay.specs.declared.node.ReplayNode.{ReplayNode}
+use Rattle.schedule_replay.proofs.Movement.{stand_length}
+use Rattle.schedule_replay.proofs.Lines.{act_done}
+use Rattle.schedule_replay.proofs.Sources.{takes_message}
+use Rattle.schedule_replay.proofs.replayer.Replayer.take.Goals as goal
+
+pub returns-clause-done : goal.returns-clause-done
+returns-clause-done c =
+    act_done _ _ c.as_mut_slice.result.now c.take.new.nodes _ _ _ _ _ _ _ _ _ _ c.in_ok-did.did c.as_mut_slice.ensures.value c.take.auto.nodes c.as_mut_slice.ensures.len
+    (ap (λ (v : Vec ReplayNode Global). v.items) c.in_ok-finish.ensures.nodes) c.in_ok-did.ensures c.in_ok-finish.ensures.sent c.requires.listed (takes_message _ _ _ c.requires.source) c.clear.ensures c.in_ok-write_taking.ensures c.in_ok-finish.ensures.written

@@ -1,0 +1,89 @@
+ghost use Rattle.std.specs.Prelude.{◌≡◌, [], ◌≤◌};
+ghost use Rattle.std.specs.List.{AllByRecursion};
+ghost use Rattle.zen_disk.specs.Faults.{Rose};
+ghost use Rattle.world_model.specs.Histories.{IsLegal};
+ghost use Rattle.zen_link.specs.Streams.{AppendedFront, WritesAll};
+ghost use Rattle.schedule_text.specs.Lines.{FitsLine};
+ghost use Rattle.schedule_replay.specs.Replayed.{replayed};
+ghost use Rattle.schedule_replay.specs.SoFar.{Holds};
+ghost use Rattle.schedule_replay.specs.Trace.{trace};
+
+use crate::replayer::Replayer;
+use schedule_text::{Schedule, Text};
+use std::alloc::Global;
+use zen_link::{Sink, write_all};
+
+/// Why a replay ended before its end.
+#[derive(Clone, Copy, Debug, PartialEq, Eq, thiserror::Error)]
+pub enum ReplayError {
+    #[error("the trace was not written")]
+    Write,
+    #[error("memory ran out")]
+    Memory,
+}
+
+// How many bytes of a trace are held back at most before they are written.
+const HELD_BYTES: usize = 65536;
+
+// Adds a piece to what is held back, and writes what is held back where it has grown long.
+fn hold<S: Sink>(out: &mut S, held: &mut Text, piece: &Text) -> Result<(), ReplayError>
+    ensures holds { Holds (S.written out.old) (S.written out.new) held.old held.new piece.now result }
+    ensures later { S.faults out.old ≤ S.faults out.new }
+    ensures fault { result ≡ Err ReplayError.Write → Rose (S.faults out.old) (S.faults out.new) }
+{
+    if held.len() > HELD_BYTES {
+        let Ok(()) = write_all(out, held.as_bytes()) else {
+            return Err(ReplayError::Write);
+        };
+        held.clear();
+    }
+    if held.bytes(piece.as_bytes()).is_err() {
+        return Err(ReplayError::Memory);
+    }
+    Ok(())
+}
+
+// Writes what is held back, where memory has run out.
+fn out_of_memory<S: Sink>(out: &mut S, held: &Text) -> ReplayError
+    ensures written { AppendedFront (S.written out.old) (S.written out.new) held.now }
+    ensures later { S.faults out.old ≤ S.faults out.new }
+    ensures fault { result ≡ ReplayError.Write → Rose (S.faults out.old) (S.faults out.new) }
+{
+    match write_all(out, held.as_bytes()) {
+        Ok(()) => ReplayError::Memory,
+        Err(_) => ReplayError::Write,
+    }
+}
+
+/// Replays a schedule, and writes its trace. `Write` only where the sink's count of faults rose; a front of the trace is
+/// written then, and at `Memory` too. `IsLegal` is said of the very history whose trace it is.
+#[tactic(auto, using(crate::proofs::Legal::legal_of))]
+pub fn replay<S: Sink>(alloc: Global, schedule: &Schedule, out: &mut S) -> Result<(), ReplayError>
+    requires fits { AllByRecursion (FitsLine schedule.now.nodes) schedule.now.lines }
+    requires named { schedule.now.initial ≡ [] → schedule.now.lines ≡ [] }
+    ensures written { WritesAll (S.written out.old) (S.written out.new) (trace schedule.now) result }
+    ensures legal { IsLegal schedule.now.initial (replayed schedule.now) }
+    ensures later { S.faults out.old ≤ S.faults out.new }
+    ensures fault { result ≡ Err ReplayError.Write → Rose (S.faults out.old) (S.faults out.new) }
+{
+    let Ok(mut replayer) = Replayer::new(alloc, &schedule.nodes, &schedule.initial) else {
+        return Err(ReplayError::Memory);
+    };
+    let mut held = Text::new(alloc);
+    let mut text = Text::new(alloc);
+    let lines = schedule.lines.as_slice();
+    for line in lines {
+        text.clear();
+        let Ok(()) = replayer.line(alloc, line, &mut text) else {
+            return Err(out_of_memory(out, &held));
+        };
+        match hold(out, &mut held, &text) {
+            Ok(()) => (),
+            Err(error) => return Err(error),
+        }
+    }
+    let Ok(()) = write_all(out, held.as_bytes()) else {
+        return Err(ReplayError::Write);
+    };
+    Ok(())
+}

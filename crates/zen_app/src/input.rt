@@ -1,0 +1,43 @@
+ghost use Rattle.std.specs.Prelude.{◌≡◌, ◌≤◌, IfOk};
+ghost use Rattle.zen_disk.specs.Faults.{Rose};
+ghost use Rattle.zen_app.specs.Reading.{IsInput};
+
+use schedule_text::MAX_BYTES;
+use std::alloc::Global;
+use zen_link::Source;
+
+/// Why the input was not read.
+#[derive(Clone, Copy, Debug, PartialEq, Eq, thiserror::Error)]
+pub enum InputError {
+    #[error("the input failed")]
+    Read,
+    #[error("memory ran out")]
+    Memory,
+}
+
+// How many bytes are read at a time at most.
+const CHUNK_BYTES: usize = 65536;
+
+/// Reads the input to its end, but at most one byte more than a schedule has at most.
+pub fn read_input<S: Source>(alloc: Global, input: &mut S) -> Result<Vec<u8>, InputError>
+    ensures read { IfOk result (λ bytes. IsInput (S.left input.old) (S.left input.new) bytes.items) }
+    ensures later { S.faults input.old ≤ S.faults input.new }
+    ensures fault { result ≡ Err InputError.Read → Rose (S.faults input.old) (S.faults input.new) }
+{
+    let mut bytes = Vec::new(alloc);
+    let mut chunk = [0; CHUNK_BYTES];
+    while bytes.len() <= MAX_BYTES {
+        let wanted = (MAX_BYTES + 1 - bytes.len()).min(CHUNK_BYTES);
+        let into = &mut chunk[..wanted];
+        let Ok(count) = input.read(into) else {
+            return Err(InputError::Read);
+        };
+        if count == 0 {
+            return Ok(bytes);
+        }
+        if bytes.extend_from_slice(&chunk[..count]).is_err() {
+            return Err(InputError::Memory);
+        }
+    }
+    Ok(bytes)
+}

@@ -1,0 +1,9 @@
+//! The program: its words, its commands, and how it ends.
+#![tactic(auto)]
+
+pub mod input;
+pub mod running;
+pub mod status;
+
+pub use running::run;
+pub use status::Status;

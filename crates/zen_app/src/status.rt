@@ -1,0 +1,35 @@
+/// How a run of the program ends.
+#[derive(Clone, Copy, Debug, PartialEq, Eq)]
+pub enum Status {
+    /// The command is done.
+    Success,
+    /// The words are no command.
+    Usage,
+    /// The input is no schedule.
+    BadSchedule,
+    /// Memory ran out.
+    NoMemory,
+    /// The input failed: its count of faults rose.
+    ReadFault,
+    /// The output failed: its count of faults rose.
+    WriteFault,
+}
+
+impl Status {
+    ghost use Rattle.std.specs.Prelude.{◌≡◌};
+    ghost use Rattle.zen_app.specs.Codes.{code_of};
+
+    /// The exit status that stands for it.
+    pub fn code(self) -> u8
+        ensures { result ≡ code_of self }
+    {
+        match self {
+            Status::Success => 0,
+            Status::Usage => 2,
+            Status::BadSchedule => 3,
+            Status::NoMemory => 4,
+            Status::ReadFault => 5,
+            Status::WriteFault => 6,
+        }
+    }
+}
