@@ -12,8 +12,8 @@ mod log;
 mod open;
 mod refusal;
 mod scan;
-//TEST
-//mod tests;
+#[cfg(test)]
+mod tests;
 mod why;
 
 pub use error::{AppendError, LogError};
