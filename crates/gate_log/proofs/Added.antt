@@ -19,7 +19,7 @@ torn_behind bodies file c gate n is torn =
       short = is.short;
       front = sym (take-take gate (gate + 1) c (omega arith)) ∙ ap (λ (l : List ℕ). take gate l) torn.before ∙ take-take gate (gate + 1) file (omega arith) ∙ is.front;
       inside = omega (arith, is.inside, torn.no_shorter);
-      shut = λ one. is.shut (sym same ∙ one);
+      closed = λ one. is.closed (sym same ∙ one);
     }
 
 -- a body stands behind the gate
@@ -47,7 +47,7 @@ module _ (bodies : List (List ℕ)) (body frame file : List ℕ) (gate : ℕ) (i
 
   -- closed, it does not
   pub still_closed : get_or c gate 0 ≢ 1 → IsLaid bodies c gate
-  still_closed closed = record { short = is.short; front = torn.before ∙ is.front; inside = in_c; shut = closed }
+  still_closed closed = record { short = is.short; front = torn.before ∙ is.front; inside = in_c; closed = closed }
 
 -- what the first two calls may leave
 pub first_leaves : (bodies : List (List ℕ)) (body file : List ℕ) (gate n : ℕ) (outcomes : List ℕ → Type 0) → IsLaid bodies file gate → Only file outcomes

@@ -1,5 +1,5 @@
 -- What a file that is laid out stands for.
-use Rattle.std.proofs.Common.{◌≡◌, ◌≢◌, ℕ, zero, suc, ◌+◌, ◌-◌, ◌<◌, ◌≤◌, List, [], ◌∷◌, ◌++◌, length, take, drop, get_or, refl, sym, ◌∙◌, ap, subst, inl, inr, arith, append_assoc, length-append, length-drop, take-append-drop, Ok, lit<}
+use Rattle.std.proofs.Common.{◌≡◌, ◌≢◌, ℕ, zero, suc, ◌+◌, ◌<◌, ◌≤◌, List, [], ◌∷◌, ◌++◌, length, take, drop, get_or, refl, sym, ◌∙◌, ap, subst, inl, inr, arith, append_assoc, length-append, length-drop, take-append-drop, Ok, lit<}
 use Rattle.std.specs.Prelude.{All, nat_lt, nat_le, nat_eq, ◌==◌, Result}
 use Rattle.std.specs.List.{starts_with}
 use lib.Pointwise.{pointwise}
@@ -9,7 +9,7 @@ use Rattle.std.proofs.lemmas.Bool.{cases_lt, ne_eqb, le-ltb, lt-leb, le-leb, con
 use Rattle.std.proofs.lemmas.List.{get_or_at, take_at, drop_at, drop-drop, drop_more, length-take-le, append-nil}
 use Rattle.std.proofs.lemmas.List.Elements.{All-nil, All-head, All-tail}
 use Rattle.gate_log.specs.declared.why.Why.{Why}
-use Rattle.gate_log.specs.Journal.{header, sized, framed, laid, size_at, before_all, bodies_from, bodies_of, standing, IsFrame, IsLaid, IsSettled, StandsAsSome}
+use Rattle.gate_log.specs.Journal.{header, sized, framed, laid, size_at, before_all, bodies_from, bodies_of, standing, IsLaid, IsSettled, StandsAsSome}
 use Rattle.gate_log.specs.Calls.{TornFrom}
 use Rattle.zen_disk.specs.Moments.{Only}
 use Rattle.std.specs.Result.{result_unwrap_or}
@@ -96,7 +96,7 @@ module _ (bodies : List (List ℕ)) (file : List ℕ) (gate : ℕ) (is : IsLaid 
             cond-false (nat_le (length file) 9) _ _ (lt-leb (length file) 9 long)
             ∙ cond-true (starts_with nat_eq file header) _ _ (ap (λ (l : List ℕ). pointwise nat_eq header l) first)
             ∙ ap (λ (l : List ℕ). bodies_from (length file) 8 l) rest
-            ∙ from_laid bodies (length file) 8 (get_or file gate 0) (drop (gate + 1) file) is.short is.shut (omega (arith, fewer bodies))
+            ∙ from_laid bodies (length file) 8 (get_or file gate 0) (drop (gate + 1) file) is.short is.closed (omega (arith, fewer bodies))
         | inr brief ↦
             let none : bodies ≡ [] = nothing_laid bodies (omega arith) in
             cond-true (nat_le (length file) 9) _ _ (le-leb (length file) 9 brief) ∙ ap (λ (l : List (List ℕ)). Ok l) (sym none)
@@ -111,7 +111,7 @@ laid_from bodies file gate shut rest short at whole closed =
       short = short;
       front = ap (λ (l : List ℕ). take gate l) whole ∙ take_at (header ++ laid bodies) (shut ∷ rest) gate size;
       inside = omega (arith, ap length whole, length-append (header ++ laid bodies) (shut ∷ rest), size);
-      shut = λ one. closed (sym there ∙ one);
+      closed = λ one. closed (sym there ∙ one);
     }
 
 pub standing_is : (bodies : List (List ℕ)) (file : List ℕ) (gate : ℕ) → IsLaid bodies file gate → standing file ≡ bodies
@@ -133,4 +133,4 @@ torn_fresh old seen before outcomes short same stays only c from =
 
 pub fresh_laid : IsLaid [] (header ++ 0 ∷ []) 8
 unfolding laid
-fresh_laid = record { short = All-nil (λ (b : List ℕ). length b ≤ 8388608); front = refl; inside = lit< tt; shut = λ no. absurd (omega arith) }
+fresh_laid = record { short = All-nil (λ (b : List ℕ). length b ≤ 8388608); front = refl; inside = lit< tt; closed = λ no. absurd (omega arith) }

@@ -1,5 +1,5 @@
 -- The bodies that a file stands for.
-use Rattle.std.specs.Prelude.{◌≡◌, ◌≢◌, ◌⊎◌, ℕ, ◌+◌, ◌-◌, ◌<◌, ◌≤◌, suc, nat_eq, nat_lt, nat_le, ◌==◌, List, [], ◌∷◌, ◌++◌, length, take, drop, slice_index, All, Result, Ok, Err, if◌then◌else◌}
+use Rattle.std.specs.Prelude.{◌≡◌, ◌≢◌, ◌⊎◌, ℕ, ◌+◌, ◌<◌, ◌≤◌, suc, nat_eq, nat_lt, nat_le, ◌==◌, List, [], ◌∷◌, ◌++◌, length, take, drop, slice_index, All, Result, Ok, Err, if◌then◌else◌}
 use Rattle.std.specs.List.{starts_with}
 use Rattle.std.specs.Result.{result_unwrap_or}
 use Rattle.zen_disk.specs.Moments.{Only}
@@ -56,7 +56,7 @@ pub record IsLaid (bodies : List (List ℕ)) (file : List ℕ) (gate : ℕ) : Ty
   pub short : All (λ (body : List ℕ). length body ≤ 8388608) bodies
   pub front : take gate file ≡ header ++ laid bodies
   pub inside : gate < length file
-  pub shut : slice_index file gate ≢ 1
+  pub closed : slice_index file gate ≢ 1
 
 -- these bytes are a body with its length and a closed gate
 pub record IsFrame (body frame : List ℕ) : Type 0 where

@@ -1,4 +1,4 @@
-use Rattle.std.proofs.Common.{◌≡◌, ◌∙◌, ◌+◌, ◌≤◌, length, ap, List, ℕ, arith}
+use Rattle.std.proofs.Common.{◌≡◌, ◌+◌, ◌≤◌, length, ap, List, ℕ, arith}
 use Rattle.gate_log.specs.Journal.{framed, IsFrame}
 use Rattle.gate_log.proofs.Laid.{length-framed}
 use Rattle.gate_log.proofs.log.GateLog.append_framed.Goals as goal
