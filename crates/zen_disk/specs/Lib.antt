@@ -1,9 +1,11 @@
-pub mod Asked
+pub mod Armed
+pub mod DeviceCall
 pub mod Disk
 pub mod Faults
+pub mod FileState
 pub mod Fuse
+pub mod MemDisk
 pub mod Moments
-pub mod Orders
-pub mod Past
+pub mod Numbered
 pub mod Runs
-pub mod State
+pub mod UndoLog

@@ -1,14 +1,17 @@
-// A file as the journal sees it: what a read gives, and what a crash may leave.
 ghost use Rattle.std.specs.Prelude.{◌≡◌, ◌+◌, ◌^◌, ◌≤◌, List, ℕ, length, is_ok, Bool, IfOk, OnOk};
 ghost use Rattle.zen_disk.specs.Disk.{written, part, Torn};
 ghost use Rattle.zen_disk.specs.Faults.{HasCause};
-ghost use Rattle.zen_disk.specs.Asked.{Asked, Length, Reads, Writes, Syncs};
+ghost use Rattle.zen_disk.specs.DeviceCall.{DeviceCall, Len, Read, Write, Sync};
 ghost use Rattle.zen_disk.specs.Moments.{Follows, Within, Only, Elapses};
 
-/// The disk has failed, and its count of faults rose.
-#[derive(Clone, Copy, Debug, PartialEq, Eq)]
+use thiserror::Error;
+
+/// A call of a disk has failed, and the count of faults rose.
+#[derive(Clone, Copy, Debug, PartialEq, Eq, Error)]
+#[error("the disk failed")]
 pub struct Failed;
 
+/// A file on a disk: what a read gives, and what a crash may leave.
 pub trait Disk {
     /// Whether it tells what it holds. A real file does not.
     ghost told: { Type 0 };
@@ -28,15 +31,16 @@ pub trait Disk {
     /// How often the disk has failed.
     ghost faults: { Self → ℕ };
 
-    /// Whether a call that is asked and answered so leads from one to the other, as far as that is told.
-    ghost steps: { Self → Asked → Self → Bool → Type 0 };
+    /// Whether this call with this answer leads from one to the other, as far as that is told.
+    ghost steps: { Self → DeviceCall → Self → Bool → Type 0 };
 
+    /// How many bytes there are.
     fn len(&mut self) -> Result<u64, Failed>
         ensures value { told → IfOk result (λ n. n ≡ length (seen self.old)) }
         ensures seen { seen self.new ≡ seen self.old }
         ensures crash { Within (may_leave self.old) (may_leave self.new) }
         ensures time { Elapses (moment self.old) (moment self.new) (left_since self.old) (left_since self.new) (may_leave self.new) }
-        ensures step { steps self.old Length self.new (is_ok result) }
+        ensures step { steps self.old Len self.new (is_ok result) }
         ensures cause { HasCause (faults self.old) (faults self.new) result };
 
     /// Reads the bytes at an offset.
@@ -46,7 +50,7 @@ pub trait Disk {
         ensures seen { seen self.new ≡ seen self.old }
         ensures crash { Within (may_leave self.old) (may_leave self.new) }
         ensures time { Elapses (moment self.old) (moment self.new) (left_since self.old) (left_since self.new) (may_leave self.new) }
-        ensures step { steps self.old (Reads at (length into.old)) self.new (is_ok result) }
+        ensures step { steps self.old (Read at (length into.old)) self.new (is_ok result) }
         ensures cause { HasCause (faults self.old) (faults self.new) result };
 
     /// Writes over what is there, and past the end. Until a sync, a crash may leave any bytes in the range,
@@ -57,7 +61,7 @@ pub trait Disk {
         ensures limit { OnOk result (at + length bytes.now ≤ 2 ^ 62) }
         ensures crash { Follows (Torn at (length bytes.now)) (may_leave self.old) (may_leave self.new) }
         ensures time { Elapses (moment self.old) (moment self.new) (left_since self.old) (left_since self.new) (may_leave self.new) }
-        ensures step { steps self.old (Writes at bytes.now) self.new (is_ok result) }
+        ensures step { steps self.old (Write at bytes.now) self.new (is_ok result) }
         ensures cause { HasCause (faults self.old) (faults self.new) result };
 
     /// After it, a crash leaves what a read gives.
@@ -66,7 +70,7 @@ pub trait Disk {
         ensures seen { seen self.new ≡ seen self.old }
         ensures crash { Within (may_leave self.old) (may_leave self.new) }
         ensures time { Elapses (moment self.old) (moment self.new) (left_since self.old) (left_since self.new) (may_leave self.new) }
-        ensures step { steps self.old Syncs self.new (is_ok result) }
+        ensures step { steps self.old Sync self.new (is_ok result) }
         ensures cause { HasCause (faults self.old) (faults self.new) result };
 
     /// A disk as it reads is one of the outcomes of a crash.

@@ -1,11 +1,15 @@
-// A disk that stops or fails at an ordered call.
 ghost use Rattle.std.specs.Prelude.{◌≡◌, ◌+◌, ◌^◌, ◌≤◌, ◌↔◌, length, OnOk, OnErr, IsOk, IsErr, None, Some, Option};
+ghost use Rattle.zen_disk.specs.Armed.{nothing_armed, armed_later, fate_of as spec_fate_of, stop_due as spec_stop_due, stop_later as spec_stop_later, fault_later as spec_fault_later, is_fault_due as spec_is_fault_due, struck_by as spec_struck_by};
 ghost use Rattle.zen_disk.specs.Faults.{Rose};
-ghost use Rattle.zen_disk.specs.Orders.{nothing_armed, armed_later, fate_of as spec_fate_of, stop_due as spec_stop_due, stop_later as spec_stop_later, fault_later as spec_fault_later, is_fault_due as spec_is_fault_due};
-ghost use Rattle.zen_disk.specs.Fuse.{StepsBy, ArmsWith, IsStruckBy};
+ghost use Rattle.zen_disk.specs.Fuse.{FuseSteps, FuseArms};
 
-use crate::{Armable, Armed, Crash, Disk, Failed, Order, StopOrder, Struck, Way};
+use crate::{Armable, Armed, Crash, Disk, Failed, Order, Struck, Way};
 
+/// A disk that stops or fails at an ordered call.
+///
+/// A stop inside a write first places the write. After a stop each call fails until the disk is taken out. A call
+/// that fails by an order changes nothing. Where a stop and a fault fall on one call, it is stopped, and both orders
+/// are spent. An order outlives a stop: it counts the calls of a fuse that is running.
 #[derive(Drop)]
 pub struct Fuse<D: Disk> {
     disk: D,
@@ -15,7 +19,7 @@ pub struct Fuse<D: Disk> {
     refused: u64,
 }
 
-/// What comes of a call.
+/// What becomes of a call.
 #[derive(Clone, Copy)]
 pub enum Fate {
     Passes,
@@ -41,30 +45,27 @@ fn is_fault_due(order: Option<u64>) -> bool
     }
 }
 
-fn stop_later(order: Option<StopOrder>) -> Option<StopOrder>
+fn stop_later(order: Option<(u64, Way)>) -> Option<(u64, Way)>
     ensures { result ≡ spec_stop_later order }
 {
     match order {
         None => None,
         Some(stop) => {
-            if stop.at <= 1 {
+            if stop.0 <= 1 {
                 None
             } else {
-                Some(StopOrder {
-                    at: stop.at - 1,
-                    way: stop.way,
-                })
+                Some((stop.0 - 1, stop.1))
             }
         }
     }
 }
 
-fn stop_due(order: Option<StopOrder>) -> Option<Way>
+fn stop_due(order: Option<(u64, Way)>) -> Option<Way>
     ensures { result ≡ spec_stop_due order }
 {
     match order {
         None => None,
-        Some(stop) => { if stop.at <= 1 { Some(stop.way) } else { None } }
+        Some(stop) => { if stop.0 <= 1 { Some(stop.1) } else { None } }
     }
 }
 
@@ -91,7 +92,7 @@ fn raise(refused: &mut u64)
 }
 
 fn struck_by(fate: Fate) -> Option<Struck>
-    ensures { IsStruckBy fate result }
+    ensures { result ≡ spec_struck_by fate }
 {
     match fate {
         Fate::Passes => None,
@@ -101,13 +102,13 @@ fn struck_by(fate: Fate) -> Option<Struck>
 }
 
 impl<D: Disk> Fuse<D> {
-    // Counts a call, while it is running.
-    fn burn(&mut self) -> Fate
+    // Counts a call of a fuse that is running.
+    fn count_call(&mut self) -> Fate
         requires { self.old.down ≡ None }
         ensures fate { result ≡ spec_fate_of self.old.armed }
         ensures orders { self.new.armed ≡ armed_later self.old.armed }
         ensures down { self.new.down ≡ spec_stop_due self.old.armed.stop }
-        ensures struck { IsStruckBy result self.new.struck }
+        ensures struck { self.new.struck ≡ spec_struck_by result }
         ensures disk { self.new.disk ≡ self.old.disk }
         ensures refused { self.new.refused ≡ self.old.refused }
     {
@@ -135,7 +136,7 @@ impl<D: Disk> Disk for Fuse<D> {
 
     ghost faults = { λ f. D.Disk.faults f.disk + f.refused };
 
-    ghost steps = { StepsBy D.Disk.steps };
+    ghost steps = { FuseSteps D.Disk.steps };
 
     ghost seen_may_stay = { λ f. D.Disk.seen_may_stay f.disk };
 
@@ -148,7 +149,7 @@ impl<D: Disk> Disk for Fuse<D> {
             raise(&mut self.refused);
             return Err(Failed);
         }
-        match self.burn() {
+        match self.count_call() {
             Fate::Passes => self.disk.len(),
             _ => {
                 raise(&mut self.refused);
@@ -162,7 +163,7 @@ impl<D: Disk> Disk for Fuse<D> {
             raise(&mut self.refused);
             return Err(Failed);
         }
-        match self.burn() {
+        match self.count_call() {
             Fate::Passes => self.disk.read(at, into),
             _ => {
                 raise(&mut self.refused);
@@ -176,7 +177,7 @@ impl<D: Disk> Disk for Fuse<D> {
             raise(&mut self.refused);
             return Err(Failed);
         }
-        match self.burn() {
+        match self.count_call() {
             Fate::Passes => self.disk.write_at(at, bytes),
             // A stop inside a write first places the write.
             Fate::Stops => {
@@ -199,7 +200,7 @@ impl<D: Disk> Disk for Fuse<D> {
             raise(&mut self.refused);
             return Err(Failed);
         }
-        match self.burn() {
+        match self.count_call() {
             Fate::Passes => self.disk.sync(),
             _ => {
                 raise(&mut self.refused);
@@ -210,21 +211,24 @@ impl<D: Disk> Disk for Fuse<D> {
 }
 
 impl<D: Disk> Armable for Fuse<D> {
-    ghost arms = { ArmsWith };
+    ghost arms = { FuseArms };
 
     fn arm(&mut self, order: Order) {
         match order {
-            Order::Stop(stop) => self.armed.stop = Some(stop),
-            Order::Fault(at) => self.armed.fault = Some(at),
+            Order::Stop(k, way) => self.armed.stop = Some((k, way)),
+            Order::Fault(k) => self.armed.fault = Some(k),
         }
     }
 }
 
 impl<D: Disk> Fuse<D> {
+    /// A fuse with no orders.
     pub fn new(disk: D) -> Self
         ensures disk { result.disk ≡ disk }
         ensures armed { result.armed ≡ nothing_armed }
+        ensures struck { result.struck ≡ None }
         ensures down { result.down ≡ None }
+        ensures refused { result.refused ≡ 0 }
     {
         Fuse {
             disk,
@@ -238,7 +242,9 @@ impl<D: Disk> Fuse<D> {
         }
     }
 
-    /// What struck: a stop, or an order at the last call.
+    /// `Stop` after a stop, `Fault` where the last device call failed by an order, else `None`.
+    ///
+    /// `None` too after a stop inside a write that the disk failed to place, as for want of memory.
     pub fn struck(&self) -> Option<Struck>
         ensures { result ≡ self.now.struck }
     {
@@ -252,11 +258,20 @@ impl<D: Disk> Fuse<D> {
         self.armed
     }
 
-    /// Stops it at once, between two calls.
+    /// The disk as it is, also after a stop.
+    pub fn disk(&self) -> &D
+        ensures { result.now ≡ self.now.disk }
+    {
+        &self.disk
+    }
+
+    /// Stops it at once, between two calls. The last stop says what is left.
     pub fn stop(&mut self, way: Way)
         ensures disk { self.new.disk ≡ self.old.disk }
-        ensures down { self.new.down ≡ Some way }
         ensures armed { self.new.armed ≡ self.old.armed }
+        ensures struck { self.new.struck ≡ Some Struck.Stop }
+        ensures down { self.new.down ≡ Some way }
+        ensures refused { self.new.refused ≡ self.old.refused }
     {
         self.down = Some(way);
         self.struck = Some(Struck::Stop);
@@ -269,6 +284,7 @@ impl<D: Crash> Fuse<D> {
         ensures running { self.down ≡ None → result ≡ self.disk }
         ensures stopped { (way : _) → self.down ≡ Some way → D.crashes self.disk way result }
         ensures image { D.Disk.told → D.Disk.may_leave self.disk (D.Disk.seen result) }
+        ensures faults { D.Disk.faults result ≡ D.Disk.faults self.disk }
     {
         match self.down {
             None => self.disk,

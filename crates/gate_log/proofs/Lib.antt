@@ -1,0 +1,4 @@
+pub mod Laid
+pub mod Added
+mod Fronts
+mod Opening

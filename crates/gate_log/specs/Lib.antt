@@ -1,0 +1,5 @@
+pub mod Calls
+pub mod Errors
+pub mod Journal
+pub mod Opened
+pub mod Scan
