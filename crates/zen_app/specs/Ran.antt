@@ -1,5 +1,5 @@
 -- How a run of the program ends.
-use Rattle.std.specs.Prelude.{◌≡◌, ◌≢◌, ℕ, ◌≤◌, ◌⊎◌, Bool, true, false, ◌&&◌, Option, None, Some, List, [], ◌∷◌, codes}
+use Rattle.std.specs.Prelude.{◌≡◌, ◌≢◌, ℕ, ◌+◌, ◌≤◌, ◌⊎◌, Bool, true, false, ◌&&◌, Option, None, Some, List, [], ◌∷◌, take, codes}
 use Rattle.std.specs.Str.{bytes_eq}
 use Rattle.zen_disk.specs.Faults.{Rose}
 use Rattle.zen_link.specs.Streams.{Appended, AppendedFront}
@@ -7,6 +7,7 @@ use Rattle.world_model.specs.Histories.{IsLegal}
 use Rattle.world_model.specs.Safety.{IsSafe}
 use Rattle.schedule_text.specs.declared.fault.BadSchedule.{BadSchedule}
 use Rattle.schedule_text.specs.declared.schedule.Schedule.{Schedule}
+use Rattle.schedule_text.specs.Limits.{most_bytes}
 use Rattle.schedule_text.specs.Spelled.{Spells}
 use Rattle.schedule_text.specs.Reading.{fault_of}
 use Rattle.schedule_text.specs.Printed.{bad_line}
@@ -39,16 +40,20 @@ pub record ReplayedFront (bytes : List ℕ) (was now : Option (List ℕ)) : Type
   pub spelled : Spells bytes schedule
   pub written : AppendedFront was now (trace schedule)
 
--- the bytes are no schedule, and which line is bad and why was written
+-- what is read of these bytes: one byte more than a schedule has at most
+abbrev pub read_of : List ℕ → List ℕ
+read_of bytes = take (most_bytes + 1) bytes
+
+-- the bytes read are no schedule, and which line is bad and why was written
 pub record Refused (bytes : List ℕ) (was now : Option (List ℕ)) : Type 0 where
   pub bad : BadSchedule
-  pub fault : fault_of bytes ≡ Some bad
+  pub fault : fault_of (read_of bytes) ≡ Some bad
   pub written : Appended was now (bad_line bad)
 
 -- the same, and a front of the line was written
 pub record RefusedFront (bytes : List ℕ) (was now : Option (List ℕ)) : Type 0 where
   pub bad : BadSchedule
-  pub fault : fault_of bytes ≡ Some bad
+  pub fault : fault_of (read_of bytes) ≡ Some bad
   pub written : AppendedFront was now (bad_line bad)
 
 -- how writing the line of a bad schedule ends

@@ -1,6 +1,6 @@
-ghost use Rattle.std.specs.Prelude.{◌≡◌, ◌≤◌, IfOk};
+ghost use Rattle.std.specs.Prelude.{◌≡◌, ◌<◌, ◌≤◌, IfOk, OnErr};
 ghost use Rattle.zen_disk.specs.Faults.{Rose};
-ghost use Rattle.zen_app.specs.Reading.{IsInput};
+ghost use Rattle.zen_app.specs.Reading.{IsInput, IsReadOn};
 
 use schedule_text::MAX_BYTES;
 use std::alloc::Global;
@@ -18,25 +18,46 @@ pub enum InputError {
 // How many bytes are read at a time at most.
 const CHUNK_BYTES: usize = 65536;
 
-/// Reads the input to its end, but at most one byte more than a schedule has at most.
+// Reads the next bytes, at most `wanted`, and says how many. None are left where there is none.
+fn read_chunk<S: Source>(
+    input: &mut S,
+    bytes: &mut Vec<u8>,
+    wanted: usize,
+) -> Result<usize, InputError>
+    requires some { 0 < wanted }
+    requires few { wanted ≤ CHUNK_BYTES }
+    ensures read { IfOk result (λ count. IsReadOn (S.left input.old) (S.left input.new) bytes.old.items bytes.new.items count) }
+    ensures within { IfOk result (λ count. count ≤ wanted) }
+    ensures later { S.faults input.old ≤ S.faults input.new }
+    ensures fault { result ≡ Err InputError.Read → Rose (S.faults input.old) (S.faults input.new) }
+{
+    let mut chunk = [0; CHUNK_BYTES];
+    let into = &mut chunk[..wanted];
+    let Ok(count) = input.read(into) else {
+        return Err(InputError::Read);
+    };
+    if bytes.extend_from_slice(&into[..count]).is_err() {
+        return Err(InputError::Memory);
+    }
+    Ok(count)
+}
+
+/// Reads the input to its end, but at most one byte more than a schedule has at most. `Read` only where the source's count
+/// of faults rose.
 pub fn read_input<S: Source>(alloc: Global, input: &mut S) -> Result<Vec<u8>, InputError>
     ensures read { IfOk result (λ bytes. IsInput (S.left input.old) (S.left input.new) bytes.items) }
     ensures later { S.faults input.old ≤ S.faults input.new }
     ensures fault { result ≡ Err InputError.Read → Rose (S.faults input.old) (S.faults input.new) }
 {
     let mut bytes = Vec::new(alloc);
-    let mut chunk = [0; CHUNK_BYTES];
     while bytes.len() <= MAX_BYTES {
         let wanted = (MAX_BYTES + 1 - bytes.len()).min(CHUNK_BYTES);
-        let into = &mut chunk[..wanted];
-        let Ok(count) = input.read(into) else {
-            return Err(InputError::Read);
+        let count = match read_chunk(input, &mut bytes, wanted) {
+            Ok(count) => count,
+            Err(error) => return Err(error),
         };
         if count == 0 {
             return Ok(bytes);
-        }
-        if bytes.extend_from_slice(&chunk[..count]).is_err() {
-            return Err(InputError::Memory);
         }
     }
     Ok(bytes)
