@@ -1,5 +1,5 @@
 -- How many ids are in a union.
-use Rattle.std.proofs.Common.{◌≡◌, ℕ, suc, ◌+◌, ◌≤◌, Bool, true, false, not, ◌||◌, List, [], ◌∷◌, length, refl, ap, cond, arith, count_by, take}
+use Rattle.std.proofs.Common.{◌≡◌, ℕ, suc, ◌≤◌, Bool, true, false, not, ◌||◌, List, [], ◌∷◌, length, refl, ap, cond, arith, count_by, take}
 use Rattle.std.proofs.lemmas.List.Sums.{sum_by-cons, sum_by-take-le}
 use Rattle.voting_config.specs.Ids.{Id, has, same, before, put, with_id, union_count_of}
 use Rattle.voting_config.proofs.Sorted.{has-put}

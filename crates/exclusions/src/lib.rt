@@ -35,11 +35,7 @@ pub struct StillMember(pub NodeId);
 
 /// The exclusions with those asked for. `NotMember` exactly where one of the asked is no member, with the least
 /// such; else `TooMany` exactly where more than [`MAX_EXCLUSIONS`] would be excluded, with their number.
-pub fn add(
-    now_excluded: &NodeSet,
-    members: &NodeSet,
-    asked: &NodeSet,
-) -> Result<NodeSet, AddError>
+pub fn add(now_excluded: &NodeSet, members: &NodeSet, asked: &NodeSet) -> Result<NodeSet, AddError>
     ensures { result ≡ added_of now_excluded.now members.now asked.now }
 {
     if let Some(id) = first_outside(asked, members) {
@@ -76,9 +72,7 @@ pub fn may_win(
 ) -> bool
     ensures { result ≡ may_win_of me committed.now accepted.now excluded.now }
 {
-    committed.members().contains(me)
-        || accepted.members().contains(me)
-        || !excluded.contains(me)
+    committed.members().contains(me) || accepted.members().contains(me) || !excluded.contains(me)
 }
 
 // The least of the ids that the set does not have.

@@ -17,7 +17,12 @@ fn adds(rt: HostRuntime) -> Result<(), Fail> {
     for (excluded, members, asked, want) in [
         ("", "abc", "c", "1 excluded"),
         ("c", "abc", "bc", "2 excluded"),
-        ("abcdefghij", "k", "k", "11 nodes would be excluded, and 10 may be"),
+        (
+            "abcdefghij",
+            "k",
+            "k",
+            "11 nodes would be excluded, and 10 may be",
+        ),
         ("", "abc", "xyz", "x is no member"),
         ("abcdefghij", "", "x", "x is no member"),
     ] {

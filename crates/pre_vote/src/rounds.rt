@@ -1,6 +1,5 @@
 ghost use Rattle.std.specs.Prelude.{◌≡◌, ◌+◌, ◌≤◌, ◌^◌, ◌||◌, length, nat_lt, IsTrue};
-ghost use Rattle.voting_config.specs.Ids.{has, is_quorum_of, most_ids, with_id};
-ghost use Rattle.cluster_state.specs.declared.state.StateId.{StateId as Accepted};
+ghost use Rattle.voting_config.specs.Ids.{has, most_ids, with_id};
 ghost use Rattle.pre_vote.specs.Calls.{Calls, Start, Add, is_vote as vote_of, is_fresher as fresher_of};
 
 use cluster_state::StateId;

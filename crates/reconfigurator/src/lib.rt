@@ -19,12 +19,12 @@ const MAX_CANDIDATES: usize = 1 + 3 * MAX_IDS;
 /// `master` itself and the configuration of today.
 ///
 /// Candidates are the nodes that are live or voters of today and are not excluded. The master comes first, then live
-/// voters, then other live nodes, then voters that are not live, each by id. As many of them are taken as there are
-/// live ones that are not excluded, less one where that number is even, since an even number of voters tolerates no
-/// more failures; but never fewer than 3, or than 1 where the configuration has fewer than 3 members. Where `shrink` is
-/// false they are never fewer than the voters of today that are not excluded. Where the live nodes are no quorum of those
-/// taken, the configuration stays. (Elasticsearch reference 7.x, Voting configurations, with
-/// `cluster.auto_shrink_voting_configuration` for `shrink`.)
+/// voters, then other live nodes, then voters that are not live, each by id. The first ones are taken: as many as there
+/// are live nodes that are not excluded, less one where that number is even, since an even number of voters tolerates
+/// no more failures than one less. At least 3 are taken if there are that many candidates, or 1 where the configuration
+/// has fewer than 3 members; where `shrink` is false, at least as many as there are voters of today that are not
+/// excluded. Where the live nodes are no quorum of those taken, the configuration stays as it is. (Elasticsearch
+/// reference 7.x, Voting configurations; `shrink` is `cluster.auto_shrink_voting_configuration`.)
 pub fn target(
     live: &NodeSet,
     excluded: &NodeSet,
