@@ -3,7 +3,7 @@ use Rattle.std.proofs.Common.{◌≡◌, suc, ◌+◌, ◌<◌, ◌≤◌, Bool,
 use Rattle.std.proofs.lemmas.Bool.{ltb-true}
 use Rattle.voting_config.specs.Ids.{Id, has, same, before, put, with_id, without_id, most_ids}
 
-length-put : (x : Id) (ys : List Id) → length (put x ys) ≡ suc (length ys)
+pub length-put : (x : Id) (ys : List Id) → length (put x ys) ≡ suc (length ys)
 length-put x [] = refl
 length-put x (y ∷ ys) =
     elim (before y x) as (λ b. length (cond b (y ∷ put x ys) (x ∷ y ∷ ys)) ≡ suc (suc (length ys))) [

@@ -1,6 +1,6 @@
 -- A round of pre-votes by its calls so far: its start, and the answers since.
-use Rattle.std.specs.Prelude.{ℕ, max, Bool, not, ◌&&◌, ◌||◌, List, [], ◌∷◌, nat_lt, nat_eq, if◌then◌else◌}
-use Rattle.voting_config.specs.Ids.{Id, same, with_id, without_id}
+use Rattle.std.specs.Prelude.{ℕ, max, Bool, not, ◌&&◌, ◌||◌, List, [], ◌∷◌, length, nat_lt, nat_eq, if◌then◌else◌}
+use Rattle.voting_config.specs.Ids.{Id, has, same, with_id, without_id, most_ids}
 use Rattle.cluster_state.specs.declared.state.StateId.{StateId}
 
 -- the calls, the newest last
@@ -46,3 +46,12 @@ others_of (Add before source term last) =
     if is_vote (node_of before) (last_of before) source last
     then without_id source (others_of before)
     else with_id source (others_of before)
+
+-- the node and all that have answered
+abbrev pub participants_of : Calls → List Id
+participants_of (Start me last term) = me ∷ []
+participants_of (Add before source term last) = with_id source (participants_of before)
+
+-- an answer of the source can be added: it is the node or has answered, or these are fewer than a set holds
+abbrev pub has_room : Id → Calls → Bool
+has_room source calls = has source (participants_of calls) || nat_lt (length (participants_of calls)) most_ids

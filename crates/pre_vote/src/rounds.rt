@@ -1,6 +1,6 @@
 ghost use Rattle.std.specs.Prelude.{◌≡◌, ◌+◌, ◌≤◌, ◌^◌, ◌||◌, length, nat_lt, IsTrue};
 ghost use Rattle.voting_config.specs.Ids.{has, most_ids, with_id};
-ghost use Rattle.pre_vote.specs.Calls.{Calls, Start, Add, is_vote as vote_of, is_fresher as fresher_of};
+ghost use Rattle.pre_vote.specs.Calls.{Calls, Start, Add, has_room, is_vote as vote_of, is_fresher as fresher_of};
 
 use cluster_state::StateId;
 use std::marker::Model;
@@ -61,6 +61,14 @@ impl PreVotes {
     /// Whether an answer of this source can be added: true exactly where the source is the node itself or has
     /// answered, or where the node and those that have answered are fewer than 32.
     pub fn fits(&self, source: NodeId) -> bool
+        ensures round { result ≡ fits_in source self.now }
+        ensures calls { (calls : Calls) → self.now ≡ round_of calls → result ≡ has_room source calls }
+    {
+        self.has_place(source)
+    }
+
+    // Whether the two sets have the source, or are fewer than a set holds.
+    fn has_place(&self, source: NodeId) -> bool
         ensures { result ≡ fits_in source self.now }
     {
         self.voters.contains(source)
