@@ -17,14 +17,14 @@ set_of ids = fold (λ set id. with_id id set) [] ids
 abbrev pub odd_of : ℕ → ℕ
 odd_of k = if nat_eq (k % 2) 0 then k - 1 else k
 
--- how many voters there are at least: where the configuration may shrink, 3, or 1 where it has fewer members; else as many as may vote now
+-- how many voters there are at least: where the configuration may shrink, 3, or 1 where it has fewer than 3 members; else as many as it has that are not excluded
 abbrev pub least_size : ℕ → ℕ → Bool → ℕ
 least_size members voters shrink =
     if shrink
     then (if nat_lt members 3 then 1 else 3)
     else voters
 
--- how many candidates are taken: an odd number of live ones, or the least size
+-- how many candidates are taken: as many as are live, made odd, or the least size where that is more
 abbrev pub size_of : ℕ → ℕ → ℕ → Bool → ℕ
 size_of live members voters shrink = max (odd_of live) (least_size members voters shrink)
 
@@ -38,7 +38,7 @@ candidates_of live voters master =
     ++ outside others other_voters
     ++ outside other_voters others
 
--- an odd number of the best candidates, none of them excluded
+-- the first candidates, none of them excluded, as a set
 abbrev pub chosen_of : List Id → List Id → Id → List Id → Bool → List Id
 chosen_of live excluded master config shrink =
     let allowed = outside live excluded in
