@@ -1,0 +1,18 @@
+use super::*;
+use std::test::*;
+
+#[test]
+fn waits(rt: HostRuntime) {
+    for (attempt, word, want) in [
+        (0, 12345, 46),
+        (3, 12345, 346),
+        (99, 12345, 2346),
+        (200, 12345, 2346),
+        (u64::MAX, 9999, 10000),
+    ] {
+        assert_eq!(rt; delay(attempt, word), want, "attempt {attempt}");
+    }
+    for (at, now, want) in [(8, 7, false), (8, 8, true), (8, 9, true)] {
+        assert_eq!(rt; due(at, now), want, "at {now}");
+    }
+}

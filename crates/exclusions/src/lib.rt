@@ -1,0 +1,111 @@
+//! Voting exclusions: nodes that are to leave the voting configuration before they are shut down (Elasticsearch
+//! reference 7.x, Voting configuration exclusions API).
+#![tactic(auto)]
+
+ghost use Rattle.std.specs.Prelude.{◌≡◌, ◌<◌, ◌≤◌, find, length, not};
+ghost use Rattle.voting_config.specs.Ids.{has, most_ids, union_count_of, with_id};
+ghost use Rattle.exclusions.specs.Sets.{union};
+ghost use Rattle.exclusions.specs.Exclusions.{added_of, cleared_of, may_win_of, most_exclusions};
+
+use thiserror::Error;
+use voting_config::{NodeId, NodeSet, VotingConfig};
+
+#[cfg(test)]
+mod tests;
+
+/// How many nodes may be excluded at most: `cluster.max_voting_config_exclusions` of the Elasticsearch reference
+/// 7.x, Voting configuration exclusion settings, 10.
+pub const MAX_EXCLUSIONS: usize = 10;
+
+/// Why ids are not excluded, in the order in which it is tested.
+#[derive(Clone, Copy, Debug, PartialEq, Eq, Error)]
+pub enum AddError {
+    /// The least of the ids that is no member.
+    #[error("{0} is no member")]
+    NotMember(NodeId),
+    /// How many would be excluded.
+    #[error("{0} nodes would be excluded, and {MAX_EXCLUSIONS} may be")]
+    TooMany(usize),
+}
+
+/// The least excluded id that is still a member, so that the exclusions stay.
+#[derive(Clone, Copy, Debug, PartialEq, Eq, Error)]
+#[error("{0} is excluded and still a member")]
+pub struct StillMember(pub NodeId);
+
+/// The exclusions with those asked for. `NotMember` exactly where one of the asked is no member, with the least
+/// such; else `TooMany` exactly where more than [`MAX_EXCLUSIONS`] would be excluded, with their number.
+pub fn add(now_excluded: &NodeSet, members: &NodeSet, asked: &NodeSet) -> Result<NodeSet, AddError>
+    ensures { result ≡ added_of now_excluded.now members.now asked.now }
+{
+    if let Some(id) = first_outside(asked, members) {
+        return Err(AddError::NotMember(id));
+    }
+    let count = asked.union_count(now_excluded);
+    if count > MAX_EXCLUSIONS {
+        return Err(AddError::TooMany(count));
+    }
+    Ok(union_of(now_excluded, asked))
+}
+
+/// Whether the exclusions may be cleared. `StillMember` exactly where `wait` is true and an excluded id is a member,
+/// with the least such.
+pub fn clear(excluded: &NodeSet, members: &NodeSet, wait: bool) -> Result<(), StillMember>
+    ensures { result ≡ cleared_of excluded.now members.now wait }
+{
+    if !wait {
+        return Ok(());
+    }
+    match first_within(excluded, members) {
+        Some(id) => Err(StillMember(id)),
+        None => Ok(()),
+    }
+}
+
+/// Whether a node may win an election: true exactly where it is in its committed or its accepted configuration, or
+/// is not excluded.
+pub fn may_win(
+    me: NodeId,
+    committed: &VotingConfig,
+    accepted: &VotingConfig,
+    excluded: &NodeSet,
+) -> bool
+    ensures { result ≡ may_win_of me committed.now accepted.now excluded.now }
+{
+    committed.members().contains(me) || accepted.members().contains(me) || !excluded.contains(me)
+}
+
+// The least of the ids that the set does not have.
+fn first_outside(ids: &NodeSet, set: &NodeSet) -> Option<NodeId>
+    ensures { result ≡ find (λ id. not (has id set.now)) ids.now }
+{
+    ids.as_slice().iter().copied().find(|id| !set.contains(*id))
+}
+
+// The least of the ids that the set has.
+fn first_within(ids: &NodeSet, set: &NodeSet) -> Option<NodeId>
+    ensures { result ≡ find (λ id. has id set.now) ids.now }
+{
+    ids.as_slice().iter().copied().find(|id| set.contains(*id))
+}
+
+// The ids of both sets, which are few enough for a set.
+fn union_of(first: &NodeSet, second: &NodeSet) -> NodeSet
+    requires { union_count_of second.now first.now ≤ most_exclusions }
+    ensures { result ≡ union first.now second.now }
+{
+    let mut both = first.copy();
+    let ids = second.as_slice();
+    for id in ids {
+        put(&mut both, *id);
+    }
+    both
+}
+
+// Puts the id in, where it is not in yet.
+fn put(ids: &mut NodeSet, id: NodeId)
+    requires { length ids.old < most_ids }
+    ensures { ids.new ≡ with_id id ids.old }
+{
+    let _ = ids.insert(id);
+}

@@ -1,0 +1,66 @@
+-- How many are in a round when an id goes from one of its two sets to the other.
+use Rattle.std.proofs.Common.{◌≡◌, suc, ◌+◌, ◌<◌, ◌≤◌, Bool, true, false, not, ◌||◌, List, [], ◌∷◌, length, refl, ap, cond, arith, nat_lt}
+use Rattle.std.proofs.lemmas.Bool.{ltb-true}
+use Rattle.voting_config.specs.Ids.{Id, has, same, before, put, with_id, without_id, most_ids}
+
+pub length-put : (x : Id) (ys : List Id) → length (put x ys) ≡ suc (length ys)
+length-put x [] = refl
+length-put x (y ∷ ys) =
+    elim (before y x) as (λ b. length (cond b (y ∷ put x ys) (x ∷ y ∷ ys)) ≡ suc (suc (length ys))) [
+      | true ↦ ap suc (length-put x ys)
+      | false ↦ refl
+    ]
+
+length-without_id : (x : Id) (ys : List Id) → length (without_id x ys) ≤ length ys
+length-without_id x [] = omega arith
+length-without_id x (y ∷ ys) =
+    let lower = length-without_id x ys in
+    elim (same y x) as (λ b. length (cond (not b) (y ∷ without_id x ys) (without_id x ys)) ≤ suc (length ys)) [
+      | true ↦ omega arith
+      | false ↦ omega arith
+    ]
+
+-- an id that is in is gone then
+shorter : (x : Id) (ys : List Id) → has x ys ≡ true → length (without_id x ys) < length ys
+shorter x [] h = absurd cc
+shorter x (y ∷ ys) h =
+    elim (same y x) as (λ b. (b || has x ys) ≡ true → length (cond (not b) (y ∷ without_id x ys) (without_id x ys)) < suc (length ys)) [
+      | true ↦ λ k. let lower = length-without_id x ys in omega (arith, lower)
+      | false ↦ λ k. let lower = shorter x ys k in omega (arith, lower)
+    ] h
+
+-- two sets of at most 32 ids together, one of which has the id, or which have room for it
+pub record HasRoom (x : Id) (to from : List Id) : Type 0 where
+  pub room : (has x to || has x from || nat_lt (length to + length from) most_ids) ≡ true
+  pub within : length to + length from ≤ most_ids
+
+pub other_way : (x : Id) (to from : List Id) → HasRoom x to from → HasRoom x from to
+other_way x to from h = record {
+  room = swapped (has x to) (has x from) (nat_lt (length to + length from) most_ids) (nat_lt (length from + length to) most_ids) (ap (λ n. nat_lt n most_ids) sums) h.room;
+  within = omega (arith, h.within);
+}
+  where
+    sums : length to + length from ≡ length from + length to
+    sums = omega arith
+
+    swapped : (a b c d : Bool) → c ≡ d → (a || b || c) ≡ true → (b || a || d) ≡ true
+    swapped true true c d e k = refl
+    swapped true false c d e k = refl
+    swapped false true c d e k = refl
+    swapped false false c d e k = cc
+
+-- they are at most 32 together, when it went from the other into it
+pub moved_within : (x : Id) (to from : List Id) → HasRoom x to from → length (with_id x to) + length (without_id x from) ≤ most_ids
+moved_within x to from h =
+    let lower = length-without_id x from in
+    elim (has x to) as (λ a. (a || has x from || nat_lt (length to + length from) most_ids) ≡ true → length (cond a to (put x to)) + length (without_id x from) ≤ most_ids) [
+      | true ↦ λ k. omega (arith, lower, h.within)
+      | false ↦ λ k. let fewer = below k in omega (arith, fewer, length-put x to)
+    ] h.room
+  where
+    below : (has x from || nat_lt (length to + length from) most_ids) ≡ true → length to + length (without_id x from) < most_ids
+    below k =
+        elim (has x from) as (λ b. has x from ≡ b → (b || nat_lt (length to + length from) most_ids) ≡ true → length to + length (without_id x from) < most_ids) [
+          | true ↦ λ e m. let lower = shorter x from e in omega (arith, lower, h.within)
+          | false ↦ λ e m. let lower = ltb-true (length to + length from) most_ids m in omega (arith, lower, length-without_id x from)
+        ] refl k

@@ -1,0 +1,12 @@
+//! Pre-votes: before a node raises its term for an election, it asks whether enough nodes would vote for it
+//! (Elasticsearch reference 7.x, Quorum-based decision making and Leader elections).
+#![tactic(auto)]
+
+mod replies;
+mod rounds;
+
+pub use replies::{Reply, answer};
+pub use rounds::{Added, PreVotes};
+
+#[cfg(test)]
+mod tests;

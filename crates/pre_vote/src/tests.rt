@@ -1,0 +1,63 @@
+use super::*;
+use cluster_state::StateId;
+use std::test::*;
+use voting_config::{NodeId, NodeSet, VotingConfig};
+
+// The configuration of the letters of a text.
+fn letters(text: &str) -> VotingConfig {
+    let mut ids = NodeSet::new();
+    for letter in text.as_bytes() {
+        if let Some(id) = NodeId::from_bytes(&[*letter]) {
+            let _ = ids.insert(id);
+        }
+    }
+    VotingConfig::of(&ids)
+}
+
+fn version(version: u64) -> StateId {
+    StateId { term: 1, version }
+}
+
+#[test]
+fn a_round(rt: HostRuntime) -> Result<(), Fail> {
+    let a = NodeId::parse("a").ok().ok_or("a letter is an id")?;
+    let b = NodeId::parse("b").ok().ok_or("a letter is an id")?;
+    let c = NodeId::parse("c").ok().ok_or("a letter is an id")?;
+    let config = letters("abc");
+
+    let mut round = PreVotes::start(a, version(3), 4);
+    assert!(rt; round.fits(c));
+    let added = round.add(c, 9, version(4), &config, &config);
+    assert_eq!(rt; added, Added::Fresher);
+    assert!(rt; round.fits(b));
+    let added = round.add(b, 4, version(2), &config, &config);
+    assert_eq!(rt; added, Added::Quorum(10));
+
+    let mut round = PreVotes::start(a, version(3), 4);
+    assert!(rt; round.fits(b));
+    let added = round.add(b, 4, version(2), &config, &config);
+    assert_eq!(rt; added, Added::Quorum(5));
+    Ok(())
+}
+
+#[test]
+fn more_voters(rt: HostRuntime) -> Result<(), Fail> {
+    let a = NodeId::parse("a").ok().ok_or("a letter is an id")?;
+    let b = NodeId::parse("b").ok().ok_or("a letter is an id")?;
+    let config = letters("abc");
+    let mut round = PreVotes::start(a, version(3), 4);
+    assert!(rt; round.fits(b));
+    let added = round.add(b, 4, version(3), &config, &letters("abcd"));
+    assert_eq!(rt; added, Added::Counted);
+    Ok(())
+}
+
+#[test]
+fn replies(rt: HostRuntime) -> Result<(), Fail> {
+    let a = NodeId::parse("a").ok().ok_or("a letter is an id")?;
+    let b = NodeId::parse("b").ok().ok_or("a letter is an id")?;
+    assert_eq!(rt; answer(a, None), Reply::Answer);
+    assert_eq!(rt; answer(a, Some(a)), Reply::Answer);
+    assert_eq!(rt; answer(a, Some(b)), Reply::Refused(b));
+    Ok(())
+}
