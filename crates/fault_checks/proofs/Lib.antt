@@ -1,0 +1,2 @@
+mod Refilled
+mod Sets

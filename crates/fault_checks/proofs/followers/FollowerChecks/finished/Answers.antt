@@ -1,0 +1,13 @@
+use Rattle.std.proofs.Common.{refl}
+use Rattle.fault_checks.specs.declared.followers.Follower.{Follower}
+use Rattle.fault_checks.specs.Followers.{fallen_behind}
+use Rattle.fault_checks.proofs.Refilled.{refill-map}
+use Rattle.fault_checks.proofs.followers.FollowerChecks.finished.Goals as goal
+
+pub returns-clause-now : goal.returns-clause-now
+returns-clause-now c =
+    let whole = refill-map (λ (f : Follower). record f { behind = fallen_behind f.behind f.applied c.args.id c.args.now }) c.self.inside.watched.items c.as_mut_slice.result.now c.finish_all.new.watched c.as_mut_slice.ensures.value c.finish_all.ensures in
+    rw (← c.self.view_is) (rw whole refl)
+
+pub returns-clause-calls : goal.returns-clause-calls
+returns-clause-calls c = λ calls stands. rw (returns-clause-now c, stands) refl

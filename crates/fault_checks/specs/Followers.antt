@@ -1,0 +1,137 @@
+-- Whether the followers answer and keep up, by the calls so far.
+use Rattle.std.specs.Prelude.{◌≡◌, ℕ, ◌+◌, Bool, false, not, ◌&&◌, ◌||◌, Option, None, Some, List, [], ◌∷◌, map, filter, nat_le, nat_lt, nat_eq, if◌then◌else◌, is_none}
+use Rattle.voting_config.specs.Ids.{Id, same, with_id}
+use Rattle.cluster_state.specs.declared.state.StateId.{StateId}
+use Rattle.fault_checks.specs.declared.followers.Behind.{Behind}
+use Rattle.fault_checks.specs.declared.followers.Follower.{Follower}
+use Rattle.fault_checks.specs.Checks.{unchecked, answered_at, ticked_at, fails, asks}
+use Rattle.fault_checks.specs.Spans.{follower_lag_timeout}
+
+-- what the follower checks are told after their start
+pub data Call : Type 0 where
+  -- these are the members now
+  Watched : (members : List Id) → (now : ℕ) → Call
+  -- a state is finished
+  Finished : (state : StateId) → (now : ℕ) → Call
+  -- a follower answered, with the state that it has applied
+  Answered : (from : Id) → (good : Bool) → (applied : StateId) → (now : ℕ) → Call
+  Ticked : (now : ℕ) → Call
+
+-- the start, and the calls since, the newest last
+pub data Calls : Type 0 where
+  Started : Calls
+  Then : (calls : Calls) → (call : Call) → Calls
+
+-- before any state
+abbrev pub no_state : StateId
+no_state = record { term = 0; version = 0 }
+
+-- whether a state is not above another
+abbrev pub is_reached : StateId → StateId → Bool
+is_reached state applied = nat_lt state.term applied.term || (nat_eq state.term applied.term && nat_le state.version applied.version)
+
+-- a new follower
+abbrev pub new_follower : Id → ℕ → Follower
+new_follower id now = record { id = id; check = unchecked now; applied = no_state; behind = None }
+
+-- the follower with this id among those watched, or a new one
+abbrev pub watched_or_new : List Follower → Id → ℕ → Follower
+watched_or_new [] id now = new_follower id now
+watched_or_new (f ∷ fs) id now = if same f.id id then f else watched_or_new fs id now
+
+-- who has not applied a finished state falls behind it, now, unless it is behind one already
+abbrev pub fallen_behind : Option Behind → StateId → StateId → ℕ → Option Behind
+fallen_behind (Some behind) applied state now = Some behind
+fallen_behind None applied state now = if is_reached state applied then None else Some (record { state = state; since = now })
+
+-- an answer that reaches the state that a follower is behind ends that; where it is still under the last finished state, it falls behind that one, now
+abbrev pub behind_after : Option Behind → StateId → StateId → ℕ → Option Behind
+behind_after None applied finished now = None
+behind_after (Some behind) applied finished now =
+    if is_reached behind.state applied then fallen_behind None applied finished now else Some behind
+
+-- a follower's answer; with no check outstanding it does nothing
+abbrev pub answered_by : Follower → StateId → Bool → StateId → ℕ → Follower
+answered_by f finished good applied now =
+    if is_none f.check.asked then f
+    else record f { check = answered_at f.check good now; applied = applied; behind = behind_after f.behind applied finished now }
+
+-- an answer of one among the followers
+abbrev pub answered_from : Follower → Id → StateId → Bool → StateId → ℕ → Follower
+answered_from f from finished good applied now = if same f.id from then answered_by f finished good applied now else f
+
+-- whether a follower has been behind for too long
+abbrev pub is_late : Option Behind → ℕ → Bool
+is_late None now = false
+is_late (Some behind) now = nat_le (behind.since + follower_lag_timeout) now
+
+-- why a tick drops a follower: its checks, or else its lag
+abbrev pub drops_for_checks : Follower → ℕ → Bool
+drops_for_checks f now = fails f.check now
+
+abbrev pub drops_for_lag : Follower → ℕ → Bool
+drops_for_lag f now = not (drops_for_checks f now) && is_late f.behind now
+
+abbrev pub stays : Follower → ℕ → Bool
+stays f now = not (drops_for_checks f now) && not (is_late f.behind now)
+
+-- the followers that stay after a tick
+abbrev pub stayed : List Follower → ℕ → List Follower
+stayed fs now = map (λ (f : Follower). record f { check = ticked_at f.check now }) (filter (λ (f : Follower). stays f now) fs)
+
+-- whom a tick asks
+abbrev pub is_asked : Follower → ℕ → Bool
+is_asked f now = stays f now && asks f.check now
+
+-- the last finished state
+abbrev pub finished_of : Calls → StateId
+finished_of Started = no_state
+finished_of (Then calls (Finished state now)) = state
+finished_of (Then calls call) = finished_of calls
+
+-- the followers that are watched: the members last named, without those that a tick dropped since
+abbrev pub watched_of : Calls → List Follower
+watched_of Started = []
+watched_of (Then calls (Watched members now)) = map (λ id. watched_or_new (watched_of calls) id now) members
+watched_of (Then calls (Finished state now)) =
+    map (λ (f : Follower). record f { behind = fallen_behind f.behind f.applied state now }) (watched_of calls)
+watched_of (Then calls (Answered from good applied now)) =
+    map (λ (f : Follower). answered_from f from (finished_of calls) good applied now) (watched_of calls)
+watched_of (Then calls (Ticked now)) = stayed (watched_of calls) now
+
+-- both
+pub record Followers : Type 0 where
+  pub finished : StateId
+  pub watched : List Follower
+
+abbrev pub followers_of : Calls → Followers
+followers_of calls = record { finished = finished_of calls; watched = watched_of calls }
+
+-- they stand for these calls
+abbrev pub StandsFor : Followers → Calls → Type 0
+StandsFor fs calls = fs ≡ followers_of calls
+
+-- what one more call makes of them
+abbrev pub after : Followers → Call → Followers
+after fs (Watched members now) = record fs { watched = map (λ id. watched_or_new fs.watched id now) members }
+after fs (Finished state now) =
+    record { finished = state; watched = map (λ (f : Follower). record f { behind = fallen_behind f.behind f.applied state now }) fs.watched }
+after fs (Answered from good applied now) =
+    record fs { watched = map (λ (f : Follower). answered_from f from fs.finished good applied now) fs.watched }
+after fs (Ticked now) =
+    record fs { watched = stayed fs.watched now }
+
+-- the ids of some followers, as a set
+abbrev pub set_of : List Follower → List Id
+set_of [] = []
+set_of (f ∷ fs) = with_id f.id (set_of fs)
+
+-- what a tick answers: whom to ask, and whom to drop
+abbrev pub to_ask : Followers → ℕ → List Id
+to_ask fs now = set_of (filter (λ (f : Follower). is_asked f now) fs.watched)
+
+abbrev pub to_drop_for_checks : Followers → ℕ → List Id
+to_drop_for_checks fs now = set_of (filter (λ (f : Follower). drops_for_checks f now) fs.watched)
+
+abbrev pub to_drop_for_lag : Followers → ℕ → List Id
+to_drop_for_lag fs now = set_of (filter (λ (f : Follower). drops_for_lag f now) fs.watched)
