@@ -1,2 +1,3 @@
 mod Refilled
 mod Sets
+mod Standing

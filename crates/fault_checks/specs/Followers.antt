@@ -1,9 +1,10 @@
 -- Whether the followers answer and keep up, by the calls so far.
 use Rattle.std.specs.Prelude.{◌≡◌, ℕ, ◌+◌, Bool, false, not, ◌&&◌, ◌||◌, Option, None, Some, List, [], ◌∷◌, map, filter, nat_le, nat_lt, nat_eq, if◌then◌else◌, is_none}
-use Rattle.voting_config.specs.Ids.{Id, same, with_id}
+use Rattle.voting_config.specs.Ids.{Id, has, same, with_id}
 use Rattle.cluster_state.specs.declared.state.StateId.{StateId}
 use Rattle.fault_checks.specs.declared.followers.Behind.{Behind}
 use Rattle.fault_checks.specs.declared.followers.Follower.{Follower}
+use Rattle.fault_checks.specs.declared.checking.Check.{Check}
 use Rattle.fault_checks.specs.Checks.{unchecked, answered_at, ticked_at, fails, asks}
 use Rattle.fault_checks.specs.Spans.{follower_lag_timeout}
 
@@ -65,6 +66,10 @@ abbrev pub is_late : Option Behind → ℕ → Bool
 is_late None now = false
 is_late (Some behind) now = nat_le (behind.since + follower_lag_timeout) now
 
+-- a tick keeps a follower that it drops neither for its checks nor for its lag
+abbrev pub is_kept : Check → Option Behind → ℕ → Bool
+is_kept check behind now = not (fails check now) && not (is_late behind now)
+
 -- why a tick drops a follower: its checks, or else its lag
 abbrev pub drops_for_checks : Follower → ℕ → Bool
 drops_for_checks f now = fails f.check now
@@ -73,7 +78,7 @@ abbrev pub drops_for_lag : Follower → ℕ → Bool
 drops_for_lag f now = not (drops_for_checks f now) && is_late f.behind now
 
 abbrev pub stays : Follower → ℕ → Bool
-stays f now = not (drops_for_checks f now) && not (is_late f.behind now)
+stays f now = is_kept f.check f.behind now
 
 -- the followers that stay after a tick
 abbrev pub stayed : List Follower → ℕ → List Follower
@@ -89,23 +94,47 @@ finished_of Started = no_state
 finished_of (Then calls (Finished state now)) = state
 finished_of (Then calls call) = finished_of calls
 
--- the followers that are watched: the members last named, without those that a tick dropped since
-abbrev pub watched_of : Calls → List Follower
-watched_of Started = []
-watched_of (Then calls (Watched members now)) = map (λ id. watched_or_new (watched_of calls) id now) members
-watched_of (Then calls (Finished state now)) =
-    map (λ (f : Follower). record f { behind = fallen_behind f.behind f.applied state now }) (watched_of calls)
-watched_of (Then calls (Answered from good applied now)) =
-    map (λ (f : Follower). answered_from f from (finished_of calls) good applied now) (watched_of calls)
-watched_of (Then calls (Ticked now)) = stayed (watched_of calls) now
+abbrev mutual
+  -- the followers that are watched: the members last named, without those that a tick dropped since
+  pub members_of : Calls → List Id
+  members_of Started = []
+  members_of (Then calls (Watched members now)) = members
+  members_of (Then calls (Ticked now)) = filter (λ id. is_kept (check_of calls id) (behind_of calls id) now) (members_of calls)
+  members_of (Then calls call) = members_of calls
 
--- both
+  -- the checks of a follower since it became watched
+  pub check_of : Calls → Id → Check
+  check_of Started id = unchecked 0
+  check_of (Then calls (Watched members now)) id = if has id (members_of calls) then check_of calls id else unchecked now
+  check_of (Then calls (Answered from good applied now)) id = if same id from then answered_at (check_of calls id) good now else check_of calls id
+  check_of (Then calls (Ticked now)) id = ticked_at (check_of calls id) now
+  check_of (Then calls call) id = check_of calls id
+
+  -- the state that it has applied, by its last answer to a check that was outstanding
+  pub applied_of : Calls → Id → StateId
+  applied_of Started id = no_state
+  applied_of (Then calls (Watched members now)) id = if has id (members_of calls) then applied_of calls id else no_state
+  applied_of (Then calls (Answered from good applied now)) id = if same id from && not (is_none (check_of calls id).asked) then applied else applied_of calls id
+  applied_of (Then calls call) id = applied_of calls id
+
+  -- the finished state that it is behind, and since when
+  pub behind_of : Calls → Id → Option Behind
+  behind_of Started id = None
+  behind_of (Then calls (Watched members now)) id = if has id (members_of calls) then behind_of calls id else None
+  behind_of (Then calls (Finished state now)) id = fallen_behind (behind_of calls id) (applied_of calls id) state now
+  behind_of (Then calls (Answered from good applied now)) id = if same id from && not (is_none (check_of calls id).asked) then behind_after (behind_of calls id) applied (finished_of calls) now else behind_of calls id
+  behind_of (Then calls call) id = behind_of calls id
+
+abbrev pub follower_of : Calls → Id → Follower
+follower_of calls id = record { id = id; check = check_of calls id; applied = applied_of calls id; behind = behind_of calls id }
+
+-- the last finished state, and the followers that are watched
 pub record Followers : Type 0 where
   pub finished : StateId
   pub watched : List Follower
 
 abbrev pub followers_of : Calls → Followers
-followers_of calls = record { finished = finished_of calls; watched = watched_of calls }
+followers_of calls = record { finished = finished_of calls; watched = map (λ id. follower_of calls id) (members_of calls) }
 
 -- they stand for these calls
 abbrev pub StandsFor : Followers → Calls → Type 0

@@ -54,7 +54,7 @@ impl Default for Follower {
     }
 }
 
-/// What a tick answers. No node is in two of the sets.
+/// What a tick answers.
 #[derive(Drop)]
 pub struct Checked {
     /// Whom to send a check.

@@ -1,6 +1,7 @@
 use Rattle.std.proofs.Common.{refl}
 use Rattle.fault_checks.specs.declared.followers.Follower.{Follower}
-use Rattle.fault_checks.specs.Followers.{fallen_behind}
+use Rattle.fault_checks.specs.Followers.{Finished, fallen_behind}
+use Rattle.fault_checks.proofs.Standing.{stands-Then}
 use Rattle.fault_checks.proofs.Refilled.{refill-map}
 use Rattle.fault_checks.proofs.followers.FollowerChecks.finished.Goals as goal
 
@@ -10,4 +11,4 @@ returns-clause-now c =
     rw (← c.self.view_is) (rw whole refl)
 
 pub returns-clause-calls : goal.returns-clause-calls
-returns-clause-calls c = λ calls stands. rw (returns-clause-now c, stands) refl
+returns-clause-calls c = λ calls stands. stands-Then c.args.self.now _ (Finished c.args.id c.args.now) (returns-clause-now c) calls stands

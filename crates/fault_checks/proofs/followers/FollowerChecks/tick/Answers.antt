@@ -1,0 +1,7 @@
+use Rattle.std.proofs.Common.{rules}
+use Rattle.fault_checks.specs.Followers.{Ticked}
+use Rattle.fault_checks.proofs.Standing.{stands-Then}
+use Rattle.fault_checks.proofs.followers.FollowerChecks.tick.Goals as goal
+
+pub returns-clause-calls : goal.returns-clause-calls
+returns-clause-calls c = λ calls stands. stands-Then c.args.self.now _ (Ticked c.args.now) (search rules) calls stands
