@@ -1,3 +1,4 @@
+mod Ascending
 mod Refilled
 mod Sets
 mod Standing

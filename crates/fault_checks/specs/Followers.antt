@@ -1,6 +1,6 @@
 -- Whether the followers answer and keep up, by the calls so far.
-use Rattle.std.specs.Prelude.{◌≡◌, ℕ, ◌+◌, Bool, false, not, ◌&&◌, ◌||◌, Option, None, Some, List, [], ◌∷◌, map, filter, nat_le, nat_lt, nat_eq, if◌then◌else◌, is_none}
-use Rattle.voting_config.specs.Ids.{Id, has, same, with_id}
+use Rattle.std.specs.Prelude.{◌≡◌, ℕ, ◌+◌, Bool, true, false, not, ◌&&◌, ◌||◌, Option, None, Some, List, [], ◌∷◌, map, filter, nat_le, nat_lt, nat_eq, if◌then◌else◌, is_none}
+use Rattle.voting_config.specs.Ids.{Id, has, same}
 use Rattle.cluster_state.specs.declared.state.StateId.{StateId}
 use Rattle.fault_checks.specs.declared.followers.Behind.{Behind}
 use Rattle.fault_checks.specs.declared.followers.Follower.{Follower}
@@ -150,17 +150,20 @@ after fs (Answered from good applied now) =
 after fs (Ticked now) =
     record fs { watched = stayed fs.watched now }
 
--- the ids of some followers, as a set
-abbrev pub set_of : List Follower → List Id
-set_of [] = []
-set_of (f ∷ fs) = with_id f.id (set_of fs)
+-- the ids of some followers
+abbrev pub ids_of : List Follower → List Id
+ids_of fs = map (λ (f : Follower). f.id) fs
 
 -- what a tick answers: whom to ask, and whom to drop
-abbrev pub to_ask : Followers → ℕ → List Id
-to_ask fs now = set_of (filter (λ (f : Follower). is_asked f now) fs.watched)
+abbrev pub to_ask : List Follower → ℕ → List Id
+to_ask fs now = ids_of (filter (λ (f : Follower). is_asked f now) fs)
 
-abbrev pub to_drop_for_checks : Followers → ℕ → List Id
-to_drop_for_checks fs now = set_of (filter (λ (f : Follower). drops_for_checks f now) fs.watched)
+abbrev pub to_drop_for_checks : List Follower → ℕ → List Id
+to_drop_for_checks fs now = ids_of (filter (λ (f : Follower). drops_for_checks f now) fs)
 
-abbrev pub to_drop_for_lag : Followers → ℕ → List Id
-to_drop_for_lag fs now = set_of (filter (λ (f : Follower). drops_for_lag f now) fs.watched)
+abbrev pub to_drop_for_lag : List Follower → ℕ → List Id
+to_drop_for_lag fs now = ids_of (filter (λ (f : Follower). drops_for_lag f now) fs)
+
+-- no id is in both
+abbrev pub AreApart : List Id → List Id → Type 0
+AreApart xs ys = (id : Id) → has id xs ≡ true → has id ys ≡ false

@@ -1,5 +1,5 @@
-ghost use Rattle.std.specs.Prelude.{◌≡◌, ◌<◌, ◌≤◌, length, map, filter, nat_le, if◌then◌else◌};
-ghost use Rattle.voting_config.specs.Ids.{with_id, most_ids};
+ghost use Rattle.std.specs.Prelude.{◌≡◌, ◌<◌, ◌≤◌, length, map, filter, nat_le, IsTrue, if◌then◌else◌};
+ghost use Rattle.voting_config.specs.Ids.{with_id, most_ids, ascends};
 ghost use Rattle.fault_checks.specs.declared.followers.Follower.{Follower as FollowerOf};
 ghost use Rattle.fault_checks.specs.Checks.{ticked_at as ticked_at_of};
 ghost use Rattle.fault_checks.specs.Choices.{is_chosen as is_chosen_of};
@@ -16,7 +16,11 @@ ghost use Rattle.fault_checks.specs.Followers.{
   stays as stays_of,
   stayed,
   is_asked as is_asked_of,
-  set_of as set_of_followers,
+  ids_of,
+  to_ask,
+  to_drop_for_checks,
+  to_drop_for_lag,
+  AreApart,
 };
 
 use crate::checking::{self, Check};
@@ -54,7 +58,7 @@ impl Default for Follower {
     }
 }
 
-/// What a tick answers.
+/// What a tick answers. No node is in two of the sets.
 #[derive(Drop)]
 pub struct Checked {
     /// Whom to send a check.
@@ -73,11 +77,15 @@ pub struct FollowerChecks {
 }
 
 impl Model for FollowerChecks {
-    ghost use Rattle.fault_checks.specs.Followers.{Followers};
+    ghost use Rattle.std.specs.Prelude.{IsTrue};
+    ghost use Rattle.voting_config.specs.Ids.{ascends};
+    ghost use Rattle.fault_checks.specs.Followers.{Followers, ids_of};
 
     ghost Value = { Followers };
 
     ghost view = { λ f. record { finished = f.finished; watched = f.watched.items } };
+
+    ghost invariant = { λ f. IsTrue (ascends (ids_of f.watched.items)) };
 }
 
 impl FollowerChecks {
@@ -91,9 +99,6 @@ impl FollowerChecks {
       Ticked,
       StandsFor,
       after,
-      to_ask,
-      to_drop_for_checks,
-      to_drop_for_lag,
     };
 
     /// No follower is watched and no state is finished yet.
@@ -162,17 +167,16 @@ impl FollowerChecks {
     /// more after their last answer or failure, or after they became watched. A check that has had no answer for
     /// [`crate::CHECK_TIMEOUT`] fails at this tick.
     pub fn tick(&mut self, now: u64) -> Checked
-        ensures ask { result.ask ≡ to_ask self.old now }
-        ensures checks { result.checks ≡ to_drop_for_checks self.old now }
-        ensures lag { result.lag ≡ to_drop_for_lag self.old now }
+        ensures ask { result.ask ≡ to_ask self.old.watched now }
+        ensures checks { result.checks ≡ to_drop_for_checks self.old.watched now }
+        ensures lag { result.lag ≡ to_drop_for_lag self.old.watched now }
+        ensures ask_no_checks { AreApart result.ask result.checks }
+        ensures ask_no_lag { AreApart result.ask result.lag }
+        ensures checks_no_lag { AreApart result.checks result.lag }
         ensures now { self.new ≡ after self.old (Ticked now) }
         ensures calls { (calls : Calls) → StandsFor self.old calls → StandsFor self.new (Then calls (Ticked now)) }
     {
-        let checked = Checked {
-            ask: chosen(self.watched.as_slice(), Choice::Asked, now),
-            checks: chosen(self.watched.as_slice(), Choice::DroppedForChecks, now),
-            lag: chosen(self.watched.as_slice(), Choice::DroppedForLag, now),
-        };
+        let checked = tick_of(self.watched.as_slice(), now);
         self.watched = ticked(self.watched.as_slice(), now);
         checked
     }
@@ -373,6 +377,20 @@ fn ticked(watched: &[Follower], now: u64) -> ArrayVec<Follower, MAX_IDS>
     kept
 }
 
+fn tick_of(watched: &[Follower], now: u64) -> Checked
+    requires room { length watched.now ≤ MAX_IDS }
+    requires ascending { IsTrue (ascends (ids_of watched.now)) }
+    ensures ask { result.ask ≡ to_ask watched.now now }
+    ensures checks { result.checks ≡ to_drop_for_checks watched.now now }
+    ensures lag { result.lag ≡ to_drop_for_lag watched.now now }
+{
+    Checked {
+        ask: chosen(watched, Choice::Asked, now),
+        checks: chosen(watched, Choice::DroppedForChecks, now),
+        lag: chosen(watched, Choice::DroppedForLag, now),
+    }
+}
+
 // Which followers a tick names.
 #[derive(Clone, Copy)]
 enum Choice {
@@ -402,8 +420,9 @@ fn insert_chosen(ids: &mut NodeSet, follower: &Follower, choice: Choice, now: u6
 }
 
 fn chosen(watched: &[Follower], choice: Choice, now: u64) -> NodeSet
-    requires { length watched.now ≤ MAX_IDS }
-    ensures { result ≡ set_of_followers (filter (λ (f : FollowerOf). is_chosen_of choice f now) watched.now) }
+    requires room { length watched.now ≤ MAX_IDS }
+    requires ascending { IsTrue (ascends (ids_of watched.now)) }
+    ensures { result ≡ ids_of (filter (λ (f : FollowerOf). is_chosen_of choice f now) watched.now) }
 {
     let mut ids = NodeSet::new();
     let mut place = watched.len();
