@@ -7,7 +7,7 @@ use Rattle.cluster_state.specs.declared.state.StateId.{StateId}
 use Rattle.fault_checks.specs.declared.followers.Behind.{Behind}
 use Rattle.fault_checks.specs.declared.followers.Follower.{Follower}
 use Rattle.fault_checks.specs.Checks.{unchecked, failed_at, ticked_at}
-use Rattle.fault_checks.specs.Followers.{Followers, Calls, Call, Then, Watched, Finished, Answered, Ticked, StandsFor, followers_of, after, members_of, check_of, applied_of, behind_of, finished_of, follower_of, new_follower, watched_or_new, fallen_behind, behind_after, answered_from, is_kept, stays, stayed, no_state}
+use Rattle.fault_checks.specs.Followers.{Followers, Calls, Call, Then, Watched, Finished, Answered, Ticked, StandsFor, followers_of, after, members_of, check_of, applied_of, behind_of, finished_of, follower_of, new_follower, watched_or_new, behind_finished, behind_after, answered_from, is_kept, stays, stayed, no_state}
 
 map-map : {X Y Z : Type 0} (f : Y → Z) (g : X → Y) (xs : List X) → map f (map g xs) ≡ map (λ x. f (g x)) xs
 map-map f g [] = refl
@@ -57,7 +57,7 @@ followers_of-Then calls (Watched members now) =
     ap (λ (fs : List Follower). record (followers_of calls) { watched = fs }) (map-each _ _ members (watched-each calls members now))
 followers_of-Then calls (Finished state now) =
     ap (λ (fs : List Follower). (let new : Followers = record { finished = state; watched = fs } in new))
-    (sym (map-map (λ (f : Follower). record f { behind = fallen_behind f.behind f.applied state now }) (λ id. follower_of calls id) (members_of calls)))
+    (sym (map-map (λ (f : Follower). record f { behind = behind_finished f.behind f.applied (finished_of calls) state now }) (λ id. follower_of calls id) (members_of calls)))
 followers_of-Then calls (Answered from good applied now) =
     ap (λ (fs : List Follower). record (followers_of calls) { watched = fs })
     (map-each _ _ (members_of calls) (answered-each calls from good applied now)

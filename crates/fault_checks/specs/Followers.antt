@@ -31,6 +31,9 @@ no_state = record { term = 0; version = 0 }
 abbrev pub is_reached : StateId → StateId → Bool
 is_reached state applied = nat_lt state.term applied.term || (nat_eq state.term applied.term && nat_le state.version applied.version)
 
+abbrev pub is_same_state : StateId → StateId → Bool
+is_same_state state last = nat_eq state.term last.term && nat_eq state.version last.version
+
 -- a new follower
 abbrev pub new_follower : Id → ℕ → Follower
 new_follower id now = record { id = id; check = unchecked now; applied = no_state; behind = None }
@@ -44,6 +47,10 @@ watched_or_new (f ∷ fs) id now = if same f.id id then f else watched_or_new fs
 abbrev pub fallen_behind : Option Behind → StateId → StateId → ℕ → Option Behind
 fallen_behind (Some behind) applied state now = Some behind
 fallen_behind None applied state now = if is_reached state applied then None else Some (record { state = state; since = now })
+
+-- a state is finished once: told again that the last one is finished, nobody falls behind it
+abbrev pub behind_finished : Option Behind → StateId → StateId → StateId → ℕ → Option Behind
+behind_finished behind applied last state now = if is_same_state state last then behind else fallen_behind behind applied state now
 
 -- an answer that reaches the state that a follower is behind ends that; where it is still under the last finished state, it falls behind that one, now
 abbrev pub behind_after : Option Behind → StateId → StateId → ℕ → Option Behind
@@ -121,7 +128,7 @@ abbrev mutual
   pub behind_of : Calls → Id → Option Behind
   behind_of Started id = None
   behind_of (Then calls (Watched members now)) id = if has id (members_of calls) then behind_of calls id else None
-  behind_of (Then calls (Finished state now)) id = fallen_behind (behind_of calls id) (applied_of calls id) state now
+  behind_of (Then calls (Finished state now)) id = behind_finished (behind_of calls id) (applied_of calls id) (finished_of calls) state now
   behind_of (Then calls (Answered from good applied now)) id = if same id from && not (is_none (check_of calls id).asked) then behind_after (behind_of calls id) applied (finished_of calls) now else behind_of calls id
   behind_of (Then calls call) id = behind_of calls id
 
@@ -144,11 +151,10 @@ StandsFor fs calls = fs ≡ followers_of calls
 abbrev pub after : Followers → Call → Followers
 after fs (Watched members now) = record fs { watched = map (λ id. watched_or_new fs.watched id now) members }
 after fs (Finished state now) =
-    record { finished = state; watched = map (λ (f : Follower). record f { behind = fallen_behind f.behind f.applied state now }) fs.watched }
+    record { finished = state; watched = map (λ (f : Follower). record f { behind = behind_finished f.behind f.applied fs.finished state now }) fs.watched }
 after fs (Answered from good applied now) =
     record fs { watched = map (λ (f : Follower). answered_from f from fs.finished good applied now) fs.watched }
-after fs (Ticked now) =
-    record fs { watched = stayed fs.watched now }
+after fs (Ticked now) = record fs { watched = stayed fs.watched now }
 
 -- the ids of some followers
 abbrev pub ids_of : List Follower → List Id

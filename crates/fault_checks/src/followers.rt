@@ -8,6 +8,8 @@ ghost use Rattle.fault_checks.specs.Followers.{
   new_follower as new_follower_of,
   watched_or_new as watched_or_new_of,
   fallen_behind as fallen_behind_of,
+  is_same_state as is_same_state_of,
+  behind_finished as behind_finished_of,
   behind_after as behind_after_of,
   answered_from as answered_from_of,
   is_late as is_late_of,
@@ -135,17 +137,19 @@ impl FollowerChecks {
         self.watched = watched_from(self.watched.as_slice(), members.as_slice(), now);
     }
 
-    /// A state is finished now, in ms: who is not behind yet and has not applied it falls behind it.
+    /// A state is finished now, in ms: who is not behind yet and has not applied it falls behind it. Where it is the
+    /// last one that was finished, nothing changes.
     pub fn finished(&mut self, id: StateId, now: u64)
         ensures now { self.new ≡ after self.old (Finished id now) }
         ensures calls { (calls : Calls) → StandsFor self.old calls → StandsFor self.new (Then calls (Finished id now)) }
     {
+        let last = self.finished;
         self.finished = id;
-        finish_all(self.watched.as_mut_slice(), id, now);
+        finish_all(self.watched.as_mut_slice(), last, id, now);
     }
 
-    /// A follower answers now, in ms, yes where `good` and else no, with the id of the state that it has applied. Nothing changes where it
-    /// isn't watched or no check of it is outstanding.
+    /// A follower answers now, in ms, yes where `good` and else no, with the id of the state that it has applied.
+    /// Nothing changes where it isn't watched or no check of it is outstanding.
     pub fn answer(&mut self, from: NodeId, good: bool, applied: StateId, now: u64)
         ensures now { self.new ≡ after self.old (Answered from good applied now) }
         ensures calls { (calls : Calls) → StandsFor self.old calls → StandsFor self.new (Then calls (Answered from good applied now)) }
@@ -209,6 +213,28 @@ fn fallen_behind(
     }
 }
 
+fn is_same_state(state: StateId, last: StateId) -> bool
+    ensures { result ≡ is_same_state_of state last }
+{
+    state.term == last.term && state.version == last.version
+}
+
+fn behind_finished(
+    behind: Option<Behind>,
+    applied: StateId,
+    last: StateId,
+    state: StateId,
+    now: u64,
+) -> Option<Behind>
+    ensures { result ≡ behind_finished_of behind applied last state now }
+{
+    if is_same_state(state, last) {
+        behind
+    } else {
+        fallen_behind(behind, applied, state, now)
+    }
+}
+
 fn behind_after(
     behind: Option<Behind>,
     applied: StateId,
@@ -262,22 +288,22 @@ fn is_asked(follower: &Follower, now: u64) -> bool
     stays(follower, now) && checking::asks(follower.check, now)
 }
 
-fn finished_at(follower: Follower, state: StateId, now: u64) -> Follower
-    ensures { result ≡ record follower { behind = fallen_behind_of follower.behind follower.applied state now } }
+fn finished_at(follower: Follower, last: StateId, state: StateId, now: u64) -> Follower
+    ensures { result ≡ record follower { behind = behind_finished_of follower.behind follower.applied last state now } }
 {
     Follower {
         id: follower.id,
         check: follower.check,
         applied: follower.applied,
-        behind: fallen_behind(follower.behind, follower.applied, state, now),
+        behind: behind_finished(follower.behind, follower.applied, last, state, now),
     }
 }
 
-fn finish_all(watched: &mut [Follower], state: StateId, now: u64)
-    ensures { watched.new ≡ map (λ (f : FollowerOf). record f { behind = fallen_behind_of f.behind f.applied state now }) watched.old }
+fn finish_all(watched: &mut [Follower], last: StateId, state: StateId, now: u64)
+    ensures { watched.new ≡ map (λ (f : FollowerOf). record f { behind = behind_finished_of f.behind f.applied last state now }) watched.old }
 {
     for follower in watched {
-        *follower = finished_at(*follower, state, now);
+        *follower = finished_at(*follower, last, state, now);
     }
 }
 
