@@ -1,0 +1,4 @@
+mod Ascending
+mod Refilled
+mod Sets
+mod Standing

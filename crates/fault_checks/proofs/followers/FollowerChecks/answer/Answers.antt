@@ -1,0 +1,20 @@
+use Rattle.std.proofs.Common.{refl}
+use Rattle.fault_checks.specs.declared.followers.Follower.{Follower}
+use Rattle.fault_checks.specs.Followers.{Answered, answered_from}
+use Rattle.fault_checks.proofs.Ascending.{ids_of-map, answered_from-id}
+use Rattle.fault_checks.proofs.Standing.{stands-Then}
+use Rattle.fault_checks.proofs.Refilled.{refill-map}
+use Rattle.fault_checks.proofs.followers.FollowerChecks.answer.Goals as goal
+
+pub invariant_of-self : goal.invariant_of-self
+invariant_of-self c =
+    let whole = refill-map (λ (f : Follower). answered_from f c.args.from c.self.inside.finished c.args.good c.args.applied c.args.now) c.self.inside.watched.items c.as_mut_slice.result.now c.answer_all.new.watched c.as_mut_slice.ensures.value c.answer_all.ensures in
+    rw (whole, ids_of-map (λ (f : Follower). answered_from f c.args.from c.self.inside.finished c.args.good c.args.applied c.args.now) c.self.inside.watched.items (λ f. answered_from-id f c.args.from c.self.inside.finished c.args.good c.args.applied c.args.now)) c.self.invariant
+
+pub returns-clause-now : goal.returns-clause-now
+returns-clause-now c =
+    let whole = refill-map (λ (f : Follower). answered_from f c.args.from c.self.inside.finished c.args.good c.args.applied c.args.now) c.self.inside.watched.items c.as_mut_slice.result.now c.answer_all.new.watched c.as_mut_slice.ensures.value c.answer_all.ensures in
+    rw (← c.self.view_is) (rw whole refl)
+
+pub returns-clause-calls : goal.returns-clause-calls
+returns-clause-calls c = λ calls stands. stands-Then c.args.self.now _ (Answered c.args.from c.args.good c.args.applied c.args.now) (returns-clause-now c) calls stands

@@ -1,0 +1,5 @@
+pub mod Checks
+pub mod Choices
+pub mod Followers
+pub mod Leaders
+pub mod Spans

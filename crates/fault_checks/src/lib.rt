@@ -1,0 +1,15 @@
+//! Fault detection: whether the followers answer and keep up, and whether the leader answers.
+#![tactic(auto)]
+
+pub mod checking;
+pub mod followers;
+pub mod leader;
+pub mod spans;
+
+pub use checking::Check;
+pub use followers::{Behind, Checked, Follower, FollowerChecks};
+pub use leader::{LeaderCheck, LeaderTick};
+pub use spans::{CHECK_INTERVAL, CHECK_RETRY_COUNT, CHECK_TIMEOUT, FOLLOWER_LAG_TIMEOUT};
+
+#[cfg(test)]
+mod tests;

@@ -1,0 +1,174 @@
+//! A publication of the leader: who responded, whether its commit was sent, and whether it is finished in time.
+#![tactic(auto)]
+
+ghost use Rattle.std.specs.Prelude.{◌≡◌};
+ghost use Rattle.publication.specs.Publications.{with_fitting};
+
+use cluster_state::StateId;
+use std::marker::Model;
+use voting_config::{NodeId, NodeSet};
+
+/// `cluster.publish.timeout`, in ms: how long a publication may take until it is finished. 30 s by default
+/// (Elasticsearch reference 7.x, Discovery and cluster formation settings).
+pub const PUBLISH_TIMEOUT: u64 = 30_000;
+
+/// What has become of a publication.
+#[derive(Drop)]
+pub enum Stage {
+    /// It is not finished yet and has time left.
+    Running,
+    /// It was not finished in time.
+    Failed,
+    /// It is finished. The set holds the targets that have not applied the state.
+    Done(NodeSet),
+}
+
+/// The publication of one cluster state, seen as what the calls so far make of it.
+#[derive(Drop)]
+pub struct Publication {
+    id: StateId,
+    targets: NodeSet,
+    started: u64,
+    responders: NodeSet,
+    commit_sent: bool,
+    finished: bool,
+    laggards: NodeSet,
+}
+
+impl Model for Publication {
+    ghost use Rattle.publication.specs.Publications.{Publication as PublicationOf};
+
+    ghost Value = { PublicationOf };
+
+    ghost view = { λ p. record {
+      id = p.id;
+      targets = p.targets;
+      started = p.started;
+      responders = p.responders;
+      commit_sent = p.commit_sent;
+      finished = p.finished;
+      laggards = p.laggards;
+    } };
+}
+
+impl Publication {
+    ghost use Rattle.publication.specs.Publications.{
+      Calls,
+      Started,
+      Then,
+      Responded,
+      CommitSent,
+      Finished,
+      Applied,
+      StandsFor,
+      publication_of,
+      after,
+      stage_of,
+    };
+
+    /// A publication of the state with this id to these nodes, which starts now, in ms.
+    pub fn start(id: StateId, targets: &NodeSet, now: u64) -> Publication
+        ensures { StandsFor result (Started id targets.now now) }
+    {
+        Publication {
+            id,
+            targets: targets.copy(),
+            started: now,
+            responders: NodeSet::new(),
+            commit_sent: false,
+            finished: false,
+            laggards: targets.copy(),
+        }
+    }
+
+    /// A node responded. Where 32 others have, it is not kept.
+    pub fn responded(&mut self, source: NodeId)
+        ensures now { self.new ≡ after self.old (Responded source) }
+        ensures calls { (calls : Calls) → StandsFor self.old calls → StandsFor self.new (Then calls (Responded source)) }
+    {
+        insert_fitting(&mut self.responders, source);
+    }
+
+    /// Its commit is sent.
+    pub fn commit_sent(&mut self)
+        ensures now { self.new ≡ after self.old CommitSent }
+        ensures calls { (calls : Calls) → StandsFor self.old calls → StandsFor self.new (Then calls CommitSent) }
+    {
+        self.commit_sent = true;
+    }
+
+    /// It is finished: the leader has taken its own commit.
+    pub fn finished(&mut self)
+        ensures now { self.new ≡ after self.old Finished }
+        ensures calls { (calls : Calls) → StandsFor self.old calls → StandsFor self.new (Then calls Finished) }
+    {
+        self.finished = true;
+    }
+
+    /// A node has applied the state.
+    pub fn applied(&mut self, source: NodeId)
+        ensures now { self.new ≡ after self.old (Applied source) }
+        ensures calls { (calls : Calls) → StandsFor self.old calls → StandsFor self.new (Then calls (Applied source)) }
+    {
+        self.laggards.remove(source);
+    }
+
+    /// Its stage at this moment, in ms: `Done` exactly where it is finished, `Failed` exactly where it is not and
+    /// [`PUBLISH_TIMEOUT`] or more have gone by since its start, else `Running`.
+    pub fn tick(&self, now: u64) -> Stage
+        ensures { result ≡ stage_of self.now now }
+    {
+        if self.finished {
+            Stage::Done(self.laggards.copy())
+        } else if self.started <= now && PUBLISH_TIMEOUT <= now - self.started {
+            Stage::Failed
+        } else {
+            Stage::Running
+        }
+    }
+
+    /// The id of the published state.
+    pub fn id(&self) -> StateId
+        ensures { result ≡ self.now.id }
+    {
+        self.id
+    }
+
+    /// The nodes that the state is published to.
+    pub fn targets(&self) -> &NodeSet
+        ensures { result.now ≡ self.now.targets }
+    {
+        &self.targets
+    }
+
+    /// Who has responded.
+    pub fn responders(&self) -> &NodeSet
+        ensures { result.now ≡ self.now.responders }
+    {
+        &self.responders
+    }
+
+    /// Whether its commit was sent.
+    pub fn is_commit_sent(&self) -> bool
+        ensures { result ≡ self.now.commit_sent }
+    {
+        self.commit_sent
+    }
+
+    /// Whether it is finished.
+    pub fn is_finished(&self) -> bool
+        ensures { result ≡ self.now.finished }
+    {
+        self.finished
+    }
+}
+
+// The set with an id more, where it has room for it.
+fn insert_fitting(ids: &mut NodeSet, id: NodeId)
+    ensures { ids.new ≡ with_fitting id ids.old }
+{
+    let _ = ids.insert(id);
+}
+
+#[cfg(test)]
+mod tests;

@@ -1,0 +1,41 @@
+use super::*;
+use std::test::*;
+
+fn id(text: &str) -> NodeId {
+    NodeId::parse(text).unwrap_or_default()
+}
+
+fn two() -> NodeSet {
+    let mut ids = NodeSet::new();
+    let _ = ids.insert(id("a"));
+    let _ = ids.insert(id("b"));
+    ids
+}
+
+#[test]
+fn a_publication(rt: HostRuntime) {
+    let state = StateId {
+        term: 1,
+        version: 2,
+    };
+    let mut publication = Publication::start(state, &two(), 100);
+    assert!(rt; matches!(publication.tick(30_099), Stage::Running));
+    assert!(rt; matches!(publication.tick(30_100), Stage::Failed));
+    publication.responded(id("b"));
+    assert!(rt; publication.responders().contains(id("b")));
+    assert!(rt; !publication.is_commit_sent());
+    publication.commit_sent();
+    assert!(rt; publication.is_commit_sent());
+    publication.applied(id("a"));
+    publication.finished();
+    assert!(rt; publication.is_finished());
+    assert!(rt; publication.id() == state);
+    assert_eq!(rt; publication.targets().len(), 2);
+    match publication.tick(30_100) {
+        Stage::Done(laggards) => {
+            assert!(rt; laggards.contains(id("b")));
+            assert_eq!(rt; laggards.len(), 1);
+        }
+        _ => assert!(rt; false, "it is finished"),
+    }
+}
