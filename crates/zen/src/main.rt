@@ -1,0 +1,30 @@
+//! The program `zen` over the standard streams.
+#![tactic(auto)]
+
+mod streams;
+
+use std::alloc::AllocError;
+use std::process::ExitCode;
+use std::{env, io};
+use streams::{StandardHost, StandardInput, StandardOutput};
+use zen_app::{Status, run};
+
+// The words after the program's name.
+fn words(rt: &HostRuntime) -> io::Result<Vec<String>> {
+    let mut words = Vec::new(rt.alloc());
+    for word in env::args(rt)?.skip(1) {
+        words.push(word)?;
+    }
+    Ok(words)
+}
+
+fn main(rt: HostRuntime) -> ExitCode {
+    let Ok(words) = words(&rt) else {
+        return ExitCode::from(Status::NoMemory.code());
+    };
+    let mut input = StandardInput::new(rt.stdin());
+    let mut output = StandardOutput::new(rt.stdout());
+    let mut host = StandardHost;
+    let status: Status = run(rt.alloc(), words.as_slice(), &mut input, &mut output, &mut host);
+    ExitCode::from(status.code())
+}
