@@ -1,5 +1,5 @@
 -- The answer of a call, as the outcome of the act.
-use Rattle.std.specs.Prelude.{◌≡◌, ℕ, Bool, true, false, Option, None, Some, Result, Ok, Err}
+use Rattle.std.specs.Prelude.{◌≡◌, false, Option, None, Some, Result, Ok, Err}
 use Rattle.cluster_state.specs.declared.messages.Join.{Join}
 use Rattle.cluster_state.specs.declared.messages.PublishRequest.{PublishRequest}
 use Rattle.cluster_state.specs.declared.messages.PublishResponse.{PublishResponse}
@@ -12,7 +12,6 @@ use Rattle.cluster_state.specs.declared.causes.InitialCause.{InitialCause}
 use Rattle.cluster_state.specs.declared.causes.StartCause.{StartCause}
 use Rattle.cluster_state.specs.declared.causes.JoinCause.{JoinCause}
 use Rattle.world_model.specs.declared.acts.Message.{Message}
-use Rattle.world_model.specs.declared.acts.Reply.{Reply}
 use Rattle.world_model.specs.declared.acts.Reply.TheVariants.{Taken, Refused, Stopped}
 use Rattle.world_model.specs.declared.acts.Outcome.{Outcome}
 use Rattle.world_model.specs.declared.acts.Outcome.TheVariants.{Answered, Disk}

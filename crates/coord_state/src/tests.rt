@@ -48,11 +48,7 @@ fn a_node_alone_wins_and_commits(rt: HostRuntime) -> Result<(), Fail> {
     Ok(())
 }
 
-fn commits(
-    rt: &HostRuntime,
-    node: &mut CoordState<PlainKeeper>,
-    response: &PublishResponse,
-) {
+fn commits(rt: &HostRuntime, node: &mut CoordState<PlainKeeper>, response: &PublishResponse) {
     let _ = rt;
     if node.acks().len() < 32 {
         if let Ok(Some(commit)) = node.publish_response(response) {

@@ -1,5 +1,5 @@
 -- A line that is done.
-use Rattle.std.proofs.Common.{append_assoc, append-nil, codes, ◌≡◌, ◌∷◌, zero, suc, arith, ◌≤◌, Result, Ok, Err, ℕ, ◌+◌, ◌-◌, true, Option, None, Some, List, [], ◌++◌, length, refl, sym, ◌∙◌, ap, subst, map, slice_get, take, drop}
+use Rattle.std.proofs.Common.{append_assoc, codes, ◌≡◌, ◌∷◌, zero, suc, arith, ◌≤◌, Result, Ok, Err, ℕ, true, Option, None, Some, List, [], ◌++◌, length, refl, sym, ◌∙◌, ap, subst, map, slice_get, take, drop}
 use Rattle.std.specs.Prelude.{OnOk}
 use Rattle.std.proofs.lemmas.List.{length-map, take_at}
 use Rattle.voting_config.specs.Ids.{Id, has}

@@ -14,15 +14,12 @@ use Rattle.voting_config.specs.Ids.{Id, ascends, is_below, before, same}
 use Rattle.world_model.specs.declared.acts.Act.{Act}
 use Rattle.world_model.specs.declared.acts.Outcome.{Outcome}
 use Rattle.world_model.specs.declared.acts.Outcome.TheVariants.{Answered}
-use Rattle.world_model.specs.Acts.{NodeHistory, Then, NoActs}
+use Rattle.world_model.specs.Acts.{Then, NoActs}
 use Rattle.world_model.specs.Replies.{reply_of}
 use Rattle.world_model.specs.Histories.{History, NoEntries, Next, node_history}
-use Rattle.trace_text.specs.Trace.{act_text, results}
 use Rattle.schedule_replay.specs.declared.did.Did.{Did}
 use Rattle.schedule_replay.specs.declared.node.ReplayNode.{ReplayNode}
-use Rattle.schedule_replay.specs.Replayed.{did}
-use Rattle.schedule_replay.specs.Trace.{last_published}
-use Rattle.schedule_replay.specs.Did.{NodeStands, NodeDoes, outcome_of, did_text}
+use Rattle.schedule_replay.specs.Did.{NodeStands, NodeDoes, outcome_of}
 use Rattle.schedule_replay.specs.Stands.{AllStand, DoesAct}
 
 not_equal : (o : Ordering) → is_lt o ≡ true → is_eq o ≡ false

@@ -69,9 +69,9 @@ stops ids initial nodes messages was now later held bytes left all e m h =
 pub ends : (ids initial : List Id) (nodes : List ReplayNode) (messages : List SentMessage) (was now later : Option (List ℕ)) (held bytes : List ℕ) (left : List Line) (all : List ℕ) → left ≡ [] → bytes ≡ held → SoFar ids initial nodes messages was now held left all → Appended now later bytes → Appended was later all
 ends ids initial nodes messages was now later held bytes left all none e m h =
     let whole : m.front ++ bytes ≡ all =
-        ap (λ (t : List ℕ). m.front ++ t) (e ∙ sym (append-nil held))
-        ∙ sym (ap (λ (l : List Line). m.front ++ (held ++ trace_from initial m.history l)) none)
-        ∙ m.whole
+    ap (λ (t : List ℕ). m.front ++ t) (e ∙ sym (append-nil held))
+    ∙ sym (ap (λ (l : List Line). m.front ++ (held ++ trace_from initial m.history l)) none)
+    ∙ m.whole
     in
     subst (λ (t : List ℕ). Appended was later t) whole (appended_more was now later m.front bytes m.written h)
 

@@ -1,6 +1,5 @@
 -- Each message is from a node of the schedule.
-use Rattle.std.proofs.Common.{◌≡◌, sym, ℕ, zero, suc, Bool, true, false, cond, Option, None, Some, Result, Ok, Err, List, [], ◌∷◌, ◌++◌, refl, subst, slice_get, map, ap, ◌∙◌}
-use Rattle.std.specs.List.{list_all}
+use Rattle.std.proofs.Common.{◌≡◌, sym, ℕ, zero, suc, Bool, true, false, cond, None, Some, List, [], ◌∷◌, ◌++◌, refl, subst, slice_get, map, ap, ◌∙◌}
 use Rattle.std.proofs.lemmas.List.Folds.{list_all-append}
 use Rattle.std.proofs.lemmas.Bool.{and_from, and_parts}
 use Rattle.voting_config.specs.Ids.{Id, has, same}
@@ -15,9 +14,9 @@ use Rattle.world_model.specs.declared.acts.Outcome.TheVariants.{Answered}
 use Rattle.world_model.specs.Acts.{NodeHistory, NoActs, Then}
 use Rattle.world_model.specs.Replies.{reply_of}
 use Rattle.world_model.proofs.System.{Origin, origin}
-use Rattle.world_model.specs.Histories.{History, Next, node_history, sent, sent_by}
+use Rattle.world_model.specs.Histories.{History, Next, node_history, sent_by}
 use Rattle.schedule_replay.specs.declared.message.SentMessage.{SentMessage}
-use Rattle.schedule_replay.specs.Replayed.{taking, taking_some}
+use Rattle.schedule_replay.specs.Replayed.{taking}
 use Rattle.schedule_replay.specs.Sent.{message_of, source_of, are_from}
 use Rattle.schedule_replay.specs.Stands.{TakesFrom}
 

@@ -1,5 +1,5 @@
 -- When a replay stands for a history.
-use Rattle.std.specs.Prelude.{◌≡◌, ◌<◌, ◌≤◌, Bool, true, List, [], ◌∷◌, ◌++◌, map, length, Option, ℕ}
+use Rattle.std.specs.Prelude.{◌≡◌, ◌≤◌, true, List, [], ◌∷◌, ◌++◌, map, length, Option, ℕ}
 use Rattle.voting_config.specs.Ids.{Id, ascends, has, most_ids}
 use Rattle.world_model.specs.declared.acts.Act.{Act}
 use Rattle.world_model.specs.declared.acts.Act.TheVariants.{TakeJoin, Response}

@@ -3,7 +3,6 @@ use Rattle.std.specs.Prelude.{ℕ, ◌+◌, Bool, cond, Option, None, Some, List
 use Rattle.serde_json.specs.Written.{compact_text}
 use Rattle.voting_config.specs.Ids.{Id}
 use Rattle.cluster_state.specs.declared.state.ClusterState.{ClusterState}
-use Rattle.cluster_state.specs.declared.state.ClusterValue.{ClusterValue}
 use Rattle.cluster_state.specs.declared.causes.InitialCause.{InitialCause}
 use Rattle.cluster_state.specs.declared.causes.InitialCause.TheVariants as initial
 use Rattle.cluster_state.specs.declared.causes.StartCause.{StartCause}
@@ -25,9 +24,9 @@ use Rattle.world_model.specs.declared.acts.Message.{Message}
 use Rattle.world_model.specs.declared.acts.Message.TheVariants.{Join as JoinMessage, Publish as PublishMessage, Response as ResponseMessage, Commit as CommitMessage}
 use Rattle.world_model.specs.declared.acts.Cause.{Cause}
 use Rattle.world_model.specs.declared.acts.Cause.TheVariants.{Initial as InitialRefused, Start as StartRefused, Join as JoinRefused, Value as ValueRefused, Publish as PublishRefused, Response as ResponseRefused, Commit as CommitRefused}
-use Rattle.world_model.specs.declared.acts.Reply.TheVariants.{Taken, Refused, Stopped}
+use Rattle.world_model.specs.declared.acts.Reply.TheVariants.{Taken}
 use Rattle.world_model.specs.declared.acts.Outcome.{Outcome}
-use Rattle.world_model.specs.declared.acts.Outcome.TheVariants.{Answered, Disk, Crashed}
+use Rattle.world_model.specs.declared.acts.Outcome.TheVariants.{Answered}
 use Rattle.world_model.specs.Acts.{wins}
 use Rattle.schedule_text.specs.Words.{list_text}
 use Rattle.trace_text.specs.declared.ending.Ending.{Ending}

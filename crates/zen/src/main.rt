@@ -25,6 +25,12 @@ fn main(rt: HostRuntime) -> ExitCode {
     let mut input = StandardInput::new(rt.stdin());
     let mut output = StandardOutput::new(rt.stdout());
     let mut host = StandardHost;
-    let status: Status = run(rt.alloc(), words.as_slice(), &mut input, &mut output, &mut host);
+    let status: Status = run(
+        rt.alloc(),
+        words.as_slice(),
+        &mut input,
+        &mut output,
+        &mut host,
+    );
     ExitCode::from(status.code())
 }

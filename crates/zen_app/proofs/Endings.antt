@@ -1,5 +1,5 @@
 -- How a run ends, from how its parts ended.
-use Rattle.std.proofs.Common.{◌≡◌, ◌≢◌, ℕ, ◌+◌, ◌≤◌, ◌<◌, Bool, true, false, Option, None, Some, Result, Ok, Err, List, [], ◌∷◌, ◌++◌, length, take, refl, sym, ◌∙◌, ap, subst, arith, inl, inr, ◌⊎◌}
+use Rattle.std.proofs.Common.{◌≡◌, ℕ, ◌+◌, ◌≤◌, ◌<◌, true, Option, Some, List, [], length, take, refl, sym, ◌∙◌, ap, subst, arith, inl, inr, ◌⊎◌}
 use Rattle.std.specs.List.{AllByRecursion}
 use Rattle.std.proofs.lemmas.List.{take_all, length-take}
 use Rattle.zen_disk.specs.Faults.{Rose}
@@ -16,9 +16,9 @@ use Rattle.schedule_text.specs.Spelled.{Spells, Nothing, Text}
 use Rattle.schedule_replay.specs.Replayed.{replayed}
 use Rattle.schedule_replay.specs.Trace.{trace}
 use Rattle.zen_app.specs.Reading.{IsInput}
-use Rattle.zen_app.specs.Ran.{Ran, Replays, Refusal, is_replay}
+use Rattle.zen_app.specs.Ran.{Ran, Refusal, is_replay}
 use Rattle.zen_app.specs.declared.status.Status.{Status}
-use Rattle.zen_app.specs.declared.status.Status.TheVariants.{Success, Usage, BadSchedule as IsBadSchedule, NoMemory, ReadFault, WriteFault}
+use Rattle.zen_app.specs.declared.status.Status.TheVariants.{Success, BadSchedule as IsBadSchedule, NoMemory, WriteFault}
 
 pub spells_fits : (bytes : List ℕ) (s : Schedule) → Spells bytes s → AllByRecursion (FitsLine s.nodes) s.lines
 spells_fits _ _ Nothing = tt

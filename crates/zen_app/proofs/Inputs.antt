@@ -1,7 +1,7 @@
 -- Reading, piece by piece.
 use Rattle.std.proofs.Common.{◌≡◌, ℕ, ◌+◌, ◌<◌, ◌≤◌, Option, None, Some, List, [], ◌++◌, length, take, drop, refl, sym, ◌∙◌, ap, subst, arith}
 use Rattle.std.proofs.Math.Seq.{take-add}
-use Rattle.std.proofs.lemmas.List.{take_all, length-take, length-drop, drop-drop, nil_from_length}
+use Rattle.std.proofs.lemmas.List.{take_all, length-drop, drop-drop, nil_from_length}
 use Rattle.zen_link.specs.Streams.{Left}
 use Rattle.schedule_text.specs.Limits.{most_bytes}
 use Rattle.zen_app.specs.Reading.{IsInput, PieceRead, ReadsPiece, IsReadOn, IsReadSoFar}
@@ -24,8 +24,7 @@ pub more_read : (left now later : Option (List ℕ)) (before after : List ℕ) (
 more_read None now later before after count so_far on = subst (λ (x : Option (List ℕ)). ReadsPiece x later before after count) so_far on.piece
 more_read (Some left) now later before after count so_far on =
     let step : PieceRead (drop (length before) left) later before after count = subst (λ (x : Option (List ℕ)). ReadsPiece x later before after count) so_far.1 on.piece in
-    let long : length after ≡ length before + count = on.longer in
-    (
+    let long : length after ≡ length before + count = on.longer in (
       step.added ∙ ap (λ (x : List ℕ). x ++ take count (drop (length before) left)) so_far.0 ∙ sym (take-add (length before) count left) ∙ ap (λ (n : ℕ). take n left) (sym long),
       step.rest ∙ ap (λ (x : List ℕ). Some x) (drop-drop count (length before) left ∙ ap (λ (n : ℕ). drop n left) (sym long)),
       omega (arith, long, step.within, length-drop (length before) left, so_far.2),
@@ -40,8 +39,7 @@ read_to_end (Some left) now later before after count so_far on none few =
     let long : length after ≡ length before + count = on.longer in
     let short : length left ≤ length before = let e : length (drop (length before) left) ≡ 0 = ap (λ (x : List ℕ). length x) rest in omega (arith, e, length-drop (length before) left) in
     let all = more_read (Some left) now later before after count so_far on in
-    let whole : after ≡ left = all.0 ∙ take_all (length after) left (omega (arith, long, short)) in
-    (
+    let whole : after ≡ left = all.0 ∙ take_all (length after) left (omega (arith, long, short)) in (
       whole ∙ sym (take_all (most_bytes + 1) left (omega (arith, short, few))),
       λ _. all.1 ∙ ap (λ (x : List ℕ). Some x) (nil_from_length (drop (length after) left) (omega (arith, length-drop (length after) left, long, short))),
     )

@@ -4,6 +4,8 @@
 pub mod input;
 pub mod running;
 pub mod status;
+#[cfg(test)]
+mod tests;
 
 pub use running::run;
 pub use status::Status;

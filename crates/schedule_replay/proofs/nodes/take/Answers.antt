@@ -1,6 +1,6 @@
-use Rattle.std.proofs.Common.{◌≡◌, ◌<◌, ◌≤◌, ℕ, List, length, arith, get_or, slice_get, Some, subst, ap, true, ◌⊎◌, ◌∙◌}
+use Rattle.std.proofs.Common.{◌≡◌, ◌<◌, ℕ, List, length, arith, get_or, slice_get, Some, subst, ap, true}
 use Rattle.std.proofs.lemmas.Option.{slice_get-get_or, slice_get_within}
-use Rattle.voting_config.specs.Ids.{Id, has, ascends, most_ids}
+use Rattle.voting_config.specs.Ids.{Id, has}
 use Rattle.world_model.specs.declared.acts.Message.{Message}
 use Rattle.world_model.specs.declared.acts.Message.TheVariants.{Join, Publish, Response, Commit}
 use Rattle.world_model.specs.NodeState.{NodeState, votes_of, acks_of}
@@ -9,7 +9,7 @@ use Rattle.schedule_replay.specs.declared.message.SentMessage.{SentMessage}
 use Rattle.schedule_replay.specs.declared.node.ReplayNode.{ReplayNode}
 use Rattle.schedule_replay.specs.Sent.{source_of}
 use Rattle.schedule_replay.specs.Did.{HasRoom}
-use Rattle.schedule_replay.specs.Stands.{AllStand, TakesFrom, Stands}
+use Rattle.schedule_replay.specs.Stands.{AllStand, Stands}
 use Rattle.schedule_replay.proofs.Movement.{does_at_ok, stand_length, node_at}
 use Rattle.schedule_replay.proofs.Room.{room_for_vote, room_for_ack}
 use Rattle.schedule_replay.proofs.nodes.take.Goals as goal

@@ -1,4 +1,4 @@
-use Rattle.std.proofs.Common.{arith, ◌∙◌, sym, subst, ◌≤◌}
+use Rattle.std.proofs.Common.{arith, ◌∙◌}
 use Rattle.schedule_replay.proofs.Progress.{goes_on, fails, stops, ends, same_ids, none_left}
 use Rattle.schedule_replay.proofs.replaying.replay.Goals as goal
 
@@ -15,7 +15,7 @@ loop-line-preserved g c = (
   c.line.ensures.ids ∙ c.loop-line.invariant.0,
   omega (arith, c.loop-line.invariant.1, c.hold.ensures.later),
   same_ids _ _ _ _ _ _ _ _ _ _ _ c.line.ensures.ids c.line.ensures.initial
-  (goes_on c.loop-line.replayer.ids c.loop-line.replayer.initial _ _ _ _ _ (g.S.Sink.written c.loop-line.out) _ c.loop-line.held c.hold.new.held c.clear.new.self c.line.new.text c.as_slice-lines.result.now c.loop-line.line-index c.line-item.result _ c.loop-line-test.true c.line-item.is c.clear.ensures c.loop-line.invariant.2 c.in-Ok-line.ensures.done c.in-Ok-hold.ensures.holds),
+      (goes_on c.loop-line.replayer.ids c.loop-line.replayer.initial _ _ _ _ _ (g.S.Sink.written c.loop-line.out) _ c.loop-line.held c.hold.new.held c.clear.new.self c.line.new.text c.as_slice-lines.result.now c.loop-line.line-index c.line-item.result _ c.loop-line-test.true c.line-item.is c.clear.ensures c.loop-line.invariant.2 c.in-Ok-line.ensures.done c.in-Ok-hold.ensures.holds),
 )
 
 pub returns-in_default-write_all-clause-written : goal.returns-in_default-write_all-clause-written

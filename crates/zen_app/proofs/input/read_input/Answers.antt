@@ -1,5 +1,4 @@
-use Rattle.std.proofs.Common.{arith, ◌≡◌, ◌+◌, length}
-use Rattle.schedule_text.specs.Limits.{most_bytes}
+use Rattle.std.proofs.Common.{arith}
 use Rattle.zen_app.proofs.Inputs.{more_read, read_to_end, read_enough}
 use Rattle.zen_app.proofs.input.read_input.Goals as goal
 

@@ -1,4 +1,4 @@
-use Rattle.std.proofs.Common.{sym, ◌∙◌, refl, arith, ◌≡◌, true}
+use Rattle.std.proofs.Common.{refl}
 use Rattle.zen_app.proofs.Endings.{spells_fits, spells_named, succeeded, cut_short, out_of_memory, bad}
 use Rattle.zen_app.proofs.running.run.Goals as goal
 

@@ -1,4 +1,4 @@
-use Rattle.std.proofs.Common.{◌∙◌, ◌≡◌, ap, subst, List, length, refl, ◌-◌, slice_get, Some, None}
+use Rattle.std.proofs.Common.{◌≡◌, subst, List, length, refl, ◌-◌, slice_get, Some}
 use Rattle.std.proofs.lemmas.Option.{slice_get_read}
 use Rattle.schedule_replay.specs.declared.message.SentMessage.{SentMessage}
 use Rattle.schedule_replay.proofs.Lines.{delivered, not_sent_ok, delivered_source}

@@ -1,4 +1,4 @@
-use Rattle.std.proofs.Common.{ap, length, List, ◌∙◌, ◌≡◌, subst}
+use Rattle.std.proofs.Common.{ap, length, List, ◌∙◌}
 use Rattle.std.specs.declared.vec.Vec.{Vec}
 use Rattle.std.specs.declared.alloc.Global.{Global}
 use Rattle.schedule_replay.specs.declared.node.ReplayNode.{ReplayNode}

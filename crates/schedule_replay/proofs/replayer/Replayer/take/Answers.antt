@@ -1,8 +1,7 @@
-use Rattle.std.proofs.Common.{ap, length, List, ◌∙◌, ◌≡◌, subst}
+use Rattle.std.proofs.Common.{ap}
 use Rattle.std.specs.declared.vec.Vec.{Vec}
 use Rattle.std.specs.declared.alloc.Global.{Global}
 use Rattle.schedule_replay.specs.declared.node.ReplayNode.{ReplayNode}
-use Rattle.schedule_replay.proofs.Movement.{stand_length}
 use Rattle.schedule_replay.proofs.Lines.{act_done}
 use Rattle.schedule_replay.proofs.Sources.{takes_message}
 use Rattle.schedule_replay.proofs.replayer.Replayer.take.Goals as goal

@@ -1,0 +1,61 @@
+#!/bin/sh
+# Measures the replay: lines a second, peak memory, and how the time grows with the number of lines.
+# Usage: bench/replay.sh [PROGRAM]; PROGRAM is what `rt run` leaves in crates/zen/out/zen.
+set -eu
+top=$(cd "$(dirname "$0")/.." && pwd)
+zen=${1:-$top/crates/zen/out/zen}
+work=$(mktemp -d)
+trap 'rm -rf "$work"' EXIT
+
+head='nodes a,b,c
+initial a,b,c
+boot a
+boot b
+boot c
+startjoin a a 1
+startjoin b a 1
+startjoin c a 1'
+
+# LINES lines in all, most of them repeated deliveries of one join.
+deliveries() {
+    printf '%s\n' "$head"
+    yes 'deliver a 1' | head -n "$(($1 - 8))"
+}
+
+# Rounds of an election, a value and its commit over five nodes, about LINES lines in all.
+rounds() {
+    awk -v lines="$1" 'BEGIN {
+        print "nodes a,b,c,d,e"; print "initial a,b,c,d,e"
+        split("a b c d e", n, " ")
+        for (i = 1; i <= 5; i++) print "boot " n[i]
+        m = 0; version = 0
+        for (t = 1; 27 * t < lines; t++) {
+            for (i = 1; i <= 5; i++) print "startjoin " n[i] " a " t
+            for (i = 1; i <= 5; i++) print "deliver a " m + i
+            m += 5; version++
+            print "value a " version " x a,b,c,d,e"
+            publish = ++m
+            for (i = 1; i <= 5; i++) print "deliver " n[i] " " publish
+            for (i = 1; i <= 5; i++) print "deliver a " m + i
+            m += 5
+            for (i = 1; i <= 5; i++) print "deliver " n[i] " " m + 1
+            m += 3
+        }
+    }'
+}
+
+measure() {
+    /usr/bin/time -f '%e %M' -o "$work/time" "$zen" replay --level core < "$work/schedule" > "$work/trace"
+    read -r seconds memory < "$work/time"
+}
+
+deliveries 100000 > "$work/schedule"; measure; small=$seconds
+deliveries 1000000 > "$work/schedule"; measure; large=$seconds
+awk -v s="$small" -v l="$large" -v m="$memory" 'BEGIN {
+    printf "deliveries: 1000000 lines in %.2f s, %.0f lines/s, peak %d kB\n", l, 1000000 / (l > 0 ? l : 0.01), m
+    printf "ratio of the times for 1000000 and 100000 lines: %.1f\n", l / (s > 0 ? s : 0.01)
+}'
+rounds 100000 > "$work/schedule"; measure
+awk -v l="$seconds" -v m="$memory" -v n="$(wc -l < "$work/schedule")" -v c="$(grep -c '^committed ' "$work/trace")" 'BEGIN {
+    printf "elections, values and commits over five nodes: %d lines in %.2f s, %d committed lines, peak %d kB\n", n, l, c, m
+}'

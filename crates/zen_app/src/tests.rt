@@ -1,0 +1,164 @@
+mod rows;
+
+use crate::{Status, run};
+use rows::{ENDS, SAFE, WHOLE};
+use std::alloc::{AllocError, Global};
+use std::test::Fail;
+use zen_link::{MemHost, MemSink, MemSource};
+
+// The words of a command line, and the numbers of the reads and writes that fail.
+#[derive(Drop)]
+struct Case<'a> {
+    words: &'a [&'a str],
+    input: &'a str,
+    reads: &'a [u64],
+    writes: &'a [u64],
+}
+
+const REPLAY: [&str; 3] = ["replay", "--level", "core"];
+
+fn ran(alloc: Global, case: &Case<'_>) -> Result<(Status, MemSink), AllocError> {
+    let mut words = Vec::new(alloc);
+    for word in case.words {
+        let word = String::from_str(alloc, word)?;
+        words.push(word).map_err(|_| AllocError)?;
+    }
+    let bytes = Vec::from_slice(alloc, case.input.as_bytes())?;
+    let mut source = MemSource::new(bytes, Vec::from_slice(alloc, case.reads)?);
+    let mut sink = MemSink::new(alloc, 100, Vec::from_slice(alloc, case.writes)?);
+    let status = run(
+        alloc,
+        words.as_slice(),
+        &mut source,
+        &mut sink,
+        &mut MemHost,
+    );
+    Ok((status, sink))
+}
+
+fn replayed(alloc: Global, input: &str) -> Result<(Status, MemSink), AllocError> {
+    let case = Case {
+        words: &REPLAY,
+        input,
+        reads: &[],
+        writes: &[],
+    };
+    ran(alloc, &case)
+}
+
+#[test]
+fn whole_traces(rt: HostRuntime) -> Result<(), Fail> {
+    for (name, schedule, trace) in WHOLE {
+        let (status, sink) = replayed(rt.alloc(), schedule)?;
+        assert!(rt; status == Status::Success, "{name}");
+        assert!(rt; sink.as_bytes() == trace.as_bytes(), "{name}");
+    }
+    Ok(())
+}
+
+#[test]
+fn ends_of_traces(rt: HostRuntime) -> Result<(), Fail> {
+    for (name, schedule, end) in ENDS {
+        let (status, sink) = replayed(rt.alloc(), schedule)?;
+        assert!(rt; status == Status::Success, "{name}");
+        assert!(rt; sink.as_bytes().ends_with(end.as_bytes()), "{name}");
+    }
+    Ok(())
+}
+
+#[test]
+fn what_would_be_unsafe_is_refused(rt: HostRuntime) -> Result<(), Fail> {
+    for (name, schedule, end) in SAFE {
+        let (status, sink) = replayed(rt.alloc(), schedule)?;
+        assert!(rt; status == Status::Success, "{name}");
+        assert!(rt; sink.as_bytes().ends_with(end.as_bytes()), "{name}");
+    }
+    Ok(())
+}
+
+#[test]
+fn bad_schedules(rt: HostRuntime) -> Result<(), Fail> {
+    for (schedule, line) in [
+        (
+            "nodes a\ninitial a\nboot z\n",
+            "zen: bad schedule at line 3: Id\n",
+        ),
+        (
+            "nodes a\ninitial a\ncrash a all\n",
+            "zen: bad schedule at line 3: Verb\n",
+        ),
+        ("nodes a\n", "zen: bad schedule at line 2: Header\n"),
+        (
+            "nodes a\ninitial a\nboot a",
+            "zen: bad schedule at line 3: NoNewline\n",
+        ),
+        (
+            "nodes a\ninitial a\nboot  a\n",
+            "zen: bad schedule at line 3: Arity\n",
+        ),
+        (
+            "nodes a\ninitial a\ndeliver a 0\n",
+            "zen: bad schedule at line 3: Number\n",
+        ),
+        (
+            "nodes a\ninitial a\nvalue a 1 X a\n",
+            "zen: bad schedule at line 3: Text\n",
+        ),
+        (
+            "nodes a\ninitial a\nvalue a 1 x b\n",
+            "zen: bad schedule at line 3: List\n",
+        ),
+    ] {
+        let (status, sink) = replayed(rt.alloc(), schedule)?;
+        assert!(rt; status == Status::BadSchedule, "{schedule}");
+        assert!(rt; sink.as_bytes() == line.as_bytes(), "{schedule}");
+    }
+    Ok(())
+}
+
+#[test]
+fn other_words(rt: HostRuntime) -> Result<(), Fail> {
+    for words in [
+        ["replay", "--level", "none"].as_slice(),
+        ["replay", "--level"].as_slice(),
+        ["replay", "--level=core"].as_slice(),
+        ["replay", "--level", "core", "core"].as_slice(),
+        [].as_slice(),
+    ] {
+        let case = Case {
+            words,
+            input: "nodes",
+            reads: &[1],
+            writes: &[],
+        };
+        let (status, sink) = ran(rt.alloc(), &case)?;
+        assert!(rt; status == Status::Usage);
+        assert!(rt; sink.as_bytes() == b"zen: usage\n".as_slice());
+    }
+    Ok(())
+}
+
+#[test]
+fn faults_of_the_outside(rt: HostRuntime) -> Result<(), Fail> {
+    let (_, schedule, trace) = WHOLE[0];
+    let read = Case {
+        words: &REPLAY,
+        input: schedule,
+        reads: &[2],
+        writes: &[],
+    };
+    let (status, sink) = ran(rt.alloc(), &read)?;
+    assert!(rt; status == Status::ReadFault && sink.as_bytes().is_empty());
+    for write in [1, 3] {
+        let case = Case {
+            words: &REPLAY,
+            input: schedule,
+            reads: &[],
+            writes: &[write],
+        };
+        let (status, sink) = ran(rt.alloc(), &case)?;
+        assert!(rt; status == Status::WriteFault && status.code() == 6);
+        assert!(rt; trace.as_bytes().starts_with(sink.as_bytes()));
+    }
+    Ok(())
+}
