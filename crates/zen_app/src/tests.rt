@@ -1,7 +1,9 @@
+mod random;
 mod rows;
 
 use crate::{Status, run};
 use rows::{ENDS, SAFE, WHOLE};
+use schedule_text::{read_schedule, write_schedule};
 use std::alloc::{AllocError, Global};
 use std::test::Fail;
 use zen_link::{MemHost, MemSink, MemSource};
@@ -10,12 +12,19 @@ use zen_link::{MemHost, MemSink, MemSource};
 #[derive(Drop)]
 struct Case<'a> {
     words: &'a [&'a str],
-    input: &'a str,
+    input: &'a [u8],
     reads: &'a [u64],
     writes: &'a [u64],
 }
 
 const REPLAY: [&str; 3] = ["replay", "--level", "core"];
+const OTHERS: [&[&str]; 5] = [
+    &["replay", "--level", "none"],
+    &["replay", "--level"],
+    &["replay", "--level=core"],
+    &["replay", "--level", "core", "core"],
+    &[],
+];
 
 fn ran(alloc: Global, case: &Case<'_>) -> Result<(Status, MemSink), AllocError> {
     let mut words = Vec::new(alloc);
@@ -23,7 +32,7 @@ fn ran(alloc: Global, case: &Case<'_>) -> Result<(Status, MemSink), AllocError> 
         let word = String::from_str(alloc, word)?;
         words.push(word).map_err(|_| AllocError)?;
     }
-    let bytes = Vec::from_slice(alloc, case.input.as_bytes())?;
+    let bytes = Vec::from_slice(alloc, case.input)?;
     let mut source = MemSource::new(bytes, Vec::from_slice(alloc, case.reads)?);
     let mut sink = MemSink::new(alloc, 100, Vec::from_slice(alloc, case.writes)?);
     let status = run(
@@ -36,7 +45,7 @@ fn ran(alloc: Global, case: &Case<'_>) -> Result<(Status, MemSink), AllocError> 
     Ok((status, sink))
 }
 
-fn replayed(alloc: Global, input: &str) -> Result<(Status, MemSink), AllocError> {
+fn replayed(alloc: Global, input: &[u8]) -> Result<(Status, MemSink), AllocError> {
     let case = Case {
         words: &REPLAY,
         input,
@@ -49,7 +58,7 @@ fn replayed(alloc: Global, input: &str) -> Result<(Status, MemSink), AllocError>
 #[test]
 fn whole_traces(rt: HostRuntime) -> Result<(), Fail> {
     for (name, schedule, trace) in WHOLE {
-        let (status, sink) = replayed(rt.alloc(), schedule)?;
+        let (status, sink) = replayed(rt.alloc(), schedule.as_bytes())?;
         assert!(rt; status == Status::Success, "{name}");
         assert!(rt; sink.as_bytes() == trace.as_bytes(), "{name}");
     }
@@ -59,7 +68,7 @@ fn whole_traces(rt: HostRuntime) -> Result<(), Fail> {
 #[test]
 fn ends_of_traces(rt: HostRuntime) -> Result<(), Fail> {
     for (name, schedule, end) in ENDS {
-        let (status, sink) = replayed(rt.alloc(), schedule)?;
+        let (status, sink) = replayed(rt.alloc(), schedule.as_bytes())?;
         assert!(rt; status == Status::Success, "{name}");
         assert!(rt; sink.as_bytes().ends_with(end.as_bytes()), "{name}");
     }
@@ -69,7 +78,7 @@ fn ends_of_traces(rt: HostRuntime) -> Result<(), Fail> {
 #[test]
 fn what_would_be_unsafe_is_refused(rt: HostRuntime) -> Result<(), Fail> {
     for (name, schedule, end) in SAFE {
-        let (status, sink) = replayed(rt.alloc(), schedule)?;
+        let (status, sink) = replayed(rt.alloc(), schedule.as_bytes())?;
         assert!(rt; status == Status::Success, "{name}");
         assert!(rt; sink.as_bytes().ends_with(end.as_bytes()), "{name}");
     }
@@ -109,7 +118,7 @@ fn bad_schedules(rt: HostRuntime) -> Result<(), Fail> {
             "zen: bad schedule at line 3: List\n",
         ),
     ] {
-        let (status, sink) = replayed(rt.alloc(), schedule)?;
+        let (status, sink) = replayed(rt.alloc(), schedule.as_bytes())?;
         assert!(rt; status == Status::BadSchedule, "{schedule}");
         assert!(rt; sink.as_bytes() == line.as_bytes(), "{schedule}");
     }
@@ -118,16 +127,10 @@ fn bad_schedules(rt: HostRuntime) -> Result<(), Fail> {
 
 #[test]
 fn other_words(rt: HostRuntime) -> Result<(), Fail> {
-    for words in [
-        ["replay", "--level", "none"].as_slice(),
-        ["replay", "--level"].as_slice(),
-        ["replay", "--level=core"].as_slice(),
-        ["replay", "--level", "core", "core"].as_slice(),
-        [].as_slice(),
-    ] {
+    for words in OTHERS {
         let case = Case {
             words,
-            input: "nodes",
+            input: b"nodes",
             reads: &[1],
             writes: &[],
         };
@@ -143,7 +146,7 @@ fn faults_of_the_outside(rt: HostRuntime) -> Result<(), Fail> {
     let (_, schedule, trace) = WHOLE[0];
     let read = Case {
         words: &REPLAY,
-        input: schedule,
+        input: schedule.as_bytes(),
         reads: &[2],
         writes: &[],
     };
@@ -152,13 +155,31 @@ fn faults_of_the_outside(rt: HostRuntime) -> Result<(), Fail> {
     for write in [1, 3] {
         let case = Case {
             words: &REPLAY,
-            input: schedule,
+            input: schedule.as_bytes(),
             reads: &[],
             writes: &[write],
         };
         let (status, sink) = ran(rt.alloc(), &case)?;
         assert!(rt; status == Status::WriteFault && status.code() == 6);
         assert!(rt; trace.as_bytes().starts_with(sink.as_bytes()));
+    }
+    Ok(())
+}
+
+#[test]
+fn random_schedules(rt: HostRuntime) -> Result<(), Fail> {
+    for seed in [1, 2, 3, 20_261_126, u64::MAX] {
+        let drawn = random::schedule(rt.alloc(), seed)?;
+        assert!(rt; drawn.lines.as_slice().len() == 200, "{seed}");
+        let text = write_schedule(rt.alloc(), &drawn)?;
+        let read = read_schedule(rt.alloc(), text.as_bytes());
+        assert!(rt; read.is_ok(), "{seed}");
+        if let Ok(read) = read {
+            let again = write_schedule(rt.alloc(), &read)?;
+            assert!(rt; again.as_bytes() == text.as_bytes(), "{seed}");
+        }
+        let (status, _) = replayed(rt.alloc(), text.as_bytes())?;
+        assert!(rt; status == Status::Success, "{seed}");
     }
     Ok(())
 }
