@@ -1,5 +1,5 @@
 -- One more entry is one more act.
-use Rattle.std.proofs.Common.{◌≡◌, ◌∷◌, arith, ◌≤◌, ◌<◌, ℕ, ◌+◌, List, [], ◌++◌, length, refl, sym, ◌∙◌, ap, take, get_or}
+use Rattle.std.proofs.Common.{◌≡◌, ◌∷◌, ◌≤◌, ◌<◌, ℕ, ◌+◌, List, [], ◌++◌, length, refl, sym, ◌∙◌, ap, take, get_or}
 use Rattle.std.proofs.lemmas.List.{take_more, take_all}
 use Rattle.world_model.specs.Acts.{NodeHistory, NoActs, Then}
 use Rattle.reference_model.specs.declared.entry.Entry.{Entry}

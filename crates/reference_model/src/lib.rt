@@ -2,6 +2,7 @@
 #![tactic(auto)]
 
 pub mod answer;
+pub mod disk;
 pub mod durable;
 pub mod entry;
 pub mod no_answer;
@@ -12,8 +13,9 @@ pub mod round;
 mod tests;
 
 pub use answer::reply;
+pub use disk::stopped;
 pub use durable::{accepted, committed, term};
 pub use entry::Entry;
 pub use no_answer::NoAnswer;
 pub use node_now::NodeNow;
-pub use round::{acks, config, started, stopped, version, votes, won};
+pub use round::{acks, config, started, version, votes, won};

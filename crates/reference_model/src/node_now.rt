@@ -2,10 +2,11 @@ ghost use Rattle.std.specs.Prelude.{◌≡◌, IfOk};
 ghost use Rattle.world_model.specs.NodeState.{node_state};
 ghost use Rattle.reference_model.specs.Model.{history_of, seen};
 
+use crate::disk::stopped;
 use crate::durable::{accepted, committed, term};
 use crate::entry::Entry;
 use crate::no_answer::NoAnswer;
-use crate::round::{acks, config, started, stopped, version, votes, won};
+use crate::round::{acks, config, started, version, votes, won};
 use cluster_state::ClusterState;
 use std::alloc::Global;
 use voting_config::{NodeSet, VotingConfig};

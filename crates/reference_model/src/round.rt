@@ -1,7 +1,7 @@
 //! What a node did in the round that began with its last start of a join, looked up among its entries.
-ghost use Rattle.std.specs.Prelude.{◌≡◌, IfOk};
+ghost use Rattle.std.specs.Prelude.{◌≡◌, IfOk, cond, []};
 ghost use Rattle.world_model.specs.Acts.{NodeHistory, Then};
-ghost use Rattle.world_model.specs.NodeState.{accepted_of, started_of, votes_of, won_of, version_of, config_of, acks_of, stopped_of};
+ghost use Rattle.world_model.specs.NodeState.{accepted_of, started_of, votes_of, won_of, version_of, config_of, acks_of};
 ghost use Rattle.reference_model.specs.Model.{history_of};
 
 use crate::durable::accepted_after;
@@ -37,17 +37,18 @@ pub fn started(entries: &[Entry]) -> bool
     started
 }
 
+// The empty set where it is emptied.
+fn emptied(set: NodeSet, is_emptied: bool) -> NodeSet
+    ensures { result ≡ cond is_emptied [] set }
+{
+    if is_emptied { NodeSet::new() } else { set }
+}
+
 fn votes_after(mut votes: NodeSet, entry: &Entry) -> Result<NodeSet, Full>
     ensures { IfOk result (λ v. (g : NodeHistory) → votes ≡ votes_of g → v ≡ votes_of (Then g entry.now.act entry.now.outcome)) }
 {
     match &entry.act {
-        Act::StartJoin(_, _) => {
-            if entry.is_ok() {
-                Ok(NodeSet::new())
-            } else {
-                Ok(votes)
-            }
-        }
+        Act::StartJoin(_, _) => Ok(emptied(votes, entry.is_ok())),
         Act::TakeJoin(join) => {
             if entry.is_ok() {
                 votes.insert(join.source)?;
@@ -182,20 +183,8 @@ fn acks_after(mut acks: NodeSet, entry: &Entry) -> Result<NodeSet, Full>
     ensures { IfOk result (λ v. (g : NodeHistory) → acks ≡ acks_of g → v ≡ acks_of (Then g entry.now.act entry.now.outcome)) }
 {
     match &entry.act {
-        Act::StartJoin(_, _) => {
-            if entry.is_ok() {
-                Ok(NodeSet::new())
-            } else {
-                Ok(acks)
-            }
-        }
-        Act::Value(_, _, _) => {
-            if entry.is_ok() {
-                Ok(NodeSet::new())
-            } else {
-                Ok(acks)
-            }
-        }
+        Act::StartJoin(_, _) => Ok(emptied(acks, entry.is_ok())),
+        Act::Value(_, _, _) => Ok(emptied(acks, entry.is_ok())),
         Act::Response(response) => {
             if entry.is_ok() {
                 acks.insert(response.source)?;
@@ -220,30 +209,4 @@ pub fn acks(entries: &[Entry]) -> Result<NodeSet, Full>
         acks = acks_after(acks, entry)?;
     }
     Ok(acks)
-}
-
-fn stopped_after(stopped: bool, entry: &Entry) -> bool
-    ensures { (g : NodeHistory) → stopped ≡ stopped_of g → result ≡ stopped_of (Then g entry.now.act entry.now.outcome) }
-{
-    match &entry.act {
-        Act::Open(_) => false,
-        Act::StartJoin(_, _) => entry.is_disk() || stopped,
-        Act::Bootstrap(_) => entry.is_disk() || stopped,
-        Act::TakeJoin(_) => entry.is_disk() || stopped,
-        Act::Value(_, _, _) => entry.is_disk() || stopped,
-        Act::Publish(_) => entry.is_disk() || stopped,
-        Act::Response(_) => entry.is_disk() || stopped,
-        Act::Commit(_) => entry.is_disk() || stopped,
-    }
-}
-
-/// Whether the disk failed since the node was last opened.
-pub fn stopped(entries: &[Entry]) -> bool
-    ensures { result ≡ stopped_of (history_of entries.now) }
-{
-    let mut stopped = false;
-    for entry in entries {
-        stopped = stopped_after(stopped, entry);
-    }
-    stopped
 }
