@@ -1,6 +1,6 @@
-ghost use Rattle.std.specs.Prelude.{◌≡◌, IfOk};
+ghost use Rattle.std.specs.Prelude.{◌≡◌, IfOk, IfErr};
 ghost use Rattle.world_model.specs.Replies.{reply_at, reply_of, unless_stopped};
-ghost use Rattle.reference_model.specs.Model.{history_of, seen};
+ghost use Rattle.reference_model.specs.Model.{history_of, seen, Excuses, ExcusesNode};
 
 use crate::entry::Entry;
 use crate::no_answer::NoAnswer;
@@ -18,7 +18,8 @@ impl NodeNow {
 
     /// What the node answers to an act, by what it is.
     pub fn reply(&self, me: NodeId, act: &Act) -> Result<Reply, NoAnswer>
-        ensures { IfOk result (λ r. r ≡ reply_at me (seen self.now) act.now) }
+        ensures value { IfOk result (λ r. r ≡ reply_at me (seen self.now) act.now) }
+        ensures err { IfErr result (ExcusesNode self.now) }
     {
         let reply = match act {
             Act::Bootstrap(config) => self.bootstrap_reply(config),
@@ -34,10 +35,11 @@ impl NodeNow {
     }
 }
 
-/// What the node `me` answers to an act after these entries, the oldest first. Nothing is answered where memory runs out, or where
-/// there are more votes or responses than a set of ids holds.
+/// What the node `me` answers to an act after these entries, the oldest first. Nothing is answered only where memory runs out, or where
+/// at some moment there were as many votes or responses as a set of ids holds.
 pub fn reply(alloc: Global, me: NodeId, entries: &[Entry], act: &Act) -> Result<Reply, NoAnswer>
-    ensures { IfOk result (λ r. r ≡ reply_of me (history_of entries.now) act.now) }
+    ensures value { IfOk result (λ r. r ≡ reply_of me (history_of entries.now) act.now) }
+    ensures err { IfErr result (Excuses entries.now) }
 {
     let node = NodeNow::after(alloc, entries)?;
     node.reply(me, act)

@@ -1,6 +1,6 @@
-ghost use Rattle.std.specs.Prelude.{◌≡◌, IfOk};
+ghost use Rattle.std.specs.Prelude.{◌≡◌, IfOk, IfErr};
 ghost use Rattle.world_model.specs.NodeState.{node_state};
-ghost use Rattle.reference_model.specs.Model.{history_of, seen};
+ghost use Rattle.reference_model.specs.Model.{history_of, seen, Excuses};
 
 use crate::disk::stopped;
 use crate::durable::{accepted, committed, term};
@@ -29,7 +29,8 @@ pub struct NodeNow {
 impl NodeNow {
     /// What the node is after these entries.
     pub fn after(alloc: Global, entries: &[Entry]) -> Result<NodeNow, NoAnswer>
-        ensures { IfOk result (λ n. seen n ≡ node_state (history_of entries.now)) }
+        ensures value { IfOk result (λ n. seen n ≡ node_state (history_of entries.now)) }
+        ensures err { IfErr result (Excuses entries.now) }
     {
         let accepted = accepted(alloc, entries)?;
         let committed = committed(alloc, entries)?;

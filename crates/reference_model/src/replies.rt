@@ -1,10 +1,10 @@
 //! What a node answers to each act, by what it is.
-ghost use Rattle.std.specs.Prelude.{◌≡◌, IfOk};
+ghost use Rattle.std.specs.Prelude.{◌≡◌, IfOk, IfErr};
 ghost use Rattle.cluster_state.specs.JoinCheck.{join_checked};
 ghost use Rattle.cluster_state.specs.States.{id_of};
 ghost use Rattle.voting_config.specs.Ids.{with_id};
 ghost use Rattle.world_model.specs.Replies.{bootstrap_reply, start_reply, join_reply, value_reply, publish_reply, response_reply, commit_reply, elects, commits, commit_sent};
-ghost use Rattle.reference_model.specs.Model.{seen};
+ghost use Rattle.reference_model.specs.Model.{seen, ExcusesNode};
 
 use crate::no_answer::NoAnswer;
 use crate::node_now::NodeNow;
@@ -94,7 +94,8 @@ impl NodeNow {
 
     /// What the node answers to a join.
     pub fn join_reply(&self, me: NodeId, join: &Join) -> Result<Reply, NoAnswer>
-        ensures { IfOk result (λ r. r ≡ join_reply me (seen self.now) join.now) }
+        ensures value { IfOk result (λ r. r ≡ join_reply me (seen self.now) join.now) }
+        ensures err { IfErr result (ExcusesNode self.now) }
     {
         if let Err(cause) = self.check_join(me, join) {
             return Ok(Reply::Refused(Cause::Join(cause)));
@@ -112,7 +113,8 @@ impl NodeNow {
         config: &VotingConfig,
         value: &ClusterValue,
     ) -> Result<Reply, NoAnswer>
-        ensures { IfOk result (λ r. r ≡ value_reply me (seen self.now) version config.now value.now) }
+        ensures value { IfOk result (λ r. r ≡ value_reply me (seen self.now) version config.now value.now) }
+        ensures err { IfErr result (ExcusesNode self.now) }
     {
         let refused = |cause| Ok(Reply::Refused(Cause::Value(cause)));
         let accepted = self.accepted.version;
@@ -181,7 +183,8 @@ impl NodeNow {
         me: NodeId,
         response: &PublishResponse,
     ) -> Result<Option<Message>, NoAnswer>
-        ensures { IfOk result (λ m. m ≡ commit_sent me (seen self.now) response.now) }
+        ensures value { IfOk result (λ m. m ≡ commit_sent me (seen self.now) response.now) }
+        ensures err { IfErr result (ExcusesNode self.now) }
     {
         let mut acks = self.acks.copy();
         acks.insert(response.source)?;
@@ -197,7 +200,8 @@ impl NodeNow {
 
     /// What the node answers to the response to a publication.
     pub fn response_reply(&self, me: NodeId, response: &PublishResponse) -> Result<Reply, NoAnswer>
-        ensures { IfOk result (λ r. r ≡ response_reply me (seen self.now) response.now) }
+        ensures value { IfOk result (λ r. r ≡ response_reply me (seen self.now) response.now) }
+        ensures err { IfErr result (ExcusesNode self.now) }
     {
         let refused = |cause| Ok(Reply::Refused(Cause::Response(cause)));
         if response.target != me {

@@ -1,8 +1,9 @@
 //! What a node did in the round that began with its last start of a join, looked up among its entries.
-ghost use Rattle.std.specs.Prelude.{◌≡◌, IfOk, cond, []};
+ghost use Rattle.std.specs.Prelude.{◌≡◌, IfOk, OnErr, cond, [], length};
+ghost use Rattle.voting_config.specs.Ids.{most_ids};
 ghost use Rattle.world_model.specs.Acts.{NodeHistory, Then};
 ghost use Rattle.world_model.specs.NodeState.{accepted_of, started_of, votes_of, won_of, version_of, config_of, acks_of};
-ghost use Rattle.reference_model.specs.Model.{history_of};
+ghost use Rattle.reference_model.specs.Model.{history_of, WereFull};
 
 use crate::durable::accepted_after;
 use crate::entry::Entry;
@@ -45,7 +46,8 @@ fn emptied(set: NodeSet, is_emptied: bool) -> NodeSet
 }
 
 fn votes_after(mut votes: NodeSet, entry: &Entry) -> Result<NodeSet, Full>
-    ensures { IfOk result (λ v. (g : NodeHistory) → votes ≡ votes_of g → v ≡ votes_of (Then g entry.now.act entry.now.outcome)) }
+    ensures value { IfOk result (λ v. (g : NodeHistory) → votes ≡ votes_of g → v ≡ votes_of (Then g entry.now.act entry.now.outcome)) }
+    ensures full { OnErr result (length votes ≡ most_ids) }
 {
     match &entry.act {
         Act::StartJoin(_, _) => Ok(emptied(votes, entry.is_ok())),
@@ -64,9 +66,11 @@ fn votes_after(mut votes: NodeSet, entry: &Entry) -> Result<NodeSet, Full>
     }
 }
 
-/// The sources of the joins that were taken in this round. `Full` where they were more than a set holds.
+/// The sources of the joins that were taken in this round. `Full` only where at some moment they
+/// were as many as a set holds.
 pub fn votes(entries: &[Entry]) -> Result<NodeSet, Full>
-    ensures { IfOk result (λ v. v ≡ votes_of (history_of entries.now)) }
+    ensures value { IfOk result (λ v. v ≡ votes_of (history_of entries.now)) }
+    ensures full { OnErr result (WereFull votes_of entries.now) }
 {
     let mut votes = NodeSet::new();
     for entry in entries {
@@ -180,7 +184,8 @@ pub fn config(alloc: Global, entries: &[Entry]) -> Result<VotingConfig, AllocErr
 }
 
 fn acks_after(mut acks: NodeSet, entry: &Entry) -> Result<NodeSet, Full>
-    ensures { IfOk result (λ v. (g : NodeHistory) → acks ≡ acks_of g → v ≡ acks_of (Then g entry.now.act entry.now.outcome)) }
+    ensures value { IfOk result (λ v. (g : NodeHistory) → acks ≡ acks_of g → v ≡ acks_of (Then g entry.now.act entry.now.outcome)) }
+    ensures full { OnErr result (length acks ≡ most_ids) }
 {
     match &entry.act {
         Act::StartJoin(_, _) => Ok(emptied(acks, entry.is_ok())),
@@ -199,10 +204,11 @@ fn acks_after(mut acks: NodeSet, entry: &Entry) -> Result<NodeSet, Full>
     }
 }
 
-/// The sources of the responses that were taken since the round's last value, or in the round where there is none. `Full` where
-/// they were more than a set holds.
+/// The sources of the responses that were taken since the round's last value, or in the round where there is none. `Full`
+/// only where at some moment they were as many as a set holds.
 pub fn acks(entries: &[Entry]) -> Result<NodeSet, Full>
-    ensures { IfOk result (λ v. v ≡ acks_of (history_of entries.now)) }
+    ensures value { IfOk result (λ v. v ≡ acks_of (history_of entries.now)) }
+    ensures full { OnErr result (WereFull acks_of entries.now) }
 {
     let mut acks = NodeSet::new();
     for entry in entries {
