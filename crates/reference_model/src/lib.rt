@@ -1,0 +1,21 @@
+//! The definitions of what a node answers, as a plain program: it looks through all acts of the node so far, and keeps nothing.
+#![tactic(auto)]
+
+pub mod answer;
+pub mod disk;
+pub mod durable;
+pub mod entry;
+pub mod no_answer;
+pub mod node_now;
+pub mod replies;
+pub mod round;
+#[cfg(test)]
+mod tests;
+
+pub use answer::reply;
+pub use disk::stopped;
+pub use durable::{accepted, committed, term};
+pub use entry::Entry;
+pub use no_answer::NoAnswer;
+pub use node_now::NodeNow;
+pub use round::{acks, config, started, version, votes, won};

@@ -1,0 +1,365 @@
+use crate::{Entry, reply};
+use cluster_state::{
+    ApplyCommit, ClusterState, ClusterValue, CommitCause, InitialCause, Join, JoinCause, Kept,
+    PublishCause, PublishRequest, PublishResponse, ResponseCause, StartCause, ValueCause,
+};
+use coord_state::{ActError, CoordState, Joined};
+use state_journal::{PlainKeeper, Ready};
+use std::alloc::{AllocError, Global};
+use std::test::Fail;
+use voting_config::{NodeId, NodeSet, VotingConfig};
+use world_model::{Act, Cause, Message, Outcome, Reply};
+
+// What the core answered. A plain keeper has no faults.
+
+fn initial_reply(answer: Result<(), ActError<InitialCause, Ready>>) -> Reply {
+    match answer {
+        Ok(()) => Reply::Taken(None, false),
+        Err(ActError::Refused(cause, _)) => Reply::Refused(Cause::Initial(cause)),
+        Err(ActError::Stopped(_)) => Reply::Stopped,
+        Err(ActError::Disk) => Reply::Stopped,
+    }
+}
+
+fn start_reply(answer: Result<Join, ActError<StartCause, ()>>) -> Reply {
+    match answer {
+        Ok(join) => Reply::Taken(Some(Message::Join(join)), false),
+        Err(ActError::Refused(cause, _)) => Reply::Refused(Cause::Start(cause)),
+        Err(ActError::Stopped(_)) => Reply::Stopped,
+        Err(ActError::Disk) => Reply::Stopped,
+    }
+}
+
+fn join_reply(answer: Result<Joined, ActError<JoinCause, ()>>) -> Reply {
+    match answer {
+        Ok(joined) => Reply::Taken(None, joined.won),
+        Err(ActError::Refused(cause, _)) => Reply::Refused(Cause::Join(cause)),
+        Err(ActError::Stopped(_)) => Reply::Stopped,
+        Err(ActError::Disk) => Reply::Stopped,
+    }
+}
+
+fn value_reply(
+    answer: Result<PublishRequest, ActError<ValueCause, (VotingConfig, ClusterValue)>>,
+) -> Reply {
+    match answer {
+        Ok(request) => Reply::Taken(Some(Message::Publish(request)), false),
+        Err(ActError::Refused(cause, _)) => Reply::Refused(Cause::Value(cause)),
+        Err(ActError::Stopped(_)) => Reply::Stopped,
+        Err(ActError::Disk) => Reply::Stopped,
+    }
+}
+
+fn publish_reply(answer: Result<PublishResponse, ActError<PublishCause, Ready>>) -> Reply {
+    match answer {
+        Ok(response) => Reply::Taken(Some(Message::Response(response)), false),
+        Err(ActError::Refused(cause, _)) => Reply::Refused(Cause::Publish(cause)),
+        Err(ActError::Stopped(_)) => Reply::Stopped,
+        Err(ActError::Disk) => Reply::Stopped,
+    }
+}
+
+fn response_reply(answer: Result<Option<ApplyCommit>, ActError<ResponseCause, ()>>) -> Reply {
+    match answer {
+        Ok(None) => Reply::Taken(None, false),
+        Ok(Some(commit)) => Reply::Taken(Some(Message::Commit(commit)), false),
+        Err(ActError::Refused(cause, _)) => Reply::Refused(Cause::Response(cause)),
+        Err(ActError::Stopped(_)) => Reply::Stopped,
+        Err(ActError::Disk) => Reply::Stopped,
+    }
+}
+
+fn commit_reply(answer: Result<(), ActError<CommitCause, ()>>) -> Reply {
+    match answer {
+        Ok(()) => Reply::Taken(None, false),
+        Err(ActError::Refused(cause, _)) => Reply::Refused(Cause::Commit(cause)),
+        Err(ActError::Stopped(_)) => Reply::Stopped,
+        Err(ActError::Disk) => Reply::Stopped,
+    }
+}
+
+// Does the act in the core.
+fn core_reply(
+    alloc: Global,
+    node: &mut CoordState<PlainKeeper>,
+    act: &Act,
+) -> Result<Reply, AllocError> {
+    if node.votes().len() == 32 || node.acks().len() == 32 {
+        return Err(AllocError);
+    }
+    match act {
+        Act::Bootstrap(config) => {
+            let initial = Ready::initial(alloc, config.members());
+            Ok(initial_reply(node.set_initial(initial)))
+        }
+        Act::StartJoin(candidate, term) => Ok(start_reply(node.start_join(*candidate, *term))),
+        Act::TakeJoin(join) => Ok(join_reply(node.join(join))),
+        Act::Value(version, config, value) => {
+            let config = VotingConfig::of(config.members());
+            let value = value.copy()?;
+            Ok(value_reply(node.client_value(*version, config, value)))
+        }
+        Act::Publish(request) => {
+            let state = Ready::new(request.state.copy()?);
+            Ok(publish_reply(node.publish_request(request.source, state)))
+        }
+        Act::Response(response) => Ok(response_reply(node.publish_response(response))),
+        Act::Commit(commit) => Ok(commit_reply(node.commit(commit))),
+        Act::Open(_) => Ok(Reply::Taken(None, false)),
+    }
+}
+
+// A reply as a text.
+
+fn ids_text(alloc: Global, ids: &NodeSet) -> Result<String, AllocError> {
+    let mut text = String::new(alloc);
+    for id in ids.as_slice() {
+        text.push_str(id.as_str())?;
+    }
+    Ok(text)
+}
+
+fn state_text(alloc: Global, state: &ClusterState) -> Result<String, AllocError> {
+    let config = ids_text(alloc, state.config.members())?;
+    let committed = ids_text(alloc, state.committed.members())?;
+    let members = ids_text(alloc, &state.value.members)?;
+    let term = state.term;
+    let version = state.version;
+    format!(in alloc; "{term}/{version} {config} {committed} {members}")
+}
+
+fn message_text(alloc: Global, message: &Message) -> Result<String, AllocError> {
+    match message {
+        Message::Join(j) => {
+            format!(in alloc;
+                "join {} {} {} {}/{}",
+                j.source, j.target, j.term, j.last_term, j.last_version
+            )
+        }
+        Message::Publish(request) => {
+            let state = state_text(alloc, &request.state)?;
+            format!(in alloc; "publish {} {}", request.source, state)
+        }
+        Message::Response(r) => {
+            format!(in alloc;
+                "response {} {} {}/{}",
+                r.source, r.target, r.term, r.version
+            )
+        }
+        Message::Commit(c) => format!(in alloc; "commit {} {}/{}", c.source, c.term, c.version),
+    }
+}
+
+fn taken_text(alloc: Global, sends: &Option<Message>, won: bool) -> Result<String, AllocError> {
+    match sends {
+        Some(message) => message_text(alloc, message),
+        None => format!(in alloc; "won={won}"),
+    }
+}
+
+fn reply_text(alloc: Global, reply: &Reply) -> Result<String, AllocError> {
+    match reply {
+        Reply::Taken(sends, won) => taken_text(alloc, sends, *won),
+        Reply::Refused(cause) => format!(in alloc; "{cause:?}"),
+        Reply::Stopped => format!(in alloc; "stopped"),
+    }
+}
+
+// A node of the core, and what it did.
+#[derive(Drop)]
+struct Driven {
+    me: NodeId,
+    node: CoordState<PlainKeeper>,
+    entries: Vec<Entry>,
+}
+
+fn opened(alloc: Global, me: NodeId) -> Result<Driven, AllocError> {
+    let mut entries = Vec::new(alloc);
+    entries.push(Entry {
+        act: Act::Open(Kept::empty(alloc)),
+        outcome: Outcome::Answered(Reply::Taken(None, false)),
+    })?;
+    Ok(Driven {
+        me,
+        node: CoordState::new(me, PlainKeeper::new(alloc)),
+        entries,
+    })
+}
+
+// The text itself where it is not the wanted one.
+fn same(text: String, wanted: &str) -> Result<(), String> {
+    if text.as_str() == wanted {
+        Ok(())
+    } else {
+        Err(text)
+    }
+}
+
+impl Driven {
+    // Does the act, which the core and the model both answer so.
+    fn does(&mut self, alloc: Global, act: Act, wanted: &str) -> Result<(), Fail> {
+        let modelled = reply(alloc, self.me, self.entries.as_slice(), &act)?;
+        same(reply_text(alloc, &modelled)?, wanted)?;
+        let answered = core_reply(alloc, &mut self.node, &act)?;
+        same(reply_text(alloc, &answered)?, wanted)?;
+        self.entries.push(Entry {
+            act,
+            outcome: Outcome::Answered(answered),
+        })?;
+        Ok(())
+    }
+}
+
+fn id(text: &str) -> NodeId {
+    NodeId::parse(text).unwrap_or(NodeId::default())
+}
+
+// The configuration of these nodes, each of one byte.
+fn config(letters: &[u8]) -> VotingConfig {
+    let mut ids = NodeSet::new();
+    for letter in letters {
+        if let Some(id) = NodeId::from_bytes(&[*letter]) {
+            let _ = ids.insert(id);
+        }
+    }
+    VotingConfig::of(&ids)
+}
+
+fn join(source: &str) -> Act {
+    Act::TakeJoin(Join {
+        source: id(source),
+        target: id("a"),
+        term: 1,
+        last_term: 0,
+        last_version: 0,
+    })
+}
+
+fn value(alloc: Global, version: u64, letters: &[u8]) -> Act {
+    Act::Value(version, config(letters), ClusterValue::empty(alloc))
+}
+
+// The state that a publishes in term 1.
+fn published(alloc: Global, version: u64, letters: &[u8]) -> Act {
+    let state = ClusterState {
+        term: 1,
+        version,
+        config: config(letters),
+        committed: config(b"abc"),
+        value: ClusterValue::empty(alloc),
+    };
+    Act::Publish(PublishRequest {
+        source: id("a"),
+        state,
+    })
+}
+
+fn response(source: &str) -> Act {
+    Act::Response(PublishResponse {
+        source: id(source),
+        target: id("a"),
+        term: 1,
+        version: 1,
+    })
+}
+
+fn commit() -> Act {
+    Act::Commit(ApplyCommit {
+        source: id("a"),
+        term: 1,
+        version: 1,
+    })
+}
+
+// A node that started a join for a, with the join as a text.
+fn joining(alloc: Global, me: &str, wanted: &str) -> Result<Driven, Fail> {
+    let mut node = opened(alloc, id(me))?;
+    node.does(alloc, Act::Bootstrap(config(b"abc")), "won=false")?;
+    node.does(alloc, Act::StartJoin(id("a"), 1), wanted)?;
+    Ok(node)
+}
+
+// a, which won.
+fn winner(alloc: Global) -> Result<Driven, Fail> {
+    let mut a = joining(alloc, "a", "join a a 1 0/0")?;
+    a.does(alloc, join("a"), "won=false")?;
+    a.does(alloc, join("b"), "won=true")?;
+    Ok(a)
+}
+
+// a, which published its first value and accepted it.
+fn publisher(alloc: Global) -> Result<Driven, Fail> {
+    let mut a = winner(alloc)?;
+    a.does(alloc, value(alloc, 1, b"abc"), "publish a 1/1 abc abc ")?;
+    a.does(alloc, published(alloc, 1, b"abc"), "response a a 1/1")?;
+    Ok(a)
+}
+
+#[test]
+fn a_quorum_elects_once(rt: HostRuntime) -> Result<(), Fail> {
+    let alloc = rt.alloc();
+    joining(alloc, "b", "join b a 1 0/0")?;
+    joining(alloc, "c", "join c a 1 0/0")?;
+    let mut a = winner(alloc)?;
+    a.does(alloc, join("b"), "won=false")?;
+    a.does(alloc, Act::Bootstrap(config(b"ab")), "Initial(AlreadySet)")
+}
+
+#[test]
+fn a_quorum_commits(rt: HostRuntime) -> Result<(), Fail> {
+    let alloc = rt.alloc();
+    let mut a = publisher(alloc)?;
+    let mut b = joining(alloc, "b", "join b a 1 0/0")?;
+    b.does(alloc, published(alloc, 1, b"abc"), "response b a 1/1")?;
+    a.does(alloc, response("a"), "won=false")?;
+    a.does(alloc, response("b"), "commit a 1/1")?;
+    a.does(alloc, commit(), "won=false")?;
+    let mut c = joining(alloc, "c", "join c a 1 0/0")?;
+    c.does(alloc, commit(), "Commit(AcceptedTermMismatch(0, 1))")
+}
+
+#[test]
+fn one_change_of_the_configuration(rt: HostRuntime) -> Result<(), Fail> {
+    let alloc = rt.alloc();
+    let mut a = publisher(alloc)?;
+    a.does(alloc, value(alloc, 2, b"ab"), "publish a 1/2 ab abc ")?;
+    a.does(alloc, commit(), "Commit(Publishing(1, 2))")?;
+    a.does(alloc, published(alloc, 2, b"ab"), "response a a 1/2")?;
+    a.does(alloc, value(alloc, 3, b"abc"), "Value(Reconfiguring)")
+}
+
+fn fresher() -> Act {
+    Act::TakeJoin(Join {
+        source: id("b"),
+        target: id("a"),
+        term: 1,
+        last_term: 0,
+        last_version: 1,
+    })
+}
+
+fn early() -> Act {
+    Act::TakeJoin(Join {
+        source: id("b"),
+        target: id("a"),
+        term: 0,
+        last_term: 0,
+        last_version: 0,
+    })
+}
+
+#[test]
+fn refusals(rt: HostRuntime) -> Result<(), Fail> {
+    let alloc = rt.alloc();
+    let mut a = opened(alloc, id("a"))?;
+    a.does(alloc, early(), "Join(NotStarted)")?;
+    a.does(
+        alloc,
+        Act::StartJoin(id("a"), 0),
+        "Start(TermNotGreater(0, 0))",
+    )?;
+    let mut b = joining(alloc, "b", "join b a 1 0/0")?;
+    b.does(alloc, join("b"), "Join(NotForMe(a))")?;
+    let mut a = joining(alloc, "a", "join a a 1 0/0")?;
+    a.does(alloc, fresher(), "Join(FresherVersion(0, 1))")
+}
