@@ -52,10 +52,7 @@ pub fn read_input<S: Source>(alloc: Global, input: &mut S) -> Result<Vec<u8>, In
     let mut bytes = Vec::new(alloc);
     while bytes.len() <= MAX_BYTES {
         let wanted = (MAX_BYTES + 1 - bytes.len()).min(CHUNK_BYTES);
-        let count = match read_chunk(input, &mut bytes, wanted) {
-            Ok(count) => count,
-            Err(error) => return Err(error),
-        };
+        let count = read_chunk(input, &mut bytes, wanted)?;
         if count == 0 {
             return Ok(bytes);
         }

@@ -4,12 +4,12 @@ use Rattle.zen_app.proofs.input.read_input.Goals as goal
 
 pub returns-then-count-eq0-clause-read : goal.returns-then-count-eq0-clause-read
 returns-then-count-eq0-clause-read g c =
-    read_to_end _ (g.S.Source.left c.loop-bytes.input) _ c.loop-bytes.bytes.items c.read_chunk.new.bytes.items c.in-Ok.count c.loop-bytes.invariant.0 c.in-Ok.ensures.read (cc) (omega (arith, c.loop-bytes-test.true, c.len.ensures, c.loop-bytes.bytes.ok))
+    read_to_end _ (g.S.Source.left c.loop-bytes.input) _ c.loop-bytes.bytes.items c.read_chunk.new.bytes.items _ c.loop-bytes.invariant.0 c.in_ok-count.ensures.read (cc) (omega (arith, c.loop-bytes-test.true, c.len.ensures, c.loop-bytes.bytes.ok))
 
 pub loop-bytes-preserved : goal.loop-bytes-preserved
 loop-bytes-preserved g c = (
-  more_read _ (g.S.Source.left c.loop-bytes.input) _ c.loop-bytes.bytes.items _ c.in-Ok.count c.loop-bytes.invariant.0 c.in-Ok.ensures.read,
-  omega (arith, c.in-Ok.ensures.read.longer, c.in-Ok.ensures.within, c.min-wanted.ensures, c.len-in-loop-bytes.ensures, c.loop-bytes-test.true, c.len.ensures),
+  more_read _ (g.S.Source.left c.loop-bytes.input) _ c.loop-bytes.bytes.items _ _ c.loop-bytes.invariant.0 c.in_ok-count.ensures.read,
+  omega (arith, c.in_ok-count.ensures.read.longer, c.in_ok-count.ensures.within, c.min-wanted.ensures, c.len-in-loop-bytes.ensures, c.loop-bytes-test.true, c.len.ensures),
   omega (arith, c.loop-bytes.invariant.2, c.read_chunk.ensures.later),
 )
 
