@@ -1,5 +1,5 @@
 use crate::{ActError, CoordState};
-use cluster_state::{ClusterValue, Join, PublishResponse};
+use cluster_state::{ClusterValue, Join, PublishRequest, PublishResponse, ValueCause};
 use state_journal::{PlainKeeper, Ready};
 use std::alloc::Global;
 use std::test::Fail;
@@ -23,6 +23,26 @@ fn own_join(node: &mut CoordState<PlainKeeper>) -> Option<Join> {
     node.start_join(a(), 1).ok()
 }
 
+fn is_won_by(node: &mut CoordState<PlainKeeper>, join: &Join) -> bool {
+    if node.votes().len() < 32 {
+        node.join(join).is_ok_and(|joined| joined.won)
+    } else {
+        false
+    }
+}
+
+// How many nodes the configuration has that comes back with a refusal.
+fn handed_back(
+    answer: Result<PublishRequest, ActError<ValueCause, (VotingConfig, ClusterValue)>>,
+) -> Option<usize> {
+    match answer {
+        Err(ActError::Refused(_, back)) => Some(back.0.members().len()),
+        Err(ActError::Stopped(_)) => None,
+        Err(ActError::Disk) => None,
+        Ok(_) => None,
+    }
+}
+
 #[test]
 fn a_node_alone_wins_and_commits(rt: HostRuntime) -> Result<(), Fail> {
     let alloc = rt.alloc();
@@ -30,10 +50,7 @@ fn a_node_alone_wins_and_commits(rt: HostRuntime) -> Result<(), Fail> {
     assert!(rt; node.set_initial(Ready::initial(alloc, &only_a())).is_ok());
     let join = own_join(&mut node).ok_or("no join")?;
     assert!(rt; node.started() && !node.won());
-    match node.join(&join) {
-        Ok(joined) => assert!(rt; joined.won),
-        Err(_) => panic!(rt; "the join is refused"),
-    }
+    assert!(rt; is_won_by(&mut node, &join));
     assert!(rt; node.won() && node.votes().len() == 1);
     let config = VotingConfig::of(&only_a());
     let Ok(request) = node.client_value(1, config, ClusterValue::empty(alloc)) else {
@@ -43,13 +60,12 @@ fn a_node_alone_wins_and_commits(rt: HostRuntime) -> Result<(), Fail> {
     let Ok(response) = node.publish_request(request.source, Ready::new(request.state)) else {
         panic!(rt; "the state is refused");
     };
-    commits(&rt, &mut node, &response);
+    commits(&mut node, &response);
     assert!(rt; node.kept().committed.members().len() == 1);
     Ok(())
 }
 
-fn commits(rt: &HostRuntime, node: &mut CoordState<PlainKeeper>, response: &PublishResponse) {
-    let _ = rt;
+fn commits(node: &mut CoordState<PlainKeeper>, response: &PublishResponse) {
     if node.acks().len() < 32 {
         if let Ok(Some(commit)) = node.publish_response(response) {
             let _ = node.commit(&commit);
@@ -62,12 +78,8 @@ fn a_refused_value_is_handed_back(rt: HostRuntime) {
     let alloc = rt.alloc();
     let mut node = opened(alloc);
     let config = VotingConfig::of(&only_a());
-    match node.client_value(7, config, ClusterValue::empty(alloc)) {
-        Err(ActError::Refused(_, (config, _))) => {
-            assert!(rt; config.members().len() == 1);
-        }
-        _ => panic!(rt; "a node that has not won took a value"),
-    }
+    let back = handed_back(node.client_value(7, config, ClusterValue::empty(alloc)));
+    assert!(rt; back == Some(1));
     assert!(rt; node.keeper().kept.term == 0);
     assert!(rt; node.into_keeper().kept.term == 0);
 }

@@ -16,6 +16,10 @@ fn a() -> NodeId {
     NodeId::parse("a").unwrap_or(NodeId::default())
 }
 
+fn cause() -> Cause {
+    Cause::Start(StartCause::TermNotGreater(2, 1))
+}
+
 fn votes(alloc: Global) -> Result<Text, AllocError> {
     let join = Join {
         source: a(),
@@ -25,9 +29,8 @@ fn votes(alloc: Global) -> Result<Text, AllocError> {
         last_version: 3,
     };
     let mut text = Text::new(alloc);
-    let cause = Cause::Start(StartCause::TermNotGreater(2, 1));
-    write_cause(&mut text, cause)?;
-    write_act_head(&mut text, a(), Ending::Refused(cause))?;
+    write_cause(&mut text, cause())?;
+    write_act_head(&mut text, a(), Ending::Refused(cause()))?;
     write_boot(&mut text, &NodeSet::new())?;
     write_start_join(&mut text, a(), 1)?;
     write_join(&mut text, &join)?;
