@@ -18,6 +18,7 @@ struct Case<'a> {
 }
 
 const REPLAY: [&str; 3] = ["replay", "--level", "core"];
+
 const OTHERS: [&[&str]; 5] = [
     &["replay", "--level", "none"],
     &["replay", "--level"],
