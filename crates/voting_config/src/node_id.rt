@@ -97,12 +97,20 @@ impl NodeId {
 }
 
 impl fmt::Display for NodeId {
+    ghost use Rattle.std.specs.Prelude.{Some};
+
+    ghost output = { λ id. Some id };
+
     fn fmt<W: fmt::Write>(&self, f: &mut fmt::Formatter<W>) -> fmt::Result {
         f.write_str(self.as_str())
     }
 }
 
 impl fmt::Debug for NodeId {
+    ghost use Rattle.std.specs.Prelude.{Some};
+
+    ghost debug_output = { λ id. Some id };
+
     fn fmt<W: fmt::Write>(&self, f: &mut fmt::Formatter<W>) -> fmt::Result {
         f.write_str(self.as_str())
     }
