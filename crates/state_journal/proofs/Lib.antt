@@ -1,0 +1,4 @@
+mod Folds
+mod Refused
+mod Sizes
+mod Spelled

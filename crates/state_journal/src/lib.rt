@@ -1,13 +1,27 @@
 //! What a node keeps durably, and what keeps it.
 #![tactic(auto)]
 
+mod append;
+pub mod arm_keeper;
+mod body;
+pub mod change;
+pub mod error;
+mod fold;
+pub mod journal;
 pub mod keeper;
 pub mod plain;
 pub mod ready;
+mod refusal;
 #[cfg(test)]
 mod tests;
+pub mod why;
 
+pub use arm_keeper::ArmKeeper;
+pub use change::Change;
 pub use cluster_state::Kept;
+pub use error::OpenError;
+pub use journal::StateJournal;
 pub use keeper::{KeepError, Keeper};
 pub use plain::PlainKeeper;
-pub use ready::Ready;
+pub use ready::{NotReady, Ready};
+pub use why::{BodyFault, Why};

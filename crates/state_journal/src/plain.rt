@@ -1,5 +1,8 @@
-ghost use Rattle.std.specs.Prelude.{◌≡◌, ◌≤◌, ◌^◌, false};
+ghost use Rattle.std.specs.Prelude.{◌≡◌, ◌≤◌, ◌^◌, ⊤, false, true, Some};
 ghost use Rattle.cluster_state.specs.Initial.{empty_record};
+ghost use Rattle.cluster_state.specs.States.{IsFit};
+ghost use Rattle.state_journal.specs.Fit.{IsFit-prop};
+ghost use Rattle.state_journal.specs.Changes.{changed};
 
 use crate::{KeepError, Keeper, Ready};
 use cluster_state::Kept;
@@ -11,6 +14,7 @@ use voting_config::VotingConfig;
 pub struct PlainKeeper {
     pub kept: Kept,
     ghost bounded: { kept.term ≤ 2 ^ 62 },
+    ghost fit: { IsFit kept.accepted } by { IsFit-prop kept.accepted },
     ghost older: { kept.accepted.term ≤ kept.term },
 }
 
@@ -26,11 +30,21 @@ impl PlainKeeper {
 }
 
 impl Keeper for PlainKeeper {
+    ghost told = { ⊤ };
+
     ghost record_of = { λ k. k.kept };
 
     ghost has_stopped = { λ _. false };
 
     ghost faults = { λ _. 0 };
+
+    ghost moment = { λ _. 0 };
+
+    ghost left_since = { λ k _ found. found ≡ Some k.kept };
+
+    ghost writes = { λ j change k ok. (k.kept ≡ changed j.kept change) × (ok ≡ true) };
+
+    ghost only_kept = { λ k found told running left. left };
 
     fn kept(&self) -> &Kept {
         &self.kept

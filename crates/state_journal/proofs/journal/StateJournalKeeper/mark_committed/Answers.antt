@@ -1,0 +1,49 @@
+use Rattle.std.proofs.Common.{◌≡◌, ℕ, [], ◌∷◌, ◌++◌, List, true, Ok, refl, sym, ap, ◌∙◌, subst, arith}
+use Rattle.voting_config.specs.Ids.{Id}
+use Rattle.zen_disk.specs.Runs.{Ran}
+use Rattle.gate_log.specs.Calls.{append_calls}
+use Rattle.gate_log.specs.Journal.{framed, standing}
+use Rattle.state_journal.specs.declared.change.Change.TheVariants.{Committed}
+use Rattle.state_journal.proofs.Folds.{IsOpen, MayFollow, few, leaves_either, stands_after, counted_after, gate_after}
+use Rattle.state_journal.proofs.Spelled.{reads_committed}
+use Rattle.state_journal.proofs.journal.StateJournalKeeper.mark_committed.Goals as goal
+
+pub returns-in_default-clause-any_moment : goal.returns-in_default-clause-any_moment
+returns-in_default-clause-any_moment g c told running =
+    let old = c.args.self.now in
+    let is : IsOpen (g.D.Disk.seen old.log.disk) (g.D.Disk.may_leave old.log.disk) old.log.gate old.kept old.records = record { settled = old.log.settled told running; limit = old.log.limit; stands = old.stands told running; counted = old.counted told running } in
+    let may : MayFollow old.kept Committed = record { reads = reads_committed; order = refl } in
+    let run = c.append_small.ensures.any_moment told running in
+    record { later = run.later; since = leaves_either is Committed may g.D.Disk.moment g.D.Disk.left_since old.log.disk c.append_small.new.self.disk c.committed_body.result c.committed_body.ensures run }
+
+pub invariant_of-self-2 : goal.invariant_of-self-2
+invariant_of-self-2 g c =
+    let old = c.args.self.now in
+    let now = c.append_small.new.self in
+    let same : c.of-self.result ≡ old.kept.accepted.config = c.of-self.ensures ∙ c.members.ensures in
+    let may : MayFollow old.kept Committed = record { reads = reads_committed; order = refl } in
+    record {
+      stands = λ told running.
+          let is : IsOpen (g.D.Disk.seen old.log.disk) (g.D.Disk.may_leave old.log.disk) old.log.gate old.kept old.records = record { settled = old.log.settled told c.if-self.false; limit = old.log.limit; stands = old.stands told c.if-self.false; counted = old.counted told c.if-self.false } in
+          stands_after is Committed may (g.D.Disk.seen now.disk) (c.in-Ok.ensures.ok told ∙ ap (λ (b : List ℕ). standing (g.D.Disk.seen old.log.disk) ++ b ∷ []) c.committed_body.ensures) (now.settled told running).stands
+          ∙ ap (λ (ids : List Id). Ok (record (old.kept) { committed = ids })) (sym same);
+      counted = λ told running.
+          let is : IsOpen (g.D.Disk.seen old.log.disk) (g.D.Disk.may_leave old.log.disk) old.log.gate old.kept old.records = record { settled = old.log.settled told c.if-self.false; limit = old.log.limit; stands = old.stands told c.if-self.false; counted = old.counted told c.if-self.false } in
+          let more = counted_after is Committed may (g.D.Disk.seen now.disk) (c.in-Ok.ensures.ok told ∙ ap (λ (b : List ℕ). standing (g.D.Disk.seen old.log.disk) ++ b ∷ []) c.committed_body.ensures) in
+          let room = few is in
+          omega (arith, more, room, c.saturating_add-self.ensures);
+      bounded = old.bounded;
+      fit = old.fit;
+      older = old.older;
+    }
+
+pub returns-clause-written : goal.returns-clause-written
+returns-clause-written g c running =
+    let old = c.args.self.now in
+    let now = c.append_small.new.self in
+    let may : MayFollow old.kept Committed = record { reads = reads_committed; order = refl } in (
+      subst (λ (b : List ℕ). Ran g.D.Disk.steps (append_calls old.log.gate (framed b)) old.log.disk now.disk true) c.committed_body.ensures (c.in-Ok.ensures.ran running),
+      λ told ok.
+          let is : IsOpen (g.D.Disk.seen old.log.disk) (g.D.Disk.may_leave old.log.disk) old.log.gate old.kept old.records = record { settled = old.log.settled told running; limit = old.log.limit; stands = old.stands told running; counted = old.counted told running } in
+          gate_after is Committed may (g.D.Disk.seen now.disk) (c.in-Ok.ensures.ok told ∙ ap (λ (b : List ℕ). standing (g.D.Disk.seen old.log.disk) ++ b ∷ []) c.committed_body.ensures) (g.D.Disk.may_leave now.disk) now.gate (now.settled told c.in-Ok.ensures.goes_on),
+    )

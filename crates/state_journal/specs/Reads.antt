@@ -1,0 +1,59 @@
+-- What reading bodies gives, unless memory ran out.
+use Rattle.std.specs.Prelude.{◌≡◌, ℕ, ◌≤◌, ◌^◌, Result, Ok, Err}
+use Rattle.cluster_state.specs.States.{IsFit}
+use Rattle.cluster_state.specs.declared.fault.StateFault.{StateFault}
+use Rattle.cluster_state.specs.declared.fault.StateFault.TheVariants as fault
+use Rattle.cluster_state.specs.declared.fault.DecodeError.{DecodeError}
+use Rattle.cluster_state.specs.declared.fault.DecodeError.TheVariants as decoding
+use Rattle.cluster_state.specs.declared.state.Kept.{Kept}
+use Rattle.state_journal.specs.declared.change.Change.{Change}
+use Rattle.state_journal.specs.declared.change.Change.TheVariants.{Term, Accepted, Committed}
+use Rattle.state_journal.specs.declared.why.BodyFault.{BodyFault}
+use Rattle.state_journal.specs.declared.why.BodyFault.TheVariants.{Field, Trailing}
+use Rattle.state_journal.specs.declared.why.Why.{Why}
+use Rattle.state_journal.specs.declared.why.Why.TheVariants.{Body}
+use Rattle.state_journal.specs.declared.body.BodyError.{BodyError}
+use Rattle.state_journal.specs.declared.body.BodyError.TheVariants as body
+use Rattle.state_journal.specs.declared.fold.FoldError.{FoldError}
+use Rattle.state_journal.specs.declared.fold.FoldError.TheVariants as fold
+
+abbrev pub fault_by : StateFault → BodyFault
+fault_by (fault.Field e) = Field e
+fault_by fault.Trailing = Trailing
+
+abbrev pub error_by : DecodeError → BodyError
+error_by decoding.Memory = body.Memory
+error_by (decoding.Fault f) = body.Fault (fault_by f)
+
+abbrev pub IsBodyError : BodyError → Result Change BodyFault → Type 0
+IsBodyError body.Memory read = Unit {0}
+IsBodyError (body.Fault f) read = read ≡ Err f
+
+abbrev pub ReadsChange : Result Change BodyError → Result Change BodyFault → Type 0
+ReadsChange (Ok change) read = read ≡ Ok change
+ReadsChange (Err e) read = IsBodyError e read
+
+-- the error of a body whose gate stands at p
+abbrev pub error_at : ℕ → BodyError → FoldError
+error_at p body.Memory = fold.Memory
+error_at p (body.Fault f) = fold.Fault (Body p f)
+
+abbrev pub IsFoldError : FoldError → Result Kept Why → Type 0
+IsFoldError fold.Memory read = Unit {0}
+IsFoldError (fold.Fault why) read = read ≡ Err why
+
+abbrev pub ReadsRecord : Result Kept FoldError → Result Kept Why → Type 0
+ReadsRecord (Ok kept) read = read ≡ Ok kept
+ReadsRecord (Err e) read = IsFoldError e read
+
+-- a change within the limits
+abbrev pub IsFitChange : Change → Type 0
+IsFitChange (Term term) = term ≤ 2 ^ 62
+IsFitChange (Accepted state) = IsFit state
+IsFitChange Committed = Unit {0}
+
+-- a record within the limits
+pub record IsFitRecord (kept : Kept) : Type 0 where
+  pub bounded : kept.term ≤ 2 ^ 62
+  pub fit : IsFit kept.accepted
+  pub older : kept.accepted.term ≤ kept.term
