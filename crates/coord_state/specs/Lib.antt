@@ -1,2 +1,4 @@
+pub mod Checks
 pub mod Outcomes
 pub mod StandsFor
+pub mod Writes

@@ -1,10 +1,15 @@
-ghost use Rattle.std.specs.Prelude.{◌≡◌, false, ◌&&◌, ◌<◌, ◌⊎◌, true, length};
-ghost use Rattle.voting_config.specs.Ids.{has, is_quorum_of, most_ids};
+ghost use Rattle.std.specs.Prelude.{◌≡◌, ℕ, ◌<◌, Bool, false, true, ◌&&◌, ◌⊎◌, Option, length};
+ghost use Rattle.voting_config.specs.Ids.{Id, has, is_quorum_of, most_ids};
+ghost use Rattle.zen_disk.specs.Moments.{LeavesOnly, Same};
 ghost use Rattle.world_model.specs.declared.acts.Act.TheVariants as act;
+ghost use Rattle.world_model.specs.Acts.{NodeHistory};
+ghost use Rattle.world_model.specs.Replies.{reply_at};
 ghost use Rattle.cluster_state.specs.Initial.{initial_state};
 ghost use Rattle.world_model.specs.NodeState.{opened};
 ghost use Rattle.coord_state.specs.Outcomes.{initial_outcome, start_outcome, join_outcome, value_outcome, publish_outcome, response_outcome, commit_outcome, HandsBack};
-ghost use Rattle.coord_state.specs.StandsFor.{Acts, StandsFor};
+ghost use Rattle.coord_state.specs.StandsFor.{Acts, StandsFor, fields_of};
+ghost use Rattle.coord_state.specs.Writes.{WritesBy, IsDuring};
+ghost use Rattle.coord_state.specs.Checks.{publish_checked, Foretells};
 
 use cluster_state::{
     ApplyCommit, ClusterState, ClusterValue, CommitCause, InitialCause, Join, JoinCause, Kept,
@@ -12,8 +17,9 @@ use cluster_state::{
     ValueCause,
 };
 use join_rules::{JoinVotes, join_check};
-use state_journal::{Keeper, Ready};
+use state_journal::{ArmKeeper, Keeper, Ready};
 use voting_config::{NodeId, NodeSet, VotingConfig};
+use zen_disk::Order;
 
 /// Why an act was not taken. What the call took is handed back, but where the disk failed.
 #[derive(Drop)]
@@ -51,6 +57,21 @@ fn is_elected(kept: &Kept, votes: &JoinVotes) -> bool
     ensures { result ≡ (is_quorum_of kept.now.committed votes.now && is_quorum_of kept.now.accepted.config votes.now) }
 {
     kept.committed.is_quorum(votes.ids()) && kept.accepted.config.is_quorum(votes.ids())
+}
+
+// The first cause that refuses a state, by what the node keeps.
+fn publish_check(kept: &Kept, state: &ClusterState) -> Result<(), PublishCause>
+    ensures { result ≡ publish_checked kept.now state.now }
+{
+    let term = state.term;
+    let version = state.version;
+    if kept.term != term {
+        return Err(PublishCause::TermMismatch(kept.term, term));
+    }
+    if term == kept.accepted.term && version <= kept.accepted.version {
+        return Err(PublishCause::VersionNotGreater(kept.accepted.version, version));
+    }
+    Ok(())
 }
 
 impl<K: Keeper> CoordState<K> {
@@ -140,7 +161,9 @@ impl<K: Keeper> CoordState<K> {
     /// Starts a join for the candidate `from` in a term, which must be greater than the current one. All votes are dropped.
     /// Answers the join that is to be sent, with the id of the accepted state.
     pub fn start_join(&mut self, from: NodeId, term: u64) -> Result<Join, ActError<StartCause, ()>>
-        ensures { Acts K.record_of K.has_stopped K.faults self.old self.new (act.StartJoin from term) (start_outcome result) }
+        ensures act { Acts K.record_of K.has_stopped K.faults self.old self.new (act.StartJoin from term) (start_outcome result) }
+        ensures wrote { WritesBy K.writes self.old.keeper (act.StartJoin from term) self.new.keeper (start_outcome result) }
+        ensures any_moment { K.told → (g : NodeHistory) → StandsFor K.record_of K.has_stopped K.faults self.old g → LeavesOnly K.moment K.left_since self.old.keeper self.new.keeper (IsDuring g (act.StartJoin from term)) }
     {
         if self.keeper.stopped() {
             return Err(ActError::Stopped(()));
@@ -156,9 +179,9 @@ impl<K: Keeper> CoordState<K> {
             return Err(ActError::Refused(StartCause::TermTooLarge(term), ()));
         }
         let config = VotingConfig::of(kept.accepted.config.members());
-        if self.keeper.set_term(term).is_err() {
+        let Ok(()) = self.keeper.set_term(term) else {
             return Err(ActError::Disk);
-        }
+        };
         self.started = true;
         self.won = false;
         self.votes = JoinVotes::new();
@@ -178,6 +201,8 @@ impl<K: Keeper> CoordState<K> {
     pub fn set_initial(&mut self, initial: Ready) -> Result<(), ActError<InitialCause, Ready>>
         requires { initial.state ≡ initial_state initial.state.config }
         ensures act { Acts K.record_of K.has_stopped K.faults self.old self.new (act.Bootstrap initial.state.config) (initial_outcome result) }
+        ensures wrote { WritesBy K.writes self.old.keeper (act.Bootstrap initial.state.config) self.new.keeper (initial_outcome result) }
+        ensures any_moment { K.told → (g : NodeHistory) → StandsFor K.record_of K.has_stopped K.faults self.old g → LeavesOnly K.moment K.left_since self.old.keeper self.new.keeper (IsDuring g (act.Bootstrap initial.state.config)) }
         ensures back { HandsBack initial result }
     {
         if self.keeper.stopped() {
@@ -200,7 +225,9 @@ impl<K: Keeper> CoordState<K> {
     /// committed configuration and of the accepted state's.
     pub fn join(&mut self, j: &Join) -> Result<Joined, ActError<JoinCause, ()>>
         requires { (has j.now.source self.old.votes ≡ true) ⊎ (length self.old.votes < most_ids) }
-        ensures { Acts K.record_of K.has_stopped K.faults self.old self.new (act.TakeJoin j.now) (join_outcome result) }
+        ensures act { Acts K.record_of K.has_stopped K.faults self.old self.new (act.TakeJoin j.now) (join_outcome result) }
+        ensures wrote { WritesBy K.writes self.old.keeper (act.TakeJoin j.now) self.new.keeper (join_outcome result) }
+        ensures any_moment { K.told → (g : NodeHistory) → StandsFor K.record_of K.has_stopped K.faults self.old g → LeavesOnly K.moment K.left_since self.old.keeper self.new.keeper (IsDuring g (act.TakeJoin j.now)) }
     {
         if self.keeper.stopped() {
             return Err(ActError::Stopped(()));
@@ -235,6 +262,8 @@ impl<K: Keeper> CoordState<K> {
         value: ClusterValue,
     ) -> Result<PublishRequest, ActError<ValueCause, (VotingConfig, ClusterValue)>>
         ensures act { Acts K.record_of K.has_stopped K.faults self.old self.new (act.Value version config value) (value_outcome result) }
+        ensures wrote { WritesBy K.writes self.old.keeper (act.Value version config value) self.new.keeper (value_outcome result) }
+        ensures any_moment { K.told → (g : NodeHistory) → StandsFor K.record_of K.has_stopped K.faults self.old g → LeavesOnly K.moment K.left_since self.old.keeper self.new.keeper (IsDuring g (act.Value version config value)) }
         ensures back { HandsBack (record { 0 = config; 1 = value }) result }
     {
         if self.keeper.stopped() {
@@ -283,6 +312,19 @@ impl<K: Keeper> CoordState<K> {
         })
     }
 
+    /// Whether `publish_request` would refuse this state, from whichever node, without taking it. Never answers `Disk`.
+    pub fn check_publish(&self, state: &ClusterState) -> Result<(), ActError<PublishCause, ()>>
+        ensures { (source : Id) → Foretells result (reply_at self.now.me (fields_of K.record_of K.has_stopped K.faults self.now) (act.Publish (record { source = source; state = state.now }))) }
+    {
+        if self.keeper.stopped() {
+            return Err(ActError::Stopped(()));
+        }
+        match publish_check(self.keeper.kept(), state) {
+            Ok(()) => Ok(()),
+            Err(cause) => Err(ActError::Refused(cause, ())),
+        }
+    }
+
     /// Accepts a published state of the current term, whose id is above that of the accepted one.
     pub fn publish_request(
         &mut self,
@@ -290,23 +332,18 @@ impl<K: Keeper> CoordState<K> {
         state: Ready,
     ) -> Result<PublishResponse, ActError<PublishCause, Ready>>
         ensures act { Acts K.record_of K.has_stopped K.faults self.old self.new (act.Publish (record { source = source; state = state.state })) (publish_outcome result) }
+        ensures wrote { WritesBy K.writes self.old.keeper (act.Publish (record { source = source; state = state.state })) self.new.keeper (publish_outcome result) }
+        ensures any_moment { K.told → (g : NodeHistory) → StandsFor K.record_of K.has_stopped K.faults self.old g → LeavesOnly K.moment K.left_since self.old.keeper self.new.keeper (IsDuring g (act.Publish (record { source = source; state = state.state }))) }
         ensures back { HandsBack state result }
     {
         if self.keeper.stopped() {
             return Err(ActError::Stopped(state));
         }
-        let kept = self.keeper.kept();
+        if let Err(cause) = publish_check(self.keeper.kept(), &state.state) {
+            return Err(ActError::Refused(cause, state));
+        }
         let term = state.state.term;
         let version = state.state.version;
-        if kept.term != term {
-            return Err(ActError::Refused(PublishCause::TermMismatch(kept.term, term), state));
-        }
-        if term == kept.accepted.term && version <= kept.accepted.version {
-            return Err(ActError::Refused(
-                PublishCause::VersionNotGreater(kept.accepted.version, version),
-                state,
-            ));
-        }
         match self.keeper.set_accepted(state) {
             Ok(()) => Ok(PublishResponse {
                 source: self.me,
@@ -325,7 +362,9 @@ impl<K: Keeper> CoordState<K> {
         r: &PublishResponse,
     ) -> Result<Option<ApplyCommit>, ActError<ResponseCause, ()>>
         requires { (has r.now.source self.old.acks ≡ true) ⊎ (length self.old.acks < most_ids) }
-        ensures { Acts K.record_of K.has_stopped K.faults self.old self.new (act.Response r.now) (response_outcome result) }
+        ensures act { Acts K.record_of K.has_stopped K.faults self.old self.new (act.Response r.now) (response_outcome result) }
+        ensures wrote { WritesBy K.writes self.old.keeper (act.Response r.now) self.new.keeper (response_outcome result) }
+        ensures any_moment { K.told → (g : NodeHistory) → StandsFor K.record_of K.has_stopped K.faults self.old g → LeavesOnly K.moment K.left_since self.old.keeper self.new.keeper (IsDuring g (act.Response r.now)) }
     {
         if self.keeper.stopped() {
             return Err(ActError::Stopped(()));
@@ -361,7 +400,9 @@ impl<K: Keeper> CoordState<K> {
     /// Takes it that the accepted state is committed: its configuration becomes the committed one. A winner does not take
     /// the commit of a state while its newer publication is not accepted.
     pub fn commit(&mut self, c: &ApplyCommit) -> Result<(), ActError<CommitCause, ()>>
-        ensures { Acts K.record_of K.has_stopped K.faults self.old self.new (act.Commit c.now) (commit_outcome result) }
+        ensures act { Acts K.record_of K.has_stopped K.faults self.old self.new (act.Commit c.now) (commit_outcome result) }
+        ensures wrote { WritesBy K.writes self.old.keeper (act.Commit c.now) self.new.keeper (commit_outcome result) }
+        ensures any_moment { K.told → (g : NodeHistory) → StandsFor K.record_of K.has_stopped K.faults self.old g → LeavesOnly K.moment K.left_since self.old.keeper self.new.keeper (IsDuring g (act.Commit c.now)) }
     {
         if self.keeper.stopped() {
             return Err(ActError::Stopped(()));
@@ -393,5 +434,21 @@ impl<K: Keeper> CoordState<K> {
             Ok(()) => Ok(()),
             Err(_) => Err(ActError::Disk),
         }
+    }
+}
+
+impl<K: ArmKeeper> CoordState<K> {
+    /// Takes an order for the disk that the record is kept on, in place of an earlier one of its kind.
+    pub fn arm(&mut self, order: Order)
+        ensures rest { self.new ≡ record self.old { keeper = self.new.keeper } }
+        ensures stands { (g : NodeHistory) → StandsFor K.Keeper.record_of K.Keeper.has_stopped K.Keeper.faults self.old g → StandsFor K.Keeper.record_of K.Keeper.has_stopped K.Keeper.faults self.new g }
+        ensures record { K.Keeper.record_of self.new.keeper ≡ K.Keeper.record_of self.old.keeper }
+        ensures stopped { K.Keeper.has_stopped self.new.keeper ≡ K.Keeper.has_stopped self.old.keeper }
+        ensures faults { K.Keeper.faults self.new.keeper ≡ K.Keeper.faults self.old.keeper }
+        ensures moment { K.Keeper.moment self.new.keeper ≡ K.Keeper.moment self.old.keeper }
+        ensures left_since { (t : ℕ) → Same (K.Keeper.left_since self.old.keeper t) (K.Keeper.left_since self.new.keeper t) }
+        ensures arms { K.arms self.old.keeper order self.new.keeper }
+    {
+        self.keeper.arm(order);
     }
 }

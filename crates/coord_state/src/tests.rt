@@ -1,5 +1,10 @@
+ghost use Rattle.std.specs.Prelude.{◌≤◌, ◌^◌};
+ghost use Rattle.cluster_state.specs.States.{IsFit};
+
 use crate::{ActError, CoordState};
-use cluster_state::{ClusterValue, Join, PublishRequest, PublishResponse, ValueCause};
+use cluster_state::{
+    ClusterState, ClusterValue, Join, PublishCause, PublishRequest, PublishResponse, ValueCause,
+};
 use state_journal::{PlainKeeper, Ready};
 use std::alloc::Global;
 use std::test::Fail;
@@ -43,11 +48,35 @@ fn handed_back(
     }
 }
 
+// The state of version 1 of this term, with the empty value.
+fn published(alloc: Global, term: u64) -> ClusterState
+    requires { term ≤ 2 ^ 62 }
+    ensures { IsFit result }
+{
+    ClusterState {
+        term,
+        version: 1,
+        config: VotingConfig::of(&only_a()),
+        committed: VotingConfig::of(&only_a()),
+        value: ClusterValue::empty(alloc),
+    }
+}
+
+// Why the state would be refused.
+fn refusal(answer: Result<(), ActError<PublishCause, ()>>) -> Option<PublishCause> {
+    match answer {
+        Err(ActError::Refused(cause, _)) => Some(cause),
+        Err(ActError::Stopped(_)) => None,
+        Err(ActError::Disk) => None,
+        Ok(()) => None,
+    }
+}
+
 #[test]
 fn a_node_alone_wins_and_commits(rt: HostRuntime) -> Result<(), Fail> {
     let alloc = rt.alloc();
     let mut node = opened(alloc);
-    assert!(rt; node.set_initial(Ready::initial(alloc, &only_a())).is_ok());
+    assert!(rt; node.set_initial(Ready::initial(alloc, &only_a())?).is_ok());
     let join = own_join(&mut node).ok_or("no join")?;
     assert!(rt; node.started() && !node.won());
     assert!(rt; is_won_by(&mut node, &join));
@@ -57,7 +86,13 @@ fn a_node_alone_wins_and_commits(rt: HostRuntime) -> Result<(), Fail> {
         panic!(rt; "the value is refused");
     };
     assert!(rt; node.published().0 == 1);
-    let Ok(response) = node.publish_request(request.source, Ready::new(request.state)) else {
+    assert!(rt; node.check_publish(&request.state).is_ok());
+    let later = node.check_publish(&published(alloc, 2));
+    assert!(rt; refusal(later) == Some(PublishCause::TermMismatch(1, 2)));
+    let state = Ready::new(alloc, published(alloc, 1))
+        .ok()
+        .ok_or("no memory")?;
+    let Ok(response) = node.publish_request(request.source, state) else {
         panic!(rt; "the state is refused");
     };
     commits(&mut node, &response);

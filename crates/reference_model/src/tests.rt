@@ -1,7 +1,8 @@
 use crate::{Entry, reply};
 use cluster_state::{
     ApplyCommit, ClusterState, ClusterValue, CommitCause, InitialCause, Join, JoinCause, Kept,
-    PublishCause, PublishRequest, PublishResponse, ResponseCause, StartCause, ValueCause,
+    LAST_NUMBER, PublishCause, PublishRequest, PublishResponse, ResponseCause, StartCause,
+    ValueCause,
 };
 use coord_state::{ActError, CoordState, Joined};
 use state_journal::{PlainKeeper, Ready};
@@ -78,6 +79,24 @@ fn commit_reply(answer: Result<(), ActError<CommitCause, ()>>) -> Reply {
     }
 }
 
+// The state ready to be kept, where its value is the empty one, as in each act here.
+fn ready(alloc: Global, state: &ClusterState) -> Result<Ready, AllocError> {
+    if state.term > LAST_NUMBER || state.version > LAST_NUMBER {
+        return Err(AllocError);
+    }
+    let fit = ClusterState {
+        term: state.term,
+        version: state.version,
+        config: VotingConfig::of(state.config.members()),
+        committed: VotingConfig::of(state.committed.members()),
+        value: ClusterValue::empty(alloc),
+    };
+    match Ready::new(alloc, fit) {
+        Ok(ready) => Ok(ready),
+        Err(_) => Err(AllocError),
+    }
+}
+
 // Does the act in the core.
 fn core_reply(
     alloc: Global,
@@ -89,7 +108,7 @@ fn core_reply(
     }
     match act {
         Act::Bootstrap(config) => {
-            let initial = Ready::initial(alloc, config.members());
+            let initial = Ready::initial(alloc, config.members())?;
             Ok(initial_reply(node.set_initial(initial)))
         }
         Act::StartJoin(candidate, term) => Ok(start_reply(node.start_join(*candidate, *term))),
@@ -100,7 +119,7 @@ fn core_reply(
             Ok(value_reply(node.client_value(*version, config, value)))
         }
         Act::Publish(request) => {
-            let state = Ready::new(request.state.copy()?);
+            let state = ready(alloc, &request.state)?;
             Ok(publish_reply(node.publish_request(request.source, state)))
         }
         Act::Response(response) => Ok(response_reply(node.publish_response(response))),
