@@ -11,8 +11,9 @@ use Rattle.schedule_text.specs.declared.fault.Why.{Why}
 use Rattle.schedule_text.specs.declared.schedule.Line.{Line}
 use Rattle.schedule_text.specs.declared.schedule.Line.TheVariants as line
 use Rattle.schedule_text.specs.Words.{◌>>=◌, Word, listed, are_among}
-use Rattle.schedule_text.specs.Lines.{Args, one_word, two_words, three_words, four_words, one, two, three, four, any_number, ordinal, most_ordinal, boot, start_join, value, deliver, words_of, line_words, line_text, FitsLine, any_verb_at, words_at, line_at}
+use Rattle.schedule_text.specs.Lines.{Args, one_word, two_words, three_words, four_words, one, two, three, four, any_number, ordinal, most_ordinal, boot, start_join, value, deliver, crash, restart, fuse, fail, words_of, line_words, line_text, FitsLine, any_verb_at, words_at, line_at}
 use Rattle.schedule_text.proofs.WordLaws.{is_plain, IsWord, bind_ok, ok_is, all_weaker, lacks, split_join, join_split, join_all, listed_law, text_law, number_law, list_law}
+use Rattle.schedule_text.proofs.ModeLaws.{mode_law}
 
 pub record IsArgs {A : Type 0} (a : Args A) : Type 0 where
   pub takes : (ws : List (List ℕ)) (x : A) → a.at ws ≡ Ok x → (ws ≡ a.spelling x) × a.Fits x
@@ -151,6 +152,18 @@ module _ {ids : List Id} (good : AreIds ids) where
   deliver_law : IsArgs (deliver ids)
   deliver_law = two_law _ _ node_law ordinal_law
 
+  crash_law : IsArgs (crash ids)
+  crash_law = two_law _ _ node_law mode_law
+
+  restart_law : IsArgs (restart ids)
+  restart_law = one_law _ node_law
+
+  fuse_law : IsArgs (fuse ids)
+  fuse_law = three_law _ _ _ node_law ordinal_law mode_law
+
+  fail_law : IsArgs (fail ids)
+  fail_law = two_law _ _ node_law ordinal_law
+
 abbrev IsLine : List Id → List (List ℕ) → Line → Type 0
 IsLine ids words l = (join_with_byte 32 words ≡ line_text l) × FitsLine ids l
 
@@ -177,7 +190,11 @@ module _ {ids : List Id} (good : AreIds ids) (verb : List ℕ) (ws : List (List 
       chosen ids verb (codes "value") ws l _ _ (made (value ids) (λ x. line.Value x.0 x.1 x.2 x.3) ids (codes "value") (value_law good) (λ x. refl) (λ x f. f) ws l) (λ e1.
       chosen ids verb (codes "boot") ws l _ _ (made (boot ids) (λ x. line.Boot x) ids (codes "boot") (boot_law good) (λ x. refl) (λ x f. f) ws l) (λ e2.
       chosen ids verb (codes "startjoin") ws l _ _ (made (start_join ids) (λ x. line.StartJoin x.0 x.1 x.2) ids (codes "startjoin") (start_join_law good) (λ x. refl) (λ x f. f) ws l) (λ e3.
-      chosen ids verb (codes "deliver") ws l _ _ (made (deliver ids) (λ x. line.Deliver x.0 x.1) ids (codes "deliver") (deliver_law good) (λ x. refl) (λ x f. f) ws l) (λ e4. absurd cc) e3) e2) e1) e
+      chosen ids verb (codes "deliver") ws l _ _ (made (deliver ids) (λ x. line.Deliver x.0 x.1) ids (codes "deliver") (deliver_law good) (λ x. refl) (λ x f. f) ws l) (λ e4.
+      chosen ids verb (codes "crash") ws l _ _ (made (crash ids) (λ x. line.Crash x.0 x.1) ids (codes "crash") (crash_law good) (λ x. refl) (λ x f. f) ws l) (λ e5.
+      chosen ids verb (codes "restart") ws l _ _ (made (restart ids) (λ x. line.Restart x) ids (codes "restart") (restart_law good) (λ x. refl) (λ x f. f) ws l) (λ e6.
+      chosen ids verb (codes "fuse") ws l _ _ (made (fuse ids) (λ x. line.Fuse x.0 x.1 x.2) ids (codes "fuse") (fuse_law good) (λ x. refl) (λ x f. f) ws l) (λ e7.
+      chosen ids verb (codes "fail") ws l _ _ (made (fail ids) (λ x. line.Fail x.0 x.1) ids (codes "fail") (fail_law good) (λ x. refl) (λ x f. f) ws l) (λ e8. absurd cc) e7) e6) e5) e4) e3) e2) e1) e
 
 -- ---- a line
 
@@ -213,9 +230,17 @@ line_again {ids} good (line.Boot n) f = by_words ids (codes "boot") ((boot ids).
 line_again {ids} good (line.StartJoin n c t) f = by_words ids (codes "startjoin") ((start_join ids).spelling (n, c, t)) (line.StartJoin n c t) (and_from _ _ refl ((start_join_law good).plain (n, c, t) f)) (rw ((start_join_law good).again (n, c, t) f) refl)
 line_again {ids} good (line.Value n v x cfg) f = by_words ids (codes "value") ((value ids).spelling (n, v, x, cfg)) (line.Value n v x cfg) (and_from _ _ refl ((value_law good).plain (n, v, x, cfg) f)) (rw ((value_law good).again (n, v, x, cfg) f) refl)
 line_again {ids} good (line.Deliver n k) f = by_words ids (codes "deliver") ((deliver ids).spelling (n, k)) (line.Deliver n k) (and_from _ _ refl ((deliver_law good).plain (n, k) f)) (rw ((deliver_law good).again (n, k) f) refl)
+line_again {ids} good (line.Crash n w) f = by_words ids (codes "crash") ((crash ids).spelling (n, w)) (line.Crash n w) (and_from _ _ refl ((crash_law good).plain (n, w) f)) (rw ((crash_law good).again (n, w) f) refl)
+line_again {ids} good (line.Restart n) f = by_words ids (codes "restart") ((restart ids).spelling n) (line.Restart n) (and_from _ _ refl ((restart_law good).plain n f)) (rw ((restart_law good).again n f) refl)
+line_again {ids} good (line.Fuse n k w) f = by_words ids (codes "fuse") ((fuse ids).spelling (n, k, w)) (line.Fuse n k w) (and_from _ _ refl ((fuse_law good).plain (n, k, w) f)) (rw ((fuse_law good).again (n, k, w) f) refl)
+line_again {ids} good (line.Fail n k) f = by_words ids (codes "fail") ((fail ids).spelling (n, k)) (line.Fail n k) (and_from _ _ refl ((fail_law good).plain (n, k) f)) (rw ((fail_law good).again (n, k) f) refl)
 
 pub line_lacks : {ids : List Id} → AreIds ids → (l : Line) → FitsLine ids l → lacks 10 (line_text l) ≡ true
 line_lacks {ids} good (line.Boot n) f = one_piece (codes "boot" ∷ (boot ids).spelling n) (and_from _ _ refl ((boot_law good).plain n f))
 line_lacks {ids} good (line.StartJoin n c t) f = one_piece (codes "startjoin" ∷ (start_join ids).spelling (n, c, t)) (and_from _ _ refl ((start_join_law good).plain (n, c, t) f))
 line_lacks {ids} good (line.Value n v x cfg) f = one_piece (codes "value" ∷ (value ids).spelling (n, v, x, cfg)) (and_from _ _ refl ((value_law good).plain (n, v, x, cfg) f))
 line_lacks {ids} good (line.Deliver n k) f = one_piece (codes "deliver" ∷ (deliver ids).spelling (n, k)) (and_from _ _ refl ((deliver_law good).plain (n, k) f))
+line_lacks {ids} good (line.Crash n w) f = one_piece (codes "crash" ∷ (crash ids).spelling (n, w)) (and_from _ _ refl ((crash_law good).plain (n, w) f))
+line_lacks {ids} good (line.Restart n) f = one_piece (codes "restart" ∷ (restart ids).spelling n) (and_from _ _ refl ((restart_law good).plain n f))
+line_lacks {ids} good (line.Fuse n k w) f = one_piece (codes "fuse" ∷ (fuse ids).spelling (n, k, w)) (and_from _ _ refl ((fuse_law good).plain (n, k, w) f))
+line_lacks {ids} good (line.Fail n k) f = one_piece (codes "fail" ∷ (fail ids).spelling (n, k)) (and_from _ _ refl ((fail_law good).plain (n, k) f))

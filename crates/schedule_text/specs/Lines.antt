@@ -7,7 +7,8 @@ use Rattle.schedule_text.specs.declared.fault.Why.{Why}
 use Rattle.schedule_text.specs.declared.fault.Why.TheVariants as why
 use Rattle.schedule_text.specs.declared.schedule.Line.{Line}
 use Rattle.schedule_text.specs.declared.schedule.Line.TheVariants as line
-use Rattle.schedule_text.specs.Words.{parts_of, ◌>>=◌, Word, listed, text, number, config}
+use Rattle.zen_disk.specs.declared.orders.Way.{Way}
+use Rattle.schedule_text.specs.Words.{parts_of, ◌>>=◌, Word, listed, text, number, config, mode}
 
 -- ---- the words behind a verb
 
@@ -87,6 +88,18 @@ value ids = four (listed ids) any_number text (config ids)
 abbrev pub deliver : List Id → Args (Id × ℕ)
 deliver ids = two (listed ids) ordinal
 
+abbrev pub crash : List Id → Args (Id × Way)
+crash ids = two (listed ids) mode
+
+abbrev pub restart : List Id → Args Id
+restart ids = one (listed ids)
+
+abbrev pub fuse : List Id → Args (Id × ℕ × Way)
+fuse ids = three (listed ids) ordinal mode
+
+abbrev pub fail : List Id → Args (Id × ℕ)
+fail ids = two (listed ids) ordinal
+
 -- ---- a line
 
 -- the words of a line, which stand one space apart
@@ -98,6 +111,10 @@ line_words (line.Boot n) = codes "boot" ∷ n ∷ []
 line_words (line.StartJoin n c t) = codes "startjoin" ∷ n ∷ c ∷ any_number.spelling t ∷ []
 line_words (line.Value n v x cfg) = codes "value" ∷ n ∷ any_number.spelling v ∷ x ∷ (config []).spelling cfg ∷ []
 line_words (line.Deliver n k) = codes "deliver" ∷ n ∷ ordinal.spelling k ∷ []
+line_words (line.Crash n w) = codes "crash" ∷ n ∷ mode.spelling w ∷ []
+line_words (line.Restart n) = codes "restart" ∷ n ∷ []
+line_words (line.Fuse n k w) = codes "fuse" ∷ n ∷ ordinal.spelling k ∷ mode.spelling w ∷ []
+line_words (line.Fail n k) = codes "fail" ∷ n ∷ ordinal.spelling k ∷ []
 
 -- a line as it is written
 abbrev pub line_text : Line → List ℕ
@@ -109,6 +126,10 @@ FitsLine ids (line.Boot n) = (boot ids).Fits n
 FitsLine ids (line.StartJoin n c t) = (start_join ids).Fits (n, c, t)
 FitsLine ids (line.Value n v x cfg) = (value ids).Fits (n, v, x, cfg)
 FitsLine ids (line.Deliver n k) = (deliver ids).Fits (n, k)
+FitsLine ids (line.Crash n w) = (crash ids).Fits (n, w)
+FitsLine ids (line.Restart n) = (restart ids).Fits n
+FitsLine ids (line.Fuse n k w) = (fuse ids).Fits (n, k, w)
+FitsLine ids (line.Fail n k) = (fail ids).Fits (n, k)
 
 -- what the words behind a verb are read as
 abbrev pub boot_at : List Id → List (List ℕ) → Result Line Why
@@ -123,13 +144,34 @@ value_at ids ws = (value ids).at ws >>= λ x. Ok (line.Value x.0 x.1 x.2 x.3)
 abbrev pub deliver_at : List Id → List (List ℕ) → Result Line Why
 deliver_at ids ws = (deliver ids).at ws >>= λ x. Ok (line.Deliver x.0 x.1)
 
+abbrev pub crash_at : List Id → List (List ℕ) → Result Line Why
+crash_at ids ws = (crash ids).at ws >>= λ x. Ok (line.Crash x.0 x.1)
+
+abbrev pub restart_at : List Id → List (List ℕ) → Result Line Why
+restart_at ids ws = (restart ids).at ws >>= λ x. Ok (line.Restart x)
+
+abbrev pub fuse_at : List Id → List (List ℕ) → Result Line Why
+fuse_at ids ws = (fuse ids).at ws >>= λ x. Ok (line.Fuse x.0 x.1 x.2)
+
+abbrev pub fail_at : List Id → List (List ℕ) → Result Line Why
+fail_at ids ws = (fail ids).at ws >>= λ x. Ok (line.Fail x.0 x.1)
+
+-- a line that stops a node, starts it again or lets its disk fail, by its verb
+abbrev pub stop_verb_at : List Id → List ℕ → List (List ℕ) → Result Line Why
+stop_verb_at ids verb ws =
+    if bytes_eq verb (codes "crash") then crash_at ids ws
+    else (if bytes_eq verb (codes "restart") then restart_at ids ws
+    else (if bytes_eq verb (codes "fuse") then fuse_at ids ws
+    else (if bytes_eq verb (codes "fail") then fail_at ids ws
+    else Err why.Verb)))
+
 -- a line by its verb; the line `value` has a list of its own, and stands first
 abbrev pub verb_at : List Id → List ℕ → List (List ℕ) → Result Line Why
 verb_at ids verb ws =
     if bytes_eq verb (codes "boot") then boot_at ids ws
     else (if bytes_eq verb (codes "startjoin") then start_join_at ids ws
     else (if bytes_eq verb (codes "deliver") then deliver_at ids ws
-    else Err why.Verb))
+    else stop_verb_at ids verb ws))
 
 abbrev pub any_verb_at : List Id → List ℕ → List (List ℕ) → Result Line Why
 any_verb_at ids verb ws = if bytes_eq verb (codes "value") then value_at ids ws else verb_at ids verb ws

@@ -17,6 +17,7 @@ why_text why.Id = codes "Id"
 why_text why.Number = codes "Number"
 why_text why.Text = codes "Text"
 why_text why.List = codes "List"
+why_text why.Mode = codes "Mode"
 
 -- the reason at the end of a line
 abbrev pub reason_text : Why → List ℕ

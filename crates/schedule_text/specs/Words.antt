@@ -1,9 +1,11 @@
 -- The words of a line: how each kind is spelled, and what a word is read as.
-use Rattle.std.specs.Prelude.{ℕ, ◌+◌, ◌-◌, ◌*◌, ◌≤◌, ◌==◌, Bool, true, false, not, ◌&&◌, ◌||◌, Option, None, Some, Result, Ok, Err, List, [], ◌∷◌, ◌++◌, length, codes, decimal, IsTrue, nat_le, nat_lt, if◌then◌else◌}
+use Rattle.std.specs.Prelude.{ℕ, ◌+◌, ◌-◌, ◌*◌, ◌/◌, ◌%◌, ◌<◌, ◌≤◌, ◌==◌, Bool, true, false, not, ◌&&◌, ◌||◌, Option, None, Some, Result, Ok, Err, List, [], ◌∷◌, ◌++◌, length, take, get_or, codes, decimal, IsTrue, nat_le, nat_lt, if◌then◌else◌}
 use Rattle.std.specs.List.{slice_split, join_with_byte, list_all}
 use Rattle.std.specs.Str.{bytes_eq}
 use Rattle.std.specs.Borrow.{Bor}
 use Rattle.voting_config.specs.Ids.{Id, is_id, has, comes_after, most_ids}
+use Rattle.zen_disk.specs.declared.orders.Way.{Way}
+use Rattle.zen_disk.specs.declared.orders.Way.TheVariants.{Lost, Kept, Torn}
 use Rattle.schedule_text.specs.declared.fault.Why.{Why}
 use Rattle.schedule_text.specs.declared.fault.Why.TheVariants as why
 
@@ -108,3 +110,46 @@ config ids = list (are_among ids)
 
 abbrev pub is_some_list : List Id → Bool
 is_some_list xs = nat_lt 0 (length xs)
+
+-- ---- modes
+
+-- a digit of hexadecimal, by its number, and what a byte is read as
+abbrev pub hex_byte : ℕ → ℕ
+hex_byte n = if nat_lt n 10 then 48 + n else 97 + (n - 10)
+
+abbrev pub hex_at : ℕ → Result ℕ Why
+hex_at b = if is_digit b then Ok (b - 48) else (if nat_le 97 b && nat_le b 102 then Ok (b - 97 + 10) else Err why.Mode)
+
+-- a byte in two digits
+abbrev pub byte_text : ℕ → List ℕ
+byte_text x = hex_byte (x / 16) ∷ hex_byte (x % 16) ∷ []
+
+abbrev pub byte_at : ℕ → ℕ → Result Way Why
+byte_at high low = hex_at high >>= λ h. hex_at low >>= λ l. Ok (Torn (h * 16 + l))
+
+-- what a stop leaves
+abbrev pub mode_text : Way → List ℕ
+mode_text Lost = codes "none"
+mode_text Kept = codes "all"
+mode_text (Torn x) = codes "torn:" ++ byte_text x
+
+abbrev pub torn_at : List ℕ → Result Way Why
+torn_at w = if length w == 7 && bytes_eq (take 5 w) (codes "torn:") then byte_at (get_or w 5 0) (get_or w 6 0) else Err why.Mode
+
+abbrev pub mode_at : List ℕ → Result Way Why
+mode_at w =
+    if bytes_eq w (codes "none") then Ok Lost
+    else (if bytes_eq w (codes "all") then Ok Kept
+    else torn_at w)
+
+abbrev pub FitsMode : Way → Type 0
+FitsMode Lost = Unit {0}
+FitsMode Kept = Unit {0}
+FitsMode (Torn x) = x < 256
+
+abbrev pub mode : Word Way
+mode = record {
+  spelling = mode_text;
+  at = mode_at;
+  Fits = FitsMode;
+}

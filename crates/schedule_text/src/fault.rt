@@ -3,7 +3,7 @@ ghost use Rattle.schedule_text.specs.Printed.{why_text};
 
 use thiserror::Error;
 
-/// Why a line is bad. Where several hold, it is the first of them in this order, and among the last four that of the
+/// Why a line is bad. Where several hold, it is the first of them in this order, and among the last five that of the
 /// first bad word from the left.
 #[derive(Clone, Copy, Debug, PartialEq, Eq, Error)]
 pub enum Why {
@@ -40,6 +40,9 @@ pub enum Why {
     /// The word is no ascending list of listed nodes.
     #[error("a word is no list of listed nodes")]
     List,
+    /// The word is not `none`, `all`, or `torn:` with two digits of `0-9` and `a-f`.
+    #[error("a word is no mode of a stop")]
+    Mode,
 }
 
 impl Why {
@@ -59,6 +62,7 @@ impl Why {
             Why::Number => "Number",
             Why::Text => "Text",
             Why::List => "List",
+            Why::Mode => "Mode",
         }
     }
 }

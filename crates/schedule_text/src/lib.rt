@@ -5,6 +5,7 @@ pub mod fault;
 pub mod id_list;
 pub mod laws;
 pub mod lines;
+pub mod modes;
 pub mod place;
 pub mod printing;
 pub mod reading;

@@ -1,17 +1,18 @@
 ghost use Rattle.std.specs.Prelude.{◌≡◌, Option};
 ghost use Rattle.schedule_text.specs.Words.{parts_in};
-ghost use Rattle.schedule_text.specs.Lines.{one_word as one_word_of, two_words as two_words_of, three_words as three_words_of, four_words as four_words_of, boot_at, start_join_at, value_at, deliver_at, verb_at, line_at, Args};
+ghost use Rattle.schedule_text.specs.Lines.{one_word as one_word_of, two_words as two_words_of, three_words as three_words_of, four_words as four_words_of, boot_at, start_join_at, value_at, deliver_at, crash_at, restart_at, fuse_at, fail_at, stop_verb_at, verb_at, line_at, Args};
 ghost use Rattle.schedule_text.specs.Answers.{Gives, Answers};
 
 use crate::fault::{ReadError, Why};
 use crate::id_list::IdList;
+use crate::modes::mode_at;
 use crate::schedule::Line;
 use crate::setting_text::SettingText;
 use crate::words::{config_at, cut, node_at, number_at, text_at};
 use std::alloc::Global;
 use voting_config::{NodeId, NodeSet};
 
-/// The greatest number that a `deliver` line has.
+/// The greatest number that a `deliver`, `fuse` or `fail` line has.
 pub const MAX_ORDINAL: u64 = 4294967295;
 
 /// The one word behind a verb, and `Arity` where there is another number of words.
@@ -127,6 +128,60 @@ fn value(alloc: Global, ids: &NodeSet, rest: Option<&[u8]>) -> Result<Line, Read
     Ok(Line::Value(parts.node, parts.version, parts.text, config))
 }
 
+fn crash(ids: &NodeSet, rest: Option<&[u8]>) -> Result<Line, Why>
+    ensures { result ≡ crash_at ids.now (parts_in 32 rest.entry) }
+{
+    let (node, mode) = two_words(rest)?;
+    let node = node_at(ids, node)?;
+    let mode = mode_at(mode)?;
+    Ok(Line::Crash(node, mode))
+}
+
+fn restart(ids: &NodeSet, rest: Option<&[u8]>) -> Result<Line, Why>
+    ensures { result ≡ restart_at ids.now (parts_in 32 rest.entry) }
+{
+    let node = one_word(rest)?;
+    let node = node_at(ids, node)?;
+    Ok(Line::Restart(node))
+}
+
+fn fuse(ids: &NodeSet, rest: Option<&[u8]>) -> Result<Line, Why>
+    ensures { result ≡ fuse_at ids.now (parts_in 32 rest.entry) }
+{
+    let (node, count, mode) = three_words(rest)?;
+    let node = node_at(ids, node)?;
+    let count = number_at(count, 1, MAX_ORDINAL)?;
+    let mode = mode_at(mode)?;
+    Ok(Line::Fuse(node, count, mode))
+}
+
+fn fail(ids: &NodeSet, rest: Option<&[u8]>) -> Result<Line, Why>
+    ensures { result ≡ fail_at ids.now (parts_in 32 rest.entry) }
+{
+    let (node, call) = two_words(rest)?;
+    let node = node_at(ids, node)?;
+    let call = number_at(call, 1, MAX_ORDINAL)?;
+    Ok(Line::Fail(node, call))
+}
+
+fn stop_verb_line(ids: &NodeSet, verb: &[u8], rest: Option<&[u8]>) -> Result<Line, Why>
+    ensures { result ≡ stop_verb_at ids.now verb.now (parts_in 32 rest.entry) }
+{
+    if verb == b"crash".as_slice() {
+        return crash(ids, rest);
+    }
+    if verb == b"restart".as_slice() {
+        return restart(ids, rest);
+    }
+    if verb == b"fuse".as_slice() {
+        return fuse(ids, rest);
+    }
+    if verb == b"fail".as_slice() {
+        return fail(ids, rest);
+    }
+    Err(Why::Verb)
+}
+
 fn verb_line(ids: &NodeSet, verb: &[u8], rest: Option<&[u8]>) -> Result<Line, Why>
     ensures { result ≡ verb_at ids.now verb.now (parts_in 32 rest.entry) }
 {
@@ -139,7 +194,7 @@ fn verb_line(ids: &NodeSet, verb: &[u8], rest: Option<&[u8]>) -> Result<Line, Wh
     if verb == b"deliver".as_slice() {
         return deliver(ids, rest);
     }
-    Err(Why::Verb)
+    stop_verb_line(ids, verb, rest)
 }
 
 /// The line that these bytes are, which have no line feed, or why they are no line of these nodes.

@@ -4,6 +4,7 @@ use crate::id_list::IdList;
 use crate::setting_text::SettingText;
 use std::marker::Model;
 use voting_config::{NodeId, NodeSet};
+use zen_disk::Way;
 
 /// A line of a schedule behind its header. The first id is the node that acts.
 #[derive(Drop)]
@@ -17,6 +18,14 @@ pub enum Line {
     Value(NodeId, u64, SettingText, IdList),
     /// The node is handed the message with this number, counted from 1.
     Deliver(NodeId, u64),
+    /// The node stops between two acts, and its disk is left so.
+    Crash(NodeId, Way),
+    /// The node starts again.
+    Restart(NodeId),
+    /// The node stops inside its device call of this number, the next one being 1, and its disk is left so.
+    Fuse(NodeId, u64, Way),
+    /// The node's device call of this number fails, the next one being 1.
+    Fail(NodeId, u64),
 }
 
 /// The lines of a schedule, seen as a list.

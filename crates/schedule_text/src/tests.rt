@@ -5,6 +5,7 @@ use crate::schedule::Line;
 use crate::text::Text;
 use std::alloc::Global;
 use std::test::Fail;
+use zen_disk::Way;
 
 const HEADER: &[u8] = b"nodes a\ninitial a\n";
 
@@ -57,6 +58,26 @@ fn names_the_reason_of_a_third_line(rt: HostRuntime) {
         ("boot \n", Why::Id),
         ("boot\ta\n", Why::Verb),
         ("\n", Why::Verb),
+        ("crash a\n", Why::Arity),
+        ("crash a all all\n", Why::Arity),
+        ("crash z all\n", Why::Id),
+        ("crash a most\n", Why::Mode),
+        ("crash a \n", Why::Mode),
+        ("crash a torn:\n", Why::Mode),
+        ("crash a torn:1\n", Why::Mode),
+        ("crash a torn:123\n", Why::Mode),
+        ("crash a torn:0G\n", Why::Mode),
+        ("crash a torn:AB\n", Why::Mode),
+        ("crash a Torn:ab\n", Why::Mode),
+        ("restart\n", Why::Arity),
+        ("restart \n", Why::Id),
+        ("fuse a 1\n", Why::Arity),
+        ("fuse a 0 all\n", Why::Number),
+        ("fuse a 4294967296 all\n", Why::Number),
+        ("fuse a 0 x\n", Why::Number),
+        ("fuse a 1 x\n", Why::Mode),
+        ("fail a\n", Why::Arity),
+        ("fail a 0\n", Why::Number),
     ] {
         assert_eq!(rt;
             fault_of_many(a, 1, line.as_bytes()),
@@ -99,6 +120,36 @@ fn prints_what_it_has_read(rt: HostRuntime) {
     match printed(rt.alloc(), text) {
         Some(printed) => assert!(rt; printed.as_bytes() == text.as_slice()),
         None => assert!(rt; false),
+    }
+}
+
+#[test]
+fn prints_each_stop_that_it_has_read(rt: HostRuntime) {
+    let text =
+        b"nodes a,b\ninitial a\ncrash b none\ncrash b all\ncrash b torn:09\nrestart b\nfuse a 1 torn:af\nfuse a 4294967295 none\nfail b 10\n";
+    match printed(rt.alloc(), text) {
+        Some(printed) => assert!(rt; printed.as_bytes() == text.as_slice()),
+        None => assert!(rt; false),
+    }
+}
+
+// The byte that a first line `crash` tears to.
+fn torn_of(line: &Line) -> Option<u8> {
+    match line {
+        Line::Crash(_, Way::Torn(byte)) => Some(*byte),
+        _ => None,
+    }
+}
+
+#[test]
+fn shows_a_torn_byte(rt: HostRuntime) {
+    let text = b"nodes a,b\ninitial a\ncrash b torn:a7\n";
+    match read_schedule(rt.alloc(), text) {
+        Ok(schedule) => match schedule.lines.as_slice().first() {
+            Some(line) => assert_eq!(rt; torn_of(line), Some(167)),
+            None => assert!(rt; false),
+        },
+        Err(_) => assert!(rt; false),
     }
 }
 

@@ -1,15 +1,17 @@
-ghost use Rattle.std.specs.Prelude.{◌≡◌, ◌++◌, [], length, OnOk, decimal};
-ghost use Rattle.schedule_text.specs.Words.{list_text};
+ghost use Rattle.std.specs.Prelude.{◌≡◌, ◌++◌, ◌∷◌, [], length, OnOk, decimal};
+ghost use Rattle.schedule_text.specs.Words.{list_text, byte_text, mode_text};
 ghost use Rattle.schedule_text.specs.Lines.{line_text};
 ghost use Rattle.schedule_text.specs.Printed.{bad_line, reason_text};
 
 use crate::fault::{BadSchedule, Why};
+use crate::modes::hex_byte;
 use crate::schedule::Line;
 use crate::setting_text::SettingText;
 use itoa::Buffer;
 use std::alloc::{AllocError, Global};
 use std::marker::Model;
 use voting_config::NodeId;
+use zen_disk::Way;
 
 /// A text that grows at its end. Contracts see its bytes.
 ///
@@ -132,6 +134,30 @@ impl Text {
                 self.word(" ")?;
                 self.number(*message)
             }
+            Line::Crash(node, mode) => {
+                self.word("crash ")?;
+                self.id(*node)?;
+                self.word(" ")?;
+                self.mode(*mode)
+            }
+            Line::Restart(node) => {
+                self.word("restart ")?;
+                self.id(*node)
+            }
+            Line::Fuse(node, count, mode) => {
+                self.word("fuse ")?;
+                self.id(*node)?;
+                self.word(" ")?;
+                self.number(*count)?;
+                self.word(" ")?;
+                self.mode(*mode)
+            }
+            Line::Fail(node, call) => {
+                self.word("fail ")?;
+                self.id(*node)?;
+                self.word(" ")?;
+                self.number(*call)
+            }
         }
     }
 
@@ -152,6 +178,33 @@ impl Text {
         self.setting(text)?;
         self.word(" ")?;
         self.ids(config)
+    }
+
+    fn mode(&mut self, mode: Way) -> Result<(), AllocError>
+        ensures { OnOk result (self.new ≡ self.old ++ mode_text mode) }
+    {
+        match mode {
+            Way::Lost => self.word("none"),
+            Way::Kept => self.word("all"),
+            Way::Torn(byte) => {
+                self.word("torn:")?;
+                self.two_digits(byte)
+            }
+        }
+    }
+
+    fn two_digits(&mut self, byte: u8) -> Result<(), AllocError>
+        ensures { OnOk result (self.new ≡ self.old ++ byte_text byte) }
+    {
+        self.byte(hex_byte(byte / 16))?;
+        self.byte(hex_byte(byte % 16))
+    }
+
+    fn byte(&mut self, byte: u8) -> Result<(), AllocError>
+        ensures { OnOk result (self.new ≡ self.old ++ byte ∷ []) }
+    {
+        self.bytes.push(byte)?;
+        Ok(())
     }
 
     fn setting(&mut self, text: SettingText) -> Result<(), AllocError>

@@ -130,6 +130,22 @@ abbrev pub record_line : Id → ℕ → ClusterState → List Id → List ℕ
 record_line n term accepted committed =
     codes "record " ++ n ++ codes " " ++ decimal term ++ codes " " ++ id_text accepted.term accepted.version ++ codes " " ++ list_text accepted.config ++ codes " " ++ list_text committed ++ codes "\n"
 
+-- a node is down, and takes nothing
+abbrev pub down_line : Id → List ℕ
+down_line n = codes "down " ++ n ++ codes "\n"
+
+-- a node is up already
+abbrev pub up_line : Id → List ℕ
+up_line n = codes "up " ++ n ++ codes "\n"
+
+-- a node has stopped, between two acts or as it opened its journal
+abbrev pub crashed_line : Id → List ℕ
+crashed_line n = codes "crashed " ++ n ++ codes "\n"
+
+-- a node's disk has failed as it opened its journal
+abbrev pub disk_line : Id → List ℕ
+disk_line n = codes "disk " ++ n ++ codes "\n"
+
 abbrev pub outcome_line : Id → Outcome → Act → List ℕ
 outcome_line n o (Open found) = record_line n found.term found.accepted found.committed
 outcome_line n o act = act_line n (ending_of o) act

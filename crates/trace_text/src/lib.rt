@@ -1,10 +1,11 @@
-//! The lines of a trace: what each act of a node did, and what it sent.
+//! The lines of a trace: what each act of a node did, what it sent, and what became of the node.
 #![tactic(auto)]
 
 pub mod acts;
 pub mod causes;
 pub mod ending;
 pub mod messages;
+pub mod nodes;
 #[cfg(test)]
 mod tests;
 
@@ -18,3 +19,4 @@ pub use messages::{
     write_commit_message, write_committed, write_join_message, write_publish_message,
     write_response_message, write_won,
 };
+pub use nodes::{write_crashed, write_disk, write_down, write_record, write_up};

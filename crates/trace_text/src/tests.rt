@@ -1,10 +1,12 @@
 use crate::{
     Ending, write_act_head, write_boot, write_cause, write_commit, write_commit_message,
-    write_committed, write_join, write_join_message, write_publish, write_publish_message,
-    write_response, write_response_message, write_start_join, write_value, write_won,
+    write_committed, write_crashed, write_disk, write_down, write_join, write_join_message,
+    write_publish, write_publish_message, write_record, write_response, write_response_message,
+    write_start_join, write_up, write_value, write_won,
 };
 use cluster_state::{
-    ApplyCommit, ClusterState, ClusterValue, Join, PublishRequest, PublishResponse, StartCause,
+    ApplyCommit, ClusterState, ClusterValue, Join, Kept, PublishRequest, PublishResponse,
+    StartCause,
 };
 use schedule_text::Text;
 use std::alloc::{AllocError, Global};
@@ -82,6 +84,34 @@ fn lines_of_publications(rt: HostRuntime) -> Result<(), Fail> {
     let text = publications(rt.alloc())?;
     let wanted =
         "value 5 _ {\"exclusions\":[],\"master\":null,\"members\":[],\"settings\":{}}publish a {\"committed\":[],\"config\":[],\"term\":0,\"value\":{\"exclusions\":[],\"master\":null,\"members\":[],\"settings\":{}},\"version\":0}response a a 1/2commit a 1/2committed {\"committed\":[],\"config\":[],\"term\":0,\"value\":{\"exclusions\":[],\"master\":null,\"members\":[],\"settings\":{}},\"version\":0}\nm1 a->* publish {\"committed\":[],\"config\":[],\"term\":0,\"value\":{\"exclusions\":[],\"master\":null,\"members\":[],\"settings\":{}},\"version\":0}\nm2 a->a response 1/2\nm3 a->* commit 1/2\n";
+    assert!(rt; text.as_bytes() == wanted.as_bytes());
+    Ok(())
+}
+
+fn stops(alloc: Global) -> Result<Text, AllocError> {
+    let mut some = NodeSet::new();
+    let _ = some.insert(a());
+    let mut accepted = ClusterState::initial(alloc, &some);
+    accepted.term = 2;
+    accepted.version = 5;
+    let found = Kept {
+        term: 3,
+        accepted,
+        committed: VotingConfig::of(&NodeSet::new()),
+    };
+    let mut text = Text::new(alloc);
+    write_crashed(&mut text, a())?;
+    write_down(&mut text, a())?;
+    write_disk(&mut text, a())?;
+    write_record(&mut text, a(), &found)?;
+    write_up(&mut text, a())?;
+    Ok(text)
+}
+
+#[test]
+fn lines_of_stops(rt: HostRuntime) -> Result<(), Fail> {
+    let text = stops(rt.alloc())?;
+    let wanted = "crashed a\ndown a\ndisk a\nrecord a 3 2/5 a _\nup a\n";
     assert!(rt; text.as_bytes() == wanted.as_bytes());
     Ok(())
 }
