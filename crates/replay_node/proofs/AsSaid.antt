@@ -1,0 +1,110 @@
+-- A disk in memory under orders does what is said of it, unless it found no memory.
+use Rattle.std.proofs.Common.{◌≡◌, ℕ, List, [], ◌∷◌, Bool, true, false, Some, None, refl, sym, ◌∙◌, ap, subst, inl, inr}
+use Rattle.std.specs.Prelude.{Option}
+use Rattle.gate_log.proofs.Laid.{gate_is}
+use Rattle.gate_log.specs.Journal.{IsSettled, standing}
+use Rattle.zen_disk.specs.Armed.{armed_later, armed_with, fate_by, fate_of, stop_due, is_fault_due}
+use Rattle.zen_disk.specs.DeviceCall.{DeviceCall, Len, Read, Write, Sync}
+use Rattle.zen_disk.specs.FileState.{FileState, after, left_by}
+use Rattle.zen_disk.specs.Fuse.{FuseArms, FuseSteps, StepsAt, StopsIn}
+use Rattle.zen_disk.specs.MemDisk.{MemSteps, file_of}
+use Rattle.zen_disk.specs.Runs.{Ran}
+use Rattle.zen_disk.specs.declared.memory.MemDisk.{MemDisk}
+use Rattle.zen_disk.specs.declared.orders.Armed.{Armed}
+use Rattle.zen_disk.specs.declared.orders.Order.{Order}
+use Rattle.zen_disk.specs.declared.orders.Struck.{Struck}
+use Rattle.zen_disk.specs.declared.orders.Struck.TheVariants.{Stop, Fault}
+use Rattle.zen_disk.specs.declared.orders.Way.{Way}
+use Rattle.replay_node.specs.NodeDisk.{NodeDisk, CallsEnd, Done, Failed, StoppedIn, Called, MemFuse, DiskStands, EndsAs, Restarted, placed, call_by, call_once, go_on, calls_made, gate_of, stopped_by, with_order}
+
+-- the only call of such a fuse that fails with nothing told to have struck is one that found no memory
+abbrev pub FoundMemory : MemFuse → Bool → Type 0
+FoundMemory fuse ok = ok ≡ false → fuse.struck ≡ None → ⊥
+
+placed_so : (old new : MemDisk) (call : DeviceCall) (struck : Option Struck) → StopsIn MemSteps old call new struck → (struck ≡ None → ⊥) → (file_of new ≡ placed (file_of old) call) × (struck ≡ Some Stop)
+placed_so old new (Write at bytes) struck (inl by) memory = (by.0.file, by.1)
+placed_so old new (Write at bytes) struck (inr by) memory = absurd (memory by.1)
+placed_so old new Len struck by memory = (ap file_of by.0, by.1)
+placed_so old new (Read at n) struck by memory = (ap file_of by.0, by.1)
+placed_so old new Sync struck by memory = (ap file_of by.0, by.1)
+
+one_by : (stop : Option Way) (fault : Bool) (f g : MemFuse) (d : NodeDisk) (call : DeviceCall) (ok : Bool) → file_of f.disk ≡ d.file → g.armed ≡ armed_later d.armed → g.down ≡ stop
+    → StepsAt MemSteps (fate_by stop fault) f.disk call g.disk ok g.struck → FoundMemory g ok → EndsAs (call_by stop fault d call).ended g (call_by stop fault d call).disk ok
+one_by (Some way) fault f g d call ok file armed down steps memory =
+    let there = placed_so f.disk g.disk call g.struck steps.0 (memory steps.1) in
+    (steps.1, there.1, down, ap (left_by way) (there.0 ∙ ap (λ (s : FileState). placed s call) file), armed)
+one_by None true f g d call ok file armed down steps memory = (steps.1, steps.2, record { file = ap file_of steps.0 ∙ file; armed = armed; up = down })
+one_by None false f g d call true file armed down steps memory = (refl, record { file = steps.0.file ∙ ap (λ (s : FileState). after s call) file; armed = armed; up = down })
+one_by None false f g d call false file armed down steps memory = absurd (memory refl steps.1)
+
+one : (f g : MemFuse) (d : NodeDisk) (call : DeviceCall) (ok : Bool) → DiskStands f d → FuseSteps MemSteps f call g ok → FoundMemory g ok → EndsAs (call_once d call).ended g (call_once d call).disk ok
+one f g d call ok stands steps memory =
+    let run = steps.0 stands.up in
+    one_by (stop_due d.armed.stop) (is_fault_due d.armed.fault) f g d call ok stands.file (run.orders ∙ ap armed_later stands.armed) (run.down ∙ ap (λ (a : Armed). stop_due a.stop) stands.armed)
+    (subst (λ (a : Armed). StepsAt MemSteps (fate_of a) f.disk call g.disk ok g.struck) stands.armed run.disk) memory
+
+goes_on : (end : CallsEnd) (mid g : MemFuse) (d : NodeDisk) (ok : Bool) (more : NodeDisk → Called) → EndsAs end mid d true → (DiskStands mid d → EndsAs (more d).ended g (more d).disk ok)
+    → EndsAs (go_on end d more).ended g (go_on end d more).disk ok
+goes_on Done mid g d ok more said then = then said.1
+goes_on Failed mid g d ok more said then = absurd (cc said.0)
+goes_on (StoppedIn way) mid g d ok more said then = absurd (cc said.0)
+
+ends_here : (end : CallsEnd) (g : MemFuse) (d : NodeDisk) (more : NodeDisk → Called) → EndsAs end g d false → EndsAs (go_on end d more).ended g (go_on end d more).disk false
+ends_here Done g d more said = absurd (cc said.0)
+ends_here Failed g d more said = said
+ends_here (StoppedIn way) g d more said = said
+
+pub as_said : (calls : List DeviceCall) (f g : MemFuse) (d : NodeDisk) (ok : Bool) → DiskStands f d → Ran (FuseSteps MemSteps) calls f g ok → FoundMemory g ok → EndsAs (calls_made d calls).ended g (calls_made d calls).disk ok
+as_said [] f g d ok stands ran memory = (ran.1, subst (λ (h : MemFuse). DiskStands h d) (sym ran.0) stands)
+as_said (call ∷ calls) f g d ok stands (inl done) memory =
+    let first = one f done.0 d call true stands done.1 (λ failing struck. absurd (cc failing)) in
+    goes_on (call_once d call).ended done.0 g (call_once d call).disk ok (λ (n : NodeDisk). calls_made n calls) first (λ mid. as_said calls done.0 g (call_once d call).disk ok mid done.2 memory)
+as_said (call ∷ calls) f g d ok stands (inr failed) memory =
+    let said = one f g d call false stands failed.0 (λ failing. memory failed.1) in
+    subst (λ (b : Bool). EndsAs (calls_made d (call ∷ calls)).ended g (calls_made d (call ∷ calls)).disk b) (sym failed.1) (ends_here (call_once d call).ended g (call_once d call).disk (λ (n : NodeDisk). calls_made n calls) said)
+
+-- this fuse has stopped, and a restart gives this disk
+pub record StopLeaves (end : CallsEnd) (g : MemFuse) (d : NodeDisk) : Type 0 where
+  pub way : Way
+  pub ended : end ≡ StoppedIn way
+  pub down : g.down ≡ Some way
+  pub file : left_by way (file_of g.disk) ≡ d.file
+  pub armed : g.armed ≡ d.armed
+
+-- how calls ended, by their answer and by what has struck
+ends_done : (end : CallsEnd) (g : MemFuse) (d : NodeDisk) (ok : Bool) → EndsAs end g d ok → ok ≡ true → (end ≡ Done) × DiskStands g d
+ends_done Done g d ok said passed = (refl, said.1)
+ends_done Failed g d ok said passed = absurd (cc said.0)
+ends_done (StoppedIn way) g d ok said passed = absurd (cc said.0)
+
+ends_failed : (end : CallsEnd) (g : MemFuse) (d : NodeDisk) (ok : Bool) → EndsAs end g d ok → ok ≡ false → g.struck ≡ Some Fault → (end ≡ Failed) × DiskStands g d
+ends_failed Done g d ok said failing struck = absurd (cc said.0)
+ends_failed Failed g d ok said failing struck = (refl, said.2)
+ends_failed (StoppedIn way) g d ok said failing struck = absurd (cc said.1)
+
+ends_stopped : (end : CallsEnd) (g : MemFuse) (d : NodeDisk) (ok : Bool) → EndsAs end g d ok → ok ≡ false → g.struck ≡ Some Stop → StopLeaves end g d
+ends_stopped Done g d ok said failing struck = absurd (cc said.0)
+ends_stopped Failed g d ok said failing struck = absurd (cc said.1)
+ends_stopped (StoppedIn way) g d ok said failing struck = record { way = way; ended = refl; down = said.2; file = said.3; armed = said.4 }
+
+module _ (calls : List DeviceCall) (f g : MemFuse) (d : NodeDisk) (ok : Bool) (stands : DiskStands f d) (ran : Ran (FuseSteps MemSteps) calls f g ok) where
+  pub said_done : ok ≡ true → ((calls_made d calls).ended ≡ Done) × DiskStands g (calls_made d calls).disk
+  said_done passed = ends_done (calls_made d calls).ended g (calls_made d calls).disk ok (as_said calls f g d ok stands ran (λ failing none. absurd (cc (passed, failing)))) passed
+
+  pub said_failed : ok ≡ false → g.struck ≡ Some Fault → ((calls_made d calls).ended ≡ Failed) × DiskStands g (calls_made d calls).disk
+  said_failed failing struck = ends_failed (calls_made d calls).ended g (calls_made d calls).disk ok (as_said calls f g d ok stands ran (λ failing none. absurd (cc (struck, none)))) failing struck
+
+  pub said_stopped : ok ≡ false → g.struck ≡ Some Stop → StopLeaves (calls_made d calls).ended g (calls_made d calls).disk
+  said_stopped failing struck = ends_stopped (calls_made d calls).ended g (calls_made d calls).disk ok (as_said calls f g d ok stands ran (λ failing none. absurd (cc (struck, none)))) failing struck
+
+pub restarted_stands : (end : CallsEnd) (g new : MemFuse) (d : NodeDisk) → StopLeaves end g d → Restarted g new → DiskStands new d
+restarted_stands end g new d left again = record { file = again.file left.way left.down ∙ left.file; armed = again.armed ∙ left.armed; up = again.up }
+
+pub stopped_stands : (f new : MemFuse) (d : NodeDisk) (way : Way) → DiskStands f d → new.armed ≡ f.armed → new.down ≡ None → file_of new.disk ≡ left_by way (file_of f.disk) → DiskStands new (stopped_by way d)
+stopped_stands f new d way stands armed up file = record { file = file ∙ ap (left_by way) stands.file; armed = armed ∙ stands.armed; up = up }
+
+pub ordered_stands : (f g : MemFuse) (d : NodeDisk) (order : Order) → DiskStands f d → FuseArms f order g → DiskStands g (with_order order d)
+ordered_stands f g d order stands arms = record { file = ap file_of arms.disk ∙ stands.file; armed = arms.armed ∙ ap (armed_with order) stands.armed; up = arms.down ∙ stands.up }
+
+pub gate_stands : (file : List ℕ) (outcomes : List ℕ → Type 0) (gate : ℕ) → IsSettled file outcomes gate → gate ≡ gate_of file
+gate_stands file outcomes gate is = gate_is (standing file) file gate is.laid

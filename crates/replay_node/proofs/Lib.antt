@@ -1,0 +1,11 @@
+pub mod AllSettled
+pub mod AsSaid
+pub mod Crashed
+pub mod Found
+pub mod Nodes
+pub mod Opened
+pub mod Reopened
+pub mod SettledLocal
+pub mod Settling
+pub mod StateSteps
+pub mod Struck

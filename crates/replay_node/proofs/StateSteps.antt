@@ -1,0 +1,334 @@
+-- What an act makes of a node whose journal is open, by how it ended.
+use Rattle.std.proofs.Common.{◌≡◌, ◌⊎◌, ℕ, ◌+◌, Bool, true, false, List, length, reverse, refl, sym, ◌∙◌, ap, subst, inl, inr, arith}
+use Rattle.std.proofs.lemmas.Result.{IfOk-weaker}
+use Rattle.std.specs.Prelude.{Option, None, Some, Result, Err, IfOk}
+use Rattle.std.specs.declared.alloc.AllocError.{AllocError}
+use Rattle.voting_config.specs.Ids.{Id}
+use Rattle.cluster_state.specs.declared.causes.PublishCause.{PublishCause}
+use Rattle.cluster_state.specs.declared.messages.PublishRequest.{PublishRequest}
+use Rattle.cluster_state.specs.declared.state.Kept.{Kept}
+use Rattle.zen_disk.specs.DeviceCall.{DeviceCall}
+use Rattle.zen_disk.specs.FileState.{FileState}
+use Rattle.zen_disk.specs.Fuse.{FuseSteps}
+use Rattle.zen_disk.specs.MemDisk.{MemSteps}
+use Rattle.zen_disk.specs.Moments.{LeavesOnly, quiet}
+use Rattle.zen_disk.specs.Runs.{Ran}
+use Rattle.zen_disk.specs.UndoLog.{WasImage, IsImage, was-is, only-last}
+use Rattle.zen_disk.specs.declared.orders.Struck.TheVariants.{Stop, Fault}
+use Rattle.gate_log.specs.Calls.{append_calls}
+use Rattle.gate_log.specs.Journal.{framed}
+use Rattle.state_journal.specs.Bodies.{body_of}
+use Rattle.state_journal.specs.Changes.{IsEither}
+use Rattle.state_journal.specs.Journal.{StoodFor, only_record, record_of_file}
+use Rattle.state_journal.specs.declared.change.Change.{Change}
+use Rattle.coord_state.specs.Checks.{Foretells}
+use Rattle.coord_state.specs.Outcomes.{publish_outcome}
+use Rattle.coord_state.specs.StandsFor.{Acts, StandsFor, acts, fields_of}
+use Rattle.coord_state.specs.Writes.{WritesBy, Wrote, IsDuring, change_of}
+use Rattle.coord_state.specs.declared.coord.ActError.{ActError}
+use Rattle.coord_state.specs.declared.coord.ActError.TheVariants as error
+use Rattle.coord_state.specs.declared.coord.CoordState.{CoordState}
+use Rattle.world_model.specs.declared.acts.Act.{Act}
+use Rattle.world_model.specs.declared.acts.Act.TheVariants.{Bootstrap, StartJoin, Publish, Commit, Open}
+use Rattle.world_model.specs.declared.acts.Cause.TheVariants.{Publish as PublishRefused}
+use Rattle.world_model.specs.declared.acts.Message.{Message}
+use Rattle.world_model.specs.declared.acts.Reply.{Reply}
+use Rattle.world_model.specs.declared.acts.Reply.TheVariants.{Taken, Refused, Stopped}
+use Rattle.world_model.specs.declared.acts.Outcome.{Outcome}
+use Rattle.world_model.specs.declared.acts.Outcome.TheVariants.{Answered, Disk, Crashed}
+use Rattle.world_model.specs.Acts.{NodeHistory, Then}
+use Rattle.world_model.specs.Histories.{is_open, is_down}
+use Rattle.world_model.specs.NodeState.{NodeState, durable_of, stopped_of}
+use Rattle.world_model.specs.Replies.{reply_of, reply_at, is_taken, writes}
+use Rattle.replay_node.specs.Did.{outcome_of}
+use Rattle.replay_node.specs.NodeDisk.{NodeDisk, CallsEnd, Done, Failed, StoppedIn, Called, MemFuse, MayLeave, DiskStands, calls_made, gate_of}
+use Rattle.replay_node.specs.NodeWorld.{NodeWorld, act_calls, act_called, after_act, is_stop, outcome_at, outcome_by}
+use Rattle.replay_node.specs.Settled.{settled, IsUnstruck}
+use Rattle.replay_node.specs.Stands.{Journal, LeavesActs, OpenStands, CrashedStands, record_of, has_stopped, faults}
+use Rattle.replay_node.specs.StateDoes.{IsToldBy, StandsAfter, StateDid, StateDoes}
+use Rattle.replay_node.specs.declared.did.Did.{Did}
+use Rattle.replay_node.specs.declared.did.Did.TheVariants as did
+use Rattle.replay_node.proofs.AsSaid.{gate_stands, said_done, said_failed, said_stopped, StopLeaves}
+use Rattle.replay_node.proofs.Found.{struck_tells, tells_of, Tells}
+use Rattle.replay_node.proofs.SettledLocal.{stopped_reply}
+use Rattle.replay_node.proofs.Settling.{settled_then, unstruck_then}
+use Rattle.replay_node.proofs.Struck.{closed_of_writes, durable_kept, durable_lost, durable_lost_crash, durable_refused, taken_is}
+
+-- what the journal's ghost members are over such a disk
+
+abbrev pub moment : Journal → ℕ
+moment j = length (reverse j.log.disk.disk.log.items)
+
+abbrev pub left_since : Journal → ℕ → Option Kept → Type 0
+left_since j = StoodFor (WasImage (reverse j.log.disk.disk.log.items) j.log.disk.disk.bytes.items)
+
+abbrev pub journal_writes : Journal → Change → Journal → Bool → Type 0
+journal_writes j change k ok =
+    let frame = framed (body_of change) in
+    Ran (FuseSteps MemSteps) (append_calls j.log.gate frame) j.log.disk k.log.disk ok × (Unit {0} → ok ≡ true → k.log.gate ≡ j.log.gate + length frame)
+
+-- what coord_state tells of an act
+pub record Step (old new : CoordState Journal) (act : Act) (o : Outcome) : Type 0 where
+  pub acts : Acts record_of has_stopped faults old new act o
+  pub wrote : WritesBy journal_writes old.keeper act new.keeper o
+  pub any_moment : (g : NodeHistory) → StandsFor record_of has_stopped faults old g → LeavesOnly moment left_since old.keeper new.keeper (IsDuring g act)
+
+-- ---- the device calls
+
+gate_is : (j : Journal) (d : NodeDisk) → DiskStands j.log.disk d → j.log.stopped ≡ false → j.log.gate ≡ gate_of d.file.read
+gate_is j d stands running = gate_stands _ _ _ (j.log.settled tt running) ∙ ap (λ (s : FileState). gate_of s.read) stands.file
+
+abbrev CallsDone : Journal → Called → Type 0
+CallsDone new called = (called.ended ≡ Done) × DiskStands new.log.disk called.disk
+
+taken_done : (old new : Journal) (change : Option Change) (d : NodeDisk) (sends : Option Message) (wins : Bool) → DiskStands old.log.disk d → old.log.stopped ≡ false → Wrote journal_writes old change new true
+    → CallsDone new (calls_made d (act_calls (Taken sends wins) change d.file.read))
+taken_done old new (Some change) d sends wins stands running wrote =
+    let ran = subst (λ (gate : ℕ). Ran (FuseSteps MemSteps) (append_calls gate (framed (body_of change))) old.log.disk new.log.disk true) (gate_is old d stands running) wrote.0 in
+    said_done (append_calls (gate_of d.file.read) (framed (body_of change))) old.log.disk new.log.disk d true stands ran refl
+taken_done old new None d sends wins stands running wrote = (refl, subst (λ (j : Journal). DiskStands j.log.disk d) (sym wrote) stands)
+
+answered_done : (old new : Journal) (act : Act) (reply : Reply) (d : NodeDisk) → DiskStands old.log.disk d → (is_taken reply ≡ true → old.log.stopped ≡ false) → WritesBy journal_writes old act new (Answered reply)
+    → CallsDone new (calls_made d (act_calls reply (change_of act) d.file.read))
+answered_done old new act (Taken sends wins) d stands running wrote = taken_done old new (change_of act) d sends wins stands (running refl) wrote
+answered_done old new act (Refused cause) d stands running wrote = (refl, subst (λ (j : Journal). DiskStands j.log.disk d) (sym wrote) stands)
+answered_done old new act Stopped d stands running wrote = (refl, subst (λ (j : Journal). DiskStands j.log.disk d) (sym wrote) stands)
+
+-- ---- the journal has stopped as the acts say
+
+stopped_then : (g : NodeHistory) (act : Act) (reply : Reply) → is_open act ≡ false → stopped_of (Then g act (Answered reply)) ≡ stopped_of g
+stopped_then g (Open found) reply o = cc
+stopped_then g act reply o = refl
+
+stopped_disk : (g : NodeHistory) (act : Act) (kept : Bool) → is_open act ≡ false → stopped_of (Then g act (Disk kept)) ≡ true
+stopped_disk g (Open found) kept o = cc
+stopped_disk g act kept o = refl
+
+stands_stopped : (c : CoordState Journal) (g : NodeHistory) → StandsFor record_of has_stopped faults c g → c.keeper.log.stopped ≡ stopped_of g
+stands_stopped c g s = ap (λ (p : NodeState). p.stopped) s
+
+stands_durable : (c : CoordState Journal) (g : NodeHistory) → StandsFor record_of has_stopped faults c g → c.keeper.kept ≡ durable_of g
+stands_durable c g s = ap (λ (p : NodeState). record { term = p.term; accepted = p.accepted; committed = p.committed }) s
+
+-- an act that is taken finds the journal running
+runs_of : (me : Id) (c : CoordState Journal) (g : NodeHistory) (act : Act) → is_open act ≡ false → StandsFor record_of has_stopped faults c g → is_taken (reply_of me g act) ≡ true → c.keeper.log.stopped ≡ false
+runs_of me c g act o s taken = from c.keeper.log.stopped refl
+  where
+    from : (b : Bool) → c.keeper.log.stopped ≡ b → c.keeper.log.stopped ≡ false
+    from false e = e
+    from true e =
+        let stopped = stopped_reply me g act o (sym (stands_stopped c g s) ∙ e) in
+        absurd (cc (taken, ap is_taken stopped))
+
+-- ---- an act that is answered
+
+leaves_stopped : (fuse : MemFuse) (g : NodeHistory) (act : Act) (reply : Reply) → is_open act ≡ false → is_taken reply ≡ false → LeavesActs fuse g → LeavesActs fuse (Then g act (Answered reply))
+leaves_stopped fuse g act reply o refused leaves =
+    let same : (k : Bool) → durable_of (settled k (Then g act (Answered reply))) ≡ durable_of (settled k g) = λ k. ap durable_of (settled_then k g act reply o) ∙ durable_refused (settled k g) act reply o refused in
+    record {
+      left = λ file may. subst (λ (a : Kept). IsEither a (durable_of (settled true (Then g act (Answered reply)))) (record_of_file file)) (sym (same false))
+          (subst (λ (b : Kept). IsEither (durable_of (settled false g)) b (record_of_file file)) (sym (same true)) (leaves.left file may));
+      shown = tells_of _ _ _ _ (same false) (same true) leaves.shown;
+    }
+
+module _ (old new : CoordState Journal) (act : Act) (reply : Reply) (step : Step old new act (Answered reply)) (o : is_open act ≡ false) (w : NodeWorld) (stands : OpenStands old.me old w) where
+  reply_is : reply ≡ reply_of old.me w.acts act
+  reply_is = step.acts.answers w.acts stands.acts
+
+  answered_calls : CallsDone new.keeper (act_called old.me w act)
+  answered_calls =
+      let running = λ (taken : is_taken reply ≡ true). runs_of old.me old w.acts act o stands.acts (subst (λ (r : Reply). is_taken r ≡ true) reply_is taken) in
+      subst (λ (r : Reply). CallsDone new.keeper (calls_made w.disk (act_calls r (change_of act) w.disk.file.read))) reply_is (answered_done old.keeper new.keeper act reply w.disk stands.disk running step.wrote)
+
+  pub answered_at : Answered reply ≡ outcome_at old.me w act
+  answered_at = ap Answered reply_is ∙ sym (ap (λ (e : CallsEnd). outcome_by e (reply_of old.me w.acts act)) answered_calls.0)
+
+  same_stopped : new.keeper.log.stopped ≡ old.keeper.log.stopped
+  same_stopped = stands_stopped new (Then w.acts act (Answered reply)) (step.acts.stands w.acts stands.acts) ∙ stopped_then w.acts act reply o ∙ sym (stands_stopped old w.acts stands.acts)
+
+  answered_stopped : old.keeper.log.stopped ≡ true → LeavesActs new.keeper.log.disk (Then w.acts act (Answered reply))
+  answered_stopped stopped =
+      let stopped_is : reply ≡ Stopped = reply_is ∙ stopped_reply old.me w.acts act o (sym (stands_stopped old w.acts stands.acts) ∙ stopped) in
+      let same : new.keeper ≡ old.keeper = subst (λ (r : Reply). WritesBy journal_writes old.keeper act new.keeper (Answered r)) stopped_is step.wrote in
+      subst (λ (j : Journal). LeavesActs j.log.disk (Then w.acts act (Answered reply))) (sym same) (leaves_stopped old.keeper.log.disk w.acts act reply o (ap is_taken stopped_is) (stands.stopped stopped))
+
+  pub answered_stands : OpenStands old.me new (after_act old.me w act)
+  answered_stands = record {
+    me_is = step.acts.at.me;
+    up = ap is_stop answered_calls.0;
+    not_crashed = subst (λ (p : Outcome). is_down (Then w.acts act p) ≡ false) answered_at refl;
+    acts = subst (λ (p : Outcome). StandsFor record_of has_stopped faults new (Then w.acts act p)) answered_at (step.acts.stands w.acts stands.acts);
+    disk = answered_calls.1;
+    running = λ runs. subst (λ (p : Outcome). IsUnstruck (Then w.acts act p)) answered_at (unstruck_then w.acts act reply (stands.running (sym same_stopped ∙ runs)));
+    stopped = λ stopped. subst (λ (p : Outcome). LeavesActs new.keeper.log.disk (Then w.acts act p)) answered_at (answered_stopped (sym same_stopped ∙ stopped));
+  }
+
+-- ---- an act that was struck
+
+change_is : (act : Act) → writes act ≡ true → (change : Change) × (change_of act ≡ Some change)
+change_is (Bootstrap config) e = (_, refl)
+change_is (StartJoin candidate term) e = (_, refl)
+change_is (Publish request) e = (_, refl)
+change_is (Commit commit) e = (_, refl)
+change_is act e = cc
+
+-- what was left before the act is the record
+was_record : (c : CoordState Journal) (g : NodeHistory) (found : Option Kept) → StandsFor record_of has_stopped faults c g → c.keeper.log.stopped ≡ false → left_since c.keeper (moment c.keeper) found → found ≡ Some (durable_of g)
+was_record c g found s running left =
+    let past = reverse c.keeper.log.disk.disk.log.items in
+    let read = c.keeper.log.disk.disk.bytes.items in
+    only_record read (WasImage past read (length past)) (IsImage past read) c.keeper.kept found (only-last past read) (c.keeper.log.settled tt running).durable (c.keeper.stands tt running) left ∙ ap Some (stands_durable c g s)
+
+leaves_by : (fuse : MemFuse) (g h : NodeHistory) (act : Act) → durable_of (settled false h) ≡ durable_of g → durable_of (settled true h) ≡ durable_of (Then g act (Crashed true))
+    → ((file : List ℕ) → MayLeave fuse file → IsDuring g act (record_of_file file)) → Tells (durable_of g) (durable_of (Then g act (Crashed true))) → LeavesActs fuse h
+leaves_by fuse g h act lost kept during tells = record {
+  left = λ file may. subst (λ (a : Kept). IsEither a (durable_of (settled true h)) (record_of_file file)) (sym lost) (subst (λ (b : Kept). IsEither (durable_of g) b (record_of_file file)) (sym kept) (during file may));
+  shown = tells_of _ _ _ _ lost kept tells;
+}
+
+module _ (old new : CoordState Journal) (act : Act) (step : Step old new act (Disk false)) (w : NodeWorld) (stands : OpenStands old.me old w) where
+  struck_taken : (is_taken (reply_of old.me w.acts act) ≡ true) × (writes act ≡ true)
+  struck_taken = step.acts.answers w.acts stands.acts
+
+  struck_closed : is_open act ≡ false
+  struck_closed = closed_of_writes act struck_taken.1
+
+  struck_runs : old.keeper.log.stopped ≡ false
+  struck_runs = runs_of old.me old w.acts act struck_closed stands.acts struck_taken.0
+
+  during : (file : List ℕ) → MayLeave new.keeper.log.disk file → IsDuring w.acts act (record_of_file file)
+  during file may = from (run.since (moment old.keeper) (record_of_file file) (omega arith) (file, was-is (reverse new.keeper.log.disk.disk.log.items) new.keeper.log.disk.disk.bytes.items (moment old.keeper) file may, refl))
+    where
+      run : LeavesOnly moment left_since old.keeper new.keeper (IsDuring w.acts act)
+      run = step.any_moment w.acts stands.acts
+
+      from : left_since old.keeper (moment old.keeper) (record_of_file file) ⊎ IsDuring w.acts act (record_of_file file) → IsDuring w.acts act (record_of_file file)
+      from (inl was) = inl (was_record old w.acts (record_of_file file) stands.acts struck_runs was)
+      from (inr now) = now
+
+  change : (c : Change) × (change_of act ≡ Some c)
+  change = change_is act struck_taken.1
+
+  abbrev calls : List DeviceCall
+  calls = append_calls (gate_of w.disk.file.read) (framed (body_of change.0))
+
+  struck_ran : Ran (FuseSteps MemSteps) calls old.keeper.log.disk new.keeper.log.disk false
+  struck_ran =
+      let wrote : Wrote journal_writes old.keeper (Some change.0) new.keeper false = subst (λ (c : Option Change). Wrote journal_writes old.keeper c new.keeper false) change.1 step.wrote in
+      subst (λ (gate : ℕ). Ran (FuseSteps MemSteps) (append_calls gate (framed (body_of change.0))) old.keeper.log.disk new.keeper.log.disk false) (gate_is old.keeper w.disk stands.disk struck_runs) wrote.0
+
+  struck_calls : act_called old.me w act ≡ calls_made w.disk calls
+  struck_calls =
+      let taken = taken_is (reply_of old.me w.acts act) struck_taken.0 in
+      ap (calls_made w.disk) (ap (λ (c : Option Change). act_calls (reply_of old.me w.acts act) c w.disk.file.read) change.1 ∙ ap (λ (r : Reply). act_calls r (Some change.0) w.disk.file.read) (sym taken.2))
+
+  ended_at : (e : CallsEnd) → (calls_made w.disk calls).ended ≡ e → outcome_by e (reply_of old.me w.acts act) ≡ outcome_at old.me w act
+  ended_at e is = sym (ap (λ (x : CallsEnd). outcome_by x (reply_of old.me w.acts act)) (ap (λ (c : Called). c.ended) struck_calls ∙ is))
+
+  leaves : (h : NodeHistory) → durable_of (settled false h) ≡ durable_of w.acts → durable_of (settled true h) ≡ durable_of (Then w.acts act (Crashed true)) → LeavesActs new.keeper.log.disk h
+  leaves h lost kept = leaves_by new.keeper.log.disk w.acts h act lost kept during (struck_tells old.me w.acts act struck_taken)
+
+  module _ (struck : new.keeper.log.disk.struck ≡ Some Fault) where
+    failed_calls : ((calls_made w.disk calls).ended ≡ Failed) × DiskStands new.keeper.log.disk (calls_made w.disk calls).disk
+    failed_calls = said_failed calls old.keeper.log.disk new.keeper.log.disk w.disk false stands.disk struck_ran refl struck
+
+    pub failed_at : Disk false ≡ outcome_at old.me w act
+    failed_at = ended_at Failed failed_calls.0
+
+    failed_stopped : new.keeper.log.stopped ≡ true
+    failed_stopped = stands_stopped new (Then w.acts act (Disk false)) (step.acts.stands w.acts stands.acts) ∙ stopped_disk w.acts act false struck_closed
+
+    pub failed_stands : OpenStands old.me new (after_act old.me w act)
+    failed_stands = record {
+      me_is = step.acts.at.me;
+      up = ap is_stop (ap (λ (c : Called). c.ended) struck_calls ∙ failed_calls.0);
+      not_crashed = subst (λ (p : Outcome). is_down (Then w.acts act p) ≡ false) failed_at refl;
+      acts = subst (λ (p : Outcome). StandsFor record_of has_stopped faults new (Then w.acts act p)) failed_at (step.acts.stands w.acts stands.acts);
+      disk = subst (λ (c : Called). DiskStands new.keeper.log.disk c.disk) (sym struck_calls) failed_calls.1;
+      running = λ runs. absurd (cc (runs, failed_stopped));
+      stopped = λ stopped. subst (λ (p : Outcome). LeavesActs new.keeper.log.disk (Then w.acts act p)) failed_at (leaves (Then w.acts act (Disk false)) (durable_lost w.acts act struck_closed) (durable_kept w.acts act));
+    }
+
+  module _ (struck : new.keeper.log.disk.struck ≡ Some Stop) where
+    stop : StopLeaves (calls_made w.disk calls).ended new.keeper.log.disk (calls_made w.disk calls).disk
+    stop = said_stopped calls old.keeper.log.disk new.keeper.log.disk w.disk false stands.disk struck_ran refl struck
+
+    pub crashed_at : Crashed false ≡ outcome_at old.me w act
+    crashed_at = ended_at (StoppedIn stop.way) stop.ended
+
+    pub crashed_stands : CrashedStands old.me new (after_act old.me w act)
+    crashed_stands = record {
+      down = ap is_stop (ap (λ (c : Called). c.ended) struck_calls ∙ stop.ended);
+      way = stop.way;
+      stopped = stop.down;
+      file = stop.file ∙ ap (λ (c : Called). c.disk.file) (sym struck_calls);
+      armed = stop.armed ∙ ap (λ (c : Called). c.disk.armed) (sym struck_calls);
+      left = subst (λ (p : Outcome). LeavesActs new.keeper.log.disk (Then w.acts act p)) crashed_at (leaves (Then w.acts act (Crashed false)) (durable_lost_crash w.acts act struck_closed) refl);
+    }
+
+-- ---- an act, by what is told of it
+
+answered_after : (me : Id) (state : CoordState Journal) (w : NodeWorld) (d : Did) (reply : Reply) → outcome_of d ≡ Some (Answered reply) → OpenStands me state w → StandsAfter me state w d
+answered_after me state w did.Crashed reply is stands = absurd (cc is)
+answered_after me state w did.Down reply is stands = absurd (cc is)
+answered_after me state w d reply is stands = stands
+
+module _ (old new : CoordState Journal) (act : Act) (closed : is_open act ≡ false) (w : NodeWorld) (stands : OpenStands old.me old w) where
+  answered_did : (was now : Did) (o : Outcome) (reply : Reply) → outcome_of was ≡ Some (Answered reply) → outcome_of was ≡ Some o → Step old new act o → now ≡ was → StateDid old.me new w act now
+  answered_did was now o reply is by step told =
+      let same : o ≡ Answered reply = cc in
+      let here : Step old new act (Answered reply) = subst (Step old new act) same step in
+      let now_is : outcome_of now ≡ Some (Answered reply) = ap outcome_of told ∙ is in
+      record {
+        outcome = now_is ∙ ap Some (answered_at old new act reply here closed w stands);
+        stands = answered_after old.me new (after_act old.me w act) now reply now_is (answered_stands old new act reply here closed w stands);
+      }
+
+  struck_did : (now : Did) → Step old new act (Disk false) → IsToldBy new did.Disk now → StateDid old.me new w act now
+  struck_did did.Disk step told = record { outcome = ap Some (failed_at old new act step w stands told); stands = failed_stands old new act step w stands told }
+  struck_did did.Crashed step told = record { outcome = ap Some (crashed_at old new act step w stands told); stands = crashed_stands old new act step w stands told }
+  struck_did now step told = absurd told
+
+  state_did : (was now : Did) (o : Outcome) → outcome_of was ≡ Some o → Step old new act o → IsToldBy new was now → StateDid old.me new w act now
+  state_did (did.Taken e) now o is step told = answered_did (did.Taken e) now o _ refl is step told
+  state_did (did.Refused cause) now o is step told = answered_did (did.Refused cause) now o _ refl is step told
+  state_did did.Stopped now o is step told = answered_did did.Stopped now o _ refl is step told
+  state_did did.Disk now o is step told = struck_did now (subst (Step old new act) (cc is) step) told
+  state_did did.Crashed now o is step told =
+      let same : o ≡ Crashed false = cc is in
+      absurd (cc (same, step.acts.at.runs))
+  state_did did.Down now o is step told = absurd (cc is)
+
+pub does : (old new : CoordState Journal) (act : Act) (o : Outcome) (was now : Did) → is_open act ≡ false → outcome_of was ≡ Some o → Step old new act o → IsToldBy new was now → StateDoes old new act now
+does old new act o was now closed is step told = record { me = step.acts.at.me; does = λ w stands. state_did old new act closed w stands was now o is step told }
+
+pub told_does : (old new : CoordState Journal) (act : Act) (o : Outcome) (was : Did) → is_open act ≡ false → outcome_of was ≡ Some o → Step old new act o
+    → (r : Result Did AllocError) → IfOk r (IsToldBy new was) → IfOk r (StateDoes old new act)
+told_does old new act o was closed is step r told = IfOk-weaker r (IsToldBy new was) (StateDoes old new act) (λ now. does old new act o was now closed is step) told
+
+-- ---- a publication that is refused before it is copied
+
+still_step : (c : CoordState Journal) (request : PublishRequest) (reply : Reply) → is_taken reply ≡ false → reply ≡ reply_at c.me (fields_of record_of has_stopped faults c) (Publish request) → Step c c (Publish request) (Answered reply)
+still_step c request (Taken sends wins) refused is = cc
+still_step c request (Refused cause) refused is = record {
+  acts = acts record_of has_stopped faults c c (Publish request) (Answered (Refused cause)) refl (record { me = refl; answers = is; after = refl; runs = refl; later = omega arith; fault = λ e. absurd (cc e) });
+  wrote = refl;
+  any_moment = λ g s. quiet moment left_since c.keeper (IsDuring g (Publish request));
+}
+still_step c request Stopped refused is = record {
+  acts = acts record_of has_stopped faults c c (Publish request) (Answered Stopped) refl (record { me = refl; answers = is; after = refl; runs = refl; later = omega arith; fault = λ e. absurd (cc e) });
+  wrote = refl;
+  any_moment = λ g s. quiet moment left_since c.keeper (IsDuring g (Publish request));
+}
+
+still : (c : CoordState Journal) (request : PublishRequest) (reply : Reply) (d : Did) → is_taken reply ≡ false → outcome_of d ≡ Some (Answered reply) → reply ≡ reply_at c.me (fields_of record_of has_stopped faults c) (Publish request) → StateDoes c c (Publish request) d
+still c request reply d refused is by = record {
+  me = refl;
+  does = λ w stands. answered_did c c (Publish request) refl w stands d d (Answered reply) reply is is (still_step c request reply refused by) refl;
+}
+
+pub refused_does : (c : CoordState Journal) (request : PublishRequest) (why : ActError PublishCause (Unit {0})) (d : Did) → outcome_of d ≡ Some (publish_outcome (Err why))
+    → Foretells (Err why) (reply_at c.me (fields_of record_of has_stopped faults c) (Publish request)) → StateDoes c c (Publish request) d
+refused_does c request (error.Stopped u) d is told = still c request Stopped d refl is (sym told)
+refused_does c request (error.Refused cause u) d is told = still c request (Refused (PublishRefused cause)) d refl is (sym told)
+refused_does c request error.Disk d is told = absurd told

@@ -1,0 +1,11 @@
+pub mod Did
+pub mod NodeDisk
+pub mod NodeLines
+pub mod NodeWorld
+pub mod Opens
+pub mod Published
+pub mod Sent
+pub mod Settled
+pub mod StateDoes
+pub mod Takes
+pub mod Stands

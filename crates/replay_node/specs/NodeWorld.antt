@@ -1,0 +1,99 @@
+-- One node of a replay: what each line makes of it.
+use Rattle.std.specs.Prelude.{ℕ, Bool, true, false, ◌||◌, Option, None, Some, List, []}
+use Rattle.std.specs.Result.{result_unwrap_or}
+use Rattle.voting_config.specs.Ids.{Id}
+use Rattle.cluster_state.specs.Initial.{empty_record}
+use Rattle.cluster_state.specs.declared.state.Kept.{Kept}
+use Rattle.zen_disk.specs.DeviceCall.{DeviceCall}
+use Rattle.zen_disk.specs.declared.orders.Order.{Order}
+use Rattle.zen_disk.specs.declared.orders.Way.{Way}
+use Rattle.gate_log.specs.Calls.{append_calls}
+use Rattle.gate_log.specs.Journal.{framed}
+use Rattle.state_journal.specs.Bodies.{body_of}
+use Rattle.state_journal.specs.Journal.{found_of}
+use Rattle.state_journal.specs.declared.change.Change.{Change}
+use Rattle.world_model.specs.declared.acts.Act.{Act}
+use Rattle.world_model.specs.declared.acts.Outcome.{Outcome}
+use Rattle.world_model.specs.declared.acts.Reply.{Reply}
+use Rattle.world_model.specs.declared.acts.Act.TheVariants.{Open}
+use Rattle.world_model.specs.declared.acts.Reply.TheVariants.{Taken, Refused, Stopped}
+use Rattle.world_model.specs.declared.acts.Outcome.TheVariants.{Answered, Disk, Crashed}
+use Rattle.world_model.specs.Acts.{NodeHistory, NoActs, Then}
+use Rattle.world_model.specs.NodeState.{stopped_of}
+use Rattle.world_model.specs.Replies.{reply_of}
+use Rattle.coord_state.specs.Writes.{change_of}
+use Rattle.trace_text.specs.Trace.{record_line, crashed_line, disk_line}
+use Rattle.replay_node.specs.NodeDisk.{NodeDisk, CallsEnd, Done, Failed, StoppedIn, Called, calls_made, opening, gate_of, fresh_disk, with_order, stopped_by}
+use Rattle.replay_node.specs.Settled.{settled, is_kept}
+
+-- what it did, its disk, and whether it is down
+pub record NodeWorld : Type 0 where
+  pub acts : NodeHistory
+  pub disk : NodeDisk
+  pub down : Bool
+
+abbrev pub fresh_node : NodeWorld
+fresh_node = record { acts = NoActs; disk = fresh_disk; down = false }
+
+-- ---- an act
+
+-- the device calls of an act that is answered so: those that append its change, where it is taken and has one
+abbrev pub act_calls : Reply → Option Change → List ℕ → List DeviceCall
+act_calls (Taken sends wins) (Some change) read = append_calls (gate_of read) (framed (body_of change))
+act_calls (Taken sends wins) None read = []
+act_calls (Refused cause) change read = []
+act_calls Stopped change read = []
+
+-- its outcome by how these calls end; what the disk failed or stopped in counts as not kept until the node is opened
+abbrev pub outcome_by : CallsEnd → Reply → Outcome
+outcome_by Done reply = Answered reply
+outcome_by Failed reply = Disk false
+outcome_by (StoppedIn way) reply = Crashed false
+
+abbrev pub is_stop : CallsEnd → Bool
+is_stop Done = false
+is_stop Failed = false
+is_stop (StoppedIn way) = true
+
+abbrev pub act_called : Id → NodeWorld → Act → Called
+act_called me w act = calls_made w.disk (act_calls (reply_of me w.acts act) (change_of act) w.disk.file.read)
+
+abbrev pub outcome_at : Id → NodeWorld → Act → Outcome
+outcome_at me w act = outcome_by (act_called me w act).ended (reply_of me w.acts act)
+
+abbrev pub after_act : Id → NodeWorld → Act → NodeWorld
+after_act me w act = record { acts = Then w.acts act (outcome_at me w act); disk = (act_called me w act).disk; down = is_stop (act_called me w act).ended }
+
+-- ---- a crash between two acts, and orders
+
+abbrev pub after_crash : Way → NodeWorld → NodeWorld
+after_crash way w = record { acts = w.acts; disk = stopped_by way w.disk; down = true }
+
+abbrev pub after_order : Order → NodeWorld → NodeWorld
+after_order order w = record { acts = w.acts; disk = with_order order w.disk; down = w.down }
+
+-- ---- an opening
+
+-- it is down, or met a fault of its disk
+abbrev pub needs_opening : NodeWorld → Bool
+needs_opening w = w.down || stopped_of w.acts
+
+-- the record that the bytes stand for
+abbrev pub found_at : NodeWorld → Kept
+found_at w = result_unwrap_or (found_of w.disk.file.read) empty_record
+
+abbrev pub acts_reopened : NodeHistory → Kept → NodeHistory
+acts_reopened g found = Then (settled (is_kept g found) g) (Open found) (Answered (Taken None false))
+
+abbrev pub opened_by : CallsEnd → NodeHistory → NodeDisk → Kept → NodeWorld
+opened_by Done g disk found = record { acts = acts_reopened g found; disk = disk; down = false }
+opened_by Failed g disk found = record { acts = g; disk = disk; down = true }
+opened_by (StoppedIn way) g disk found = record { acts = g; disk = disk; down = true }
+
+abbrev pub after_opening : NodeWorld → NodeWorld
+after_opening w = opened_by (opening w.disk).ended w.acts (opening w.disk).disk (found_at w)
+
+abbrev pub opening_text : CallsEnd → Id → Kept → List ℕ
+opening_text Done n found = record_line n found.term found.accepted found.committed
+opening_text Failed n found = disk_line n
+opening_text (StoppedIn way) n found = crashed_line n

@@ -1,0 +1,292 @@
+ghost use Rattle.std.specs.Prelude.{◌≡◌, ◌++◌, Bool, Some, IfOk, IfSome, OnOk};
+ghost use Rattle.cluster_state.specs.States.{IsFitValue};
+ghost use Rattle.world_model.specs.declared.acts.Act.TheVariants as act;
+ghost use Rattle.zen_disk.specs.declared.orders.Order.{Order as DiskOrder};
+ghost use Rattle.world_model.specs.declared.acts.Outcome.TheVariants as outcome;
+ghost use Rattle.world_model.specs.declared.acts.Reply.TheVariants as reply;
+ghost use Rattle.replay_node.specs.Did.{outcome_of};
+ghost use Rattle.replay_node.specs.Published.{published_by, state_published};
+ghost use Rattle.replay_node.specs.NodeWorld.{NodeWorld, fresh_node, after_order};
+ghost use Rattle.replay_node.specs.NodeLines.{after_restart, after_stop, restart_text, stop_text, DoesLine, FindsKept};
+ghost use Rattle.replay_node.specs.Opens.{ClosedStands, Opens, StaysDown};
+ghost use Rattle.replay_node.specs.Sent.{message_of, message_of_some, taking};
+ghost use Rattle.replay_node.specs.Stands.{HasRoom, NodeDoes, NodeStands};
+ghost use Rattle.replay_node.specs.StateDoes.{Closes};
+
+use crate::did::Did;
+use crate::disk::{empty_disk, restarted, stopped};
+use crate::message::{Publication, SentMessage};
+use crate::state;
+use crate::state::OpenNode;
+use cluster_state::ClusterValue;
+use coord_state::CoordState;
+use schedule_text::Text;
+use state_journal::{Keeper, OpenError, StateJournal};
+use std::alloc::{AllocError, Global};
+use std::mem;
+use std::rc::Rc;
+use trace_text::{write_crashed, write_disk, write_down, write_record, write_up};
+use voting_config::{NodeId, NodeSet, VotingConfig};
+use zen_disk::{Armable, Fuse, MemDisk, Order, Struck, Way};
+
+/// Whether a node's journal is open.
+#[derive(Drop)]
+pub enum Slot {
+    Open(OpenNode),
+    /// The node is down, and this is its disk.
+    Down(Fuse<MemDisk>),
+}
+
+/// A node of a replay, and what it has published last.
+#[derive(Drop)]
+pub struct ReplayNode {
+    pub me: NodeId,
+    pub slot: Slot,
+    pub published: Option<Rc<Publication>>,
+}
+
+// Takes a slot out, and leaves a node that is down on an empty disk.
+fn take_slot(slot: &mut Slot, alloc: Global) -> Slot
+    ensures { result ≡ slot.old }
+{
+    mem::replace(slot, Slot::Down(empty_disk(alloc)))
+}
+
+// A node whose disk has stopped goes down.
+fn closed(slot: Slot) -> Slot
+    ensures { Closes slot Did.Crashed result }
+{
+    match slot {
+        Slot::Open(state) => Slot::Down(restarted(state.into_keeper().into_disk())),
+        Slot::Down(fuse) => Slot::Down(fuse),
+    }
+}
+
+// Keeps what was published, where this message publishes.
+fn keep_sent(
+    published: &mut Option<Rc<Publication>>,
+    sends: &Option<SentMessage>,
+) -> Result<(), AllocError>
+    ensures { OnOk result ((wins : Bool) → state_published published.new ≡ published_by (outcome.Answered (reply.Taken (message_of_some sends.now) wins)) (state_published published.old)) }
+{
+    match sends {
+        None => Ok(()),
+        Some(message) => keep_publication(published, message),
+    }
+}
+
+fn keep_publication(
+    published: &mut Option<Rc<Publication>>,
+    message: &SentMessage,
+) -> Result<(), AllocError>
+    ensures { OnOk result ((wins : Bool) → state_published published.new ≡ published_by (outcome.Answered (reply.Taken (Some (message_of message.now)) wins)) (state_published published.old)) }
+{
+    match message {
+        SentMessage::Publish(publication) => {
+            let publication = publication.clone()?;
+            *published = Some(publication);
+            Ok(())
+        }
+        _ => Ok(()),
+    }
+}
+
+impl ReplayNode {
+    /// A node whose journal was opened for the first time, on an empty disk.
+    pub fn new(alloc: Global, me: NodeId) -> Result<ReplayNode, AllocError>
+        ensures me { IfOk result (λ c. c.me ≡ me) }
+        ensures stands { IfOk result (λ c. NodeStands c fresh_node) }
+    {
+        match StateJournal::open(alloc, empty_disk(alloc)) {
+            Ok(journal) => Ok(ReplayNode {
+                me,
+                slot: Slot::Open(CoordState::new(me, journal)),
+                published: None,
+            }),
+            Err(_) => Err(AllocError),
+        }
+    }
+
+    /// Whether the node is down.
+    pub fn is_down(&self) -> bool
+        ensures { (w : NodeWorld) → NodeStands self.now w → result ≡ w.down }
+    {
+        match &self.slot {
+            Slot::Open(_) => false,
+            Slot::Down(_) => true,
+        }
+    }
+
+    fn close(&mut self, alloc: Global, did: &Did)
+        ensures me { self.new.me ≡ self.old.me }
+        ensures published { self.new.published ≡ self.old.published }
+        ensures slot { Closes self.old.slot did.now self.new.slot }
+    {
+        if let Did::Crashed = did {
+            let slot = take_slot(&mut self.slot, alloc);
+            self.slot = closed(slot);
+        }
+    }
+
+    /// The node takes the initial configuration.
+    pub fn boot(&mut self, alloc: Global, initial: &NodeSet) -> Result<Did, AllocError>
+        ensures { IfOk result (λ did. NodeDoes self.old self.new (act.Bootstrap initial.now) did) }
+    {
+        let Slot::Open(state) = &mut self.slot else {
+            return Ok(Did::Down);
+        };
+        let did = state::boot(state, alloc, initial)?;
+        self.close(alloc, &did);
+        Ok(did)
+    }
+
+    /// The node starts a join.
+    pub fn start_join(
+        &mut self,
+        alloc: Global,
+        candidate: NodeId,
+        term: u64,
+    ) -> Result<Did, AllocError>
+        ensures { IfOk result (λ did. NodeDoes self.old self.new (act.StartJoin candidate term) did) }
+    {
+        let Slot::Open(state) = &mut self.slot else {
+            return Ok(Did::Down);
+        };
+        let did = state::start_join(state, candidate, term)?;
+        self.close(alloc, &did);
+        Ok(did)
+    }
+
+    /// The node publishes a client's value.
+    pub fn publish(
+        &mut self,
+        alloc: Global,
+        version: u64,
+        config: VotingConfig,
+        value: ClusterValue,
+    ) -> Result<Did, AllocError>
+        requires { IsFitValue value }
+        ensures { IfOk result (λ did. NodeDoes self.old self.new (act.Value version config value) did) }
+    {
+        let Slot::Open(state) = &mut self.slot else {
+            return Ok(Did::Down);
+        };
+        let did = state::publish(state, alloc, version, config, value)?;
+        self.remember(&did)?;
+        self.close(alloc, &did);
+        Ok(did)
+    }
+
+    // Keeps what was published.
+    fn remember(&mut self, did: &Did) -> Result<(), AllocError>
+        ensures me { self.new.me ≡ self.old.me }
+        ensures slot { self.new.slot ≡ self.old.slot }
+        ensures published { OnOk result (IfSome (outcome_of did.now) (λ o. state_published self.new.published ≡ published_by o (state_published self.old.published))) }
+    {
+        match did {
+            Did::Taken(effects) => keep_sent(&mut self.published, &effects.sends),
+            _ => Ok(()),
+        }
+    }
+
+    /// The node takes a message.
+    pub fn take(&mut self, alloc: Global, message: &SentMessage) -> Result<Did, AllocError>
+        requires { HasRoom self.old (message_of message.now) }
+        ensures { IfOk result (λ did. NodeDoes self.old self.new (taking (message_of message.now)) did) }
+    {
+        let Slot::Open(state) = &mut self.slot else {
+            return Ok(Did::Down);
+        };
+        let did = state::take(state, alloc, message, &self.published)?;
+        self.close(alloc, &did);
+        Ok(did)
+    }
+
+    /// The node stops between two acts, and so does its disk. Writes `crashed` and the node, or `down` where it was down.
+    pub fn crash(&mut self, alloc: Global, way: Way, text: &mut Text) -> Result<(), AllocError>
+        ensures { OnOk result (DoesLine self.old self.new (after_stop way) (stop_text self.old.me) text.old text.new) }
+    {
+        match take_slot(&mut self.slot, alloc) {
+            Slot::Down(fuse) => {
+                self.slot = Slot::Down(fuse);
+                write_down(text, self.me)
+            }
+            Slot::Open(state) => {
+                self.slot = Slot::Down(stopped(state.into_keeper().into_disk(), way));
+                write_crashed(text, self.me)
+            }
+        }
+    }
+
+    /// Orders a stop or a fault of the node's disk.
+    pub fn arm(&mut self, order: Order)
+        ensures me { self.new.me ≡ self.old.me }
+        ensures stands { (w : NodeWorld) → NodeStands self.old w → NodeStands self.new (after_order order w) }
+    {
+        match &mut self.slot {
+            Slot::Open(state) => state.arm(order),
+            Slot::Down(fuse) => fuse.arm(order),
+        }
+    }
+
+    /// Opens the node's journal again, where the node is down or its disk has failed, and writes what came of it.
+    pub fn restart(&mut self, alloc: Global, text: &mut Text) -> Result<(), AllocError>
+        requires { (w : NodeWorld) × NodeStands self.old w }
+        ensures done { OnOk result (DoesLine self.old self.new after_restart (restart_text self.old.me) text.old text.new) }
+        ensures finds { OnOk result ((w : NodeWorld) → NodeStands self.old w → FindsKept w) }
+    {
+        match take_slot(&mut self.slot, alloc) {
+            Slot::Down(fuse) => self.open(alloc, fuse, text),
+            Slot::Open(state) => {
+                if !state.keeper().stopped() {
+                    self.slot = Slot::Open(state);
+                    return write_up(text, self.me);
+                }
+                self.open(alloc, state.into_keeper().into_disk(), text)
+            }
+        }
+    }
+
+    // Opens the journal on this disk, which the node has used before.
+    fn open(
+        &mut self,
+        alloc: Global,
+        fuse: Fuse<MemDisk>,
+        text: &mut Text,
+    ) -> Result<(), AllocError>
+        requires { (w : NodeWorld) × ClosedStands fuse w }
+        ensures me { self.new.me ≡ self.old.me }
+        ensures published { self.new.published ≡ self.old.published }
+        ensures opens { OnOk result ((w : NodeWorld) → ClosedStands fuse w → Opens self.old.me fuse self.new.slot text.old text.new w) }
+    {
+        match StateJournal::open(alloc, fuse) {
+            Ok(journal) => {
+                write_record(text, self.me, journal.kept())?;
+                self.slot = Slot::Open(CoordState::new(self.me, journal));
+                Ok(())
+            }
+            Err(OpenError::NotAJournal(_, _)) => unreachable!(),
+            Err(OpenError::Memory(_)) => Err(AllocError),
+            Err(OpenError::Disk(fuse)) => self.stay_down(fuse, text),
+        }
+    }
+
+    // What the fuse tells of an opening that met a fault of the disk. A fault that no order has made is want of memory.
+    fn stay_down(&mut self, fuse: Fuse<MemDisk>, text: &mut Text) -> Result<(), AllocError>
+        ensures me { self.new.me ≡ self.old.me }
+        ensures published { self.new.published ≡ self.old.published }
+        ensures down { OnOk result (StaysDown fuse.struck self.old.me fuse self.new.slot text.old text.new) }
+    {
+        match fuse.struck() {
+            None => Err(AllocError),
+            Some(Struck::Fault) => {
+                self.slot = Slot::Down(fuse);
+                write_disk(text, self.me)
+            }
+            Some(Struck::Stop) => {
+                self.slot = Slot::Down(restarted(fuse));
+                write_crashed(text, self.me)
+            }
+        }
+    }
+}
