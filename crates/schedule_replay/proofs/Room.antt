@@ -1,5 +1,5 @@
 -- There is room for each vote and for each response.
-use Rattle.std.proofs.Common.{◌≡◌, ◌+◌, ◌≤◌, ◌<◌, Bool, true, false, cond, ◌||◌, ◌⊎◌, inl, inr, List, [], ◌∷◌, length, refl, sym, subst, arith}
+use Rattle.std.proofs.Common.{◌≡◌, ◌+◌, ◌≤◌, ◌<◌, Bool, true, false, cond, ◌||◌, ◌⊎◌, inl, inr, List, [], ◌∷◌, length, refl, sym, ap, subst, arith}
 use Rattle.std.proofs.lemmas.Bool.{and_parts, and_from}
 use Rattle.std.specs.List.{list_all}
 use Rattle.std.specs.Cmp.Lexicographic.{same_text}
@@ -7,8 +7,16 @@ use Rattle.voting_config.specs.Ids.{Id, ascends, is_below, before, same, has, pu
 use Rattle.voting_config.proofs.Sorted.{ascends-with_id, ascends-put, is_below-before}
 use Rattle.world_model.specs.declared.acts.Act.TheVariants.{Bootstrap, StartJoin, TakeJoin, Value, Publish, Response, Commit, Open}
 use Rattle.world_model.specs.Acts.{NodeHistory, NoActs, Then, is_ok}
-use Rattle.world_model.specs.NodeState.{votes_of, acks_of}
-use Rattle.schedule_replay.specs.Stands.{TakesFrom}
+use Rattle.world_model.specs.declared.acts.Message.{Message}
+use Rattle.world_model.specs.declared.acts.Message.TheVariants.{Join as JoinMessage, Publish as PublishMessage, Response as ResponseMessage, Commit as CommitMessage}
+use Rattle.world_model.specs.NodeState.{NodeState, votes_of, acks_of}
+use Rattle.replay_node.specs.NodeWorld.{NodeWorld}
+use Rattle.replay_node.specs.Sent.{source_of}
+use Rattle.replay_node.specs.Stands.{NodeStands, SlotStands, HasRoom, HasRoomAt}
+use Rattle.replay_node.specs.Takes.{TakesFrom}
+use Rattle.replay_node.specs.declared.node.ReplayNode.{ReplayNode}
+use Rattle.replay_node.specs.declared.node.Slot.{Slot}
+use Rattle.replay_node.specs.declared.node.Slot.TheVariants.{Open as OpenSlot, Down}
 use Rattle.schedule_replay.proofs.Movement.{before-other}
 
 abbrev subset : List Id → List Id → Bool
@@ -114,8 +122,17 @@ room_in ids votes x sound h few a =
           inr (omega (arith, length-put x votes))
     ] refl
 
-pub room_for_vote : (ids : List Id) (g : NodeHistory) (x : Id) → TakesFrom ids g → has x ids ≡ true → length ids ≤ most_ids → ascends ids ≡ true → (has x (votes_of g) ≡ true) ⊎ (length (votes_of g) < most_ids)
-room_for_vote ids g x l h few a = room_in ids (votes_of g) x (votes_sound ids g l) h few a
+room_in_slot : (ids : List Id) (me : Id) (slot : Slot) (w : NodeWorld) (m : Message) → SlotStands me slot w → TakesFrom ids w.acts → has (source_of m) ids ≡ true → length ids ≤ most_ids → ascends ids ≡ true → HasRoomAt slot m
+room_in_slot ids me (OpenSlot state) w (JoinMessage j) s l h few a =
+    let votes : state.votes ≡ votes_of w.acts = ap (λ (p : NodeState). p.votes) s.acts in
+    rw votes (room_in ids (votes_of w.acts) j.source (votes_sound ids w.acts l) h few a)
+room_in_slot ids me (OpenSlot state) w (ResponseMessage r) s l h few a =
+    let acks : state.acks ≡ acks_of w.acts = ap (λ (p : NodeState). p.acks) s.acts in
+    rw acks (room_in ids (acks_of w.acts) r.source (acks_sound ids w.acts l) h few a)
+room_in_slot ids me (OpenSlot state) w (PublishMessage r) s l h few a = tt
+room_in_slot ids me (OpenSlot state) w (CommitMessage c) s l h few a = tt
+room_in_slot ids me (Down fuse) w m s l h few a = tt
 
-pub room_for_ack : (ids : List Id) (g : NodeHistory) (x : Id) → TakesFrom ids g → has x ids ≡ true → length ids ≤ most_ids → ascends ids ≡ true → (has x (acks_of g) ≡ true) ⊎ (length (acks_of g) < most_ids)
-room_for_ack ids g x l h few a = room_in ids (acks_of g) x (acks_sound ids g l) h few a
+-- a node that took messages of these nodes alone has room for one more
+pub has_room : (ids : List Id) (c : ReplayNode) (w : NodeWorld) (m : Message) → NodeStands c w → TakesFrom ids w.acts → has (source_of m) ids ≡ true → length ids ≤ most_ids → ascends ids ≡ true → HasRoom c m
+has_room ids c w m s l h few a = room_in_slot ids c.me c.slot w m s.slot l h few a

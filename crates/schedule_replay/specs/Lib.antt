@@ -1,6 +1,4 @@
-pub mod Did
 pub mod Replayed
-pub mod Sent
 pub mod SoFar
-pub mod Stands
+pub mod WorldStands
 pub mod Trace

@@ -1,22 +1,23 @@
 -- Between two lines of a replay.
 use Rattle.std.specs.Prelude.{◌≡◌, ℕ, Option, Result, Ok, Err, List, ◌++◌}
 use Rattle.voting_config.specs.Ids.{Id}
-use Rattle.world_model.specs.Histories.{History}
 use Rattle.schedule_text.specs.declared.schedule.Line.{Line}
 use Rattle.zen_link.specs.Streams.{Appended, AppendedFront}
-use Rattle.schedule_replay.specs.declared.message.SentMessage.{SentMessage}
-use Rattle.schedule_replay.specs.declared.node.ReplayNode.{ReplayNode}
+use Rattle.replay_node.specs.declared.message.SentMessage.{SentMessage}
+use Rattle.replay_node.specs.declared.node.ReplayNode.{ReplayNode}
+use Rattle.schedule_replay.specs.Replayed.{World, replayed_from}
 use Rattle.schedule_replay.specs.Trace.{trace_from}
-use Rattle.schedule_replay.specs.Stands.{Stands}
+use Rattle.schedule_replay.specs.WorldStands.{Stands}
 
--- The replay stands for the history so far. What was written, what is held back, and the trace of the lines that are left are the whole
--- trace.
-pub record SoFar (ids initial : List Id) (nodes : List ReplayNode) (messages : List SentMessage) (was now : Option (List ℕ)) (pending : List ℕ) (left : List Line) (all : List ℕ) : Type 0 where
-  pub history : History
-  pub stands : Stands ids nodes messages history
+-- The replay stands for what its nodes did so far. What was written, what is held back, and the trace of the lines that are left are the
+-- whole trace, and the lines that are left lead to the end.
+pub record SoFar (ids initial : List Id) (nodes : List ReplayNode) (messages : List SentMessage) (was now : Option (List ℕ)) (pending : List ℕ) (left : List Line) (all : List ℕ) (end : World) : Type 0 where
+  pub world : World
+  pub stands : Stands ids initial nodes messages world
   pub front : List ℕ
   pub written : Appended was now front
-  pub whole : front ++ (pending ++ trace_from initial history left) ≡ all
+  pub whole : front ++ (pending ++ trace_from initial world left) ≡ all
+  pub ends : replayed_from initial world left ≡ end
 
 -- a piece was added to what is held back, and a front of it all was written; at an error a front of it was
 pub record HoldsBack (was now : Option (List ℕ)) (before after piece : List ℕ) : Type 0 where

@@ -1,43 +1,46 @@
 -- The trace of a schedule.
-use Rattle.std.specs.Prelude.{ℕ, Option, None, Some, List, [], ◌∷◌, ◌++◌, length, codes}
+use Rattle.std.specs.Prelude.{ℕ, Option, None, Some, List, [], ◌∷◌, ◌++◌, length, codes, if◌then◌else◌}
 use Rattle.voting_config.specs.Ids.{Id}
-use Rattle.cluster_state.specs.declared.state.ClusterState.{ClusterState}
 use Rattle.world_model.specs.declared.acts.Act.{Act}
-use Rattle.world_model.specs.declared.acts.Act.TheVariants.{Value}
-use Rattle.world_model.specs.declared.acts.Message.TheVariants.{Publish as PublishMessage}
-use Rattle.world_model.specs.declared.acts.Reply.TheVariants.{Taken}
-use Rattle.world_model.specs.declared.acts.Outcome.{Outcome}
-use Rattle.world_model.specs.declared.acts.Outcome.TheVariants.{Answered}
-use Rattle.world_model.specs.Acts.{NodeHistory, NoActs, Then}
-use Rattle.world_model.specs.Replies.{reply_of}
-use Rattle.world_model.specs.Histories.{History, NoEntries, node_history, sent}
+use Rattle.world_model.specs.declared.acts.Act.TheVariants.{Bootstrap, StartJoin, Value}
+use Rattle.world_model.specs.declared.acts.Message.{Message}
+use Rattle.world_model.specs.Histories.{sent}
 use Rattle.schedule_text.specs.declared.schedule.Line.{Line}
+use Rattle.schedule_text.specs.declared.schedule.Line.TheVariants as line
 use Rattle.schedule_text.specs.declared.schedule.Schedule.{Schedule}
 use Rattle.schedule_text.specs.Lines.{line_text}
-use Rattle.trace_text.specs.Trace.{results}
-use Rattle.schedule_replay.specs.Replayed.{node_of, act_of, after}
+use Rattle.trace_text.specs.Trace.{down_line}
+use Rattle.replay_node.specs.Did.{act_results}
+use Rattle.replay_node.specs.NodeLines.{stop_text, restart_text}
+use Rattle.replay_node.specs.Sent.{taking}
+use Rattle.schedule_replay.specs.Replayed.{World, after, fresh_world, message_at, node_world, value_with}
 
-abbrev pub published_by : Outcome → Option ClusterState → Option ClusterState
-published_by (Answered (Taken (Some (PublishMessage request)) wins)) before = Some request.state
-published_by other before = before
+-- what an act of a node writes
+abbrev pub results_of : World → Id → Act → List ℕ
+results_of w n act = act_results (length (sent w.history)) n (node_world w n) act
 
--- the state that the node has published last
-abbrev pub last_published : NodeHistory → Option ClusterState
-last_published NoActs = None
-last_published (Then g (Value version config value) o) = published_by o (last_published g)
-last_published (Then g act o) = last_published g
+-- what taking a message writes, where it was sent
+abbrev pub delivery_results : World → Id → Option Message → List ℕ
+delivery_results w n None = if w.down n then down_line n else codes "unsent\n"
+delivery_results w n (Some message) = results_of w n (taking message)
 
--- what a line writes behind its echo: the results of its act, or that there is no such message
-abbrev pub results_of : History → Id → Option Act → List ℕ
-results_of h n None = codes "unsent\n"
-results_of h n (Some act) = results (length (sent h)) (last_published (node_history h n)) n act (Answered (reply_of n (node_history h n) act))
+-- what a line writes behind its echo
+abbrev pub line_results : List Id → World → Line → List ℕ
+line_results initial w (line.Boot n) = results_of w n (Bootstrap initial)
+line_results initial w (line.StartJoin n candidate term) = results_of w n (StartJoin candidate term)
+line_results initial w (line.Value n version text config) = results_of w n (Value version config (value_with text))
+line_results initial w (line.Deliver n number) = delivery_results w n (message_at w number)
+line_results initial w (line.Crash n way) = stop_text n (node_world w n)
+line_results initial w (line.Restart n) = restart_text n (node_world w n)
+line_results initial w (line.Fuse n count way) = []
+line_results initial w (line.Fail n count) = []
 
-abbrev pub trace_line : List Id → History → Line → List ℕ
-trace_line initial h l = codes "> " ++ line_text l ++ codes "\n" ++ results_of h (node_of l) (act_of initial h l)
+abbrev pub trace_line : List Id → World → Line → List ℕ
+trace_line initial w l = codes "> " ++ line_text l ++ codes "\n" ++ line_results initial w l
 
-abbrev pub trace_from : List Id → History → List Line → List ℕ
-trace_from initial h [] = []
-trace_from initial h (l ∷ ls) = trace_line initial h l ++ trace_from initial (after initial h l) ls
+abbrev pub trace_from : List Id → World → List Line → List ℕ
+trace_from initial w [] = []
+trace_from initial w (l ∷ ls) = trace_line initial w l ++ trace_from initial (after initial w l) ls
 
 abbrev pub trace : Schedule → List ℕ
-trace s = trace_from s.initial NoEntries s.lines
+trace s = trace_from s.initial fresh_world s.lines

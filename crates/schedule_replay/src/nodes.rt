@@ -1,18 +1,19 @@
-ghost use Rattle.std.specs.Prelude.{◌≡◌, List, true, length, slice_get, Some, IfOk};
-ghost use Rattle.voting_config.specs.Ids.{has};
-ghost use Rattle.world_model.specs.Histories.{History};
+ghost use Rattle.std.specs.Prelude.{◌≡◌, List, true, length, slice_get, Some, IfOk, OnOk};
+ghost use Rattle.voting_config.specs.Ids.{Id, has};
+ghost use Rattle.cluster_state.specs.States.{IsFitValue};
 ghost use Rattle.world_model.specs.declared.acts.Act.TheVariants as act;
-ghost use Rattle.schedule_replay.specs.Replayed.{taking};
-ghost use Rattle.schedule_replay.specs.Sent.{message_of, source_of};
-ghost use Rattle.schedule_replay.specs.declared.message.SentMessage.{SentMessage as Message};
-ghost use Rattle.schedule_replay.specs.Stands.{DoesAct, Stands};
+ghost use Rattle.replay_node.specs.NodeLines.{restart_text, stop_text, FindsKept};
+ghost use Rattle.replay_node.specs.Sent.{message_of, source_of, taking};
+ghost use Rattle.replay_node.specs.declared.message.SentMessage.{SentMessage as Message};
+ghost use Rattle.schedule_replay.specs.Replayed.{World, crashed, node_world, ordered, restarted};
+ghost use Rattle.schedule_replay.specs.WorldStands.{AllStand, DoesAct, Moves, Stands};
 
-use crate::did::Did;
-use crate::message::SentMessage;
-use crate::node::ReplayNode;
 use cluster_state::ClusterValue;
+use replay_node::{Did, ReplayNode, SentMessage};
+use schedule_text::Text;
 use std::alloc::{AllocError, Global};
 use voting_config::{NodeId, NodeSet, VotingConfig};
+use zen_disk::{Order, Way};
 
 // Where a listed id stands among the ids.
 fn place_of(ids: &[NodeId], n: NodeId) -> usize
@@ -34,10 +35,10 @@ pub fn boot(
     n: NodeId,
     alloc: Global,
     initial: &NodeSet,
-) -> Did
+) -> Result<Did, AllocError>
     requires listed { has n ids.now ≡ true }
     requires many { length nodes.old ≡ length ids.now }
-    ensures { DoesAct ids.now nodes.old nodes.new n (act.Bootstrap initial.now) result }
+    ensures { IfOk result (λ did. DoesAct ids.now nodes.old nodes.new n (act.Bootstrap initial.now) did) }
 {
     let place = place_of(ids.as_slice(), n);
     nodes[place].boot(alloc, initial)
@@ -48,15 +49,16 @@ pub fn start_join(
     ids: &NodeSet,
     nodes: &mut [ReplayNode],
     n: NodeId,
+    alloc: Global,
     candidate: NodeId,
     term: u64,
-) -> Did
+) -> Result<Did, AllocError>
     requires listed { has n ids.now ≡ true }
     requires many { length nodes.old ≡ length ids.now }
-    ensures { DoesAct ids.now nodes.old nodes.new n (act.StartJoin candidate term) result }
+    ensures { IfOk result (λ did. DoesAct ids.now nodes.old nodes.new n (act.StartJoin candidate term) did) }
 {
     let place = place_of(ids.as_slice(), n);
-    nodes[place].start_join(candidate, term)
+    nodes[place].start_join(alloc, candidate, term)
 }
 
 /// The node publishes a client's value.
@@ -71,6 +73,7 @@ pub fn publish(
 ) -> Result<Did, AllocError>
     requires listed { has n ids.now ≡ true }
     requires many { length nodes.old ≡ length ids.now }
+    requires fit { IsFitValue value }
     ensures { IfOk result (λ did. DoesAct ids.now nodes.old nodes.new n (act.Value version config value) did) }
 {
     let place = place_of(ids.as_slice(), n);
@@ -82,13 +85,69 @@ pub fn take(
     ids: &NodeSet,
     nodes: &mut [ReplayNode],
     n: NodeId,
+    alloc: Global,
     message: &SentMessage,
 ) -> Result<Did, AllocError>
     requires listed { has n ids.now ≡ true }
     requires source { has (source_of (message_of message.now)) ids.now ≡ true }
-    requires stands { (sent : List Message) × (h : History) × Stands ids.now nodes.old sent h }
+    requires stands { (initial : List Id) × (sent : List Message) × (w : World) × Stands ids.now initial nodes.old sent w }
     ensures { IfOk result (λ did. DoesAct ids.now nodes.old nodes.new n (taking (message_of message.now)) did) }
 {
     let place = place_of(ids.as_slice(), n);
-    nodes[place].take(message)
+    nodes[place].take(alloc, message)
+}
+
+/// The node stops between two acts, and so does its disk.
+pub fn crash(
+    ids: &NodeSet,
+    nodes: &mut [ReplayNode],
+    n: NodeId,
+    alloc: Global,
+    way: Way,
+    text: &mut Text,
+) -> Result<(), AllocError>
+    requires listed { has n ids.now ≡ true }
+    requires many { length nodes.old ≡ length ids.now }
+    ensures { OnOk result (Moves ids.now nodes.old nodes.new (λ w. crashed w n way) (λ w. stop_text n (node_world w n)) text.old text.new) }
+{
+    let place = place_of(ids.as_slice(), n);
+    nodes[place].crash(alloc, way, text)
+}
+
+/// The node's journal is opened again.
+pub fn restart(
+    ids: &NodeSet,
+    nodes: &mut [ReplayNode],
+    n: NodeId,
+    alloc: Global,
+    text: &mut Text,
+) -> Result<(), AllocError>
+    requires listed { has n ids.now ≡ true }
+    requires many { length nodes.old ≡ length ids.now }
+    requires stands { (w : World) × AllStand ids.now nodes.old w }
+    ensures done { OnOk result (Moves ids.now nodes.old nodes.new (λ w. restarted w n) (λ w. restart_text n (node_world w n)) text.old text.new) }
+    ensures finds { OnOk result ((w : World) → AllStand ids.now nodes.old w → FindsKept (node_world w n)) }
+{
+    let place = place_of(ids.as_slice(), n);
+    nodes[place].restart(alloc, text)
+}
+
+/// Orders a stop or a fault of the node's disk.
+pub fn arm(ids: &NodeSet, nodes: &mut [ReplayNode], n: NodeId, order: Order)
+    requires listed { has n ids.now ≡ true }
+    requires many { length nodes.old ≡ length ids.now }
+    ensures { (w : World) → AllStand ids.now nodes.old w → AllStand ids.now nodes.new (ordered w n order) }
+{
+    let place = place_of(ids.as_slice(), n);
+    nodes[place].arm(order);
+}
+
+/// Whether the node is down.
+pub fn is_down(ids: &NodeSet, nodes: &[ReplayNode], n: NodeId) -> bool
+    requires listed { has n ids.now ≡ true }
+    requires many { length nodes.now ≡ length ids.now }
+    ensures { (w : World) → AllStand ids.now nodes.now w → result ≡ w.down n }
+{
+    let place = place_of(ids.as_slice(), n);
+    nodes[place].is_down()
 }

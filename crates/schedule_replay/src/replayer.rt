@@ -1,26 +1,27 @@
-ghost use Rattle.std.specs.Prelude.{◌≡◌, ◌<◌, ◌-◌, ◌++◌, OnOk, IfOk, true, Some, slice_get, length, map};
-ghost use Rattle.voting_config.specs.Ids.{has};
+ghost use Rattle.std.specs.List.{Contains};
+ghost use Rattle.std.specs.Prelude.{◌≡◌, ◌<◌, ◌++◌, OnOk, IfOk, ℕ, List, [], None, true, length, map};
+ghost use Rattle.voting_config.specs.Ids.{Id, has};
+ghost use Rattle.cluster_state.specs.States.{IsFitValue};
+ghost use Rattle.zen_disk.specs.declared.orders.Order.{Order as DiskOrder};
+ghost use Rattle.world_model.specs.declared.acts.Act.{Act};
+ghost use Rattle.world_model.specs.declared.acts.Message.{Message};
 ghost use Rattle.world_model.specs.declared.acts.Act.TheVariants as act;
-ghost use Rattle.world_model.specs.Acts.{NoActs};
-ghost use Rattle.world_model.specs.Histories.{History, NoEntries, sent, sent_by};
 ghost use Rattle.schedule_text.specs.Lines.{FitsLine};
-ghost use Rattle.schedule_replay.specs.Replayed.{taking, taking_some, value_with};
-ghost use Rattle.schedule_replay.specs.Sent.{message_of, some_message, source_of};
-ghost use Rattle.schedule_replay.specs.Did.{NodeStands, did_text, outcome_of};
-ghost use Rattle.schedule_replay.specs.Stands.{AllStand, Stands, DoesLine, WritesLine};
+ghost use Rattle.replay_node.specs.Did.{did_text, outcome_of};
+ghost use Rattle.replay_node.specs.NodeLines.{restart_text, stop_text};
+ghost use Rattle.replay_node.specs.Sent.{message_of, some_message, source_of, taking, sent_some};
+ghost use Rattle.schedule_replay.specs.Replayed.{World, crashed, did_unless_down, fresh_world, message_at, node_world, ordered, restarted, took_some, value_with};
+ghost use Rattle.schedule_replay.specs.Trace.{delivery_results, results_of};
+ghost use Rattle.schedule_replay.specs.WorldStands.{AllStand, Stands, DoesLine, WritesLine};
 
-use crate::did::Did;
-use crate::message::SentMessage;
-use crate::node::ReplayNode;
-use crate::nodes::{boot, publish, start_join, take};
-use crate::writing::{write_did, write_taking};
+use crate::nodes;
 use cluster_state::{ClusterValue, Settings};
-use coord_state::CoordState;
+use replay_node::{Did, ReplayNode, SentMessage, write_did, write_taking};
 use schedule_text::{IdList, Line, SettingText, Text};
-use state_journal::PlainKeeper;
 use std::alloc::{AllocError, Global};
-use trace_text::{write_boot, write_start_join, write_value};
+use trace_text::{write_boot, write_down, write_start_join, write_value};
 use voting_config::{NodeId, NodeSet, VotingConfig};
+use zen_disk::{Order, Way};
 
 /// The nodes of a schedule, and the messages that they have sent.
 #[derive(Drop)]
@@ -38,7 +39,7 @@ impl Replayer {
     pub fn new(alloc: Global, ids: &NodeSet, initial: &NodeSet) -> Result<Replayer, AllocError>
         ensures ids { IfOk result (λ r. r.ids ≡ ids.now) }
         ensures initial { IfOk result (λ r. r.initial ≡ initial.now) }
-        ensures stands { IfOk result (λ r. Stands r.ids r.nodes.items r.sent.items NoEntries) }
+        ensures stands { IfOk result (λ r. Stands r.ids r.initial r.nodes.items r.sent.items fresh_world) }
     {
         let ids = ids.copy();
         let initial = initial.copy();
@@ -56,7 +57,8 @@ impl Replayer {
     /// Does a line, and writes its part of the trace at the end of `text`.
     pub fn line(&mut self, alloc: Global, line: &Line, text: &mut Text) -> Result<(), AllocError>
         requires fits { FitsLine self.old.ids line.now }
-        requires stands { (h : History) × Stands self.old.ids self.old.nodes.items self.old.sent.items h }
+        requires named { self.old.initial ≡ [] → ⊥ }
+        requires stands { (w : World) × Stands self.old.ids self.old.initial self.old.nodes.items self.old.sent.items w }
         ensures ids { self.new.ids ≡ self.old.ids }
         ensures initial { self.new.initial ≡ self.old.initial }
         ensures done { OnOk result (WritesLine self.old.ids self.old.initial self.old.nodes.items self.new.nodes.items self.old.sent.items self.new.sent.items text.old text.new line.now) }
@@ -73,26 +75,67 @@ impl Replayer {
                 self.publish(alloc, *n, *version, *setting, config, text)?
             }
             Line::Deliver(n, ordinal) => self.deliver(alloc, *n, *ordinal, text)?,
+            Line::Crash(n, way) => self.crash(alloc, *n, *way, text)?,
+            Line::Restart(n) => self.restart(alloc, *n, text)?,
+            Line::Fuse(n, count, way) => self.arm(*n, Order::Stop(*count, *way)),
+            Line::Fail(n, count) => self.arm(*n, Order::Fault(*count)),
         }
         Ok(())
     }
 
-    fn boot(&mut self, alloc: Global, n: NodeId, text: &mut Text) -> Result<(), AllocError>
+    fn crash(
+        &mut self,
+        alloc: Global,
+        n: NodeId,
+        way: Way,
+        text: &mut Text,
+    ) -> Result<(), AllocError>
         requires listed { has n self.old.ids ≡ true }
-        requires stands { (h : History) × Stands self.old.ids self.old.nodes.items self.old.sent.items h }
+        requires stands { (w : World) × Stands self.old.ids self.old.initial self.old.nodes.items self.old.sent.items w }
         ensures ids { self.new.ids ≡ self.old.ids }
         ensures initial { self.new.initial ≡ self.old.initial }
-        ensures done { OnOk result (DoesLine self.old.ids self.old.nodes.items self.new.nodes.items self.old.sent.items self.new.sent.items text.old text.new n (λ h. Some (act.Bootstrap self.old.initial))) }
+        ensures done { OnOk result (DoesLine self.old.ids self.old.initial self.old.nodes.items self.new.nodes.items self.old.sent.items self.new.sent.items text.old text.new (λ w. crashed w n way) (λ w. stop_text n (node_world w n))) }
+    {
+        nodes::crash(&self.ids, self.nodes.as_mut_slice(), n, alloc, way, text)
+    }
+
+    fn restart(&mut self, alloc: Global, n: NodeId, text: &mut Text) -> Result<(), AllocError>
+        requires listed { has n self.old.ids ≡ true }
+        requires stands { (w : World) × Stands self.old.ids self.old.initial self.old.nodes.items self.old.sent.items w }
+        ensures ids { self.new.ids ≡ self.old.ids }
+        ensures initial { self.new.initial ≡ self.old.initial }
+        ensures done { OnOk result (DoesLine self.old.ids self.old.initial self.old.nodes.items self.new.nodes.items self.old.sent.items self.new.sent.items text.old text.new (λ w. restarted w n) (λ w. restart_text n (node_world w n))) }
+    {
+        nodes::restart(&self.ids, self.nodes.as_mut_slice(), n, alloc, text)
+    }
+
+    fn arm(&mut self, n: NodeId, order: Order)
+        requires listed { has n self.old.ids ≡ true }
+        requires stands { (w : World) × Stands self.old.ids self.old.initial self.old.nodes.items self.old.sent.items w }
+        ensures ids { self.new.ids ≡ self.old.ids }
+        ensures initial { self.new.initial ≡ self.old.initial }
+        ensures done { (text : List ℕ) → DoesLine self.old.ids self.old.initial self.old.nodes.items self.new.nodes.items self.old.sent.items self.new.sent.items text text (λ w. ordered w n order) (λ w. []) }
+    {
+        nodes::arm(&self.ids, self.nodes.as_mut_slice(), n, order);
+    }
+
+    fn boot(&mut self, alloc: Global, n: NodeId, text: &mut Text) -> Result<(), AllocError>
+        requires listed { has n self.old.ids ≡ true }
+        requires named { self.old.initial ≡ [] → ⊥ }
+        requires stands { (w : World) × Stands self.old.ids self.old.initial self.old.nodes.items self.old.sent.items w }
+        ensures ids { self.new.ids ≡ self.old.ids }
+        ensures initial { self.new.initial ≡ self.old.initial }
+        ensures done { OnOk result (DoesLine self.old.ids self.old.initial self.old.nodes.items self.new.nodes.items self.old.sent.items self.new.sent.items text.old text.new (λ w. did_unless_down w n (act.Bootstrap self.old.initial)) (λ w. results_of w n (act.Bootstrap self.old.initial))) }
     {
         self.act.clear();
         write_boot(&mut self.act, &self.initial)?;
-        let did = boot(
+        let did = nodes::boot(
             &self.ids,
             self.nodes.as_mut_slice(),
             n,
             alloc,
             &self.initial,
-        );
+        )?;
         self.finish(alloc, n, did, text)?;
         Ok(())
     }
@@ -106,14 +149,21 @@ impl Replayer {
         text: &mut Text,
     ) -> Result<(), AllocError>
         requires listed { has n self.old.ids ≡ true }
-        requires stands { (h : History) × Stands self.old.ids self.old.nodes.items self.old.sent.items h }
+        requires stands { (w : World) × Stands self.old.ids self.old.initial self.old.nodes.items self.old.sent.items w }
         ensures ids { self.new.ids ≡ self.old.ids }
         ensures initial { self.new.initial ≡ self.old.initial }
-        ensures done { OnOk result (DoesLine self.old.ids self.old.nodes.items self.new.nodes.items self.old.sent.items self.new.sent.items text.old text.new n (λ h. Some (act.StartJoin candidate term))) }
+        ensures done { OnOk result (DoesLine self.old.ids self.old.initial self.old.nodes.items self.new.nodes.items self.old.sent.items self.new.sent.items text.old text.new (λ w. did_unless_down w n (act.StartJoin candidate term)) (λ w. results_of w n (act.StartJoin candidate term))) }
     {
         self.act.clear();
         write_start_join(&mut self.act, candidate, term)?;
-        let did = start_join(&self.ids, self.nodes.as_mut_slice(), n, candidate, term);
+        let did = nodes::start_join(
+            &self.ids,
+            self.nodes.as_mut_slice(),
+            n,
+            alloc,
+            candidate,
+            term,
+        )?;
         self.finish(alloc, n, did, text)?;
         Ok(())
     }
@@ -128,16 +178,16 @@ impl Replayer {
         text: &mut Text,
     ) -> Result<(), AllocError>
         requires listed { has n self.old.ids ≡ true }
-        requires stands { (h : History) × Stands self.old.ids self.old.nodes.items self.old.sent.items h }
+        requires stands { (w : World) × Stands self.old.ids self.old.initial self.old.nodes.items self.old.sent.items w }
         ensures ids { self.new.ids ≡ self.old.ids }
         ensures initial { self.new.initial ≡ self.old.initial }
-        ensures done { OnOk result (DoesLine self.old.ids self.old.nodes.items self.new.nodes.items self.old.sent.items self.new.sent.items text.old text.new n (λ h. Some (act.Value version config.now (value_with setting)))) }
+        ensures done { OnOk result (DoesLine self.old.ids self.old.initial self.old.nodes.items self.new.nodes.items self.old.sent.items self.new.sent.items text.old text.new (λ w. did_unless_down w n (act.Value version config.now (value_with setting))) (λ w. results_of w n (act.Value version config.now (value_with setting)))) }
     {
         let config = VotingConfig::of(&config.to_set());
         let value = value_of(alloc, setting)?;
         self.act.clear();
         write_value(&mut self.act, alloc, version, &config, &value)?;
-        let did = publish(
+        let did = nodes::publish(
             &self.ids,
             self.nodes.as_mut_slice(),
             n,
@@ -158,14 +208,14 @@ impl Replayer {
         text: &mut Text,
     ) -> Result<(), AllocError>
         requires listed { has n self.old.ids ≡ true }
-        requires stands { (h : History) × Stands self.old.ids self.old.nodes.items self.old.sent.items h }
+        requires stands { (w : World) × Stands self.old.ids self.old.initial self.old.nodes.items self.old.sent.items w }
         requires positive { 0 < ordinal }
         ensures ids { self.new.ids ≡ self.old.ids }
         ensures initial { self.new.initial ≡ self.old.initial }
-        ensures done { OnOk result (DoesLine self.old.ids self.old.nodes.items self.new.nodes.items self.old.sent.items self.new.sent.items text.old text.new n (λ h. taking_some (slice_get (sent h) (ordinal - 1)))) }
+        ensures done { OnOk result (DoesLine self.old.ids self.old.initial self.old.nodes.items self.new.nodes.items self.old.sent.items self.new.sent.items text.old text.new (λ w. took_some w n (message_at w ordinal)) (λ w. delivery_results w n (message_at w ordinal))) }
     {
         match self.sent.as_slice().get((ordinal - 1) as usize) {
-            None => text.word("unsent\n"),
+            None => self.unsent(n, text),
             Some(message) => {
                 let message = message.share()?;
                 self.take(alloc, n, &message, text)?;
@@ -182,17 +232,30 @@ impl Replayer {
         text: &mut Text,
     ) -> Result<(), AllocError>
         requires listed { has n self.old.ids ≡ true }
-        requires stands { (h : History) × Stands self.old.ids self.old.nodes.items self.old.sent.items h }
+        requires stands { (w : World) × Stands self.old.ids self.old.initial self.old.nodes.items self.old.sent.items w }
         requires source { has (source_of (message_of message.now)) self.old.ids ≡ true }
+        requires known { Contains (map message_of self.old.sent.items) (message_of message.now) }
         ensures ids { self.new.ids ≡ self.old.ids }
         ensures initial { self.new.initial ≡ self.old.initial }
-        ensures done { OnOk result (DoesLine self.old.ids self.old.nodes.items self.new.nodes.items self.old.sent.items self.new.sent.items text.old text.new n (λ h. Some (taking (message_of message.now)))) }
+        ensures done { OnOk result (DoesLine self.old.ids self.old.initial self.old.nodes.items self.new.nodes.items self.old.sent.items self.new.sent.items text.old text.new (λ w. did_unless_down w n (taking (message_of message.now))) (λ w. results_of w n (taking (message_of message.now)))) }
     {
         self.act.clear();
         write_taking(&mut self.act, alloc, message)?;
-        let did = take(&self.ids, self.nodes.as_mut_slice(), n, message)?;
+        let did = nodes::take(&self.ids, self.nodes.as_mut_slice(), n, alloc, message)?;
         self.finish(alloc, n, did, text)?;
         Ok(())
+    }
+
+    // There is no such message.
+    fn unsent(&self, n: NodeId, text: &mut Text) -> Result<(), AllocError>
+        requires listed { has n self.now.ids ≡ true }
+        requires many { length self.now.nodes.items ≡ length self.now.ids }
+        ensures { OnOk result ((w : World) → AllStand self.now.ids self.now.nodes.items w → text.new ≡ text.old ++ delivery_results w n None) }
+    {
+        if nodes::is_down(&self.ids, self.nodes.as_slice(), n) {
+            return write_down(text, n);
+        }
+        text.word("unsent\n")
     }
 
     // Writes what an act did, and keeps the message that it sends.
@@ -207,7 +270,7 @@ impl Replayer {
         ensures initial { self.new.initial ≡ self.old.initial }
         ensures nodes { self.new.nodes ≡ self.old.nodes }
         ensures written { OnOk result (text.new ≡ text.old ++ did_text (length self.old.sent.items) n self.old.act did) }
-        ensures sent { OnOk result (map message_of self.new.sent.items ≡ map message_of self.old.sent.items ++ sent_by (outcome_of did)) }
+        ensures sent { OnOk result (map message_of self.new.sent.items ≡ map message_of self.old.sent.items ++ sent_some (outcome_of did)) }
     {
         let count = self.sent.as_slice().len();
         write_did(text, alloc, count, n, &self.act, &did)?;
@@ -218,7 +281,7 @@ impl Replayer {
 
 // Keeps the message that an act has sent.
 fn keep(sent: &mut Vec<SentMessage>, did: Did) -> Result<(), AllocError>
-    ensures { OnOk result (map message_of sent.new.items ≡ map message_of sent.old.items ++ sent_by (outcome_of did)) }
+    ensures { OnOk result (map message_of sent.new.items ≡ map message_of sent.old.items ++ sent_some (outcome_of did)) }
 {
     if let Did::Taken(effects) = did {
         return keep_some(sent, effects.sends);
@@ -242,9 +305,11 @@ fn keep_some(sent: &mut Vec<SentMessage>, message: Option<SentMessage>) -> Resul
 
 // The value that has this text as its one setting, under the key `v`.
 fn value_of(alloc: Global, setting: SettingText) -> Result<ClusterValue, AllocError>
-    ensures { IfOk result (λ value. value ≡ value_with setting) }
+    ensures is { IfOk result (λ value. value ≡ value_with setting) }
+    ensures fit { IfOk result IsFitValue }
 {
     let mut settings = Settings::new(alloc);
+    let _ = setting.as_bytes();
     settings.push("v", setting.as_str())?;
     Ok(ClusterValue {
         master: None,
@@ -254,23 +319,14 @@ fn value_of(alloc: Global, setting: SettingText) -> Result<ClusterValue, AllocEr
     })
 }
 
-// Nodes with empty records.
+// Nodes that have opened their journals on empty disks.
 fn fresh_nodes(alloc: Global, ids: &[NodeId]) -> Result<Vec<ReplayNode>, AllocError>
-    ensures { IfOk result (λ nodes. AllStand ids.now nodes.items NoEntries) }
+    ensures { IfOk result (λ nodes. AllStand ids.now nodes.items fresh_world) }
 {
     let mut nodes = Vec::new(alloc);
     for id in ids {
-        nodes.push(fresh_node(alloc, *id))?;
+        let node = ReplayNode::new(alloc, *id)?;
+        nodes.push(node)?;
     }
     Ok(nodes)
-}
-
-fn fresh_node(alloc: Global, id: NodeId) -> ReplayNode
-    ensures me { result.state.me ≡ id }
-    ensures stands { NodeStands result NoActs }
-{
-    ReplayNode {
-        state: CoordState::new(id, PlainKeeper::new(alloc)),
-        published: None,
-    }
 }

@@ -1,4 +1,4 @@
-ghost use Rattle.std.specs.Prelude.{◌≡◌, [], ◌≤◌};
+ghost use Rattle.std.specs.Prelude.{◌≡◌, OnOk, [], ◌≤◌};
 ghost use Rattle.std.specs.List.{AllByRecursion};
 ghost use Rattle.zen_disk.specs.Faults.{Rose};
 ghost use Rattle.world_model.specs.Histories.{IsLegal};
@@ -56,13 +56,13 @@ fn out_of_memory<S: Sink>(out: &mut S, held: &Text) -> ReplayError
 }
 
 /// Replays a schedule, and writes its trace. `Write` only where the sink's count of faults rose; a front of the trace is
-/// written then, and at `Memory` too. `IsLegal` is said of the very history whose trace it is.
-#[tactic(auto, using(crate::proofs::Legal::legal_of))]
+/// written then, and at `Memory` too. At `Ok` the
+/// very history whose trace it is is legal.
 pub fn replay<S: Sink>(alloc: Global, schedule: &Schedule, out: &mut S) -> Result<(), ReplayError>
     requires fits { AllByRecursion (FitsLine schedule.now.nodes) schedule.now.lines }
     requires named { schedule.now.initial ≡ [] → schedule.now.lines ≡ [] }
     ensures written { WritesAll (S.written out.old) (S.written out.new) (trace schedule.now) result }
-    ensures legal { IsLegal schedule.now.initial (replayed schedule.now) }
+    ensures legal { OnOk result (IsLegal schedule.now.initial (replayed schedule.now)) }
     ensures later { S.faults out.old ≤ S.faults out.new }
     ensures fault { result ≡ Err ReplayError.Write → Rose (S.faults out.old) (S.faults out.new) }
 {
@@ -77,10 +77,7 @@ pub fn replay<S: Sink>(alloc: Global, schedule: &Schedule, out: &mut S) -> Resul
         let Ok(()) = replayer.line(alloc, line, &mut text) else {
             return Err(out_of_memory(out, &held));
         };
-        match hold(out, &mut held, &text) {
-            Ok(()) => (),
-            Err(error) => return Err(error),
-        }
+        hold(out, &mut held, &text)?;
     }
     let Ok(()) = write_all(out, held.as_bytes()) else {
         return Err(ReplayError::Write);

@@ -2,8 +2,8 @@ mod random;
 mod rows;
 
 use crate::{Status, run};
-use rows::{ENDS, SAFE, WHOLE};
-use schedule_text::{read_schedule, write_schedule};
+use rows::{ENDS, SAFE, STOPS, WHOLE};
+use schedule_text::{Text, read_schedule, write_schedule};
 use std::alloc::{AllocError, Global};
 use std::test::Fail;
 use zen_link::{MemHost, MemSink, MemSource};
@@ -77,6 +77,115 @@ fn ends_of_traces(rt: HostRuntime) -> Result<(), Fail> {
 }
 
 #[test]
+fn stops_and_restarts(rt: HostRuntime) -> Result<(), Fail> {
+    for (name, schedule, end) in STOPS {
+        let (status, sink) = replayed(rt.alloc(), schedule.as_bytes())?;
+        assert!(rt; status == Status::Success, "{name}");
+        assert!(rt; sink.as_bytes().ends_with(end.as_bytes()), "{name}");
+    }
+    Ok(())
+}
+
+// What strikes one of the first twelve device calls of node a.
+#[derive(Clone, Copy, PartialEq, Eq)]
+enum Strike {
+    FuseNone,
+    FuseAll,
+    FuseOpen,
+    FuseClosed,
+    Fail,
+}
+
+const STRIKES: [Strike; 5] = [
+    Strike::FuseNone,
+    Strike::FuseAll,
+    Strike::FuseOpen,
+    Strike::FuseClosed,
+    Strike::Fail,
+];
+
+fn write_strike(text: &mut Text, strike: Strike, call: u64) -> Result<(), AllocError> {
+    match strike {
+        Strike::Fail => text.word("fail a ")?,
+        _ => text.word("fuse a ")?,
+    }
+    text.number(call)?;
+    text.word(match strike {
+        Strike::FuseNone => " none\n",
+        Strike::FuseAll => " all\n",
+        Strike::FuseOpen => " torn:01\n",
+        Strike::FuseClosed => " torn:00\n",
+        Strike::Fail => "\n",
+    })
+}
+
+// Each of the first three acts of node a writes a body, syncs, opens its gate and syncs. Whether the act that is struck
+// is kept.
+fn is_kept(strike: Strike, call: u64) -> bool {
+    match call % 4 {
+        3 => strike == Strike::FuseAll || strike == Strike::FuseOpen,
+        0 => strike != Strike::FuseNone && strike != Strike::FuseClosed,
+        _ => false,
+    }
+}
+
+const RECORDS: [&str; 4] = [
+    "record a 0 0/0 _ _\n",
+    "record a 0 0/0 a,b,c a,b,c\n",
+    "record a 1 0/0 a,b,c a,b,c\n",
+    "record a 1 1/1 a,b,c a,b,c\n",
+];
+
+// The record that is left where this call is struck.
+fn record_left(strike: Strike, call: u64) -> &'static str {
+    let acts = call.saturating_sub(1) / 4 + u64::from(is_kept(strike, call));
+    match acts {
+        0 => RECORDS[0],
+        1 => RECORDS[1],
+        2 => RECORDS[2],
+        _ => RECORDS[3],
+    }
+}
+
+fn struck_schedule(alloc: Global, strike: Strike, call: u64) -> Result<Text, AllocError> {
+    let mut text = Text::new(alloc);
+    text.word("nodes a,b,c\ninitial a,b,c\n")?;
+    write_strike(&mut text, strike, call)?;
+    text.word("boot a\nboot b\nboot c\nstartjoin a a 1\nstartjoin b a 1\nstartjoin c a 1\n")?;
+    text.word("deliver a 1\ndeliver a 2\nvalue a 1 x a,b,c\ndeliver a 4\ndeliver b 4\n")?;
+    text.word("deliver a 5\ndeliver a 6\ndeliver a 7\ncrash a all\nrestart a\nrestart a\n")?;
+    Ok(text)
+}
+
+fn struck_end(alloc: Global, strike: Strike, call: u64) -> Result<Text, AllocError> {
+    let mut text = Text::new(alloc);
+    text.word("> crash a all\n")?;
+    text.word(if strike == Strike::Fail {
+        "crashed a\n"
+    } else {
+        "down a\n"
+    })?;
+    text.word("> restart a\n")?;
+    text.word(record_left(strike, call))?;
+    text.word("> restart a\nup a\n")?;
+    Ok(text)
+}
+
+#[test]
+fn each_device_call_struck(rt: HostRuntime) -> Result<(), Fail> {
+    for strike in STRIKES {
+        for call in 1..=12 {
+            let schedule = struck_schedule(rt.alloc(), strike, call)?;
+            let end = struck_end(rt.alloc(), strike, call)?;
+            let (status, sink) = replayed(rt.alloc(), schedule.as_bytes())?;
+            assert!(rt; status == Status::Success, "{call}");
+            assert!(rt; sink.as_bytes().ends_with(end.as_bytes()), "{call}");
+        }
+    }
+    Ok(())
+}
+
+#[test]
 fn what_would_be_unsafe_is_refused(rt: HostRuntime) -> Result<(), Fail> {
     for (name, schedule, end) in SAFE {
         let (status, sink) = replayed(rt.alloc(), schedule.as_bytes())?;
@@ -94,8 +203,12 @@ fn bad_schedules(rt: HostRuntime) -> Result<(), Fail> {
             "zen: bad schedule at line 3: Id\n",
         ),
         (
-            "nodes a\ninitial a\ncrash a all\n",
+            "nodes a\ninitial a\ntick a 0 7\n",
             "zen: bad schedule at line 3: Verb\n",
+        ),
+        (
+            "nodes a\ninitial a\ncrash a most\n",
+            "zen: bad schedule at line 3: Mode\n",
         ),
         ("nodes a\n", "zen: bad schedule at line 2: Header\n"),
         (

@@ -3,6 +3,7 @@ use rand_pcg::Pcg32;
 use schedule_text::{IdList, Line, Lines, MAX_ORDINAL, Schedule, SettingText};
 use std::alloc::{AllocError, Global};
 use voting_config::{NodeId, NodeSet};
+use zen_disk::Way;
 
 const NAMES: [&str; 5] = ["a", "b-2", "0", "node-of-thirty-two-bytes-0123456", "z9"];
 
@@ -52,14 +53,27 @@ fn some_nodes(draws: &mut Pcg32, nodes: &NodeSet) -> NodeSet {
     some
 }
 
+fn way(draws: &mut Pcg32) -> Way {
+    match draws.next_word() % 4 {
+        0 => Way::Lost,
+        1 => Way::Kept,
+        2 => Way::Torn(1),
+        _ => Way::Torn((draws.next_word() % 256) as u8),
+    }
+}
+
 fn line(alloc: Global, draws: &mut Pcg32, nodes: &NodeSet) -> Result<Option<Line>, AllocError> {
     let Some(id) = node(draws, nodes) else {
         return Ok(None);
     };
-    let line = match draws.next_word() % 8 {
+    let line = match draws.next_word() % 16 {
         0 => Line::Boot(id),
         1 | 2 => Line::StartJoin(id, id, number(draws)),
-        3 => {
+        3 => Line::Crash(id, way(draws)),
+        4 | 5 => Line::Restart(id),
+        6 => Line::Fuse(id, u64::from(1 + draws.next_word() % 12), way(draws)),
+        7 => Line::Fail(id, u64::from(1 + draws.next_word() % 12)),
+        8 | 9 => {
             let text = TEXTS[(draws.next_word() % 3) as usize];
             let Some(text) = SettingText::from_bytes(text.as_bytes()) else {
                 return Ok(None);

@@ -65,9 +65,63 @@ pub const ENDS: [(&str, &str, &str); 9] = [
     ),
 ];
 
+// Stops, faults and restarts: a schedule and the end of its trace.
+pub const STOPS: [(&str, &str, &str); 8] = [
+    (
+        "joins count in their round alone",
+        "nodes a,b,c\ninitial a,b,c\nboot a\nboot b\nboot c\nstartjoin a a 1\nstartjoin b a 1\nstartjoin c a 1\ndeliver a 1\ndeliver a 2\ncrash a all\nrestart a\ndeliver a 1\n",
+        "> crash a all\ncrashed a\n> restart a\nrecord a 1 0/0 a,b,c a,b,c\n> deliver a 1\nact a refused:NotStarted join a a 1 0/0\n",
+    ),
+    (
+        "a stop inside the first write",
+        "nodes a\ninitial a\nboot a\nstartjoin a a 1\nfuse a 1 torn:01\nstartjoin a a 2\nrestart a\n",
+        "> fuse a 1 torn:01\n> startjoin a a 2\nact a crashed startjoin a 2\n> restart a\nrecord a 1 0/0 a a\n",
+    ),
+    (
+        "an open gate that stayed is synced by the opening",
+        "nodes a\ninitial a\nboot a\nfuse a 3 all\nstartjoin a a 1\nrestart a\ncrash a none\nrestart a\n",
+        "> startjoin a a 1\nact a crashed startjoin a 1\n> restart a\nrecord a 1 0/0 a a\n> crash a none\ncrashed a\n> restart a\nrecord a 1 0/0 a a\n",
+    ),
+    (
+        "an open gate that was lost",
+        "nodes a\ninitial a\nboot a\nfuse a 3 none\nstartjoin a a 1\nrestart a\ncrash a none\nrestart a\n",
+        "> restart a\nrecord a 0 0/0 a a\n> crash a none\ncrashed a\n> restart a\nrecord a 0 0/0 a a\n",
+    ),
+    (
+        "an open gate that is lost by a stop of the opening",
+        "nodes a\ninitial a\nboot a\nfuse a 3 all\nstartjoin a a 1\nfuse a 1 none\nrestart a\nrestart a\n",
+        "> fuse a 1 none\n> restart a\ncrashed a\n> restart a\nrecord a 0 0/0 a a\n",
+    ),
+    (
+        "a node whose disk has failed is stopped until it is opened",
+        "nodes a,b,c\ninitial a,b,c\nboot a\nboot b\nboot c\nstartjoin a a 1\nstartjoin b a 1\nstartjoin c a 1\ndeliver a 1\ndeliver a 2\nvalue a 1 x a,b,c\nfail b 3\ndeliver b 4\ndeliver b 4\nrestart b\ndeliver b 4\n",
+        "> fail b 3\n> deliver b 4\nact b disk publish a {\"committed\":[\"a\",\"b\",\"c\"],\"config\":[\"a\",\"b\",\"c\"],\"term\":1,\"value\":{\"exclusions\":[],\"master\":null,\"members\":[],\"settings\":{\"v\":\"x\"}},\"version\":1}\n> deliver b 4\nact b stopped publish a {\"committed\":[\"a\",\"b\",\"c\"],\"config\":[\"a\",\"b\",\"c\"],\"term\":1,\"value\":{\"exclusions\":[],\"master\":null,\"members\":[],\"settings\":{\"v\":\"x\"}},\"version\":1}\n> restart b\nrecord b 1 0/0 a,b,c a,b,c\n> deliver b 4\nact b ok publish a {\"committed\":[\"a\",\"b\",\"c\"],\"config\":[\"a\",\"b\",\"c\"],\"term\":1,\"value\":{\"exclusions\":[],\"master\":null,\"members\":[],\"settings\":{\"v\":\"x\"}},\"version\":1}\nm5 b->a response 1/1\n",
+    ),
+    (
+        "a node that is down, and one that is up",
+        "nodes a\ninitial a\nboot a\nrestart a\ncrash a all\nboot a\nstartjoin a a 1\nvalue a 1 x a\ndeliver a 7\ncrash a none\nfail a 1\nrestart a\nrestart a\n",
+        "> restart a\nup a\n> crash a all\ncrashed a\n> boot a\ndown a\n> startjoin a a 1\ndown a\n> value a 1 x a\ndown a\n> deliver a 7\ndown a\n> crash a none\ndown a\n> fail a 1\n> restart a\ndisk a\n> restart a\nrecord a 0 0/0 a a\n",
+    ),
+    (
+        "a crash of a node whose disk has failed",
+        "nodes a\ninitial a\nboot a\nfail a 4\nstartjoin a a 1\nstartjoin a a 1\ncrash a all\nrestart a\n",
+        "> startjoin a a 1\nact a disk startjoin a 1\n> startjoin a a 1\nact a stopped startjoin a 1\n> crash a all\ncrashed a\n> restart a\nrecord a 1 0/0 a a\n",
+    ),
+];
+
 // The shortest schedules that would be unsafe, or break what safety rests on, were one guard of the rules left out, and the end of their
 // trace, where the core refuses the telling line.
-pub const SAFE: [(&str, &str, &str); 23] = [
+pub const SAFE: [(&str, &str, &str); 25] = [
+    (
+        "joins are counted after a restart only once a join was started",
+        "nodes a\ninitial a\nboot a\nstartjoin a a 1\ndeliver a 1\nvalue a 1 x a\ncrash a all\nrestart a\ndeliver a 1\nvalue a 1 y a\ndeliver a 3\ndeliver a 4\n",
+        "> deliver a 1\nact a refused:NotStarted join a a 1 0/0\n> value a 1 y a\nact a refused:NotWon value 1 a {\"exclusions\":[],\"master\":null,\"members\":[],\"settings\":{\"v\":\"y\"}}\n> deliver a 3\nunsent\n> deliver a 4\nunsent\n",
+    ),
+    (
+        "a term that was answered for is kept",
+        "nodes a\ninitial a\nboot a\nstartjoin a a 1\ncrash a all\nrestart a\nstartjoin a a 1\n",
+        "> restart a\nrecord a 1 0/0 a a\n> startjoin a a 1\nact a refused:TermNotGreater(1,1) startjoin a 1\n",
+    ),
     (
         "half of the configuration is no quorum",
         "nodes a,b\ninitial a,b\nboot a\nboot b\nstartjoin a a 1\ndeliver a 1\nstartjoin b b 1\ndeliver b 2\n",

@@ -1,15 +1,15 @@
-use Rattle.std.proofs.Common.{ap, length, List, ◌∙◌}
+use Rattle.std.proofs.Common.{ap, refl}
 use Rattle.std.specs.declared.vec.Vec.{Vec}
 use Rattle.std.specs.declared.alloc.Global.{Global}
-use Rattle.schedule_replay.specs.declared.node.ReplayNode.{ReplayNode}
-use Rattle.schedule_replay.proofs.Movement.{stand_length}
+use Rattle.replay_node.specs.declared.node.ReplayNode.{ReplayNode}
+use Rattle.schedule_replay.proofs.Fresh.{many_lent}
 use Rattle.schedule_replay.proofs.Lines.{act_done}
 use Rattle.schedule_replay.proofs.replayer.Replayer.start_join.Goals as goal
 
-pub start_join-did-requires-clause-many : goal.start_join-did-requires-clause-many
-start_join-did-requires-clause-many c = ap (λ (x : List ReplayNode). length x) c.as_mut_slice.ensures.value ∙ stand_length _ _ _ c.requires.stands.1.nodes_stand
+pub start_join-requires-clause-many : goal.start_join-requires-clause-many
+start_join-requires-clause-many c = many_lent _ _ _ _ c.as_mut_slice.ensures.value c.requires.stands.1.nodes_stand
 
 pub returns-clause-done : goal.returns-clause-done
 returns-clause-done c =
-    act_done _ _ c.as_mut_slice.result.now c.start_join-did.new.nodes _ _ _ _ _ _ _ _ _ _ c.start_join-did.result c.as_mut_slice.ensures.value c.start_join-did.auto.nodes c.as_mut_slice.ensures.len
-    (ap (λ (v : Vec ReplayNode Global). v.items) c.in_ok-finish.ensures.nodes) c.start_join-did.ensures c.in_ok-finish.ensures.sent c.requires.listed tt c.clear.ensures c.in_ok-write_start_join.ensures c.in_ok-finish.ensures.written
+    act_done _ _ _ c.as_mut_slice.result.now c.start_join.new.nodes _ _ _ _ _ _ _ _ _ _ c.in_ok-did.did c.as_mut_slice.ensures.value c.start_join.auto.nodes c.as_mut_slice.ensures.len
+    (ap (λ (v : Vec ReplayNode Global). v.items) c.in_ok-finish.ensures.nodes) c.in_ok-did.ensures c.in_ok-finish.ensures.sent c.requires.listed tt (λ w s. tt) refl c.clear.ensures c.in_ok-write_start_join.ensures c.in_ok-finish.ensures.written
