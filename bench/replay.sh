@@ -44,6 +44,12 @@ rounds() {
     }'
 }
 
+# One node that starts LINES joins, each of which appends to its journal.
+terms() {
+    printf 'nodes a\ninitial a\nboot a\n'
+    seq 1 "$1" | sed 's/^/startjoin a a /'
+}
+
 measure() {
     /usr/bin/time -f '%e %M' -o "$work/time" "$zen" replay --level core < "$work/schedule" > "$work/trace"
     read -r seconds memory < "$work/time"
@@ -58,4 +64,8 @@ awk -v s="$small" -v l="$large" -v m="$memory" 'BEGIN {
 rounds 100000 > "$work/schedule"; measure
 awk -v l="$seconds" -v m="$memory" -v n="$(wc -l < "$work/schedule")" -v c="$(grep -c '^committed ' "$work/trace")" 'BEGIN {
     printf "elections, values and commits over five nodes: %d lines in %.2f s, %d committed lines, peak %d kB\n", n, l, c, m
+}'
+terms 200000 > "$work/schedule"; measure
+awk -v l="$seconds" -v m="$memory" 'BEGIN {
+    printf "acts that write, over a journal in memory: 200000 in %.2f s, %.0f acts/s, peak %d kB\n", l, 200000 / (l > 0 ? l : 0.01), m
 }'

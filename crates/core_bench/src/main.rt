@@ -1,0 +1,214 @@
+//! Rounds of large values over five nodes, each of which keeps its journal on a disk in memory. Each value is published,
+//! delivered to every node as bytes, acknowledged and committed.
+#![tactic(auto)]
+
+use anyhow::{Context, Result, bail, ensure};
+use cluster_state::{
+    ApplyCommit, ClusterState, Join, PublishRequest, PublishResponse, decode_state,
+};
+use coord_state::CoordState;
+use state_journal::{Ready, StateJournal};
+use std::alloc::{AllocError, Global};
+use std::env;
+use voting_config::{MAX_IDS, NodeId, NodeSet};
+use zen_disk::MemDisk;
+
+type Node = CoordState<StateJournal<MemDisk>>;
+
+const TERM: u64 = 1;
+
+const NAMES: [&str; 5] = ["a", "b", "c", "d", "e"];
+
+// The nodes of all these names, as a set of ids is spelled.
+const MEMBERS: &[u8] = b"\x05\x01a\x01b\x01c\x01d\x01e";
+
+// The bytes of a state of full settings: keys of 128 bytes and texts of 1,024.
+fn state_bytes(alloc: Global, version: u64, settings: u16) -> Result<Vec<u8>, AllocError> {
+    let mut bytes = Vec::new(alloc);
+    bytes.extend_from_slice(&TERM.to_be_bytes())?;
+    bytes.extend_from_slice(&version.to_be_bytes())?;
+    // The configuration, the committed one, and a value with no master, members or exclusions.
+    bytes.extend_from_slice(MEMBERS)?;
+    bytes.extend_from_slice(MEMBERS)?;
+    bytes.extend_from_slice(&[0, 0, 0])?;
+    bytes.extend_from_slice(&settings.to_be_bytes())?;
+    for number in 0..settings {
+        bytes.extend_from_slice(&128_u16.to_be_bytes())?;
+        let key = format!(in alloc; "{number:0128}")?;
+        bytes.extend_from_slice(key.as_bytes())?;
+        bytes.extend_from_slice(&1024_u16.to_be_bytes())?;
+        for _ in 0..64 {
+            bytes.extend_from_slice(b"0123456789abcdef")?;
+        }
+    }
+    Ok(bytes)
+}
+
+// The state that a node receives as these bytes, ready to be kept.
+fn received(alloc: Global, bytes: &[u8]) -> Result<Ready> {
+    let Ok(state) = decode_state(alloc, bytes) else {
+        bail!("the bytes are no state");
+    };
+    let Ok(ready) = Ready::new(alloc, state) else {
+        bail!("no memory for a state");
+    };
+    Ok(ready)
+}
+
+/// Five nodes, of which the first is the candidate.
+#[derive(Drop)]
+struct Cluster {
+    alloc: Global,
+    nodes: Vec<Node>,
+}
+
+impl Cluster {
+    // Nodes over empty journals, which have taken the initial configuration of all five.
+    fn booted(alloc: Global) -> Result<Cluster> {
+        let mut members = NodeSet::new();
+        let mut nodes = Vec::new(alloc);
+        for name in NAMES {
+            let Ok(id) = NodeId::parse(name) else {
+                bail!("{name} is no id");
+            };
+            let _ = members.insert(id);
+            let disk = MemDisk::new(alloc, Vec::new(alloc), Vec::new(alloc));
+            let Ok(journal) = StateJournal::open(alloc, disk) else {
+                bail!("no journal");
+            };
+            nodes.push(CoordState::new(id, journal))?;
+        }
+        for node in nodes.iter_mut() {
+            let initial = Ready::initial(alloc, &members)?;
+            ensure!(
+                node.set_initial(initial).is_ok(),
+                "no initial configuration"
+            );
+        }
+        Ok(Cluster { alloc, nodes })
+    }
+
+    fn candidate(&mut self) -> Result<&mut Node> {
+        let first = self.nodes.first_mut().context("no nodes")?;
+        Ok(first)
+    }
+
+    // The candidate is elected by the joins of all nodes.
+    fn elect(&mut self, term: u64) -> Result<()> {
+        let candidate = self.candidate()?.me();
+        let mut joins = Vec::new(self.alloc);
+        for node in self.nodes.iter_mut() {
+            let Ok(join) = node.start_join(candidate, term) else {
+                bail!("no join");
+            };
+            joins.push(join)?;
+        }
+        let candidate = self.candidate()?;
+        for join in joins.iter() {
+            count_join(candidate, join)?;
+        }
+        ensure!(candidate.won(), "not elected");
+        Ok(())
+    }
+
+    // The candidate publishes the value of the state that these bytes spell.
+    fn publish(&mut self, bytes: &[u8]) -> Result<PublishRequest> {
+        let Ok(state) = decode_state(self.alloc, bytes) else {
+            bail!("the bytes are no state");
+        };
+        let id = state.id();
+        let ClusterState {
+            version,
+            config,
+            value,
+            ..
+        } = state;
+        let candidate = self.candidate()?;
+        let Ok(request) = candidate.client_value(version, config, value) else {
+            bail!("no publication");
+        };
+        ensure!(request.state.id() == id, "another state is published");
+        Ok(request)
+    }
+
+    // Each node accepts the state that it receives as these bytes.
+    fn deliver(&mut self, from: NodeId, bytes: &[u8]) -> Result<Vec<PublishResponse>> {
+        let mut responses = Vec::new(self.alloc);
+        for node in self.nodes.iter_mut() {
+            let state = received(self.alloc, bytes)?;
+            let Ok(response) = node.publish_request(from, state) else {
+                bail!("not accepted");
+            };
+            responses.push(response)?;
+        }
+        Ok(responses)
+    }
+
+    // A value is published, accepted by each node and committed at each.
+    fn round(&mut self, version: u64, settings: u16) -> Result<()> {
+        let bytes = state_bytes(self.alloc, version, settings)?;
+        let request = self.publish(&bytes)?;
+        let responses = self.deliver(request.source, &bytes)?;
+        let candidate = self.candidate()?;
+        let commit = count_responses(candidate, responses.as_slice())?;
+        for node in self.nodes.iter_mut() {
+            ensure!(node.commit(&commit).is_ok(), "not committed");
+        }
+        Ok(())
+    }
+}
+
+fn count_join(candidate: &mut Node, join: &Join) -> Result<()> {
+    ensure!(candidate.votes().len() < MAX_IDS, "too many votes");
+    ensure!(candidate.join(join).is_ok(), "join not counted");
+    Ok(())
+}
+
+// The commit that is sent at the last of the responses.
+fn count_responses(publisher: &mut Node, responses: &[PublishResponse]) -> Result<ApplyCommit> {
+    let mut commit = None;
+    for response in responses {
+        ensure!(publisher.acks().len() < MAX_IDS, "too many acks");
+        let Ok(sent) = publisher.publish_response(response) else {
+            bail!("response not counted");
+        };
+        commit = sent;
+    }
+    commit.context("no commit")
+}
+
+// Runs an election and this many rounds.
+fn run(alloc: Global, settings: u16, rounds: u64) -> Result<Cluster> {
+    let mut cluster = Cluster::booted(alloc)?;
+    cluster.elect(TERM)?;
+    for version in 1..=rounds {
+        cluster.round(version, settings)?;
+    }
+    Ok(cluster)
+}
+
+fn main(rt: HostRuntime) -> Result<()> {
+    let mut words = env::args(&rt)?.skip(1);
+    let settings = words.next().context("how many settings?")?.parse::<u16>()?;
+    let rounds = words.next().context("how many rounds?")?.parse::<u64>()?;
+    let mut cluster = run(rt.alloc(), settings, rounds)?;
+    let accepted = &cluster.candidate()?.kept().accepted;
+    let (version, count) = (accepted.version, accepted.value.settings.len());
+    println!(rt; "version {version} with {count} settings is committed")?;
+    Ok(())
+}
+
+#[test]
+fn each_node_commits_the_last_value(rt: HostRuntime) {
+    let Ok(cluster) = run(rt.alloc(), 3, 2) else {
+        panic!(rt; "a round failed");
+    };
+    assert!(rt; cluster.nodes.len() == 5);
+    for node in cluster.nodes.iter() {
+        let accepted = &node.kept().accepted;
+        assert!(rt; accepted.version == 2 && accepted.value.settings.len() == 3);
+        assert!(rt; node.kept().committed.members().len() == 5);
+        let last = accepted.value.settings.texts().last_key_value();
+        assert!(rt; last.is_some_and(|(key, text)| key.len() == 128 && text.len() == 1024));
+    }
+}
