@@ -11,7 +11,7 @@ ghost use Rattle.replay_node.specs.NodeLines.{after_restart, after_stop, restart
 ghost use Rattle.replay_node.specs.Opens.{ClosedStands, Opens, StaysDown};
 ghost use Rattle.replay_node.specs.Sent.{message_of, message_of_some, taking};
 ghost use Rattle.replay_node.specs.Stands.{HasRoom, NodeDoes, NodeStands};
-ghost use Rattle.replay_node.specs.StateDoes.{Closes};
+ghost use Rattle.replay_node.specs.StateDoes.{Closes, ClosesTo};
 
 use crate::did::Did;
 use crate::disk::{empty_disk, restarted, stopped};
@@ -123,9 +123,18 @@ impl ReplayNode {
         ensures slot { Closes self.old.slot did.now self.new.slot }
     {
         if let Did::Crashed = did {
-            let slot = take_slot(&mut self.slot, alloc);
-            self.slot = closed(slot);
+            self.go_down(alloc);
         }
+    }
+
+    // Apart from `close`, which every act calls, since a slot is large.
+    fn go_down(&mut self, alloc: Global)
+        ensures me { self.new.me ≡ self.old.me }
+        ensures published { self.new.published ≡ self.old.published }
+        ensures slot { ClosesTo self.old.slot self.new.slot }
+    {
+        let slot = take_slot(&mut self.slot, alloc);
+        self.slot = closed(slot);
     }
 
     /// The node takes the initial configuration.
