@@ -1,5 +1,6 @@
 -- What acts make of a node, one after the other.
-use Rattle.std.specs.Prelude.{◌≡◌, ℕ, Bool, true, false, Option, None, Some, List, [], ◌∷◌, ◌++◌}
+use Rattle.std.specs.Prelude.{◌≡◌, ℕ, ◌≤◌, Bool, true, false, Option, None, Some, List, [], ◌∷◌}
+use Rattle.zen_disk.specs.Faults.{Rose}
 use Rattle.zen_disk.specs.Moments.{LeavesOnly}
 use Rattle.cluster_state.specs.declared.state.Kept.{Kept}
 use Rattle.state_journal.specs.declared.change.Change.{Change}
@@ -9,7 +10,7 @@ use Rattle.world_model.specs.Acts.{NodeHistory}
 use Rattle.coord_state.specs.declared.coord.CoordState.{CoordState}
 use Rattle.coord_state.specs.StandsFor.{Acts, StandsFor}
 use Rattle.coord_state.specs.Writes.{WritesBy}
-use Rattle.node_acts.specs.Entries.{Entry, has_room_for, IsLeftIn}
+use Rattle.node_acts.specs.Entries.{Entry, has_room_for, along, has_fault, AreAnswers, IsLeftIn, IsAlong}
 
 module _ {K : Type 0} (record_of : K → Kept) (has_stopped : K → Bool) (faults : K → ℕ) (told : Type 0) (moment : K → ℕ) (left_since : K → ℕ → Option Kept → Type 0) (writes : K → Change → K → Bool → Type 0) where
   -- an act that was tried
@@ -28,3 +29,14 @@ module _ {K : Type 0} (record_of : K → Kept) (has_stopped : K → Bool) (fault
   abbrev pub Turns : (old new : CoordState K) → List Entry → Type 0
   Turns old new [] = new ≡ old
   Turns old new (e ∷ es) = (mid : CoordState K) × Does old mid e.act e.outcome × Turns mid new es
+
+  -- What they come to: whatever acts the node stood for, each of these is answered as a node answers it that did those
+  -- before it, the node stands for all of them, and a crash at any moment leaves the record of those so far, without the
+  -- act in hand or with it.
+  pub record Ran (old new : CoordState K) (es : List Entry) : Type 0 where
+    pub me : new.me ≡ old.me
+    pub answers : (g : NodeHistory) → StandsFor record_of has_stopped faults old g → AreAnswers old.me g es
+    pub stands : (g : NodeHistory) → StandsFor record_of has_stopped faults old g → StandsFor record_of has_stopped faults new (along g es)
+    pub any_moment : told → (g : NodeHistory) → StandsFor record_of has_stopped faults old g → LeavesOnly moment left_since old.keeper new.keeper (IsAlong old.me g es)
+    pub later : faults old.keeper ≤ faults new.keeper
+    pub fault : has_fault es ≡ true → Rose (faults old.keeper) (faults new.keeper)

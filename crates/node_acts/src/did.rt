@@ -1,6 +1,6 @@
 ghost use Rattle.std.specs.Prelude.{◌≡◌, Some};
 ghost use Rattle.coord_state.specs.Outcomes.{initial_outcome, start_outcome, join_outcome, value_outcome, publish_outcome, response_outcome, commit_outcome, commit_message};
-ghost use Rattle.node_acts.specs.Did.{outcome_of, is_disk};
+ghost use Rattle.node_acts.specs.Did.{outcome_of, is_disk as is_failure};
 
 use cluster_state::{
     ApplyCommit, ClusterValue, CommitCause, InitialCause, Join, JoinCause, PublishCause,
@@ -34,10 +34,18 @@ pub enum Did {
     Full,
 }
 
+/// What at most three acts did, in order: those up to the first in which the disk failed.
+#[derive(Drop)]
+pub enum UpToThree {
+    One(Did),
+    Two(Did, Did),
+    Three(Did, Did, Did),
+}
+
 impl Did {
     /// Whether the disk failed in this act.
     pub fn is_disk(&self) -> bool
-        ensures { result ≡ is_disk self.now }
+        ensures { result ≡ is_failure self.now }
     {
         match self {
             Did::Disk => true,

@@ -2,9 +2,11 @@
 #![tactic(auto)]
 
 pub mod did;
+pub mod in_turn;
 pub mod one_act;
 pub mod request;
 
-pub use did::{Did, Effects};
+pub use did::{Did, Effects, UpToThree};
+pub use in_turn::{act_three, run};
 pub use one_act::act;
 pub use request::{InitialState, Request};
