@@ -1,5 +1,5 @@
 -- Acts after acts, and what they come to.
-use Rattle.std.proofs.Common.{◌≡◌, ℕ, ◌≤◌, Bool, true, false, true≢false, ◌||◌, List, [], ◌∷◌, ◌++◌, refl, sym, ◌∙◌, ap, subst, inl, inr, arith}
+use Rattle.std.proofs.Common.{◌≡◌, ℕ, ◌≤◌, Bool, true, false, true≢false, ◌||◌, List, [], ◌∷◌, ◌++◌, refl, sym, ◌∙◌, ap, subst, inl, inr, ⊎_elim, arith}
 use Rattle.std.specs.Prelude.{Option, None, Some}
 use Rattle.voting_config.specs.Ids.{Id}
 use Rattle.zen_disk.specs.Faults.{Rose}
@@ -9,6 +9,7 @@ use Rattle.state_journal.specs.declared.change.Change.{Change}
 use Rattle.world_model.specs.declared.acts.Act.{Act}
 use Rattle.world_model.specs.declared.acts.Outcome.{Outcome}
 use Rattle.world_model.specs.Acts.{NodeHistory}
+use Rattle.world_model.specs.NodeState.{NodeState, durable_of}
 use Rattle.coord_state.specs.declared.coord.CoordState.{CoordState}
 use Rattle.coord_state.specs.StandsFor.{StandsFor}
 use Rattle.node_acts.specs.Entries.{Entry, with_act, along, is_fault, has_fault, AreAnswers, IsLeftIn, IsAlong}
@@ -19,6 +20,11 @@ use Rattle.node_acts.proofs.OneAct.{one_me, one_answer, one_stands, one_leaves, 
 either_fault : (a b : Bool) (before mid now : ℕ) → before ≤ mid → mid ≤ now → (a ≡ true → Rose before mid) → (b ≡ true → Rose mid now) → (a || b) ≡ true → Rose before now
 either_fault true b before mid now before_mid mid_now first rest fault = let rose = first refl in λ le. omega (arith, rose (omega arith))
 either_fault false b before mid now before_mid mid_now first rest fault = let rose = rest fault in λ le. omega (arith, rose (omega arith))
+
+-- a crash before the first of them
+at_first : (me : Id) (g : NodeHistory) (es : List Entry) (found : Option Kept) → found ≡ Some (durable_of g) → IsAlong me g es found
+at_first me g [] found is = is
+at_first me g (e ∷ es) found is = inl (inl is)
 
 module _ {K : Type 0} (record_of : K → Kept) (has_stopped : K → Bool) (faults : K → ℕ) (told : Type 0) (moment : K → ℕ) (left_since : K → ℕ → Option Kept → Type 0) (writes : K → Change → K → Bool → Type 0) where
   abbrev Go : (old new : CoordState K) → List Entry → Type 0
@@ -75,13 +81,24 @@ module _ {K : Type 0} (record_of : K → Kept) (has_stopped : K → Bool) (fault
           (one_later record_of has_stopped faults told moment left_since writes old go.0 e.act e.outcome go.1) (all_later go.0 new es go.2)
           (one_fault record_of has_stopped faults told moment left_since writes old go.0 e.act e.outcome go.1) (all_fault go.0 new es go.2) fault
 
+  -- what a crash leaves that was at rest when these acts began
+  crash_along : (old new : CoordState K) (es : List Entry) → Go old new es
+      → ((k : K) (found : Option Kept) → told → has_stopped k ≡ false → left_since k (moment k) found → found ≡ Some (record_of k))
+      → told → has_stopped old.keeper ≡ false → (g : NodeHistory) → Stands old g → (found : Option Kept) → left_since new.keeper (moment old.keeper) found → IsAlong old.me g es found
+  crash_along old new es go only_kept t runs g s found left =
+      let kept : record_of old.keeper ≡ durable_of g = ap (λ (p : NodeState). let r : Kept = record { term = p.term; accepted = p.accepted; committed = p.committed } in r) s in
+      ⊎_elim (λ was. at_first old.me g es found (only_kept old.keeper found t runs was ∙ ap (λ (k : Kept). Some k) kept)) (λ now. now)
+      ((all_leave old new es go t g s).since (moment old.keeper) found (omega arith) left)
+
   -- acts in turn come to this
-  pub ran : (old new : CoordState K) (es : List Entry) → Go old new es → Ran record_of has_stopped faults told moment left_since writes old new es
-  ran old new es go = record {
+  pub ran : (old new : CoordState K) (es : List Entry) → ((k : K) (found : Option Kept) → told → has_stopped k ≡ false → left_since k (moment k) found → found ≡ Some (record_of k)) → Go old new es
+      → Ran record_of has_stopped faults told moment left_since writes old new es
+  ran old new es only_kept go = record {
     me = all_me old new es go;
     answers = all_answer old new es go;
     stands = all_stand old new es go;
     any_moment = all_leave old new es go;
+    crash = crash_along old new es go only_kept;
     later = all_later old new es go;
     fault = all_fault old new es go;
   }

@@ -32,11 +32,12 @@ module _ {K : Type 0} (record_of : K → Kept) (has_stopped : K → Bool) (fault
 
   -- What they come to: whatever acts the node stood for, each of these is answered as a node answers it that did those
   -- before it, the node stands for all of them, and a crash at any moment leaves the record of those so far, without the
-  -- act in hand or with it.
+  -- act in hand or with it. `any_moment` joins with what was left before, and `crash` is of a node that begins unstopped.
   pub record Ran (old new : CoordState K) (es : List Entry) : Type 0 where
     pub me : new.me ≡ old.me
     pub answers : (g : NodeHistory) → StandsFor record_of has_stopped faults old g → AreAnswers old.me g es
     pub stands : (g : NodeHistory) → StandsFor record_of has_stopped faults old g → StandsFor record_of has_stopped faults new (along g es)
     pub any_moment : told → (g : NodeHistory) → StandsFor record_of has_stopped faults old g → LeavesOnly moment left_since old.keeper new.keeper (IsAlong old.me g es)
+    pub crash : told → has_stopped old.keeper ≡ false → (g : NodeHistory) → StandsFor record_of has_stopped faults old g → (found : Option Kept) → left_since new.keeper (moment old.keeper) found → IsAlong old.me g es found
     pub later : faults old.keeper ≤ faults new.keeper
     pub fault : has_fault es ≡ true → Rose (faults old.keeper) (faults new.keeper)

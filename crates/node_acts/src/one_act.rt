@@ -1,9 +1,9 @@
-ghost use Rattle.std.specs.Prelude.{◌≡◌, Some};
+ghost use Rattle.std.specs.Prelude.{◌≡◌, [], ◌∷◌};
 ghost use Rattle.world_model.specs.declared.acts.Act.TheVariants as act;
-ghost use Rattle.node_acts.specs.Entries.{has_room as is_room};
+ghost use Rattle.node_acts.specs.Entries.{entries_of, has_room as is_room};
 ghost use Rattle.node_acts.specs.Requests.{act_of};
 ghost use Rattle.node_acts.specs.Did.{outcome_of};
-ghost use Rattle.node_acts.specs.Turns.{Does};
+ghost use Rattle.node_acts.specs.Turns.{Does, Ran};
 
 use crate::did::{
     commit_did, initial_did, join_did, publish_did, response_did, start_did, value_did,
@@ -75,11 +75,7 @@ fn commit<K: Keeper>(core: &mut CoordState<K>, commit: &ApplyCommit) -> Did
     commit_did(core.commit(commit))
 }
 
-/// Tries one act.
-///
-/// `Full` comes exactly where a join or a response is from a node that is not counted yet, and as many are counted as a set
-/// of nodes holds; the node is then as before. What a refused act took is dropped.
-pub fn act<K: Keeper>(core: &mut CoordState<K>, request: Request) -> Did
+fn dispatch<K: Keeper>(core: &mut CoordState<K>, request: Request) -> Did
     ensures { Does K.record_of K.has_stopped K.faults K.told K.moment K.left_since K.writes core.old core.new (act_of request) (outcome_of result) }
 {
     match request {
@@ -93,4 +89,15 @@ pub fn act<K: Keeper>(core: &mut CoordState<K>, request: Request) -> Did
         Request::Respond(response) => take_response(core, &response),
         Request::Commit(sent) => commit(core, &sent),
     }
+}
+
+/// Tries one act.
+///
+/// `Full` comes exactly where a join or a response is from a node that is not counted yet, and as many are counted as a set
+/// of nodes holds; the node is then as before. What a refused act took is dropped.
+pub fn act<K: Keeper>(core: &mut CoordState<K>, request: Request) -> Did
+    ensures does { Does K.record_of K.has_stopped K.faults K.told K.moment K.left_since K.writes core.old core.new (act_of request) (outcome_of result) }
+    ensures ran { Ran K.record_of K.has_stopped K.faults K.told K.moment K.left_since K.writes core.old core.new (entries_of (request ∷ []) (result ∷ [])) }
+{
+    dispatch(core, request)
 }
