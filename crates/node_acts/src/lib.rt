@@ -5,6 +5,8 @@ pub mod did;
 pub mod in_turn;
 pub mod one_act;
 pub mod request;
+#[cfg(test)]
+mod tests;
 
 pub use did::{Did, Effects, UpToThree};
 pub use in_turn::{act_three, run};
