@@ -1,6 +1,6 @@
 -- Acts after acts, and what they come to.
 use Rattle.std.proofs.Common.{◌≡◌, ℕ, ◌≤◌, Bool, true, false, true≢false, ◌||◌, List, [], ◌∷◌, ◌++◌, refl, sym, ◌∙◌, ap, subst, inl, inr, ⊎_elim, arith}
-use Rattle.std.specs.Prelude.{Option, None, Some}
+use Rattle.std.specs.Prelude.{Option, Some}
 use Rattle.voting_config.specs.Ids.{Id}
 use Rattle.zen_disk.specs.Faults.{Rose}
 use Rattle.zen_disk.specs.Moments.{LeavesOnly, quiet, joins}
@@ -68,7 +68,7 @@ module _ {K : Type 0} (record_of : K → Kept) (has_stopped : K → Bool) (fault
       let first = one_leaves record_of has_stopped faults told moment left_since writes old go.0 e.act e.outcome go.1 t g s in
       let rest = all_leave go.0 new es go.2 t next (one_stands record_of has_stopped faults told moment left_since writes old go.0 e.act e.outcome go.1 g s) in
       joins moment left_since old.keeper go.0.keeper new.keeper (IsLeftIn old.me g e.act) (IsAlong old.me next es) (IsAlong old.me g (e ∷ es)) first
-          (subst (λ (me : Id). LeavesOnly moment left_since go.0.keeper new.keeper (IsAlong me next es)) same rest) (λ found in_hand. inl in_hand) (λ found after. inr after)
+      (subst (λ (me : Id). LeavesOnly moment left_since go.0.keeper new.keeper (IsAlong me next es)) same rest) (λ found in_hand. inl in_hand) (λ found after. inr after)
 
   all_later : (old new : CoordState K) (es : List Entry) → Go old new es → faults old.keeper ≤ faults new.keeper
   all_later old new [] same = subst (λ (c : CoordState K). faults old.keeper ≤ faults c.keeper) (sym same) (omega arith)
@@ -78,8 +78,8 @@ module _ {K : Type 0} (record_of : K → Kept) (has_stopped : K → Bool) (fault
   all_fault old new [] same fault = absurd (true≢false (sym fault))
   all_fault old new (e ∷ es) go fault =
       either_fault (is_fault e.outcome) (has_fault es) (faults old.keeper) (faults go.0.keeper) (faults new.keeper)
-          (one_later record_of has_stopped faults told moment left_since writes old go.0 e.act e.outcome go.1) (all_later go.0 new es go.2)
-          (one_fault record_of has_stopped faults told moment left_since writes old go.0 e.act e.outcome go.1) (all_fault go.0 new es go.2) fault
+      (one_later record_of has_stopped faults told moment left_since writes old go.0 e.act e.outcome go.1) (all_later go.0 new es go.2)
+      (one_fault record_of has_stopped faults told moment left_since writes old go.0 e.act e.outcome go.1) (all_fault go.0 new es go.2) fault
 
   -- what a crash leaves that was at rest when these acts began
   crash_along : (old new : CoordState K) (es : List Entry) → Go old new es

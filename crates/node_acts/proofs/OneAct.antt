@@ -1,5 +1,5 @@
 -- What one act comes to, whether it was tried or not.
-use Rattle.std.proofs.Common.{◌≡◌, ℕ, ◌≤◌, Bool, true, false, true≢false, refl, sym, ◌∙◌, ap, subst, arith}
+use Rattle.std.proofs.Common.{◌≡◌, ℕ, ◌≤◌, Bool, true, true≢false, sym, ◌∙◌, ap, subst, arith}
 use Rattle.std.specs.Prelude.{Option, None, Some}
 use Rattle.zen_disk.specs.Faults.{Rose}
 use Rattle.zen_disk.specs.Moments.{LeavesOnly, quiet}

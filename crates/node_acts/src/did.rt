@@ -126,9 +126,7 @@ fn commit_sent(sends: Option<ApplyCommit>) -> Option<Message>
     }
 }
 
-pub(crate) fn response_did(
-    answer: Result<Option<ApplyCommit>, ActError<ResponseCause, ()>>,
-) -> Did
+pub(crate) fn response_did(answer: Result<Option<ApplyCommit>, ActError<ResponseCause, ()>>) -> Did
     ensures { outcome_of result ≡ Some (response_outcome answer) }
 {
     match answer {

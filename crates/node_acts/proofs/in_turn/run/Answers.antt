@@ -21,7 +21,7 @@ loop-request-preserved g c =
       can = tt;
       finite = tt;
       whole = append_assoc yielded (c.in-Some.request ∷ []) _ ∙ whole_with yielded _ _ _ c.in-Some.request c.in-Some.ensures.steps.0 i.whole;
-      goes_on = goes_on yielded dids _ c.in-Some.request c.act-did.result i.goes_on c.if-failed.ensures c.push.ensures.items;
+      goes_on = goes_on yielded dids _ c.in-Some.request c.act-did.result i.goes_on (sym c.if-failed.false ∙ c.is_disk-failed.ensures) c.push.ensures.items;
       in_turn = one_more g.K.Keeper.record_of g.K.Keeper.has_stopped g.K.Keeper.faults g.K.Keeper.told g.K.Keeper.moment g.K.Keeper.left_since g.K.Keeper.writes
           c.args.core.now c.loop-request.core c.act-did.new.core yielded [] _ c.in-Some.request dids _ c.act-did.result i.goes_on i.in_turn c.act-did.ensures.does refl c.push.ensures.items;
       room = omega (arith, i.room, c.push.ensures.capacity);
@@ -31,7 +31,7 @@ pub returns-then-failed-clause-tried : goal.returns-then-failed-clause-tried
 returns-then-failed-clause-tried g c =
     let i = c.loop-request.invariant in
     let whole = whole_with c.loop-request.yielded _ _ _ c.in-Some.request c.in-Some.ensures.steps.0 i.whole in
-    ends_at c.loop-request.yielded _ _ c.loop-request.dids.items _ c.in-Some.request c.act-did.result i.goes_on c.if-failed.ensures whole c.push.ensures.items
+    ends_at c.loop-request.yielded _ _ c.loop-request.dids.items _ c.in-Some.request c.act-did.result i.goes_on (sym c.if-failed.true ∙ c.is_disk-failed.ensures) whole c.push.ensures.items
 
 pub returns-then-failed-clause-in_turn : goal.returns-then-failed-clause-in_turn
 returns-then-failed-clause-in_turn g c =
