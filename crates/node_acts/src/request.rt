@@ -34,7 +34,7 @@ pub enum Request {
     TakeJoin(Join),
     /// Publishes a value with a version and a configuration.
     ClientValue(u64, VotingConfig, ClusterValue),
-    /// Accepts a state that this node published.
+    /// Accepts a state that the node of this id published.
     Publish(NodeId, Ready),
     /// Counts the response to a publication.
     Respond(PublishResponse),
