@@ -1,0 +1,3 @@
+pub mod OneAct
+pub mod Chain
+pub mod Running

@@ -1,0 +1,4 @@
+pub mod Requests
+pub mod Did
+pub mod Entries
+pub mod Turns
