@@ -5,3 +5,6 @@ pub mod Progress
 pub mod Room
 pub mod Sources
 pub mod WorldSteps
+pub mod FileLeft
+pub mod JournalLeft
+pub mod NodeSound
