@@ -8,3 +8,5 @@ pub mod WorldSteps
 pub mod FileLeft
 pub mod JournalLeft
 pub mod NodeSound
+pub mod FitLines
+pub mod WorldLegal

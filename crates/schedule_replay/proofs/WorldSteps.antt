@@ -86,7 +86,7 @@ all_up (i ∷ is) (c ∷ cs) w n s listed up = from (same i n) refl listed (λ l
     from true e l more = slot_up c.me c.slot (node_world w n) (subst (λ (x : Id). NodeStands c (node_world w x)) (same_is i n e) s.1).slot up
     from false e l more = more l
 
-may_act : (initial : List Id) (w : World) (n : Id) (act : Act) → is_down (node_history w.history n) ≡ false → IsSourced initial (sent w.history) act → is_open act ≡ false → MayHappen initial w.history n act (outcome_at n (node_world w n) act)
+pub may_act : (initial : List Id) (w : World) (n : Id) (act : Act) → is_down (node_history w.history n) ≡ false → IsSourced initial (sent w.history) act → is_open act ≡ false → MayHappen initial w.history n act (outcome_at n (node_world w n) act)
 may_act initial w n act up sourced closed = record {
   follows = record { follows = outcome_may n (node_world w n) act; up = λ down. absurd (cc) };
   continues = continues (node_history w.history n) act closed;
