@@ -18,7 +18,7 @@ use Rattle.schedule_replay.specs.Replayed.{value_with}
 pub set_fits : (xs : List Id) → IsIdSet xs → (ids most_ids).Fits xs
 set_fits xs set = fits_ids most_ids xs set set.fits
 
-none_set : IsIdSet []
+pub none_set : IsIdSet []
 none_set = record { ascending = refl; each = refl; fits = omega arith }
 
 sets_after : (front xs : List Id) → IsIdSet front → are_ids_after front xs ≡ true → IsIdSet (front ++ xs)
@@ -31,9 +31,12 @@ sets_after front (x ∷ xs) set e =
     let room : length front < most_ids = grind (arith, nat_tests) in
     subst IsIdSet (append_assoc front (x ∷ []) xs) (sets_after (front ++ x ∷ []) xs (IsIdSet-push x front set is.0 follows.1 room) parts.1)
 
+pub ids_set : (xs : List Id) → are_ids_after [] xs ≡ true → IsIdSet xs
+ids_set xs e = sets_after [] xs none_set e
+
 -- the configuration of a value
 pub config_fits : (listed xs : List Id) → (are_ids_after [] xs && are_among listed xs) ≡ true → (ids most_ids).Fits xs
-config_fits listed xs e = set_fits xs (sets_after [] xs none_set (and_parts (are_ids_after [] xs) (are_among listed xs) e).0)
+config_fits listed xs e = set_fits xs (ids_set xs (and_parts (are_ids_after [] xs) (are_among listed xs) e).0)
 
 is_text : (x : Id) → is_id x ≡ true → is_utf8 x ≡ true
 is_text x is = is_utf8-from_IsUtf8 x (IsUtf8-id x is)

@@ -10,7 +10,7 @@ replay-requires-clause-named g c = spells_named _ _ c.in-Ok-read_schedule.ensure
 
 pub returns-in-Ok-replay : goal.returns-in-Ok-replay
 returns-in-Ok-replay g c =
-    succeeded _ _ _ _ _ _ _ _ _ c.as_slice.result.now (cc) (rw c.as_slice.ensures.value c.in-Ok-read_input.ensures.read) c.read_input.ensures.later c.replay.ensures.later _ c.in-Ok-read_schedule.ensures.found c.in-Ok-replay.ensures.written c.in-Ok-replay.ensures.legal
+    succeeded _ _ _ _ _ _ _ _ _ c.as_slice.result.now (cc) (rw c.as_slice.ensures.value c.in-Ok-read_input.ensures.read) c.read_input.ensures.later c.replay.ensures.later _ c.in-Ok-read_schedule.ensures.found c.in-Ok-replay.ensures.written
 
 pub returns-in-Err-Write : goal.returns-in-Err-Write
 returns-in-Err-Write g c =
