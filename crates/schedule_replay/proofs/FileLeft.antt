@@ -1,9 +1,9 @@
 -- What a stop leaves of a file that was written at most once since its last sync.
-use Rattle.std.proofs.Common.{◌≡◌, ◌⊎◌, inl, inr, ℕ, ◌+◌, ◌≤◌, max, Bool, true, false, Option, None, Some, List, [], ◌∷◌, length, refl, sym, ◌∙◌, ap, subst, arith}
+use Rattle.std.proofs.Common.{◌≡◌, ◌⊎◌, inl, inr, ℕ, ◌+◌, ◌≤◌, max, Bool, true, false, Option, None, Some, List, [], ◌∷◌, length, sym, ◌∙◌, ap, subst, arith}
 use Rattle.std.specs.Prelude.{replicate}
 use Rattle.std.proofs.lemmas.List.{length-replicate}
 use Rattle.zen_disk.specs.Armed.{stop_due, is_fault_due}
-use Rattle.zen_disk.specs.DeviceCall.{DeviceCall, Write, Sync}
+use Rattle.zen_disk.specs.DeviceCall.{DeviceCall, Write}
 use Rattle.zen_disk.specs.Disk.{written, Torn}
 use Rattle.zen_disk.specs.FileState.{FileState, after, left_by, settled}
 use Rattle.zen_disk.specs.declared.orders.Way.{Way}

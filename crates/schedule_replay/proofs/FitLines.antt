@@ -1,7 +1,6 @@
 -- What the lines of a schedule name fits into the body of a state.
-use Rattle.std.proofs.Common.{◌≡◌, ℕ, ◌+◌, ◌<◌, ◌≤◌, ◌^◌, Bool, true, false, ◌&&◌, Option, None, Some, List, [], ◌∷◌, ◌++◌, length, refl, sym, ◌∙◌, ap, subst, arith, append-nil, append_assoc}
+use Rattle.std.proofs.Common.{◌≡◌, ℕ, ◌<◌, ◌≤◌, true, ◌&&◌, List, [], ◌∷◌, ◌++◌, length, refl, sym, subst, arith, append-nil, append_assoc}
 use Rattle.std.specs.Prelude.{nat_lt, codes}
-use Rattle.std.specs.List.{list_all, AllByRecursion}
 use Rattle.std.specs.Str.{is_utf8}
 use Rattle.std.proofs.lemmas.Bool.{and_parts}
 use Rattle.std.proofs.lemmas.Bool.Decides.{nat_tests}
@@ -9,7 +8,7 @@ use Rattle.std.proofs.lemmas.Str.{is_utf8-from_IsUtf8}
 use Rattle.voting_config.specs.Ids.{Id, is_id, comes_after, most_ids, IsIdSet}
 use Rattle.voting_config.proofs.Ascii.{IsUtf8-id}
 use Rattle.voting_config.proofs.Sorted.{IsIdSet-push}
-use Rattle.cluster_state.specs.Fields.{id, ids}
+use Rattle.cluster_state.specs.Fields.{ids}
 use Rattle.cluster_state.specs.States.{value as value_field}
 use Rattle.cluster_state.proofs.Fitting.{fits_id, fits_ids}
 use Rattle.schedule_text.specs.Words.{may_follow, are_ids_after, are_among}

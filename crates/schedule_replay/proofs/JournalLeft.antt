@@ -1,6 +1,6 @@
 -- What an append, an opening and any stops in them make of a node's journal.
-use Rattle.std.proofs.Common.{◌≡◌, ◌≢◌, ◌⊎◌, inl, inr, ⊎_elim, ℕ, ◌+◌, ◌≤◌, ◌<◌, max, Bool, true, false, cond, List, [], ◌∷◌, ◌++◌, length, take, drop, get_or, Ok, Err, refl, sym, ◌∙◌, ap, subst, arith, append_assoc}
-use Rattle.std.specs.Prelude.{Result, nat_le}
+use Rattle.std.proofs.Common.{◌≡◌, ◌⊎◌, inl, inr, ℕ, ◌+◌, ◌≤◌, ◌<◌, Bool, true, cond, List, [], ◌∷◌, ◌++◌, length, take, drop, get_or, Ok, refl, sym, ◌∙◌, ap, subst, arith, append_assoc}
+use Rattle.std.specs.Prelude.{nat_le}
 use Rattle.std.proofs.lemmas.Bool.{cases_eq, cases_lt, lt-leb, le-leb}
 use Rattle.std.proofs.lemmas.List.{drop_all, get_or_at, length-take-le}
 use Rattle.cluster_state.specs.Initial.{empty_record}
@@ -9,19 +9,17 @@ use Rattle.zen_disk.specs.DeviceCall.{DeviceCall, Len, Read, Write, Sync}
 use Rattle.zen_disk.specs.Disk.{written, part, Torn}
 use Rattle.zen_disk.specs.FileState.{FileState, after, settled}
 use Rattle.zen_disk.proofs.Files.{torn_written, part_written}
-use Rattle.gate_log.specs.Calls.{append_calls, opening_calls, preparing_calls, reading_calls}
-use Rattle.gate_log.specs.Journal.{header, framed, laid, bodies_of, standing, IsFrame, IsLaid}
-use Rattle.gate_log.specs.declared.why.Why.{Why as LogWhy}
+use Rattle.gate_log.specs.Calls.{append_calls, opening_calls}
+use Rattle.gate_log.specs.Journal.{header, framed, laid, standing, IsFrame, IsLaid}
 use Rattle.gate_log.proofs.Added.{torn_behind, opened, still_closed}
 use Rattle.gate_log.proofs.Laid.{brief, fresh_laid, gate_is, stands_for, standing_is}
 use Rattle.state_journal.specs.Bodies.{body_of, change_at}
 use Rattle.state_journal.specs.Changes.{changed}
 use Rattle.state_journal.specs.Journal.{in_order, folded_from, found_in, found_of}
 use Rattle.state_journal.specs.declared.change.Change.{Change}
-use Rattle.state_journal.specs.declared.why.Why.{Why}
 use Rattle.state_journal.proofs.Folds.{folded-push, makes, fold_end}
-use Rattle.replay_node.specs.NodeDisk.{NodeDisk, calls_made, gate_of, opening, placed}
-use Rattle.schedule_replay.proofs.FileLeft.{AllStable, OneWrite, Leaves, Ends, leaves_read, call_leaves, no_calls}
+use Rattle.replay_node.specs.NodeDisk.{NodeDisk, calls_made, gate_of, opening}
+use Rattle.schedule_replay.proofs.FileLeft.{Leaves, Ends, leaves_read, call_leaves, no_calls}
 
 -- an opening of the file finds this record, and the file is a journal or too short to be one
 pub record StandsWith (kept : Kept) (file : List ℕ) : Type 0 where

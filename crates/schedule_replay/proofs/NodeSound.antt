@@ -1,5 +1,5 @@
 -- What each line keeps true of a node: what its file may be read as, where any stops follow, is the record of its acts.
-use Rattle.std.proofs.Common.{◌≡◌, ◌⊎◌, inl, inr, ℕ, ◌+◌, ◌≤◌, ◌^◌, max, Bool, true, false, ◌||◌, Option, None, Some, List, [], ◌∷◌, length, refl, sym, ◌∙◌, ap, subst, arith, cond, if◌then◌else◌}
+use Rattle.std.proofs.Common.{◌≡◌, inl, inr, ℕ, ◌≤◌, ◌^◌, max, Bool, true, false, ◌||◌, Option, None, Some, List, [], length, refl, sym, ◌∙◌, ap, subst, arith, if◌then◌else◌}
 use Rattle.std.specs.Prelude.{Result}
 use Rattle.std.specs.Result.{result_unwrap_or}
 use Rattle.std.proofs.lemmas.Bool.{lt-ltb, le-leb}
@@ -18,7 +18,6 @@ use Rattle.gate_log.specs.Calls.{append_calls}
 use Rattle.gate_log.specs.Journal.{framed}
 use Rattle.state_journal.specs.Bodies.{body_of}
 use Rattle.state_journal.specs.Changes.{changed}
-use Rattle.state_journal.specs.Journal.{found_of}
 use Rattle.state_journal.specs.declared.change.Change.{Change}
 use Rattle.state_journal.specs.declared.change.Change.TheVariants.{Term, Accepted, Committed}
 use Rattle.state_journal.specs.declared.why.Why.{Why}
@@ -30,25 +29,23 @@ use Rattle.world_model.specs.declared.acts.Act.TheVariants.{Bootstrap, StartJoin
 use Rattle.world_model.specs.declared.acts.Message.{Message}
 use Rattle.world_model.specs.declared.acts.Reply.{Reply}
 use Rattle.world_model.specs.declared.acts.Reply.TheVariants.{Taken, Refused, Stopped}
-use Rattle.world_model.specs.declared.acts.Outcome.{Outcome}
 use Rattle.world_model.specs.declared.acts.Outcome.TheVariants.{Answered, Disk, Crashed}
 use Rattle.world_model.specs.Acts.{NodeHistory, NoActs, Then}
 use Rattle.world_model.specs.NodeState.{term_of, accepted_of, committed_of, durable_of, stopped_of}
 use Rattle.world_model.specs.Histories.{is_down, is_open, IsLocal}
-use Rattle.world_model.specs.Replies.{reply_of, is_taken, writes}
+use Rattle.world_model.specs.Replies.{reply_of, writes}
 use Rattle.world_model.proofs.Guards.{start_guard, publish_guard}
-use Rattle.replay_node.specs.Did.{after_unless_down}
 use Rattle.replay_node.specs.NodeDisk.{NodeDisk, CallsEnd, Done, Failed, StoppedIn, Called, calls_made, gate_of, opening}
-use Rattle.replay_node.specs.NodeLines.{after_stop, after_restart}
-use Rattle.replay_node.specs.NodeWorld.{NodeWorld, act_calls, act_called, acts_reopened, after_act, after_crash, after_opening, after_order, found_at, fresh_node, is_stop, needs_opening, opened_by, outcome_by}
+use Rattle.replay_node.specs.NodeLines.{after_stop}
+use Rattle.replay_node.specs.NodeWorld.{NodeWorld, act_calls, acts_reopened, after_act, after_crash, after_opening, after_order, found_at, fresh_node, is_stop, needs_opening, opened_by, outcome_by}
 use Rattle.replay_node.specs.Settled.{settled, is_kept, IsUnstruck}
 use Rattle.replay_node.proofs.Found.{found_is}
 use Rattle.replay_node.proofs.Reopened.{IsFound}
 use Rattle.replay_node.proofs.SettledLocal.{stopped_reply}
 use Rattle.replay_node.proofs.Settling.{settled_then, unstruck, unstruck_then}
 use Rattle.replay_node.proofs.Struck.{durable_kept, durable_lost, durable_lost_crash, durable_refused}
-use Rattle.schedule_replay.proofs.FileLeft.{Leaves, EndsIn, Ends, leaves_stop}
-use Rattle.schedule_replay.proofs.JournalLeft.{StandsWith, StandsWithEither, Runs, MayKeep, Opening, append_ends, empty_stands, opening_ends, runs_leaves}
+use Rattle.schedule_replay.proofs.FileLeft.{Leaves, EndsIn, leaves_stop}
+use Rattle.schedule_replay.proofs.JournalLeft.{StandsWithEither, Runs, MayKeep, Opening, append_ends, empty_stands, opening_ends, runs_leaves}
 
 -- ---- what fits into a body
 

@@ -1,20 +1,19 @@
 -- The history of each schedule is legal.
-use Rattle.std.proofs.Common.{◌≡◌, ◌≢◌, ◌⊎◌, inl, inr, ℕ, zero, suc, ◌-◌, ◌≤◌, ◌^◌, Bool, true, false, Option, None, Some, List, [], ◌∷◌, ◌++◌, refl, sym, ◌∙◌, ap, subst, arith, append-nil, slice_get, if◌then◌else◌}
+use Rattle.std.proofs.Common.{◌≡◌, ◌≢◌, ℕ, zero, suc, ◌-◌, ◌≤◌, ◌^◌, Bool, true, false, Option, None, Some, List, [], ◌∷◌, ◌++◌, refl, sym, ◌∙◌, ap, subst, arith, append-nil, slice_get, if◌then◌else◌}
 use Rattle.std.specs.Prelude.{◌||◌}
 use Rattle.std.specs.List.{AllByRecursion, Contains}
 use Rattle.std.proofs.lemmas.Option.{slice_get_within, get_or_from_slice_get}
-use Rattle.voting_config.specs.Ids.{Id, same, most_ids, IsIdSet}
+use Rattle.voting_config.specs.Ids.{Id, same, most_ids}
 use Rattle.cluster_state.specs.Fields.{ids}
 use Rattle.cluster_state.specs.States.{state}
 use Rattle.cluster_state.specs.declared.messages.PublishRequest.{PublishRequest}
 use Rattle.cluster_state.specs.declared.state.Kept.{Kept}
 use Rattle.world_model.specs.declared.acts.Act.{Act}
-use Rattle.world_model.specs.declared.acts.Act.TheVariants.{Bootstrap, StartJoin, Value, Open}
+use Rattle.world_model.specs.declared.acts.Act.TheVariants.{Bootstrap, StartJoin, Value}
 use Rattle.world_model.specs.declared.acts.Message.{Message}
 use Rattle.world_model.specs.declared.acts.Message.TheVariants.{Join as JoinMessage, Publish as PublishMessage, Response as ResponseMessage, Commit as CommitMessage}
 use Rattle.world_model.specs.declared.acts.Reply.{Reply}
 use Rattle.world_model.specs.declared.acts.Reply.TheVariants.{Taken, Refused, Stopped}
-use Rattle.world_model.specs.declared.acts.Outcome.{Outcome}
 use Rattle.world_model.specs.declared.acts.Outcome.TheVariants.{Answered}
 use Rattle.world_model.specs.Acts.{NodeHistory}
 use Rattle.world_model.specs.NodeState.{durable_of, stopped_of}
@@ -25,7 +24,6 @@ use Rattle.world_model.proofs.Guards.{same_is, value_guard}
 use Rattle.world_model.proofs.System.{Origin, PublishBy, origin}
 use Rattle.schedule_text.specs.declared.schedule.Line.{Line}
 use Rattle.schedule_text.specs.declared.schedule.Line.TheVariants as line
-use Rattle.schedule_text.specs.declared.schedule.Schedule.{Schedule}
 use Rattle.schedule_text.specs.Lines.{FitsLine}
 use Rattle.zen_disk.specs.declared.orders.Order.{Order}
 use Rattle.zen_disk.specs.declared.orders.Order.TheVariants.{Stop, Fault}
@@ -40,12 +38,11 @@ use Rattle.replay_node.proofs.AllSettled.{settled_sent}
 use Rattle.replay_node.proofs.Reopened.{IsFound, reopened_legal}
 use Rattle.replay_node.proofs.Settling.{unstruck}
 use Rattle.schedule_replay.specs.Legal.{LawReplayIsLegal}
-use Rattle.schedule_replay.specs.Replayed.{World, after, crashed, did, did_unless_down, fresh_world, history_opened, message_at, node_world, opened, ordered, replayed, replayed_from, restarted, took_some}
+use Rattle.schedule_replay.specs.Replayed.{World, after, crashed, did, did_unless_down, fresh_world, history_opened, message_at, node_world, opened, ordered, replayed_from, restarted, took_some}
 use Rattle.schedule_replay.proofs.FitLines.{set_fits, config_fits, text_fits}
-use Rattle.schedule_replay.proofs.Lines.{sourced_taking, taking_shut}
+use Rattle.schedule_replay.proofs.MayAct.{may_act, sourced_taking, taking_shut}
 use Rattle.schedule_replay.proofs.Movement.{NodeMoves, moves_crashed, moves_did_unless_down, moves_ordered, moves_restarted}
 use Rattle.schedule_replay.proofs.NodeSound.{IsFitAct, IsFitKept, Sound, act_sound, found_either, fresh_sound, opening_sound, order_sound, stop_sound}
-use Rattle.schedule_replay.proofs.WorldSteps.{may_act}
 
 -- a state that was published fits into a body
 abbrev IsFitMessage : Message → Type 0

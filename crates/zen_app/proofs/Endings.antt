@@ -28,7 +28,7 @@ pub spells_fits : (bytes : List ℕ) (s : Schedule) → Spells bytes s → AllBy
 spells_fits _ _ Nothing = tt
 spells_fits _ _ (Text s is within) = is.lines
 
-pub spells_named : (bytes : List ℕ) (s : Schedule) → Spells bytes s → s.initial ≡ [] → s.lines ≡ []
+spells_named : (bytes : List ℕ) (s : Schedule) → Spells bytes s → s.initial ≡ [] → s.lines ≡ []
 spells_named _ _ Nothing e = refl
 spells_named _ _ (Text s is within) e = absurd (none s.initial is.some_initial e)
   where
