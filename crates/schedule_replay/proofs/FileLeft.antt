@@ -86,9 +86,9 @@ call_leaves disk call calls was next P D is done now within then =
     let C : FileState → Type 0 = λ f. Leaves f P in
     let M : FileState → Type 0 = λ f. f ≡ next in
     let here : Ends (call_once disk call) M C = one_call (stop_due disk.armed.stop) (is_fault_due disk.armed.fault) disk call M C
-        (subst C (sym is) now)
-        (ap (λ (f : FileState). after f call) is ∙ done)
-        (λ way. leaves_stop way (placed disk.file call) P (subst (λ (f : FileState). Leaves (placed f call) P) (sym is) within)) in
+    (subst C (sym is) now)
+    (ap (λ (f : FileState). after f call) is ∙ done)
+    (λ way. leaves_stop way (placed disk.file call) P (subst (λ (f : FileState). Leaves (placed f call) P) (sym is) within)) in
     then_calls (call_once disk call).ended (call_once disk call).disk (λ (d : NodeDisk). calls_made d calls) M D C here (λ file. then (call_once disk call).disk file)
 
 pub no_calls : (disk : NodeDisk) (D C : FileState → Type 0) → D disk.file → Ends (calls_made disk []) D C

@@ -255,7 +255,7 @@ module _ (me : Id) (w : NodeWorld) (act : Act) (s : Sound w) (up : w.down ≡ fa
       let k : Keeps w.acts act = keeps me w.acts act sends wins is w_act fits fit in
       let called : Called = calls_made w.disk (append_calls (gate_of w.disk.file.read) (framed (body_of k.change))) in
       let there : Sound (acted_by called.ended called.disk w.acts act (Taken sends wins)) =
-          kept_sound w.acts act o k free going fit called.ended called.disk sends wins (append_ends w.disk (durable_of w.acts) k.change (s.runs needs) k.may) in
+      kept_sound w.acts act o k free going fit called.ended called.disk sends wins (append_ends w.disk (durable_of w.acts) k.change (s.runs needs) k.may) in
       subst (λ (c : Option Change). let called : Called = calls_made w.disk (act_calls (Taken sends wins) c w.disk.file.read) in Sound (acted_by called.ended called.disk w.acts act (Taken sends wins))) (sym k.is) there
 
   taking : (sends : Option Message) (wins : Bool) → Taken sends wins ≡ reply_of me w.acts act → (b : Bool) → writes act ≡ b → stopped_of w.acts ≡ false → Sound (after_reply w act (Taken sends wins))
