@@ -61,22 +61,19 @@ runs_leaves file kept other runs = inl (record { bytes = runs.bytes; is = runs.i
 -- ---- an append
 
 module _ (bodies : List (List ℕ)) (old : List ℕ) (gate : ℕ) (kept : Kept) (change : Change) (is : IsLaid bodies old gate) (folds : folded_from 8 empty_record bodies ≡ Ok kept) (may : MayKeep kept change) where
-  body : List ℕ
-  body = body_of change
-
   abbrev frame : List ℕ
   frame = framed (body_of change)
 
   abbrev staged : List ℕ
-  staged = written old (gate + 1) (framed (body_of change))
+  staged = written old (gate + 1) frame
 
   abbrev done : List ℕ
-  done = written (written old (gate + 1) (framed (body_of change))) gate (1 ∷ [])
+  done = written (written old (gate + 1) frame) gate (1 ∷ [])
 
   abbrev P : List ℕ → Type 0
   P = StandsWithEither kept (changed kept change)
 
-  framing : IsFrame (body_of change) (framed (body_of change))
+  framing : IsFrame (body_of change) frame
   framing = record { short = may.short; bytes = refl }
 
   inside_old : gate + 1 ≤ length old
@@ -86,23 +83,23 @@ module _ (bodies : List (List ℕ)) (old : List ℕ) (gate : ℕ) (kept : Kept) 
   with_it = folded-push (body_of change) kept (changed kept change) (λ p. makes p kept (body_of change) change may.reads may.order) bodies 8 empty_record folds
 
   -- the first write
-  first_left : (c : List ℕ) → Torn (gate + 1) (length (framed (body_of change))) old c → P c
-  first_left c torn = inl (laid_stands bodies c gate kept (torn_behind bodies old c gate (length (framed (body_of change))) is torn) folds)
+  first_left : (c : List ℕ) → Torn (gate + 1) (length frame) old c → P c
+  first_left c torn = inl (laid_stands bodies c gate kept (torn_behind bodies old c gate (length frame) is torn) folds)
 
   staged_laid : IsLaid bodies staged gate
-  staged_laid = torn_behind bodies old staged gate (length (framed (body_of change))) is (torn_written old (gate + 1) (framed (body_of change)) inside_old)
+  staged_laid = torn_behind bodies old staged gate (length frame) is (torn_written old (gate + 1) frame inside_old)
 
-  behind : part (gate + 1) (length (framed (body_of change))) staged ≡ framed (body_of change)
-  behind = part_written old (gate + 1) (framed (body_of change)) inside_old
+  behind : part (gate + 1) (length frame) staged ≡ framed (body_of change)
+  behind = part_written old (gate + 1) frame inside_old
 
   -- and the second
-  last_laid : (c : List ℕ) → Torn gate 1 staged c → get_or c gate 0 ≡ 1 → IsLaid (bodies ++ body_of change ∷ []) c (gate + length (framed (body_of change)))
-  last_laid c torn one = opened bodies (body_of change) (framed (body_of change)) staged gate staged_laid framing behind c torn one
+  last_laid : (c : List ℕ) → Torn gate 1 staged c → get_or c gate 0 ≡ 1 → IsLaid (bodies ++ body_of change ∷ []) c (gate + length frame)
+  last_laid c torn one = opened bodies (body_of change) frame staged gate staged_laid framing behind c torn one
 
   last_left : (c : List ℕ) → Torn gate 1 staged c → P c
   last_left c torn = elim (cases_eq (get_or c gate 0) 1) [
-    | inl one ↦ inr (laid_stands (bodies ++ body_of change ∷ []) c (gate + length (framed (body_of change))) (changed kept change) (last_laid c torn one) with_it)
-    | inr closed ↦ inl (laid_stands bodies c gate kept (still_closed bodies (body_of change) (framed (body_of change)) staged gate staged_laid framing behind c torn closed) folds)
+    | inl one ↦ inr (laid_stands (bodies ++ body_of change ∷ []) c (gate + length frame) (changed kept change) (last_laid c torn one) with_it)
+    | inr closed ↦ inl (laid_stands bodies c gate kept (still_closed bodies (body_of change) frame staged gate staged_laid framing behind c torn closed) folds)
   ]
 
   inside_staged : gate ≤ length staged
@@ -114,20 +111,20 @@ module _ (bodies : List (List ℕ)) (old : List ℕ) (gate : ℕ) (kept : Kept) 
   done_open : get_or done gate 0 ≡ 1
   done_open = ap (λ (l : List ℕ). get_or l gate 0) (append_assoc (take gate staged) (1 ∷ []) (drop (gate + 1) staged)) ∙ get_or_at (take gate staged) 1 (drop (gate + 1) staged) 0 gate (length-take-le gate staged inside_staged)
 
-  all_four : (disk : NodeDisk) → disk.file ≡ settled old → Ends (calls_made disk (append_calls gate (framed (body_of change)))) (λ f. Runs f (changed kept change)) (λ f. Leaves f P)
+  all_four : (disk : NodeDisk) → disk.file ≡ settled old → Ends (calls_made disk (append_calls gate frame)) (λ f. Runs f (changed kept change)) (λ f. Leaves f P)
   all_four disk file =
       let D : FileState → Type 0 = λ f. Runs f (changed kept change) in
-      let s1 : FileState = after (settled old) (Write (gate + 1) (framed (body_of change))) in
+      let s1 : FileState = after (settled old) (Write (gate + 1) frame) in
       let s3 : FileState = after (settled staged) (Write gate (1 ∷ [])) in
       let here0 : Leaves (settled old) P = inl (record { bytes = old; is = refl; holds = inl (laid_stands bodies old gate kept is folds) }) in
       let here1 : Leaves s1 P = inr (record { old = old; at = gate + 1; bytes = framed (body_of change); inside = inside_old; is = refl; left = first_left }) in
       let here2 : Leaves (settled staged) P = inl (record { bytes = staged; is = refl; holds = inl (laid_stands bodies staged gate kept staged_laid folds) }) in
       let here3 : Leaves s3 P = inr (record { old = staged; at = gate; bytes = 1 ∷ []; inside = inside_staged; is = refl; left = last_left }) in
-      call_leaves disk (Write (gate + 1) (framed (body_of change))) (Sync ∷ Write gate (1 ∷ []) ∷ Sync ∷ []) (settled old) s1 P D file refl here0 here1 (λ d1 f1.
+      call_leaves disk (Write (gate + 1) frame) (Sync ∷ Write gate (1 ∷ []) ∷ Sync ∷ []) (settled old) s1 P D file refl here0 here1 (λ d1 f1.
       call_leaves d1 Sync (Write gate (1 ∷ []) ∷ Sync ∷ []) s1 (settled staged) P D f1 refl here1 here1 (λ d2 f2.
       call_leaves d2 (Write gate (1 ∷ [])) (Sync ∷ []) (settled staged) s3 P D f2 refl here2 here3 (λ d3 f3.
       call_leaves d3 Sync [] s3 (settled done) P D f3 refl here3 here3 (λ d4 f4.
-      no_calls d4 D (λ f. Leaves f P) (laid_runs (bodies ++ body_of change ∷ []) d4.file done (gate + length (framed (body_of change))) (changed kept change) f4 (last_laid done done_torn done_open) with_it)))))
+      no_calls d4 D (λ f. Leaves f P) (laid_runs (bodies ++ body_of change ∷ []) d4.file done (gate + length frame) (changed kept change) f4 (last_laid done done_torn done_open) with_it)))))
 
 -- whatever strikes it, the record is the one before it or the new one
 pub append_ends : (disk : NodeDisk) (kept : Kept) (change : Change) → Runs disk.file kept → MayKeep kept change
