@@ -1,7 +1,13 @@
+pub mod FileLeft
+pub mod FitLines
 pub mod Fresh
+pub mod JournalLeft
 pub mod Lines
+pub mod MayAct
 pub mod Movement
+pub mod NodeSound
 pub mod Progress
 pub mod Room
 pub mod Sources
+pub mod WorldLegal
 pub mod WorldSteps

@@ -22,7 +22,7 @@ use Rattle.world_model.specs.Acts.{NodeHistory, Then}
 use Rattle.world_model.specs.Histories.{History, Next, node_history}
 use Rattle.replay_node.specs.Did.{outcome_of, did_text, outcome_unless_down, after_unless_down, act_results}
 use Rattle.replay_node.specs.NodeDisk.{NodeDisk, CallsEnd, Done, Failed, StoppedIn, opening}
-use Rattle.replay_node.specs.NodeLines.{DoesLine, FindsKept, after_stop, after_restart}
+use Rattle.replay_node.specs.NodeLines.{DoesLine, after_stop, after_restart}
 use Rattle.replay_node.specs.NodeWorld.{NodeWorld, outcome_at, after_act, after_crash, after_order, after_opening, opened_by, found_at, needs_opening}
 use Rattle.replay_node.specs.Settled.{is_kept, settled_for}
 use Rattle.replay_node.specs.Stands.{NodeStands, NodeDoes, NodeDid}
@@ -232,9 +232,3 @@ module _ (ids l : List Id) (old : List ReplayNode) (n : Id) (place : ℕ) (c : R
 
   pub armed_at : (d : ReplayNode) (order : Order) → d.me ≡ (get_or old place c).me → ((x : NodeWorld) → NodeStands (get_or old place c) x → NodeStands d (after_order order x)) → (w : World) → AllStand ids old w → AllStand ids (slice_set old place d) (ordered w n order)
   armed_at d order me stands w s = after_here w d (after_order order (node_world w n)) (ordered w n order) me (moves_ordered n order w) (stands (node_world w n) (here w s).1) s
-
-  finds_at : ((x : NodeWorld) → NodeStands (get_or old place c) x → FindsKept x) → (w : World) → AllStand ids old w → FindsKept (node_world w n)
-  finds_at finds w s = finds (node_world w n) (here w s).1
-
-  pub finds_at_ok : (r : Result (Unit {0}) AllocError) → OnOk r ((x : NodeWorld) → NodeStands (get_or old place c) x → FindsKept x) → OnOk r ((w : World) → AllStand ids old w → FindsKept (node_world w n))
-  finds_at_ok r finds = on_ok_weaker r finds_at finds

@@ -4,7 +4,6 @@ use Rattle.std.specs.Result.{IsErr}
 use Rattle.std.proofs.lemmas.List.{length-drop, nil_from_length}
 use Rattle.std.proofs.Math.Seq.{drop-cons}
 use Rattle.voting_config.specs.Ids.{Id}
-use Rattle.world_model.specs.Histories.{IsLegal}
 use Rattle.schedule_text.specs.declared.schedule.Line.{Line}
 use Rattle.schedule_text.specs.declared.schedule.Schedule.{Schedule}
 use Rattle.zen_link.specs.Streams.{Appended, AppendedFront, WritesAll}
@@ -70,12 +69,6 @@ module _ (ids initial : List Id) (nodes : List ReplayNode) (messages : List Sent
       ∙ m.whole
       in
       subst (λ (t : List ℕ). Appended was later t) whole (appended_more was now later m.front bytes m.written h)
-
--- the history of the whole schedule is that of the lines so far
-pub ends_legal : (ids initial whole : List Id) (nodes : List ReplayNode) (messages : List SentMessage) (was now : Option (List ℕ)) (held : List ℕ) (left : List Line) (all : List ℕ) (end : World) → initial ≡ whole → left ≡ [] → SoFar ids initial nodes messages was now held left all end → IsLegal whole end.history
-ends_legal ids initial whole nodes messages was now held left all end same none m =
-    subst (λ (i : List Id). IsLegal i end.history) same
-    (subst (λ (x : World). IsLegal initial x.history) (sym (ap (λ (l : List Line). replayed_from initial m.world l) none) ∙ m.ends) m.stands.legal)
 
 -- an error tells no more than that a front was written
 pub front_at_err : {E : Type 0} (r : Result (Unit {0}) E) (was now : Option (List ℕ)) (all : List ℕ) → IsErr r → AppendedFront was now all → WritesAll was now all r

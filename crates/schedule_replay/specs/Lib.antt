@@ -1,3 +1,4 @@
+pub mod Legal
 pub mod Replayed
 pub mod SoFar
 pub mod WorldStands

@@ -13,7 +13,7 @@ use Rattle.schedule_replay.specs.WorldStands.{Stands}
 -- whole trace, and the lines that are left lead to the end.
 pub record SoFar (ids initial : List Id) (nodes : List ReplayNode) (messages : List SentMessage) (was now : Option (List ℕ)) (pending : List ℕ) (left : List Line) (all : List ℕ) (end : World) : Type 0 where
   pub world : World
-  pub stands : Stands ids initial nodes messages world
+  pub stands : Stands ids nodes messages world
   pub front : List ℕ
   pub written : Appended was now front
   pub whole : front ++ (pending ++ trace_from initial world left) ≡ all

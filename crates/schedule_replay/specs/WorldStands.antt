@@ -2,7 +2,7 @@
 use Rattle.std.specs.Prelude.{◌≡◌, ◌≤◌, true, List, [], ◌∷◌, ◌++◌, map, length, ℕ}
 use Rattle.voting_config.specs.Ids.{Id, ascends, most_ids}
 use Rattle.world_model.specs.declared.acts.Act.{Act}
-use Rattle.world_model.specs.Histories.{IsLegal, node_history, sent}
+use Rattle.world_model.specs.Histories.{node_history, sent}
 use Rattle.schedule_text.specs.declared.schedule.Line.{Line}
 use Rattle.trace_text.specs.Trace.{act_text}
 use Rattle.replay_node.specs.Did.{act_results, did_text, outcome_of, outcome_unless_down}
@@ -22,15 +22,14 @@ AllStand (i ∷ is) (c ∷ cs) w = (c.me ≡ i) × NodeStands c (node_world w i)
 AllStand [] (c ∷ cs) w = ⊥
 AllStand (i ∷ is) [] w = ⊥
 
--- the nodes and the messages are what the history makes of them, all of it is among these nodes, and the history is legal
-pub record Stands (ids initial : List Id) (nodes : List ReplayNode) (messages : List SentMessage) (w : World) : Type 0 where
+-- the nodes and the messages are what the history makes of them, and all of it is among these nodes
+pub record Stands (ids : List Id) (nodes : List ReplayNode) (messages : List SentMessage) (w : World) : Type 0 where
   pub nodes_stand : AllStand ids nodes w
   pub messages_sent : map message_of messages ≡ sent w.history
   pub sources : are_from ids (sent w.history) ≡ true
   pub taken : (n : Id) → TakesFrom ids (node_history w.history n)
   pub few : length ids ≤ most_ids
   pub ascending : ascends ids ≡ true
-  pub legal : IsLegal initial w.history
 
 -- an act of a node: whatever the nodes stood for, what it did is told, and they stand for that with the act
 pub record ActDone (ids : List Id) (new : List ReplayNode) (w : World) (n : Id) (act : Act) (d : Did) : Type 0 where
@@ -50,15 +49,15 @@ abbrev pub Moves : List Id → (old new : List ReplayNode) → (World → World)
 Moves ids old new after_it results was now = (w : World) → AllStand ids old w → Moved ids new (after_it w) (results w) was now
 
 -- a line, or what of it stands behind its echo: whatever a replay stood for, it stands for that after the line, and the results were written
-pub record LineDone (ids initial : List Id) (new : List ReplayNode) (messages : List SentMessage) (after_it : World) (results was now : List ℕ) : Type 0 where
-  pub stands : Stands ids initial new messages after_it
+pub record LineDone (ids : List Id) (new : List ReplayNode) (messages : List SentMessage) (after_it : World) (results was now : List ℕ) : Type 0 where
+  pub stands : Stands ids new messages after_it
   pub written : now ≡ was ++ results
 
-abbrev pub DoesLine : (ids initial : List Id) → (old_nodes new_nodes : List ReplayNode) → (old_messages new_messages : List SentMessage) → (old_text new_text : List ℕ) → (World → World) → (World → List ℕ) → Type 0
-DoesLine ids initial old_nodes new_nodes old_messages new_messages old_text new_text after_it results =
-    (w : World) → Stands ids initial old_nodes old_messages w → LineDone ids initial new_nodes new_messages (after_it w) (results w) old_text new_text
+abbrev pub DoesLine : (ids : List Id) → (old_nodes new_nodes : List ReplayNode) → (old_messages new_messages : List SentMessage) → (old_text new_text : List ℕ) → (World → World) → (World → List ℕ) → Type 0
+DoesLine ids old_nodes new_nodes old_messages new_messages old_text new_text after_it results =
+    (w : World) → Stands ids old_nodes old_messages w → LineDone ids new_nodes new_messages (after_it w) (results w) old_text new_text
 
 -- a line with its echo
 abbrev pub WritesLine : (ids initial : List Id) → (old_nodes new_nodes : List ReplayNode) → (old_messages new_messages : List SentMessage) → (old_text new_text : List ℕ) → Line → Type 0
 WritesLine ids initial old_nodes new_nodes old_messages new_messages old_text new_text l =
-    DoesLine ids initial old_nodes new_nodes old_messages new_messages old_text new_text (λ w. after initial w l) (λ w. trace_line initial w l)
+    DoesLine ids old_nodes new_nodes old_messages new_messages old_text new_text (λ w. after initial w l) (λ w. trace_line initial w l)

@@ -2,7 +2,7 @@ ghost use Rattle.std.specs.Prelude.{◌≡◌, List, true, length, slice_get, So
 ghost use Rattle.voting_config.specs.Ids.{Id, has};
 ghost use Rattle.cluster_state.specs.States.{IsFitValue};
 ghost use Rattle.world_model.specs.declared.acts.Act.TheVariants as act;
-ghost use Rattle.replay_node.specs.NodeLines.{restart_text, stop_text, FindsKept};
+ghost use Rattle.replay_node.specs.NodeLines.{restart_text, stop_text};
 ghost use Rattle.replay_node.specs.Sent.{message_of, source_of, taking};
 ghost use Rattle.replay_node.specs.declared.message.SentMessage.{SentMessage as Message};
 ghost use Rattle.schedule_replay.specs.Replayed.{World, crashed, node_world, ordered, restarted};
@@ -90,7 +90,7 @@ pub fn take(
 ) -> Result<Did, AllocError>
     requires listed { has n ids.now ≡ true }
     requires source { has (source_of (message_of message.now)) ids.now ≡ true }
-    requires stands { (initial : List Id) × (sent : List Message) × (w : World) × Stands ids.now initial nodes.old sent w }
+    requires stands { (sent : List Message) × (w : World) × Stands ids.now nodes.old sent w }
     ensures { IfOk result (λ did. DoesAct ids.now nodes.old nodes.new n (taking (message_of message.now)) did) }
 {
     let place = place_of(ids.as_slice(), n);
@@ -125,8 +125,7 @@ pub fn restart(
     requires listed { has n ids.now ≡ true }
     requires many { length nodes.old ≡ length ids.now }
     requires stands { (w : World) × AllStand ids.now nodes.old w }
-    ensures done { OnOk result (Moves ids.now nodes.old nodes.new (λ w. restarted w n) (λ w. restart_text n (node_world w n)) text.old text.new) }
-    ensures finds { OnOk result ((w : World) → AllStand ids.now nodes.old w → FindsKept (node_world w n)) }
+    ensures { OnOk result (Moves ids.now nodes.old nodes.new (λ w. restarted w n) (λ w. restart_text n (node_world w n)) text.old text.new) }
 {
     let place = place_of(ids.as_slice(), n);
     nodes[place].restart(alloc, text)

@@ -1,4 +1,3 @@
-ghost use Rattle.std.specs.List.{Contains};
 ghost use Rattle.std.specs.Prelude.{◌≡◌, ◌<◌, ◌++◌, OnOk, IfOk, ℕ, List, [], None, true, length, map};
 ghost use Rattle.voting_config.specs.Ids.{Id, has};
 ghost use Rattle.cluster_state.specs.States.{IsFitValue};
@@ -39,7 +38,7 @@ impl Replayer {
     pub fn new(alloc: Global, ids: &NodeSet, initial: &NodeSet) -> Result<Replayer, AllocError>
         ensures ids { IfOk result (λ r. r.ids ≡ ids.now) }
         ensures initial { IfOk result (λ r. r.initial ≡ initial.now) }
-        ensures stands { IfOk result (λ r. Stands r.ids r.initial r.nodes.items r.sent.items fresh_world) }
+        ensures stands { IfOk result (λ r. Stands r.ids r.nodes.items r.sent.items fresh_world) }
     {
         let ids = ids.copy();
         let initial = initial.copy();
@@ -57,8 +56,7 @@ impl Replayer {
     /// Does a line, and writes its part of the trace at the end of `text`.
     pub fn line(&mut self, alloc: Global, line: &Line, text: &mut Text) -> Result<(), AllocError>
         requires fits { FitsLine self.old.ids line.now }
-        requires named { self.old.initial ≡ [] → ⊥ }
-        requires stands { (w : World) × Stands self.old.ids self.old.initial self.old.nodes.items self.old.sent.items w }
+        requires stands { (w : World) × Stands self.old.ids self.old.nodes.items self.old.sent.items w }
         ensures ids { self.new.ids ≡ self.old.ids }
         ensures initial { self.new.initial ≡ self.old.initial }
         ensures done { OnOk result (WritesLine self.old.ids self.old.initial self.old.nodes.items self.new.nodes.items self.old.sent.items self.new.sent.items text.old text.new line.now) }
@@ -91,41 +89,40 @@ impl Replayer {
         text: &mut Text,
     ) -> Result<(), AllocError>
         requires listed { has n self.old.ids ≡ true }
-        requires stands { (w : World) × Stands self.old.ids self.old.initial self.old.nodes.items self.old.sent.items w }
+        requires stands { (w : World) × Stands self.old.ids self.old.nodes.items self.old.sent.items w }
         ensures ids { self.new.ids ≡ self.old.ids }
         ensures initial { self.new.initial ≡ self.old.initial }
-        ensures done { OnOk result (DoesLine self.old.ids self.old.initial self.old.nodes.items self.new.nodes.items self.old.sent.items self.new.sent.items text.old text.new (λ w. crashed w n way) (λ w. stop_text n (node_world w n))) }
+        ensures done { OnOk result (DoesLine self.old.ids self.old.nodes.items self.new.nodes.items self.old.sent.items self.new.sent.items text.old text.new (λ w. crashed w n way) (λ w. stop_text n (node_world w n))) }
     {
         nodes::crash(&self.ids, self.nodes.as_mut_slice(), n, alloc, way, text)
     }
 
     fn restart(&mut self, alloc: Global, n: NodeId, text: &mut Text) -> Result<(), AllocError>
         requires listed { has n self.old.ids ≡ true }
-        requires stands { (w : World) × Stands self.old.ids self.old.initial self.old.nodes.items self.old.sent.items w }
+        requires stands { (w : World) × Stands self.old.ids self.old.nodes.items self.old.sent.items w }
         ensures ids { self.new.ids ≡ self.old.ids }
         ensures initial { self.new.initial ≡ self.old.initial }
-        ensures done { OnOk result (DoesLine self.old.ids self.old.initial self.old.nodes.items self.new.nodes.items self.old.sent.items self.new.sent.items text.old text.new (λ w. restarted w n) (λ w. restart_text n (node_world w n))) }
+        ensures done { OnOk result (DoesLine self.old.ids self.old.nodes.items self.new.nodes.items self.old.sent.items self.new.sent.items text.old text.new (λ w. restarted w n) (λ w. restart_text n (node_world w n))) }
     {
         nodes::restart(&self.ids, self.nodes.as_mut_slice(), n, alloc, text)
     }
 
     fn arm(&mut self, n: NodeId, order: Order)
         requires listed { has n self.old.ids ≡ true }
-        requires stands { (w : World) × Stands self.old.ids self.old.initial self.old.nodes.items self.old.sent.items w }
+        requires stands { (w : World) × Stands self.old.ids self.old.nodes.items self.old.sent.items w }
         ensures ids { self.new.ids ≡ self.old.ids }
         ensures initial { self.new.initial ≡ self.old.initial }
-        ensures done { (text : List ℕ) → DoesLine self.old.ids self.old.initial self.old.nodes.items self.new.nodes.items self.old.sent.items self.new.sent.items text text (λ w. ordered w n order) (λ w. []) }
+        ensures done { (text : List ℕ) → DoesLine self.old.ids self.old.nodes.items self.new.nodes.items self.old.sent.items self.new.sent.items text text (λ w. ordered w n order) (λ w. []) }
     {
         nodes::arm(&self.ids, self.nodes.as_mut_slice(), n, order);
     }
 
     fn boot(&mut self, alloc: Global, n: NodeId, text: &mut Text) -> Result<(), AllocError>
         requires listed { has n self.old.ids ≡ true }
-        requires named { self.old.initial ≡ [] → ⊥ }
-        requires stands { (w : World) × Stands self.old.ids self.old.initial self.old.nodes.items self.old.sent.items w }
+        requires stands { (w : World) × Stands self.old.ids self.old.nodes.items self.old.sent.items w }
         ensures ids { self.new.ids ≡ self.old.ids }
         ensures initial { self.new.initial ≡ self.old.initial }
-        ensures done { OnOk result (DoesLine self.old.ids self.old.initial self.old.nodes.items self.new.nodes.items self.old.sent.items self.new.sent.items text.old text.new (λ w. did_unless_down w n (act.Bootstrap self.old.initial)) (λ w. results_of w n (act.Bootstrap self.old.initial))) }
+        ensures done { OnOk result (DoesLine self.old.ids self.old.nodes.items self.new.nodes.items self.old.sent.items self.new.sent.items text.old text.new (λ w. did_unless_down w n (act.Bootstrap self.old.initial)) (λ w. results_of w n (act.Bootstrap self.old.initial))) }
     {
         self.act.clear();
         write_boot(&mut self.act, &self.initial)?;
@@ -149,10 +146,10 @@ impl Replayer {
         text: &mut Text,
     ) -> Result<(), AllocError>
         requires listed { has n self.old.ids ≡ true }
-        requires stands { (w : World) × Stands self.old.ids self.old.initial self.old.nodes.items self.old.sent.items w }
+        requires stands { (w : World) × Stands self.old.ids self.old.nodes.items self.old.sent.items w }
         ensures ids { self.new.ids ≡ self.old.ids }
         ensures initial { self.new.initial ≡ self.old.initial }
-        ensures done { OnOk result (DoesLine self.old.ids self.old.initial self.old.nodes.items self.new.nodes.items self.old.sent.items self.new.sent.items text.old text.new (λ w. did_unless_down w n (act.StartJoin candidate term)) (λ w. results_of w n (act.StartJoin candidate term))) }
+        ensures done { OnOk result (DoesLine self.old.ids self.old.nodes.items self.new.nodes.items self.old.sent.items self.new.sent.items text.old text.new (λ w. did_unless_down w n (act.StartJoin candidate term)) (λ w. results_of w n (act.StartJoin candidate term))) }
     {
         self.act.clear();
         write_start_join(&mut self.act, candidate, term)?;
@@ -178,10 +175,10 @@ impl Replayer {
         text: &mut Text,
     ) -> Result<(), AllocError>
         requires listed { has n self.old.ids ≡ true }
-        requires stands { (w : World) × Stands self.old.ids self.old.initial self.old.nodes.items self.old.sent.items w }
+        requires stands { (w : World) × Stands self.old.ids self.old.nodes.items self.old.sent.items w }
         ensures ids { self.new.ids ≡ self.old.ids }
         ensures initial { self.new.initial ≡ self.old.initial }
-        ensures done { OnOk result (DoesLine self.old.ids self.old.initial self.old.nodes.items self.new.nodes.items self.old.sent.items self.new.sent.items text.old text.new (λ w. did_unless_down w n (act.Value version config.now (value_with setting))) (λ w. results_of w n (act.Value version config.now (value_with setting)))) }
+        ensures done { OnOk result (DoesLine self.old.ids self.old.nodes.items self.new.nodes.items self.old.sent.items self.new.sent.items text.old text.new (λ w. did_unless_down w n (act.Value version config.now (value_with setting))) (λ w. results_of w n (act.Value version config.now (value_with setting)))) }
     {
         let config = VotingConfig::of(&config.to_set());
         let value = value_of(alloc, setting)?;
@@ -208,11 +205,11 @@ impl Replayer {
         text: &mut Text,
     ) -> Result<(), AllocError>
         requires listed { has n self.old.ids ≡ true }
-        requires stands { (w : World) × Stands self.old.ids self.old.initial self.old.nodes.items self.old.sent.items w }
+        requires stands { (w : World) × Stands self.old.ids self.old.nodes.items self.old.sent.items w }
         requires positive { 0 < ordinal }
         ensures ids { self.new.ids ≡ self.old.ids }
         ensures initial { self.new.initial ≡ self.old.initial }
-        ensures done { OnOk result (DoesLine self.old.ids self.old.initial self.old.nodes.items self.new.nodes.items self.old.sent.items self.new.sent.items text.old text.new (λ w. took_some w n (message_at w ordinal)) (λ w. delivery_results w n (message_at w ordinal))) }
+        ensures done { OnOk result (DoesLine self.old.ids self.old.nodes.items self.new.nodes.items self.old.sent.items self.new.sent.items text.old text.new (λ w. took_some w n (message_at w ordinal)) (λ w. delivery_results w n (message_at w ordinal))) }
     {
         match self.sent.as_slice().get((ordinal - 1) as usize) {
             None => self.unsent(n, text),
@@ -232,12 +229,11 @@ impl Replayer {
         text: &mut Text,
     ) -> Result<(), AllocError>
         requires listed { has n self.old.ids ≡ true }
-        requires stands { (w : World) × Stands self.old.ids self.old.initial self.old.nodes.items self.old.sent.items w }
+        requires stands { (w : World) × Stands self.old.ids self.old.nodes.items self.old.sent.items w }
         requires source { has (source_of (message_of message.now)) self.old.ids ≡ true }
-        requires known { Contains (map message_of self.old.sent.items) (message_of message.now) }
         ensures ids { self.new.ids ≡ self.old.ids }
         ensures initial { self.new.initial ≡ self.old.initial }
-        ensures done { OnOk result (DoesLine self.old.ids self.old.initial self.old.nodes.items self.new.nodes.items self.old.sent.items self.new.sent.items text.old text.new (λ w. did_unless_down w n (taking (message_of message.now))) (λ w. results_of w n (taking (message_of message.now)))) }
+        ensures done { OnOk result (DoesLine self.old.ids self.old.nodes.items self.new.nodes.items self.old.sent.items self.new.sent.items text.old text.new (λ w. did_unless_down w n (taking (message_of message.now))) (λ w. results_of w n (taking (message_of message.now)))) }
     {
         self.act.clear();
         write_taking(&mut self.act, alloc, message)?;

@@ -1,10 +1,8 @@
-ghost use Rattle.std.specs.Prelude.{◌≡◌, OnOk, [], ◌≤◌};
+ghost use Rattle.std.specs.Prelude.{◌≡◌, ◌≤◌};
 ghost use Rattle.std.specs.List.{AllByRecursion};
 ghost use Rattle.zen_disk.specs.Faults.{Rose};
-ghost use Rattle.world_model.specs.Histories.{IsLegal};
 ghost use Rattle.zen_link.specs.Streams.{AppendedFront, WritesAll};
 ghost use Rattle.schedule_text.specs.Lines.{FitsLine};
-ghost use Rattle.schedule_replay.specs.Replayed.{replayed};
 ghost use Rattle.schedule_replay.specs.SoFar.{Holds};
 ghost use Rattle.schedule_replay.specs.Trace.{trace};
 
@@ -55,14 +53,11 @@ fn out_of_memory<S: Sink>(out: &mut S, held: &Text) -> ReplayError
     }
 }
 
-/// Replays a schedule, and writes its trace. `Write` only where the sink's count of faults rose; a front of the trace is
-/// written then, and at `Memory` too. At `Ok` the
-/// very history whose trace it is is legal.
+/// Replays a schedule, and writes the trace of its one history, of which `law_replay_is_legal` tells. `Write` only where the
+/// sink's count of faults rose; a front of the trace is written then, and at `Memory` too.
 pub fn replay<S: Sink>(alloc: Global, schedule: &Schedule, out: &mut S) -> Result<(), ReplayError>
     requires fits { AllByRecursion (FitsLine schedule.now.nodes) schedule.now.lines }
-    requires named { schedule.now.initial ≡ [] → schedule.now.lines ≡ [] }
     ensures written { WritesAll (S.written out.old) (S.written out.new) (trace schedule.now) result }
-    ensures legal { OnOk result (IsLegal schedule.now.initial (replayed schedule.now)) }
     ensures later { S.faults out.old ≤ S.faults out.new }
     ensures fault { result ≡ Err ReplayError.Write → Rose (S.faults out.old) (S.faults out.new) }
 {

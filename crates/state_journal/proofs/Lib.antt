@@ -1,4 +1,4 @@
-mod Folds
+pub mod Folds
 mod Refused
-mod Sizes
-mod Spelled
+pub mod Sizes
+pub mod Spelled

@@ -2,9 +2,11 @@
 use Rattle.std.proofs.Common.{◌≡◌, ℕ, ◌+◌, ◌≤◌, ◌<◌, true, Option, Some, List, [], length, take, refl, sym, ◌∙◌, ap, subst, arith, inl, inr, ◌⊎◌}
 use Rattle.std.specs.List.{AllByRecursion}
 use Rattle.std.proofs.lemmas.List.{take_all, length-take}
+use Rattle.voting_config.specs.Ids.{IsIdSet}
 use Rattle.zen_disk.specs.Faults.{Rose}
 use Rattle.zen_link.specs.Streams.{Appended, AppendedFront}
 use Rattle.world_model.specs.Histories.{IsLegal}
+use Rattle.world_model.specs.Safety.{IsSafe}
 use Rattle.agreement.proofs.Laws.{safe_of_legal}
 use Rattle.schedule_text.specs.declared.fault.BadSchedule.{BadSchedule}
 use Rattle.schedule_text.specs.declared.schedule.Schedule.{Schedule}
@@ -15,6 +17,8 @@ use Rattle.schedule_text.specs.Printed.{bad_line}
 use Rattle.schedule_text.specs.Spelled.{Spells, Nothing, Text}
 use Rattle.schedule_replay.specs.Replayed.{replayed}
 use Rattle.schedule_replay.specs.Trace.{trace}
+use Rattle.schedule_replay.proofs.FitLines.{none_set, ids_set}
+use Rattle.schedule_replay.proofs.WorldLegal.{replay_is_legal}
 use Rattle.zen_app.specs.Reading.{IsInput}
 use Rattle.zen_app.specs.Ran.{Ran, Refusal, is_replay}
 use Rattle.zen_app.specs.declared.status.Status.{Status}
@@ -24,12 +28,22 @@ pub spells_fits : (bytes : List ℕ) (s : Schedule) → Spells bytes s → AllBy
 spells_fits _ _ Nothing = tt
 spells_fits _ _ (Text s is within) = is.lines
 
-pub spells_named : (bytes : List ℕ) (s : Schedule) → Spells bytes s → s.initial ≡ [] → s.lines ≡ []
+spells_named : (bytes : List ℕ) (s : Schedule) → Spells bytes s → s.initial ≡ [] → s.lines ≡ []
 spells_named _ _ Nothing e = refl
 spells_named _ _ (Text s is within) e = absurd (none s.initial is.some_initial e)
   where
     none : (xs : List (List ℕ)) → 0 < length xs → xs ≡ [] → ⊥
     none xs some e = let zero_long : length xs ≡ 0 = ap (λ (l : List (List ℕ)). length l) e in omega (arith, some, zero_long)
+
+spells_set : (bytes : List ℕ) (s : Schedule) → Spells bytes s → IsIdSet s.initial
+spells_set _ _ Nothing = none_set
+spells_set _ _ (Text s is within) = ids_set s.initial is.initial
+
+spells_legal : (bytes : List ℕ) (s : Schedule) → Spells bytes s → IsLegal s.initial (replayed s)
+spells_legal bytes s spelled = replay_is_legal s (spells_set bytes s spelled) (spells_fits bytes s spelled) (spells_named bytes s spelled)
+
+spells_safe : (bytes : List ℕ) (s : Schedule) → Spells bytes s → IsSafe s.initial (replayed s)
+spells_safe bytes s spelled = (safe_of_legal s.initial (replayed s) (spells_legal bytes s spelled)).0
 
 spells_short : (bytes : List ℕ) (s : Schedule) → Spells bytes s → length bytes ≤ most_bytes
 spells_short _ _ Nothing = omega arith
@@ -58,13 +72,13 @@ module _ (words : List (List ℕ)) (left left_now : Option (List ℕ)) (read rea
   told : (bs : List ℕ) → left ≡ Some bs → IsInput (Some bs) left_now bytes
   told bs e = subst (λ (l : Option (List ℕ)). IsInput l left_now bytes) e input
 
-  pub succeeded : (s : Schedule) → Spells bytes s → Appended was now (trace s) → IsLegal s.initial (replayed s) → Ran words left left_now read read_now was now wrote wrote_now Success
-  succeeded s spelled written legal = record {
+  pub succeeded : (s : Schedule) → Spells bytes s → Appended was now (trace s) → Ran words left left_now read read_now was now wrote wrote_now Success
+  succeeded s spelled written = record {
     usage = λ e. absurd cc;
     command = λ _ e. absurd cc;
     replays = λ _ bs e.
         let l = spells_left bs left_now bytes s (told bs e) spelled in
-        (l.1, record { schedule = s; spelled = l.0; written = written; legal = legal; safe = (safe_of_legal s.initial (replayed s) legal).0 });
+        (l.1, record { schedule = s; spelled = l.0; written = written; legal = spells_legal bs s l.0; safe = spells_safe bs s l.0 });
     complete = λ _ bs e t sp r w. inl refl;
     read_fault = λ e. absurd cc;
     write_fault = λ e. absurd cc;
@@ -76,7 +90,7 @@ module _ (words : List (List ℕ)) (left left_now : Option (List ℕ)) (read rea
   cut_short s spelled written rose = record {
     usage = λ e. absurd cc;
     command = λ _ e. absurd cc;
-    replays = λ _ bs e. let l = spells_left bs left_now bytes s (told bs e) spelled in inl (record { schedule = s; spelled = l.0; written = written });
+    replays = λ _ bs e. let l = spells_left bs left_now bytes s (told bs e) spelled in inl (record { schedule = s; spelled = l.0; written = written; legal = spells_legal bs s l.0; safe = spells_safe bs s l.0 });
     complete = λ _ bs e t sp r w. absurd (w rose);
     read_fault = λ e. absurd cc;
     write_fault = λ e. rose;
@@ -88,7 +102,7 @@ module _ (words : List (List ℕ)) (left left_now : Option (List ℕ)) (read rea
   out_of_memory s spelled written = record {
     usage = λ e. absurd cc;
     command = λ _ e. absurd cc;
-    replays = λ _ bs e. let l = spells_left bs left_now bytes s (told bs e) spelled in inl (record { schedule = s; spelled = l.0; written = written });
+    replays = λ _ bs e. let l = spells_left bs left_now bytes s (told bs e) spelled in inl (record { schedule = s; spelled = l.0; written = written; legal = spells_legal bs s l.0; safe = spells_safe bs s l.0 });
     complete = λ _ bs e t sp r w. inr refl;
     read_fault = λ e. absurd cc;
     write_fault = λ e. absurd cc;

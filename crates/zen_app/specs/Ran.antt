@@ -34,11 +34,13 @@ pub record Replayed (bytes : List ℕ) (was now : Option (List ℕ)) : Type 0 wh
   pub legal : IsLegal schedule.initial (replayed schedule)
   pub safe : IsSafe schedule.initial (replayed schedule)
 
--- the bytes are a schedule, and a front of its trace was written
+-- the bytes are a schedule, and a front of its trace was written; the whole history is legal and safe all the same
 pub record ReplayedFront (bytes : List ℕ) (was now : Option (List ℕ)) : Type 0 where
   pub schedule : Schedule
   pub spelled : Spells bytes schedule
   pub written : AppendedFront was now (trace schedule)
+  pub legal : IsLegal schedule.initial (replayed schedule)
+  pub safe : IsSafe schedule.initial (replayed schedule)
 
 -- what is read of these bytes: one byte more than a schedule has at most
 abbrev pub read_of : List ℕ → List ℕ

@@ -1,4 +1,4 @@
-use Rattle.schedule_replay.proofs.Movement.{here, finds_at_ok, line_at_ok, moves_restarted}
+use Rattle.schedule_replay.proofs.Movement.{here, line_at_ok, moves_restarted}
 use Rattle.replay_node.specs.NodeLines.{after_restart, restart_text}
 use Rattle.schedule_replay.specs.Replayed.{node_world}
 use Rattle.schedule_replay.proofs.nodes.restart.Goals as goal
@@ -8,8 +8,5 @@ restart-requires c =
     let s = c.requires.stands in
     (node_world s.0 c.args.n, (here _ _ _ _ _ c.index-nodes-place.result (record { is = c.as_slice.ensures.value; ascending = c.as_slice.ensures.is_set.ascending; found = c.place_of-place.ensures; many = c.requires.many }) s.0 s.1).1)
 
-pub returns-clause-done : goal.returns-clause-done
-returns-clause-done c = line_at_ok _ _ _ _ _ c.index-nodes-place.result (record { is = c.as_slice.ensures.value; ascending = c.as_slice.ensures.is_set.ascending; found = c.place_of-place.ensures; many = c.requires.many }) _ after_restart restart_text _ _ _ _ (moves_restarted c.args.n) c.restart.ensures.done
-
-pub returns-clause-finds : goal.returns-clause-finds
-returns-clause-finds c = finds_at_ok _ _ _ _ _ c.index-nodes-place.result (record { is = c.as_slice.ensures.value; ascending = c.as_slice.ensures.is_set.ascending; found = c.place_of-place.ensures; many = c.requires.many }) _ c.restart.ensures.finds
+pub returns : goal.returns
+returns c = line_at_ok _ _ _ _ _ c.index-nodes-place.result (record { is = c.as_slice.ensures.value; ascending = c.as_slice.ensures.is_set.ascending; found = c.place_of-place.ensures; many = c.requires.many }) _ after_restart restart_text _ _ _ _ (moves_restarted c.args.n) c.restart.ensures.done

@@ -12,21 +12,21 @@ use Rattle.schedule_replay.proofs.Movement.{Looked, place_inside, here, does_at_
 use Rattle.schedule_replay.proofs.Room.{has_room}
 use Rattle.schedule_replay.proofs.nodes.take.Goals as goal
 
-looked : (ids l initial : List Id) (old : List ReplayNode) (sent : List SentMessage) (w : World) (n : Id) (place : ℕ) → l ≡ ids → slice_get l place ≡ Some n → Stands ids initial old sent w → Looked ids l old n place
-looked ids l initial old sent w n place e g s = record { is = e; ascending = s.ascending; found = g; many = as_many ids old w s.nodes_stand }
+looked : (ids l : List Id) (old : List ReplayNode) (sent : List SentMessage) (w : World) (n : Id) (place : ℕ) → l ≡ ids → slice_get l place ≡ Some n → Stands ids old sent w → Looked ids l old n place
+looked ids l old sent w n place e g s = record { is = e; ascending = s.ascending; found = g; many = as_many ids old w s.nodes_stand }
 
-fits : (ids l initial : List Id) (old : List ReplayNode) (sent : List SentMessage) (w : World) (n : Id) (place : ℕ) (c : ReplayNode) (m : Message) → l ≡ ids → slice_get l place ≡ Some n → Stands ids initial old sent w → has (source_of m) ids ≡ true → HasRoom (get_or old place c) m
-fits ids l initial old sent w n place c m e g s source =
-    let it = here ids l old n place c (looked ids l initial old sent w n place e g s) w s.nodes_stand in
+fits : (ids l : List Id) (old : List ReplayNode) (sent : List SentMessage) (w : World) (n : Id) (place : ℕ) (c : ReplayNode) (m : Message) → l ≡ ids → slice_get l place ≡ Some n → Stands ids old sent w → has (source_of m) ids ≡ true → HasRoom (get_or old place c) m
+fits ids l old sent w n place c m e g s source =
+    let it = here ids l old n place c (looked ids l old sent w n place e g s) w s.nodes_stand in
     has_room ids (get_or old place c) (node_world w n) m it.1 (s.taken n) source s.few s.ascending
 
 pub bounds-nodes-place : goal.bounds-nodes-place
-bounds-nodes-place c = let s = c.requires.stands in place_inside _ _ _ _ _ (looked _ _ s.0 _ s.1 s.2 _ _ c.as_slice.ensures.value c.place_of-place.ensures s.3)
+bounds-nodes-place c = let s = c.requires.stands in place_inside _ _ _ _ _ (looked _ _ _ s.0 s.1 _ _ c.as_slice.ensures.value c.place_of-place.ensures s.2)
 
 pub take-requires : goal.take-requires
-take-requires c = let s = c.requires.stands in fits _ _ s.0 _ s.1 s.2 _ _ _ _ c.as_slice.ensures.value c.place_of-place.ensures s.3 c.requires.source
+take-requires c = let s = c.requires.stands in fits _ _ _ s.0 s.1 _ _ _ _ c.as_slice.ensures.value c.place_of-place.ensures s.2 c.requires.source
 
 pub returns : goal.returns
 returns c =
     let s = c.requires.stands in
-    does_at_ok _ _ _ _ _ c.index-nodes-place.result (looked _ _ s.0 _ s.1 s.2 _ _ c.as_slice.ensures.value c.place_of-place.ensures s.3) _ _ _ c.take.ensures
+    does_at_ok _ _ _ _ _ c.index-nodes-place.result (looked _ _ _ s.0 s.1 _ _ c.as_slice.ensures.value c.place_of-place.ensures s.2) _ _ _ c.take.ensures

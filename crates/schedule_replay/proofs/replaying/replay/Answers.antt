@@ -1,5 +1,5 @@
 use Rattle.std.proofs.Common.{arith, ◌∙◌}
-use Rattle.schedule_replay.proofs.Progress.{front_at_err, goes_on, fails, stops, ends, ends_legal, same_ids, none_left}
+use Rattle.schedule_replay.proofs.Progress.{front_at_err, goes_on, fails, stops, ends, same_ids, none_left}
 use Rattle.schedule_replay.proofs.replaying.replay.Goals as goal
 
 pub returns-in_default-line-clause-written : goal.returns-in_default-line-clause-written
@@ -27,7 +27,3 @@ returns-in_default-write_all-clause-written g c =
 pub returns-clause-written : goal.returns-clause-written
 returns-clause-written g c =
     ends c.loop-line.replayer.ids c.loop-line.replayer.initial _ _ _ (g.S.Sink.written c.loop-line.out) _ c.loop-line.held c.as_bytes.result.now _ _ _ (none_left c.as_slice-lines.result.now c.loop-line.line-index (omega (arith, c.loop-line-test.false))) c.as_bytes.ensures c.loop-line.invariant.3 c.in-Ok-write_all.ensures.writes
-
-pub returns-clause-legal : goal.returns-clause-legal
-returns-clause-legal g c =
-    ends_legal c.loop-line.replayer.ids c.loop-line.replayer.initial c.args.schedule.now.initial _ _ _ _ _ _ _ _ c.loop-line.invariant.1 (none_left c.as_slice-lines.result.now c.loop-line.line-index (omega (arith, c.loop-line-test.false))) c.loop-line.invariant.3

@@ -1,16 +1,13 @@
 use Rattle.std.proofs.Common.{refl}
-use Rattle.zen_app.proofs.Endings.{spells_fits, spells_named, succeeded, cut_short, out_of_memory, bad}
+use Rattle.zen_app.proofs.Endings.{spells_fits, succeeded, cut_short, out_of_memory, bad}
 use Rattle.zen_app.proofs.running.run.Goals as goal
 
-pub replay-requires-clause-fits : goal.replay-requires-clause-fits
-replay-requires-clause-fits g c = spells_fits _ _ c.in-Ok-read_schedule.ensures.found
-
-pub replay-requires-clause-named : goal.replay-requires-clause-named
-replay-requires-clause-named g c = spells_named _ _ c.in-Ok-read_schedule.ensures.found
+pub replay-requires : goal.replay-requires
+replay-requires g c = record { fits = spells_fits _ _ c.in-Ok-read_schedule.ensures.found }
 
 pub returns-in-Ok-replay : goal.returns-in-Ok-replay
 returns-in-Ok-replay g c =
-    succeeded _ _ _ _ _ _ _ _ _ c.as_slice.result.now (cc) (rw c.as_slice.ensures.value c.in-Ok-read_input.ensures.read) c.read_input.ensures.later c.replay.ensures.later _ c.in-Ok-read_schedule.ensures.found c.in-Ok-replay.ensures.written c.in-Ok-replay.ensures.legal
+    succeeded _ _ _ _ _ _ _ _ _ c.as_slice.result.now (cc) (rw c.as_slice.ensures.value c.in-Ok-read_input.ensures.read) c.read_input.ensures.later c.replay.ensures.later _ c.in-Ok-read_schedule.ensures.found c.in-Ok-replay.ensures.written
 
 pub returns-in-Err-Write : goal.returns-in-Err-Write
 returns-in-Err-Write g c =

@@ -11,6 +11,6 @@ crash-requires-clause-many c = many_lent _ _ _ _ c.as_mut_slice.ensures.value c.
 
 pub returns-clause-done : goal.returns-clause-done
 returns-clause-done c =
-    on_ok c.crash.result _ _ (λ moves. moved c.args.self.now.ids c.args.self.now.initial c.args.self.now.nodes.items c.as_mut_slice.result.now c.crash.new.nodes _ _ c.args.self.now.sent.items c.args.text.now c.crash.new.text
+    on_ok c.crash.result _ _ (λ moves. moved c.args.self.now.ids c.args.self.now.nodes.items c.as_mut_slice.result.now c.crash.new.nodes _ _ c.args.self.now.sent.items c.args.text.now c.crash.new.text
     (λ w. crashed w c.args.n c.args.way) (λ w. stop_text c.args.n (node_world w c.args.n)) c.as_mut_slice.ensures.value c.crash.auto.nodes c.as_mut_slice.ensures.len refl moves
-    (λ w s a. stopped _ _ _ _ _ w c.args.n c.args.way s a)) c.crash.ensures
+    (λ w s a. stopped _ _ _ _ w c.args.n c.args.way s a)) c.crash.ensures

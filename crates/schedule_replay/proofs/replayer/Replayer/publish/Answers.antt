@@ -1,4 +1,4 @@
-use Rattle.std.proofs.Common.{ap, refl, List, ◌∙◌, ◌≡◌}
+use Rattle.std.proofs.Common.{ap, List, ◌∙◌, ◌≡◌}
 use Rattle.std.specs.declared.vec.Vec.{Vec}
 use Rattle.std.specs.declared.alloc.Global.{Global}
 use Rattle.voting_config.specs.Ids.{Id}
@@ -20,7 +20,7 @@ returns-clause-done c =
     let act : Value c.args.version c.of-config.result c.in_ok-value.value ≡ Value c.args.version c.args.config.now (value_with c.args.setting) =
     ap (λ (x : List Id). Value c.args.version x c.in_ok-value.value) config ∙ ap (λ (x : ClusterValue). Value c.args.version c.args.config.now x) value
     in
-    same_act c.args.self.now.ids c.args.self.now.initial c.args.self.now.nodes.items c.finish.new.self.nodes.items c.args.self.now.sent.items c.finish.new.self.sent.items c.args.text.now c.finish.new.text c.args.n
+    same_act c.args.self.now.ids c.args.self.now.nodes.items c.finish.new.self.nodes.items c.args.self.now.sent.items c.finish.new.self.sent.items c.args.text.now c.finish.new.text c.args.n
     (Value c.args.version c.of-config.result c.in_ok-value.value) (Value c.args.version c.args.config.now (value_with c.args.setting)) act
-    (act_done _ _ _ c.as_mut_slice.result.now c.publish.new.nodes _ _ _ _ _ _ _ _ _ (Value c.args.version c.of-config.result c.in_ok-value.value) c.in_ok-did.did c.as_mut_slice.ensures.value c.publish.auto.nodes c.as_mut_slice.ensures.len
-    (ap (λ (v : Vec ReplayNode Global). v.items) c.in_ok-finish.ensures.nodes) c.in_ok-did.ensures c.in_ok-finish.ensures.sent c.requires.listed tt (λ w s. tt) refl c.clear.ensures c.in_ok-write_value.ensures c.in_ok-finish.ensures.written)
+    (act_done _ _ c.as_mut_slice.result.now c.publish.new.nodes _ _ _ _ _ _ _ _ _ (Value c.args.version c.of-config.result c.in_ok-value.value) c.in_ok-did.did c.as_mut_slice.ensures.value c.publish.auto.nodes c.as_mut_slice.ensures.len
+    (ap (λ (v : Vec ReplayNode Global). v.items) c.in_ok-finish.ensures.nodes) c.in_ok-did.ensures c.in_ok-finish.ensures.sent c.requires.listed tt c.clear.ensures c.in_ok-write_value.ensures c.in_ok-finish.ensures.written)

@@ -4,7 +4,7 @@ use Rattle.schedule_replay.specs.Replayed.{restarted, node_world}
 use Rattle.schedule_replay.specs.WorldStands.{AllStand}
 use Rattle.replay_node.specs.declared.node.ReplayNode.{ReplayNode}
 use Rattle.schedule_replay.proofs.Fresh.{many_lent}
-use Rattle.schedule_replay.proofs.Lines.{moved, both_ok}
+use Rattle.schedule_replay.proofs.Lines.{moved, on_ok}
 use Rattle.schedule_replay.proofs.WorldSteps.{reopened}
 use Rattle.schedule_replay.proofs.replayer.Replayer.restart.Goals as goal
 
@@ -17,6 +17,6 @@ restart-requires-clause-stands c =
 
 pub returns-clause-done : goal.returns-clause-done
 returns-clause-done c =
-    both_ok c.restart.result _ _ _ (λ moves finds. moved c.args.self.now.ids c.args.self.now.initial c.args.self.now.nodes.items c.as_mut_slice.result.now c.restart.new.nodes _ _ c.args.self.now.sent.items c.args.text.now c.restart.new.text
+    on_ok c.restart.result _ _ (λ moves. moved c.args.self.now.ids c.args.self.now.nodes.items c.as_mut_slice.result.now c.restart.new.nodes _ _ c.args.self.now.sent.items c.args.text.now c.restart.new.text
     (λ w. restarted w c.args.n) (λ w. restart_text c.args.n (node_world w c.args.n)) c.as_mut_slice.ensures.value c.restart.auto.nodes c.as_mut_slice.ensures.len refl moves
-    (λ w s a. reopened _ _ _ _ _ w c.args.n s a c.requires.listed (finds w (subst (λ (x : List ReplayNode). AllStand c.args.self.now.ids x w) (sym c.as_mut_slice.ensures.value) s.nodes_stand)))) c.restart.ensures.done c.restart.ensures.finds
+    (λ w s a. reopened _ _ _ _ w c.args.n s a)) c.restart.ensures

@@ -1,4 +1,4 @@
-use Rattle.std.proofs.Common.{ap, refl}
+use Rattle.std.proofs.Common.{ap}
 use Rattle.std.specs.declared.vec.Vec.{Vec}
 use Rattle.std.specs.declared.alloc.Global.{Global}
 use Rattle.replay_node.specs.declared.node.ReplayNode.{ReplayNode}
@@ -11,5 +11,5 @@ start_join-requires-clause-many c = many_lent _ _ _ _ c.as_mut_slice.ensures.val
 
 pub returns-clause-done : goal.returns-clause-done
 returns-clause-done c =
-    act_done _ _ _ c.as_mut_slice.result.now c.start_join.new.nodes _ _ _ _ _ _ _ _ _ _ c.in_ok-did.did c.as_mut_slice.ensures.value c.start_join.auto.nodes c.as_mut_slice.ensures.len
-    (ap (λ (v : Vec ReplayNode Global). v.items) c.in_ok-finish.ensures.nodes) c.in_ok-did.ensures c.in_ok-finish.ensures.sent c.requires.listed tt (λ w s. tt) refl c.clear.ensures c.in_ok-write_start_join.ensures c.in_ok-finish.ensures.written
+    act_done _ _ c.as_mut_slice.result.now c.start_join.new.nodes _ _ _ _ _ _ _ _ _ _ c.in_ok-did.did c.as_mut_slice.ensures.value c.start_join.auto.nodes c.as_mut_slice.ensures.len
+    (ap (λ (v : Vec ReplayNode Global). v.items) c.in_ok-finish.ensures.nodes) c.in_ok-did.ensures c.in_ok-finish.ensures.sent c.requires.listed tt c.clear.ensures c.in_ok-write_start_join.ensures c.in_ok-finish.ensures.written
