@@ -1,6 +1,7 @@
 -- What is written for a reply.
 use Rattle.std.specs.Prelude.{ℕ, List, codes}
 use Rattle.serde_json.specs.Data.{Data, number, unsigned, string, object, Members, no_members, member, put}
+use Rattle.serde_json.specs.Written.{compact_text}
 use Rattle.cluster_state.specs.Json.{ids_json, master_json, state_json}
 use Rattle.cluster_state.specs.declared.state.StateId.{StateId}
 use Rattle.client_lines.specs.declared.fault.LineFault.{LineFault}
@@ -17,7 +18,7 @@ abbrev pub state_id_json : StateId → Data
 state_id_json id = object (member (codes "term") (number_json id.term) (member (codes "version") (number_json id.version) no_members))
 
 -- an id with one thing beside it, the keys in the order of their bytes
-abbrev pub beside_id : ℕ → List ℕ → Data → Data
+unfoldable pub beside_id : ℕ → List ℕ → Data → Data
 beside_id id name d = object (put name d (member (codes "id") (number_json id) no_members))
 
 abbrev pub answer_json : ℕ → Answer → Data
@@ -38,7 +39,13 @@ fault_name TooLong = codes "too_long"
 fault_name NotJson = codes "not_json"
 fault_name BadShape = codes "bad_shape"
 
--- the reply as JSON
 abbrev pub reply_json : Reply → Data
 reply_json (To id answer) = answer_json id answer
 reply_json (BadLine fault) = object (member (codes "error") (string (fault_name fault)) no_members)
+
+-- with no blanks
+unfoldable pub text_of : Data → List ℕ
+text_of d = compact_text d
+
+abbrev pub reply_text : Reply → List ℕ
+reply_text reply = text_of (reply_json reply)
