@@ -3,7 +3,7 @@ use Rattle.std.proofs.Common.{◌≡◌, ◌∙◌, refl, sym, ap, inl, inr, ℕ
 use Rattle.std.proofs.lemmas.Bool.Decides.{nat_tests, leb_tells}
 use Rattle.client_lines.specs.declared.fault.LineFault.TheVariants.{TooLong}
 use Rattle.client_lines.specs.Lines.{kept}
-use Rattle.client_lines.specs.Reading.{line_request, value_request, json_of}
+use Rattle.client_lines.specs.Reading.{line_request}
 use Rattle.client_lines.specs.Laws.{KeepsEnough}
 
 take-all : (n : ℕ) (xs : List ℕ) → length xs ≤ n → take n xs ≡ xs
@@ -18,6 +18,7 @@ length-take-full (suc n) [] h = absurd (omega arith)
 length-take-full (suc n) (x ∷ xs) h = ap suc (length-take-full n xs (omega arith))
 
 too_long : (line : List ℕ) → 8192 < length line → line_request line ≡ Err TooLong
+unfolding line_request
 too_long line long =
     let test : nat_lt 8192 (length line) ≡ true = grind (arith, nat_tests) in
     rw test refl
