@@ -1,5 +1,5 @@
 -- A setting that no client is refused is within the limits of a state.
-use Rattle.std.proofs.Common.{◌≡◌, ℕ, List, Option, None, arith}
+use Rattle.std.proofs.Common.{◌≡◌, ℕ, List, None, arith}
 use Rattle.std.proofs.lemmas.Bool.Decides.{nat_tests}
 use Rattle.cluster_state.specs.Fields.{IsFitSetting}
 use Rattle.client_lines.specs.Settings.{bad_length}

@@ -1,10 +1,9 @@
 -- What bytes are as JSON.
-use Rattle.std.proofs.Common.{◌≡◌, refl, ℕ, Bool, true, false, cond, List, Option, Some, None, Err, ap}
+use Rattle.std.proofs.Common.{◌≡◌, refl, ℕ, Bool, true, false, cond, List, None, Err}
 use Rattle.std.specs.Prelude.{ok_or}
 use Rattle.std.specs.Str.{is_utf8, IsUtf8}
 use Rattle.std.proofs.lemmas.Str.{IsUtf8-from_is_utf8}
 use Rattle.serde_json.specs.Read.{read}
-use Rattle.serde_json.specs.Data.{Data}
 use Rattle.client_lines.specs.declared.fault.LineFault.TheVariants.{NotJson}
 use Rattle.client_lines.specs.Reading.{json_of}
 

@@ -1,6 +1,6 @@
 -- What is written for a reply.
 use Rattle.std.specs.Prelude.{ℕ, List, codes}
-use Rattle.serde_json.specs.Data.{Data, number, unsigned, string, object, Members, no_members, member, put}
+use Rattle.serde_json.specs.Data.{Data, number, unsigned, string, object, no_members, member, put}
 use Rattle.serde_json.specs.Written.{compact_text}
 use Rattle.cluster_state.specs.Json.{ids_json, master_json, state_json}
 use Rattle.cluster_state.specs.declared.state.StateId.{StateId}

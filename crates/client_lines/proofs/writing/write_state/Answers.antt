@@ -1,4 +1,4 @@
-use Rattle.std.proofs.Common.{◌≡◌, ap}
+use Rattle.std.proofs.Common.{◌≡◌}
 use Rattle.client_lines.specs.Replies.{text_of, number_json}
 use Rattle.cluster_state.specs.Json.{state_json}
 use Rattle.client_lines.proofs.Texts.{beside_state-text}
