@@ -1,0 +1,5 @@
+pub mod FrameLaws
+pub mod Sizes
+pub mod Cutting
+pub mod Scanning
+pub mod Spelled
