@@ -58,10 +58,10 @@ module _ (bytes more : List ℕ) (four : nat_lt (length bytes) 4 ≡ false) wher
   four_bytes_there : 4 ≤ length bytes
   four_bytes_there = at_least (length bytes) 4 four
 
-  four-append : nat_lt (length (bytes ++ more)) 4 ≡ false
+  pub four-append : nat_lt (length (bytes ++ more)) 4 ≡ false
   four-append = not_below _ _ (omega (arith, four_bytes_there, length-append bytes more))
 
-  said-append : said_length (bytes ++ more) ≡ said_length bytes
+  pub said-append : said_length (bytes ++ more) ≡ said_length bytes
   said-append = ap (from_be_bytes w32) (take-append-le 4 bytes more four_bytes_there)
 
   rest-append : drop 4 (bytes ++ more) ≡ drop 4 bytes ++ more

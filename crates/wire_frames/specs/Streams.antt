@@ -1,5 +1,5 @@
 -- A stream of bytes as frames.
-use Rattle.std.specs.Prelude.{◌≡◌, ℕ, zero, suc, nat_lt, if◌then◌else◌, Option, Some, None, Result, Ok, Err, List, [], ◌∷◌, ◌++◌, length, take, drop}
+use Rattle.std.specs.Prelude.{◌≡◌, ℕ, zero, suc, ◌<◌, nat_lt, Bool, true, false, IsTrue, if◌then◌else◌, Option, Some, None, Result, Ok, Err, List, [], ◌∷◌, ◌++◌, length, take, drop}
 use Rattle.std.specs.Int.{w32, from_be_bytes}
 use Rattle.wire_frames.specs.declared.fault.FrameFault.{FrameFault}
 use Rattle.wire_frames.specs.declared.fault.FrameFault.TheVariants.{TooLong}
@@ -27,6 +27,15 @@ front_of bytes =
     else (if nat_lt most_body (said_length bytes) then Faulty TooLong
     else (if nat_lt (length (drop 4 bytes)) (said_length bytes) then Unfinished
     else front_with (frame_of (take (said_length bytes) (drop 4 bytes))) (drop (said_length bytes) (drop 4 bytes))))
+
+abbrev pub is_unfinished : Front → Bool
+is_unfinished Unfinished = true
+is_unfinished (Faulty fault) = false
+is_unfinished (Whole frame rest) = false
+
+-- while fewer bytes than wanted are there, less than a frame stands at the front, whatever comes
+abbrev pub Awaits : List ℕ → (wanted : ℕ) → Type 0
+Awaits bytes wanted = (more : List ℕ) → length (bytes ++ more) < wanted → IsTrue (is_unfinished (front_of (bytes ++ more)))
 
 -- what stands behind the frames of a stream: less than a frame, or a fault
 pub data Ending : Type 0 where

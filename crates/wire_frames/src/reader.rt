@@ -1,8 +1,8 @@
 //! Frames out of a stream of bytes, however it is cut.
 
-ghost use Rattle.std.specs.Prelude.{◌≡◌, ℕ, ◌++◌, List, [], length, IfOk, OnErr};
+ghost use Rattle.std.specs.Prelude.{◌≡◌, ℕ, ◌++◌, List, [], length, All, IfOk, OnErr};
 ghost use Rattle.wire_frames.specs.declared.frame.Frame.{Frame};
-ghost use Rattle.wire_frames.specs.Frames.{frame_of};
+ghost use Rattle.wire_frames.specs.Frames.{IsFitFrame, frame_of};
 ghost use Rattle.wire_frames.specs.Steps.{Measures, ReadsBody, Takes, IsScan};
 
 use crate::fault::{FrameError, FrameFault};
@@ -26,16 +26,20 @@ pub struct Fed {
 #[derive(Drop)]
 pub struct FrameReader {
     buffer: BytesMut,
+    // No frame and no fault stands in the buffer before it has so many bytes.
+    wanted: usize,
     fault: Option<FrameFault>,
     alloc: Global,
 }
 
 impl Model for FrameReader {
-    ghost use Rattle.wire_frames.specs.Streams.{Ending, ending_of};
+    ghost use Rattle.wire_frames.specs.Streams.{Ending, ending_of, Awaits};
 
     ghost Value = { Ending };
 
     ghost view = { λ r. ending_of r.fault r.buffer.items };
+
+    ghost invariant = { λ r. Awaits r.buffer.items r.wanted };
 }
 
 impl FrameReader {
@@ -48,6 +52,7 @@ impl FrameReader {
     {
         FrameReader {
             buffer: BytesMut::new(alloc),
+            wanted: 0,
             fault: None,
             alloc,
         }
@@ -59,6 +64,7 @@ impl FrameReader {
         // The frames given and what then stands behind them are the stream of what stood there and these bytes.
         ensures now { IfOk result (λ fed. stream_after self.old bytes.now ≡ record { frames = fed.frames.items; ending = self.new }) }
         ensures fault { IfOk result (λ fed. fed.fault ≡ fault_in self.new) }
+        ensures fit { IfOk result (λ fed. All IsFitFrame fed.frames.items) }
         // The frames given so far and what stands behind them are the stream of all bytes fed.
         ensures so_far { IfOk result (λ fed. (before : List ℕ) (frames : List Frame) → IsStream before frames self.old
             → IsStream (before ++ bytes.now) (frames ++ fed.frames.items) self.new) }
@@ -70,6 +76,7 @@ impl FrameReader {
     fn take(&mut self, bytes: &[u8]) -> Result<Fed, AllocError>
         ensures now { IfOk result (λ fed. stream_after self.old bytes.now ≡ record { frames = fed.frames.items; ending = self.new }) }
         ensures fault { IfOk result (λ fed. fed.fault ≡ fault_in self.new) }
+        ensures fit { IfOk result (λ fed. All IsFitFrame fed.frames.items) }
         ensures err { OnErr result (self.new ≡ self.old) }
     {
         if let Some(fault) = self.fault {
@@ -80,14 +87,22 @@ impl FrameReader {
         }
         let before = self.buffer.len();
         self.buffer.extend_from_slice(bytes)?;
+        if self.buffer.len() < self.wanted {
+            return Ok(Fed {
+                frames: Vec::new(self.alloc),
+                fault: None,
+            });
+        }
         match take_frames(self.alloc, self.buffer.as_slice()) {
             Ok(scan) => {
                 let Scan {
                     frames,
                     used,
+                    wanted,
                     fault,
                 } = scan;
                 self.buffer.advance(used);
+                self.wanted = wanted;
                 self.fault = fault;
                 Ok(Fed { frames, fault })
             }
@@ -102,7 +117,8 @@ impl FrameReader {
 // What the first four bytes say of the body behind them.
 #[derive(Clone, Copy)]
 enum BodyLength {
-    Unfinished,
+    // So many bytes are wanted.
+    Unfinished(usize),
     TooLong,
     Whole(usize),
 }
@@ -111,7 +127,7 @@ fn body_length(bytes: &[u8]) -> BodyLength
     ensures { Measures result bytes.now }
 {
     if bytes.len() < 4 {
-        return BodyLength::Unfinished;
+        return BodyLength::Unfinished(4);
     }
     let (front, rest) = bytes.split_at(4);
     let size = u32::from_be_bytes([front[0], front[1], front[2], front[3]]);
@@ -120,7 +136,7 @@ fn body_length(bytes: &[u8]) -> BodyLength
     }
     let size = size as usize;
     if rest.len() < size {
-        return BodyLength::Unfinished;
+        return BodyLength::Unfinished(4 + size);
     }
     BodyLength::Whole(size)
 }
@@ -128,7 +144,8 @@ fn body_length(bytes: &[u8]) -> BodyLength
 // What stands at the front of bytes: less than a frame, a fault, or a frame of so many bytes.
 #[derive(Clone, Copy)]
 enum Step {
-    Unfinished,
+    // So many bytes are wanted.
+    Unfinished(usize),
     Faulty(FrameFault),
     Whole(usize),
 }
@@ -152,7 +169,7 @@ fn take_frame(alloc: Global, bytes: &[u8], frames: &mut Vec<Frame>) -> Result<St
     ensures { IfOk result (λ step. Takes step bytes.now frames.old.items frames.new.items) }
 {
     match body_length(bytes) {
-        BodyLength::Unfinished => Ok(Step::Unfinished),
+        BodyLength::Unfinished(wanted) => Ok(Step::Unfinished(wanted)),
         BodyLength::TooLong => Ok(Step::Faulty(FrameFault::TooLong)),
         BodyLength::Whole(size) => {
             let (_, rest) = bytes.split_at(4);
@@ -162,15 +179,17 @@ fn take_frame(alloc: Global, bytes: &[u8], frames: &mut Vec<Frame>) -> Result<St
     }
 }
 
-// The frames at the front of bytes, how many bytes they take, and the fault that stands next.
+// The frames at the front of bytes, how many bytes they take, and what stands next: a fault, or less than a frame, which
+// wants so many bytes.
 struct Scan {
     frames: Vec<Frame>,
     used: usize,
+    wanted: usize,
     fault: Option<FrameFault>,
 }
 
 fn take_frames(alloc: Global, bytes: &[u8]) -> Result<Scan, AllocError>
-    ensures { IfOk result (λ scan. IsScan bytes.now scan) }
+    ensures { IfOk result (λ scan. IsScan bytes.now scan.frames.items scan.used scan.wanted scan.fault) }
 {
     let mut frames = Vec::new(alloc);
     let mut used = 0;
@@ -178,10 +197,11 @@ fn take_frames(alloc: Global, bytes: &[u8]) -> Result<Scan, AllocError>
         let (_, rest) = bytes.split_at(used);
         match take_frame(alloc, rest, &mut frames)? {
             Step::Whole(size) => used += size,
-            Step::Unfinished => {
+            Step::Unfinished(wanted) => {
                 return Ok(Scan {
                     frames,
                     used,
+                    wanted,
                     fault: None,
                 });
             }
@@ -189,6 +209,7 @@ fn take_frames(alloc: Global, bytes: &[u8]) -> Result<Scan, AllocError>
                 return Ok(Scan {
                     frames,
                     used,
+                    wanted: 0,
                     fault: Some(fault),
                 });
             }
