@@ -20,27 +20,27 @@ pub record IsWholeBy (a b c : Bool) (read : Result Frame FrameFault) (rest : Lis
   pub body : read ≡ Ok frame
   pub next : rest ≡ after
 
-whole_by : (a b c : Bool) (r : Result Frame FrameFault) (rest : List ℕ) (frame : Frame) (after : List ℕ) → front_by a b c (front_with r rest) ≡ Whole frame after → IsWholeBy a b c r rest frame after
+pub whole_by : (a b c : Bool) (r : Result Frame FrameFault) (rest : List ℕ) (frame : Frame) (after : List ℕ) → front_by a b c (front_with r rest) ≡ Whole frame after → IsWholeBy a b c r rest frame after
 whole_by true b c r rest frame after e = absurd cc
 whole_by false true c r rest frame after e = absurd cc
 whole_by false false true r rest frame after e = absurd cc
 whole_by false false false (Err x) rest frame after e = absurd cc
 whole_by false false false (Ok f) rest frame after e = record { four = refl; fits = refl; there = refl; body = cc; next = cc }
 
-pub by_whole : (a b c : Bool) (r : Result Frame FrameFault) (rest : List ℕ) (frame : Frame) (after : List ℕ) → IsWholeBy a b c r rest frame after → front_by a b c (front_with r rest) ≡ Whole frame after
+by_whole : (a b c : Bool) (r : Result Frame FrameFault) (rest : List ℕ) (frame : Frame) (after : List ℕ) → IsWholeBy a b c r rest frame after → front_by a b c (front_with r rest) ≡ Whole frame after
 by_whole a b c r rest frame after h = rw (h.four, h.fits, h.there, h.body, h.next) refl
 
 -- what a fault at the front says of the tests
-record IsBadBody (b c : Bool) (read : Result Frame FrameFault) (fault : FrameFault) : Type 0 where
-  fits : b ≡ false
-  there : c ≡ false
-  body : read ≡ Err fault
+pub record IsBadBody (b c : Bool) (read : Result Frame FrameFault) (fault : FrameFault) : Type 0 where
+  pub fits : b ≡ false
+  pub there : c ≡ false
+  pub body : read ≡ Err fault
 
-record IsFaultyBy (a b c : Bool) (read : Result Frame FrameFault) (fault : FrameFault) : Type 0 where
-  four : a ≡ false
-  cause : ((b ≡ true) × (TooLong ≡ fault)) ⊎ (IsBadBody b c read fault)
+pub record IsFaultyBy (a b c : Bool) (read : Result Frame FrameFault) (fault : FrameFault) : Type 0 where
+  pub four : a ≡ false
+  pub cause : ((b ≡ true) × (TooLong ≡ fault)) ⊎ (IsBadBody b c read fault)
 
-faulty_by : (a b c : Bool) (r : Result Frame FrameFault) (rest : List ℕ) (fault : FrameFault) → front_by a b c (front_with r rest) ≡ Faulty fault → IsFaultyBy a b c r fault
+pub faulty_by : (a b c : Bool) (r : Result Frame FrameFault) (rest : List ℕ) (fault : FrameFault) → front_by a b c (front_with r rest) ≡ Faulty fault → IsFaultyBy a b c r fault
 faulty_by true b c r rest fault e = absurd cc
 faulty_by false true c r rest fault e = record { four = refl; cause = inl (refl, cc) }
 faulty_by false false true r rest fault e = absurd cc

@@ -67,9 +67,9 @@ pub stops_unfinished : (bytes left : List ℕ) (used wanted : ℕ) (old new : Li
 stops_unfinished bytes left used wanted old new so_far is h = record {
   within = so_far.within;
   stream =
-    stops bytes left used old new Unfinished so_far is (front_awaits left wanted h.0 h.1) h.2
-    ∙ behind-none new (Rest left)
-    ∙ ap (λ l. let s : Stream = record { frames = new; ending = Rest l } in s) is;
+      stops bytes left used old new Unfinished so_far is (front_awaits left wanted h.0 h.1) h.2
+      ∙ behind-none new (Rest left)
+      ∙ ap (λ l. let s : Stream = record { frames = new; ending = Rest l } in s) is;
   fit = rw h.2 so_far.fit;
   awaits = let P : List ℕ → Type 0 = λ l. Awaits l wanted in subst P is h.1;
 }
