@@ -1,11 +1,11 @@
 -- A spelled frame in front of bytes.
-use Rattle.std.proofs.Common.{◌≡◌, ℕ, ◌+◌, ◌<◌, ◌≤◌, ◌^◌, nat_lt, false, Result, Ok, Err, List, [], ◌∷◌, ◌++◌, length, take, drop, refl, sym, ap, subst, ◌∙◌, arith, append_assoc, length-append}
+use Rattle.std.proofs.Common.{◌≡◌, ℕ, ◌<◌, ◌≤◌, ◌^◌, nat_lt, false, List, [], ◌∷◌, ◌++◌, length, drop, refl, sym, ap, subst, ◌∙◌, arith, append_assoc, length-append}
 use Rattle.std.proofs.lemmas.List.{take_at, drop_at}
 use Rattle.std.proofs.lemmas.Nat.{from_be_bytes-to_be_bytes_4}
 use Rattle.std.specs.Int.{w32, from_be_bytes}
 use Rattle.wire_frames.specs.declared.frame.Frame.{Frame}
 use Rattle.wire_frames.specs.Frames.{most_body, four_bytes, SpellsBody, SpellsFrame, frame_of}
-use Rattle.wire_frames.specs.Streams.{Front, Whole, said_length, front_with, front_of, behind, stream}
+use Rattle.wire_frames.specs.Streams.{Whole, said_length, front_with, front_of, prepend, stream}
 use Rattle.wire_frames.proofs.FrameLaws.{frame_again, one_body}
 use Rattle.wire_frames.proofs.Sizes.{body_short}
 use Rattle.wire_frames.proofs.Cutting.{not_below, stream-front}
@@ -46,7 +46,7 @@ front-read body more fits =
     let there : nat_lt (length (body ++ more)) size ≡ false = not_below _ _ (omega (arith, length-append body more)) in
     rw (four, said, in_limit, rest, there, take_at body more size refl, drop_at body more size refl) refl
 
-pub first_frame : (f : Frame) (bytes more : List ℕ) → SpellsFrame f bytes → stream (bytes ++ more) ≡ behind (f ∷ []) (stream more)
+pub first_frame : (f : Frame) (bytes more : List ℕ) → SpellsFrame f bytes → stream (bytes ++ more) ≡ prepend (f ∷ []) (stream more)
 first_frame f bytes more s =
     let regrouped : bytes ++ more ≡ four_bytes (length s.body) ++ (s.body ++ more) = ap (λ l. l ++ more) s.whole ∙ append_assoc (four_bytes (length s.body)) s.body more in
     let front = front-read s.body more (omega (arith, body_short f s.body s.spelled)) in

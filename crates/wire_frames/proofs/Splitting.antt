@@ -1,18 +1,17 @@
 -- A stream is what its bytes split into.
-use Rattle.std.proofs.Common.{◌≡◌, ℕ, zero, suc, ◌+◌, ◌<◌, ◌≤◌, ◌^◌, Bool, true, false, cond, nat_lt, ◌⊎◌, inl, inr, ◌↔◌, Result, Ok, Err, List, [], ◌∷◌, ◌++◌, length, take, drop, get_or, refl, sym, ap, subst, ◌∙◌, arith, append_assoc, length-append, length-drop}
+use Rattle.std.proofs.Common.{◌≡◌, ℕ, zero, suc, ◌<◌, ◌≤◌, ◌^◌, Bool, true, false, nat_lt, ◌⊎◌, inl, inr, Result, Ok, Err, List, [], ◌∷◌, ◌++◌, length, take, drop, refl, sym, ap, subst, ◌∙◌, arith, append_assoc, length-append}
 use Rattle.std.specs.Prelude.{All}
-use Rattle.std.proofs.lemmas.Bool.{cases_lt, ltb-false, lt-ltb}
+use Rattle.std.proofs.lemmas.Bool.{cases_lt, lt-ltb}
 use Rattle.std.proofs.lemmas.List.{take-append-drop, length-take, length-take-le, get_or-take, get_or_past}
 use Rattle.std.proofs.lemmas.Nat.{be_bytes_4}
 use Rattle.cluster_state.proofs.Laws.{IsBytes, IsBytes-rest}
 use Rattle.wire_frames.specs.declared.fault.FrameFault.{FrameFault}
-use Rattle.wire_frames.specs.declared.fault.FrameFault.TheVariants.{TooLong}
 use Rattle.wire_frames.specs.declared.frame.Frame.{Frame}
 use Rattle.wire_frames.specs.Frames.{most_body, four_bytes, SpellsFrame, frame_of}
-use Rattle.wire_frames.specs.Streams.{Front, Unfinished, Faulty, Whole, said_length, front_with, front_of, Ending, Rest, Fault, Stream, behind, begun, stream, IsStream}
-use Rattle.wire_frames.specs.Splits.{BeginsBody, IsPartial, BeginsTooLong, BeginsNoFrame, IsEnding, Splits}
+use Rattle.wire_frames.specs.Streams.{Front, Unfinished, Faulty, Whole, said_length, front_with, front_of, Ending, Rest, Fault, Stream, prepend, stream_with_front, stream, IsStream}
+use Rattle.wire_frames.specs.Splits.{IsPartial, BeginsTooLong, BeginsNoFrame, IsEnding, Splits}
 use Rattle.wire_frames.proofs.FrameLaws.{frame_takes}
-use Rattle.wire_frames.proofs.Cutting.{front_by, whole_by, faulty_by, at_least, not_below, whole-shorter, stream-begun, stream-front}
+use Rattle.wire_frames.proofs.Cutting.{front_by, whole_by, faulty_by, at_least, not_below, whole-shorter, stream-with_front, stream-front}
 use Rattle.wire_frames.proofs.Spelled.{length-four, said-four, rest-four, front-read, first_frame}
 
 -- ---- what splits is the stream
@@ -46,7 +45,7 @@ ending_front (Fault fault) bytes (inr h) = stream-front bytes (Faulty fault) (no
 
 pub stream_of_split : (frames : List Frame) (bytes : List ℕ) (ending : Ending) → Splits bytes frames ending → IsStream bytes frames ending
 stream_of_split [] bytes ending h = ending_front ending bytes h
-stream_of_split (frame ∷ frames) bytes ending h = ap stream h.2 ∙ first_frame frame h.0 h.1 h.3 ∙ ap (behind (frame ∷ [])) (stream_of_split frames h.1 ending h.4)
+stream_of_split (frame ∷ frames) bytes ending h = ap stream h.2 ∙ first_frame frame h.0 h.1 h.3 ∙ ap (prepend (frame ∷ [])) (stream_of_split frames h.1 ending h.4)
 
 -- ---- the stream splits
 
@@ -147,7 +146,7 @@ front_cut bytes frame after fits e =
 abbrev SplitsInto : List ℕ → Stream → Type 0
 SplitsInto bytes s = Splits bytes s.frames s.ending
 
-splits_within : (n : ℕ) (bytes : List ℕ) (front : Front) → length bytes ≤ n → IsBytes bytes → front_of bytes ≡ front → SplitsInto bytes (begun front bytes stream)
+splits_within : (n : ℕ) (bytes : List ℕ) (front : Front) → length bytes ≤ n → IsBytes bytes → front_of bytes ≡ front → SplitsInto bytes (stream_with_front front bytes stream)
 splits_within n bytes Unfinished p fits e = (refl, front_partial bytes fits e)
 splits_within n bytes (Faulty fault) p fits e = front_fault bytes fault fits e
 splits_within zero bytes (Whole frame after) p fits e = let shorter = whole-shorter bytes frame after e in absurd (omega arith)
@@ -156,7 +155,7 @@ splits_within (suc n) bytes (Whole frame after) p fits e =
     let cut = front_cut bytes frame after fits e in
     let fits_after = IsBytes-rest bytes cut.first after cut.whole fits in
     let later = splits_within n after (front_of after) (omega arith) fits_after refl in
-    (cut.first, after, cut.whole, cut.spelled, subst (SplitsInto after) (sym (stream-begun after)) later)
+    (cut.first, after, cut.whole, cut.spelled, subst (SplitsInto after) (sym (stream-with_front after)) later)
 
 bytes_from_all : (bytes : List ℕ) → All (λ b. b < 2 ^ 8) bytes → IsBytes bytes
 bytes_from_all bytes h i =
@@ -164,4 +163,4 @@ bytes_from_all bytes h i =
 
 pub split_of_stream : (bytes : List ℕ) (frames : List Frame) (ending : Ending) → All (λ b. b < 2 ^ 8) bytes → IsStream bytes frames ending → Splits bytes frames ending
 split_of_stream bytes frames ending all is =
-    subst (SplitsInto bytes) (sym (stream-begun bytes) ∙ is) (splits_within (length bytes) bytes (front_of bytes) (omega arith) (bytes_from_all bytes all) refl)
+    subst (SplitsInto bytes) (sym (stream-with_front bytes) ∙ is) (splits_within (length bytes) bytes (front_of bytes) (omega arith) (bytes_from_all bytes all) refl)

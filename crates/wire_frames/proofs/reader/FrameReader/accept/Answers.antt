@@ -1,6 +1,6 @@
 use Rattle.std.proofs.Common.{arith}
 use Rattle.wire_frames.proofs.Waiting.{waits_still}
-use Rattle.wire_frames.proofs.reader.FrameReader.take.Goals as goal
+use Rattle.wire_frames.proofs.reader.FrameReader.accept.Goals as goal
 
 pub returns-then-len-self-clause-now : goal.returns-then-len-self-clause-now
 returns-then-len-self-clause-now c =
