@@ -28,6 +28,7 @@ pub record SpellsBody (frame : Frame) (body : List ℕ) : Type 0 where
 abbrev pub most_body : ℕ
 most_body = 8388608
 
+-- a number as four bytes, the highest first
 unfoldable pub four_bytes : ℕ → List ℕ
 four_bytes n = to_be_bytes w32 n
 
@@ -48,6 +49,7 @@ abbrev pub frame_at : Kind → List ℕ → Result (Frame × List ℕ) FieldErro
 frame_at kind bytes = id.at bytes >>= λ from. id.at from.1 >>= λ to. message_at kind to.1 >>= λ m.
     Ok (record { from = from.0; to = to.0; message = m.0 }, m.1)
 
+-- what a fault of the fields is in a frame
 abbrev pub fault_in_frame : StateFault → FrameFault
 fault_in_frame (whole_fault.Field f) = Field f
 fault_in_frame whole_fault.Trailing = Trailing
@@ -61,6 +63,7 @@ abbrev pub frame_of_kind : ℕ → Option Kind → List ℕ → Result Frame Fra
 frame_of_kind byte None bytes = Err (UnknownKind byte)
 frame_of_kind byte (Some kind) bytes = as_frame (whole (frame_at kind bytes))
 
+-- the frame, by what reading its kind byte gave
 abbrev pub frame_from_byte : Result (ℕ × List ℕ) FieldError → Result Frame FrameFault
 frame_from_byte (Ok byte) = frame_of_kind byte.0 (kind_of byte.0) byte.1
 frame_from_byte (Err f) = Err (Field f)

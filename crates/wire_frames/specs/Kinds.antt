@@ -31,6 +31,7 @@ kinds = kind.StartJoin ∷ kind.Join ∷ kind.Publish ∷ kind.Response ∷ kind
 abbrev pub kind_of : ℕ → Option Kind
 kind_of byte = find (λ k. code k == byte) kinds
 
+-- what the message is about
 abbrev pub kind_of_message : Message → Kind
 kind_of_message (message.StartJoin candidate term) = kind.StartJoin
 kind_of_message (message.Join term last) = kind.Join

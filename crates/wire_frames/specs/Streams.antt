@@ -21,6 +21,8 @@ abbrev pub front_with : Result Frame FrameFault → List ℕ → Front
 front_with (Ok frame) rest = Whole frame rest
 front_with (Err fault) rest = Faulty fault
 
+-- what stands at the front of the bytes: nothing whole before the four bytes of the length, then too long a length, then nothing
+-- whole before as many bytes of body, then what the body is
 abbrev pub front_of : List ℕ → Front
 front_of bytes =
     if nat_lt (length bytes) 4 then Unfinished
