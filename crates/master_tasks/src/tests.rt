@@ -28,6 +28,13 @@ fn request(alloc: Global, line: &str) -> Result<Request, Fail> {
     Ok(read_line(alloc, line.as_bytes())?)
 }
 
+// Takes the request that the line is, which comes by connection 1 at a moment.
+fn take(alloc: Global, tasks: &mut MasterTasks, at: u64, line: &str) -> Result<(), Fail> {
+    let request = request(alloc, line)?;
+    tasks.offer(1, at, request).ok().ok_or("taken")?;
+    Ok(())
+}
+
 // The state 1/1 of master a, with the setting v.
 fn state(
     alloc: Global,
@@ -60,17 +67,10 @@ fn write_replies(alloc: Global, text: &mut Vec<u8>, replies: &Replies) -> Result
     Ok(())
 }
 
-// What comes of the tasks of leader a, as JSON: the new value or 'same', and the replies.
-fn next(
-    alloc: Global,
-    tasks: &mut MasterTasks,
-    term: u64,
-    accepted: &ClusterState,
-) -> Result<Vec<u8>, AllocError> {
-    let votes = letters("abcd");
-    let next = tasks.next_state(id("a"), term, accepted, &accepted.config, &votes, true)?;
+// What comes of tasks, as JSON: the new voters and value, or 'same', and the replies.
+fn told(alloc: Global, next: &Next) -> Result<Vec<u8>, AllocError> {
     let mut text = Vec::new(alloc);
-    match &next {
+    match next {
         Next::Same(replies) => {
             text.extend_from_slice(b"same")?;
             write_replies(alloc, &mut text, replies)?;
@@ -80,10 +80,7 @@ fn next(
             value,
             replies,
         } => {
-            for id in config.members().as_slice() {
-                text.extend_from_slice(id.as_bytes())?;
-            }
-            text.push(b' ')?;
+            write_ids(&mut text, config)?;
             text.extend_from_slice(&value_to_json(alloc, value)?)?;
             write_replies(alloc, &mut text, replies)?;
         }
@@ -91,27 +88,67 @@ fn next(
     Ok(text)
 }
 
+fn write_ids(text: &mut Vec<u8>, config: &VotingConfig) -> Result<(), AllocError> {
+    for id in config.members().as_slice() {
+        text.extend_from_slice(id.as_bytes())?;
+    }
+    text.push(b' ')?;
+    Ok(())
+}
+
+// The same of the tasks of leader a, of whom a, b, c and d are voters.
+fn next(
+    alloc: Global,
+    tasks: &mut MasterTasks,
+    term: u64,
+    accepted: &ClusterState,
+) -> Result<Vec<u8>, AllocError> {
+    let votes = letters("abcd");
+    let next = tasks.next_state(id("a"), term, accepted, &accepted.config, &votes, true)?;
+    told(alloc, &next)
+}
+
+// The id of a request that is refused, since 64 wait.
+fn refused(tasks: &mut MasterTasks, request: Request) -> Option<u64> {
+    match tasks.offer(1, 5, request) {
+        Err(OfferError::QueueFull(request)) => Some(request.id),
+        _ => None,
+    }
+}
+
 #[test]
 fn queue(rt: HostRuntime) -> Result<(), Fail> {
     let mut tasks = MasterTasks::new(rt.alloc());
     for _ in 0..MAX_OPEN {
-        let offered = tasks.offer(1, 5, request(rt.alloc(), "{\"id\":7,\"state\":{}}")?);
-        assert!(rt; offered.is_ok());
+        take(rt.alloc(), &mut tasks, 5, "{\"id\":7,\"state\":{}}")?;
     }
     assert!(rt; tasks.is_full());
     let last = request(rt.alloc(), "{\"id\":9,\"state\":{}}")?;
-    let refused = match tasks.offer(1, 5, last) {
-        Err(OfferError::QueueFull(request)) => request.id,
-        _ => 0,
-    };
-    assert_eq!(rt; refused, 9);
+    assert_eq!(rt; refused(&mut tasks, last), Some(9));
     let copy = tasks.copy()?;
     assert_eq!(rt; copy.open_count(), MAX_OPEN);
-    assert_eq!(rt; tasks.open_count(), MAX_OPEN);
+    let count = tasks.open_count();
+    assert_eq!(rt; count, MAX_OPEN);
     assert_eq!(rt; tasks.waiting(63).arrived, 5);
-    assert_eq!(rt; tasks.settle(63).request.id, 7);
+    let settled = tasks.settle(63);
+    assert_eq!(rt; settled.request.id, 7);
     assert!(rt; !tasks.is_full());
     Ok(())
+}
+
+// What comes of requests, a line each.
+fn came(
+    alloc: Global,
+    voters: &str,
+    exclusions: &str,
+    lines: &str,
+) -> Result<Vec<u8>, Fail> {
+    let mut tasks = MasterTasks::new(alloc);
+    for line in lines.lines() {
+        take(alloc, &mut tasks, 0, line)?;
+    }
+    let accepted = state(alloc, voters, "abc", exclusions)?;
+    Ok(next(alloc, &mut tasks, 1, &accepted)?)
 }
 
 #[test]
@@ -190,13 +227,7 @@ fn requests(rt: HostRuntime) -> Result<(), Fail> {
             "abc {\"exclusions\":[],\"master\":\"a\",\"members\":[\"a\",\"b\",\"c\"],\"settings\":{\"v\":\"x\"}}",
         ),
     ] {
-        let mut tasks = MasterTasks::new(rt.alloc());
-        for line in lines.lines() {
-            let offered = tasks.offer(1, 0, request(rt.alloc(), line)?);
-            assert!(rt; offered.is_ok());
-        }
-        let accepted = state(rt.alloc(), voters, "abc", exclusions)?;
-        let text = next(rt.alloc(), &mut tasks, 1, &accepted)?;
+        let text = came(rt.alloc(), voters, exclusions, lines)?;
         assert_eq!(rt; text.as_slice(), want.as_bytes(), "{lines}");
     }
     Ok(())
@@ -230,12 +261,42 @@ fn many_settings(rt: HostRuntime) -> Result<(), Fail> {
         ),
     ] {
         let mut tasks = MasterTasks::new(rt.alloc());
-        let offered = tasks.offer(1, 0, request(rt.alloc(), line)?);
-        assert!(rt; offered.is_ok());
+        take(rt.alloc(), &mut tasks, 0, line)?;
         let text = next(rt.alloc(), &mut tasks, 1, &accepted)?;
         assert_eq!(rt; text.as_slice(), want.as_bytes());
     }
     Ok(())
+}
+
+// The members of the new value of leader a, who accepted a state with these members.
+fn new_members(
+    tasks: &mut MasterTasks,
+    accepted: &ClusterState,
+) -> Result<Option<NodeSet>, AllocError> {
+    let votes = letters("abc");
+    match tasks.next_state(id("a"), 2, accepted, &accepted.config, &votes, true)? {
+        Next::Same(_) => Ok(None),
+        Next::New { value, .. } => Ok(Some(value.members)),
+    }
+}
+
+// The members after some are to go and others to come.
+fn changed(
+    alloc: Global,
+    members: &str,
+    removals: &str,
+    additions: &str,
+) -> Result<NodeSet, Fail> {
+    let mut tasks = MasterTasks::new(alloc);
+    for id in letters(removals).as_slice() {
+        tasks.drop_member(*id);
+    }
+    for id in letters(additions).as_slice() {
+        tasks.add_member(*id);
+    }
+    let accepted = state(alloc, "abc", members, "")?;
+    let members = new_members(&mut tasks, &accepted)?.ok_or("a new value")?;
+    Ok(members)
 }
 
 #[test]
@@ -250,21 +311,9 @@ fn members(rt: HostRuntime) -> Result<(), Fail> {
         (all, "", "a", all),
         (all, "b", "7a", others),
     ] {
-        let mut tasks = MasterTasks::new(rt.alloc());
-        for id in letters(removals).as_slice() {
-            tasks.drop_member(*id);
-        }
-        for id in letters(additions).as_slice() {
-            tasks.add_member(*id);
-        }
-        let accepted = state(rt.alloc(), "abc", members, "")?;
-        let votes = letters("abc");
-        let next = tasks.next_state(id("a"), 2, &accepted, &accepted.config, &votes, true)?;
-        let same = match &next {
-            Next::Same(_) => false,
-            Next::New { value, .. } => value.members.as_slice() == letters(want).as_slice(),
-        };
-        assert!(rt; same, "{members} {removals} {additions}");
+        let members = changed(rt.alloc(), members, removals, additions)?;
+        let want = letters(want);
+        assert!(rt; members.as_slice() == want.as_slice(), "{removals} {additions}");
     }
     Ok(())
 }
@@ -277,14 +326,9 @@ fn a_33rd_member(rt: HostRuntime) -> Result<(), Fail> {
     }
     tasks.add_member(id("a"));
     let accepted = state(rt.alloc(), "c", "", "")?;
-    let votes = letters("c");
-    let next = tasks.next_state(id("a"), 1, &accepted, &accepted.config, &votes, true)?;
-    let (count, has_a) = match &next {
-        Next::Same(_) => (0, true),
-        Next::New { value, .. } => (value.members.len(), value.members.contains(id("a"))),
-    };
-    assert_eq!(rt; count, 32);
-    assert!(rt; !has_a);
+    let members = new_members(&mut tasks, &accepted)?.ok_or("a new value")?;
+    assert_eq!(rt; members.len(), 32);
+    assert!(rt; !members.contains(id("a")));
     Ok(())
 }
 
@@ -295,12 +339,11 @@ fn three(alloc: Global) -> Result<MasterTasks, Fail> {
         "{\"id\":1,\"put\":{\"key\":\"w\",\"value\":\"1\"}}",
         "{\"id\":2,\"exclude\":[\"b\"]}",
     ] {
-        let _ = tasks.offer(1, 0, request(alloc, line)?).is_ok();
+        take(alloc, &mut tasks, 0, line)?;
     }
     let accepted = state(alloc, "abc", "abc", "")?;
     let _ = next(alloc, &mut tasks, 1, &accepted)?;
-    let last = request(alloc, "{\"id\":3,\"exclude\":[\"x\"]}")?;
-    let _ = tasks.offer(1, 1, last).is_ok();
+    take(alloc, &mut tasks, 1, "{\"id\":3,\"exclude\":[\"x\"]}")?;
     Ok(tasks)
 }
 
@@ -312,17 +355,27 @@ fn answers(rt: HostRuntime) -> Result<(), Fail> {
     };
     let mut out = Replies::with_room(rt.alloc(), 12)?;
     assert_eq!(rt; out.room(), 12);
-    three(rt.alloc())?.fail_all(4, &mut out);
     let mut tasks = three(rt.alloc())?;
+    assert!(rt; tasks.open_count() <= out.room());
+    tasks.fail_all(4, &mut out);
+    let mut tasks = three(rt.alloc())?;
+    assert!(rt; tasks.open_count() <= out.room());
     tasks.ack_committed(id, &mut out);
+    assert!(rt; tasks.open_count() <= out.room());
     tasks.ack_exclusions(&config("abc"), id, &mut out);
+    assert!(rt; tasks.open_count() <= out.room());
     tasks.time_out_exclusions(&config("abc"), 29_999, &mut out);
     assert_eq!(rt; tasks.open_count(), 2);
+    assert!(rt; tasks.open_count() <= out.room());
     tasks.ack_exclusions(&config("ac"), id, &mut out);
+    assert!(rt; tasks.open_count() <= out.room());
     tasks.time_out_exclusions(&config("abc"), 30_001, &mut out);
     assert_eq!(rt; tasks.open_count(), 0);
-    three(rt.alloc())?.time_out_exclusions(&config("abc"), 30_000, &mut out);
+    let mut tasks = three(rt.alloc())?;
+    assert!(rt; tasks.open_count() <= out.room());
+    tasks.time_out_exclusions(&config("abc"), 30_000, &mut out);
     let mut all = Replies::with_room(rt.alloc(), 12)?;
+    assert!(rt; out.as_slice().len() <= all.room());
     all.append(out);
     let mut text = Vec::new(rt.alloc());
     write_replies(rt.alloc(), &mut text, &all)?;
