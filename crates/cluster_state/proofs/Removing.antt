@@ -55,7 +55,7 @@ below_without x key (s ∷ ss) h =
       | false ↦ below_without x key ss parts.1
     ]
 
-ascends_without : (key : List ℕ) (ss : List Setting) → ascends (keys ss) ≡ true → ascends (keys (without_key key ss)) ≡ true
+pub ascends_without : (key : List ℕ) (ss : List Setting) → ascends (keys ss) ≡ true → ascends (keys (without_key key ss)) ≡ true
 ascends_without key [] h = refl
 ascends_without key (s ∷ ss) h =
     let parts = and_parts (is_below s.0 (keys ss)) (ascends (keys ss)) h in

@@ -2,3 +2,4 @@ pub mod Kept
 pub mod Settling
 pub mod Stepping
 pub mod Making
+pub mod Limits

@@ -6,3 +6,4 @@ pub mod Deciding
 pub mod Members
 pub mod Processing
 pub mod NextState
+pub mod Fitting

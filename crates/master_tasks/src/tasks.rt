@@ -2,6 +2,8 @@ ghost use Rattle.std.specs.Prelude.{◌≡◌, ◌↔◌, ◌<◌, ◌≤◌, le
 ghost use Rattle.master_tasks.specs.declared.tasks.OfferError.TheVariants as offer_error;
 ghost use Rattle.master_tasks.specs.Answering.{answers_by, committed_in, exclusion_done, failed, timed_out, without_answered};
 ghost use Rattle.master_tasks.specs.Deciding.{decided};
+ghost use Rattle.cluster_state.specs.States.{IsFitValue};
+ghost use Rattle.master_tasks.specs.Fitting.{HaveGoodSettings, IsFitNext};
 ghost use Rattle.master_tasks.specs.Members.{members_after as members_after_of};
 ghost use Rattle.master_tasks.specs.NextState.{
   config_for as config_for_of,
@@ -265,7 +267,11 @@ impl MasterTasks {
         ensures tasks { OnOk result (self.new ≡ tasks_after (leader_of me term accepted.now committed.now votes.now shrink) self.old) }
         ensures next { IfOk result (λ n. n ≡ next_of (leader_of me term accepted.now committed.now votes.now shrink) self.old) }
         ensures err { OnErr result (self.new ≡ self.old) }
+        // What is published is within the limits, if the accepted value is and no request is to put a bad setting.
+        ensures fits { IsFitValue accepted.now.value → HaveGoodSettings self.old.waiting → IfOk result IsFitNext }
+        ensures good { HaveGoodSettings self.old.waiting → OnOk result (HaveGoodSettings self.new.waiting) }
     {
+        let _ = accepted.value.settings.texts();
         let value = self.value_before(me, &accepted.value)?;
         let Processed {
             value,

@@ -1,6 +1,12 @@
-use Rattle.std.proofs.Common.{◌≡◌, ◌∙◌, ap, sym, true, false}
+use Rattle.std.proofs.Common.{◌≡◌, ◌∙◌, ap, sym, subst, refl, true, false, []}
+use Rattle.cluster_state.specs.declared.state.ClusterValue.{ClusterValue}
+use Rattle.cluster_state.specs.States.{IsFitValue}
+use Rattle.cluster_state.proofs.JsonLaws.{ascending_keys}
+use Rattle.master_tasks.proofs.Limits.{fits_next, good_after}
 use Rattle.cluster_state.specs.declared.state.StateId.{StateId}
 use Rattle.master_tasks.specs.Replying.{with_sent}
+use Rattle.master_tasks.specs.Queue.{Tasks}
+use Rattle.master_tasks.specs.Fitting.{HaveGoodSettings}
 use Rattle.master_tasks.specs.Answering.{answers_by, left_by, nothing_new}
 use Rattle.master_tasks.specs.NextState.{Leader, leader_of, is_accepted}
 use Rattle.master_tasks.specs.declared.next.Next.TheVariants.{Same}
@@ -26,6 +32,17 @@ returns-clause-tasks c =
 
 pub returns-clause-next : goal.returns-clause-next
 returns-clause-next c = next_new (new_leader c) c.args.self.now _ _ _ _ (made_new c) (is_new c)
+
+pub returns-clause-fits : goal.returns-clause-fits
+returns-clause-fits c = λ fit good.
+    let P : ClusterValue → Type 0 = IsFitValue in
+    let up = ascending_keys [] c.args.accepted.now.value.settings refl c.texts.ensures.settings.ascending in
+    subst P (sym (made_new c).value_is) (fits_next (new_leader c) c.args.self.now fit up good)
+
+pub returns-clause-good : goal.returns-clause-good
+returns-clause-good c = λ good.
+    let P : Tasks → Type 0 = λ t. HaveGoodSettings t.waiting in
+    subst P (sym (returns-clause-tasks c)) (good_after (new_leader c) c.args.self.now good)
 
 -- what was made, where nothing is new
 abbrev same_leader : goal.After-drop-value → Leader
@@ -54,3 +71,8 @@ returns-then-is_accepted-clause-next c =
     let committed = c.args.committed.now in
     ap Same (c.answer_by.ensures.sent ∙ ap (λ (id : StateId). with_sent c.in_ok-value-2.field-0.replies (answers_by (nothing_new committed id) waiting)) c.id.ensures)
     ∙ next_same (same_leader c) c.args.self.now _ _ _ _ (made_same c) (is_same c)
+
+pub returns-then-is_accepted-clause-good : goal.returns-then-is_accepted-clause-good
+returns-then-is_accepted-clause-good c = λ good.
+    let P : Tasks → Type 0 = λ t. HaveGoodSettings t.waiting in
+    subst P (sym (returns-then-is_accepted-clause-tasks c)) (good_after (same_leader c) c.args.self.now good)
