@@ -1,5 +1,5 @@
 -- A value within the limits stays so, if no request is to put a bad setting.
-use Rattle.std.proofs.Common.{◌≡◌, ℕ, suc, ◌+◌, ◌<◌, ◌≤◌, ◌⊎◌, inl, inr, Bool, true, false, not, ◌&&◌, cond, Option, None, Some, Result, Ok, Err, List, [], ◌∷◌, ◌++◌, length, map, filter, fold, find, refl, sym, ap, subst, ◌∙◌, nat_le, nat_lt, arith}
+use Rattle.std.proofs.Common.{◌≡◌, ℕ, suc, ◌+◌, ◌<◌, ◌≤◌, ◌⊎◌, inl, inr, Bool, true, false, not, ◌&&◌, cond, Option, None, Some, Result, Ok, Err, List, [], ◌∷◌, ◌++◌, length, filter, fold, find, refl, subst, nat_le, nat_lt, arith}
 use Rattle.std.specs.Prelude.{if◌then◌else◌}
 use Rattle.std.specs.List.{AllByRecursion}
 use Rattle.std.proofs.lemmas.Bool.Decides.{nat_tests}
@@ -12,7 +12,7 @@ use Rattle.exclusions.specs.Exclusions.{most_exclusions, added_of, cleared_of, t
 use Rattle.exclusions.proofs.Unions.{length-union}
 use Rattle.cluster_state.specs.declared.state.ClusterState.{ClusterState}
 use Rattle.cluster_state.specs.declared.state.ClusterValue.{ClusterValue}
-use Rattle.cluster_state.specs.Fields.{most_settings, IsFitSetting, AreFitSettings}
+use Rattle.cluster_state.specs.Fields.{most_settings, IsFitSetting}
 use Rattle.cluster_state.specs.Settings.{Setting, put_setting, without_key}
 use Rattle.cluster_state.specs.States.{IsFitValue}
 use Rattle.cluster_state.proofs.JsonLaws.{keys}
@@ -25,7 +25,7 @@ use Rattle.client_lines.specs.Settings.{bad_setting_of}
 use Rattle.client_lines.proofs.Settings.{IsFitSetting-bad_length}
 use Rattle.master_tasks.specs.declared.waiting.Waiting.{Waiting}
 use Rattle.master_tasks.specs.Queue.{Tasks}
-use Rattle.master_tasks.specs.Processing.{Processing, AnsweredAtOnce, Makes, Processed, and_then, before_all, clearing, excluding, processed_all, processing, processing_once, putting, value_after, with_next}
+use Rattle.master_tasks.specs.Processing.{Processing, AnsweredAtOnce, Makes, Processed, and_then, before_all, clearing, excluding, processing, processing_once, putting, value_after, with_next}
 use Rattle.master_tasks.specs.NextState.{Leader, is_nothing_new, next_value, processed_by, tasks_after, unacked, value_before}
 use Rattle.master_tasks.specs.Fitting.{HaveGoodSettings}
 
@@ -48,15 +48,15 @@ fits_put v s f good =
     elim (not (has s.0 (keys v.settings)) && nat_le most_settings (length v.settings)) as (λ b. (not (has s.0 (keys v.settings)) && nat_le most_settings (length v.settings)) ≡ b → Fits (value_after v (if b then AnsweredAtOnce (answer.TooManySettings (most_settings + 1)) else Makes (record v { settings = put_setting s v.settings })))) [
       | true ↦ λ full. f
       | false ↦ λ fits. record {
-          fit = record {
-            exclusions = f.fit.exclusions;
-            settings = record {
-              few = few_put s v.settings f.ascending f.fit.settings.few (room_of (has s.0 (keys v.settings)) (length v.settings) fits);
-              each = each_put s v.settings good f.fit.settings.each;
-            };
+        fit = record {
+          exclusions = f.fit.exclusions;
+          settings = record {
+            few = few_put s v.settings f.ascending f.fit.settings.few (room_of (has s.0 (keys v.settings)) (length v.settings) fits);
+            each = each_put s v.settings good f.fit.settings.each;
           };
-          ascending = ascends_put s v.settings f.ascending;
-        }
+        };
+        ascending = ascends_put s v.settings f.ascending;
+      }
     ] refl
 
 -- a setting is removed
@@ -138,7 +138,7 @@ pub fits_next : (l : Leader) (t : Tasks) → IsFitValue l.accepted.value → asc
 unfolding processed_by next_value
 fits_next l t fit up good =
     (fits_all l.accepted (before_all (value_before l.me t l.accepted.value)) t.waiting
-      record { fit = record { exclusions = fit.exclusions; settings = fit.settings }; ascending = up } good).fit
+    record { fit = record { exclusions = fit.exclusions; settings = fit.settings }; ascending = up } good).fit
 
 -- those who wait afterwards have good settings too
 each_append : {A : Type 0} (P : A → Type 0) (xs ys : List A) → AllByRecursion P xs → AllByRecursion P ys → AllByRecursion P (xs ++ ys)

@@ -1,17 +1,15 @@
 -- The next state out of its parts.
-use Rattle.std.proofs.Common.{◌≡◌, ℕ, ◌+◌, ◌-◌, Bool, true, false, List, [], ◌++◌, length, refl, sym, ap, ◌∙◌, arith}
+use Rattle.std.proofs.Common.{◌≡◌, ℕ, ◌-◌, Bool, true, false, List, [], ◌++◌, length, sym, ap, ◌∙◌, arith}
 use Rattle.std.specs.Prelude.{if◌then◌else◌}
 use Rattle.std.proofs.lemmas.List.{append-nil, append_assoc, length-append}
 use Rattle.voting_config.specs.Ids.{Id}
 use Rattle.cluster_state.specs.declared.state.ClusterValue.{ClusterValue}
-use Rattle.cluster_state.specs.States.{id_of}
 use Rattle.master_tasks.specs.declared.waiting.Waiting.{Waiting}
 use Rattle.master_tasks.specs.declared.waiting.Outgoing.{Outgoing}
 use Rattle.master_tasks.specs.declared.next.Next.{Next}
 use Rattle.master_tasks.specs.declared.next.Next.TheVariants.{Same, New}
 use Rattle.master_tasks.specs.Replying.{Replies, room_for, with_sent}
 use Rattle.master_tasks.specs.Queue.{Tasks}
-use Rattle.master_tasks.specs.Answering.{answers_by, left_by, nothing_new}
 use Rattle.master_tasks.specs.Processing.{Processed, processed_all}
 use Rattle.master_tasks.specs.NextState.{Leader, value_before, processed_by, next_value, config_for, next_config, is_accepted, is_nothing_new, acks, unacked, next_answers, tasks_after, next_replies, next_of}
 
@@ -103,9 +101,9 @@ pub next_same : (l : Leader) (t : Tasks) (value : ClusterValue) (waiting : List 
     → Same (with_sent replies (acks l waiting)) ≡ next_of l t
 next_same l t value waiting replies config m is =
     ap Same
-      (ap (λ (r : Replies). with_sent r (acks l waiting)) m.replies_are
-      ∙ ap (λ (ws : List Waiting). with_sent (with_sent (room_for (length t.waiting)) (processed_by l t).answers) (acks l ws)) m.waiting_is
-      ∙ sent_twice (room_for (length t.waiting)) (processed_by l t).answers (acks l (processed_by l t).waiting))
+    (ap (λ (r : Replies). with_sent r (acks l waiting)) m.replies_are
+    ∙ ap (λ (ws : List Waiting). with_sent (with_sent (room_for (length t.waiting)) (processed_by l t).answers) (acks l ws)) m.waiting_is
+    ∙ sent_twice (room_for (length t.waiting)) (processed_by l t).answers (acks l (processed_by l t).waiting))
     ∙ sym (next_is l t true (nothing_new_is l t value waiting replies config true m is))
 
 -- nobody is to go or to come

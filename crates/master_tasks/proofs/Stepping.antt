@@ -1,12 +1,11 @@
 -- One turn of the loop that processes requests.
-use Rattle.std.proofs.Common.{◌≡◌, ℕ, ◌+◌, ◌-◌, ◌<◌, ◌≤◌, true, List, [], ◌∷◌, ◌++◌, length, take, get_or, Option, None, Some, refl, sym, ap, ◌∙◌, arith}
+use Rattle.std.proofs.Common.{◌≡◌, ℕ, ◌+◌, ◌-◌, ◌<◌, ◌≤◌, true, List, [], ◌∷◌, ◌++◌, length, take, get_or, None, Some, refl, sym, ap, ◌∙◌, arith}
 use Rattle.std.proofs.lemmas.List.{length-append, take_all}
 use Rattle.std.proofs.lemmas.List.Sums.{fold_more}
 use Rattle.cluster_state.specs.declared.state.ClusterState.{ClusterState}
 use Rattle.cluster_state.specs.declared.state.ClusterValue.{ClusterValue}
 use Rattle.client_lines.specs.declared.reply.Answer.{Answer}
 use Rattle.master_tasks.specs.declared.waiting.Waiting.{Waiting}
-use Rattle.master_tasks.specs.declared.waiting.Outgoing.{Outgoing}
 use Rattle.master_tasks.specs.Replying.{Replies, room_for, with_sent, answer_to}
 use Rattle.master_tasks.specs.Processing.{Processing, AnsweredAtOnce, Makes, Processed, and_then, answer_after, before_all, processed_all, processing_once, value_after, with_next}
 
@@ -76,7 +75,7 @@ pub processes-end : (accepted : ClusterState) (before : ClusterValue) (all : Lis
     → AllProcessed accepted before all value waiting out
 processes-end accepted before all place value waiting out p whole within =
     let done : processed_all accepted before all ≡ record { value = value; waiting = waiting; answers = out.sent } =
-        ap (processed_all accepted before) (sym (take_all place all whole)) ∙ p.so_far in
+    ap (processed_all accepted before) (sym (take_all place all whole)) ∙ p.so_far in
     let answers : out.sent ≡ (processed_all accepted before all).answers = sym (ap (λ (q : Processed). q.answers) done) in
     let room : out.room ≡ length all - length out.sent = omega (arith, p.room) in
     record {

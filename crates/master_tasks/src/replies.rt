@@ -75,7 +75,10 @@ impl Replies {
         requires { length more.sent ≤ self.old.room }
         ensures { self.new ≡ with_sent self.old more.sent }
     {
-        let Replies { mut replies, room: _ } = more;
+        let Replies {
+            mut replies,
+            room: _,
+        } = more;
         self.room -= replies.len();
         match self.replies.append(&mut replies) {
             Ok(()) => {}

@@ -228,7 +228,11 @@ impl MasterTasks {
     }
 
     // Processes the requests from the front, each on the value so far.
-    fn process(&self, accepted: &ClusterState, mut value: ClusterValue) -> Result<Processed, AllocError>
+    fn process(
+        &self,
+        accepted: &ClusterState,
+        mut value: ClusterValue,
+    ) -> Result<Processed, AllocError>
         ensures value { IfOk result (λ p. p.value ≡ (processed_all accepted.now value self.now.waiting).value) }
         ensures waiting { IfOk result (λ p. p.waiting.items ≡ (processed_all accepted.now value self.now.waiting).waiting) }
         ensures replies { IfOk result (λ p. p.replies ≡ with_sent (room_for (length self.now.waiting)) (processed_all accepted.now value self.now.waiting).answers) }
@@ -283,7 +287,10 @@ impl MasterTasks {
         self.removals = NodeSet::new();
         self.additions = NodeSet::new();
         if is_accepted(term, accepted, &config, &value) {
-            self.answer_by(&Decision::NothingNew(committed, accepted.id()), &mut replies);
+            self.answer_by(
+                &Decision::NothingNew(committed, accepted.id()),
+                &mut replies,
+            );
             return Ok(Next::Same(replies));
         }
         Ok(Next::New {

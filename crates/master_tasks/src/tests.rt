@@ -137,12 +137,7 @@ fn queue(rt: HostRuntime) -> Result<(), Fail> {
 }
 
 // What comes of requests, a line each.
-fn came(
-    alloc: Global,
-    voters: &str,
-    exclusions: &str,
-    lines: &str,
-) -> Result<Vec<u8>, Fail> {
+fn came(alloc: Global, voters: &str, exclusions: &str, lines: &str) -> Result<Vec<u8>, Fail> {
     let mut tasks = MasterTasks::new(alloc);
     for line in lines.lines() {
         take(alloc, &mut tasks, 0, line)?;
@@ -238,7 +233,8 @@ fn an_older_term(rt: HostRuntime) -> Result<(), Fail> {
     let mut tasks = MasterTasks::new(rt.alloc());
     let accepted = state(rt.alloc(), "abc", "abc", "")?;
     let text = next(rt.alloc(), &mut tasks, 2, &accepted)?;
-    let want = "abc {\"exclusions\":[],\"master\":\"a\",\"members\":[\"a\",\"b\",\"c\"],\"settings\":{\"v\":\"x\"}}";
+    let want =
+        "abc {\"exclusions\":[],\"master\":\"a\",\"members\":[\"a\",\"b\",\"c\"],\"settings\":{\"v\":\"x\"}}";
     assert_eq!(rt; text.as_slice(), want.as_bytes());
     Ok(())
 }
@@ -281,12 +277,7 @@ fn new_members(
 }
 
 // The members after some are to go and others to come.
-fn changed(
-    alloc: Global,
-    members: &str,
-    removals: &str,
-    additions: &str,
-) -> Result<NodeSet, Fail> {
+fn changed(alloc: Global, members: &str, removals: &str, additions: &str) -> Result<NodeSet, Fail> {
     let mut tasks = MasterTasks::new(alloc);
     for id in letters(removals).as_slice() {
         tasks.drop_member(*id);
@@ -313,7 +304,10 @@ fn members(rt: HostRuntime) -> Result<(), Fail> {
     ] {
         let members = changed(rt.alloc(), members, removals, additions)?;
         let want = letters(want);
-        assert!(rt; members.as_slice() == want.as_slice(), "{removals} {additions}");
+        assert!(rt;
+            members.as_slice() == want.as_slice(),
+            "{removals} {additions}"
+        );
     }
     Ok(())
 }
@@ -379,7 +373,8 @@ fn answers(rt: HostRuntime) -> Result<(), Fail> {
     all.append(out);
     let mut text = Vec::new(rt.alloc());
     write_replies(rt.alloc(), &mut text, &all)?;
-    let want = " {\"failed_to_commit\":4,\"id\":1} {\"failed_to_commit\":4,\"id\":2} {\"failed_to_commit\":4,\"id\":3} {\"acked\":{\"term\":1,\"version\":2},\"id\":1} {\"acked\":{\"term\":1,\"version\":2},\"id\":2} {\"exclusion_timeout\":[],\"id\":3} {\"exclusion_timeout\":[\"b\"],\"id\":2}";
+    let want =
+        " {\"failed_to_commit\":4,\"id\":1} {\"failed_to_commit\":4,\"id\":2} {\"failed_to_commit\":4,\"id\":3} {\"acked\":{\"term\":1,\"version\":2},\"id\":1} {\"acked\":{\"term\":1,\"version\":2},\"id\":2} {\"exclusion_timeout\":[],\"id\":3} {\"exclusion_timeout\":[\"b\"],\"id\":2}";
     assert_eq!(rt; text.as_slice(), want.as_bytes());
     Ok(())
 }

@@ -8,5 +8,5 @@ use Rattle.master_tasks.proofs.tasks.MasterTasks.members_after.Goals as goal
 pub returns : goal.returns
 returns c =
     let stayed : c.outside-members.result ≡ outside c.args.members.now (without_id c.args.me c.self.inside.removals) =
-        c.outside-members.ensures ∙ ap (outside c.args.members.now) (c.remove.ensures.gone ∙ ap (without_id c.args.me) c.copy-gone.ensures) in
+    c.outside-members.ensures ∙ ap (outside c.args.members.now) (c.remove.ensures.gone ∙ ap (without_id c.args.me) c.copy-gone.ensures) in
     c.join.ensures ∙ ap (joined c.args.me c.self.inside.additions) stayed ∙ ap (λ (t : Tasks). members_after c.args.me t c.args.members.now) c.self.view_is

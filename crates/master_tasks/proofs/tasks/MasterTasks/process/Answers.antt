@@ -24,17 +24,17 @@ loop-w-preserved c =
     let same_length = ap length all in
     let less : c.loop-w.w-index < length c.args.self.now.waiting = omega (arith, same_length, c.loop-w-test.true) in
     let at : c.w-item.result ≡ get_or c.args.self.now.waiting c.loop-w.w-index c.w-item.result =
-        c.w-item.is ∙ ap (λ (ws : List Waiting). get_or ws c.loop-w.w-index c.w-item.result) all in
+    c.w-item.is ∙ ap (λ (ws : List Waiting). get_or ws c.loop-w.w-index c.w-item.result) all in
     elim c.match-branch-3.branch [
       | in-Some w ↦
           rw (w.waiting-is, w.replies-is, w.push.ensures, w.answer.ensures)
           (processes-some c.args.accepted.now c.args.value c.args.self.now.waiting c.loop-w.w-index c.loop-w.value c.process_once.new.value c.loop-w.waiting.items c.loop-w.replies c.w-item.result w.in-Some.answer
-            c.loop-w.invariant less at c.in_ok-answer.ensures.value (sym w.in-Some.is ∙ c.in_ok-answer.ensures.answer))
+          c.loop-w.invariant less at c.in_ok-answer.ensures.value (sym w.in-Some.is ∙ c.in_ok-answer.ensures.answer))
       | in-None+in_ok-processed-in-None+in_ok-push-in-None w ↦
           rw (w.waiting-is, w.replies-is)
           (processes-none c.args.accepted.now c.args.value c.args.self.now.waiting c.loop-w.w-index c.loop-w.value c.process_once.new.value c.loop-w.waiting.items _ c.loop-w.replies c.w-item.result
-            c.loop-w.invariant less at c.in_ok-answer.ensures.value (sym w.in-None.is ∙ c.in_ok-answer.ensures.answer)
-            (w.in_ok-push-in-None.ensures.items ∙ ap (λ (x : Waiting). c.loop-w.waiting.items ++ x ∷ []) w.in_ok-processed-in-None.ensures))
+          c.loop-w.invariant less at c.in_ok-answer.ensures.value (sym w.in-None.is ∙ c.in_ok-answer.ensures.answer)
+          (w.in_ok-push-in-None.ensures.items ∙ ap (λ (x : Waiting). c.loop-w.waiting.items ++ x ∷ []) w.in_ok-processed-in-None.ensures))
     ]
 
 ended : (c : goal.After-loop-w) → AllProcessed c.args.accepted.now c.args.value c.args.self.now.waiting c.loop-w.value c.loop-w.waiting.items c.loop-w.replies
