@@ -4,6 +4,7 @@ pub mod JoinCheck
 pub mod Order
 pub mod Field
 pub mod Settings
+pub mod Same
 pub mod Fields
 pub mod States
 pub mod Json

@@ -44,6 +44,7 @@ pub struct Kept {
 
 impl ClusterValue {
     ghost use Rattle.cluster_state.specs.Initial.{empty_value};
+    ghost use Rattle.cluster_state.specs.Same.{same_value};
 
     /// The empty value: no master, no members, no exclusions, no settings.
     pub fn empty(alloc: Global) -> ClusterValue
@@ -55,6 +56,16 @@ impl ClusterValue {
             exclusions: NodeSet::new(),
             settings: Settings::new(alloc),
         }
+    }
+
+    /// Whether the two are the same value.
+    pub fn is_same(&self, other: &ClusterValue) -> bool
+        ensures { result ≡ same_value self.now other.now }
+    {
+        self.master == other.master
+            && self.members.as_slice() == other.members.as_slice()
+            && self.exclusions.as_slice() == other.exclusions.as_slice()
+            && self.settings.is_same(&other.settings)
     }
 
     /// The same value once more.

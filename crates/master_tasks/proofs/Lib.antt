@@ -1,0 +1,5 @@
+pub mod Kept
+pub mod Settling
+pub mod Stepping
+pub mod Making
+pub mod Limits

@@ -1,0 +1,41 @@
+-- What a leader has to do: the requests that are not answered yet, in order of arrival, and the members that are to go and to come.
+use Rattle.std.specs.Prelude.{ℕ, Bool, false, List, [], ◌∷◌, ◌++◌, length, remove, nat_le, nat_lt, if◌then◌else◌}
+use Rattle.voting_config.specs.Ids.{Id, most_ids, with_id}
+use Rattle.client_lines.specs.declared.request.Request.{Request}
+use Rattle.master_tasks.specs.declared.waiting.Waiting.{Waiting}
+
+pub record Tasks : Type 0 where
+  pub waiting : List Waiting
+  pub removals : List Id
+  pub additions : List Id
+
+abbrev pub no_tasks : Tasks
+no_tasks = record { waiting = []; removals = []; additions = [] }
+
+-- how many requests wait at most
+abbrev pub most_open : ℕ
+most_open = 64
+
+abbrev pub is_full_of : Tasks → Bool
+is_full_of t = nat_le most_open (length t.waiting)
+
+-- a request as it arrives
+abbrev pub arriving : ℕ → ℕ → Request → Waiting
+arriving conn now request = record { conn = conn; arrived = now; request = request; processed = false }
+
+-- the tasks with one more request, and without the request at a place
+abbrev pub offered : Tasks → Waiting → Tasks
+offered t w = record t { waiting = t.waiting ++ w ∷ [] }
+
+abbrev pub settled : Tasks → ℕ → Tasks
+settled t place = record t { waiting = remove t.waiting place }
+
+-- the ids with one more, where there is room
+abbrev pub with_room : List Id → Id → List Id
+with_room ids id = if nat_lt (length ids) most_ids then with_id id ids else ids
+
+abbrev pub to_be_added : Tasks → Id → Tasks
+to_be_added t id = record t { additions = with_room t.additions id }
+
+abbrev pub to_be_removed : Tasks → Id → Tasks
+to_be_removed t id = record t { removals = with_room t.removals id }

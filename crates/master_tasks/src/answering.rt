@@ -1,0 +1,108 @@
+ghost use Rattle.std.specs.Prelude.{◌≡◌, ◌+◌, is_some, nat_le};
+ghost use Rattle.master_tasks.specs.Answering.{
+  excluded_by,
+  exclusion_done as exclusion_done_of,
+  exclusion_span,
+  timed_out as timed_out_of,
+};
+ghost use Rattle.master_tasks.specs.Deciding.{decided};
+
+use crate::sets::{among, some_among};
+use crate::waiting::Waiting;
+use client_lines::{Answer, Ask};
+use cluster_state::StateId;
+use voting_config::VotingConfig;
+
+/// How long an exclusion waits, in ms: 30 s, the default of `timeout` of the voting configuration exclusions API
+/// (Elasticsearch reference 7.x).
+pub const EXCLUSION_SPAN: u64 = 30_000;
+
+/// Why requests that wait are answered.
+#[derive(Clone, Copy)]
+pub enum Decision<'a> {
+    /// The node is the leader of this term no more.
+    Failed(u64),
+    /// The state of this id is committed.
+    Committed(StateId),
+    /// This configuration is committed, by the state of this id.
+    Applied(&'a VotingConfig, StateId),
+    /// It is this late, in ms, and this configuration is the committed one.
+    Late(&'a VotingConfig, u64),
+    /// The accepted state, of this id, has what all ask for, and this configuration is the committed one.
+    NothingNew(&'a VotingConfig, StateId),
+}
+
+impl Decision<'_> {
+    /// The answer that a request gets, if it gets one.
+    pub fn answer(&self, w: &Waiting) -> Option<Answer>
+        ensures { result ≡ decided self.now w.now }
+    {
+        match self {
+            Decision::Failed(term) => Some(Answer::FailedToCommit(*term)),
+            Decision::Committed(id) => {
+                if w.processed && !is_exclusion(&w.request.ask) {
+                    Some(Answer::Acked(*id))
+                } else {
+                    None
+                }
+            }
+            Decision::Applied(committed, id) => exclusion_done(committed, *id, w),
+            Decision::Late(committed, now) => timed_out(committed, *now, w),
+            Decision::NothingNew(committed, id) => {
+                if is_exclusion(&w.request.ask) {
+                    exclusion_done(committed, *id, w)
+                } else {
+                    Some(Answer::Acked(*id))
+                }
+            }
+        }
+    }
+}
+
+fn is_exclusion(ask: &Ask) -> bool
+    ensures { result ≡ is_some (excluded_by ask.now) }
+{
+    match ask {
+        Ask::Exclude(_) => true,
+        Ask::Put { .. } | Ask::Remove { .. } | Ask::Clear { .. } | Ask::State => false,
+    }
+}
+
+// An exclusion is done once it was processed and none of its ids votes.
+fn exclusion_done(committed: &VotingConfig, id: StateId, w: &Waiting) -> Option<Answer>
+    ensures { result ≡ exclusion_done_of committed.now id w.now }
+{
+    match &w.request.ask {
+        Ask::Exclude(ids) => {
+            if w.processed && !some_among(ids, committed.members()) {
+                Some(Answer::Acked(id))
+            } else {
+                None
+            }
+        }
+        _ => None,
+    }
+}
+
+// An exclusion that came long ago is answered with those of its ids that still vote.
+fn timed_out(committed: &VotingConfig, now: u64, w: &Waiting) -> Option<Answer>
+    ensures { result ≡ timed_out_of committed.now now w.now }
+{
+    match &w.request.ask {
+        Ask::Exclude(ids) => {
+            if is_late(w.arrived, now) {
+                Some(Answer::ExclusionTimeout(among(ids, committed.members())))
+            } else {
+                None
+            }
+        }
+        _ => None,
+    }
+}
+
+// Whether a request that came at a moment has waited too long, both in ms.
+fn is_late(arrived: u64, now: u64) -> bool
+    ensures { result ≡ nat_le (arrived + exclusion_span) now }
+{
+    arrived <= now && EXCLUSION_SPAN <= now - arrived
+}

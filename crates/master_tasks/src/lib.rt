@@ -1,0 +1,20 @@
+//! What a leader has to do: the queue of clients' requests, the members that are to come and to go, and the next
+//! cluster state that it makes of them.
+#![tactic(auto)]
+
+pub mod answering;
+pub mod members;
+pub mod next;
+pub mod processing;
+pub mod replies;
+pub mod sets;
+pub mod tasks;
+pub mod waiting;
+
+pub use next::Next;
+pub use replies::Replies;
+pub use tasks::{MAX_OPEN, MasterTasks, OfferError};
+pub use waiting::{Outgoing, Waiting};
+
+#[cfg(test)]
+mod tests;

@@ -1,0 +1,97 @@
+ghost use Rattle.std.specs.Prelude.{◌≡◌, IfOk, OnOk};
+ghost use Rattle.master_tasks.specs.Processing.{answer_after, clearing, excluding, processing, processing_once, putting, refused as refused_of, value_after};
+ghost use Rattle.exclusions.specs.Exclusions.{added_of, cleared_of};
+
+use crate::waiting::Waiting;
+use client_lines::{Answer, Ask, Text};
+use cluster_state::{ClusterState, ClusterValue, MAX_SETTINGS};
+use exclusions::AddError;
+use std::alloc::AllocError;
+use voting_config::NodeSet;
+
+/// Processes a request on a value, beside the accepted state: the answer, if it gets one at once. Where there is no
+/// memory, the value may be anything.
+pub fn process(
+    accepted: &ClusterState,
+    value: &mut ClusterValue,
+    ask: &Ask,
+) -> Result<Option<Answer>, AllocError>
+    ensures value { OnOk result (value.new ≡ value_after value.old (processing accepted.now value.old ask.now)) }
+    ensures answer { IfOk result (λ a. a ≡ answer_after (processing accepted.now value.old ask.now)) }
+{
+    match ask {
+        Ask::Put { key, value: text } => put(value, key, text),
+        Ask::Remove { key } => {
+            value.settings.remove(key.as_str());
+            Ok(None)
+        }
+        Ask::Exclude(ids) => Ok(exclude(value, ids)),
+        Ask::Clear { wait_for_removal } => Ok(clear(value, *wait_for_removal)),
+        Ask::State => Ok(Some(Answer::State(accepted.copy()?))),
+    }
+}
+
+/// Processes a request, unless it was processed before.
+pub fn process_once(
+    accepted: &ClusterState,
+    value: &mut ClusterValue,
+    w: &Waiting,
+) -> Result<Option<Answer>, AllocError>
+    ensures value { OnOk result (value.new ≡ value_after value.old (processing_once accepted.now value.old w.now)) }
+    ensures answer { IfOk result (λ a. a ≡ answer_after (processing_once accepted.now value.old w.now)) }
+{
+    if w.processed {
+        return Ok(None);
+    }
+    let answer = process(accepted, value, &w.request.ask)?;
+    Ok(answer)
+}
+
+// A setting is put, unless its key is new and there are as many settings as there may be.
+fn put(value: &mut ClusterValue, key: &Text, text: &Text) -> Result<Option<Answer>, AllocError>
+    ensures value { OnOk result (value.new ≡ value_after value.old (putting value.old (key.now, text.now))) }
+    ensures answer { IfOk result (λ a. a ≡ answer_after (putting value.old (key.now, text.now))) }
+{
+    if !value.settings.contains_key(key.as_str()) && value.settings.len() >= MAX_SETTINGS as usize {
+        return Ok(Some(Answer::TooManySettings(MAX_SETTINGS as u64 + 1)));
+    }
+    value.settings.put(key.as_str(), text.as_str())?;
+    Ok(None)
+}
+
+// Members are excluded.
+fn exclude(value: &mut ClusterValue, ids: &NodeSet) -> Option<Answer>
+    ensures value { value.new ≡ value_after value.old (excluding value.old (added_of value.old.exclusions value.old.members ids.now)) }
+    ensures answer { result ≡ answer_after (excluding value.old (added_of value.old.exclusions value.old.members ids.now)) }
+{
+    match exclusions::add(&value.exclusions, &value.members, ids) {
+        Ok(together) => {
+            value.exclusions = together;
+            None
+        }
+        Err(error) => Some(refused(&error)),
+    }
+}
+
+fn refused(error: &AddError) -> Answer
+    ensures { result ≡ refused_of error.now }
+{
+    match error {
+        AddError::NotMember(id) => Answer::NotMember(*id),
+        AddError::TooMany(count) => Answer::TooManyExclusions(*count as u64),
+    }
+}
+
+// The exclusions are cleared.
+fn clear(value: &mut ClusterValue, wait_for_removal: bool) -> Option<Answer>
+    ensures value { value.new ≡ value_after value.old (clearing value.old (cleared_of value.old.exclusions value.old.members wait_for_removal)) }
+    ensures answer { result ≡ answer_after (clearing value.old (cleared_of value.old.exclusions value.old.members wait_for_removal)) }
+{
+    match exclusions::clear(&value.exclusions, &value.members, wait_for_removal) {
+        Ok(()) => {
+            value.exclusions = NodeSet::new();
+            None
+        }
+        Err(still) => Some(Answer::StillMember(still.0)),
+    }
+}

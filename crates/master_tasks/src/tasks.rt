@@ -1,0 +1,366 @@
+ghost use Rattle.std.specs.Prelude.{◌≡◌, ◌↔◌, ◌<◌, ◌≤◌, length, slice_get, Some, Err, IsTrue, IfOk, IfErr, OnOk, OnErr};
+ghost use Rattle.master_tasks.specs.declared.tasks.OfferError.TheVariants as offer_error;
+ghost use Rattle.master_tasks.specs.Answering.{answers_by, committed_in, exclusion_done, failed, timed_out, without_answered};
+ghost use Rattle.master_tasks.specs.Deciding.{decided};
+ghost use Rattle.cluster_state.specs.States.{IsFitValue};
+ghost use Rattle.master_tasks.specs.Fitting.{HaveGoodSettings, IsFitNext};
+ghost use Rattle.master_tasks.specs.Members.{members_after as members_after_of};
+ghost use Rattle.master_tasks.specs.NextState.{
+  config_for as config_for_of,
+  is_accepted as is_accepted_of,
+  leader_of,
+  next_of,
+  tasks_after,
+  value_before as value_before_of,
+};
+ghost use Rattle.master_tasks.specs.Processing.{processed_all};
+ghost use Rattle.master_tasks.specs.Replying.{room_for, with_sent};
+
+use crate::answering::Decision;
+use crate::members::{join, put};
+use crate::next::Next;
+use crate::processing::process_once;
+use crate::replies::Replies;
+use crate::sets::{among, outside};
+use crate::waiting::Waiting;
+use client_lines::Request;
+use cluster_state::{ClusterState, ClusterValue, StateId};
+use reconfigurator::target;
+use std::alloc::{AllocError, Global};
+use std::marker::Model;
+use voting_config::{NodeId, NodeSet, VotingConfig};
+
+/// How many requests wait at most.
+pub const MAX_OPEN: usize = 64;
+
+/// What a leader has to do. Seen as the requests that are not answered yet, in order of arrival, and the sets of the
+/// members that are to go and to come.
+#[derive(Drop)]
+pub struct MasterTasks {
+    alloc: Global,
+    waiting: Vec<Waiting>,
+    removals: NodeSet,
+    additions: NodeSet,
+}
+
+impl Model for MasterTasks {
+    ghost use Rattle.master_tasks.specs.Queue.{Tasks};
+
+    ghost Value = { Tasks };
+
+    ghost view = { λ t. record { waiting = t.waiting.items; removals = t.removals; additions = t.additions } };
+}
+
+/// Why a request was not taken. It is handed back.
+#[derive(Drop)]
+pub enum OfferError {
+    /// [`MAX_OPEN`] requests wait.
+    QueueFull(Request),
+    Memory(Request),
+}
+
+// Requests that were processed, and the value after them.
+#[derive(Drop)]
+struct Processed {
+    value: ClusterValue,
+    waiting: Vec<Waiting>,
+    replies: Replies,
+}
+
+impl MasterTasks {
+    ghost use Rattle.master_tasks.specs.Queue.{
+      arriving,
+      is_full_of,
+      no_tasks,
+      offered,
+      settled,
+      to_be_added,
+      to_be_removed,
+    };
+    ghost use Rattle.master_tasks.specs.Offers.{request_in};
+
+    /// Nothing to do.
+    pub fn new(alloc: Global) -> MasterTasks
+        ensures { result ≡ no_tasks }
+    {
+        MasterTasks {
+            alloc,
+            waiting: Vec::new(alloc),
+            removals: NodeSet::new(),
+            additions: NodeSet::new(),
+        }
+    }
+
+    /// How many requests are not answered yet.
+    pub fn open_count(&self) -> usize
+        ensures { result ≡ length self.now.waiting }
+    {
+        self.waiting.len()
+    }
+
+    /// Whether [`MAX_OPEN`] requests are not answered yet, so that no more are taken.
+    pub fn is_full(&self) -> bool
+        ensures { result ≡ is_full_of self.now }
+    {
+        self.waiting.len() >= MAX_OPEN
+    }
+
+    /// The request at a place in order of arrival, counted from 0.
+    pub fn waiting(&self, place: usize) -> &Waiting
+        requires { place < length self.now.waiting }
+        ensures { slice_get self.now.waiting place ≡ Some result.now }
+    {
+        &self.waiting[place]
+    }
+
+    /// Takes the request at a place out.
+    pub fn settle(&mut self, place: usize) -> Waiting
+        requires { place < length self.old.waiting }
+        ensures left { self.new ≡ settled self.old place }
+        ensures taken { slice_get self.old.waiting place ≡ Some result }
+    {
+        self.waiting.remove(place)
+    }
+
+    /// Takes a request that came by a connection at a moment, in ms. `QueueFull` exactly where [`MAX_OPEN`] are not
+    /// answered yet. At an error nothing changed.
+    pub fn offer(&mut self, conn: u64, now: u64, request: Request) -> Result<(), OfferError>
+        ensures ok { OnOk result (self.new ≡ offered self.old (arriving conn now request)) }
+        ensures err { OnErr result (self.new ≡ self.old) }
+        ensures full { (result ≡ Err (offer_error.QueueFull request)) ↔ IsTrue (is_full_of self.old) }
+        ensures back { IfErr result (λ e. request_in e ≡ request) }
+    {
+        if self.is_full() {
+            return Err(OfferError::QueueFull(request));
+        }
+        let arriving = Waiting {
+            conn,
+            arrived: now,
+            request,
+            processed: false,
+        };
+        match self.waiting.push(arriving) {
+            Ok(()) => Ok(()),
+            Err(failed) => Err(OfferError::Memory(failed.value.request)),
+        }
+    }
+
+    /// The id is to become a member, unless 32 others already are to.
+    pub fn add_member(&mut self, id: NodeId)
+        ensures { self.new ≡ to_be_added self.old id }
+    {
+        put(&mut self.additions, id);
+    }
+
+    /// The id is to be a member no more, unless 32 others already are to go.
+    pub fn drop_member(&mut self, id: NodeId)
+        ensures { self.new ≡ to_be_removed self.old id }
+    {
+        put(&mut self.removals, id);
+    }
+
+    /// The same tasks once more.
+    pub fn copy(&self) -> Result<MasterTasks, AllocError>
+        ensures { IfOk result (λ t. t ≡ self.now) }
+    {
+        Ok(MasterTasks {
+            alloc: self.alloc,
+            waiting: copied(self.alloc, &self.waiting)?,
+            removals: self.removals.copy(),
+            additions: self.additions.copy(),
+        })
+    }
+
+    /// The node is the leader of this term no more: all requests are answered with `FailedToCommit`.
+    pub fn fail_all(&mut self, term: u64, out: &mut Replies)
+        requires { length self.old.waiting ≤ out.old.room }
+        ensures left { self.new ≡ without_answered (failed term) self.old }
+        ensures sent { out.new ≡ with_sent out.old (answers_by (failed term) self.old.waiting) }
+    {
+        self.answer_by(&Decision::Failed(term), out);
+    }
+
+    /// The state of this id is committed: the requests that were processed are acknowledged, but for exclusions.
+    pub fn ack_committed(&mut self, id: StateId, out: &mut Replies)
+        requires { length self.old.waiting ≤ out.old.room }
+        ensures left { self.new ≡ without_answered (committed_in id) self.old }
+        ensures sent { out.new ≡ with_sent out.old (answers_by (committed_in id) self.old.waiting) }
+    {
+        self.answer_by(&Decision::Committed(id), out);
+    }
+
+    /// The node has applied the state of this id, which has committed this configuration: the exclusions that were
+    /// processed and none of whose ids is in it are acknowledged.
+    pub fn ack_exclusions(&mut self, committed: &VotingConfig, id: StateId, out: &mut Replies)
+        requires { length self.old.waiting ≤ out.old.room }
+        ensures left { self.new ≡ without_answered (exclusion_done committed.now id) self.old }
+        ensures sent { out.new ≡ with_sent out.old (answers_by (exclusion_done committed.now id) self.old.waiting) }
+    {
+        self.answer_by(&Decision::Applied(committed, id), out);
+    }
+
+    /// It is this late, in ms: the exclusions that have waited 30,000 ms or more are answered with those of their ids
+    /// that are still in the committed configuration.
+    pub fn time_out_exclusions(&mut self, committed: &VotingConfig, now: u64, out: &mut Replies)
+        requires { length self.old.waiting ≤ out.old.room }
+        ensures left { self.new ≡ without_answered (timed_out committed.now now) self.old }
+        ensures sent { out.new ≡ with_sent out.old (answers_by (timed_out committed.now now) self.old.waiting) }
+    {
+        self.answer_by(&Decision::Late(committed, now), out);
+    }
+
+    // Answers the requests that get an answer.
+    fn answer_by(&mut self, decision: &Decision, out: &mut Replies)
+        requires { length self.old.waiting ≤ out.old.room }
+        ensures left { self.new ≡ without_answered (decided decision.now) self.old }
+        ensures sent { out.new ≡ with_sent out.old (answers_by (decided decision.now) self.old.waiting) }
+    {
+        let mut place = 0;
+        while place < self.waiting.len() {
+            match decision.answer(&self.waiting[place]) {
+                Some(answer) => {
+                    let w = self.waiting.remove(place);
+                    out.push(w.answer(answer));
+                }
+                None => place += 1,
+            }
+        }
+    }
+
+    // Processes the requests from the front, each on the value so far.
+    fn process(
+        &self,
+        accepted: &ClusterState,
+        mut value: ClusterValue,
+    ) -> Result<Processed, AllocError>
+        ensures value { IfOk result (λ p. p.value ≡ (processed_all accepted.now value self.now.waiting).value) }
+        ensures waiting { IfOk result (λ p. p.waiting.items ≡ (processed_all accepted.now value self.now.waiting).waiting) }
+        ensures replies { IfOk result (λ p. p.replies ≡ with_sent (room_for (length self.now.waiting)) (processed_all accepted.now value self.now.waiting).answers) }
+        ensures fits { IfOk result (λ p. length p.waiting.items ≤ p.replies.room) }
+    {
+        let mut waiting = Vec::new(self.alloc);
+        let mut replies = Replies::with_room(self.alloc, self.waiting.len())?;
+        for w in &self.waiting {
+            match process_once(accepted, &mut value, w)? {
+                Some(answer) => replies.push(w.answer(answer)),
+                None => waiting.push(w.processed()?)?,
+            }
+        }
+        Ok(Processed {
+            value,
+            waiting,
+            replies,
+        })
+    }
+
+    /// What comes of the tasks, made by a leader in its `term` of its accepted state, the committed configuration and
+    /// those who voted for it. `New` is to be published: it begins with the accepted value and the node as master;
+    /// members that are to go leave it, but never the node itself; members that are to come join it as far as there
+    /// is room, the node itself first; and the requests that were not processed yet are processed from the front, each
+    /// on the value so far. Where that is the accepted value and configuration, in the current term, it is `Same`, and
+    /// what waits is acknowledged. At an error nothing changed.
+    pub fn next_state(
+        &mut self,
+        me: NodeId,
+        term: u64,
+        accepted: &ClusterState,
+        committed: &VotingConfig,
+        votes: &NodeSet,
+        shrink: bool,
+    ) -> Result<Next, AllocError>
+        ensures tasks { OnOk result (self.new ≡ tasks_after (leader_of me term accepted.now committed.now votes.now shrink) self.old) }
+        ensures next { IfOk result (λ n. n ≡ next_of (leader_of me term accepted.now committed.now votes.now shrink) self.old) }
+        ensures err { OnErr result (self.new ≡ self.old) }
+        // What is published is within the limits, if the accepted value is and no request is to put a bad setting.
+        ensures fits { IsFitValue accepted.now.value → HaveGoodSettings self.old.waiting → IfOk result IsFitNext }
+        ensures good { HaveGoodSettings self.old.waiting → OnOk result (HaveGoodSettings self.new.waiting) }
+    {
+        let _ = accepted.value.settings.texts();
+        let value = self.value_before(me, &accepted.value)?;
+        let Processed {
+            value,
+            waiting,
+            mut replies,
+        } = self.process(accepted, value)?;
+        let config = config_for(me, accepted, committed, votes, shrink, &value);
+        self.waiting = waiting;
+        self.removals = NodeSet::new();
+        self.additions = NodeSet::new();
+        if is_accepted(term, accepted, &config, &value) {
+            self.answer_by(
+                &Decision::NothingNew(committed, accepted.id()),
+                &mut replies,
+            );
+            return Ok(Next::Same(replies));
+        }
+        Ok(Next::New {
+            config,
+            value,
+            replies,
+        })
+    }
+
+    // The value with the node as master, with the members that are to come and without those that are to go.
+    fn value_before(&self, me: NodeId, value: &ClusterValue) -> Result<ClusterValue, AllocError>
+        ensures { IfOk result (λ v. v ≡ value_before_of me self.now value.now) }
+    {
+        let mut before = value.copy()?;
+        before.master = Some(me);
+        before.members = self.members_after(me, &value.members);
+        Ok(before)
+    }
+
+    // The members with those that are to come and without those that are to go.
+    fn members_after(&self, me: NodeId, members: &NodeSet) -> NodeSet
+        ensures { result ≡ members_after_of me self.now members.now }
+    {
+        let mut gone = self.removals.copy();
+        gone.remove(me);
+        let mut members = outside(members, &gone);
+        join(me, &self.additions, &mut members);
+        members
+    }
+}
+
+// The configuration that is wanted for the value.
+#[tactic(auto, unfolding(crate::specs::NextState::config_for))]
+fn config_for(
+    me: NodeId,
+    accepted: &ClusterState,
+    committed: &VotingConfig,
+    votes: &NodeSet,
+    shrink: bool,
+    value: &ClusterValue,
+) -> VotingConfig
+    ensures { result ≡ config_for_of me accepted.now committed.now votes.now shrink value.now }
+{
+    if !committed.is_same(&accepted.config) {
+        return VotingConfig::of(accepted.config.members());
+    }
+    let live = among(&value.members, votes);
+    target(&live, &value.exclusions, me, &accepted.config, shrink)
+}
+
+// Whether the configuration and the value are the accepted ones, in this term.
+#[tactic(auto, unfolding(crate::specs::NextState::is_accepted))]
+fn is_accepted(
+    term: u64,
+    accepted: &ClusterState,
+    config: &VotingConfig,
+    value: &ClusterValue,
+) -> bool
+    ensures { result ≡ is_accepted_of term accepted.now config.now value.now }
+{
+    accepted.term == term && value.is_same(&accepted.value) && config.is_same(&accepted.config)
+}
+
+// The same requests once more.
+fn copied(alloc: Global, waiting: &[Waiting]) -> Result<Vec<Waiting>, AllocError>
+    ensures { IfOk result (λ copies. copies.items ≡ waiting.now) }
+{
+    let mut copies = Vec::new(alloc);
+    for w in waiting {
+        copies.push(w.copy()?)?;
+    }
+    Ok(copies)
+}
