@@ -1,0 +1,6 @@
+pub mod FrameLaws
+pub mod Sizes
+pub mod Cutting
+pub mod Waiting
+pub mod Scanning
+pub mod Spelled

@@ -1,0 +1,86 @@
+-- A stream of bytes as frames.
+use Rattle.std.specs.Prelude.{◌≡◌, ℕ, zero, suc, ◌<◌, nat_lt, Bool, true, false, IsTrue, if◌then◌else◌, Option, Some, None, Result, Ok, Err, List, [], ◌∷◌, ◌++◌, length, take, drop}
+use Rattle.std.specs.Int.{w32, from_be_bytes}
+use Rattle.wire_frames.specs.declared.fault.FrameFault.{FrameFault}
+use Rattle.wire_frames.specs.declared.fault.FrameFault.TheVariants.{TooLong}
+use Rattle.wire_frames.specs.declared.frame.Frame.{Frame}
+use Rattle.wire_frames.specs.Frames.{most_body, frame_of}
+
+-- what stands at the front of bytes: less than a frame, a fault, or a frame with the bytes after it
+pub data Front : Type 0 where
+  Unfinished : Front
+  Faulty : FrameFault → Front
+  Whole : Frame → List ℕ → Front
+
+-- the length that the first four bytes say
+abbrev pub said_length : List ℕ → ℕ
+said_length bytes = from_be_bytes w32 (take 4 bytes)
+
+-- a body that is read, before the bytes after it
+abbrev pub front_with : Result Frame FrameFault → List ℕ → Front
+front_with (Ok frame) rest = Whole frame rest
+front_with (Err fault) rest = Faulty fault
+
+abbrev pub front_of : List ℕ → Front
+front_of bytes =
+    if nat_lt (length bytes) 4 then Unfinished
+    else (if nat_lt most_body (said_length bytes) then Faulty TooLong
+    else (if nat_lt (length (drop 4 bytes)) (said_length bytes) then Unfinished
+    else front_with (frame_of (take (said_length bytes) (drop 4 bytes))) (drop (said_length bytes) (drop 4 bytes))))
+
+abbrev pub is_unfinished : Front → Bool
+is_unfinished Unfinished = true
+is_unfinished (Faulty fault) = false
+is_unfinished (Whole frame rest) = false
+
+-- while fewer bytes than wanted are there, less than a frame stands at the front, whatever comes
+abbrev pub Awaits : List ℕ → (wanted : ℕ) → Type 0
+Awaits bytes wanted = (more : List ℕ) → length (bytes ++ more) < wanted → IsTrue (is_unfinished (front_of (bytes ++ more)))
+
+-- what stands behind the frames of a stream: less than a frame, or a fault
+pub data Ending : Type 0 where
+  Rest : List ℕ → Ending
+  Fault : FrameFault → Ending
+
+-- the frames at the front, and what stands behind them
+pub record Stream : Type 0 where
+  pub frames : List Frame
+  pub ending : Ending
+
+-- the stream with these frames before it
+abbrev pub behind : List Frame → Stream → Stream
+behind frames stream = record { frames = frames ++ stream.frames; ending = stream.ending }
+
+-- the stream that begins so, where the bytes after a frame are read as given
+abbrev pub begun : Front → List ℕ → (List ℕ → Stream) → Stream
+begun Unfinished bytes after = record { frames = []; ending = Rest bytes }
+begun (Faulty fault) bytes after = record { frames = []; ending = Fault fault }
+begun (Whole frame rest) bytes after = behind (frame ∷ []) (after rest)
+
+-- the stream, as far as so many frames
+abbrev pub stream_within : ℕ → List ℕ → Stream
+stream_within zero bytes = record { frames = []; ending = Rest bytes }
+stream_within (suc n) bytes = begun (front_of bytes) bytes (stream_within n)
+
+-- the stream that the bytes are
+unfoldable pub stream : List ℕ → Stream
+stream bytes = stream_within (length bytes) bytes
+
+-- the stream of what stands behind the frames so far and of further bytes; behind a fault there is nothing
+abbrev pub stream_after : Ending → List ℕ → Stream
+stream_after (Rest bytes) more = stream (bytes ++ more)
+stream_after (Fault fault) more = record { frames = []; ending = Fault fault }
+
+-- the bytes are these frames, and this stands behind them
+abbrev pub IsStream : List ℕ → List Frame → Ending → Type 0
+IsStream bytes frames ending = stream bytes ≡ record { frames = frames; ending = ending }
+
+-- the fault that stands behind the frames
+abbrev pub fault_in : Ending → Option FrameFault
+fault_in (Rest bytes) = None
+fault_in (Fault fault) = Some fault
+
+-- the fault, if there is one, else the bytes
+abbrev pub ending_of : Option FrameFault → List ℕ → Ending
+ending_of None bytes = Rest bytes
+ending_of (Some fault) bytes = Fault fault

@@ -1,0 +1,22 @@
+//! What the definitions of frames and of streams say.
+
+ghost use Rattle.std.specs.Prelude.{◌≡◌, ◌∷◌, ◌++◌, List, [], ℕ};
+ghost use Rattle.wire_frames.specs.declared.frame.Frame.{Frame};
+ghost use Rattle.wire_frames.specs.Frames.{SpellsFrame};
+ghost use Rattle.wire_frames.specs.Streams.{behind, stream, stream_after};
+
+/// Bytes spell one frame at most. (A frame has one spelling: `SpellsFrame` says which bytes it is.)
+pub fn law_one_frame()
+    ensures { (f g : Frame) (bytes : List ℕ) → SpellsFrame f bytes → SpellsFrame g bytes → f ≡ g }
+{}
+
+/// A frame that is spelled in front is the first of the stream, whatever follows it.
+pub fn law_first_frame()
+    ensures { (f : Frame) (bytes more : List ℕ) → SpellsFrame f bytes → stream (bytes ++ more) ≡ behind (f ∷ []) (stream more) }
+{}
+
+/// Cut in two, a stream is the frames of its first part, and then the stream of what stands behind them and its second
+/// part.
+pub fn law_cut()
+    ensures { (bytes more : List ℕ) → stream (bytes ++ more) ≡ behind (stream bytes).frames (stream_after (stream bytes).ending more) }
+{}

@@ -1,0 +1,100 @@
+ghost use Rattle.std.specs.Prelude.{◌≡◌, ◌++◌, ◌+◌, ◌≤◌, length, OnOk, IfOk};
+ghost use Rattle.cluster_state.specs.Fields.{id};
+ghost use Rattle.wire_frames.specs.Messages.{state_id, term_and_last, payload, FitsMessage, IsFitId, IsFitMessage};
+ghost use Rattle.wire_frames.specs.Frames.{SpellsBody, SpellsFrame, IsFitFrame, most_body};
+
+use crate::frame::{Frame, Message};
+use bytes::{BufMut, Bytes, BytesMut};
+use cluster_state::StateId;
+use cluster_state::encoding::write_state;
+use cluster_state::writing::{
+    write_flag, write_id, write_ids, write_optional_id, write_term, write_version,
+};
+use std::alloc::{AllocError, Global};
+
+fn write_state_id(out: &mut Vec<u8>, written: StateId) -> Result<(), AllocError>
+    requires { IsFitId written }
+    ensures written { OnOk result (out.new.items ≡ out.old.items ++ state_id.spelling written) }
+    ensures fits { state_id.Fits written }
+{
+    write_term(out, written.term)?;
+    write_version(out, written.version)
+}
+
+fn write_term_and_last(out: &mut Vec<u8>, term: u64, last: StateId) -> Result<(), AllocError>
+    requires { IsFitId last }
+    ensures { OnOk result (out.new.items ≡ out.old.items ++ term_and_last.spelling (term, last)) }
+{
+    write_term(out, term)?;
+    write_state_id(out, last)
+}
+
+fn write_message(out: &mut Vec<u8>, message: &Message) -> Result<(), AllocError>
+    requires { IsFitMessage message.now }
+    ensures written { OnOk result (out.new.items ≡ out.old.items ++ payload message.now) }
+    ensures fits { OnOk result (FitsMessage message.now) }
+{
+    match message {
+        Message::StartJoin { candidate, term } => {
+            write_id(out, *candidate)?;
+            write_term(out, *term)
+        }
+        Message::Join { term, last } => write_term_and_last(out, *term, *last),
+        Message::Publish(state) => write_state(out, state),
+        Message::Response(id) => write_state_id(out, *id),
+        Message::Commit(id) => write_state_id(out, *id),
+        Message::JoinAsk { term } => write_term(out, *term),
+        Message::PeersAsk { known } => write_ids(out, known),
+        Message::PeersAnswer {
+            master,
+            term,
+            known,
+        } => {
+            write_optional_id(out, *master)?;
+            write_term(out, *term)?;
+            write_ids(out, known)
+        }
+        Message::PreVoteAsk => Ok(()),
+        Message::PreVoteAnswer { term, last } => write_term_and_last(out, *term, *last),
+        Message::PreVoteRefuse { leader } => write_id(out, *leader),
+        Message::FollowerCheck { term } => write_term(out, *term),
+        Message::FollowerAnswer {
+            good,
+            term,
+            applied,
+        } => {
+            write_flag(out, *good)?;
+            write_term_and_last(out, *term, *applied)
+        }
+        Message::LeaderCheck { term } => write_term(out, *term),
+        Message::LeaderAnswer { good } => write_flag(out, *good),
+    }
+}
+
+// The body of a frame: a kind byte, the ids from and to, and the fields of the kind.
+fn write_body(alloc: Global, frame: &Frame) -> Result<Vec<u8>, AllocError>
+    requires { IsFitFrame frame.now }
+    ensures { IfOk result (λ body. SpellsBody frame.now body.items) }
+{
+    let mut body = Vec::new(alloc);
+    body.push(frame.message.kind().code())?;
+    write_id(&mut body, frame.from)?;
+    write_id(&mut body, frame.to)?;
+    write_message(&mut body, &frame.message)?;
+    Ok(body)
+}
+
+/// The one spelling of a frame, whose numbers and state are within the limits: four bytes of length, big-endian, and the
+/// body, which is never too long.
+#[tactic(auto, unfolding(crate::specs::Frames::four_bytes))]
+pub fn write_frame(alloc: Global, frame: &Frame) -> Result<Bytes, AllocError>
+    requires { IsFitFrame frame.now }
+    ensures spelled { IfOk result (λ bytes. SpellsFrame frame.now bytes) }
+    ensures short { IfOk result (λ bytes. length bytes ≤ 4 + most_body) }
+{
+    let body = write_body(alloc, frame)?;
+    let mut bytes = BytesMut::new(alloc);
+    bytes.put_u32(body.len() as u32)?;
+    bytes.put_slice(body.as_slice())?;
+    Ok(bytes.freeze()?)
+}
