@@ -1,1 +1,6 @@
 pub mod Settings
+pub mod Requests
+pub mod Reading
+pub mod Replies
+pub mod Lines
+pub mod Laws

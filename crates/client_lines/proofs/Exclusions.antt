@@ -1,0 +1,104 @@
+-- The ids of an exclude, one after another.
+use Rattle.std.proofs.Common.{◌≡◌, refl, sym, ◌∙◌, ap, ℕ, suc, ◌+◌, ◌<◌, ◌≤◌, Bool, true, false, cond, ◌||◌, ◌&&◌, List, [], ◌∷◌, ◌++◌, length, append_assoc, Option, Some, None, arith}
+use Rattle.std.specs.Prelude.{◌==◌, nat_le, option_map, option_and_then}
+use Rattle.std.proofs.Math.Bool.{or_comm, or-false}
+use Rattle.std.proofs.lemmas.Bool.Decides.{nat_tests}
+use Rattle.std.proofs.lemmas.List.{append-nil, length-append}
+use Rattle.std.proofs.lemmas.List.Sums.{fold-append}
+use Rattle.serde_json.specs.Data.{Data, Items, no_items, item}
+use Rattle.serde_json.specs.View.{view, items_view}
+use Rattle.serde_json.specs.declared.value.Value.{Value}
+use Rattle.serde_json.specs.Find.{as_array}
+use Rattle.serde_json.proofs.Views.{items_len-items_view}
+use Rattle.voting_config.specs.Ids.{Id, same, has, with_id}
+use Rattle.voting_config.proofs.Sorted.{has-with_id}
+use Rattle.client_lines.specs.declared.request.Ask.TheVariants.{Exclude}
+use Rattle.client_lines.specs.Requests.{node_id_of, node_ids_of, are_distinct, set_of, as_set, node_set_of, exclude_of}
+use Rattle.client_lines.proofs.Distinct.{has-append, are_distinct-again, are_distinct-push, length-with_id}
+
+-- one more id, that is not in yet, where 32 are not in yet
+abbrev pub with_new_id : Id → List Id → Option (List Id)
+with_new_id id found = cond (has id found) None (cond (length found == 32) None (Some (with_id id found)))
+
+-- the ids found so far, with those that follow
+abbrev pub ids_from : Items → List Id → Option (List Id)
+ids_from no_items found = Some found
+ids_from (item d ds) found = option_and_then (λ id. option_and_then (λ more. ids_from ds more) (with_new_id id found)) (node_id_of d)
+
+-- what was found is the set of the ids at the front
+record IsSetOf (found front : List Id) : Type 0 where
+  members : (q : Id) → has q found ≡ has q front
+  size : length found ≡ length front
+  set : found ≡ set_of front
+  distinct : are_distinct front ≡ true
+  few : length front ≤ 32
+
+as_set-some : (ids : List Id) → are_distinct ids ≡ true → length ids ≤ 32 → as_set ids ≡ Some (set_of ids)
+as_set-some ids d few = let e : nat_le (length ids) 32 ≡ true = grind (arith, nat_tests) in rw (d, e) refl
+
+as_set-again : (ids : List Id) → are_distinct ids ≡ false → as_set ids ≡ None
+as_set-again ids d = rw d refl
+
+as_set-many : (ids : List Id) → 32 < length ids → as_set ids ≡ None
+as_set-many ids many =
+    let e : nat_le (length ids) 32 ≡ false = grind (arith, nat_tests) in
+    rw e (elim (are_distinct ids) as (λ b. cond (b && false) (Some (set_of ids)) None ≡ None) [ true ↦ refl | false ↦ refl ])
+
+-- whatever ids follow, there is no set
+none_follows : (front : List Id) (x : Id) (o : Option (List Id)) → ((ids : List Id) → as_set (front ++ x ∷ ids) ≡ None)
+    → None ≡ option_and_then as_set (option_map (λ ids. front ++ ids) (option_map (λ ids. x ∷ ids) o))
+none_follows front x None h = refl
+none_follows front x (Some ids) h = sym (h ids)
+
+-- an id goes over to the front
+goes_over : (front : List Id) (x : Id) (o : Option (List Id))
+    → option_and_then as_set (option_map (λ ids. (front ++ x ∷ []) ++ ids) o) ≡ option_and_then as_set (option_map (λ ids. front ++ ids) (option_map (λ ids. x ∷ ids) o))
+goes_over front x None = refl
+goes_over front x (Some ids) = ap as_set (append_assoc front (x ∷ []) ids)
+
+IsSetOf-with_id : (x : Id) (found front : List Id) → IsSetOf found front → has x found ≡ false → length found < 32 → IsSetOf (with_id x found) (front ++ x ∷ [])
+IsSetOf-with_id x found front s new room = record {
+  members = λ q. has-with_id q x found ∙ or_comm (same x q) (has q found) ∙ ap (λ (b : Bool). b || same x q) (s.members q) ∙ sym (has-append q front (x ∷ []) ∙ ap (λ (b : Bool). has q front || b) (or-false (same x q)));
+  size = let longer = length-with_id x found new in rw (longer, length-append, s.size) (omega arith);
+  set = ap (with_id x) s.set ∙ sym (fold-append (λ ids id. with_id id ids) [] front (x ∷ []));
+  distinct = are_distinct-push x front s.distinct (sym (s.members x) ∙ new);
+  few = rw length-append (omega (arith, s.size));
+}
+
+ids_from-node_ids_of : (ds : Items) (found front : List Id) → IsSetOf found front → ids_from ds found ≡ option_and_then as_set (option_map (λ ids. front ++ ids) (node_ids_of ds))
+ids_from-node_ids_of no_items found front s = rw append-nil (ap Some s.set ∙ sym (as_set-some front s.distinct s.few))
+ids_from-node_ids_of (item d ds) found front s =
+    elim (node_id_of d) as (λ o. option_and_then (λ id. option_and_then (λ more. ids_from ds more) (with_new_id id found)) o ≡ option_and_then as_set (option_map (λ ids. front ++ ids) (option_and_then (λ id. option_map (λ ids. id ∷ ids) (node_ids_of ds)) o))) [
+      | None ↦ refl
+      | Some x ↦ one x (λ t. ids_from-node_ids_of ds (with_id x found) (front ++ x ∷ []) t)
+    ]
+  where
+    one : (x : Id) → (IsSetOf (with_id x found) (front ++ x ∷ []) → ids_from ds (with_id x found) ≡ option_and_then as_set (option_map (λ ids. (front ++ x ∷ []) ++ ids) (node_ids_of ds)))
+        → option_and_then (λ more. ids_from ds more) (with_new_id x found) ≡ option_and_then as_set (option_map (λ ids. front ++ ids) (option_map (λ ids. x ∷ ids) (node_ids_of ds)))
+    one x later =
+        elim (has x found) as (λ b. has x found ≡ b → option_and_then (λ more. ids_from ds more) (cond b None (cond (length found == 32) None (Some (with_id x found)))) ≡ option_and_then as_set (option_map (λ ids. front ++ ids) (option_map (λ ids. x ∷ ids) (node_ids_of ds)))) [
+          | true ↦ λ e. none_follows front x (node_ids_of ds) (λ ids. as_set-again (front ++ x ∷ ids) (are_distinct-again x front ids (sym (s.members x) ∙ e)))
+          | false ↦ λ e.
+              elim (length found == 32) as (λ b. (length found == 32) ≡ b → option_and_then (λ more. ids_from ds more) (cond b None (Some (with_id x found))) ≡ option_and_then as_set (option_map (λ ids. front ++ ids) (option_map (λ ids. x ∷ ids) (node_ids_of ds)))) [
+                | true ↦ λ f.
+                    let full : length found ≡ 32 = grind (arith, nat_tests) in
+                    let many : (ids : List Id) → 32 < length (front ++ x ∷ ids) = λ ids. rw length-append (omega (arith, full, s.size)) in
+                    none_follows front x (node_ids_of ds) (λ ids. as_set-many (front ++ x ∷ ids) (many ids))
+                | false ↦ λ f.
+                    let room : length found < 32 = grind (arith, nat_tests, s.size, s.few) in
+                    later (IsSetOf-with_id x found front s e room) ∙ goes_over front x (node_ids_of ds)
+              ] refl
+        ] refl
+
+option_map-id : (o : Option (List Id)) → option_map (λ ids. [] ++ ids) o ≡ o
+option_map-id None = refl
+option_map-id (Some ids) = refl
+
+pub ids_from-start : (ds : Items) → ids_from ds [] ≡ node_set_of ds
+ids_from-start ds =
+    ids_from-node_ids_of ds [] [] (record { members = λ q. refl; size = refl; set = refl; distinct = refl; few = omega arith })
+    ∙ ap (option_and_then as_set) (option_map-id (node_ids_of ds))
+
+-- what an exclude is, where its ids were found
+pub exclude_of-some : (d : Data) (vs : List Value) (ids : List Id) → as_array d ≡ Some (items_view vs) → (length vs == 0) ≡ false → node_set_of (items_view vs) ≡ Some ids → Some (Exclude ids) ≡ exclude_of d
+exclude_of-some d vs ids is some found = rw (is, items_len-items_view vs, some, found) refl

@@ -1,0 +1,36 @@
+-- Lines of bytes.
+use Rattle.std.specs.Prelude.{ℕ, ◌≤◌, ◌==◌, not, if◌then◌else◌, List, [], ◌∷◌, length, map, take, IsTrue}
+use Rattle.std.specs.List.{list_all}
+
+-- bytes cut at their line feeds: what stands before each of them, and what stands behind the last one
+pub record Cut : Type 0 where
+  pub ended : List (List ℕ)
+  pub rest : List ℕ
+
+-- a byte in front of the first line
+abbrev pub in_front : ℕ → List (List ℕ) → List ℕ → Cut
+in_front b [] rest = record { ended = []; rest = b ∷ rest }
+in_front b (line ∷ lines) rest = record { ended = (b ∷ line) ∷ lines; rest = rest }
+
+abbrev pub cut : List ℕ → Cut
+cut [] = record { ended = []; rest = [] }
+cut (b ∷ bytes) =
+    if b == 10 then record { ended = [] ∷ (cut bytes).ended; rest = (cut bytes).rest }
+    else in_front b (cut bytes).ended (cut bytes).rest
+
+-- a line keeps its first 8193 bytes, one more than a good one has
+abbrev pub kept : List ℕ → List ℕ
+kept line = take 8193 line
+
+-- the lines that end in the bytes
+abbrev pub lines_of : List ℕ → List (List ℕ)
+lines_of bytes = map kept (cut bytes).ended
+
+-- what has come of a line that has not ended
+abbrev pub rest_of : List ℕ → List ℕ
+rest_of bytes = kept (cut bytes).rest
+
+-- what a reader may hold: the first bytes of a line
+pub record IsHeld (held : List ℕ) : Type 0 where
+  pub no_line_feed : IsTrue (list_all (λ b. not (b == 10)) held)
+  pub short : length held ≤ 8193

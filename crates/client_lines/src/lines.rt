@@ -1,0 +1,122 @@
+ghost use Rattle.std.specs.Prelude.{◌≡◌, ℕ, List, [], ◌++◌, IfOk, OnErr};
+ghost use Rattle.client_lines.specs.Lines.{lines_of, rest_of};
+ghost use Rattle.client_lines.specs.Laws.{CutsAnywhere};
+
+use crate::reading::MAX_LINE;
+use std::alloc::{AllocError, Global};
+use std::marker::Model;
+
+// One byte more than a line may have, so that one that is too long still shows.
+const MAX_KEPT: usize = MAX_LINE + 1;
+
+/// A line without its line feed. Contracts see its bytes.
+#[derive(Drop)]
+pub struct Line {
+    bytes: Vec<u8>,
+}
+
+impl Model for Line {
+    ghost use Rattle.std.specs.Prelude.{ℕ, List};
+    ghost use Rattle.std.specs.Coded.{coded_list, coded_ℕ};
+
+    ghost Value = { List ℕ };
+
+    ghost coded = { coded_list coded_ℕ };
+
+    ghost view = { λ l. l.bytes.items };
+}
+
+impl Line {
+    /// The bytes.
+    pub fn as_bytes(&self) -> &[u8]
+        ensures { result.now ≡ self.now }
+    {
+        &self.bytes
+    }
+}
+
+/// Lines, in the order in which they came. Contracts see the list of them.
+#[derive(Drop)]
+pub struct Lines {
+    lines: Vec<Line>,
+}
+
+impl Model for Lines {
+    ghost use Rattle.std.specs.Prelude.{ℕ, List};
+    ghost use Rattle.std.specs.Coded.{coded_list, coded_ℕ};
+
+    ghost Value = { List (List ℕ) };
+
+    ghost coded = { coded_list (coded_list coded_ℕ) };
+
+    ghost view = { λ l. l.lines.items };
+}
+
+impl Lines {
+    /// The lines.
+    pub fn as_slice(&self) -> &[Line]
+        ensures { result.now ≡ self.now }
+    {
+        &self.lines
+    }
+}
+
+/// What makes lines of bytes. Contracts see what it holds of the line that has not ended: its first bytes, one more
+/// than a line may have at most.
+#[derive(Drop)]
+pub struct LineReader {
+    held: Vec<u8>,
+}
+
+impl Model for LineReader {
+    ghost use Rattle.std.specs.Prelude.{ℕ, List};
+    ghost use Rattle.std.specs.Coded.{coded_list, coded_ℕ};
+    ghost use Rattle.client_lines.specs.Lines.{IsHeld};
+
+    ghost Value = { List ℕ };
+
+    ghost coded = { coded_list coded_ℕ };
+
+    ghost view = { λ r. r.held.items };
+
+    ghost invariant = { λ r. IsHeld r.held.items };
+}
+
+impl LineReader {
+    /// A reader to which nothing has come.
+    pub fn new(alloc: Global) -> LineReader
+        ensures { result ≡ [] }
+    {
+        LineReader {
+            held: Vec::new(alloc),
+        }
+    }
+
+    /// The lines that these bytes end, the first of which begins with what is held. A line that is longer than a line
+    /// may be comes with its first bytes alone, one more than it may have. After an error the reader is as before.
+    pub fn feed(&mut self, bytes: &[u8]) -> Result<Lines, AllocError>
+        ensures ok { IfOk result (λ lines. lines ≡ lines_of (self.old ++ bytes.now)) }
+        ensures held { IfOk result (λ lines. self.new ≡ rest_of (self.old ++ bytes.now)) }
+        ensures err { OnErr result (self.new ≡ self.old) }
+    {
+        let alloc = *self.held.allocator();
+        let mut lines = Vec::new(alloc);
+        let mut held = self.held.clone()?;
+        for byte in bytes {
+            if *byte == b'\n' {
+                let line = std::mem::replace(&mut held, Vec::new(alloc));
+                lines.push(Line { bytes: line })?;
+            } else if held.len() < MAX_KEPT {
+                held.push(*byte)?;
+            }
+        }
+        self.held = held;
+        Ok(Lines { lines })
+    }
+}
+
+/// Bytes that come in two pieces give the lines that they give in one, and leave the same to be held.
+pub fn law_cuts()
+    ensures { (front back : List ℕ) → CutsAnywhere front back }
+{
+}
