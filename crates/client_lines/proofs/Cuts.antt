@@ -192,7 +192,7 @@ pub IsFed-feed : (lines : List (List ℕ)) (held left whole : List ℕ) (b : ℕ
 IsFed-feed lines held left whole b e f =
     let whole_line : kept (held ++ []) ≡ held = take-short 8193 held f.held.short in
     let more : lines_of (held ++ b ∷ left) ≡ held ∷ lines_of left =
-            ap (λ (c : Cut). map kept c.ended) (cut-held-feed held left b f.held.no_line_feed e) ∙ ap (λ l. l ∷ lines_of left) whole_line in
+    ap (λ (c : Cut). map kept c.ended) (cut-held-feed held left b f.held.no_line_feed e) ∙ ap (λ l. l ∷ lines_of left) whole_line in
     let rest : rest_of (held ++ b ∷ left) ≡ rest_of left = ap (λ (c : Cut). kept c.rest) (cut-held-feed held left b f.held.no_line_feed e) in
     record {
       lines = append_assoc lines (held ∷ []) (lines_of left) ∙ ap (λ l. lines ++ l) (sym more) ∙ f.lines;
@@ -212,13 +212,13 @@ IsFed-byte lines held left whole b e room f = record {
 pub IsFed-full : (lines : List (List ℕ)) (held left whole : List ℕ) (b : ℕ) → (b == 10) ≡ false → 8193 ≤ length held → IsFed lines held (b ∷ left) whole → IsFed lines held left whole
 IsFed-full lines held left whole b e full f =
     let more : lines_of (held ++ b ∷ left) ≡ lines_of (held ++ left) =
-            ap (λ (c : Cut). map kept c.ended) (cut-held-other held left b f.held.no_line_feed e)
-            ∙ full_lines 8193 held b (cut left).ended (cut left).rest full
-            ∙ sym (ap (λ (c : Cut). map kept c.ended) (cut-held held left f.held.no_line_feed)) in
+    ap (λ (c : Cut). map kept c.ended) (cut-held-other held left b f.held.no_line_feed e)
+    ∙ full_lines 8193 held b (cut left).ended (cut left).rest full
+    ∙ sym (ap (λ (c : Cut). map kept c.ended) (cut-held held left f.held.no_line_feed)) in
     let rest : rest_of (held ++ b ∷ left) ≡ rest_of (held ++ left) =
-            ap (λ (c : Cut). kept c.rest) (cut-held-other held left b f.held.no_line_feed e)
-            ∙ full_rest 8193 held b (cut left).ended (cut left).rest full
-            ∙ sym (ap (λ (c : Cut). kept c.rest) (cut-held held left f.held.no_line_feed)) in
+    ap (λ (c : Cut). kept c.rest) (cut-held-other held left b f.held.no_line_feed e)
+    ∙ full_rest 8193 held b (cut left).ended (cut left).rest full
+    ∙ sym (ap (λ (c : Cut). kept c.rest) (cut-held held left f.held.no_line_feed)) in
     record {
       lines = ap (λ l. lines ++ l) (sym more) ∙ f.lines;
       rest = sym rest ∙ f.rest;

@@ -1,8 +1,13 @@
--- How bytes are cut into pieces makes no difference to their lines.
+-- Neither how bytes are cut into pieces nor what a line loses makes a difference.
 use Rattle.std.specs.Prelude.{◌≡◌, ℕ, List, ◌++◌}
-use Rattle.client_lines.specs.Lines.{lines_of, rest_of}
+use Rattle.client_lines.specs.Lines.{kept, lines_of, rest_of}
+use Rattle.client_lines.specs.Reading.{line_request}
 
 -- bytes in two pieces, the second behind what is held of the first, give the lines and the rest that they give in one
 pub record CutsAnywhere (front back : List ℕ) : Type 0 where
   pub lines : lines_of (front ++ back) ≡ lines_of front ++ lines_of (rest_of front ++ back)
   pub rest : rest_of (front ++ back) ≡ rest_of (rest_of front ++ back)
+
+-- what is kept of a line is read as the whole line is
+abbrev pub KeepsEnough : List ℕ → Type 0
+KeepsEnough line = line_request (kept line) ≡ line_request line

@@ -24,7 +24,7 @@ value_request None = Err NotJson
 value_request (Some d) = shaped (request_of d)
 
 -- the request that the line is, or the first fault
-abbrev pub line_request : List ℕ → Result Request LineFault
+unfoldable pub line_request : List ℕ → Result Request LineFault
 line_request line = if nat_lt 8192 (length line) then Err TooLong else value_request (json_of line)
 
 -- What was read is what there is to read, unless memory ran out.

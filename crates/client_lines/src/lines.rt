@@ -1,6 +1,6 @@
 ghost use Rattle.std.specs.Prelude.{◌≡◌, ℕ, List, [], ◌++◌, IfOk, OnErr};
 ghost use Rattle.client_lines.specs.Lines.{lines_of, rest_of};
-ghost use Rattle.client_lines.specs.Laws.{CutsAnywhere};
+ghost use Rattle.client_lines.specs.Laws.{CutsAnywhere, KeepsEnough};
 
 use crate::reading::MAX_LINE;
 use std::alloc::{AllocError, Global};
@@ -118,5 +118,9 @@ impl LineReader {
 /// Bytes that come in two pieces give the lines that they give in one, and leave the same to be held.
 pub fn law_cuts()
     ensures { (front back : List ℕ) → CutsAnywhere front back }
-{
-}
+{}
+
+/// What is kept of a line is the request that the whole line is, or has its fault.
+pub fn law_kept()
+    ensures { (line : List ℕ) → KeepsEnough line }
+{}

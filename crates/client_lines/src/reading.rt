@@ -19,6 +19,7 @@ pub const MAX_REQUEST_ID: u64 = 1 << 62;
 /// The request that a line is: an object of an `id` and one thing that is asked. `TooLong` exactly where the line has
 /// over [`MAX_LINE`] bytes, else `NotJson` exactly where it is no JSON value, else `BadShape` exactly where it is no
 /// request.
+#[tactic(auto, unfolding(crate::specs::Reading::line_request))]
 pub fn read_line(alloc: Global, line: &[u8]) -> Result<Request, LineError>
     ensures { Reads result (line_request line.now) }
 {

@@ -54,12 +54,7 @@ fn write_number(alloc: Global, id: u64, name: &str, number: u64) -> Result<Vec<u
     write_beside(alloc, id, name, Value::from(number))
 }
 
-fn write_nodes(
-    alloc: Global,
-    id: u64,
-    name: &str,
-    nodes: &NodeSet,
-) -> Result<Vec<u8>, AllocError>
+fn write_nodes(alloc: Global, id: u64, name: &str, nodes: &NodeSet) -> Result<Vec<u8>, AllocError>
     ensures { IfOk result (λ text. text.items ≡ text_of (beside_id id name.now (ids_json nodes.now))) }
 {
     write_beside(alloc, id, name, nodes_value(alloc, nodes)?)
