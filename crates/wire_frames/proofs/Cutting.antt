@@ -1,12 +1,12 @@
 -- A stream is the same frames, however it is cut.
-use Rattle.std.proofs.Common.{◌≡◌, ℕ, zero, suc, ◌+◌, ◌-◌, ◌<◌, ◌≤◌, Bool, true, false, cond, nat_lt, ◌⊎◌, inl, inr, Result, Ok, Err, List, [], ◌∷◌, ◌++◌, length, take, drop, refl, sym, ap, ◌∙◌, arith, append_assoc, length-append, length-drop}
+use Rattle.std.proofs.Common.{◌≡◌, ℕ, zero, suc, ◌-◌, ◌<◌, ◌≤◌, Bool, true, false, cond, nat_lt, ◌⊎◌, inl, inr, Result, Ok, Err, List, [], ◌∷◌, ◌++◌, length, take, drop, refl, sym, ap, ◌∙◌, arith, append_assoc, length-append, length-drop}
 use Rattle.std.proofs.lemmas.List.{take-append-le, drop-append-le}
 use Rattle.std.specs.Int.{w32, from_be_bytes}
 use Rattle.wire_frames.specs.declared.fault.FrameFault.{FrameFault}
 use Rattle.wire_frames.specs.declared.fault.FrameFault.TheVariants.{TooLong}
 use Rattle.wire_frames.specs.declared.frame.Frame.{Frame}
-use Rattle.wire_frames.specs.Frames.{most_body, frame_of}
-use Rattle.wire_frames.specs.Streams.{Front, Unfinished, Faulty, Whole, said_length, front_with, front_of, Ending, Rest, Fault, Stream, behind, begun, stream_within, stream, stream_after, IsStream}
+use Rattle.wire_frames.specs.Frames.{frame_of}
+use Rattle.wire_frames.specs.Streams.{Front, Unfinished, Faulty, Whole, said_length, front_with, front_of, Ending, Rest, Stream, prepend, stream_with_front, stream_within, stream, stream_after, IsStream}
 
 -- what stands at the front, by its three tests
 abbrev pub front_by : (short too_long unfinished : Bool) → Front → Front
@@ -20,27 +20,27 @@ pub record IsWholeBy (a b c : Bool) (read : Result Frame FrameFault) (rest : Lis
   pub body : read ≡ Ok frame
   pub next : rest ≡ after
 
-whole_by : (a b c : Bool) (r : Result Frame FrameFault) (rest : List ℕ) (frame : Frame) (after : List ℕ) → front_by a b c (front_with r rest) ≡ Whole frame after → IsWholeBy a b c r rest frame after
+pub whole_by : (a b c : Bool) (r : Result Frame FrameFault) (rest : List ℕ) (frame : Frame) (after : List ℕ) → front_by a b c (front_with r rest) ≡ Whole frame after → IsWholeBy a b c r rest frame after
 whole_by true b c r rest frame after e = absurd cc
 whole_by false true c r rest frame after e = absurd cc
 whole_by false false true r rest frame after e = absurd cc
 whole_by false false false (Err x) rest frame after e = absurd cc
 whole_by false false false (Ok f) rest frame after e = record { four = refl; fits = refl; there = refl; body = cc; next = cc }
 
-pub by_whole : (a b c : Bool) (r : Result Frame FrameFault) (rest : List ℕ) (frame : Frame) (after : List ℕ) → IsWholeBy a b c r rest frame after → front_by a b c (front_with r rest) ≡ Whole frame after
+by_whole : (a b c : Bool) (r : Result Frame FrameFault) (rest : List ℕ) (frame : Frame) (after : List ℕ) → IsWholeBy a b c r rest frame after → front_by a b c (front_with r rest) ≡ Whole frame after
 by_whole a b c r rest frame after h = rw (h.four, h.fits, h.there, h.body, h.next) refl
 
 -- what a fault at the front says of the tests
-record IsBadBody (b c : Bool) (read : Result Frame FrameFault) (fault : FrameFault) : Type 0 where
-  fits : b ≡ false
-  there : c ≡ false
-  body : read ≡ Err fault
+pub record IsBadBody (b c : Bool) (read : Result Frame FrameFault) (fault : FrameFault) : Type 0 where
+  pub fits : b ≡ false
+  pub there : c ≡ false
+  pub body : read ≡ Err fault
 
-record IsFaultyBy (a b c : Bool) (read : Result Frame FrameFault) (fault : FrameFault) : Type 0 where
-  four : a ≡ false
-  cause : ((b ≡ true) × (TooLong ≡ fault)) ⊎ (IsBadBody b c read fault)
+pub record IsFaultyBy (a b c : Bool) (read : Result Frame FrameFault) (fault : FrameFault) : Type 0 where
+  pub four : a ≡ false
+  pub cause : ((b ≡ true) × (TooLong ≡ fault)) ⊎ (IsBadBody b c read fault)
 
-faulty_by : (a b c : Bool) (r : Result Frame FrameFault) (rest : List ℕ) (fault : FrameFault) → front_by a b c (front_with r rest) ≡ Faulty fault → IsFaultyBy a b c r fault
+pub faulty_by : (a b c : Bool) (r : Result Frame FrameFault) (rest : List ℕ) (fault : FrameFault) → front_by a b c (front_with r rest) ≡ Faulty fault → IsFaultyBy a b c r fault
 faulty_by true b c r rest fault e = absurd cc
 faulty_by false true c r rest fault e = record { four = refl; cause = inl (refl, cc) }
 faulty_by false false true r rest fault e = absurd cc
@@ -73,8 +73,8 @@ module _ (bytes more : List ℕ) (four : nat_lt (length bytes) 4 ≡ false) wher
   body-append : nat_lt (length (drop 4 bytes)) (said_length bytes) ≡ false → take (said_length (bytes ++ more)) (drop 4 (bytes ++ more)) ≡ take (said_length bytes) (drop 4 bytes)
   body-append there = rw (said-append, rest-append) (take-append-le (said_length bytes) (drop 4 bytes) more (at_least (length (drop 4 bytes)) (said_length bytes) there))
 
-  behind-append : nat_lt (length (drop 4 bytes)) (said_length bytes) ≡ false → drop (said_length (bytes ++ more)) (drop 4 (bytes ++ more)) ≡ drop (said_length bytes) (drop 4 bytes) ++ more
-  behind-append there = rw (said-append, rest-append) (drop-append-le (said_length bytes) (drop 4 bytes) more (at_least (length (drop 4 bytes)) (said_length bytes) there))
+  after-append : nat_lt (length (drop 4 bytes)) (said_length bytes) ≡ false → drop (said_length (bytes ++ more)) (drop 4 (bytes ++ more)) ≡ drop (said_length bytes) (drop 4 bytes) ++ more
+  after-append there = rw (said-append, rest-append) (drop-append-le (said_length bytes) (drop 4 bytes) more (at_least (length (drop 4 bytes)) (said_length bytes) there))
 
 -- a frame at the front stays there, whatever follows
 pub whole-append : (bytes more : List ℕ) (frame : Frame) (after : List ℕ) → front_of bytes ≡ Whole frame after → front_of (bytes ++ more) ≡ Whole frame (after ++ more)
@@ -85,7 +85,7 @@ whole-append bytes more frame after e =
       fits = rw (said-append bytes more h.four) h.fits;
       there = there-append bytes more h.four h.there;
       body = rw (body-append bytes more h.four h.there) h.body;
-      next = rw (behind-append bytes more h.four h.there) (ap (λ l. l ++ more) h.next);
+      next = rw (after-append bytes more h.four h.there) (ap (λ l. l ++ more) h.next);
     })
 
 -- so does a fault
@@ -105,10 +105,10 @@ whole-shorter bytes frame after e =
     let size : length after ≡ length bytes - 4 - said_length bytes = rw (sym h.next, length-drop, length-drop) refl in
     omega arith
 
-begun-same : (front : Front) (bytes : List ℕ) (f g : List ℕ → Stream) → ((frame : Frame) (after : List ℕ) → front ≡ Whole frame after → f after ≡ g after) → begun front bytes f ≡ begun front bytes g
-begun-same Unfinished bytes f g h = refl
-begun-same (Faulty e) bytes f g h = refl
-begun-same (Whole frame rest) bytes f g h = ap (behind (frame ∷ [])) (h frame rest refl)
+with_front-same : (front : Front) (bytes : List ℕ) (f g : List ℕ → Stream) → ((frame : Frame) (after : List ℕ) → front ≡ Whole frame after → f after ≡ g after) → stream_with_front front bytes f ≡ stream_with_front front bytes g
+with_front-same Unfinished bytes f g h = refl
+with_front-same (Faulty e) bytes f g h = refl
+with_front-same (Whole frame rest) bytes f g h = ap (prepend (frame ∷ [])) (h frame rest refl)
 
 -- more steps than bytes change nothing
 pub within-enough : (n m : ℕ) (bytes : List ℕ) → length bytes ≤ n → length bytes ≤ m → stream_within n bytes ≡ stream_within m bytes
@@ -118,31 +118,31 @@ within-enough zero (suc m) (b ∷ bytes) p q = absurd (omega arith)
 within-enough (suc n) zero [] p q = refl
 within-enough (suc n) zero (b ∷ bytes) p q = absurd (omega arith)
 within-enough (suc n) (suc m) bytes p q =
-    begun-same (front_of bytes) bytes (stream_within n) (stream_within m) (λ frame after e.
+    with_front-same (front_of bytes) bytes (stream_within n) (stream_within m) (λ frame after e.
     let shorter = whole-shorter bytes frame after e in
     within-enough n m after (omega arith) (omega arith))
 
 -- the stream is what its front says
-pub stream-begun : (bytes : List ℕ) → stream bytes ≡ begun (front_of bytes) bytes stream
+pub stream-with_front : (bytes : List ℕ) → stream bytes ≡ stream_with_front (front_of bytes) bytes stream
 unfolding stream
-stream-begun bytes =
+stream-with_front bytes =
     within-enough (length bytes) (suc (length bytes)) bytes (omega arith) (omega arith)
-    ∙ begun-same (front_of bytes) bytes (stream_within (length bytes)) (λ after. stream_within (length after) after) (λ frame after e.
+    ∙ with_front-same (front_of bytes) bytes (stream_within (length bytes)) (λ after. stream_within (length after) after) (λ frame after e.
     let shorter = whole-shorter bytes frame after e in
     within-enough (length bytes) (length after) after (omega arith) (omega arith))
 
-pub stream-front : (bytes : List ℕ) (front : Front) → front_of bytes ≡ front → stream bytes ≡ begun front bytes stream
-stream-front bytes front e = stream-begun bytes ∙ ap (λ f. begun f bytes stream) e
+pub stream-front : (bytes : List ℕ) (front : Front) → front_of bytes ≡ front → stream bytes ≡ stream_with_front front bytes stream
+stream-front bytes front e = stream-with_front bytes ∙ ap (λ f. stream_with_front f bytes stream) e
 
 pub stream-empty : IsStream [] [] (Rest [])
 unfolding stream
 stream-empty = refl
 
-pub behind-behind : (a b : List Frame) (s : Stream) → behind a (behind b s) ≡ behind (a ++ b) s
-behind-behind a b s = ap (λ xs. let r : Stream = record { frames = xs; ending = s.ending } in r) (sym (append_assoc a b s.frames))
+pub prepend-prepend : (a b : List Frame) (s : Stream) → prepend a (prepend b s) ≡ prepend (a ++ b) s
+prepend-prepend a b s = ap (λ xs. let r : Stream = record { frames = xs; ending = s.ending } in r) (sym (append_assoc a b s.frames))
 
 append_within : (n : ℕ) (bytes more : List ℕ) (front : Front) → length bytes ≤ n → front_of bytes ≡ front
-    → stream (bytes ++ more) ≡ behind (begun front bytes stream).frames (stream_after (begun front bytes stream).ending more)
+    → stream (bytes ++ more) ≡ prepend (stream_with_front front bytes stream).frames (stream_after (stream_with_front front bytes stream).ending more)
 append_within n bytes more Unfinished p e = refl
 append_within n bytes more (Faulty x) p e = stream-front (bytes ++ more) (Faulty x) (faulty-append bytes more x e)
 append_within zero bytes more (Whole frame after) p e = let shorter = whole-shorter bytes frame after e in absurd (omega arith)
@@ -150,19 +150,19 @@ append_within (suc n) bytes more (Whole frame after) p e =
     let shorter = whole-shorter bytes frame after e in
     let later = append_within n after more (front_of after) (omega arith) refl in
     stream-front (bytes ++ more) (Whole frame (after ++ more)) (whole-append bytes more frame after e)
-    ∙ ap (behind (frame ∷ [])) (later ∙ ap (λ s. behind s.frames (stream_after s.ending more)) (sym (stream-begun after)))
-    ∙ behind-behind (frame ∷ []) (stream after).frames _
+    ∙ ap (prepend (frame ∷ [])) (later ∙ ap (λ s. prepend s.frames (stream_after s.ending more)) (sym (stream-with_front after)))
+    ∙ prepend-prepend (frame ∷ []) (stream after).frames _
 
 -- what follows goes on from what stands behind the frames
-pub stream-append : (bytes more : List ℕ) → stream (bytes ++ more) ≡ behind (stream bytes).frames (stream_after (stream bytes).ending more)
+pub stream-append : (bytes more : List ℕ) → stream (bytes ++ more) ≡ prepend (stream bytes).frames (stream_after (stream bytes).ending more)
 stream-append bytes more =
     append_within (length bytes) bytes more (front_of bytes) (omega arith) refl
-    ∙ ap (λ s. behind s.frames (stream_after s.ending more)) (sym (stream-begun bytes))
+    ∙ ap (λ s. prepend s.frames (stream_after s.ending more)) (sym (stream-with_front bytes))
 
 -- further bytes add their frames to those so far
 pub stream-more : (before more : List ℕ) (frames added : List Frame) (old new : Ending) → IsStream before frames old → stream_after old more ≡ record { frames = added; ending = new }
     → IsStream (before ++ more) (frames ++ added) new
 stream-more before more frames added old new h e =
     stream-append before more
-    ∙ ap (λ s. behind s.frames (stream_after s.ending more)) h
-    ∙ ap (behind frames) e
+    ∙ ap (λ s. prepend s.frames (stream_after s.ending more)) h
+    ∙ ap (prepend frames) e

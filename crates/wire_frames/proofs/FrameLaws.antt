@@ -11,7 +11,6 @@ use Rattle.cluster_state.specs.States.{state, whole, Spells}
 use Rattle.cluster_state.proofs.Laws.{IsBytes, IsBytes-rest, IsField, bind_ok, ok_is, byte_law, flag_law, optional_law, then_law, shaped_law}
 use Rattle.cluster_state.proofs.StateLaws.{term_law, version_law, id_law, ids_law, state_law}
 use Rattle.cluster_state.proofs.Whole.{whole_ok, is_fit}
-use Rattle.wire_frames.specs.declared.fault.FrameFault.{FrameFault}
 use Rattle.wire_frames.specs.declared.fault.FrameError.{FrameError}
 use Rattle.wire_frames.specs.declared.frame.Kind.{Kind}
 use Rattle.wire_frames.specs.declared.frame.Kind.TheVariants as kind
@@ -20,8 +19,8 @@ use Rattle.wire_frames.specs.declared.frame.Message.TheVariants as message
 use Rattle.wire_frames.specs.declared.frame.Frame.{Frame}
 use Rattle.wire_frames.specs.Faults.{ReadsFrame}
 use Rattle.wire_frames.specs.Kinds.{code, kinds, kind_of, kind_of_message}
-use Rattle.wire_frames.specs.Messages.{state_id, start_join, term_and_last, known_peers, peers_answer, follower_answer, as_message, message_at, FitsMessage, SpellsFields, IsFitId, IsFitMessage}
-use Rattle.wire_frames.specs.Frames.{SpellsBody, IsFitFrame, frame_at, in_frame, frame_of_kind, frame_behind, frame_of}
+use Rattle.wire_frames.specs.Messages.{state_id, start_join, term_and_last, known_peers, peers_answer, follower_answer, as_message, message_at, FitsMessage, SpellsFields, IsFitMessage}
+use Rattle.wire_frames.specs.Frames.{SpellsBody, IsFitFrame, frame_at, as_frame, frame_of_kind, frame_from_byte, frame_of}
 
 -- ---- fields
 
@@ -148,9 +147,9 @@ fit_message (message.LeaderAnswer g) h = tt
 
 -- ---- frames
 
-in_frame_ok : (r : Result Frame StateFault) (f : Frame) → in_frame r ≡ Ok f → r ≡ Ok f
-in_frame_ok (Ok g) f e = cc
-in_frame_ok (Err d) f e = absurd cc
+as_frame_ok : (r : Result Frame StateFault) (f : Frame) → as_frame r ≡ Ok f → r ≡ Ok f
+as_frame_ok (Ok g) f e = cc
+as_frame_ok (Err d) f e = absurd cc
 
 frame_at_takes : (k : Kind) (bytes : List ℕ) (f : Frame) → IsBytes bytes → frame_at k bytes ≡ Ok (f, []) → (b : ℕ) → code k ≡ b → SpellsBody f (b ∷ bytes)
 frame_at_takes k bytes f fits e b is =
@@ -174,9 +173,9 @@ frame_at_takes k bytes f fits e b is =
 frame_of_kind_takes : (b : ℕ) (o : Option Kind) (rest : List ℕ) (f : Frame) → IsBytes rest → kind_of b ≡ o → frame_of_kind b o rest ≡ Ok f → SpellsBody f (b ∷ rest)
 frame_of_kind_takes b None rest f fits is e = absurd cc
 frame_of_kind_takes b (Some k) rest f fits is e =
-    frame_at_takes k rest f fits (whole_ok (frame_at k rest) f (in_frame_ok (whole (frame_at k rest)) f e)) b (code_of_found b k is)
+    frame_at_takes k rest f fits (whole_ok (frame_at k rest) f (as_frame_ok (whole (frame_at k rest)) f e)) b (code_of_found b k is)
 
-frame_takes_by : (bytes : List ℕ) (r : Result (ℕ × List ℕ) FieldError) (f : Frame) → IsBytes bytes → byte_at bytes ≡ r → frame_behind r ≡ Ok f → SpellsBody f bytes
+frame_takes_by : (bytes : List ℕ) (r : Result (ℕ × List ℕ) FieldError) (f : Frame) → IsBytes bytes → byte_at bytes ≡ r → frame_from_byte r ≡ Ok f → SpellsBody f bytes
 frame_takes_by bytes (Ok x) f fits is e =
     let head = byte_law.takes bytes x.0 x.1 fits is in
     subst (SpellsBody f) (sym head.0) (frame_of_kind_takes x.0 (kind_of x.0) x.1 f (IsBytes-rest bytes (x.0 ∷ []) x.1 head.0 fits) refl e)

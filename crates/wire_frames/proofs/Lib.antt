@@ -4,3 +4,4 @@ pub mod Cutting
 pub mod Waiting
 pub mod Scanning
 pub mod Spelled
+pub mod Splitting

@@ -1,5 +1,5 @@
 -- Steps over a stream.
-use Rattle.std.proofs.Common.{◌≡◌, ℕ, ◌+◌, ◌<◌, ◌≤◌, Result, Ok, Err, List, [], ◌∷◌, ◌++◌, Option, Some, None, length, take, drop, refl, sym, ap, subst, ◌∙◌, arith, length-drop}
+use Rattle.std.proofs.Common.{◌≡◌, ℕ, ◌+◌, Result, Ok, Err, List, [], ◌∷◌, Some, None, length, take, drop, sym, ap, subst, ◌∙◌, arith, length-drop}
 use Rattle.std.specs.Prelude.{IfOk}
 use Rattle.std.specs.declared.alloc.AllocError.{AllocError}
 use Rattle.std.proofs.lemmas.List.{drop-drop, length-take-le, append-nil}
@@ -10,9 +10,9 @@ use Rattle.wire_frames.specs.declared.reader.BodyLength.TheVariants as body
 use Rattle.wire_frames.specs.declared.reader.Step.{Step}
 use Rattle.wire_frames.specs.declared.reader.Step.TheVariants as step
 use Rattle.wire_frames.specs.Frames.{IsFitFrame, frame_of}
-use Rattle.wire_frames.specs.Streams.{Front, Unfinished, Faulty, Whole, front_with, front_of, Ending, Rest, Fault, Stream, behind, begun, stream, Awaits, IsStream}
+use Rattle.wire_frames.specs.Streams.{Front, Unfinished, Faulty, Whole, front_with, front_of, Ending, Rest, Fault, Stream, prepend, stream_with_front, stream, Awaits}
 use Rattle.wire_frames.specs.Steps.{Measures, ReadsBody, AddsFrame, Takes, AreTaken, IsScan}
-use Rattle.wire_frames.proofs.Cutting.{stream-front, behind-behind}
+use Rattle.wire_frames.proofs.Cutting.{stream-front, prepend-prepend}
 use Rattle.wire_frames.proofs.Waiting.{front_awaits, awaits_nothing}
 
 -- what a body is, the front is
@@ -44,32 +44,32 @@ one_more bytes left used size old new so_far is h =
       within = omega (arith, so_far.within, h.within, ap length is, length-drop used bytes);
       stream = sym (
           sym so_far.stream
-          ∙ ap (λ l. behind old (stream l)) (sym is)
-          ∙ ap (behind old) (stream-front left (Whole h.frame (drop size left)) h.front)
-          ∙ behind-behind old (h.frame ∷ []) (stream (drop size left))
-          ∙ ap (λ fs. behind fs (stream (drop size left))) (sym h.added)
-          ∙ ap (λ l. behind new (stream l)) rest
+          ∙ ap (λ l. prepend old (stream l)) (sym is)
+          ∙ ap (prepend old) (stream-front left (Whole h.frame (drop size left)) h.front)
+          ∙ prepend-prepend old (h.frame ∷ []) (stream (drop size left))
+          ∙ ap (λ fs. prepend fs (stream (drop size left))) (sym h.added)
+          ∙ ap (λ l. prepend new (stream l)) rest
           );
       fit = rw h.added (All-push IsFitFrame old h.frame so_far.fit h.fit);
     }
 
 -- the frames so far, where less than a frame or a fault stands next
 stops : (bytes left : List ℕ) (used : ℕ) (old new : List Frame) (front : Front) → AreTaken bytes used old → left ≡ drop used bytes → front_of left ≡ front → new ≡ old
-    → stream bytes ≡ behind new (begun front left stream)
+    → stream bytes ≡ prepend new (stream_with_front front left stream)
 stops bytes left used old new front so_far is e same =
-    sym so_far.stream ∙ ap (λ l. behind old (stream l)) (sym is) ∙ ap (behind old) (stream-front left front e) ∙ ap (λ fs. behind fs (begun front left stream)) (sym same)
+    sym so_far.stream ∙ ap (λ l. prepend old (stream l)) (sym is) ∙ ap (prepend old) (stream-front left front e) ∙ ap (λ fs. prepend fs (stream_with_front front left stream)) (sym same)
 
-behind-none : (frames : List Frame) (ending : Ending) → behind frames (record { frames = []; ending = ending }) ≡ record { frames = frames; ending = ending }
-behind-none frames ending = ap (λ fs. let s : Stream = record { frames = fs; ending = ending } in s) (append-nil frames)
+prepend-nothing : (frames : List Frame) (ending : Ending) → prepend frames (record { frames = []; ending = ending }) ≡ record { frames = frames; ending = ending }
+prepend-nothing frames ending = ap (λ fs. let s : Stream = record { frames = fs; ending = ending } in s) (append-nil frames)
 
 pub stops_unfinished : (bytes left : List ℕ) (used wanted : ℕ) (old new : List Frame) → AreTaken bytes used old → left ≡ drop used bytes → Takes (step.Unfinished wanted) left old new
     → IsScan bytes new used wanted None
 stops_unfinished bytes left used wanted old new so_far is h = record {
   within = so_far.within;
   stream =
-    stops bytes left used old new Unfinished so_far is (front_awaits left wanted h.0 h.1) h.2
-    ∙ behind-none new (Rest left)
-    ∙ ap (λ l. let s : Stream = record { frames = new; ending = Rest l } in s) is;
+      stops bytes left used old new Unfinished so_far is (front_awaits left wanted h.0 h.1) h.2
+      ∙ prepend-nothing new (Rest left)
+      ∙ ap (λ l. let s : Stream = record { frames = new; ending = Rest l } in s) is;
   fit = rw h.2 so_far.fit;
   awaits = let P : List ℕ → Type 0 = λ l. Awaits l wanted in subst P is h.1;
 }
@@ -78,7 +78,7 @@ pub stops_faulty : (bytes left : List ℕ) (used : ℕ) (fault : FrameFault) (ol
     → IsScan bytes new used 0 (Some fault)
 stops_faulty bytes left used fault old new so_far is h = record {
   within = so_far.within;
-  stream = stops bytes left used old new (Faulty fault) so_far is h.0 h.1 ∙ behind-none new (Fault fault);
+  stream = stops bytes left used old new (Faulty fault) so_far is h.0 h.1 ∙ prepend-nothing new (Fault fault);
   fit = rw h.1 so_far.fit;
   awaits = awaits_nothing (drop used bytes);
 }

@@ -13,7 +13,6 @@ use Rattle.cluster_state.specs.States.{value, state}
 use Rattle.wire_frames.specs.declared.frame.Frame.{Frame}
 use Rattle.wire_frames.specs.declared.frame.Message.{Message}
 use Rattle.wire_frames.specs.declared.frame.Message.TheVariants as message
-use Rattle.wire_frames.specs.Kinds.{code, kind_of_message}
 use Rattle.wire_frames.specs.Messages.{state_id, payload, FitsMessage}
 use Rattle.wire_frames.specs.Frames.{SpellsBody}
 

@@ -1,11 +1,11 @@
 -- How many bytes are awaited.
-use Rattle.std.proofs.Common.{◌≡◌, ℕ, ◌+◌, ◌-◌, ◌<◌, ◌≤◌, Bool, true, false, nat_lt, List, [], ◌∷◌, ◌++◌, length, take, drop, refl, sym, ap, subst, ◌∙◌, arith, append_assoc, length-append, length-drop, IsTrue}
+use Rattle.std.proofs.Common.{◌≡◌, ℕ, ◌+◌, ◌<◌, ◌≤◌, true, false, nat_lt, Option, None, List, [], ◌++◌, length, drop, refl, sym, ap, ◌∙◌, arith, append_assoc, length-append, length-drop, IsTrue}
 use Rattle.std.proofs.lemmas.List.{append-nil}
 use Rattle.std.proofs.lemmas.Bool.{lt-ltb}
 use Rattle.wire_frames.specs.declared.fault.FrameFault.{FrameFault}
 use Rattle.wire_frames.specs.declared.frame.Frame.{Frame}
 use Rattle.wire_frames.specs.Frames.{most_body}
-use Rattle.wire_frames.specs.Streams.{Front, Unfinished, Faulty, Whole, said_length, front_of, is_unfinished, Awaits, Ending, Rest, IsStream}
+use Rattle.wire_frames.specs.Streams.{Front, Unfinished, Faulty, Whole, said_length, front_of, is_unfinished, Awaits, Ending, Rest, stream_after, IsStream, ending_of}
 use Rattle.wire_frames.proofs.Cutting.{not_below, four-append, said-append, stream-front}
 
 unfinished_is : (front : Front) → IsTrue (is_unfinished front) → front ≡ Unfinished
@@ -44,3 +44,9 @@ awaits-append bytes more wanted h = λ last few.
 -- while fewer are there, the stream is less than a frame
 pub stream-awaits : (bytes more : List ℕ) (wanted : ℕ) → length (bytes ++ more) < wanted → Awaits bytes wanted → IsStream (bytes ++ more) [] (Rest (bytes ++ more))
 stream-awaits bytes more wanted few h = stream-front (bytes ++ more) Unfinished (unfinished_is (front_of (bytes ++ more)) (h more few))
+
+-- a reader that still waits gives nothing
+pub waits_still : (fault : Option FrameFault) (old more new : List ℕ) (wanted : ℕ) (frames : List Frame) (was : Ending) → fault ≡ None → ending_of fault old ≡ was → new ≡ old ++ more → length new < wanted → Awaits old wanted → frames ≡ []
+    → stream_after was more ≡ record { frames = frames; ending = ending_of fault new }
+waits_still fault old more new wanted frames was none view is few h empty =
+    rw (sym view, none, empty, is) (stream-awaits old more wanted (rw (sym is) few) h)

@@ -52,19 +52,19 @@ abbrev pub fault_in_frame : StateFault → FrameFault
 fault_in_frame (whole_fault.Field f) = Field f
 fault_in_frame whole_fault.Trailing = Trailing
 
-abbrev pub in_frame : Result Frame StateFault → Result Frame FrameFault
-in_frame (Ok frame) = Ok frame
-in_frame (Err f) = Err (fault_in_frame f)
+abbrev pub as_frame : Result Frame StateFault → Result Frame FrameFault
+as_frame (Ok frame) = Ok frame
+as_frame (Err f) = Err (fault_in_frame f)
 
 -- the frame of the kind, if there is one
 abbrev pub frame_of_kind : ℕ → Option Kind → List ℕ → Result Frame FrameFault
 frame_of_kind byte None bytes = Err (UnknownKind byte)
-frame_of_kind byte (Some kind) bytes = in_frame (whole (frame_at kind bytes))
+frame_of_kind byte (Some kind) bytes = as_frame (whole (frame_at kind bytes))
 
-abbrev pub frame_behind : Result (ℕ × List ℕ) FieldError → Result Frame FrameFault
-frame_behind (Ok byte) = frame_of_kind byte.0 (kind_of byte.0) byte.1
-frame_behind (Err f) = Err (Field f)
+abbrev pub frame_from_byte : Result (ℕ × List ℕ) FieldError → Result Frame FrameFault
+frame_from_byte (Ok byte) = frame_of_kind byte.0 (kind_of byte.0) byte.1
+frame_from_byte (Err f) = Err (Field f)
 
 -- the frame that the body is, or its first fault
 abbrev pub frame_of : List ℕ → Result Frame FrameFault
-frame_of body = frame_behind (byte_at body)
+frame_of body = frame_from_byte (byte_at body)

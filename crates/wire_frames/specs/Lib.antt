@@ -4,3 +4,4 @@ pub mod Messages
 pub mod Frames
 pub mod Streams
 pub mod Steps
+pub mod Splits

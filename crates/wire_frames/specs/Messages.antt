@@ -1,5 +1,5 @@
 -- The fields of each message.
-use Rattle.std.specs.Prelude.{◌≡◌, ℕ, ◌≤◌, ◌^◌, Bool, List, [], Option, Result, Ok, Err}
+use Rattle.std.specs.Prelude.{◌≡◌, ℕ, ◌≤◌, ◌^◌, Bool, List, [], Option, Result, Ok}
 use Rattle.voting_config.specs.Ids.{Id, most_ids}
 use Rattle.cluster_state.specs.declared.fault.FieldError.{FieldError}
 use Rattle.cluster_state.specs.declared.state.StateId.{StateId}

@@ -8,7 +8,7 @@ use Rattle.wire_frames.specs.declared.reader.BodyLength.TheVariants as body
 use Rattle.wire_frames.specs.declared.reader.Step.{Step}
 use Rattle.wire_frames.specs.declared.reader.Step.TheVariants as step
 use Rattle.wire_frames.specs.Frames.{IsFitFrame, frame_of}
-use Rattle.wire_frames.specs.Streams.{Faulty, Whole, front_with, front_of, Awaits, behind, stream, ending_of, IsStream}
+use Rattle.wire_frames.specs.Streams.{Faulty, Whole, front_with, front_of, Awaits, prepend, stream, ending_of, IsStream}
 
 -- what the length at the front of the bytes says
 abbrev pub Measures : BodyLength → List ℕ → Type 0
@@ -40,7 +40,7 @@ Takes (step.Whole size) bytes old new = AddsFrame bytes size old new
 -- the frames that so many of the bytes are: with the stream of what is left they are the stream of all
 pub record AreTaken (bytes : List ℕ) (used : ℕ) (frames : List Frame) : Type 0 where
   pub within : used ≤ length bytes
-  pub stream : behind frames (stream (drop used bytes)) ≡ stream bytes
+  pub stream : prepend frames (stream (drop used bytes)) ≡ stream bytes
   pub fit : All IsFitFrame frames
 
 -- the frames at the front of the bytes, how many bytes they take, and what stands behind them: a fault, or less than a frame, which

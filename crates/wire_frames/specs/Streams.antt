@@ -47,20 +47,20 @@ pub record Stream : Type 0 where
   pub frames : List Frame
   pub ending : Ending
 
--- the stream with these frames before it
-abbrev pub behind : List Frame → Stream → Stream
-behind frames stream = record { frames = frames ++ stream.frames; ending = stream.ending }
+-- the stream with these frames in front
+abbrev pub prepend : List Frame → Stream → Stream
+prepend frames stream = record { frames = frames ++ stream.frames; ending = stream.ending }
 
--- the stream that begins so, where the bytes after a frame are read as given
-abbrev pub begun : Front → List ℕ → (List ℕ → Stream) → Stream
-begun Unfinished bytes after = record { frames = []; ending = Rest bytes }
-begun (Faulty fault) bytes after = record { frames = []; ending = Fault fault }
-begun (Whole frame rest) bytes after = behind (frame ∷ []) (after rest)
+-- the stream with this front, where the bytes after a frame are read as given
+abbrev pub stream_with_front : Front → List ℕ → (List ℕ → Stream) → Stream
+stream_with_front Unfinished bytes after = record { frames = []; ending = Rest bytes }
+stream_with_front (Faulty fault) bytes after = record { frames = []; ending = Fault fault }
+stream_with_front (Whole frame rest) bytes after = prepend (frame ∷ []) (after rest)
 
 -- the stream, as far as so many frames
 abbrev pub stream_within : ℕ → List ℕ → Stream
 stream_within zero bytes = record { frames = []; ending = Rest bytes }
-stream_within (suc n) bytes = begun (front_of bytes) bytes (stream_within n)
+stream_within (suc n) bytes = stream_with_front (front_of bytes) bytes (stream_within n)
 
 -- the stream that the bytes are
 unfoldable pub stream : List ℕ → Stream

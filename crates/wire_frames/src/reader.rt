@@ -70,10 +70,10 @@ impl FrameReader {
             → IsStream (before ++ bytes.now) (frames ++ fed.frames.items) self.new) }
         ensures err { OnErr result (self.new ≡ self.old) }
     {
-        self.take(bytes)
+        self.accept(bytes)
     }
 
-    fn take(&mut self, bytes: &[u8]) -> Result<Fed, AllocError>
+    fn accept(&mut self, bytes: &[u8]) -> Result<Fed, AllocError>
         ensures now { IfOk result (λ fed. stream_after self.old bytes.now ≡ record { frames = fed.frames.items; ending = self.new }) }
         ensures fault { IfOk result (λ fed. fed.fault ≡ fault_in self.new) }
         ensures fit { IfOk result (λ fed. All IsFitFrame fed.frames.items) }

@@ -5,7 +5,7 @@ ghost use Rattle.wire_frames.specs.declared.frame.Frame.{Frame};
 ghost use Rattle.wire_frames.specs.declared.frame.Kind.TheVariants as kind;
 ghost use Rattle.wire_frames.specs.Faults.{ReadsFrame};
 ghost use Rattle.wire_frames.specs.Messages.{state_id, message_at};
-ghost use Rattle.wire_frames.specs.Frames.{frame_at, in_frame, frame_of, SpellsBody, IsFitFrame};
+ghost use Rattle.wire_frames.specs.Frames.{frame_at, as_frame, frame_of, SpellsBody, IsFitFrame};
 
 use crate::fault::{FrameError, FrameFault};
 use crate::frame::{Frame, Kind, Message};
@@ -117,7 +117,7 @@ fn addressed(alloc: Global, reader: &mut Reader, kind: Kind) -> Result<Frame, Re
 
 // The frame of a kind, whose ids and fields are all that is left.
 fn rest_of_frame(alloc: Global, reader: &mut Reader, kind: Kind) -> Result<Frame, FrameError>
-    ensures { ReadsFrame result (in_frame (whole (frame_at kind reader.old))) }
+    ensures { ReadsFrame result (as_frame (whole (frame_at kind reader.old))) }
 {
     let frame = addressed(alloc, reader, kind)?;
     if !reader.is_at_end() {

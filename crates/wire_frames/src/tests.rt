@@ -3,7 +3,7 @@ ghost use Rattle.wire_frames.specs.Messages.{IsFitMessage};
 
 use crate::{
     Frame, FrameFault, FrameReader, Kind, Message, law_cut, law_first_frame, law_one_frame,
-    read_frame, write_frame,
+    law_stream, read_frame, write_frame,
 };
 use cluster_state::{ClusterState, FieldError, StateId};
 use std::alloc::AllocError;
@@ -224,5 +224,6 @@ fn spelled_checks(rt: HostRuntime) -> Result<(), Fail> {
 fn laws_are_called() {
     law_one_frame();
     law_first_frame();
+    law_stream();
     law_cut();
 }

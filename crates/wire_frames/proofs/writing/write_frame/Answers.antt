@@ -1,4 +1,4 @@
-use Rattle.std.proofs.Common.{length, ap, arith, length-append}
+use Rattle.std.proofs.Common.{arith}
 use Rattle.std.proofs.lemmas.Grind.{common_steps}
 use Rattle.wire_frames.proofs.Sizes.{body_short}
 use Rattle.wire_frames.proofs.writing.write_frame.Goals as goal

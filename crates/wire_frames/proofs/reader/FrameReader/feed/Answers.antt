@@ -3,7 +3,7 @@ use Rattle.std.specs.Prelude.{IfOk}
 use Rattle.std.specs.declared.alloc.AllocError.{AllocError}
 use Rattle.wire_frames.specs.declared.frame.Frame.{Frame}
 use Rattle.wire_frames.specs.declared.reader.Fed.{Fed}
-use Rattle.wire_frames.specs.Streams.{Ending, Stream, stream_after, IsStream}
+use Rattle.wire_frames.specs.Streams.{Ending, stream_after, IsStream}
 use Rattle.wire_frames.proofs.Cutting.{stream-more}
 use Rattle.wire_frames.proofs.reader.FrameReader.feed.Goals as goal
 
@@ -13,4 +13,4 @@ fed_so_far (Ok fed) old new more h = λ before frames was. stream-more before mo
 fed_so_far (Err e) old new more h = tt
 
 pub returns-clause-so_far : goal.returns-clause-so_far
-returns-clause-so_far c = fed_so_far c.take.result c.args.self.now c.take.new.self c.args.bytes.now c.take.ensures.now
+returns-clause-so_far c = fed_so_far c.accept.result c.args.self.now c.accept.new.self c.args.bytes.now c.accept.ensures.now

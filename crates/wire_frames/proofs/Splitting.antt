@@ -1,0 +1,166 @@
+-- A stream is what its bytes split into.
+use Rattle.std.proofs.Common.{◌≡◌, ℕ, zero, suc, ◌<◌, ◌≤◌, ◌^◌, Bool, true, false, nat_lt, ◌⊎◌, inl, inr, Result, Ok, Err, List, [], ◌∷◌, ◌++◌, length, take, drop, refl, sym, ap, subst, ◌∙◌, arith, append_assoc, length-append}
+use Rattle.std.specs.Prelude.{All}
+use Rattle.std.proofs.lemmas.Bool.{cases_lt, lt-ltb}
+use Rattle.std.proofs.lemmas.List.{take-append-drop, length-take, length-take-le, get_or-take, get_or_past}
+use Rattle.std.proofs.lemmas.Nat.{be_bytes_4}
+use Rattle.cluster_state.proofs.Laws.{IsBytes, IsBytes-rest}
+use Rattle.wire_frames.specs.declared.fault.FrameFault.{FrameFault}
+use Rattle.wire_frames.specs.declared.frame.Frame.{Frame}
+use Rattle.wire_frames.specs.Frames.{most_body, four_bytes, SpellsFrame, frame_of}
+use Rattle.wire_frames.specs.Streams.{Front, Unfinished, Faulty, Whole, said_length, front_with, front_of, Ending, Rest, Fault, Stream, prepend, stream_with_front, stream, IsStream}
+use Rattle.wire_frames.specs.Splits.{IsPartial, BeginsTooLong, BeginsNoFrame, IsEnding, Splits}
+use Rattle.wire_frames.proofs.FrameLaws.{frame_takes}
+use Rattle.wire_frames.proofs.Cutting.{front_by, whole_by, faulty_by, at_least, not_below, whole-shorter, stream-with_front, stream-front}
+use Rattle.wire_frames.proofs.Spelled.{length-four, said-four, rest-four, front-read, first_frame}
+
+-- ---- what splits is the stream
+
+partial_front : (bytes : List ℕ) → IsPartial bytes → front_of bytes ≡ Unfinished
+partial_front bytes (inl few) = rw (lt-ltb _ _ few) refl
+partial_front bytes (inr h) =
+    let all = four_bytes h.size ++ h.part in
+    let four : nat_lt (length all) 4 ≡ false = not_below _ _ (omega (arith, length-append (four_bytes h.size) h.part, length-four h.size)) in
+    let said : said_length all ≡ h.size = said-four h.size h.part (omega (arith, h.fits)) in
+    let fits : nat_lt most_body h.size ≡ false = not_below _ _ h.fits in
+    let short : nat_lt (length h.part) h.size ≡ true = lt-ltb _ _ h.short in
+    let rest : drop 4 all ≡ h.part = rest-four h.size h.part in
+    ap front_of h.whole ∙ rw (four, said, fits, rest, short) refl
+
+too_long_front : (bytes : List ℕ) (fault : FrameFault) → BeginsTooLong bytes fault → front_of bytes ≡ Faulty fault
+too_long_front bytes fault h =
+    let all = four_bytes h.size ++ h.more in
+    let four : nat_lt (length all) 4 ≡ false = not_below _ _ (omega (arith, length-append (four_bytes h.size) h.more, length-four h.size)) in
+    let said : said_length all ≡ h.size = said-four h.size h.more h.small in
+    let long : nat_lt most_body h.size ≡ true = lt-ltb _ _ h.long in
+    ap front_of h.whole ∙ rw (four, said, long, h.is) refl
+
+no_frame_front : (bytes : List ℕ) (fault : FrameFault) → BeginsNoFrame bytes fault → front_of bytes ≡ Faulty fault
+no_frame_front bytes fault h = ap front_of h.whole ∙ front-read h.body h.more h.fits ∙ ap (λ r. front_with r h.more) h.is
+
+ending_front : (ending : Ending) (bytes : List ℕ) → IsEnding ending bytes → IsStream bytes [] ending
+ending_front (Rest rest) bytes h = stream-front bytes Unfinished (partial_front bytes h.1) ∙ ap (λ l. let s : Stream = record { frames = []; ending = Rest l } in s) h.0
+ending_front (Fault fault) bytes (inl h) = stream-front bytes (Faulty fault) (too_long_front bytes fault h)
+ending_front (Fault fault) bytes (inr h) = stream-front bytes (Faulty fault) (no_frame_front bytes fault h)
+
+pub stream_of_split : (frames : List Frame) (bytes : List ℕ) (ending : Ending) → Splits bytes frames ending → IsStream bytes frames ending
+stream_of_split [] bytes ending h = ending_front ending bytes h
+stream_of_split (frame ∷ frames) bytes ending h = ap stream h.2 ∙ first_frame frame h.0 h.1 h.3 ∙ ap (prepend (frame ∷ [])) (stream_of_split frames h.1 ending h.4)
+
+-- ---- the stream splits
+
+IsBytes-take : (n : ℕ) (bytes : List ℕ) → IsBytes bytes → IsBytes (take n bytes)
+IsBytes-take n bytes h i =
+    elim (cases_lt i n) [
+      | inl lt ↦ rw (get_or-take n bytes i 0 lt) (h i)
+      | inr le ↦ rw (get_or_past (take n bytes) i 0 (omega (arith, length-take n bytes))) (omega arith)
+    ]
+
+-- the length in front
+length_in_front : (bytes : List ℕ) → IsBytes bytes → 4 ≤ length bytes → bytes ≡ four_bytes (said_length bytes) ++ drop 4 bytes
+unfolding four_bytes
+length_in_front bytes fits long =
+    let front = be_bytes_4 (take 4 bytes) (said_length bytes) (length-take-le 4 bytes long) (IsBytes-take 4 bytes fits) refl in
+    sym (ap (λ l. l ++ drop 4 bytes) front ∙ take-append-drop 4 bytes)
+
+said_small : (bytes : List ℕ) → IsBytes bytes → 4 ≤ length bytes → said_length bytes < 2 ^ 32
+said_small bytes fits long = let front = IsBytes-take 4 bytes fits in omega (arith, front 0, front 1, front 2, front 3)
+
+-- the length in front, the body, and what is behind it
+body_in_front : (bytes : List ℕ) → IsBytes bytes → 4 ≤ length bytes → said_length bytes ≤ length (drop 4 bytes)
+    → bytes ≡ four_bytes (length (take (said_length bytes) (drop 4 bytes))) ++ (take (said_length bytes) (drop 4 bytes) ++ drop (said_length bytes) (drop 4 bytes))
+body_in_front bytes fits long there =
+    length_in_front bytes fits long
+    ∙ ap (λ n. four_bytes n ++ drop 4 bytes) (sym (length-take-le (said_length bytes) (drop 4 bytes) there))
+    ∙ ap (λ l. four_bytes (length (take (said_length bytes) (drop 4 bytes))) ++ l) (sym (take-append-drop (said_length bytes) (drop 4 bytes)))
+
+unfinished_by : (a b c : Bool) (front : Result Frame FrameFault) (rest : List ℕ) → front_by a b c (front_with front rest) ≡ Unfinished → (a ≡ true) ⊎ ((a ≡ false) × (b ≡ false) × (c ≡ true))
+unfinished_by true b c front rest e = inl refl
+unfinished_by false true c front rest e = absurd cc
+unfinished_by false false true front rest e = inr (refl, refl, refl)
+unfinished_by false false false (Ok f) rest e = absurd cc
+unfinished_by false false false (Err d) rest e = absurd cc
+
+below : (m n : ℕ) → nat_lt m n ≡ true → m < n
+below m n e = grind arith
+
+front_partial : (bytes : List ℕ) → IsBytes bytes → front_of bytes ≡ Unfinished → IsPartial bytes
+front_partial bytes fits e =
+    elim (unfinished_by _ _ _ (frame_of (take (said_length bytes) (drop 4 bytes))) (drop (said_length bytes) (drop 4 bytes)) e) [
+      | inl few ↦ inl (below _ _ few)
+      | inr h ↦ inr (record {
+        size = said_length bytes;
+        part = drop 4 bytes;
+        whole = length_in_front bytes fits (at_least (length bytes) 4 h.0);
+        fits = at_least most_body (said_length bytes) h.1;
+        short = below (length (drop 4 bytes)) (said_length bytes) h.2;
+      })
+    ]
+
+front_fault : (bytes : List ℕ) (fault : FrameFault) → IsBytes bytes → front_of bytes ≡ Faulty fault → IsEnding (Fault fault) bytes
+front_fault bytes fault fits e =
+    let h = faulty_by _ _ _ (frame_of (take (said_length bytes) (drop 4 bytes))) (drop (said_length bytes) (drop 4 bytes)) fault e in
+    let long = at_least (length bytes) 4 h.four in
+    elim h.cause [
+      | inl over ↦ inl (record {
+        size = said_length bytes;
+        more = drop 4 bytes;
+        whole = length_in_front bytes fits long;
+        small = said_small bytes fits long;
+        long = below most_body (said_length bytes) over.0;
+        is = sym over.1;
+      })
+      | inr bad ↦
+          let there = at_least (length (drop 4 bytes)) (said_length bytes) bad.there in
+          inr (record {
+            body = take (said_length bytes) (drop 4 bytes);
+            more = drop (said_length bytes) (drop 4 bytes);
+            whole = body_in_front bytes fits long there;
+            fits = omega (arith, length-take-le (said_length bytes) (drop 4 bytes) there, at_least most_body (said_length bytes) bad.fits);
+            is = bad.body;
+          })
+    ]
+
+-- a frame in front
+record IsCut (bytes : List ℕ) (frame : Frame) (after : List ℕ) : Type 0 where
+  first : List ℕ
+  whole : bytes ≡ first ++ after
+  spelled : SpellsFrame frame first
+
+front_cut : (bytes : List ℕ) (frame : Frame) (after : List ℕ) → IsBytes bytes → front_of bytes ≡ Whole frame after → IsCut bytes frame after
+front_cut bytes frame after fits e =
+    let body = take (said_length bytes) (drop 4 bytes) in
+    let h = whole_by _ _ _ (frame_of body) (drop (said_length bytes) (drop 4 bytes)) frame after e in
+    let long = at_least (length bytes) 4 h.four in
+    let there = at_least (length (drop 4 bytes)) (said_length bytes) h.there in
+    let fits_rest = IsBytes-rest bytes (four_bytes (said_length bytes)) (drop 4 bytes) (length_in_front bytes fits long) fits in
+    record {
+      first = four_bytes (length body) ++ body;
+      whole =
+          body_in_front bytes fits long there
+          ∙ ap (λ l. four_bytes (length body) ++ (body ++ l)) h.next
+          ∙ sym (append_assoc (four_bytes (length body)) body after);
+      spelled = record { body = body; spelled = frame_takes body frame (IsBytes-take (said_length bytes) (drop 4 bytes) fits_rest) h.body; whole = refl };
+    }
+
+abbrev SplitsInto : List ℕ → Stream → Type 0
+SplitsInto bytes s = Splits bytes s.frames s.ending
+
+splits_within : (n : ℕ) (bytes : List ℕ) (front : Front) → length bytes ≤ n → IsBytes bytes → front_of bytes ≡ front → SplitsInto bytes (stream_with_front front bytes stream)
+splits_within n bytes Unfinished p fits e = (refl, front_partial bytes fits e)
+splits_within n bytes (Faulty fault) p fits e = front_fault bytes fault fits e
+splits_within zero bytes (Whole frame after) p fits e = let shorter = whole-shorter bytes frame after e in absurd (omega arith)
+splits_within (suc n) bytes (Whole frame after) p fits e =
+    let shorter = whole-shorter bytes frame after e in
+    let cut = front_cut bytes frame after fits e in
+    let fits_after = IsBytes-rest bytes cut.first after cut.whole fits in
+    let later = splits_within n after (front_of after) (omega arith) fits_after refl in
+    (cut.first, after, cut.whole, cut.spelled, subst (SplitsInto after) (sym (stream-with_front after)) later)
+
+bytes_from_all : (bytes : List ℕ) → All (λ b. b < 2 ^ 8) bytes → IsBytes bytes
+bytes_from_all bytes h i =
+    elim (cases_lt i (length bytes)) [ inl lt ↦ h i 0 lt | inr le ↦ rw (get_or_past bytes i 0 le) (omega arith) ]
+
+pub split_of_stream : (bytes : List ℕ) (frames : List Frame) (ending : Ending) → All (λ b. b < 2 ^ 8) bytes → IsStream bytes frames ending → Splits bytes frames ending
+split_of_stream bytes frames ending all is =
+    subst (SplitsInto bytes) (sym (stream-with_front bytes) ∙ is) (splits_within (length bytes) bytes (front_of bytes) (omega arith) (bytes_from_all bytes all) refl)
