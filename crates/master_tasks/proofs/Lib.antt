@@ -1,3 +1,4 @@
 pub mod Kept
 pub mod Settling
 pub mod Stepping
+pub mod Making

@@ -1,13 +1,13 @@
 -- One turn of the loop that processes requests.
 use Rattle.std.proofs.Common.{◌≡◌, ℕ, ◌+◌, ◌-◌, ◌<◌, ◌≤◌, true, List, [], ◌∷◌, ◌++◌, length, take, get_or, Option, None, Some, refl, sym, ap, ◌∙◌, arith}
-use Rattle.std.proofs.lemmas.List.{length-append}
+use Rattle.std.proofs.lemmas.List.{length-append, take_all}
 use Rattle.std.proofs.lemmas.List.Sums.{fold_more}
 use Rattle.cluster_state.specs.declared.state.ClusterState.{ClusterState}
 use Rattle.cluster_state.specs.declared.state.ClusterValue.{ClusterValue}
 use Rattle.client_lines.specs.declared.reply.Answer.{Answer}
 use Rattle.master_tasks.specs.declared.waiting.Waiting.{Waiting}
 use Rattle.master_tasks.specs.declared.waiting.Outgoing.{Outgoing}
-use Rattle.master_tasks.specs.Replying.{Replies, with_sent, answer_to}
+use Rattle.master_tasks.specs.Replying.{Replies, room_for, with_sent, answer_to}
 use Rattle.master_tasks.specs.Processing.{Processing, AnsweredAtOnce, Makes, Processed, and_then, answer_after, before_all, processed_all, processing_once, value_after, with_next}
 
 -- what is processed so far
@@ -60,3 +60,31 @@ processes-none accepted before all place value made waiting more out w p less at
       count = omega (arith, p.count, longer);
       room = p.room;
     }
+
+-- no request is processed yet
+pub processes-start : (accepted : ClusterState) (before : ClusterValue) (all waiting : List Waiting) (out : Replies) → waiting ≡ [] → out ≡ room_for (length all) → Processes accepted before all 0 before waiting out
+processes-start accepted before all waiting out none room = rw (none, room) record { so_far = refl; count = omega arith; room = omega arith }
+
+-- all requests were looked at
+pub record AllProcessed (accepted : ClusterState) (before : ClusterValue) (all : List Waiting) (value : ClusterValue) (waiting : List Waiting) (out : Replies) : Type 0 where
+  pub value_is : value ≡ (processed_all accepted before all).value
+  pub waiting_is : waiting ≡ (processed_all accepted before all).waiting
+  pub replies_are : out ≡ with_sent (room_for (length all)) (processed_all accepted before all).answers
+  pub fits : length waiting ≤ out.room
+
+pub processes-end : (accepted : ClusterState) (before : ClusterValue) (all : List Waiting) (place : ℕ) (value : ClusterValue) (waiting : List Waiting) (out : Replies) → Processes accepted before all place value waiting out → length all ≤ place → place ≤ length all
+    → AllProcessed accepted before all value waiting out
+processes-end accepted before all place value waiting out p whole within =
+    let done : processed_all accepted before all ≡ record { value = value; waiting = waiting; answers = out.sent } =
+        ap (processed_all accepted before) (sym (take_all place all whole)) ∙ p.so_far in
+    let answers : out.sent ≡ (processed_all accepted before all).answers = sym (ap (λ (q : Processed). q.answers) done) in
+    let room : out.room ≡ length all - length out.sent = omega (arith, p.room) in
+    record {
+      value_is = sym (ap (λ (q : Processed). q.value) done);
+      waiting_is = sym (ap (λ (q : Processed). q.waiting) done);
+      replies_are = same_replies out (room_for (length all)) room ∙ ap (with_sent (room_for (length all))) answers;
+      fits = omega (arith, p.room, p.count);
+    }
+  where
+    same_replies : (out first : Replies) → out.room ≡ first.room - length out.sent → out ≡ record { sent = out.sent; room = first.room - length out.sent }
+    same_replies out first room = rw (← room) refl

@@ -34,27 +34,27 @@ abbrev pub value_before : Id → Tasks → ClusterValue → ClusterValue
 value_before me t value = record value { master = Some me; members = members_after me t value.members }
 
 -- the requests processed on that value
-abbrev pub processed_by : Leader → Tasks → Processed
+unfoldable pub processed_by : Leader → Tasks → Processed
 processed_by l t = processed_all l.accepted (value_before l.me t l.accepted.value) t.waiting
 
-abbrev pub next_value : Leader → Tasks → ClusterValue
+unfoldable pub next_value : Leader → Tasks → ClusterValue
 next_value l t = (processed_by l t).value
 
 -- the configuration that is wanted for a value, once the accepted one is committed; live are the members that voted for the node
-abbrev pub config_for : Id → ClusterState → List Id → List Id → Bool → ClusterValue → List Id
+unfoldable pub config_for : Id → ClusterState → List Id → List Id → Bool → ClusterValue → List Id
 config_for me accepted committed votes shrink value =
     if same_config committed accepted.config
     then target_of (among value.members votes) value.exclusions me accepted.config shrink
     else accepted.config
 
-abbrev pub next_config : Leader → Tasks → List Id
+unfoldable pub next_config : Leader → Tasks → List Id
 next_config l t = config_for l.me l.accepted l.committed l.votes l.shrink (next_value l t)
 
 -- the accepted state is of this term, and the next one would be the same
-abbrev pub is_accepted : ℕ → ClusterState → List Id → ClusterValue → Bool
+unfoldable pub is_accepted : ℕ → ClusterState → List Id → ClusterValue → Bool
 is_accepted term accepted config value = nat_eq accepted.term term && same_value value accepted.value && same_config config accepted.config
 
-abbrev pub is_nothing_new : Leader → Tasks → Bool
+unfoldable pub is_nothing_new : Leader → Tasks → Bool
 is_nothing_new l t = is_accepted l.term l.accepted (next_config l t) (next_value l t)
 
 -- who is answered where nothing is new, and who waits on
@@ -65,12 +65,12 @@ abbrev pub unacked : Leader → List Waiting → List Waiting
 unacked l waiting = left_by (nothing_new l.committed (id_of l.accepted)) waiting
 
 -- the answers: those that requests get at once, then where nothing is new the others'
-abbrev pub next_answers : Leader → Tasks → List Outgoing
+unfoldable pub next_answers : Leader → Tasks → List Outgoing
 next_answers l t =
     (processed_by l t).answers ++ (if is_nothing_new l t then acks l (processed_by l t).waiting else [])
 
 -- what is left to do; nobody is to come or to go any more
-abbrev pub tasks_after : Leader → Tasks → Tasks
+unfoldable pub tasks_after : Leader → Tasks → Tasks
 tasks_after l t =
     record {
       waiting = (if is_nothing_new l t then unacked l (processed_by l t).waiting else (processed_by l t).waiting);
@@ -79,9 +79,9 @@ tasks_after l t =
     }
 
 -- the replies, in room for as many as there were requests
-abbrev pub next_replies : Leader → Tasks → Replies
+unfoldable pub next_replies : Leader → Tasks → Replies
 next_replies l t = with_sent (room_for (length t.waiting)) (next_answers l t)
 
 -- nothing is new, or there is a new configuration and a new value
-abbrev pub next_of : Leader → Tasks → Next
+unfoldable pub next_of : Leader → Tasks → Next
 next_of l t = if is_nothing_new l t then Same (next_replies l t) else New (next_config l t) (next_value l t) (next_replies l t)

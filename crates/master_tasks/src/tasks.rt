@@ -310,6 +310,7 @@ impl MasterTasks {
 }
 
 // The configuration that is wanted for the value.
+#[tactic(auto, unfolding(crate::specs::NextState::config_for))]
 fn config_for(
     me: NodeId,
     accepted: &ClusterState,
@@ -328,6 +329,7 @@ fn config_for(
 }
 
 // Whether the configuration and the value are the accepted ones, in this term.
+#[tactic(auto, unfolding(crate::specs::NextState::is_accepted))]
 fn is_accepted(
     term: u64,
     accepted: &ClusterState,

@@ -1,1 +1,385 @@
+use crate::*;
+use client_lines::{Request, read_line, write_reply};
+use cluster_state::{ClusterState, ClusterValue, Settings, StateId, value_to_json};
+use std::alloc::{AllocError, Global};
+use std::test::*;
+use voting_config::{NodeId, NodeSet, VotingConfig};
 
+fn id(text: &str) -> NodeId {
+    NodeId::parse(text).unwrap_or_default()
+}
+
+// The ids that are the letters of a text.
+fn letters(text: &str) -> NodeSet {
+    let mut ids = NodeSet::new();
+    for letter in text.as_bytes() {
+        if let Some(id) = NodeId::from_bytes(&[*letter]) {
+            let _ = ids.insert(id);
+        }
+    }
+    ids
+}
+
+fn config(text: &str) -> VotingConfig {
+    VotingConfig::of(&letters(text))
+}
+
+fn request(alloc: Global, line: &str) -> Result<Request, Fail> {
+    Ok(read_line(alloc, line.as_bytes())?)
+}
+
+// Takes the request that the line is, which comes by connection 1 at a moment.
+fn take(alloc: Global, tasks: &mut MasterTasks, at: u64, line: &str) -> Result<(), Fail> {
+    let request = request(alloc, line)?;
+    tasks.offer(1, at, request).ok().ok_or("taken")?;
+    Ok(())
+}
+
+// The state 1/1 of master a, with the setting v.
+fn state(
+    alloc: Global,
+    voters: &str,
+    members: &str,
+    exclusions: &str,
+) -> Result<ClusterState, AllocError> {
+    let mut settings = Settings::new(alloc);
+    settings.put("v", "x")?;
+    Ok(ClusterState {
+        term: 1,
+        version: 1,
+        config: config(voters),
+        committed: config(voters),
+        value: ClusterValue {
+            master: Some(id("a")),
+            members: letters(members),
+            exclusions: letters(exclusions),
+            settings,
+        },
+    })
+}
+
+// The replies as JSON, each after a space.
+fn write_replies(alloc: Global, text: &mut Vec<u8>, replies: &Replies) -> Result<(), AllocError> {
+    for outgoing in replies.as_slice() {
+        text.push(b' ')?;
+        text.extend_from_slice(&write_reply(alloc, &outgoing.reply)?)?;
+    }
+    Ok(())
+}
+
+// What comes of tasks, as JSON: the new voters and value, or 'same', and the replies.
+fn told(alloc: Global, next: &Next) -> Result<Vec<u8>, AllocError> {
+    let mut text = Vec::new(alloc);
+    match next {
+        Next::Same(replies) => {
+            text.extend_from_slice(b"same")?;
+            write_replies(alloc, &mut text, replies)?;
+        }
+        Next::New {
+            config,
+            value,
+            replies,
+        } => {
+            write_ids(&mut text, config)?;
+            text.extend_from_slice(&value_to_json(alloc, value)?)?;
+            write_replies(alloc, &mut text, replies)?;
+        }
+    }
+    Ok(text)
+}
+
+fn write_ids(text: &mut Vec<u8>, config: &VotingConfig) -> Result<(), AllocError> {
+    for id in config.members().as_slice() {
+        text.extend_from_slice(id.as_bytes())?;
+    }
+    text.push(b' ')?;
+    Ok(())
+}
+
+// The same of the tasks of leader a, of whom a, b, c and d are voters.
+fn next(
+    alloc: Global,
+    tasks: &mut MasterTasks,
+    term: u64,
+    accepted: &ClusterState,
+) -> Result<Vec<u8>, AllocError> {
+    let votes = letters("abcd");
+    let next = tasks.next_state(id("a"), term, accepted, &accepted.config, &votes, true)?;
+    told(alloc, &next)
+}
+
+// The id of a request that is refused, since 64 wait.
+fn refused(tasks: &mut MasterTasks, request: Request) -> Option<u64> {
+    match tasks.offer(1, 5, request) {
+        Err(OfferError::QueueFull(request)) => Some(request.id),
+        _ => None,
+    }
+}
+
+#[test]
+fn queue(rt: HostRuntime) -> Result<(), Fail> {
+    let mut tasks = MasterTasks::new(rt.alloc());
+    for _ in 0..MAX_OPEN {
+        take(rt.alloc(), &mut tasks, 5, "{\"id\":7,\"state\":{}}")?;
+    }
+    assert!(rt; tasks.is_full());
+    let last = request(rt.alloc(), "{\"id\":9,\"state\":{}}")?;
+    assert_eq!(rt; refused(&mut tasks, last), Some(9));
+    let copy = tasks.copy()?;
+    assert_eq!(rt; copy.open_count(), MAX_OPEN);
+    let count = tasks.open_count();
+    assert_eq!(rt; count, MAX_OPEN);
+    assert_eq!(rt; tasks.waiting(63).arrived, 5);
+    let settled = tasks.settle(63);
+    assert_eq!(rt; settled.request.id, 7);
+    assert!(rt; !tasks.is_full());
+    Ok(())
+}
+
+// What comes of requests, a line each.
+fn came(
+    alloc: Global,
+    voters: &str,
+    exclusions: &str,
+    lines: &str,
+) -> Result<Vec<u8>, Fail> {
+    let mut tasks = MasterTasks::new(alloc);
+    for line in lines.lines() {
+        take(alloc, &mut tasks, 0, line)?;
+    }
+    let accepted = state(alloc, voters, "abc", exclusions)?;
+    Ok(next(alloc, &mut tasks, 1, &accepted)?)
+}
+
+#[test]
+fn requests(rt: HostRuntime) -> Result<(), Fail> {
+    for (voters, exclusions, lines, want) in [
+        (
+            "abc",
+            "",
+            "{\"id\":1,\"state\":{}}",
+            "same {\"id\":1,\"state\":{\"committed\":[\"a\",\"b\",\"c\"],\"config\":[\"a\",\"b\",\"c\"],\"term\":1,\"value\":{\"exclusions\":[],\"master\":\"a\",\"members\":[\"a\",\"b\",\"c\"],\"settings\":{\"v\":\"x\"}},\"version\":1}}",
+        ),
+        (
+            "abc",
+            "",
+            "{\"id\":1,\"put\":{\"key\":\"v\",\"value\":\"x\"}}",
+            "same {\"acked\":{\"term\":1,\"version\":1},\"id\":1}",
+        ),
+        (
+            "abc",
+            "",
+            "{\"id\":1,\"put\":{\"key\":\"w\",\"value\":\"1\"}}\n{\"id\":2,\"put\":{\"key\":\"w\",\"value\":\"2\"}}",
+            "abc {\"exclusions\":[],\"master\":\"a\",\"members\":[\"a\",\"b\",\"c\"],\"settings\":{\"v\":\"x\",\"w\":\"2\"}}",
+        ),
+        (
+            "abc",
+            "",
+            "{\"id\":1,\"remove\":{\"key\":\"w\"}}",
+            "same {\"acked\":{\"term\":1,\"version\":1},\"id\":1}",
+        ),
+        (
+            "abc",
+            "",
+            "{\"id\":1,\"remove\":{\"key\":\"v\"}}",
+            "abc {\"exclusions\":[],\"master\":\"a\",\"members\":[\"a\",\"b\",\"c\"],\"settings\":{}}",
+        ),
+        (
+            "abc",
+            "",
+            "{\"id\":1,\"exclude\":[\"x\"]}",
+            "same {\"id\":1,\"not_member\":\"x\"}",
+        ),
+        (
+            "abc",
+            "defghijklm",
+            "{\"id\":1,\"exclude\":[\"c\"]}",
+            "same {\"id\":1,\"too_many_exclusions\":11}",
+        ),
+        (
+            "abc",
+            "",
+            "{\"id\":1,\"exclude\":[\"c\"]}",
+            "ab {\"exclusions\":[\"c\"],\"master\":\"a\",\"members\":[\"a\",\"b\",\"c\"],\"settings\":{\"v\":\"x\"}}",
+        ),
+        (
+            "a",
+            "c",
+            "{\"id\":1,\"exclude\":[\"c\"]}",
+            "same {\"acked\":{\"term\":1,\"version\":1},\"id\":1}",
+        ),
+        (
+            "a",
+            "c",
+            "{\"id\":1,\"clear\":{}}",
+            "same {\"id\":1,\"still_member\":\"c\"}",
+        ),
+        (
+            "a",
+            "c",
+            "{\"id\":1,\"clear\":{\"wait_for_removal\":false}}",
+            "abc {\"exclusions\":[],\"master\":\"a\",\"members\":[\"a\",\"b\",\"c\"],\"settings\":{\"v\":\"x\"}}",
+        ),
+        (
+            "ab",
+            "",
+            "",
+            "abc {\"exclusions\":[],\"master\":\"a\",\"members\":[\"a\",\"b\",\"c\"],\"settings\":{\"v\":\"x\"}}",
+        ),
+    ] {
+        let text = came(rt.alloc(), voters, exclusions, lines)?;
+        assert_eq!(rt; text.as_slice(), want.as_bytes(), "{lines}");
+    }
+    Ok(())
+}
+
+#[test]
+fn an_older_term(rt: HostRuntime) -> Result<(), Fail> {
+    let mut tasks = MasterTasks::new(rt.alloc());
+    let accepted = state(rt.alloc(), "abc", "abc", "")?;
+    let text = next(rt.alloc(), &mut tasks, 2, &accepted)?;
+    let want = "abc {\"exclusions\":[],\"master\":\"a\",\"members\":[\"a\",\"b\",\"c\"],\"settings\":{\"v\":\"x\"}}";
+    assert_eq!(rt; text.as_slice(), want.as_bytes());
+    Ok(())
+}
+
+#[test]
+fn many_settings(rt: HostRuntime) -> Result<(), Fail> {
+    let mut accepted = state(rt.alloc(), "abc", "abc", "")?;
+    for number in 1..1024u64 {
+        let key = format!(in rt.alloc(); "{number}")?;
+        accepted.value.settings.put(key.as_str(), "")?;
+    }
+    for (line, want) in [
+        (
+            "{\"id\":1,\"put\":{\"key\":\"w\",\"value\":\"\"}}",
+            "same {\"id\":1,\"too_many_settings\":1025}",
+        ),
+        (
+            "{\"id\":1,\"put\":{\"key\":\"v\",\"value\":\"x\"}}",
+            "same {\"acked\":{\"term\":1,\"version\":1},\"id\":1}",
+        ),
+    ] {
+        let mut tasks = MasterTasks::new(rt.alloc());
+        take(rt.alloc(), &mut tasks, 0, line)?;
+        let text = next(rt.alloc(), &mut tasks, 1, &accepted)?;
+        assert_eq!(rt; text.as_slice(), want.as_bytes());
+    }
+    Ok(())
+}
+
+// The members of the new value of leader a, who accepted a state with these members.
+fn new_members(
+    tasks: &mut MasterTasks,
+    accepted: &ClusterState,
+) -> Result<Option<NodeSet>, AllocError> {
+    let votes = letters("abc");
+    match tasks.next_state(id("a"), 2, accepted, &accepted.config, &votes, true)? {
+        Next::Same(_) => Ok(None),
+        Next::New { value, .. } => Ok(Some(value.members)),
+    }
+}
+
+// The members after some are to go and others to come.
+fn changed(
+    alloc: Global,
+    members: &str,
+    removals: &str,
+    additions: &str,
+) -> Result<NodeSet, Fail> {
+    let mut tasks = MasterTasks::new(alloc);
+    for id in letters(removals).as_slice() {
+        tasks.drop_member(*id);
+    }
+    for id in letters(additions).as_slice() {
+        tasks.add_member(*id);
+    }
+    let accepted = state(alloc, "abc", members, "")?;
+    let members = new_members(&mut tasks, &accepted)?.ok_or("a new value")?;
+    Ok(members)
+}
+
+#[test]
+fn members(rt: HostRuntime) -> Result<(), Fail> {
+    let all = "bcdefghijklmnopqrstuvwxyz0123456";
+    let others = "acdefghijklmnopqrstuvwxyz0123456";
+    for (members, removals, additions, want) in [
+        ("abc", "", "d", "abcd"),
+        ("abc", "b", "", "ac"),
+        ("abc", "a", "", "abc"),
+        ("abc", "b", "b", "abc"),
+        (all, "", "a", all),
+        (all, "b", "7a", others),
+    ] {
+        let members = changed(rt.alloc(), members, removals, additions)?;
+        let want = letters(want);
+        assert!(rt; members.as_slice() == want.as_slice(), "{removals} {additions}");
+    }
+    Ok(())
+}
+
+#[test]
+fn a_33rd_member(rt: HostRuntime) -> Result<(), Fail> {
+    let mut tasks = MasterTasks::new(rt.alloc());
+    for id in letters("bcdefghijklmnopqrstuvwxyz0123456").as_slice() {
+        tasks.add_member(*id);
+    }
+    tasks.add_member(id("a"));
+    let accepted = state(rt.alloc(), "c", "", "")?;
+    let members = new_members(&mut tasks, &accepted)?.ok_or("a new value")?;
+    assert_eq!(rt; members.len(), 32);
+    assert!(rt; !members.contains(id("a")));
+    Ok(())
+}
+
+// Three requests, of which the first two are processed.
+fn three(alloc: Global) -> Result<MasterTasks, Fail> {
+    let mut tasks = MasterTasks::new(alloc);
+    for line in [
+        "{\"id\":1,\"put\":{\"key\":\"w\",\"value\":\"1\"}}",
+        "{\"id\":2,\"exclude\":[\"b\"]}",
+    ] {
+        take(alloc, &mut tasks, 0, line)?;
+    }
+    let accepted = state(alloc, "abc", "abc", "")?;
+    let _ = next(alloc, &mut tasks, 1, &accepted)?;
+    take(alloc, &mut tasks, 1, "{\"id\":3,\"exclude\":[\"x\"]}")?;
+    Ok(tasks)
+}
+
+#[test]
+fn answers(rt: HostRuntime) -> Result<(), Fail> {
+    let id = StateId {
+        term: 1,
+        version: 2,
+    };
+    let mut out = Replies::with_room(rt.alloc(), 12)?;
+    assert_eq!(rt; out.room(), 12);
+    let mut tasks = three(rt.alloc())?;
+    assert!(rt; tasks.open_count() <= out.room());
+    tasks.fail_all(4, &mut out);
+    let mut tasks = three(rt.alloc())?;
+    assert!(rt; tasks.open_count() <= out.room());
+    tasks.ack_committed(id, &mut out);
+    assert!(rt; tasks.open_count() <= out.room());
+    tasks.ack_exclusions(&config("abc"), id, &mut out);
+    assert!(rt; tasks.open_count() <= out.room());
+    tasks.time_out_exclusions(&config("abc"), 29_999, &mut out);
+    assert_eq!(rt; tasks.open_count(), 2);
+    assert!(rt; tasks.open_count() <= out.room());
+    tasks.ack_exclusions(&config("ac"), id, &mut out);
+    assert!(rt; tasks.open_count() <= out.room());
+    tasks.time_out_exclusions(&config("abc"), 30_001, &mut out);
+    assert_eq!(rt; tasks.open_count(), 0);
+    let mut tasks = three(rt.alloc())?;
+    assert!(rt; tasks.open_count() <= out.room());
+    tasks.time_out_exclusions(&config("abc"), 30_000, &mut out);
+    let mut all = Replies::with_room(rt.alloc(), 12)?;
+    assert!(rt; out.as_slice().len() <= all.room());
+    all.append(out);
+    let mut text = Vec::new(rt.alloc());
+    write_replies(rt.alloc(), &mut text, &all)?;
+    let want = " {\"failed_to_commit\":4,\"id\":1} {\"failed_to_commit\":4,\"id\":2} {\"failed_to_commit\":4,\"id\":3} {\"acked\":{\"term\":1,\"version\":2},\"id\":1} {\"acked\":{\"term\":1,\"version\":2},\"id\":2} {\"exclusion_timeout\":[],\"id\":3} {\"exclusion_timeout\":[\"b\"],\"id\":2}";
+    assert_eq!(rt; text.as_slice(), want.as_bytes());
+    Ok(())
+}

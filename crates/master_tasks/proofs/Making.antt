@@ -1,0 +1,113 @@
+-- The next state out of its parts.
+use Rattle.std.proofs.Common.{◌≡◌, ℕ, ◌+◌, ◌-◌, Bool, true, false, List, [], ◌++◌, length, refl, sym, ap, ◌∙◌, arith}
+use Rattle.std.specs.Prelude.{if◌then◌else◌}
+use Rattle.std.proofs.lemmas.List.{append-nil, append_assoc, length-append}
+use Rattle.voting_config.specs.Ids.{Id}
+use Rattle.cluster_state.specs.declared.state.ClusterValue.{ClusterValue}
+use Rattle.cluster_state.specs.States.{id_of}
+use Rattle.master_tasks.specs.declared.waiting.Waiting.{Waiting}
+use Rattle.master_tasks.specs.declared.waiting.Outgoing.{Outgoing}
+use Rattle.master_tasks.specs.declared.next.Next.{Next}
+use Rattle.master_tasks.specs.declared.next.Next.TheVariants.{Same, New}
+use Rattle.master_tasks.specs.Replying.{Replies, room_for, with_sent}
+use Rattle.master_tasks.specs.Queue.{Tasks}
+use Rattle.master_tasks.specs.Answering.{answers_by, left_by, nothing_new}
+use Rattle.master_tasks.specs.Processing.{Processed, processed_all}
+use Rattle.master_tasks.specs.NextState.{Leader, value_before, processed_by, next_value, config_for, next_config, is_accepted, is_nothing_new, acks, unacked, next_answers, tasks_after, next_replies, next_of}
+
+-- what was made
+pub record Made (l : Leader) (t : Tasks) (value : ClusterValue) (waiting : List Waiting) (replies : Replies) (config : List Id) : Type 0 where
+  pub value_is : value ≡ next_value l t
+  pub waiting_is : waiting ≡ (processed_by l t).waiting
+  pub replies_are : replies ≡ with_sent (room_for (length t.waiting)) (processed_by l t).answers
+  pub config_is : config ≡ next_config l t
+
+pub made : (l : Leader) (t : Tasks) (before value : ClusterValue) (waiting : List Waiting) (replies : Replies) (config : List Id)
+    → before ≡ value_before l.me t l.accepted.value
+    → value ≡ (processed_all l.accepted before t.waiting).value
+    → waiting ≡ (processed_all l.accepted before t.waiting).waiting
+    → replies ≡ with_sent (room_for (length t.waiting)) (processed_all l.accepted before t.waiting).answers
+    → config ≡ config_for l.me l.accepted l.committed l.votes l.shrink value
+    → Made l t value waiting replies config
+unfolding processed_by next_value next_config
+made l t before value waiting replies config is value_is waiting_is replies_are config_is =
+    let all : processed_all l.accepted before t.waiting ≡ processed_by l t = ap (λ (v : ClusterValue). processed_all l.accepted v t.waiting) is in
+    let value_next : value ≡ next_value l t = value_is ∙ ap (λ (p : Processed). p.value) all in
+    record {
+      value_is = value_next;
+      waiting_is = waiting_is ∙ ap (λ (p : Processed). p.waiting) all;
+      replies_are = replies_are ∙ ap (λ (p : Processed). with_sent (room_for (length t.waiting)) p.answers) all;
+      config_is = config_is ∙ ap (config_for l.me l.accepted l.committed l.votes l.shrink) value_next;
+    }
+
+nothing_new_is : (l : Leader) (t : Tasks) (value : ClusterValue) (waiting : List Waiting) (replies : Replies) (config : List Id) (b : Bool) → Made l t value waiting replies config → b ≡ is_accepted l.term l.accepted config value → is_nothing_new l t ≡ b
+unfolding is_nothing_new
+nothing_new_is l t value waiting replies config b m is =
+    sym (is ∙ ap (λ (c : List Id). is_accepted l.term l.accepted c value) m.config_is ∙ ap (is_accepted l.term l.accepted (next_config l t)) m.value_is)
+
+abbrev pub the_tasks : List Waiting → List Id → List Id → Tasks
+the_tasks waiting removals additions = record { waiting = waiting; removals = removals; additions = additions }
+
+abbrev the_replies : List Outgoing → ℕ → Replies
+the_replies sent room = record { sent = sent; room = room }
+
+-- replies after replies
+sent_twice : (out : Replies) (xs ys : List Outgoing) → with_sent (with_sent out xs) ys ≡ with_sent out (xs ++ ys)
+sent_twice out xs ys =
+    let sent : (out.sent ++ xs) ++ ys ≡ out.sent ++ (xs ++ ys) = append_assoc out.sent xs ys in
+    let room : out.room - length xs - length ys ≡ out.room - length (xs ++ ys) = simp length-append (omega arith) in
+    replies_same _ _ _ _ sent room
+  where
+    replies_same : (a b : List Outgoing) (m n : ℕ) → a ≡ b → m ≡ n → the_replies a m ≡ the_replies b n
+    replies_same a b m n e f = cc
+
+-- what is left, the replies and the outcome, by whether nothing is new
+abbrev tasks_if : Leader → List Waiting → Bool → Tasks
+tasks_if l waiting b = record { waiting = (if b then unacked l waiting else waiting); removals = []; additions = [] }
+
+abbrev replies_if : Leader → Tasks → Processed → Bool → Replies
+replies_if l t p b = with_sent (room_for (length t.waiting)) (p.answers ++ (if b then acks l p.waiting else []))
+
+abbrev next_if : Leader → Tasks → Bool → Next
+next_if l t b = if b then Same (replies_if l t (processed_by l t) b) else New (next_config l t) (next_value l t) (replies_if l t (processed_by l t) b)
+
+tasks_are : (l : Leader) (t : Tasks) (b : Bool) → is_nothing_new l t ≡ b → tasks_after l t ≡ tasks_if l (processed_by l t).waiting b
+unfolding tasks_after
+tasks_are l t b h = ap (tasks_if l (processed_by l t).waiting) h
+
+next_is : (l : Leader) (t : Tasks) (b : Bool) → is_nothing_new l t ≡ b → next_of l t ≡ next_if l t b
+unfolding next_of next_replies next_answers
+next_is l t b h = ap (next_if l t) h
+
+-- there is a new state
+pub tasks_new : (l : Leader) (t : Tasks) (value : ClusterValue) (waiting : List Waiting) (replies : Replies) (config : List Id) → Made l t value waiting replies config → false ≡ is_accepted l.term l.accepted config value
+    → tasks_if l waiting false ≡ tasks_after l t
+tasks_new l t value waiting replies config m is =
+    ap (λ (ws : List Waiting). tasks_if l ws false) m.waiting_is ∙ sym (tasks_are l t false (nothing_new_is l t value waiting replies config false m is))
+
+pub next_new : (l : Leader) (t : Tasks) (value : ClusterValue) (waiting : List Waiting) (replies : Replies) (config : List Id) → Made l t value waiting replies config → false ≡ is_accepted l.term l.accepted config value
+    → New config value replies ≡ next_of l t
+next_new l t value waiting replies config m is =
+    ap (λ (c : List Id). New c value replies) m.config_is
+    ∙ ap (λ (v : ClusterValue). New (next_config l t) v replies) m.value_is
+    ∙ ap (New (next_config l t) (next_value l t)) (m.replies_are ∙ ap (with_sent (room_for (length t.waiting))) (sym (append-nil (processed_by l t).answers)))
+    ∙ sym (next_is l t false (nothing_new_is l t value waiting replies config false m is))
+
+-- nothing is new
+pub tasks_same : (l : Leader) (t : Tasks) (value : ClusterValue) (waiting : List Waiting) (replies : Replies) (config : List Id) → Made l t value waiting replies config → true ≡ is_accepted l.term l.accepted config value
+    → tasks_if l waiting true ≡ tasks_after l t
+tasks_same l t value waiting replies config m is =
+    ap (λ (ws : List Waiting). tasks_if l ws true) m.waiting_is ∙ sym (tasks_are l t true (nothing_new_is l t value waiting replies config true m is))
+
+pub next_same : (l : Leader) (t : Tasks) (value : ClusterValue) (waiting : List Waiting) (replies : Replies) (config : List Id) → Made l t value waiting replies config → true ≡ is_accepted l.term l.accepted config value
+    → Same (with_sent replies (acks l waiting)) ≡ next_of l t
+next_same l t value waiting replies config m is =
+    ap Same
+      (ap (λ (r : Replies). with_sent r (acks l waiting)) m.replies_are
+      ∙ ap (λ (ws : List Waiting). with_sent (with_sent (room_for (length t.waiting)) (processed_by l t).answers) (acks l ws)) m.waiting_is
+      ∙ sent_twice (room_for (length t.waiting)) (processed_by l t).answers (acks l (processed_by l t).waiting))
+    ∙ sym (next_is l t true (nothing_new_is l t value waiting replies config true m is))
+
+-- nobody is to go or to come
+pub emptied : (waiting : List Waiting) (removals additions : List Id) → removals ≡ [] → additions ≡ [] → the_tasks waiting removals additions ≡ the_tasks waiting [] []
+emptied waiting removals additions none nobody = cc
