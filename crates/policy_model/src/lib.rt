@@ -6,7 +6,7 @@ pub mod laws;
 pub mod settings;
 
 pub use events::{DropCause, Event, MemberDrop, Mode, Step};
-pub use laws::law_life_is_local;
+pub use laws::{law_event_moves, law_life_is_local, law_opening_moves};
 pub use settings::{NodeIds, Settings};
 
 #[cfg(test)]
