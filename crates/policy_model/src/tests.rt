@@ -1,21 +1,29 @@
 use super::*;
-use std::alloc::Global;
 use std::test::*;
 use voting_config::{NodeId, NodeSet};
 
+fn id(text: &str) -> NodeId {
+    NodeId::parse(text).unwrap_or_default()
+}
+
 #[test]
-fn settings_hold_their_peers_in_order() {
-    let b = NodeId::parse("b").unwrap_or_default();
-    let mut ids = Vec::new(Global);
-    let _ = ids.push(b);
-    let _ = ids.push(NodeId::parse("a").unwrap_or_default());
+fn listed_peers_keep_their_order(rt: HostRuntime) {
+    let mut ids = Vec::new(rt.alloc());
+    for text in ["b", "a", "b"] {
+        assert!(rt; ids.push(id(text)).is_ok());
+    }
     let settings = Settings {
-        me: b,
+        me: id("c"),
         peers: NodeIds::of(ids),
         initial: NodeSet::new(),
         shrink: true,
     };
-    expect(settings.peers.as_slice().len() == 2);
-    expect(settings.peers.as_slice()[0] == b);
+    assert!(rt; settings.peers.as_slice() == [id("b"), id("a"), id("b")].as_slice());
+}
+
+#[test]
+fn laws() {
     law_life_is_local();
+    law_event_moves();
+    law_opening_moves();
 }
