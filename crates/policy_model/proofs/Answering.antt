@@ -236,9 +236,9 @@ module _ (s : Settings) where
   quiet-does_check v leader Ask = Also _ _ refl Silent
   quiet-does_check v leader Lost = quiet-becomes_candidate v
 
-  quiet-checks_leader : (v : View) (c : Option LeaderCheck) → IsQuiet (checks.checks_leader s v c)
-  quiet-checks_leader v None = Silent
-  quiet-checks_leader v (Some c) = Also _ _ refl (quiet-does_check (moved s v (Notes LeaderChecked)) c.leader (leader_tick c v.moment))
+  quiet-checks_leader : (v : View) (leader : Id) (c : Option LeaderCheck) → IsQuiet (checks.checks_leader s v leader c)
+  quiet-checks_leader v leader None = Silent
+  quiet-checks_leader v leader (Some c) = Also _ _ refl (quiet-does_check (moved s v (Notes LeaderChecked)) leader (leader_tick c v.moment))
 
   answered-follows_checker : (v : View) (p : Id) → IsAnswered s v (checks.follows_checker s v p)
   answered-follows_checker v p =
@@ -282,7 +282,7 @@ module _ (s : Settings) where
   answered-ticks : (v : View) (word : ℕ) (m : Mode) → IsAnswered s v (rules.ticks s v word m)
   answered-ticks v word Candidate = answered-ticks_candidate v word
   answered-ticks v word Leader = answered-ticks_leader v
-  answered-ticks v word (Follower leader) = answered-quiet v _ (quiet-checks_leader v v.leader_check)
+  answered-ticks v word (Follower leader) = answered-quiet v _ (quiet-checks_leader v leader v.leader_check)
 
   -- a frame, by its message
   answered-message : (v : View) (p : Id) (m : Message) → IsAnswered s v (rules.takes_message s v p m)

@@ -14,7 +14,7 @@ use Rattle.world_model.specs.Steps.{is_opening}
 use Rattle.world_model.specs.Histories.{IsLocal, MayFollow, ContinuesUnlessFirst, is_down, is_open}
 use Rattle.policy_model.specs.declared.settings.Settings.{Settings}
 use Rattle.policy_model.specs.Events.{Event, Item, Log, Opens, Begins, Acts, Turns, Drops, Sends, Replies, Notes, NoItems, And, added, acts_of}
-use Rattle.policy_model.specs.Entries.{Life, NoEntries, Opened, Lived, Did, Gone, Bad, NoMemory, log_of}
+use Rattle.policy_model.specs.Entries.{Life, NotBegun, Opened, Lived, Did, Gone, Bad, NoMemory, log_of}
 use Rattle.policy_model.specs.Views.{View, view_of}
 use Rattle.policy_model.specs.Moves.{moved, view_of-And}
 use Rattle.policy_model.specs.Local.{IsAnswered, ByAct, ByQuiet, Ended, is_quiet}
@@ -169,7 +169,7 @@ lived_event s life e is h n = by_way n.does where
   }
 
 lived : (s : Settings) (life : Life) → Follows s life → IsLived s life
-lived s NoEntries f = record { local = tt; up = λ u. refl }
+lived s NotBegun f = record { local = tt; up = λ u. refl }
 lived s (Opened life found) f =
     let before = lived s life f.0 in
     record { local = (before.local, record { follows = refl; up = λ h. refl }, f.1); up = λ u. refl }

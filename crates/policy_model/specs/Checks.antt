@@ -30,20 +30,21 @@ module _ (s : Settings) where
   does_check v leader Ask = send s leader (message.LeaderCheck v.node.term) ∷ []
   does_check v leader Lost = becomes_candidate s v
 
-  abbrev pub checks_leader : View → Option LeaderCheck → List Item
-  checks_leader v None = []
-  checks_leader v (Some c) = then_rule s v (Notes LeaderChecked ∷ []) (λ v'. does_check v' c.leader (leader_tick c v.moment))
+  abbrev pub checks_leader : View → Id → Option LeaderCheck → List Item
+  checks_leader v leader None = []
+  checks_leader v leader (Some c) = then_rule s v (Notes LeaderChecked ∷ []) (λ v'. does_check v' leader (leader_tick c v.moment))
 
   -- the answer to a leader's check
   abbrev pub answers_leader : View → Id → Bool → List Item
   answers_leader v p good = send s p (message.FollowerAnswer good v.node.term v.applied) ∷ []
 
-  -- a leader of an earlier term is not followed, nor is one by another leader of this term
+  -- a leader does not follow; another node follows the one that checks it
   abbrev pub follows_checker : View → Id → List Item
   follows_checker v p =
       if is_leader v.mode then answers_leader v p false
       else then_rule s v (becomes_follower s v p) (λ v'. answers_leader v' p true)
 
+  -- a check of an earlier term is answered no; one of a later term raises the node's own first
   abbrev pub is_checked_by_leader : View → Id → ℕ → List Item
   is_checked_by_leader v p term =
       if nat_lt term v.node.term then answers_leader v p false

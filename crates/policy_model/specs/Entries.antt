@@ -21,12 +21,12 @@ pub data Entry : Type 0 where
 
 -- the openings of a node's journal and its entries, the newest last
 pub data Life : Type 0 where
-  NoEntries : Life
+  NotBegun : Life
   Opened : (before : Life) → (found : Kept) → Life
   Lived : (before : Life) → (entry : Entry) → Life
 
 abbrev pub log_of : Life → Log
-log_of NoEntries = NoItems
+log_of NotBegun = NoItems
 log_of (Opened life found) = And (log_of life) (Opens found)
 log_of (Lived life (Did event items)) = added (And (log_of life) (Begins event)) items
 log_of (Lived life entry) = log_of life

@@ -10,7 +10,7 @@ use Rattle.world_model.specs.Replies.{writes}
 use Rattle.world_model.specs.Histories.{ContinuesUnlessFirst}
 use Rattle.policy_model.specs.declared.settings.Settings.{Settings}
 use Rattle.policy_model.specs.Events.{Event, Start, Item, Begins, Acts, Sends, Replies, Log, And, acts_of}
-use Rattle.policy_model.specs.Entries.{Entry, Did, Gone, Bad, NoMemory, Life, NoEntries, Opened, Lived, log_of}
+use Rattle.policy_model.specs.Entries.{Entry, Did, Gone, Bad, NoMemory, Life, NotBegun, Opened, Lived, log_of}
 use Rattle.policy_model.specs.Views.{view_of}
 use Rattle.policy_model.specs.Rules.{next_of}
 
@@ -40,14 +40,14 @@ has_fault (i ∷ is) = has_fault is
 
 -- the last event was struck: only an opening comes next
 abbrev pub is_struck : Life → Bool
-is_struck NoEntries = false
+is_struck NotBegun = false
 is_struck (Opened life found) = false
 is_struck (Lived life (Did event items)) = has_fault items
 is_struck (Lived life entry) = is_struck life
 
 -- no event came since the opening: the start comes next
 abbrev pub starts_next : Life → Bool
-starts_next NoEntries = true
+starts_next NotBegun = true
 starts_next (Opened life found) = true
 starts_next (Lived life (Did event items)) = false
 starts_next (Lived life entry) = starts_next life
@@ -72,6 +72,6 @@ module _ (s : Settings) where
 
   -- at each event the node does what the rules say, and each opening finds what was kept
   abbrev pub Follows : Life → Type 0
-  Follows NoEntries = Unit {0}
+  Follows NotBegun = Unit {0}
   Follows (Opened life found) = Follows life × ContinuesUnlessFirst (acts_of (log_of life)) (Open found)
   Follows (Lived life entry) = Follows life × EntryFollows life entry

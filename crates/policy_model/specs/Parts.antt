@@ -24,7 +24,7 @@ last_moment = 2 ^ 62
 abbrev pub election_duration : ℕ
 election_duration = 500
 
--- attempts are counted so far
+-- attempts are counted up to this one, from which on they wait no longer
 abbrev pub most_attempts : ℕ
 most_attempts = 99
 

@@ -43,7 +43,7 @@ module _ (s : Settings) where
   abbrev pub ticks : View → ℕ → Mode → List Item
   ticks v word Candidate = ticks_candidate v word
   ticks v word Leader = ticks_leader v
-  ticks v word (Follower leader) = checks_leader s v v.leader_check
+  ticks v word (Follower leader) = checks_leader s v leader v.leader_check
 
   abbrev pub takes_message : View → Id → Message → List Item
   takes_message v p (message.StartJoin candidate term) = starts_join s v candidate term
