@@ -1,6 +1,6 @@
 -- Each act of a rule is answered as the node's acts so far say.
-use Rattle.std.proofs.Common.{◌≡◌, ℕ, ◌+◌, Bool, true, false, not, ◌&&◌, ◌||◌, Option, None, Some, Result, Ok, Err, List, [], ◌∷◌, ◌++◌, map, refl}
-use Rattle.std.specs.Prelude.{if◌then◌else◌, is_some, nat_lt, nat_le}
+use Rattle.std.proofs.Common.{ℕ, Bool, true, false, not, ◌&&◌, Option, None, Some, Result, Ok, Err, List, [], ◌∷◌, ◌++◌, refl}
+use Rattle.std.specs.Prelude.{if◌then◌else◌, is_some, nat_lt}
 use Rattle.voting_config.specs.Ids.{Id, same}
 use Rattle.bootstrap.specs.Decisions.{decision_of}
 use Rattle.peer_finder.specs.Peers.{answered_set}
@@ -25,9 +25,9 @@ use Rattle.master_tasks.specs.declared.waiting.Outgoing.{Outgoing}
 use Rattle.master_tasks.specs.Queue.{is_full_of}
 use Rattle.master_tasks.specs.NextState.{next_answers, is_nothing_new}
 use Rattle.world_model.specs.declared.acts.Act.{Act}
-use Rattle.world_model.specs.declared.acts.Act.TheVariants.{Bootstrap, StartJoin, TakeJoin, Value, Publish, Response, Commit}
+use Rattle.world_model.specs.declared.acts.Act.TheVariants.{Bootstrap, StartJoin, TakeJoin, Publish, Response, Commit}
 use Rattle.policy_model.specs.declared.settings.Settings.{Settings}
-use Rattle.policy_model.specs.Events.{Mode, Candidate, Leader, Follower, Event, Start, Tick, FrameCame, LineCame, DropCause, Item, Turns, Drops, Notes, LeaderChecked, StateMade}
+use Rattle.policy_model.specs.Events.{Mode, Candidate, Leader, Follower, Event, Start, Tick, FrameCame, LineCame, DropCause, Item, Notes, LeaderChecked, StateMade}
 use Rattle.policy_model.specs.Parts.{as_master}
 use Rattle.policy_model.specs.Views.{View}
 use Rattle.policy_model.specs.Moves.{moved, moved_all}
@@ -40,7 +40,7 @@ use Rattle.policy_model.specs.Publications as publications
 use Rattle.policy_model.specs.Checks as checks
 use Rattle.policy_model.specs.Requests as requests
 use Rattle.policy_model.specs.Rules as rules
-use Rattle.policy_model.specs.Local.{IsAnswered, IsQuiet, is_quiet, Silent, Also, Ended, ByAct, ByQuiet}
+use Rattle.policy_model.specs.Local.{IsAnswered, IsQuiet, Silent, Also, Ended, ByAct, ByQuiet}
 use Rattle.policy_model.proofs.Sweeps.{moved_all-replies}
 
 -- what is quiet
@@ -112,8 +112,8 @@ module _ (s : Settings) where
   answered-makes_state v =
       let answers = next_answers (as_master s v.node) v.tasks in
       answered-append v (doing.reply_all s answers) _ (answered-quiet v _ (quiet-replies s answers))
-        (rw (moved_all-replies s v answers)
-          (ByQuiet v (Notes StateMade) _ refl (answered-when_made v (is_nothing_new (as_master s v.node) v.tasks))))
+      (rw (moved_all-replies s v answers)
+      (ByQuiet v (Notes StateMade) _ refl (answered-when_made v (is_nothing_new (as_master s v.node) v.tasks))))
 
   quiet-asks_successor : (v : View) (o : Option Id) → IsQuiet (next.asks_successor s v o)
   quiet-asks_successor v None = search (Silent)
@@ -199,7 +199,7 @@ module _ (s : Settings) where
   answered-accepts : (v : View) (p : Id) (state : ClusterState) → IsAnswered s v (publications.accepts s v p state)
   answered-accepts v p state =
       ByAct v (Publish (record { source = p; state = state })) _ refl
-        (search (answered-quiet, quiet-if, quiet-becomes_follower, Silent, Also))
+      (search (answered-quiet, quiet-if, quiet-becomes_follower, Silent, Also))
 
   answered-published_to : (v : View) (p : Id) (state : ClusterState) → IsAnswered s v (publications.is_published_to s v p state)
   answered-published_to v p state =
@@ -212,9 +212,9 @@ module _ (s : Settings) where
   answered-counts_response v p id =
       let act : Act = Response (record { source = p; target = s.me; term = id.term; version = id.version }) in
       answered-if v (doing.is_leader v.mode && is_some v.publication && joins.fits v.node.acks p) _ _
-        (ByAct v act _ refl
-          (answered-quiet _ _ (quiet-if _ _ _ (quiet-sends_commit (doing.after_act s v act) (publications.is_commit_sent v.publication) p id) Silent)))
-        (Ended v)
+      (ByAct v act _ refl
+      (answered-quiet _ _ (quiet-if _ _ _ (quiet-sends_commit (doing.after_act s v act) (publications.is_commit_sent v.publication) p id) Silent)))
+      (Ended v)
 
   quiet-acks_exclusions : (v : View) → IsQuiet (publications.acks_exclusions s v)
   quiet-acks_exclusions v = search (quiet-append, quiet-replies, Silent, Also)
@@ -224,8 +224,8 @@ module _ (s : Settings) where
       let act : Act = Commit (record { source = p; term = id.term; version = id.version }) in
       let after = doing.after_act s v act in
       ByAct v act _ refl
-        (answered-if after _ _ _
-          (answered-then after _ (next.goes_on s) (answered-quiet after _ (quiet-acks_exclusions after)) answered-goes_on) (Ended after))
+      (answered-if after _ _ _
+      (answered-then after _ (next.goes_on s) (answered-quiet after _ (quiet-acks_exclusions after)) answered-goes_on) (Ended after))
 
   -- checks
   quiet-checks_followers : (v : View) → IsQuiet (checks.checks_followers s v)
@@ -243,12 +243,12 @@ module _ (s : Settings) where
   answered-follows_checker : (v : View) (p : Id) → IsAnswered s v (checks.follows_checker s v p)
   answered-follows_checker v p =
       answered-if v (doing.is_leader v.mode) _ _ (ByQuiet _ _ _ refl (Ended _))
-        (answered-then v _ (λ u. checks.answers_leader s u p true) (answered-quiet v _ (quiet-becomes_follower v p)) (λ u. ByQuiet _ _ _ refl (Ended _)))
+      (answered-then v _ (λ u. checks.answers_leader s u p true) (answered-quiet v _ (quiet-becomes_follower v p)) (λ u. ByQuiet _ _ _ refl (Ended _)))
 
   answered-checked_by_leader : (v : View) (p : Id) (term : ℕ) → IsAnswered s v (checks.is_checked_by_leader s v p term)
   answered-checked_by_leader v p term =
       answered-if v (nat_lt term v.node.term) _ _ (ByQuiet _ _ _ refl (Ended _))
-        (answered-then v _ (λ u. checks.follows_checker s u p) (answered-raises_term v p term) (λ u. answered-follows_checker u p))
+      (answered-then v _ (λ u. checks.follows_checker s u p) (answered-raises_term v p term) (λ u. answered-follows_checker u p))
 
   -- requests
   quiet-times_out : (v : View) → IsQuiet (requests.times_out_exclusions s v)
@@ -268,16 +268,16 @@ module _ (s : Settings) where
   answered-ticks_candidate : (v : View) (word : ℕ) → IsAnswered s v (rules.ticks_candidate s v word)
   answered-ticks_candidate v word =
       answered-then v _ (λ u. elections.waits_for_election s u word)
-        (answered-then v _ (discovery.asks_peers s) (answered-bootstraps v) (λ u. answered-quiet u _ (quiet-asks_peers u)))
-        (λ u. answered-quiet u _ (quiet-waits_for_election u word))
+      (answered-then v _ (discovery.asks_peers s) (answered-bootstraps v) (λ u. answered-quiet u _ (quiet-asks_peers u)))
+      (λ u. answered-quiet u _ (quiet-waits_for_election u word))
 
   answered-ticks_leader : (v : View) → IsAnswered s v (rules.ticks_leader s v)
   answered-ticks_leader v =
       answered-if v (rules.has_timed_out v.publication v.moment) _ _
-        (answered-quiet v _ (quiet-becomes_candidate v))
-        (answered-then v _ (next.goes_on s)
-          (answered-then v _ (checks.checks_followers s) (answered-quiet v _ (quiet-times_out v)) (λ u. answered-quiet u _ (quiet-checks_followers u)))
-          answered-goes_on)
+      (answered-quiet v _ (quiet-becomes_candidate v))
+      (answered-then v _ (next.goes_on s)
+      (answered-then v _ (checks.checks_followers s) (answered-quiet v _ (quiet-times_out v)) (λ u. answered-quiet u _ (quiet-checks_followers u)))
+      answered-goes_on)
 
   answered-ticks : (v : View) (word : ℕ) (m : Mode) → IsAnswered s v (rules.ticks s v word m)
   answered-ticks v word Candidate = answered-ticks_candidate v word

@@ -1,7 +1,6 @@
 -- What the rules say in plain cases.
-use Rattle.std.proofs.Common.{◌≡◌, ℕ, true, false, None, Some, Ok, List, [], ◌∷◌, ◌++◌, refl}
+use Rattle.std.proofs.Common.{◌≡◌, ℕ, true, false, None, Some, Ok, List, [], ◌∷◌, refl}
 use Rattle.voting_config.specs.Ids.{Id}
-use Rattle.cluster_state.specs.Initial.{initial_state, empty_value}
 use Rattle.cluster_state.specs.JoinCheck.{join_checked}
 use Rattle.cluster_state.specs.declared.state.ClusterState.{ClusterState}
 use Rattle.cluster_state.specs.declared.state.ClusterValue.{ClusterValue}
@@ -9,17 +8,14 @@ use Rattle.cluster_state.specs.declared.state.StateId.{StateId}
 use Rattle.wire_frames.specs.declared.frame.Frame.{Frame}
 use Rattle.wire_frames.specs.declared.frame.Message.{Message}
 use Rattle.wire_frames.specs.declared.frame.Message.TheVariants as message
-use Rattle.client_lines.specs.declared.request.Ask.{Ask}
 use Rattle.client_lines.specs.declared.request.Ask.TheVariants as ask
 use Rattle.client_lines.specs.declared.request.Request.{Request}
-use Rattle.client_lines.specs.declared.reply.Answer.{Answer}
 use Rattle.client_lines.specs.declared.reply.Answer.TheVariants as answer
-use Rattle.client_lines.specs.declared.reply.Reply.{Reply}
 use Rattle.client_lines.specs.declared.reply.Reply.TheVariants as reply
 use Rattle.master_tasks.specs.declared.waiting.Waiting.{Waiting}
-use Rattle.master_tasks.specs.Queue.{Tasks, no_tasks, is_full_of}
+use Rattle.master_tasks.specs.Queue.{no_tasks, is_full_of}
 use Rattle.master_tasks.specs.NextState.{processed_by, next_value, config_for, next_config, is_accepted, is_nothing_new, next_answers, tasks_after}
-use Rattle.world_model.specs.declared.acts.Act.TheVariants.{Bootstrap, StartJoin, Value}
+use Rattle.world_model.specs.declared.acts.Act.TheVariants.{Bootstrap}
 use Rattle.world_model.specs.declared.acts.Reply.TheVariants.{Taken}
 use Rattle.world_model.specs.declared.acts.Outcome.TheVariants.{Answered}
 use Rattle.policy_model.specs.declared.settings.Settings.{Settings}
@@ -137,7 +133,7 @@ module _ (s : Settings) (v : View) where
   -- 30 seconds after its start a publication has failed, and nothing else is done at this tick
   publication_times_out : (id : StateId) (targets : List Id)
       → ticks_leader s (record v { mode = Leader; moment = 30008; publication = Some (published_at id targets 8); tasks = no_tasks })
-        ≡ Turns Candidate v.node.term ∷ []
+      ≡ Turns Candidate v.node.term ∷ []
   publication_times_out id targets = refl
 
   -- a leader that follows another node becomes a candidate first
@@ -152,17 +148,19 @@ module _ (s : Settings) (v : View) where
   -- the first commit acknowledges what the state has
   commit_acknowledges : (key text : List ℕ) (id : StateId)
       → sends_first_commit s (record v {
-          node = record v.node { term = 1; version = 2 };
-          publication = Some (published_at id [] 0);
-          tasks = record no_tasks { waiting = record { conn = 5; arrived = 0; request = record { id = 9; ask = ask.Put key text }; processed = true } ∷ [] } }) id
-        ≡ Replies (record { conn = 5; reply = reply.To 9 (answer.Acked (state_id 1 2)) }) ∷ Notes CommitAcked ∷ []
+        node = record v.node { term = 1; version = 2 };
+        publication = Some (published_at id [] 0);
+        tasks = record no_tasks { waiting = record { conn = 5; arrived = 0; request = record { id = 9; ask = ask.Put key text }; processed = true } ∷ [] };
+      }) id
+      ≡ Replies (record { conn = 5; reply = reply.To 9 (answer.Acked (state_id 1 2)) }) ∷ Notes CommitAcked ∷ []
   commit_acknowledges key text id = refl
 
   -- a node that may not win hands over to the least responder that is a voter, and processes no request
   handover_is_sent : hands_over s (record v {
-          node = record v.node { term = 4; committed = b ∷ [] };
-          moment = 2000;
-          handover_due = 2000;
-          publication = Some (record (published_at (state_id 4 1) (a ∷ b ∷ []) 0) { responders = a ∷ b ∷ [] }) })
+    node = record v.node { term = 4; committed = b ∷ [] };
+    moment = 2000;
+    handover_due = 2000;
+    publication = Some (record (published_at (state_id 4 1) (a ∷ b ∷ []) 0) { responders = a ∷ b ∷ [] });
+  })
       ≡ Notes HandedOver ∷ Sends (record { from = s.me; to = a; message = message.StartJoin b 5 }) ∷ Sends (record { from = s.me; to = b; message = message.StartJoin b 5 }) ∷ []
   handover_is_sent = refl

@@ -1,8 +1,7 @@
 -- The acts of a life that follows the policy follow each other.
-use Rattle.std.proofs.Common.{◌≡◌, ℕ, Bool, true, false, not, ◌||◌, Option, None, Some, List, [], ◌∷◌, ◌++◌, refl, sym, ap, subst, ◌∙◌, ◌⊎◌, inl, inr}
+use Rattle.std.proofs.Common.{◌≡◌, ℕ, Bool, true, false, not, ◌||◌, List, [], ◌∷◌, ◌++◌, refl, sym, ap, subst, ◌∙◌, ◌⊎◌, inl, inr}
 use Rattle.world_model.specs.declared.acts.Act.{Act}
 use Rattle.world_model.specs.declared.acts.Act.TheVariants.{Bootstrap, StartJoin, TakeJoin, Value, Publish, Response, Commit, Open}
-use Rattle.world_model.specs.declared.acts.Message.{Message}
 use Rattle.world_model.specs.declared.acts.Reply.{Reply}
 use Rattle.world_model.specs.declared.acts.Reply.TheVariants.{Taken, Refused, Stopped}
 use Rattle.world_model.specs.declared.acts.Outcome.{Outcome}
@@ -11,9 +10,9 @@ use Rattle.world_model.specs.Acts.{NodeHistory, NoActs, Then, is_ok}
 use Rattle.world_model.specs.NodeState.{NodeState}
 use Rattle.world_model.specs.Replies.{reply_at, is_taken, writes, IsOutcomeAt}
 use Rattle.world_model.specs.Steps.{is_opening}
-use Rattle.world_model.specs.Histories.{IsLocal, MayFollow, ContinuesUnlessFirst, is_down, is_open}
+use Rattle.world_model.specs.Histories.{IsLocal, ContinuesUnlessFirst, is_down}
 use Rattle.policy_model.specs.declared.settings.Settings.{Settings}
-use Rattle.policy_model.specs.Events.{Event, Item, Log, Opens, Begins, Acts, Turns, Drops, Sends, Replies, Notes, NoItems, And, added, acts_of}
+use Rattle.policy_model.specs.Events.{Event, Item, Log, Opens, Begins, Acts, Turns, Drops, Sends, Replies, Notes, And, added, acts_of}
 use Rattle.policy_model.specs.Entries.{Life, NotBegun, Opened, Lived, Did, Gone, Bad, NoMemory, log_of}
 use Rattle.policy_model.specs.Views.{View, view_of}
 use Rattle.policy_model.specs.Moves.{moved, view_of-And}
@@ -85,18 +84,18 @@ fine_after s l v (Acts act o ∷ is) h a f =
     let own : not (is_opening act) ≡ true = rw a.1 refl in
     let follows : IsOutcomeAt s.me (view_of s l).node act o = subst (λ (x : Outcome). IsOutcomeAt s.me (view_of s l).node act x) (sym a.0) (ap (λ (u : View). reply_at s.me u.node act) h) in
     fine_after s (And l (Acts act o)) (moved s v (Acts act o)) is (ap (λ (u : View). moved s u (Acts act o)) h ∙ sym (view_of-And s l (Acts act o) own)) a.2
-      (record { local = acted_local s l act o f a.1 follows; up = subst (λ (x : Outcome). is_down (Then (acts_of l) act x) ≡ false) (sym a.0) refl })
+    (record { local = acted_local s l act o f a.1 follows; up = subst (λ (x : Outcome). is_down (Then (acts_of l) act x) ≡ false) (sym a.0) refl })
 fine_after s l v (Turns mode term ∷ is) h a f =
     fine_after s (And l (Turns mode term)) (moved s v (Turns mode term)) is (ap (λ (u : View). moved s u (Turns mode term)) h ∙ sym (view_of-And s l (Turns mode term) refl)) a
-      (record { local = f.local; up = f.up })
+    (record { local = f.local; up = f.up })
 fine_after s l v (Drops member cause ∷ is) h a f =
     fine_after s (And l (Drops member cause)) (moved s v (Drops member cause)) is (ap (λ (u : View). moved s u (Drops member cause)) h ∙ sym (view_of-And s l (Drops member cause) refl)) a
-      (record { local = f.local; up = f.up })
+    (record { local = f.local; up = f.up })
 fine_after s l v (Sends frame ∷ is) h a f = fine_after s (And l (Sends frame)) v is h a (record { local = f.local; up = f.up })
 fine_after s l v (Replies answer ∷ is) h a f = fine_after s (And l (Replies answer)) v is h a (record { local = f.local; up = f.up })
 fine_after s l v (Notes note ∷ is) h a f =
     fine_after s (And l (Notes note)) (moved s v (Notes note)) is (ap (λ (u : View). moved s u (Notes note)) h ∙ sym (view_of-And s l (Notes note) refl)) a
-      (record { local = f.local; up = f.up })
+    (record { local = f.local; up = f.up })
 
 taken_of : (r : Reply) → is_ok (Answered r) ≡ is_taken r
 taken_of (Taken sends wins) = refl
@@ -112,27 +111,27 @@ struck_follows me p act (Crashed kept) t w f = (t, w)
 struck_local : (s : Settings) (l : Log) (v : View) (is left : List Item) → v ≡ view_of s l → AreAnswered s v is → IsStruck is left → Fine s l → IsLocal s.me (acts_of (added l left))
 struck_local s l v is left h a (Here act sends wins rest o w e) f =
     let taken : is_taken (reply_at s.me v.node act) ≡ true =
-          sym (taken_of (reply_at s.me v.node act)) ∙ ap (λ (x : Outcome). is_ok x) (sym a.0) in
+    sym (taken_of (reply_at s.me v.node act)) ∙ ap (λ (x : Outcome). is_ok x) (sym a.0) in
     acted_local s l act o f a.1
-      (struck_follows s.me (view_of s l).node act o (subst (λ (u : View). is_taken (reply_at s.me u.node act) ≡ true) h taken) w e)
+    (struck_follows s.me (view_of s l).node act o (subst (λ (u : View). is_taken (reply_at s.me u.node act) ≡ true) h taken) w e)
 struck_local s l v is left h a (Later (Opens found) rest left' q) f = absurd a
 struck_local s l v is left h a (Later (Begins event) rest left' q) f = absurd a
 struck_local s l v is left h a (Later (Acts act o) rest left' q) f =
     let own : not (is_opening act) ≡ true = rw a.1 refl in
     let follows : IsOutcomeAt s.me (view_of s l).node act o = subst (λ (x : Outcome). IsOutcomeAt s.me (view_of s l).node act x) (sym a.0) (ap (λ (u : View). reply_at s.me u.node act) h) in
     struck_local s (And l (Acts act o)) (moved s v (Acts act o)) rest left' (ap (λ (u : View). moved s u (Acts act o)) h ∙ sym (view_of-And s l (Acts act o) own)) a.2 q
-      (record { local = acted_local s l act o f a.1 follows; up = subst (λ (x : Outcome). is_down (Then (acts_of l) act x) ≡ false) (sym a.0) refl })
+    (record { local = acted_local s l act o f a.1 follows; up = subst (λ (x : Outcome). is_down (Then (acts_of l) act x) ≡ false) (sym a.0) refl })
 struck_local s l v is left h a (Later (Turns mode term) rest left' q) f =
     struck_local s (And l (Turns mode term)) (moved s v (Turns mode term)) rest left' (ap (λ (u : View). moved s u (Turns mode term)) h ∙ sym (view_of-And s l (Turns mode term) refl)) a q
-      (record { local = f.local; up = f.up })
+    (record { local = f.local; up = f.up })
 struck_local s l v is left h a (Later (Drops member cause) rest left' q) f =
     struck_local s (And l (Drops member cause)) (moved s v (Drops member cause)) rest left' (ap (λ (u : View). moved s u (Drops member cause)) h ∙ sym (view_of-And s l (Drops member cause) refl)) a q
-      (record { local = f.local; up = f.up })
+    (record { local = f.local; up = f.up })
 struck_local s l v is left h a (Later (Sends frame) rest left' q) f = struck_local s l v rest left' h a q f
 struck_local s l v is left h a (Later (Replies answer) rest left' q) f = struck_local s l v rest left' h a q f
 struck_local s l v is left h a (Later (Notes note) rest left' q) f =
     struck_local s (And l (Notes note)) (moved s v (Notes note)) rest left' (ap (λ (u : View). moved s u (Notes note)) h ∙ sym (view_of-And s l (Notes note) refl)) a q
-      (record { local = f.local; up = f.up })
+    (record { local = f.local; up = f.up })
 
 fault_later : (i : Item) (left : List Item) → has_fault left ≡ true → has_fault (without_output i ++ left) ≡ true
 fault_later (Opens found) left h = h
@@ -156,8 +155,10 @@ lived_event : (s : Settings) (life : Life) (e : Event) (is : List Item) → IsLi
 lived_event s life e is h n = by_way n.does where
   begins : Fine s (And (log_of life) (Begins e))
   begins = record { local = h.local; up = h.up n.up }
+
   answered : AreAnswered s (view_of s (And (log_of life) (Begins e))) (items_of s (log_of life) e)
   answered = are_answered s (view_of s (And (log_of life) (Begins e))) (items_of s (log_of life) e) (answered-next s (view_of s (And (log_of life) (Begins e))) e)
+
   by_way : (is ≡ items_of s (log_of life) e) ⊎ IsStruck (items_of s (log_of life) e) is → IsLived s (Lived life (Did e is))
   by_way (inl same) =
       let fine = fine_after s (And (log_of life) (Begins e)) (view_of s (And (log_of life) (Begins e))) (items_of s (log_of life) e) refl answered begins in

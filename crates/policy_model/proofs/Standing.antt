@@ -1,5 +1,5 @@
 -- What a node is after an event and after an opening.
-use Rattle.std.proofs.Common.{◌≡◌, Bool, true, false, not, ◌&&◌, None, List, [], ◌∷◌, refl, ap, ◌∙◌}
+use Rattle.std.proofs.Common.{◌≡◌, Bool, true, false, ◌&&◌, None, List, [], ◌∷◌, refl, ap, ◌∙◌}
 use Rattle.cluster_state.specs.declared.state.Kept.{Kept}
 use Rattle.world_model.specs.declared.acts.Act.TheVariants.{Open}
 use Rattle.world_model.specs.declared.acts.Reply.TheVariants.{Taken}

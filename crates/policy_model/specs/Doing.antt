@@ -84,8 +84,8 @@ module _ (s : Settings) where
   starts_join v candidate term =
       act_now v (StartJoin candidate term)
       ∷ (if takes v (StartJoin candidate term)
-         then send candidate (message.Join term (id_of v.node.accepted)) ∷ becomes_candidate_once (after_act v (StartJoin candidate term))
-         else [])
+      then send candidate (message.Join term (id_of v.node.accepted)) ∷ becomes_candidate_once (after_act v (StartJoin candidate term))
+      else [])
 
   -- the same where the term is above the node's
   abbrev pub raises_term : View → Id → ℕ → List Item

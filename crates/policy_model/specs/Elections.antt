@@ -74,7 +74,7 @@ module _ (s : Settings) where
   counts_pre_vote v (Some round) p term last =
       if is_candidate v.mode && fits p round
       then Notes (RoundAnswered p term last)
-           ∷ goes_to_election v (added_of (answered round p term last) last v.node.committed v.node.accepted.config)
+      ∷ goes_to_election v (added_of (answered round p term last) last v.node.committed v.node.accepted.config)
       else []
 
   -- who refuses a pre-vote names the leader

@@ -10,7 +10,7 @@ use Rattle.world_model.specs.Replies.{writes}
 use Rattle.world_model.specs.Histories.{ContinuesUnlessFirst}
 use Rattle.policy_model.specs.declared.settings.Settings.{Settings}
 use Rattle.policy_model.specs.Events.{Event, Start, Item, Begins, Acts, Sends, Replies, Log, And, acts_of}
-use Rattle.policy_model.specs.Entries.{Entry, Did, Gone, Bad, NoMemory, Life, NotBegun, Opened, Lived, log_of}
+use Rattle.policy_model.specs.Entries.{Entry, Did, Life, NotBegun, Opened, Lived, log_of}
 use Rattle.policy_model.specs.Views.{view_of}
 use Rattle.policy_model.specs.Rules.{next_of}
 
@@ -29,8 +29,8 @@ without_output i = i ∷ []
 -- the event's items up to an act that writes and would be taken, at which the disk failed or the node crashed
 pub data IsStruck : List Item → List Item → Type 0 where
   Here : (act : Act) (sends : Option Message) (wins : Bool) (rest : List Item) (fault : Outcome)
-       → writes act ≡ true → is_fault fault ≡ true
-       → IsStruck (Acts act (Answered (Taken sends wins)) ∷ rest) (Acts act fault ∷ [])
+      → writes act ≡ true → is_fault fault ≡ true
+      → IsStruck (Acts act (Answered (Taken sends wins)) ∷ rest) (Acts act fault ∷ [])
   Later : (i : Item) (rest left : List Item) → IsStruck rest left → IsStruck (i ∷ rest) (without_output i ++ left)
 
 abbrev pub has_fault : List Item → Bool

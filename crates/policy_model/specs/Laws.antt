@@ -19,7 +19,7 @@ abbrev pub LawEventMoves : Type 0
 LawEventMoves =
     (s : Settings) (life : Life) (event : Event)
     → view_of s (log_of (Lived life (Did event (items_of s (log_of life) event))))
-      ≡ moved_all s (moved s (view_of s (log_of life)) (Begins event)) (items_of s (log_of life) event)
+    ≡ moved_all s (moved s (view_of s (log_of life)) (Begins event)) (items_of s (log_of life) event)
 
 -- after an opening that finds what was kept a node is new, but for what it kept
 abbrev pub LawOpeningMoves : Type 0

@@ -24,6 +24,6 @@ pub data IsQuiet : List Item → Type 0 where
 pub data IsAnswered (s : Settings) : View → List Item → Type 0 where
   Ended : (v : View) → IsAnswered s v []
   ByAct : (v : View) (act : Act) (is : List Item) → is_opening act ≡ false
-        → IsAnswered s (moved s v (Acts act (Answered (reply_at s.me v.node act)))) is
-        → IsAnswered s v (Acts act (Answered (reply_at s.me v.node act)) ∷ is)
+      → IsAnswered s (moved s v (Acts act (Answered (reply_at s.me v.node act)))) is
+      → IsAnswered s v (Acts act (Answered (reply_at s.me v.node act)) ∷ is)
   ByQuiet : (v : View) (i : Item) (is : List Item) → is_quiet i ≡ true → IsAnswered s (moved s v i) is → IsAnswered s v (i ∷ is)

@@ -1,6 +1,5 @@
 -- What one more item makes of a node, told by what the node was.
-use Rattle.std.specs.Prelude.{◌≡◌, ℕ, ◌+◌, max, min, Bool, true, false, not, ◌&&◌, Option, None, Some, List, [], ◌∷◌, if◌then◌else◌, refl}
-use Rattle.cluster_state.specs.declared.state.ClusterValue.{ClusterValue}
+use Rattle.std.specs.Prelude.{◌≡◌, ℕ, ◌+◌, max, min, Bool, true, false, not, ◌&&◌, None, Some, List, [], ◌∷◌, if◌then◌else◌, refl}
 use Rattle.cluster_state.specs.declared.state.Kept.{Kept}
 use Rattle.world_model.specs.declared.acts.Act.{Act}
 use Rattle.world_model.specs.declared.acts.Act.TheVariants.{Bootstrap, StartJoin, TakeJoin, Value, Publish, Response, Commit, Open}

@@ -1,5 +1,5 @@
 -- What a leader does that has no publication in flight: it makes the next state, or hands over.
-use Rattle.std.specs.Prelude.{ℕ, ◌+◌, Bool, false, not, ◌&&◌, Option, None, Some, List, [], ◌∷◌, ◌++◌, find, nat_le, if◌then◌else◌}
+use Rattle.std.specs.Prelude.{◌+◌, Bool, false, not, ◌&&◌, Option, None, Some, List, [], ◌∷◌, ◌++◌, find, nat_le, if◌then◌else◌}
 use Rattle.voting_config.specs.Ids.{Id, has}
 use Rattle.cluster_state.specs.declared.state.ClusterState.{ClusterState}
 use Rattle.cluster_state.specs.declared.state.ClusterValue.{ClusterValue}
@@ -56,8 +56,8 @@ module _ (s : Settings) where
   publishes v made =
       act_now s made (value_act v)
       ∷ (if takes s made (value_act v)
-         then send_all s (value_now v).members (message.Publish (state_now v))
-         else becomes_candidate s (after_act s made (value_act v)))
+      then send_all s (value_now v).members (message.Publish (state_now v))
+      else becomes_candidate s (after_act s made (value_act v)))
 
   -- what can be answered is answered, and a state is published where something is new
   abbrev pub makes_state : View → List Item

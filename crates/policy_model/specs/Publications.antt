@@ -1,5 +1,5 @@
 -- How a state is accepted, responded to and committed.
-use Rattle.std.specs.Prelude.{ℕ, Bool, false, ◌&&◌, Option, None, Some, List, [], ◌∷◌, ◌++◌, is_some, if◌then◌else◌}
+use Rattle.std.specs.Prelude.{Bool, false, ◌&&◌, Option, None, Some, List, [], ◌∷◌, ◌++◌, is_some, if◌then◌else◌}
 use Rattle.voting_config.specs.Ids.{Id, same}
 use Rattle.cluster_state.specs.declared.state.ClusterState.{ClusterState}
 use Rattle.cluster_state.specs.declared.state.StateId.{StateId}
@@ -37,8 +37,8 @@ module _ (s : Settings) where
       let act = Publish (record { source = p; state = state }) in
       act_now s v act
       ∷ (if takes s v act
-         then send s p (message.Response (id_of state)) ∷ (if same p s.me then [] else becomes_follower s (after_act s v act) p)
-         else [])
+      then send s p (message.Response (id_of state)) ∷ (if same p s.me then [] else becomes_follower s (after_act s v act) p)
+      else [])
 
   abbrev pub is_published_to : View → Id → ClusterState → List Item
   is_published_to v p state = then_rule s v (raises_term s v p state.term) (λ v'. accepts v' p state)
@@ -60,7 +60,7 @@ module _ (s : Settings) where
       let act = Response (record { source = p; target = s.me; term = id.term; version = id.version }) in
       if is_leader v.mode && is_some v.publication && fits v.node.acks p
       then act_now s v act
-           ∷ (if commits_now (reply_now s v act) then sends_commit (after_act s v act) (is_commit_sent v.publication) p id else [])
+      ∷ (if commits_now (reply_now s v act) then sends_commit (after_act s v act) (is_commit_sent v.publication) p id else [])
       else []
 
   -- the leader's publication is finished: exclusions that are done are acknowledged, and the leader goes on

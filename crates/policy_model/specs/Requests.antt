@@ -2,7 +2,6 @@
 use Rattle.std.specs.Prelude.{ℕ, Option, None, Some, Result, Ok, Err, List, [], ◌∷◌, ◌++◌, if◌then◌else◌}
 use Rattle.client_lines.specs.declared.fault.LineFault.{LineFault}
 use Rattle.client_lines.specs.declared.request.Request.{Request}
-use Rattle.client_lines.specs.declared.reply.Answer.{Answer}
 use Rattle.client_lines.specs.declared.reply.Answer.TheVariants as answer
 use Rattle.client_lines.specs.declared.reply.Reply.{Reply}
 use Rattle.client_lines.specs.declared.reply.Reply.TheVariants as reply

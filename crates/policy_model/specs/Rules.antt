@@ -1,5 +1,5 @@
 -- What a node does at an event: one rule after another, by the event and the mode.
-use Rattle.std.specs.Prelude.{ℕ, Bool, true, false, Option, None, Some, List, [], ◌∷◌, if◌then◌else◌}
+use Rattle.std.specs.Prelude.{ℕ, Bool, true, false, Option, None, Some, List, [], if◌then◌else◌}
 use Rattle.voting_config.specs.Ids.{Id, same}
 use Rattle.wire_frames.specs.declared.frame.Frame.{Frame}
 use Rattle.wire_frames.specs.declared.frame.Message.{Message}

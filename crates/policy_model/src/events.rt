@@ -20,16 +20,10 @@ pub enum Event {
     /// The first one after the journal was opened.
     Start,
     /// The moment, in ms, and a random word.
-    Tick {
-        now: u64,
-        word: u64,
-    },
+    Tick { now: u64, word: u64 },
     Frame(Frame),
     /// A line of a client, by its connection.
-    Client {
-        conn: u64,
-        line: Line,
-    },
+    Client { conn: u64, line: Line },
 }
 
 /// Why a leader has a member removed.
