@@ -1,0 +1,166 @@
+-- What the rules say in plain cases.
+use Rattle.std.proofs.Common.{◌≡◌, ℕ, true, false, None, Some, Ok, List, [], ◌∷◌, refl}
+use Rattle.voting_config.specs.Ids.{Id}
+use Rattle.cluster_state.specs.JoinCheck.{join_checked}
+use Rattle.cluster_state.specs.declared.state.ClusterState.{ClusterState}
+use Rattle.cluster_state.specs.declared.state.ClusterValue.{ClusterValue}
+use Rattle.cluster_state.specs.declared.state.StateId.{StateId}
+use Rattle.wire_frames.specs.declared.frame.Frame.{Frame}
+use Rattle.wire_frames.specs.declared.frame.Message.{Message}
+use Rattle.wire_frames.specs.declared.frame.Message.TheVariants as message
+use Rattle.client_lines.specs.declared.request.Ask.TheVariants as ask
+use Rattle.client_lines.specs.declared.request.Request.{Request}
+use Rattle.client_lines.specs.declared.reply.Answer.TheVariants as answer
+use Rattle.client_lines.specs.declared.reply.Reply.TheVariants as reply
+use Rattle.master_tasks.specs.declared.waiting.Waiting.{Waiting}
+use Rattle.master_tasks.specs.Queue.{no_tasks, is_full_of}
+use Rattle.master_tasks.specs.NextState.{processed_by, next_value, config_for, next_config, is_accepted, is_nothing_new, next_answers, tasks_after}
+use Rattle.world_model.specs.declared.acts.Act.TheVariants.{Bootstrap}
+use Rattle.world_model.specs.declared.acts.Reply.TheVariants.{Taken}
+use Rattle.world_model.specs.declared.acts.Outcome.TheVariants.{Answered}
+use Rattle.policy_model.specs.declared.settings.Settings.{Settings}
+use Rattle.policy_model.specs.Events.{Candidate, Leader, Follower, Event, Start, Tick, FrameCame, Item, Acts, Turns, Sends, Replies, Notes, Met, PeersAsked, ElectionSet, RoundBegun, RoundEnded, CommitAcked, HandedOver, Begins, Log, NoItems, And, added}
+use Rattle.policy_model.specs.Entries.{frames_of}
+use Rattle.policy_model.specs.LookBacks.{mode_of, applied_of}
+use Rattle.policy_model.specs.Parts.{published_at}
+use Rattle.policy_model.specs.Doing.{becomes_candidate, becomes_follower}
+use Rattle.policy_model.specs.NextState.{hands_over}
+use Rattle.policy_model.specs.Publications.{sends_first_commit}
+use Rattle.policy_model.specs.Views.{View}
+use Rattle.policy_model.specs.Follows.{items_of}
+use Rattle.policy_model.specs.Checks.{is_checked_by_leader}
+use Rattle.policy_model.specs.Requests.{takes_line, queues}
+use Rattle.policy_model.specs.Rules.{ticks_leader}
+
+abbrev a : Id
+a = 97 ∷ []
+
+abbrev b : Id
+b = 98 ∷ []
+
+-- a node alone, and with another
+abbrev alone : Settings
+alone = record { me = a; peers = []; initial = a ∷ []; shrink = true }
+
+abbrev started : Log
+started = added (And NoItems (Begins Start)) (items_of alone NoItems Start)
+
+start_meets_nobody : items_of alone NoItems Start ≡ Notes (Met []) ∷ Notes (Met []) ∷ []
+start_meets_nobody = refl
+
+-- the first tick boots, asks nobody, and waits for 8 ms
+abbrev booted : List Item
+booted = Acts (Bootstrap (a ∷ [])) (Answered (Taken None false)) ∷ Notes PeersAsked ∷ Notes (ElectionSet 7) ∷ []
+
+first_tick_boots : items_of alone started (Tick 0 7) ≡ booted
+first_tick_boots = refl
+
+-- then the node stands for election, being a quorum alone
+second_tick_elects : items_of alone (added (And started (Begins (Tick 0 7))) booted) (Tick 8 0)
+    ≡ Notes (RoundBegun 0) ∷ Notes RoundEnded ∷ Sends (record { from = a; to = a; message = message.StartJoin a 1 }) ∷ []
+second_tick_elects = refl
+
+-- the node's own frames come back to it
+abbrev after : Log → Event → Log
+after l event = added (And l (Begins event)) (items_of alone l event)
+
+abbrev from_itself : Message → Event
+from_itself m = FrameCame (record { from = a; to = a; message = m })
+
+abbrev shows : Log → Event → List Frame
+shows l event = frames_of (items_of alone l event)
+
+abbrev sends : Message → List Frame
+sends m = record { from = a; to = a; message = m } ∷ []
+
+abbrev first_value : ClusterValue
+first_value = record { master = Some a; members = a ∷ []; exclusions = []; settings = [] }
+
+abbrev first_state : ClusterState
+first_state = record { term = 1; version = 1; config = a ∷ []; committed = a ∷ []; value = first_value }
+
+abbrev state_id : ℕ → ℕ → StateId
+state_id term version = record { term = term; version = version }
+
+abbrev elected : Log
+elected = after (after started (Tick 0 7)) (Tick 8 0)
+
+it_joins_itself : shows elected (from_itself (message.StartJoin a 1)) ≡ sends (message.Join 1 (state_id 0 0))
+it_joins_itself = refl
+
+abbrev joined : Log
+joined = after elected (from_itself (message.StartJoin a 1))
+
+abbrev leading : Log
+leading = after joined (from_itself (message.Join 1 (state_id 0 0)))
+
+abbrev accepted : Log
+accepted = after leading (from_itself (message.Publish first_state))
+
+abbrev committed : Log
+committed = after accepted (from_itself (message.Response (state_id 1 1)))
+
+record PublishesFirst : Type 0 where
+  -- it wins, leads, and publishes its first value
+  publishes : shows joined (from_itself (message.Join 1 (state_id 0 0))) ≡ sends (message.Publish first_state)
+  leads : mode_of leading ≡ Leader
+  responds : shows leading (from_itself (message.Publish first_state)) ≡ sends (message.Response (state_id 1 1))
+  commits : shows accepted (from_itself (message.Response (state_id 1 1))) ≡ sends (message.Commit (state_id 1 1))
+  -- nothing is new, so nothing is sent
+  rests : shows committed (from_itself (message.Commit (state_id 1 1))) ≡ []
+  applies : applied_of (after committed (from_itself (message.Commit (state_id 1 1)))) ≡ state_id 1 1
+
+publishes_first : PublishesFirst
+unfolding join_checked processed_by next_value config_for next_config is_accepted is_nothing_new next_answers tasks_after
+publishes_first = record { publishes = refl; leads = refl; responds = refl; commits = refl; rests = refl; applies = refl }
+
+module _ (s : Settings) (v : View) where
+  -- a follower answers its leader's check
+  follower_answers : is_checked_by_leader s (record v { mode = Follower b; node = record v.node { term = 1 } }) b 1
+      ≡ Sends (record { from = s.me; to = b; message = message.FollowerAnswer true 1 v.applied }) ∷ []
+  follower_answers = refl
+
+  -- a candidate is no master, and knows of none
+  candidate_is_no_master : (conn : ℕ) (request : Request) → takes_line s (record v { mode = Candidate }) conn (Ok request)
+      ≡ Replies (record { conn = conn; reply = reply.To request.id (answer.NotMaster None) }) ∷ []
+  candidate_is_no_master conn request = refl
+
+  -- a full queue takes no request
+  full_queue : (conn : ℕ) (request : Request) → is_full_of v.tasks ≡ true → queues s v conn request None
+      ≡ Replies (record { conn = conn; reply = reply.To request.id (answer.QueueFull 64) }) ∷ []
+  full_queue conn request h = rw h refl
+
+  -- 30 seconds after its start a publication has failed, and nothing else is done at this tick
+  publication_times_out : (id : StateId) (targets : List Id)
+      → ticks_leader s (record v { mode = Leader; moment = 30008; publication = Some (published_at id targets 8); tasks = no_tasks })
+      ≡ Turns Candidate v.node.term ∷ []
+  publication_times_out id targets = refl
+
+  -- a leader that follows another node becomes a candidate first
+  leader_turns_twice : becomes_follower s (record v { mode = Leader; tasks = no_tasks }) b ≡ Turns Candidate v.node.term ∷ Turns (Follower b) v.node.term ∷ []
+  leader_turns_twice = refl
+
+  -- the requests of a leader fail with the term in which it led
+  requests_fail : (w : Waiting) → becomes_candidate s (record v { mode = Leader; leader_term = 3; tasks = record no_tasks { waiting = w ∷ [] } })
+      ≡ Replies (record { conn = w.conn; reply = reply.To w.request.id (answer.FailedToCommit 3) }) ∷ Turns Candidate v.node.term ∷ []
+  requests_fail w = refl
+
+  -- the first commit acknowledges what the state has
+  commit_acknowledges : (key text : List ℕ) (id : StateId)
+      → sends_first_commit s (record v {
+        node = record v.node { term = 1; version = 2 };
+        publication = Some (published_at id [] 0);
+        tasks = record no_tasks { waiting = record { conn = 5; arrived = 0; request = record { id = 9; ask = ask.Put key text }; processed = true } ∷ [] };
+      }) id
+      ≡ Replies (record { conn = 5; reply = reply.To 9 (answer.Acked (state_id 1 2)) }) ∷ Notes CommitAcked ∷ []
+  commit_acknowledges key text id = refl
+
+  -- a node that may not win hands over to the least responder that is a voter, and processes no request
+  handover_is_sent : hands_over s (record v {
+    node = record v.node { term = 4; committed = b ∷ [] };
+    moment = 2000;
+    handover_due = 2000;
+    publication = Some (record (published_at (state_id 4 1) (a ∷ b ∷ []) 0) { responders = a ∷ b ∷ [] });
+  })
+      ≡ Notes HandedOver ∷ Sends (record { from = s.me; to = a; message = message.StartJoin b 5 }) ∷ Sends (record { from = s.me; to = b; message = message.StartJoin b 5 }) ∷ []
+  handover_is_sent = refl

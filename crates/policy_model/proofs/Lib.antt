@@ -1,0 +1,5 @@
+pub mod Sweeps
+pub mod Answering
+pub mod Locals
+pub mod Standing
+pub mod Examples

@@ -1,0 +1,51 @@
+use std::marker::Model;
+use voting_config::{NodeId, NodeSet};
+
+/// Ids in an order of their own. Contracts see the list of them.
+#[derive(Drop)]
+pub struct NodeIds {
+    ids: Vec<NodeId>,
+}
+
+impl Model for NodeIds {
+    ghost use Rattle.std.specs.Prelude.{ℕ, List};
+    ghost use Rattle.std.specs.Coded.{coded_list, coded_ℕ};
+    ghost use Rattle.voting_config.specs.Ids.{Id};
+
+    ghost Value = { List Id };
+
+    ghost coded = { coded_list (coded_list coded_ℕ) };
+
+    ghost view = { λ l. l.ids.items };
+}
+
+impl NodeIds {
+    ghost use Rattle.std.specs.Prelude.{◌≡◌};
+
+    /// The ids in this order.
+    pub fn of(ids: Vec<NodeId>) -> NodeIds
+        ensures { result ≡ ids.items }
+    {
+        NodeIds { ids }
+    }
+
+    /// The ids.
+    pub fn as_slice(&self) -> &[NodeId]
+        ensures { result.now ≡ self.now }
+    {
+        &self.ids
+    }
+}
+
+/// What a node is told before its start.
+#[derive(Drop)]
+pub struct Settings {
+    /// The node itself.
+    pub me: NodeId,
+    /// The listed peers, in the order listed.
+    pub peers: NodeIds,
+    /// The first voters of a new cluster, or none.
+    pub initial: NodeSet,
+    /// Whether the voting configuration may shrink (`cluster.auto_shrink_voting_configuration`).
+    pub shrink: bool,
+}

@@ -1,0 +1,29 @@
+use super::*;
+use std::test::*;
+use voting_config::{NodeId, NodeSet};
+
+fn id(text: &str) -> NodeId {
+    NodeId::parse(text).unwrap_or_default()
+}
+
+#[test]
+fn listed_peers_keep_their_order(rt: HostRuntime) {
+    let mut ids = Vec::new(rt.alloc());
+    for text in ["b", "a", "b"] {
+        assert!(rt; ids.push(id(text)).is_ok());
+    }
+    let settings = Settings {
+        me: id("c"),
+        peers: NodeIds::of(ids),
+        initial: NodeSet::new(),
+        shrink: true,
+    };
+    assert!(rt; settings.peers.as_slice() == [id("b"), id("a"), id("b")].as_slice());
+}
+
+#[test]
+fn laws() {
+    law_life_is_local();
+    law_event_moves();
+    law_opening_moves();
+}
