@@ -8,7 +8,7 @@ use Rattle.std.specs.Cmp.Lexicographic.{slice_cmp, same_text}
 use Rattle.std.specs.Str.{bytes_eq}
 use Rattle.std.specs.declared.alloc.Global.{Global}
 use Rattle.std.proofs.lemmas.Bool.{and_parts, and_from, or_parts}
-use Rattle.voting_config.specs.Ids.{Id, before, is_below, ascends, has}
+use Rattle.voting_config.specs.Ids.{before, is_below, ascends, has}
 use Rattle.cluster_state.specs.Settings.{Setting, setting_of, has_texts, without_key, IsSettings}
 use Rattle.cluster_state.proofs.JsonLaws.{keys, ascending_keys}
 use Rattle.cluster_state.proofs.Fitting.{ascends_from-keys}
@@ -29,12 +29,12 @@ map-remove_entry key (e ∷ es) h =
     let parts = and_parts (is_below (string_bytes e.0) (keys (map setting_of es))) (ascends (keys (map setting_of es))) h in
     let rest = remove_entry (λ k. is_eq (slice_cmp nat_cmp key (string_bytes k))) es in
     let cases =
-        elim (bytes_eq (string_bytes e.0) key) as (λ b. bytes_eq (string_bytes e.0) key ≡ b → map setting_of (cond b es (e ∷ rest)) ≡ cond (not b) (setting_of e ∷ without_key key (map setting_of es)) (without_key key (map setting_of es))) [
-          | true ↦ λ same.
-              let below : is_below key (keys (map setting_of es)) ≡ true = subst (λ (k : List ℕ). is_below k (keys (map setting_of es)) ≡ true) (same_text (string_bytes e.0) key (sym same)) parts.0 in
-              sym (without_absent key (map setting_of es) (absent_below key (keys (map setting_of es)) below))
-          | false ↦ λ other. ap (λ t. setting_of e ∷ t) (map-remove_entry key es parts.1)
-        ] refl in
+    elim (bytes_eq (string_bytes e.0) key) as (λ b. bytes_eq (string_bytes e.0) key ≡ b → map setting_of (cond b es (e ∷ rest)) ≡ cond (not b) (setting_of e ∷ without_key key (map setting_of es)) (without_key key (map setting_of es))) [
+      | true ↦ λ same.
+          let below : is_below key (keys (map setting_of es)) ≡ true = subst (λ (k : List ℕ). is_below k (keys (map setting_of es)) ≡ true) (same_text (string_bytes e.0) key (sym same)) parts.0 in
+          sym (without_absent key (map setting_of es) (absent_below key (keys (map setting_of es)) below))
+      | false ↦ λ other. ap (λ t. setting_of e ∷ t) (map-remove_entry key es parts.1)
+    ] refl in
     ap (λ b. map setting_of (cond b es (e ∷ rest))) (eq_flipped key (string_bytes e.0)) ∙ cases
 
 list_all-without : {A : Type 0} (p q : A → Bool) (xs : List A) → list_all p xs ≡ true → list_all p (filter q xs) ≡ true

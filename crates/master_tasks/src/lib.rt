@@ -3,6 +3,7 @@
 #![tactic(auto)]
 
 pub mod answering;
+pub mod laws;
 pub mod members;
 pub mod next;
 pub mod processing;
@@ -11,6 +12,7 @@ pub mod sets;
 pub mod tasks;
 pub mod waiting;
 
+pub use laws::law_nothing_new;
 pub use next::Next;
 pub use replies::Replies;
 pub use tasks::{MAX_OPEN, MasterTasks, OfferError};
