@@ -8,7 +8,7 @@ use Rattle.std.specs.Cmp.Lexicographic.{slice_cmp, same_text}
 use Rattle.std.specs.Str.{bytes_eq}
 use Rattle.std.specs.declared.alloc.Global.{Global}
 use Rattle.std.proofs.lemmas.Bool.{and_parts, and_from, or_parts}
-use Rattle.voting_config.specs.Ids.{Id, before, is_below, ascends, has}
+use Rattle.voting_config.specs.Ids.{before, is_below, ascends, has}
 use Rattle.cluster_state.specs.Settings.{Setting, setting_of, has_texts, without_key, IsSettings}
 use Rattle.cluster_state.proofs.JsonLaws.{keys, ascending_keys}
 use Rattle.cluster_state.proofs.Fitting.{ascends_from-keys}

@@ -1,12 +1,12 @@
 -- Tests of sameness, and what they say.
-use Rattle.std.proofs.Common.{◌≡◌, ℕ, Bool, true, false, ◌&&◌, List, [], ◌∷◌, map, Option, Some, None, refl, sym, ap, subst, ◌∙◌}
+use Rattle.std.proofs.Common.{◌≡◌, ℕ, Bool, true, ◌&&◌, List, [], ◌∷◌, Option, Some, None, refl, sym, ap, subst}
 use Rattle.std.specs.Str.{bytes_eq}
 use Rattle.std.specs.Cmp.Lexicographic.{pointwise, same_text}
 use Rattle.std.proofs.lemmas.Bool.{and_parts, and_from}
 use Rattle.std.proofs.lemmas.Cmp.{nat_list_eq_equiv}
 use Rattle.voting_config.specs.Ids.{Id, same, same_config}
 use Rattle.cluster_state.specs.declared.state.ClusterValue.{ClusterValue}
-use Rattle.cluster_state.specs.Settings.{Setting, setting_of, same_setting, same_settings}
+use Rattle.cluster_state.specs.Settings.{Setting, same_setting, same_settings}
 use Rattle.cluster_state.specs.Same.{same_master, same_value}
 
 same_itself : (x : List ℕ) → bytes_eq x x ≡ true

@@ -3,3 +3,4 @@ pub mod Settling
 pub mod Stepping
 pub mod Making
 pub mod Limits
+pub mod Sameness

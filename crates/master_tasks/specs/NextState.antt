@@ -1,5 +1,5 @@
 -- The next state that a leader makes of its tasks.
-use Rattle.std.specs.Prelude.{ℕ, Bool, ◌&&◌, Some, List, [], ◌++◌, length, nat_eq, if◌then◌else◌}
+use Rattle.std.specs.Prelude.{◌≡◌, ℕ, Bool, ◌&&◌, Some, List, [], ◌++◌, length, nat_eq, if◌then◌else◌}
 use Rattle.voting_config.specs.Ids.{Id, same_config}
 use Rattle.reconfigurator.specs.Targets.{among, target_of}
 use Rattle.cluster_state.specs.declared.state.ClusterState.{ClusterState}
@@ -56,6 +56,12 @@ is_accepted term accepted config value = nat_eq accepted.term term && same_value
 
 unfoldable pub is_nothing_new : Leader → Tasks → Bool
 is_nothing_new l t = is_accepted l.term l.accepted (next_config l t) (next_value l t)
+
+-- what that says of the accepted state
+pub record StaysAccepted (l : Leader) (t : Tasks) : Type 0 where
+  pub term : l.accepted.term ≡ l.term
+  pub value : next_value l t ≡ l.accepted.value
+  pub config : next_config l t ≡ l.accepted.config
 
 -- who is answered where nothing is new, and who waits on
 abbrev pub acks : Leader → List Waiting → List Outgoing

@@ -2,15 +2,18 @@
 //! cluster state that it makes of them.
 #![tactic(auto)]
 
-pub mod answering;
-pub mod members;
+mod answering;
+pub mod laws;
+mod members;
 pub mod next;
-pub mod processing;
+mod processing;
 pub mod replies;
-pub mod sets;
+mod sets;
 pub mod tasks;
 pub mod waiting;
 
+pub use answering::EXCLUSION_SPAN;
+pub use laws::law_nothing_new;
 pub use next::Next;
 pub use replies::Replies;
 pub use tasks::{MAX_OPEN, MasterTasks, OfferError};
