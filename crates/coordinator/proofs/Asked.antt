@@ -1,0 +1,58 @@
+-- Plans of a leader whose tasks change before it goes on.
+use Rattle.std.proofs.Common.{◌≡◌, ℕ, Bool, true, List, [], ◌∷◌, refl, ap, subst, ◌∙◌}
+use Rattle.state_journal.specs.declared.keeper.Keeper.{Ghosts}
+use Rattle.std.specs.Prelude.{Option}
+use Rattle.cluster_state.specs.declared.state.Kept.{Kept}
+use Rattle.voting_config.specs.Ids.{Id}
+use Rattle.client_lines.specs.declared.request.Request.{Request}
+use Rattle.master_tasks.specs.Queue.{Tasks, to_be_added, offered, arriving}
+use Rattle.master_tasks.specs.NextState.{leader_of}
+use Rattle.policy_model.specs.declared.settings.Settings.{Settings}
+use Rattle.policy_model.specs.Events.{Item, Notes, Joined, Queued}
+use Rattle.policy_model.specs.Views.{View}
+use Rattle.policy_model.specs.Moves.{moved_all}
+use Rattle.policy_model.specs.NextState.{goes_on}
+use Rattle.coordinator.specs.Plans.{IsPlanned}
+use Rattle.coordinator.specs.Ahead.{HasPlan, queues_one}
+use Rattle.coordinator.specs.Showing.{Shown}
+use Rattle.coordinator.specs.Views.{view_in}
+use Rattle.coordinator.specs.Does.{Makes}
+use Rattle.coordinator.specs.declared.coordinator.Coordinator.{Coordinator}
+use Rattle.coordinator.specs.declared.plan.Plan.{Plan}
+use Rattle.coordinator.proofs.Composing.{ends_rule}
+use Rattle.coordinator.proofs.Quiet.{makes_note}
+use Rattle.coordinator.proofs.Foreseen.{has_planned}
+
+pub planned_member : (s : Settings) (v : View) (p : Id) (plan : Option Plan) (term : ℕ) (votes : List Id) (copy tasks : Tasks) → term ≡ v.node.term → votes ≡ v.node.votes → copy ≡ v.tasks → tasks ≡ to_be_added copy p
+    → HasPlan (leader_of s.me term v.node.accepted v.node.committed votes s.shrink) tasks plan → IsPlanned s (moved_all s v (Notes (Joined (p ∷ [])) ∷ [])) plan
+planned_member s v p plan term votes copy tasks term_is votes_is copy_is tasks_is has =
+    has_planned s (moved_all s v (Notes (Joined (p ∷ [])) ∷ [])) (leader_of s.me term v.node.accepted v.node.committed votes s.shrink) tasks plan has
+    (ap (λ (x : ℕ). leader_of s.me x v.node.accepted v.node.committed votes s.shrink) term_is ∙ ap (λ (x : List Id). leader_of s.me v.node.term v.node.accepted v.node.committed x s.shrink) votes_is)
+    (tasks_is ∙ ap (λ (t : Tasks). to_be_added t p) copy_is)
+
+-- a plan of these tasks is a plan of a node that has them
+pub planned_with : (s : Settings) (v : View) (plan : Option Plan) (tasks : Tasks) → HasPlan (leader_of s.me v.node.term v.node.accepted v.node.committed v.node.votes s.shrink) tasks plan → IsPlanned s (record v { tasks = tasks }) plan
+planned_with s v plan tasks has = has_planned s (record v { tasks = tasks }) (leader_of s.me v.node.term v.node.accepted v.node.committed v.node.votes s.shrink) tasks plan has refl refl
+
+pub same_plan : (s : Settings) (v : View) (plan : Option Plan) (term : ℕ) (votes : List Id) (copy tasks : Tasks) → term ≡ v.node.term → votes ≡ v.node.votes → copy ≡ tasks
+    → HasPlan (leader_of s.me term v.node.accepted v.node.committed votes s.shrink) copy plan → HasPlan (leader_of s.me v.node.term v.node.accepted v.node.committed v.node.votes s.shrink) tasks plan
+same_plan s v plan term votes copy tasks term_is votes_is copy_is has =
+    subst (λ (x : ℕ). HasPlan (leader_of s.me x v.node.accepted v.node.committed v.node.votes s.shrink) tasks plan) term_is
+    (subst (λ (x : List Id). HasPlan (leader_of s.me term v.node.accepted v.node.committed x s.shrink) tasks plan) votes_is
+    (subst (λ (t : Tasks). HasPlan (leader_of s.me term v.node.accepted v.node.committed votes s.shrink) t plan) copy_is has))
+
+module _ {K : Type 0} (k : Ghosts K) where
+  abbrev view : Coordinator K → View
+  view c = view_in k c
+
+  abbrev Make : (old new : Coordinator K) (sent sent_now : Shown) → List Item → Type 0
+  Make old new sent sent_now is = Makes k old new sent sent_now is
+
+  pub queued_whole : (old new : Coordinator K) (o o0 o1 : Shown) (conn : ℕ) (request : Request) (copy tasks : Tasks) → o0 ≡ o → copy ≡ old.tasks → tasks ≡ offered copy (arriving conn old.moment request)
+      → Make (record old { tasks = tasks }) new o0 o1 (goes_on old.settings (view (record old { tasks = tasks })))
+      → Make old new o o1 (queues_one old.settings (view old) conn request)
+  queued_whole old new o o0 o1 conn request copy tasks same copy_is tasks_is next =
+      subst (λ (x : Shown). Make old new x o1 (queues_one old.settings (view old) conn request)) same
+      (ends_rule k old (record old { tasks = tasks }) new o0 o0 o1 (Notes (Queued conn request) ∷ []) goes_on true
+      (makes_note k old (record old { tasks = tasks }) o0 (Queued conn request) refl refl refl
+      (ap (λ (t : Tasks). record (view old) { tasks = t }) (tasks_is ∙ ap (λ (t : Tasks). offered t (arriving conn old.moment request)) copy_is))) next)

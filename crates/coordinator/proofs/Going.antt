@@ -1,0 +1,154 @@
+-- The next state is made and published, or the node hands over.
+use Rattle.std.proofs.Common.{◌≡◌, ℕ, ◌+◌, ◌≤◌, rules, tests, Bool, true, false, Option, List, [], ◌∷◌, ◌++◌, length, map, refl, sym, ap, subst, ◌∙◌}
+use Rattle.state_journal.specs.declared.keeper.Keeper.{Ghosts}
+use Rattle.std.specs.Prelude.{if◌then◌else◌, None, Some, find, nat_le}
+use Rattle.std.proofs.lemmas.List.{append_assoc, length-map}
+use Rattle.cluster_state.specs.declared.state.Kept.{Kept}
+use Rattle.cluster_state.specs.declared.state.ClusterState.{ClusterState}
+use Rattle.cluster_state.specs.declared.state.ClusterValue.{ClusterValue}
+use Rattle.voting_config.specs.Ids.{Id, has}
+use Rattle.world_model.specs.Replies.{last_number}
+use Rattle.publication.specs.Publications.{Publication}
+use Rattle.master_tasks.specs.declared.waiting.Outgoing.{Outgoing}
+use Rattle.master_tasks.specs.Queue.{Tasks}
+use Rattle.master_tasks.specs.NextState.{Leader as Master, next_answers, is_nothing_new}
+use Rattle.wire_frames.specs.declared.frame.Frame.{Frame}
+use Rattle.wire_frames.specs.declared.frame.Message.TheVariants as message
+use Rattle.world_model.specs.declared.acts.Act.{Act}
+use Rattle.world_model.specs.declared.acts.Act.TheVariants.{Value}
+use Rattle.policy_model.specs.declared.settings.Settings.{Settings}
+use Rattle.policy_model.specs.Events.{Item, Notes, StateMade}
+use Rattle.policy_model.specs.Views.{View}
+use Rattle.policy_model.specs.Parts.{as_master}
+use Rattle.policy_model.specs.Moves.{moved}
+use Rattle.policy_model.specs.Doing.{send_all, reply_all, act_now, after_act, takes, becomes_candidate}
+use Rattle.policy_model.specs.NextState.{targets_of, responders_of, successor_of, asks_successor, value_now, config_now, value_act, state_now, publishes, makes_state}
+use Rattle.coordinator.specs.Plans.{IsPlan, IsNewOr, IsNewState, state_by, frame_to}
+use Rattle.coordinator.specs.Showing.{Shown}
+use Rattle.coordinator.specs.Views.{view_in}
+use Rattle.coordinator.specs.Does.{Makes}
+use Rattle.coordinator.specs.declared.coordinator.Coordinator.{Coordinator}
+use Rattle.coordinator.specs.declared.plan.NewState.{NewState}
+use Rattle.coordinator.specs.declared.plan.Plan.{Plan}
+use Rattle.coordinator.proofs.Composing.{makes_then}
+use Rattle.coordinator.proofs.Quiet.{makes_replies, makes_sends, makes_note}
+use Rattle.coordinator.proofs.Becoming.{makes_as}
+
+le_true : (a b : ℕ) → a ≤ b → nat_le a b ≡ true
+le_true a b le = search (rules, tests)
+
+-- the act that publishes a new state
+pub act_is : (s : Settings) (v : View) (new : NewState) (version : ℕ) → version ≡ v.node.accepted.version + 1 → IsNewState s.me (state_by (as_master s v.node) v.tasks) new → Value version new.config new.value ≡ value_act s v
+act_is s v new version version_is is =
+    ap (λ (n : ℕ). Value n new.config new.value) version_is
+    ∙ ap (λ (c : List Id). Value (v.node.accepted.version + 1) c new.value) is.config
+    ∙ ap (λ (x : ClusterValue). Value (v.node.accepted.version + 1) (config_now s v) x) is.value
+
+-- the new state of a plan
+pub planned_new : (m : Master) (t : Tasks) (plan : Plan) (new : NewState) → IsPlan m t plan → plan.new ≡ Some new → IsNewState m.me (state_by m t) new
+planned_new m t plan new is some = (let parts : IsNewOr m t (Some new) = subst (λ (n : Option NewState). IsNewOr m t n) some is.new in parts.1)
+
+-- it has a frame for each member
+pub frames_all : (me : Id) (state : ClusterState) (new : NewState) → IsNewState me state new → length new.frames.list ≡ length new.value.members
+frames_all me state new is =
+    ap (λ (l : List Frame). length l) is.frames ∙ length-map state.value.members (λ (to : Id). frame_to me (message.Publish state) to) ∙ ap (λ (v : ClusterValue). length v.members) (sym is.value)
+
+module _ {K : Type 0} (k : Ghosts K) where
+  abbrev view : Coordinator K → View
+  view c = view_in k c
+
+  abbrev Make : (old new : Coordinator K) (sent sent_now : Shown) → List Item → Type 0
+  Make old new sent sent_now is = Makes k old new sent sent_now is
+
+  pub publishes_taken : (v : View) (old mid : Coordinator K) (o o1 o2 : Shown) (act : Act) (new : NewState) → act ≡ value_act old.settings v → IsNewState old.settings.me (state_by (as_master old.settings v.node) v.tasks) new
+      → Make old mid o o1 (act_now old.settings (view old) act ∷ []) → takes old.settings (view old) act ≡ true
+      → o2 ≡ record o1 { frames = o1.frames ++ new.frames.list }
+      → Make old mid o o2 (publishes old.settings v (view old))
+  publishes_taken v old mid o o1 o2 act new act_eq is did taken shown =
+      let s = old.settings in
+      let u = view old in
+      let members = (value_now s v).members in
+      let m = message.Publish (state_now s v) in
+      let shown' : record o1 { frames = o1.frames ++ map (λ (to : Id). frame_to mid.settings.me m to) members } ≡ o2 =
+      ap (λ (x : Settings). record o1 { frames = o1.frames ++ map (λ (to : Id). frame_to x.me m to) members }) did.goes.settings
+      ∙ ap (λ (l : List Frame). record o1 { frames = o1.frames ++ l }) (sym is.frames) ∙ sym shown in
+      let sends : Make mid mid o1 o2 (send_all mid.settings members m) =
+      subst (λ (x : Shown). Make mid mid o1 x (send_all mid.settings members m)) shown' (makes_sends k mid o1 members m) in
+      let all = makes_then k old mid mid o o1 o2 (act_now s u act ∷ []) (send_all mid.settings members m) did sends in
+      makes_as k old mid o o2 _ _ all
+      (ap (λ (x : Settings). act_now s u act ∷ send_all x members m) did.goes.settings
+      ∙ ap (λ (b : Bool). act_now s u act ∷ (if b then send_all s members m else becomes_candidate s (after_act s u act))) (sym taken)
+      ∙ ap (λ (a : Act). act_now s u a ∷ (if takes s u a then send_all s members m else becomes_candidate s (after_act s u a))) act_eq)
+
+  pub publishes_refused : (v : View) (old mid new : Coordinator K) (o o1 o2 : Shown) (act : Act) → act ≡ value_act old.settings v
+      → Make old mid o o1 (act_now old.settings (view old) act ∷ []) → takes old.settings (view old) act ≡ false
+      → Make mid new o1 o2 (becomes_candidate mid.settings (view mid))
+      → Make old new o o2 (publishes old.settings v (view old))
+  publishes_refused v old mid new o o1 o2 act act_eq did refused becomes =
+      let s = old.settings in
+      let u = view old in
+      let members = (value_now s v).members in
+      let m = message.Publish (state_now s v) in
+      let all = makes_then k old mid new o o1 o2 (act_now s u act ∷ []) (becomes_candidate mid.settings (view mid)) did becomes in
+      makes_as k old new o o2 _ _ all
+      (ap (λ (x : Settings). act_now s u act ∷ becomes_candidate x (view mid)) did.goes.settings
+      ∙ ap (λ (x : View). act_now s u act ∷ becomes_candidate s x) did.goes.view
+      ∙ ap (λ (b : Bool). act_now s u act ∷ (if b then send_all s members m else becomes_candidate s (after_act s u act))) (sym refused)
+      ∙ ap (λ (a : Act). act_now s u a ∷ (if takes s u a then send_all s members m else becomes_candidate s (after_act s u a))) act_eq)
+
+  -- the answers are sent, and the state is made
+  state_made : (old : Coordinator K) (o o1 : Shown) (plan : Plan) → IsPlan (as_master old.settings (view old).node) old.tasks plan → o1 ≡ record o { replies = o.replies ++ plan.replies.sent }
+      → Make old (record old { tasks = plan.tasks }) o o1 (reply_all old.settings (next_answers (as_master old.settings (view old).node) old.tasks) ++ Notes StateMade ∷ [])
+  state_made old o o1 plan is shown =
+      let s = old.settings in
+      let answers = next_answers (as_master s (view old).node) old.tasks in
+      let shown' : record o { replies = o.replies ++ answers } ≡ o1 = ap (λ (l : List Outgoing). record o { replies = o.replies ++ l }) (sym is.replies) ∙ sym shown in
+      let replies : Make old old o o1 (reply_all s answers) =
+      subst (λ (x : Shown). Make old old o x (reply_all s answers)) shown' (makes_replies k old o answers) in
+      makes_then k old old (record old { tasks = plan.tasks }) o o1 o1 (reply_all s answers) (Notes StateMade ∷ []) replies
+      (makes_note k old (record old { tasks = plan.tasks }) o1 StateMade refl refl refl (ap (λ (t : Tasks). record (view old) { tasks = t }) is.tasks))
+
+  pub makes_same : (old : Coordinator K) (o o1 : Shown) (plan : Plan) → IsPlan (as_master old.settings (view old).node) old.tasks plan → o1 ≡ record o { replies = o.replies ++ plan.replies.sent } → plan.new ≡ None
+      → Make old (record old { tasks = plan.tasks }) o o1 (makes_state old.settings (view old))
+  makes_same old o o1 plan is shown none =
+      let s = old.settings in
+      let v = view old in
+      let nothing : is_nothing_new (as_master s v.node) v.tasks ≡ true = subst (λ (n : Option NewState). IsNewOr (as_master s v.node) v.tasks n) none is.new in
+      makes_as k old (record old { tasks = plan.tasks }) o o1 _ _ (state_made old o o1 plan is shown)
+      (ap (λ (b : Bool). reply_all s (next_answers (as_master s v.node) v.tasks) ++ Notes StateMade ∷ (if b then [] else publishes s v (moved s v (Notes StateMade)))) (sym nothing))
+
+  pub makes_new : (old new : Coordinator K) (o o1 o2 : Shown) (plan : Plan) (state : NewState) → IsPlan (as_master old.settings (view old).node) old.tasks plan → o1 ≡ record o { replies = o.replies ++ plan.replies.sent } → plan.new ≡ Some state
+      → Make (record old { tasks = plan.tasks }) new o1 o2 (publishes old.settings (view old) (view (record old { tasks = plan.tasks })))
+      → Make old new o o2 (makes_state old.settings (view old))
+  makes_new old new o o1 o2 plan state is shown some publishing =
+      let s = old.settings in
+      let v = view old in
+      let mid = record old { tasks = plan.tasks } in
+      let parts : IsNewOr (as_master s v.node) v.tasks (Some state) = subst (λ (n : Option NewState). IsNewOr (as_master s v.node) v.tasks n) some is.new in
+      let answers = reply_all s (next_answers (as_master s v.node) v.tasks) in
+      let all = makes_then k old mid new o o1 o2 (answers ++ Notes StateMade ∷ []) (publishes s v (view mid)) (state_made old o o1 plan is shown) publishing in
+      makes_as k old new o o2 _ _ all
+      (append_assoc answers (Notes StateMade ∷ []) (publishes s v (view mid))
+      ∙ ap (λ (t : Tasks). answers ++ Notes StateMade ∷ publishes s v (record v { tasks = t })) is.tasks
+      ∙ ap (λ (b : Bool). answers ++ Notes StateMade ∷ (if b then [] else publishes s v (moved s v (Notes StateMade)))) (sym parts.0))
+
+  -- the successor is asked
+  pub asks_found : (c : Coordinator K) (o o1 : Shown) (id : Id) (term : ℕ) (p : Publication) (found : Option Id) (committed responders targets : List Id) → c.publication ≡ Some p
+      → found ≡ find (λ (x : Id). has x committed) responders → committed ≡ (view c).node.committed → responders ≡ p.responders → found ≡ Some id
+      → term ≡ (view c).node.term + 1 → term ≤ last_number → targets ≡ p.targets
+      → o1 ≡ record o { frames = o.frames ++ map (λ (to : Id). frame_to c.settings.me (message.StartJoin id term) to) targets }
+      → Make c c o o1 (asks_successor c.settings (view c) (successor_of c.settings (view c)))
+  asks_found c o o1 id term p found committed responders targets published found_is committed_is responders_is some term_is small targets_is shown =
+      let s = c.settings in
+      let v = view c in
+      let all : Make c c o o1 (send_all s targets (message.StartJoin id term)) =
+      subst (λ (x : Shown). Make c c o x (send_all s targets (message.StartJoin id term))) (sym shown) (makes_sends k c o targets (message.StartJoin id term)) in
+      let targets_here : targets ≡ targets_of v.publication = targets_is ∙ ap (λ (x : Option Publication). targets_of x) (sym published) in
+      let le : nat_le (v.node.term + 1) last_number ≡ true = rw (← term_is) (le_true term last_number small) in
+      let here : Some id ≡ successor_of s v =
+      sym some ∙ found_is ∙ ap (λ (x : List Id). find (λ (y : Id). has y x) responders) committed_is ∙ ap (λ (x : List Id). find (λ (y : Id). has y v.node.committed) x) (responders_is ∙ ap (λ (x : Option Publication). responders_of x) (sym published)) in
+      makes_as k c c o o1 _ _ all
+      (ap (λ (x : List Id). send_all s x (message.StartJoin id term)) targets_here
+      ∙ ap (λ (n : ℕ). send_all s (targets_of v.publication) (message.StartJoin id n)) term_is
+      ∙ ap (λ (b : Bool). if b then send_all s (targets_of v.publication) (message.StartJoin id (v.node.term + 1)) else []) (sym le)
+      ∙ ap (λ (x : Option Id). asks_successor s v x) here)

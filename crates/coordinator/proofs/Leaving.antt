@@ -1,0 +1,91 @@
+-- What a crash leaves at each moment of some items.
+use Rattle.std.proofs.Common.{◌≡◌, ℕ, Bool, true, false, List, [], ◌∷◌, sym, subst, inl, inr, ⊎_elim}
+use Rattle.state_journal.specs.declared.keeper.Keeper.{Ghosts}
+use Rattle.std.specs.Prelude.{Option, Some, Result, Ok, Err}
+use Rattle.coordinator.specs.declared.coordinator.Coordinator.{Coordinator}
+use Rattle.coordinator.specs.declared.coordinator.EventError.{EventError}
+use Rattle.coordinator.specs.declared.coordinator.EventError.TheVariants as error
+use Rattle.coordinator.specs.Showing.{Shown}
+use Rattle.coordinator.specs.Does.{EndsAll, Leaves}
+use Rattle.zen_disk.specs.Moments.{LeavesOnly, quiet, joins, leaves_also}
+use Rattle.cluster_state.specs.declared.state.Kept.{Kept}
+use Rattle.world_model.specs.declared.acts.Act.{Act}
+use Rattle.world_model.specs.declared.acts.Act.TheVariants.{Bootstrap, StartJoin, TakeJoin, Value, Publish, Response, Commit, Open}
+use Rattle.world_model.specs.declared.acts.Outcome.{Outcome}
+use Rattle.world_model.specs.declared.acts.Outcome.TheVariants.{Answered, Disk, Crashed}
+use Rattle.world_model.specs.Acts.{NodeHistory, Then}
+use Rattle.world_model.specs.NodeState.{durable_of}
+use Rattle.world_model.specs.Replies.{writes}
+use Rattle.coord_state.specs.declared.coord.CoordState.{CoordState}
+use Rattle.coord_state.specs.StandsFor.{StandsFor}
+use Rattle.coord_state.specs.Writes.{IsDuring}
+use Rattle.policy_model.specs.Events.{Item, Opens, Begins, Acts, Turns, Drops, Sends, Replies, Notes}
+use Rattle.policy_model.specs.Follows.{IsStruck, Here, Later, is_fault}
+use Rattle.coordinator.specs.Turns.{CoreDid, IsAlong}
+
+-- what was kept before a faulty act, or what it wrote
+struck_kept : (g : NodeHistory) (act : Act) (o : Outcome) → writes act ≡ true → is_fault o ≡ true → (found : Option Kept) → found ≡ Some (durable_of (Then g act o)) → IsDuring g act found
+struck_kept g act (Answered reply) w f found e = cc
+struck_kept g (Bootstrap config) (Disk true) w f found e = inr e
+struck_kept g (Bootstrap config) (Disk false) w f found e = inl e
+struck_kept g (Bootstrap config) (Crashed true) w f found e = inr e
+struck_kept g (Bootstrap config) (Crashed false) w f found e = inl e
+struck_kept g (StartJoin candidate term) (Disk true) w f found e = inr e
+struck_kept g (StartJoin candidate term) (Disk false) w f found e = inl e
+struck_kept g (StartJoin candidate term) (Crashed true) w f found e = inr e
+struck_kept g (StartJoin candidate term) (Crashed false) w f found e = inl e
+struck_kept g (Publish request) (Disk true) w f found e = inr e
+struck_kept g (Publish request) (Disk false) w f found e = inl e
+struck_kept g (Publish request) (Crashed true) w f found e = inr e
+struck_kept g (Publish request) (Crashed false) w f found e = inl e
+struck_kept g (Commit commit) (Disk true) w f found e = inr e
+struck_kept g (Commit commit) (Disk false) w f found e = inl e
+struck_kept g (Commit commit) (Crashed true) w f found e = inr e
+struck_kept g (Commit commit) (Crashed false) w f found e = inl e
+struck_kept g (TakeJoin join) (Disk b) w f found e = cc
+struck_kept g (TakeJoin join) (Crashed b) w f found e = cc
+struck_kept g (Value version config value) (Disk b) w f found e = cc
+struck_kept g (Value version config value) (Crashed b) w f found e = cc
+struck_kept g (Response response) (Disk b) w f found e = cc
+struck_kept g (Response response) (Crashed b) w f found e = cc
+struck_kept g (Open kept) (Disk b) w f found e = cc
+struck_kept g (Open kept) (Crashed b) w f found e = cc
+
+-- what the struck items leave, the whole ones leave
+pub along_struck : (g : NodeHistory) (items left : List Item) → IsStruck items left → (found : Option Kept) → IsAlong g left found → IsAlong g items found
+along_struck g items left (Here act sends wins rest fault w f) found a = inl (⊎_elim (λ during. during) (λ e. struck_kept g act fault w f found e) a)
+along_struck g items left (Later (Opens kept) rest left' q) found a = along_struck g rest left' q found a
+along_struck g items left (Later (Begins event) rest left' q) found a = along_struck g rest left' q found a
+along_struck g items left (Later (Acts act o) rest left' q) found a = ⊎_elim (λ during. inl during) (λ after. inr (along_struck (Then g act o) rest left' q found after)) a
+along_struck g items left (Later (Turns mode term) rest left' q) found a = along_struck g rest left' q found a
+along_struck g items left (Later (Drops member cause) rest left' q) found a = along_struck g rest left' q found a
+along_struck g items left (Later (Sends frame) rest left' q) found a = along_struck g rest left' q found a
+along_struck g items left (Later (Replies answer) rest left' q) found a = along_struck g rest left' q found a
+along_struck g items left (Later (Notes note) rest left' q) found a = along_struck g rest left' q found a
+
+module _ {K : Type 0} (k : Ghosts K) where
+  abbrev Did : (old new : CoordState K) → List Item → Type 0
+  Did old new is = CoreDid k old new is
+
+  pub did_leaves : (old new : CoordState K) (is : List Item) → Did old new is → k.told → (g : NodeHistory) → StandsFor k.record_of k.has_stopped k.faults old g → LeavesOnly k.moment k.left_since old.keeper new.keeper (IsAlong g is)
+  did_leaves old new [] same t g s = subst (λ (c : CoordState K). LeavesOnly k.moment k.left_since old.keeper c.keeper (IsAlong g [])) (sym same) (quiet k.moment k.left_since old.keeper (IsAlong g []))
+  did_leaves old new (Opens found ∷ is) did t g s = absurd did
+  did_leaves old new (Begins event ∷ is) did t g s = absurd did
+  did_leaves old new (Acts act o ∷ is) did t g s =
+      let rest = did_leaves did.0 new is did.2 t (Then g act o) (did.1.acts.stands g s) in
+      joins k.moment k.left_since old.keeper did.0.keeper new.keeper (IsDuring g act) (IsAlong (Then g act o) is) (IsAlong g (Acts act o ∷ is)) (did.1.any_moment t g s) rest (λ found in_hand. inl in_hand) (λ found after. inr after)
+  did_leaves old new (Turns mode term ∷ is) did t g s = did_leaves old new is did t g s
+  did_leaves old new (Drops member cause ∷ is) did t g s = did_leaves old new is did t g s
+  did_leaves old new (Sends frame ∷ is) did t g s = did_leaves old new is did t g s
+  did_leaves old new (Replies answer ∷ is) did t g s = did_leaves old new is did t g s
+  did_leaves old new (Notes note ∷ is) did t g s = did_leaves old new is did t g s
+
+  -- whatever comes of an event
+  pub ends_leave : (r : Result (Unit {0}) EventError) (old new : Coordinator K) (o o_now : Shown) (items : List Item) → EndsAll k r old new o o_now items
+      → Leaves k old new items
+  ends_leave (Ok u) old new o o_now items makes t g s = did_leaves old.core new.core items makes.goes.core t g s
+  ends_leave (Err error.Struck) old new o o_now items fails t g s =
+      leaves_also k.moment k.left_since old.core.keeper new.core.keeper (IsAlong g fails.left) (IsAlong g items) (did_leaves old.core new.core fails.left fails.goes.core t g s)
+      (λ found a. along_struck g items fails.left fails.struck found a)
+  ends_leave (Err error.Memory) old new o o_now items same t g s =
+      subst (λ (c : Coordinator K). LeavesOnly k.moment k.left_since old.core.keeper c.core.keeper (IsAlong g items)) (sym same) (quiet k.moment k.left_since old.core.keeper (IsAlong g items))

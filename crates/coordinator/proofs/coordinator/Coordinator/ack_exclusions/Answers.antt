@@ -1,0 +1,17 @@
+use Rattle.std.proofs.Common.{ap, arith, ◌∙◌}
+use Rattle.cluster_state.specs.declared.state.ClusterState.{ClusterState}
+use Rattle.cluster_state.specs.States.{id_of}
+use Rattle.master_tasks.specs.Answering.{exclusion_done}
+use Rattle.master_tasks.specs.Replying.{Replies}
+use Rattle.coordinator.specs.Showing.{shown_in}
+use Rattle.coordinator.proofs.Counting.{length-answers}
+use Rattle.coordinator.proofs.Finishing.{acks_made}
+use Rattle.coordinator.proofs.coordinator.Coordinator.ack_exclusions.Goals as goal
+
+pub returns-clause-does : goal.returns-clause-does
+returns-clause-does g c =
+    acks_made g.K.Keeper c.args.self.now c.ack_exclusions.new.self _ _ c.committed.result.now c.id-id.result c.committed.ensures (c.id-id.ensures ∙ ap (λ (a : ClusterState). id_of a) c.accepted.ensures.accepted) c.ack_exclusions.ensures.left (ap (λ (r : Replies). record (shown_in c.args.out.now) { replies = r.sent }) c.ack_exclusions.ensures.sent)
+
+pub returns-clause-uses : goal.returns-clause-uses
+returns-clause-uses g c =
+    let room = ap (λ (r : Replies). r.room) c.ack_exclusions.ensures.sent in record { steps = omega arith; frames = omega arith; replies = omega (arith, room, length-answers (exclusion_done c.committed.result.now c.id-id.result) c.args.self.now.tasks.waiting) }

@@ -1,0 +1,11 @@
+pub mod Lists
+pub mod Showing
+pub mod Views
+pub mod Turns
+pub mod Verdicts
+pub mod Does
+pub mod Rooms
+pub mod Plans
+pub mod Ahead
+pub mod Ticks
+pub mod Steps

@@ -1,0 +1,17 @@
+-- Whether an act was taken, by its outcome.
+use Rattle.std.specs.Prelude.{◌≡◌, Bool, false, Result, Ok, Err}
+use Rattle.world_model.specs.declared.acts.Outcome.{Outcome}
+use Rattle.world_model.specs.declared.acts.Outcome.TheVariants.{Answered, Disk, Crashed}
+use Rattle.world_model.specs.Replies.{is_taken}
+use Rattle.coordinator.specs.declared.coordinator.Struck.{Struck}
+
+abbrev pub verdict : Outcome → Result Bool Struck
+verdict (Answered reply) = Ok (is_taken reply)
+verdict (Disk kept) = Err (record {})
+verdict (Crashed kept) = Err (record {})
+
+-- an outcome that an act tells: no crash, and what the disk failed to write counts as not kept
+abbrev pub IsTold : Outcome → Type 0
+IsTold (Answered reply) = Unit {0}
+IsTold (Disk kept) = kept ≡ false
+IsTold (Crashed kept) = ⊥

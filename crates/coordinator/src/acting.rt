@@ -1,0 +1,279 @@
+//! The acts of the core, each with its entry.
+ghost use Rattle.std.specs.Prelude.{◌≡◌, ◌≤◌, ◌+◌, ◌<◌, ◌⊎◌, [], ◌∷◌, true, Some, IfOk, is_ok, length, if◌then◌else◌};
+ghost use Rattle.cluster_state.specs.Initial.{initial_state};
+ghost use Rattle.policy_model.specs.Parts.{published_at, watched, finished, state_finished, responded};
+ghost use Rattle.world_model.specs.declared.acts.Act.TheVariants as act;
+ghost use Rattle.policy_model.specs.Doing.{act_now, reply_now, takes};
+ghost use Rattle.policy_model.specs.Joins.{fits, wins_now};
+ghost use Rattle.policy_model.specs.Publications.{commits_now};
+ghost use Rattle.coordinator.specs.Does.{Does};
+ghost use Rattle.coordinator.specs.Rooms.{Uses};
+ghost use Rattle.coordinator.specs.Views.{view_in, IsReady};
+
+use crate::coordinator::{Coordinator, Struck};
+use crate::outcomes::{
+    has_sent, has_won, of_commit, of_initial, of_join, of_publish, of_response, of_start, of_value,
+    verdict, was_taken,
+};
+use crate::output::Output;
+use cluster_state::{
+    ApplyCommit, ClusterState, ClusterValue, Join, PublishRequest, PublishResponse, StateId,
+};
+use fault_checks::FollowerChecks;
+use publication::Publication;
+use state_journal::{Keeper, Ready};
+use voting_config::{NodeId, NodeSet, VotingConfig};
+use world_model::Act;
+
+/// Whether a join was counted, and whether it won the election.
+#[derive(Clone, Copy)]
+pub struct Counted {
+    pub taken: bool,
+    pub wins: bool,
+}
+
+impl<K: Keeper> Coordinator<K> {
+    // Takes the initial configuration. Answers whether that was taken.
+    pub(crate) fn act_set_initial(
+        &mut self,
+        out: &mut Output,
+        initial: Ready,
+    ) -> Result<bool, Struck>
+        requires ready { IsReady self.old }
+        requires steps { 1 ≤ out.old.steps.room }
+        requires initial { initial.state ≡ initial_state initial.state.config }
+        ensures does { Does K.Keeper self.old self.new out.old out.new (λ s v. act_now s v (act.Bootstrap initial.state.config) ∷ []) (is_ok result) }
+        ensures taken { IfOk result (λ taken. taken ≡ takes self.old.settings (view_in K.Keeper self.old) (act.Bootstrap initial.state.config)) }
+        ensures uses { Uses out.old out.new 1 0 0 }
+        ensures rest { self.new ≡ record self.old { core = self.new.core } }
+    {
+        let config = VotingConfig::of(initial.state.config.members());
+        let outcome = of_initial(self.core.set_initial(initial));
+        let verdict = verdict(&outcome);
+        out.act(Act::Bootstrap(config), outcome);
+        verdict
+    }
+
+    // Starts a join for a candidate in a term. Answers whether that was taken.
+    pub(crate) fn act_start_join(
+        &mut self,
+        out: &mut Output,
+        candidate: NodeId,
+        term: u64,
+    ) -> Result<bool, Struck>
+        requires ready { IsReady self.old }
+        requires steps { 1 ≤ out.old.steps.room }
+        ensures does { Does K.Keeper self.old self.new out.old out.new (λ s v. act_now s v (act.StartJoin candidate term) ∷ []) (is_ok result) }
+        ensures taken { IfOk result (λ taken. taken ≡ takes self.old.settings (view_in K.Keeper self.old) (act.StartJoin candidate term)) }
+        ensures uses { Uses out.old out.new 1 0 0 }
+        ensures rest { self.new ≡ record self.old { core = self.new.core } }
+    {
+        let outcome = of_start(self.core.start_join(candidate, term));
+        let verdict = verdict(&outcome);
+        out.act(Act::StartJoin(candidate, term), outcome);
+        verdict
+    }
+
+    // Counts a join. Answers whether that was taken and whether it wins.
+    pub(crate) fn act_join(&mut self, out: &mut Output, join: &Join) -> Counted
+        requires ready { IsReady self.old }
+        requires steps { 1 ≤ out.old.steps.room }
+        requires room { fits self.old.core.votes join.now.source ≡ true }
+        ensures does { Does K.Keeper self.old self.new out.old out.new (λ s v. act_now s v (act.TakeJoin join.now) ∷ []) true }
+        ensures taken { result.taken ≡ takes self.old.settings (view_in K.Keeper self.old) (act.TakeJoin join.now) }
+        ensures wins { result.wins ≡ wins_now (reply_now self.old.settings (view_in K.Keeper self.old) (act.TakeJoin join.now)) }
+        ensures uses { Uses out.old out.new 1 0 0 }
+        ensures rest { self.new ≡ record self.old { core = self.new.core } }
+    {
+        let outcome = of_join(self.core.join(join));
+        let counted = Counted {
+            taken: was_taken(&outcome),
+            wins: has_won(&outcome),
+        };
+        out.act(Act::TakeJoin(*join), outcome);
+        counted
+    }
+
+    // Publishes a value, which the entry holds once more. Answers whether that was taken: the publication begins, and its
+    // members are watched.
+    pub(crate) fn act_value(
+        &mut self,
+        out: &mut Output,
+        version: u64,
+        config: VotingConfig,
+        value: ClusterValue,
+        entry: (VotingConfig, ClusterValue),
+    ) -> bool
+        requires ready { IsReady self.old }
+        requires steps { 1 ≤ out.old.steps.room }
+        requires entry_config { entry.0 ≡ config }
+        requires entry_value { entry.1 ≡ value }
+        ensures does { Does K.Keeper self.old self.new out.old out.new (λ s v. act_now s v (act.Value version config value) ∷ []) true }
+        ensures taken { result ≡ takes self.old.settings (view_in K.Keeper self.old) (act.Value version config value) }
+        ensures uses { Uses out.old out.new 1 0 0 }
+        ensures tasks { self.new.tasks ≡ self.old.tasks }
+    {
+        let (entry_config, entry_value) = entry;
+        let id = StateId {
+            term: self.core.term(),
+            version,
+        };
+        let outcome = of_value(self.core.client_value(version, config, value));
+        let taken = was_taken(&outcome);
+        begin_publication(
+            taken,
+            &mut self.publication,
+            &mut self.followers,
+            id,
+            self.settings.me,
+            &entry_value.members,
+            self.moment,
+        );
+        out.act(Act::Value(version, entry_config, entry_value), outcome);
+        taken
+    }
+
+    // Accepts a published state, which the entry holds once more. Answers whether that was taken.
+    pub(crate) fn act_publish(
+        &mut self,
+        out: &mut Output,
+        source: NodeId,
+        state: Ready,
+        entry: ClusterState,
+    ) -> Result<bool, Struck>
+        requires ready { IsReady self.old }
+        requires steps { 1 ≤ out.old.steps.room }
+        requires entry { entry ≡ state.state }
+        ensures does { Does K.Keeper self.old self.new out.old out.new (λ s v. act_now s v (act.Publish (record { source = source; state = state.state })) ∷ []) (is_ok result) }
+        ensures taken { IfOk result (λ taken. taken ≡ takes self.old.settings (view_in K.Keeper self.old) (act.Publish (record { source = source; state = state.state }))) }
+        ensures uses { Uses out.old out.new 1 0 0 }
+        ensures rest { self.new ≡ record self.old { core = self.new.core } }
+    {
+        let outcome = of_publish(self.core.publish_request(source, state));
+        let verdict = verdict(&outcome);
+        let request = PublishRequest {
+            source,
+            state: entry,
+        };
+        out.act(Act::Publish(request), outcome);
+        verdict
+    }
+
+    // Counts a response to the publication. Answers whether it sends a commit.
+    pub(crate) fn act_response(&mut self, out: &mut Output, response: &PublishResponse) -> bool
+        requires ready { IsReady self.old }
+        requires steps { 1 ≤ out.old.steps.room }
+        requires room { fits self.old.core.acks response.now.source ≡ true }
+        ensures does { Does K.Keeper self.old self.new out.old out.new (λ s v. act_now s v (act.Response response.now) ∷ []) true }
+        ensures commits { result ≡ commits_now (reply_now self.old.settings (view_in K.Keeper self.old) (act.Response response.now)) }
+        ensures uses { Uses out.old out.new 1 0 0 }
+        ensures rest { self.new ≡ record self.old { core = self.new.core; publication = self.new.publication } }
+    {
+        let outcome = of_response(self.core.publish_response(response));
+        let commits = has_sent(&outcome);
+        count_response(
+            was_taken(&outcome),
+            commits,
+            &mut self.publication,
+            response.source,
+        );
+        out.act(Act::Response(*response), outcome);
+        commits
+    }
+
+    // Takes it that the accepted state is committed. Answers whether that was taken: the state is applied then, and its
+    // publication is finished.
+    pub(crate) fn act_commit(
+        &mut self,
+        out: &mut Output,
+        commit: &ApplyCommit,
+    ) -> Result<bool, Struck>
+        requires ready { IsReady self.old }
+        requires steps { 1 ≤ out.old.steps.room }
+        ensures does { Does K.Keeper self.old self.new out.old out.new (λ s v. act_now s v (act.Commit commit.now) ∷ []) (is_ok result) }
+        ensures taken { IfOk result (λ taken. taken ≡ takes self.old.settings (view_in K.Keeper self.old) (act.Commit commit.now)) }
+        ensures uses { Uses out.old out.new 1 0 0 }
+        ensures tasks { self.new.tasks ≡ self.old.tasks }
+    {
+        let accepted = self.core.accepted().id();
+        let outcome = of_commit(self.core.commit(commit));
+        let verdict = verdict(&outcome);
+        finish(
+            was_taken(&outcome),
+            &mut self.applied,
+            &mut self.publication,
+            &mut self.followers,
+            accepted,
+            self.moment,
+        );
+        out.act(Act::Commit(*commit), outcome);
+        verdict
+    }
+}
+
+// A publication begins, where it is taken, and its members are watched.
+fn begin_publication(
+    taken: bool,
+    publication: &mut Option<Publication>,
+    followers: &mut FollowerChecks,
+    id: StateId,
+    me: NodeId,
+    members: &NodeSet,
+    now: u64,
+)
+    ensures publication { publication.new ≡ (if taken then Some (published_at id members.now now) else publication.old) }
+    ensures followers { followers.new ≡ (if taken then watched me followers.old members.now now else followers.old) }
+{
+    if taken {
+        *publication = Some(Publication::start(id, members, now));
+        let mut others = members.copy();
+        others.remove(me);
+        followers.watch(&others, now);
+    }
+}
+
+// A response is counted, where it is taken.
+fn count_response(taken: bool, commits: bool, publication: &mut Option<Publication>, source: NodeId)
+    ensures { publication.new ≡ (if taken then responded publication.old source commits else publication.old) }
+{
+    if !taken {
+        return;
+    }
+    match publication {
+        None => {}
+        Some(publication) => {
+            publication.responded(source);
+            if commits {
+                publication.commit_sent();
+            }
+        }
+    }
+}
+
+// Where a commit is taken, its state is applied, and the publication is finished, unless it was before.
+fn finish(
+    taken: bool,
+    applied: &mut StateId,
+    publication: &mut Option<Publication>,
+    followers: &mut FollowerChecks,
+    id: StateId,
+    now: u64,
+)
+    ensures applied { applied.new ≡ (if taken then id else applied.old) }
+    ensures publication { publication.new ≡ (if taken then finished publication.old else publication.old) }
+    ensures followers { followers.new ≡ (if taken then state_finished publication.old followers.old id now else followers.old) }
+{
+    if !taken {
+        return;
+    }
+    *applied = id;
+    match publication {
+        None => {}
+        Some(publication) => {
+            if !publication.is_finished() {
+                followers.finished(id, now);
+            }
+            publication.finished();
+        }
+    }
+}

@@ -1,0 +1,165 @@
+//! The plan for a join, made before its term is raised.
+ghost use Rattle.std.specs.Prelude.{◌≡◌, ◌&&◌, true, not, IfOk, if◌then◌else◌};
+ghost use Rattle.policy_model.specs.Doing.{is_candidate};
+ghost use Rattle.master_tasks.specs.Queue.{no_tasks};
+ghost use Rattle.world_model.specs.Replies.{elects};
+ghost use Rattle.voting_config.specs.Ids.{with_id};
+ghost use Rattle.policy_model.specs.Joins.{fits as fits_of};
+ghost use Rattle.policy_model.specs.Parts.{all_to_be_added};
+ghost use Rattle.coordinator.specs.Ahead.{ahead_of, HasPlan, IsPlannedAhead};
+ghost use Rattle.master_tasks.specs.NextState.{leader_of};
+ghost use Rattle.coordinator.specs.Views.{view_in};
+
+use crate::coordinator::Coordinator;
+use crate::plan::{Plan, plan_state};
+use master_tasks::MasterTasks;
+use policy_model::Mode;
+use state_journal::Keeper;
+use std::alloc::{AllocError, Global};
+use voting_config::{MAX_IDS, NodeId, NodeSet};
+
+/// What a node will be once its term has risen, as far as the next state is made of it.
+#[derive(Drop)]
+pub struct Ahead {
+    pub term: u64,
+    pub votes: NodeSet,
+    pub won: bool,
+    pub leads: bool,
+    pub tasks: MasterTasks,
+}
+
+/// Whether the id is in the set, or there is room for it.
+pub(crate) fn fits(ids: &NodeSet, id: NodeId) -> bool
+    ensures { result ≡ fits_of ids.now id }
+{
+    ids.contains(id) || ids.len() < MAX_IDS
+}
+
+// The set with one more id.
+fn with(ids: &NodeSet, id: NodeId) -> NodeSet
+    requires { fits_of ids.now id ≡ true }
+    ensures { result ≡ with_id id ids.now }
+{
+    let mut more = ids.copy();
+    match more.insert(id) {
+        Ok(_) => more,
+        Err(_) => unreachable!(),
+    }
+}
+
+/// These are to become members.
+pub(crate) fn add_members(tasks: &mut MasterTasks, ids: &[NodeId])
+    ensures { tasks.new ≡ all_to_be_added tasks.old ids.now }
+{
+    for id in ids {
+        tasks.add_member(*id);
+    }
+}
+
+impl<K: Keeper> Coordinator<K> {
+    // What a candidate that is none yet will have left to do.
+    fn tasks_of_candidate(&self, alloc: Global) -> Result<MasterTasks, AllocError>
+        ensures { IfOk result (λ t. t ≡ (if is_candidate self.now.mode then self.now.tasks else no_tasks)) }
+    {
+        let mode = self.mode;
+        match mode {
+            Mode::Candidate => self.tasks.copy(),
+            Mode::Leader | Mode::Follower(_) => Ok(MasterTasks::new(alloc)),
+        }
+    }
+
+    fn ahead(&self, alloc: Global, term: u64) -> Result<Ahead, AllocError>
+        ensures { IfOk result (λ a. a ≡ ahead_of (view_in K.Keeper self.now) term) }
+    {
+        if self.core.term() < term {
+            return Ok(Ahead {
+                term,
+                votes: NodeSet::new(),
+                won: false,
+                leads: false,
+                tasks: self.tasks_of_candidate(alloc)?,
+            });
+        }
+        Ok(Ahead {
+            term: self.core.term(),
+            votes: self.core.votes(),
+            won: self.core.won(),
+            leads: self.is_leader(),
+            tasks: self.tasks.copy()?,
+        })
+    }
+
+    // Whether these votes win.
+    fn wins_with(&self, won: bool, votes: &NodeSet) -> bool
+        ensures { result ≡ (not won && elects (view_in K.Keeper self.now).node votes.now) }
+    {
+        !won && self.core.committed().is_quorum(votes)
+            && self.core.accepted().config.is_quorum(votes)
+    }
+
+    // What making the next state of these tasks comes to, in a term and with these votes.
+    pub(crate) fn plan_with(
+        &self,
+        alloc: Global,
+        term: u64,
+        tasks: MasterTasks,
+        votes: &NodeSet,
+    ) -> Result<Option<Plan>, AllocError>
+        ensures { IfOk result (λ plan. HasPlan (leader_of self.now.settings.me term (K.record_of self.now.core.keeper).accepted (K.record_of self.now.core.keeper).committed votes.now self.now.settings.shrink) tasks plan) }
+    {
+        let plan = plan_state(
+            alloc,
+            self.settings.me,
+            self.settings.shrink,
+            tasks,
+            term,
+            self.core.accepted(),
+            self.core.committed(),
+            votes,
+        )?;
+        Ok(Some(plan))
+    }
+
+    // The plan of a node that will be this, once it has counted the join of p.
+    fn plan_ahead(&self, alloc: Global, ahead: Ahead, p: NodeId) -> Result<Option<Plan>, AllocError>
+        ensures { IfOk result (λ plan. IsPlannedAhead self.now.settings (view_in K.Keeper self.now) ahead p plan) }
+    {
+        let Ahead {
+            term,
+            votes,
+            won,
+            leads,
+            tasks,
+        } = ahead;
+        if !fits(&votes, p) {
+            return Ok(None);
+        }
+        let votes = with(&votes, p);
+        let mut tasks = tasks;
+        if self.wins_with(won, &votes) {
+            tasks.add_member(self.settings.me);
+            add_members(&mut tasks, votes.as_slice());
+            let plan = self.plan_with(alloc, term, tasks, &votes)?;
+            return Ok(plan);
+        }
+        if leads {
+            tasks.add_member(p);
+            let plan = self.plan_with(alloc, term, tasks, &votes)?;
+            return Ok(plan);
+        }
+        Ok(None)
+    }
+
+    /// What going on will take if the join of p in this term wins, or is counted by a leader.
+    pub(crate) fn plan_join(
+        &self,
+        alloc: Global,
+        p: NodeId,
+        term: u64,
+    ) -> Result<Option<Plan>, AllocError>
+        ensures { IfOk result (λ plan. IsPlannedAhead self.now.settings (view_in K.Keeper self.now) (ahead_of (view_in K.Keeper self.now) term) p plan) }
+    {
+        let ahead = self.ahead(alloc, term)?;
+        self.plan_ahead(alloc, ahead, p)
+    }
+}

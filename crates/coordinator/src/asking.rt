@@ -1,0 +1,68 @@
+//! What comes of being asked for a join.
+ghost use Rattle.std.specs.Prelude.{◌≡◌, ◌≤◌, ◌+◌, [], ◌∷◌, IfOk};
+ghost use Rattle.policy_model.specs.Events.{Notes, Joined};
+ghost use Rattle.policy_model.specs.Joins.{is_asked_to_join};
+ghost use Rattle.policy_model.specs.Moves.{moved_all};
+ghost use Rattle.coordinator.specs.Does.{DoesAll, Survives};
+ghost use Rattle.coordinator.specs.Plans.{IsPlanned};
+ghost use Rattle.coordinator.specs.Views.{view_in, IsReady};
+
+use crate::coordinator::{Coordinator, EventError};
+use crate::output::Output;
+use crate::plan::Plan;
+use state_journal::Keeper;
+use std::alloc::{AllocError, Global};
+use voting_config::NodeId;
+
+impl<K: Keeper> Coordinator<K> {
+    // What going on will take once p is to become a member.
+    fn plan_member(&self, alloc: Global, p: NodeId) -> Result<Option<Plan>, AllocError>
+        ensures { IfOk result (λ plan. IsPlanned self.now.settings (moved_all self.now.settings (view_in K.Keeper self.now) (Notes (Joined (p ∷ [])) ∷ [])) plan) }
+    {
+        let mut tasks = self.tasks.copy()?;
+        tasks.add_member(p);
+        let plan = self.plan_with(alloc, self.core.term(), tasks, &self.core.votes())?;
+        Ok(plan)
+    }
+
+    fn is_asked_to_join(&mut self, out: &mut Output, p: NodeId, term: u64) -> Result<(), EventError>
+        requires ready { IsReady self.old }
+        requires steps { 2 ≤ out.old.steps.room }
+        requires frames { 32 ≤ out.old.frames.room }
+        ensures does { DoesAll K.Keeper self.old self.new out.old out.new (λ s v. is_asked_to_join s v p term) result }
+    {
+        if !self.is_leader() {
+            return Ok(());
+        }
+        if term <= self.core.term() {
+            let Ok(plan) = self.plan_member(out.alloc, p) else {
+                return Err(EventError::Memory);
+            };
+            let Ok(()) = out.make_room(self.tasks.open_count(), &plan) else {
+                return Err(EventError::Memory);
+            };
+            self.take_member(out, p, plan);
+            return Ok(());
+        }
+        let Ok(()) = out.make_room(self.tasks.open_count(), &None) else {
+            return Err(EventError::Memory);
+        };
+        let me = self.settings.me;
+        match self.start_join(out, me, term) {
+            Ok(()) => Ok(()),
+            Err(_) => Err(EventError::Struck),
+        }
+    }
+
+    /// A node in this term asks to be joined. A crash at any moment of it leaves what is kept of the acts so far, without the
+    /// act in hand or with it.
+    pub fn on_join_ask(&mut self, out: &mut Output, p: NodeId, term: u64) -> Result<(), EventError>
+        requires ready { IsReady self.old }
+        requires steps { 2 ≤ out.old.steps.room }
+        requires frames { 32 ≤ out.old.frames.room }
+        ensures does { DoesAll K.Keeper self.old self.new out.old out.new (λ s v. is_asked_to_join s v p term) result }
+        ensures crash { Survives K.Keeper self.old self.new (λ s v. is_asked_to_join s v p term) }
+    {
+        self.is_asked_to_join(out, p, term)
+    }
+}

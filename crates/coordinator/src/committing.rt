@@ -1,0 +1,134 @@
+//! Commits, by which a publication is finished.
+ghost use Rattle.std.specs.Prelude.{◌≡◌, ◌≤◌, ◌+◌, [], ◌∷◌, true, length, is_ok, IfOk};
+ghost use Rattle.policy_model.specs.Publications.{acks_exclusions, is_told_commit};
+ghost use Rattle.policy_model.specs.Moves.{moved_all};
+ghost use Rattle.coordinator.specs.Ahead.{IsPlannedCommit, finishes};
+ghost use Rattle.coordinator.specs.Does.{Does, DoesAll, Survives};
+ghost use Rattle.coordinator.specs.Plans.{IsPlanned, replies_planned};
+ghost use Rattle.coordinator.specs.Rooms.{Uses};
+ghost use Rattle.coordinator.specs.Views.{view_in, IsReady};
+
+use crate::coordinator::{Coordinator, EventError, Struck};
+use crate::output::Output;
+use crate::plan::{Plan, plan_state};
+use cluster_state::{ApplyCommit, StateId};
+use master_tasks::Replies;
+use state_journal::Keeper;
+use std::alloc::{AllocError, Global};
+use voting_config::NodeId;
+
+impl<K: Keeper> Coordinator<K> {
+    // What going on will take once the accepted state is committed.
+    fn plan_commit(&self, alloc: Global) -> Result<Option<Plan>, AllocError>
+        ensures { IfOk result (λ plan. IsPlannedCommit self.now.settings (view_in K.Keeper self.now) plan) }
+    {
+        if !self.is_leader() {
+            return Ok(None);
+        }
+        let accepted = self.core.accepted();
+        let mut tasks = self.tasks.copy()?;
+        let mut answers = Replies::with_room(alloc, tasks.open_count())?;
+        tasks.ack_exclusions(&accepted.config, accepted.id(), &mut answers);
+        let plan = plan_state(
+            alloc,
+            self.settings.me,
+            self.settings.shrink,
+            tasks,
+            self.core.term(),
+            accepted,
+            &accepted.config,
+            &self.core.votes(),
+        )?;
+        Ok(Some(plan))
+    }
+
+    // Exclusions that are done are acknowledged.
+    fn ack_exclusions(&mut self, out: &mut Output)
+        requires { length self.old.tasks.waiting ≤ out.old.replies.room }
+        ensures does { Does K.Keeper self.old self.new out.old out.new acks_exclusions true }
+        ensures uses { Uses out.old out.new 0 0 (length self.old.tasks.waiting) }
+    {
+        let id = self.core.accepted().id();
+        self.tasks
+            .ack_exclusions(self.core.committed(), id, &mut out.replies);
+    }
+
+    // A leader that was told of the commit goes on as planned.
+    fn finish_publication(&mut self, out: &mut Output, plan: Option<Plan>)
+        requires ready { IsReady self.old }
+        requires plan { IsPlanned self.old.settings (moved_all self.old.settings (view_in K.Keeper self.old) (acks_exclusions self.old.settings (view_in K.Keeper self.old))) plan }
+        requires steps { 2 ≤ out.old.steps.room }
+        requires frames { 32 ≤ out.old.frames.room }
+        requires replies { length self.old.tasks.waiting + replies_planned plan ≤ out.old.replies.room }
+        ensures does { Does K.Keeper self.old self.new out.old out.new finishes true }
+    {
+        self.ack_exclusions(out);
+        self.go_on(out, plan);
+    }
+
+    // Takes the commit, and goes on as planned.
+    fn take_commit(
+        &mut self,
+        out: &mut Output,
+        p: NodeId,
+        id: StateId,
+        plan: Option<Plan>,
+    ) -> Result<(), Struck>
+        requires ready { IsReady self.old }
+        requires plan { IsPlannedCommit self.old.settings (view_in K.Keeper self.old) plan }
+        requires steps { 3 ≤ out.old.steps.room }
+        requires frames { 32 ≤ out.old.frames.room }
+        requires replies { length self.old.tasks.waiting + replies_planned plan ≤ out.old.replies.room }
+        ensures does { Does K.Keeper self.old self.new out.old out.new (λ s v. is_told_commit s v p id) (is_ok result) }
+    {
+        let commit = ApplyCommit {
+            source: p,
+            term: id.term,
+            version: id.version,
+        };
+        match self.act_commit(out, &commit) {
+            Err(_) => Err(Struck),
+            Ok(taken) => {
+                if !taken {
+                    return Ok(());
+                }
+                if self.is_leader() {
+                    self.finish_publication(out, plan);
+                    return Ok(());
+                }
+                Ok(())
+            }
+        }
+    }
+
+    // A commit from p.
+    fn is_told_commit(&mut self, out: &mut Output, p: NodeId, id: StateId) -> Result<(), EventError>
+        requires ready { IsReady self.old }
+        requires steps { 3 ≤ out.old.steps.room }
+        requires frames { 32 ≤ out.old.frames.room }
+        ensures does { DoesAll K.Keeper self.old self.new out.old out.new (λ s v. is_told_commit s v p id) result }
+    {
+        let Ok(plan) = self.plan_commit(out.alloc) else {
+            return Err(EventError::Memory);
+        };
+        let Ok(()) = out.make_room(self.tasks.open_count(), &plan) else {
+            return Err(EventError::Memory);
+        };
+        match self.take_commit(out, p, id, plan) {
+            Ok(()) => Ok(()),
+            Err(_) => Err(EventError::Struck),
+        }
+    }
+
+    /// A commit came from p. A crash at any moment of it leaves what is kept of the acts so far, without the act in hand or
+    /// with it.
+    pub fn on_commit(&mut self, out: &mut Output, p: NodeId, id: StateId) -> Result<(), EventError>
+        requires ready { IsReady self.old }
+        requires steps { 3 ≤ out.old.steps.room }
+        requires frames { 32 ≤ out.old.frames.room }
+        ensures does { DoesAll K.Keeper self.old self.new out.old out.new (λ s v. is_told_commit s v p id) result }
+        ensures crash { Survives K.Keeper self.old self.new (λ s v. is_told_commit s v p id) }
+    {
+        self.is_told_commit(out, p, id)
+    }
+}

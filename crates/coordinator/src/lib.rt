@@ -1,0 +1,22 @@
+//! What a node does at each event: the rules of `policy_model`, over the core and the parts.
+#![tactic(auto)]
+
+mod acting;
+mod ahead;
+mod asking;
+mod committing;
+pub mod coordinator;
+mod joining;
+mod lines;
+mod modes;
+mod next;
+mod outcomes;
+pub mod output;
+pub mod plan;
+pub mod step;
+mod ticking;
+
+pub use coordinator::{Coordinator, EventError, Struck};
+pub use output::{Listed, Output};
+pub use plan::{NewState, Plan};
+pub use step::{Sealed, StepError};

@@ -1,0 +1,139 @@
+//! What a client's request comes to.
+ghost use Rattle.std.specs.Prelude.{◌≡◌, ◌≤◌, ◌+◌, [], ◌∷◌, true, false, Ok, None, IfOk, length};
+ghost use Rattle.client_lines.specs.declared.reply.Answer.TheVariants as answer;
+ghost use Rattle.client_lines.specs.declared.reply.Reply.TheVariants as reply;
+ghost use Rattle.client_lines.specs.Reading.{line_request};
+ghost use Rattle.client_lines.specs.Settings.{bad_setting_of};
+ghost use Rattle.master_tasks.specs.Queue.{is_full_of};
+ghost use Rattle.master_tasks.specs.NextState.{leader_of as master_of};
+ghost use Rattle.policy_model.specs.Doing.{is_leader, leader_of};
+ghost use Rattle.policy_model.specs.Requests.{replies, takes_line};
+ghost use Rattle.coordinator.specs.Ahead.{HasPlan, queues_one};
+ghost use Rattle.coordinator.specs.Does.{Does, DoesAll, Survives};
+ghost use Rattle.coordinator.specs.Views.{view_in, IsReady};
+
+use crate::coordinator::{Coordinator, EventError};
+use crate::output::Output;
+use crate::plan::Plan;
+use client_lines::{Answer, Line, LineError, Reply, Request, read_line};
+use master_tasks::{MAX_OPEN, MasterTasks, Outgoing};
+use policy_model::Mode;
+use state_journal::Keeper;
+use std::alloc::{AllocError, Global};
+use voting_config::NodeId;
+
+impl<K: Keeper> Coordinator<K> {
+    // What going on will take with these tasks.
+    pub(crate) fn plan_of(
+        &self,
+        alloc: Global,
+        tasks: &MasterTasks,
+    ) -> Result<Option<Plan>, AllocError>
+        ensures { IfOk result (λ plan. HasPlan (master_of self.now.settings.me (K.record_of self.now.core.keeper).term (K.record_of self.now.core.keeper).accepted (K.record_of self.now.core.keeper).committed self.now.core.votes self.now.settings.shrink) tasks.now plan) }
+    {
+        let tasks = tasks.copy()?;
+        let plan = self.plan_with(alloc, self.core.term(), tasks, &self.core.votes())?;
+        Ok(plan)
+    }
+
+    // A leader queues a request, and goes on.
+    fn queue(&mut self, out: &mut Output, conn: u64, request: Request) -> Result<(), EventError>
+        requires ready { IsReady self.old }
+        requires steps { 2 ≤ out.old.steps.room }
+        requires frames { 32 ≤ out.old.frames.room }
+        ensures does { DoesAll K.Keeper self.old self.new out.old out.new (λ s v. queues_one s v conn request) result }
+    {
+        let Ok(mut tasks) = self.tasks.copy() else {
+            return Err(EventError::Memory);
+        };
+        let Ok(()) = tasks.offer(conn, self.moment, request) else {
+            return Err(EventError::Memory);
+        };
+        let Ok(plan) = self.plan_of(out.alloc, &tasks) else {
+            return Err(EventError::Memory);
+        };
+        let Ok(()) = out.make_room(0, &plan) else {
+            return Err(EventError::Memory);
+        };
+        self.tasks = tasks;
+        self.go_on(out, plan);
+        Ok(())
+    }
+
+    // The leader that it knows.
+    fn leader(&self) -> Option<NodeId>
+        ensures { result ≡ leader_of self.now.settings.me self.now.mode }
+    {
+        let mode = self.mode;
+        match mode {
+            Mode::Candidate => None,
+            Mode::Leader => Some(self.settings.me),
+            Mode::Follower(leader) => Some(leader),
+        }
+    }
+
+    // One reply, and nothing else.
+    fn reply(&self, out: &mut Output, conn: u64, reply: Reply) -> Result<(), EventError>
+        ensures does { DoesAll K.Keeper self.now self.now out.old out.new (λ s v. replies conn reply) result }
+    {
+        let Ok(()) = out.make_room(1, &None) else {
+            return Err(EventError::Memory);
+        };
+        out.replies.push(Outgoing { conn, reply });
+        Ok(())
+    }
+
+    // A request of a client.
+    fn takes_request(
+        &mut self,
+        out: &mut Output,
+        conn: u64,
+        request: Request,
+    ) -> Result<(), EventError>
+        requires ready { IsReady self.old }
+        requires steps { 2 ≤ out.old.steps.room }
+        requires frames { 32 ≤ out.old.frames.room }
+        ensures does { DoesAll K.Keeper self.old self.new out.old out.new (λ s v. takes_line s v conn (Ok request)) result }
+    {
+        let id = request.id;
+        if !self.is_leader() {
+            let answer = Answer::NotMaster(self.leader());
+            return self.reply(out, conn, Reply::To { id, answer });
+        }
+        if let Some(length) = request.ask.bad_setting() {
+            let answer = Answer::BadSetting(length as u64);
+            return self.reply(out, conn, Reply::To { id, answer });
+        }
+        if self.tasks.is_full() {
+            let answer = Answer::QueueFull(MAX_OPEN as u64);
+            return self.reply(out, conn, Reply::To { id, answer });
+        }
+        self.queue(out, conn, request)
+    }
+
+    // What a line was read as.
+    fn takes_line(&mut self, out: &mut Output, conn: u64, line: &Line) -> Result<(), EventError>
+        requires ready { IsReady self.old }
+        requires steps { 2 ≤ out.old.steps.room }
+        requires frames { 32 ≤ out.old.frames.room }
+        ensures does { DoesAll K.Keeper self.old self.new out.old out.new (λ s v. takes_line s v conn (line_request line.now)) result }
+    {
+        match read_line(out.alloc, line.as_bytes()) {
+            Ok(request) => self.takes_request(out, conn, request),
+            Err(LineError::Fault(fault)) => self.reply(out, conn, Reply::BadLine(fault)),
+            Err(LineError::Memory) => Err(EventError::Memory),
+        }
+    }
+
+    /// A line of a client came. A crash at any moment of it leaves what is kept of the acts so far, without the act in hand
+    /// or with it.
+    pub fn on_line(&mut self, out: &mut Output, conn: u64, line: &Line) -> Result<(), EventError>
+        requires ready { IsReady self.old }
+        requires steps { 2 ≤ out.old.steps.room }
+        requires frames { 32 ≤ out.old.frames.room }
+        ensures does { DoesAll K.Keeper self.old self.new out.old out.new (λ s v. takes_line s v conn (line_request line.now)) result }
+        ensures crash { Survives K.Keeper self.old self.new (λ s v. takes_line s v conn (line_request line.now)) }
+    {
+        self.takes_line(out, conn, line)
+    }
+}

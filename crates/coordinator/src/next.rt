@@ -1,0 +1,182 @@
+//! What a leader does that has no publication in flight.
+ghost use Rattle.std.specs.Prelude.{◌≡◌, ◌≤◌, ◌+◌, ◌++◌, ◌^◌, [], map, true, false, not, ◌&&◌, length, find, if◌then◌else◌};
+ghost use Rattle.voting_config.specs.Ids.{Id, has};
+ghost use Rattle.master_tasks.specs.NextState.{next_answers};
+ghost use Rattle.policy_model.specs.Views.{View};
+ghost use Rattle.policy_model.specs.Parts.{as_master};
+ghost use Rattle.policy_model.specs.Doing.{is_leader, may_win as may_win_of};
+ghost use Rattle.policy_model.specs.NextState.{goes_on, makes_state, hands_over, publishes, is_in_flight, asks_successor, successor_of};
+ghost use Rattle.wire_frames.specs.declared.frame.Message.TheVariants as message;
+ghost use Rattle.coordinator.specs.Does.{Does, Ends};
+ghost use Rattle.coordinator.specs.Plans.{IsPlan, IsNewState, IsPlanned, replies_planned, state_by, frame_to};
+ghost use Rattle.coordinator.specs.Rooms.{Uses};
+ghost use Rattle.coordinator.specs.Showing.{shown_in};
+ghost use Rattle.coordinator.specs.Views.{view_in, IsReady};
+
+use crate::coordinator::Coordinator;
+use crate::output::Output;
+use crate::plan::{NewState, Plan};
+use cluster_state::LAST_NUMBER;
+use election_clock::due;
+use exclusions::may_win;
+use policy_model::Mode;
+use state_journal::Keeper;
+use voting_config::{NodeId, NodeSet};
+use wire_frames::Message;
+
+/// How long after a hand-over the next one may come, in ms.
+pub const HANDOVER_INTERVAL: u64 = 1000;
+
+// The same request to join to each of these nodes.
+fn send_start_joins(out: &mut Output, me: NodeId, ids: &[NodeId], candidate: NodeId, term: u64)
+    requires { length ids.now ≤ out.old.frames.room }
+    ensures shown { shown_in out.new ≡ record (shown_in out.old) { frames = (shown_in out.old).frames ++ map (λ (to : Id). frame_to me (message.StartJoin candidate term) to) ids.now } }
+    ensures uses { Uses out.old out.new 0 (length ids.now) 0 }
+{
+    for to in ids {
+        out.send(me, *to, Message::StartJoin { candidate, term });
+    }
+}
+
+// The first of these nodes that is among the others.
+fn first_among(ids: &NodeSet, others: &NodeSet) -> Option<NodeId>
+    ensures { result ≡ find (λ id. has id others.now) ids.now }
+{
+    ids.as_slice()
+        .iter()
+        .copied()
+        .find(|id| others.contains(*id))
+}
+
+impl<K: Keeper> Coordinator<K> {
+    // Whether it leads and has no publication in flight.
+    fn is_free_leader(&self) -> bool
+        ensures { result ≡ (is_leader self.now.mode && not (is_in_flight self.now.publication)) }
+    {
+        let mode = self.mode;
+        match mode {
+            Mode::Leader => match &self.publication {
+                None => true,
+                Some(publication) => publication.is_finished(),
+            },
+            Mode::Candidate | Mode::Follower(_) => false,
+        }
+    }
+
+    // Whether it votes or is not excluded.
+    fn may_win(&self) -> bool
+        ensures { result ≡ may_win_of self.now.settings (view_in K.Keeper self.now) }
+    {
+        let accepted = self.core.accepted();
+        may_win(
+            self.settings.me,
+            self.core.committed(),
+            &accepted.config,
+            &accepted.value.exclusions,
+        )
+    }
+
+    // Publishes a new state, which was made of the tasks of a node that was v, or becomes a candidate where that is refused.
+    fn publish(&mut self, out: &mut Output, new: NewState)
+        requires ready { IsReady self.old }
+        requires entry_config { new.entry_config ≡ new.config }
+        requires entry_value { new.entry_value ≡ new.value }
+        requires all { length new.frames.list ≡ length new.value.members }
+        requires steps { 2 ≤ out.old.steps.room }
+        requires frames { 32 ≤ out.old.frames.room }
+        requires replies { length self.old.tasks.waiting ≤ out.old.replies.room }
+        ensures does { (v : View) → v.node ≡ (view_in K.Keeper self.old).node → IsNewState self.old.settings.me (state_by (as_master self.old.settings v.node) v.tasks) new → Does K.Keeper self.old self.new out.old out.new (λ s u. publishes s v u) true }
+    {
+        let NewState {
+            config,
+            value,
+            entry_config,
+            entry_value,
+            frames,
+        } = new;
+        let version = self.core.accepted().version + 1;
+        let _ = value.members.len();
+        let taken = self.act_value(out, version, config, value, (entry_config, entry_value));
+        if taken {
+            out.frames.append(frames);
+        } else {
+            self.become_candidate(out);
+        }
+    }
+
+    // Makes the next state as planned.
+    fn make_state(&mut self, out: &mut Output, plan: Plan)
+        requires ready { IsReady self.old }
+        requires plan { IsPlan (as_master self.old.settings (view_in K.Keeper self.old).node) self.old.tasks plan }
+        requires steps { 2 ≤ out.old.steps.room }
+        requires frames { 32 ≤ out.old.frames.room }
+        requires replies { length plan.replies.sent + length plan.tasks.waiting ≤ out.old.replies.room }
+        ensures does { Does K.Keeper self.old self.new out.old out.new makes_state true }
+    {
+        let Plan {
+            tasks,
+            replies,
+            new,
+        } = plan;
+        out.replies.append(replies);
+        self.tasks = tasks;
+        match new {
+            None => {}
+            Some(new) => self.publish(out, new),
+        }
+    }
+
+    // The least responder that votes is asked to be elected, unless that was done a short time ago.
+    fn hand_over(&mut self, out: &mut Output)
+        requires ready { IsReady self.old }
+        requires frames { 32 ≤ out.old.frames.room }
+        ensures does { Does K.Keeper self.old self.new out.old out.new hands_over true }
+    {
+        if !due(self.handover_due, self.moment) {
+            return;
+        }
+        self.handover_due = self.moment + HANDOVER_INTERVAL;
+        self.ask_successor(out);
+    }
+
+    // The least responder that votes is asked to be elected, where there is one.
+    fn ask_successor(&self, out: &mut Output)
+        requires frames { 32 ≤ out.old.frames.room }
+        ensures { Does K.Keeper self.now self.now out.old out.new (λ s v. asks_successor s v (successor_of s v)) true }
+    {
+        let Some(publication) = &self.publication else {
+            return;
+        };
+        let Some(id) = first_among(publication.responders(), self.core.committed().members()) else {
+            return;
+        };
+        let term = self.core.term() + 1;
+        if term <= LAST_NUMBER {
+            let targets = publication.targets();
+            let _ = targets.len();
+            send_start_joins(out, self.settings.me, targets.as_slice(), id, term);
+        }
+    }
+
+    /// Goes on as planned.
+    pub(crate) fn go_on(&mut self, out: &mut Output, plan: Option<Plan>)
+        requires ready { IsReady self.old }
+        requires plan { IsPlanned self.old.settings (view_in K.Keeper self.old) plan }
+        requires steps { 2 ≤ out.old.steps.room }
+        requires frames { 32 ≤ out.old.frames.room }
+        requires replies { replies_planned plan ≤ out.old.replies.room }
+        ensures does { Does K.Keeper self.old self.new out.old out.new goes_on true }
+    {
+        if !self.is_free_leader() {
+            return;
+        }
+        if !self.may_win() {
+            self.hand_over(out);
+            return;
+        }
+        match plan {
+            Some(plan) => self.make_state(out, plan),
+            None => unreachable!(),
+        }
+    }
+}

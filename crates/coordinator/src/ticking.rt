@@ -1,0 +1,174 @@
+//! The tick of a leader.
+ghost use Rattle.std.specs.Prelude.{◌≡◌, ◌≤◌, ◌+◌, ◌++◌, [], ◌∷◌, map, true, false, IfOk, length};
+ghost use Rattle.voting_config.specs.Ids.{Id};
+ghost use Rattle.fault_checks.specs.Followers.{to_ask, to_drop_for_checks, to_drop_for_lag};
+ghost use Rattle.wire_frames.specs.declared.frame.Message.TheVariants as message;
+ghost use Rattle.policy_model.specs.Checks.{checks_followers};
+ghost use Rattle.policy_model.specs.Requests.{times_out_exclusions};
+ghost use Rattle.policy_model.specs.Rules.{has_timed_out, is_failed, ticks_leader};
+ghost use Rattle.coordinator.specs.Does.{Does, DoesAll, Survives};
+ghost use Rattle.coordinator.specs.Plans.{frame_to};
+ghost use Rattle.coordinator.specs.Rooms.{Uses};
+ghost use Rattle.coordinator.specs.Showing.{shown_in};
+ghost use Rattle.coordinator.specs.Ticks.{all_removed, dropped, ticks_members, IsPlannedTick};
+ghost use Rattle.coordinator.specs.Views.{view_in, IsReady};
+
+use crate::coordinator::{Coordinator, EventError};
+use crate::output::Output;
+use crate::plan::Plan;
+use fault_checks::Checked;
+use master_tasks::{MasterTasks, Replies};
+use policy_model::{DropCause, MemberDrop};
+use publication::Stage;
+use state_journal::Keeper;
+use std::alloc::{AllocError, Global};
+use voting_config::NodeId;
+use wire_frames::Message;
+
+// These are to be members no more.
+fn remove_members(tasks: &mut MasterTasks, ids: &[NodeId])
+    ensures { tasks.new ≡ all_removed tasks.old ids.now }
+{
+    for id in ids {
+        tasks.drop_member(*id);
+    }
+}
+
+// The drop of each of these is shown.
+fn show_drops(out: &mut Output, ids: &[NodeId], cause: DropCause)
+    requires { length ids.now ≤ out.old.drops.room }
+    ensures shown { shown_in out.new ≡ record (shown_in out.old) { drops = (shown_in out.old).drops ++ map (λ (id : Id). dropped cause id) ids.now } }
+    ensures room { out.old.drops.room ≤ out.new.drops.room + length ids.now }
+    ensures uses { Uses out.old out.new 0 0 0 }
+{
+    for id in ids {
+        out.drops.push(MemberDrop { member: *id, cause });
+    }
+}
+
+// The check goes to each of these.
+fn send_checks(out: &mut Output, me: NodeId, ids: &[NodeId], term: u64)
+    requires { length ids.now ≤ out.old.frames.room }
+    ensures shown { shown_in out.new ≡ record (shown_in out.old) { frames = (shown_in out.old).frames ++ map (λ (to : Id). frame_to me (message.FollowerCheck term) to) ids.now } }
+    ensures uses { Uses out.old out.new 0 (length ids.now) 0 }
+{
+    for to in ids {
+        out.send(me, *to, Message::FollowerCheck { term });
+    }
+}
+
+impl<K: Keeper> Coordinator<K> {
+    // Exclusions that have waited too long are answered.
+    fn time_out_exclusions(&mut self, out: &mut Output)
+        requires { length self.old.tasks.waiting ≤ out.old.replies.room }
+        ensures does { Does K.Keeper self.old self.new out.old out.new times_out_exclusions true }
+        ensures uses { Uses out.old out.new 0 0 (length self.old.tasks.waiting) }
+        ensures drops { out.new.drops ≡ out.old.drops }
+    {
+        self.tasks
+            .time_out_exclusions(self.core.committed(), self.moment, &mut out.replies);
+    }
+
+    // Followers that fail or lag are dropped, and those that are due are asked.
+    fn check_followers(&mut self, out: &mut Output)
+        requires frames { 32 ≤ out.old.frames.room }
+        requires drops { 64 ≤ out.old.drops.room }
+        ensures does { Does K.Keeper self.old self.new out.old out.new checks_followers true }
+        ensures uses { Uses out.old out.new 0 32 0 }
+    {
+        let Checked { ask, checks, lag } = self.followers.tick(self.moment);
+        let _ = ask.len();
+        let _ = checks.len();
+        let _ = lag.len();
+        show_drops(out, checks.as_slice(), DropCause::Checks);
+        show_drops(out, lag.as_slice(), DropCause::Lag);
+        remove_members(&mut self.tasks, checks.as_slice());
+        remove_members(&mut self.tasks, lag.as_slice());
+        send_checks(out, self.settings.me, ask.as_slice(), self.core.term());
+    }
+
+    // What going on will take behind these.
+    fn plan_tick(&self, alloc: Global) -> Result<Option<Plan>, AllocError>
+        ensures { IfOk result (λ plan. IsPlannedTick self.now.settings (view_in K.Keeper self.now) plan) }
+    {
+        let mut tasks = self.tasks.copy()?;
+        let mut answers = Replies::with_room(alloc, tasks.open_count())?;
+        tasks.time_out_exclusions(self.core.committed(), self.moment, &mut answers);
+        let mut followers = self.followers.copy();
+        let checked = followers.tick(self.moment);
+        remove_members(&mut tasks, checked.checks.as_slice());
+        remove_members(&mut tasks, checked.lag.as_slice());
+        let plan = self.plan_of(alloc, &tasks)?;
+        Ok(plan)
+    }
+
+    // Whether its publication is not finished in time.
+    fn has_timed_out(&self) -> bool
+        ensures { result ≡ has_timed_out self.now.publication self.now.moment }
+    {
+        match &self.publication {
+            None => false,
+            Some(publication) => is_failed(&publication.tick(self.moment)),
+        }
+    }
+
+    // What a leader does at a tick before it goes on.
+    fn tick_members(&mut self, out: &mut Output)
+        requires frames { 32 ≤ out.old.frames.room }
+        requires drops { 64 ≤ out.old.drops.room }
+        requires replies { length self.old.tasks.waiting ≤ out.old.replies.room }
+        ensures does { Does K.Keeper self.old self.new out.old out.new ticks_members true }
+        ensures uses { Uses out.old out.new 0 32 (length self.old.tasks.waiting) }
+    {
+        self.time_out_exclusions(out);
+        self.check_followers(out);
+    }
+
+    // A leader's tick, at a moment that is kept already.
+    fn ticks_leader(&mut self, out: &mut Output) -> Result<(), EventError>
+        requires ready { IsReady self.old }
+        requires steps { 2 ≤ out.old.steps.room }
+        requires frames { 64 ≤ out.old.frames.room }
+        requires drops { 64 ≤ out.old.drops.room }
+        ensures does { DoesAll K.Keeper self.old self.new out.old out.new ticks_leader result }
+    {
+        if self.has_timed_out() {
+            let Ok(()) = out.make_room(self.tasks.open_count(), &None) else {
+                return Err(EventError::Memory);
+            };
+            self.become_candidate(out);
+            return Ok(());
+        }
+        let Ok(plan) = self.plan_tick(out.alloc) else {
+            return Err(EventError::Memory);
+        };
+        let Ok(()) = out.make_room(self.tasks.open_count(), &plan) else {
+            return Err(EventError::Memory);
+        };
+        self.tick_members(out);
+        self.go_on(out, plan);
+        Ok(())
+    }
+
+    /// A leader's tick, at a moment that is kept already. A crash at any moment of it leaves what is kept of the acts so far,
+    /// without the act in hand or with it.
+    pub fn on_leader_tick(&mut self, out: &mut Output) -> Result<(), EventError>
+        requires ready { IsReady self.old }
+        requires steps { 2 ≤ out.old.steps.room }
+        requires frames { 64 ≤ out.old.frames.room }
+        requires drops { 64 ≤ out.old.drops.room }
+        ensures does { DoesAll K.Keeper self.old self.new out.old out.new ticks_leader result }
+        ensures crash { Survives K.Keeper self.old self.new ticks_leader }
+    {
+        self.ticks_leader(out)
+    }
+}
+
+fn is_failed(stage: &Stage) -> bool
+    ensures { result ≡ is_failed stage.now }
+{
+    match stage {
+        Stage::Failed => true,
+        Stage::Running | Stage::Done(_) => false,
+    }
+}
