@@ -1,13 +1,8 @@
 -- What a crash leaves at each moment of some items.
 use Rattle.std.proofs.Common.{◌≡◌, ℕ, Bool, true, false, List, [], ◌∷◌, sym, subst, inl, inr, ⊎_elim}
 use Rattle.state_journal.specs.declared.keeper.Keeper.{Ghosts}
-use Rattle.std.specs.Prelude.{Option, Some, Result, Ok, Err}
-use Rattle.coordinator.specs.declared.coordinator.Coordinator.{Coordinator}
-use Rattle.coordinator.specs.declared.coordinator.EventError.{EventError}
-use Rattle.coordinator.specs.declared.coordinator.EventError.TheVariants as error
-use Rattle.coordinator.specs.Showing.{Shown}
-use Rattle.coordinator.specs.Does.{EndsAll, Leaves}
-use Rattle.zen_disk.specs.Moments.{LeavesOnly, quiet, joins, leaves_also}
+use Rattle.std.specs.Prelude.{Option, Some}
+use Rattle.zen_disk.specs.Moments.{LeavesOnly, quiet, joins}
 use Rattle.cluster_state.specs.declared.state.Kept.{Kept}
 use Rattle.world_model.specs.declared.acts.Act.{Act}
 use Rattle.world_model.specs.declared.acts.Act.TheVariants.{Bootstrap, StartJoin, TakeJoin, Value, Publish, Response, Commit, Open}
@@ -79,13 +74,3 @@ module _ {K : Type 0} (k : Ghosts K) where
   did_leaves old new (Sends frame ∷ is) did t g s = did_leaves old new is did t g s
   did_leaves old new (Replies answer ∷ is) did t g s = did_leaves old new is did t g s
   did_leaves old new (Notes note ∷ is) did t g s = did_leaves old new is did t g s
-
-  -- whatever comes of an event
-  pub ends_leave : (r : Result (Unit {0}) EventError) (old new : Coordinator K) (o o_now : Shown) (items : List Item) → EndsAll k r old new o o_now items
-      → Leaves k old new items
-  ends_leave (Ok u) old new o o_now items makes t g s = did_leaves old.core new.core items makes.goes.core t g s
-  ends_leave (Err error.Struck) old new o o_now items fails t g s =
-      leaves_also k.moment k.left_since old.core.keeper new.core.keeper (IsAlong g fails.left) (IsAlong g items) (did_leaves old.core new.core fails.left fails.goes.core t g s)
-      (λ found a. along_struck g items fails.left fails.struck found a)
-  ends_leave (Err error.Memory) old new o o_now items same t g s =
-      subst (λ (c : Coordinator K). LeavesOnly k.moment k.left_since old.core.keeper c.core.keeper (IsAlong g items)) (sym same) (quiet k.moment k.left_since old.core.keeper (IsAlong g items))

@@ -1,5 +1,5 @@
 -- Lists of frames and of replies change nothing but what is shown.
-use Rattle.std.proofs.Common.{◌≡◌, ℕ, Bool, Option, List, [], ◌∷◌, ◌++◌, map, refl, sym, ap, ◌∙◌}
+use Rattle.std.proofs.Common.{◌≡◌, ℕ, Bool, Option, List, [], ◌∷◌, ◌++◌, map, refl, sym, ap, subst, ◌∙◌}
 use Rattle.state_journal.specs.declared.keeper.Keeper.{Ghosts}
 use Rattle.std.proofs.lemmas.List.{append_assoc, append-nil}
 use Rattle.cluster_state.specs.declared.state.Kept.{Kept}
@@ -68,6 +68,12 @@ module _ {K : Type 0} (k : Ghosts K) where
     goes = record { settings = refl; clock = refl; view = sym (moved_all-sends c.settings (view c) ids m); core = did-sends c.settings c.core ids m };
     shown = showing-sends c.settings o ids m;
   }
+
+  -- the same of ids in other words
+  pub sends_shown : (c : Coordinator K) (o o1 : Shown) (ids each : List Id) (m : Message) → each ≡ ids → o1 ≡ record o { frames = o.frames ++ map (λ (to : Id). frame_to c.settings.me m to) each }
+      → Make c c o o1 (send_all c.settings ids m)
+  sends_shown c o o1 ids each m same shown =
+      subst (λ (x : Shown). Make c c o x (send_all c.settings ids m)) (ap (λ (l : List Id). record o { frames = o.frames ++ map (λ (to : Id). frame_to c.settings.me m to) l }) (sym same) ∙ sym shown) (makes_sends c o ids m)
 
   -- one frame
   pub makes_send : (c : Coordinator K) (o : Shown) (to : Id) (m : Message) → Make c c o (showing o (send c.settings to m)) (send c.settings to m ∷ [])

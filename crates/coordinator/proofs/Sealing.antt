@@ -1,39 +1,108 @@
 -- An event whose output is sealed.
-use Rattle.std.proofs.Common.{◌≡◌, ℕ, Bool, List, sym, subst}
-use Rattle.state_journal.specs.declared.keeper.Keeper.{Ghosts}
+use Rattle.std.proofs.Common.{◌≡◌, ℕ, Bool, true, false, List, [], ◌∷◌, ◌++◌, refl, sym, ap, subst, ◌∙◌}
 use Rattle.std.specs.Prelude.{Option, Result, Ok, Err}
-use Rattle.zen_disk.specs.Moments.{quiet}
-use Rattle.cluster_state.specs.declared.state.Kept.{Kept}
+use Rattle.std.specs.List.{flat_map}
+use Rattle.std.proofs.lemmas.List.{append_assoc, append-nil}
+use Rattle.state_journal.specs.declared.keeper.Keeper.{Ghosts}
+use Rattle.zen_disk.specs.Moments.{LeavesOnly}
+use Rattle.wire_frames.specs.declared.frame.Frame.{Frame}
+use Rattle.master_tasks.specs.declared.waiting.Outgoing.{Outgoing}
 use Rattle.policy_model.specs.declared.settings.Settings.{Settings}
-use Rattle.policy_model.specs.Events.{Item}
+use Rattle.policy_model.specs.declared.events.Event.{Event}
+use Rattle.policy_model.specs.declared.events.MemberDrop.{MemberDrop}
+use Rattle.policy_model.specs.declared.events.Step.{Step}
+use Rattle.policy_model.specs.Events.{Item, Opens, Begins, Acts, Turns, Drops, Sends, Replies, Notes, acts_of}
+use Rattle.policy_model.specs.Entries.{Life, log_of, steps_of, drops_in, steps_in, frames_in, replies_in, frames_of, replies_of, by_member, by_receiver}
+use Rattle.policy_model.specs.Follows.{items_of}
+use Rattle.policy_model.specs.Moves.{begun}
+use Rattle.policy_model.specs.Rules.{next_of}
 use Rattle.policy_model.specs.Views.{View}
-use Rattle.coordinator.specs.Showing.{Shown, shown_in, nothing_shown}
-use Rattle.coordinator.specs.Turns.{IsAlong}
-use Rattle.coordinator.specs.Does.{Makes, Fails, DoesAll, Leaves}
-use Rattle.coordinator.specs.Steps.{sealing, Steps}
+use Rattle.coordinator.specs.Showing.{Shown, showing, showing_all, nothing_shown}
+use Rattle.coordinator.specs.Lives.{StandsForLife, Brings, Breaks, EventEnds}
+use Rattle.coordinator.specs.Steps.{AreEntries, AreOrdered, IsSealed, IsOrdered, Seals, Steps}
 use Rattle.coordinator.specs.Views.{view_in}
 use Rattle.coordinator.specs.declared.coordinator.Coordinator.{Coordinator}
 use Rattle.coordinator.specs.declared.coordinator.EventError.{EventError}
 use Rattle.coordinator.specs.declared.coordinator.EventError.TheVariants as error
-use Rattle.coordinator.specs.declared.output.Output.{Output}
 use Rattle.coordinator.specs.declared.step.Sealed.{Sealed}
+use Rattle.coordinator.specs.declared.step.Entries.{Entries}
 use Rattle.coordinator.specs.declared.step.StepError.{StepError}
+use Rattle.coordinator.specs.declared.step.StepError.TheVariants as step_error
+use Rattle.coordinator.proofs.Appending.{steps-shown, drops-shown}
+use Rattle.coordinator.proofs.Entering.{own_next, own_struck, items_now, enters, did_rise, did_stops}
+
+frames-shown : (o : Shown) (is : List Item) → (showing_all o is).frames ≡ o.frames ++ flat_map frames_in is
+frames-shown o [] = sym (append-nil o.frames)
+frames-shown o (Opens found ∷ is) = frames-shown o is
+frames-shown o (Begins event ∷ is) = frames-shown o is
+frames-shown o (Acts act outcome ∷ is) = frames-shown (showing o (Acts act outcome)) is
+frames-shown o (Turns mode term ∷ is) = frames-shown (showing o (Turns mode term)) is
+frames-shown o (Drops member cause ∷ is) = frames-shown (showing o (Drops member cause)) is
+frames-shown o (Sends frame ∷ is) = frames-shown (showing o (Sends frame)) is ∙ append_assoc o.frames (frame ∷ []) (flat_map frames_in is)
+frames-shown o (Replies answer ∷ is) = frames-shown (showing o (Replies answer)) is
+frames-shown o (Notes note ∷ is) = frames-shown o is
+
+replies-shown : (o : Shown) (is : List Item) → (showing_all o is).replies ≡ o.replies ++ flat_map replies_in is
+replies-shown o [] = sym (append-nil o.replies)
+replies-shown o (Opens found ∷ is) = replies-shown o is
+replies-shown o (Begins event ∷ is) = replies-shown o is
+replies-shown o (Acts act outcome ∷ is) = replies-shown (showing o (Acts act outcome)) is
+replies-shown o (Turns mode term ∷ is) = replies-shown (showing o (Turns mode term)) is
+replies-shown o (Drops member cause ∷ is) = replies-shown (showing o (Drops member cause)) is
+replies-shown o (Sends frame ∷ is) = replies-shown (showing o (Sends frame)) is
+replies-shown o (Replies answer ∷ is) = replies-shown (showing o (Replies answer)) is ∙ append_assoc o.replies (answer ∷ []) (flat_map replies_in is)
+replies-shown o (Notes note ∷ is) = replies-shown o is
+
+-- what the items show, in its order
+sealed_so : (event : Event) (items : List Item) (shown : Shown) (sealed : Sealed) → shown ≡ showing_all nothing_shown items → IsOrdered event shown sealed → IsSealed event items sealed
+sealed_so event items shown sealed is ordered = record {
+  entries = record {
+    event = ordered.entries.event;
+    steps = ordered.entries.steps ∙ ap (λ (o : Shown). o.steps) is ∙ steps-shown nothing_shown items;
+    drops = ordered.entries.drops ∙ ap (λ (o : Shown). by_member o.drops) is ∙ ap (λ (l : List MemberDrop). by_member l) (drops-shown nothing_shown items);
+  };
+  sends = ordered.sends ∙ ap (λ (o : Shown). by_receiver o.frames) is ∙ ap (λ (l : List Frame). by_receiver l) (frames-shown nothing_shown items);
+  replies = ordered.replies ∙ ap (λ (o : Shown). o.replies) is ∙ replies-shown nothing_shown items;
+}
+
+-- an event that was begun is not refused as stopped
+pub sealed_not_stopped : (ended : Result (Unit {0}) EventError) (event : Event) (shown : Shown) (r : Result Sealed StepError) → Seals ended event shown r → r ≡ Err step_error.Stopped → ⊥
+sealed_not_stopped (Ok u) event shown (Ok sealed) seals e = cc
+sealed_not_stopped (Ok u) event shown (Err x) seals e = absurd seals
+sealed_not_stopped (Err error.Struck) event shown (Ok sealed) seals e = absurd seals
+sealed_not_stopped (Err error.Struck) event shown (Err (step_error.Disk entries)) seals e = cc
+sealed_not_stopped (Err error.Struck) event shown (Err step_error.Stopped) seals e = absurd seals
+sealed_not_stopped (Err error.Struck) event shown (Err step_error.Memory) seals e = absurd seals
+sealed_not_stopped (Err error.Memory) event shown r seals e = cc
 
 module _ {K : Type 0} (k : Ghosts K) where
-  abbrev items : Coordinator K → (Settings → View → List Item) → List Item
-  items c rule = rule c.settings (view_in k c)
+  steps_by : (ended : Result (Unit {0}) EventError) (r : Result Sealed StepError) (old new : Coordinator K) (event : Event) (shown : Shown)
+      → EventEnds k ended old new event nothing_shown shown (next_of old.settings (begun (view_in k old) event) event) → Seals ended event shown r
+      → Steps k old new event (next_of old.settings (begun (view_in k old) event) event) r
+  steps_by (Ok u) (Ok sealed) old new event shown brings seals = record {
+    enters = enters k old new event _ (own_next old.settings (begun (view_in k old) event) event) brings.passes;
+    seals = sealed_so event _ shown sealed brings.shown seals;
+  }
+  steps_by (Ok u) (Err e) old new event shown brings seals = absurd seals
+  steps_by (Err error.Struck) (Ok sealed) old new event shown breaks seals = absurd seals
+  steps_by (Err error.Struck) (Err (step_error.Disk entries)) old new event shown breaks seals = record {
+    left = breaks.left;
+    struck = breaks.struck;
+    enters = enters k old new event breaks.left (own_struck _ breaks.left breaks.struck (own_next old.settings (begun (view_in k old) event) event)) breaks.passes;
+    entries = record { event = seals.event; steps = seals.steps ∙ breaks.steps; drops = seals.drops ∙ ap (λ (l : List MemberDrop). by_member l) breaks.drops };
+    rose = did_rise k old.core new.core _ breaks.left breaks.struck breaks.passes.core;
+    stopped = did_stops k old.core new.core _ breaks.left breaks.struck breaks.passes.core;
+  }
+  steps_by (Err error.Struck) (Err step_error.Stopped) old new event shown breaks seals = absurd seals
+  steps_by (Err error.Struck) (Err step_error.Memory) old new event shown breaks seals = absurd seals
+  steps_by (Err error.Memory) r old new event shown same seals =
+      subst (λ (x : Result Sealed StepError). Steps k old new event (next_of old.settings (begun (view_in k old) event) event) x) (sym seals) same
 
-  steps_by : (ended : Result (Unit {0}) EventError) (old new : Coordinator K) (out out_now : Output) (rule : Settings → View → List Item) → shown_in out ≡ nothing_shown → DoesAll k old new out out_now rule ended
-      → Steps k old new rule (sealing ended out_now)
-  steps_by (Ok u) old new out out_now rule none does = subst (λ (o : Shown). Makes k old new o (shown_in out_now) (items old rule)) none does
-  steps_by (Err error.Struck) old new out out_now rule none does = subst (λ (o : Shown). Fails k old new o (shown_in out_now) (items old rule)) none does
-  steps_by (Err error.Memory) old new out out_now rule none does = does
-
-  pub steps : (ended : Result (Unit {0}) EventError) (old new : Coordinator K) (out out_now : Output) (rule : Settings → View → List Item) (result : Result Sealed StepError) → result ≡ sealing ended out_now → shown_in out ≡ nothing_shown
-      → DoesAll k old new out out_now rule ended → Steps k old new rule result
-  steps ended old new out out_now rule result is none does =
-      subst (λ (r : Result Sealed StepError). Steps k old new rule r) (sym is) (steps_by ended old new out out_now rule none does)
-
-  -- nothing happened
-  pub stays : (c : Coordinator K) (is : List Item) → Leaves k c c is
-  stays c is t g s = quiet k.moment k.left_since c.core.keeper (IsAlong g is)
+  -- whatever life the node stood for, the event is the one of that life
+  pub steps : (ended : Result (Unit {0}) EventError) (r : Result Sealed StepError) (old new : Coordinator K) (event : Event) (sent shown : Shown) → sent ≡ nothing_shown
+      → EventEnds k ended old new event sent shown (next_of old.settings (begun (view_in k old) event) event) → Seals ended event shown r
+      → (life : Life) → StandsForLife k old life → Steps k old new event (items_of old.settings (log_of life) event) r
+  steps ended r old new event sent shown none does seals life stands =
+      subst (λ (items : List Item). Steps k old new event items r) (items_now k old life event stands)
+      (steps_by ended r old new event shown
+      (subst (λ (o : Shown). EventEnds k ended old new event o shown (next_of old.settings (begun (view_in k old) event) event)) none does) seals)

@@ -64,6 +64,3 @@ module _ {K : Type 0} (k : Ghosts K) where
   abbrev pub Leaves : (old new : Coordinator K) → List Item → Type 0
   Leaves old new items =
       k.told → (g : NodeHistory) → StandsFor k.record_of k.has_stopped k.faults old.core g → LeavesOnly k.moment k.left_since old.core.keeper new.core.keeper (IsAlong g items)
-
-  abbrev pub Survives : (old new : Coordinator K) → (Settings → View → List Item) → Type 0
-  Survives old new rule = Leaves old new (rule old.settings (view_in k old))

@@ -6,6 +6,11 @@ pub mod Verdicts
 pub mod Does
 pub mod Rooms
 pub mod Plans
+pub mod Broadcasts
+pub mod Commits
 pub mod Ahead
 pub mod Ticks
 pub mod Steps
+pub mod Accepts
+pub mod Lives
+pub mod Orders

@@ -1,33 +1,91 @@
 -- What a whole event comes to.
-use Rattle.std.specs.Prelude.{◌≡◌, ℕ, Bool, true, Option, Result, Ok, Err}
+use Rattle.std.specs.Prelude.{◌≡◌, ℕ, true, Result, Ok, Err, List}
 use Rattle.state_journal.specs.declared.keeper.Keeper.{Ghosts}
-use Rattle.cluster_state.specs.declared.state.Kept.{Kept}
-use Rattle.policy_model.specs.declared.settings.Settings.{Settings}
+use Rattle.zen_disk.specs.Faults.{Rose}
+use Rattle.policy_model.specs.declared.events.Event.{Event}
+use Rattle.policy_model.specs.declared.events.Event.TheVariants.{Start, Tick, Frame as FrameCame, Client as LineCame}
 use Rattle.policy_model.specs.Events.{Item}
-use Rattle.policy_model.specs.Views.{View}
-use Rattle.std.specs.Prelude.{List}
-use Rattle.coordinator.specs.Showing.{shown_in, nothing_shown}
-use Rattle.coordinator.specs.Does.{Makes, Fails}
-use Rattle.coordinator.specs.Views.{view_in}
+use Rattle.policy_model.specs.Entries.{steps_of, drops_of, frames_of, replies_of, by_member, by_receiver}
+use Rattle.policy_model.specs.Follows.{IsStruck}
+use Rattle.coordinator.specs.Lives.{Enters}
+use Rattle.coordinator.specs.Showing.{Shown}
 use Rattle.coordinator.specs.declared.coordinator.Coordinator.{Coordinator}
 use Rattle.coordinator.specs.declared.coordinator.EventError.{EventError}
 use Rattle.coordinator.specs.declared.coordinator.EventError.TheVariants as error
-use Rattle.coordinator.specs.declared.output.Output.{Output}
 use Rattle.coordinator.specs.declared.step.Sealed.{Sealed}
+use Rattle.coordinator.specs.declared.step.Entries.{Entries}
 use Rattle.coordinator.specs.declared.step.StepError.{StepError}
 use Rattle.coordinator.specs.declared.step.StepError.TheVariants as step_error
 
-abbrev pub sealing : Result (Unit {0}) EventError → Output → Result Sealed StepError
-sealing (Ok u) output = Ok (record { output = output })
-sealing (Err error.Struck) output = Err (step_error.Disk (record { output = output }))
-sealing (Err error.Memory) output = Err step_error.Memory
+-- how many steps, drops and frames an event comes to at most
+abbrev pub steps_for : Event → ℕ
+steps_for Start = 0
+steps_for (Tick now word) = 6
+steps_for (FrameCame frame) = 6
+steps_for (LineCame conn line) = 6
+
+abbrev pub drops_for : Event → ℕ
+drops_for Start = 0
+drops_for (Tick now word) = 64
+drops_for (FrameCame frame) = 0
+drops_for (LineCame conn line) = 0
+
+abbrev pub frames_for : Event → ℕ
+frames_for Start = 0
+frames_for (Tick now word) = 96
+frames_for (FrameCame frame) = 33
+frames_for (LineCame conn line) = 33
+
+-- the entries are the steps and the drops of these items
+pub record AreEntries (e : Event) (items : List Item) (entries : Entries) : Type 0 where
+  pub event : entries.event ≡ e
+  pub steps : entries.steps.list ≡ steps_of items
+  pub drops : entries.drops.list ≡ drops_of items
+
+-- what is sealed is what these items show
+pub record IsSealed (e : Event) (items : List Item) (sealed : Sealed) : Type 0 where
+  pub entries : AreEntries e items sealed.entries
+  pub sends : sealed.sends.list ≡ frames_of items
+  pub replies : sealed.replies.sent ≡ replies_of items
+
+-- what was shown is in its order
+pub record AreOrdered (e : Event) (shown : Shown) (entries : Entries) : Type 0 where
+  pub event : entries.event ≡ e
+  pub steps : entries.steps.list ≡ shown.steps
+  pub drops : entries.drops.list ≡ by_member shown.drops
+
+pub record IsOrdered (e : Event) (shown : Shown) (sealed : Sealed) : Type 0 where
+  pub entries : AreOrdered e shown sealed.entries
+  pub sends : sealed.sends.list ≡ by_receiver shown.frames
+  pub replies : sealed.replies.sent ≡ shown.replies
+
+abbrev pub Seals : Result (Unit {0}) EventError → Event → Shown → Result Sealed StepError → Type 0
+Seals (Ok u) event shown (Ok sealed) = IsOrdered event shown sealed
+Seals (Ok u) event shown (Err e) = ⊥
+Seals (Err error.Struck) event shown (Err (step_error.Disk entries)) = AreOrdered event shown entries
+Seals (Err error.Struck) event shown (Err step_error.Stopped) = ⊥
+Seals (Err error.Struck) event shown (Err step_error.Memory) = ⊥
+Seals (Err error.Struck) event shown (Ok sealed) = ⊥
+Seals (Err error.Memory) event shown r = r ≡ Err step_error.Memory
 
 module _ {K : Type 0} (k : Ghosts K) where
-  -- to its end; up to where the disk failed; or not at all
-  abbrev pub Steps : (old new : Coordinator K) → (Settings → View → List Item) → Result Sealed StepError → Type 0
-  Steps old new rule (Ok sealed) =
-      Makes k old new nothing_shown (shown_in sealed.output) (rule old.settings (view_in k old))
-  Steps old new rule (Err (step_error.Disk sealed)) =
-      Fails k old new nothing_shown (shown_in sealed.output) (rule old.settings (view_in k old))
-  Steps old new rule (Err step_error.Memory) = new ≡ old
-  Steps old new rule (Err step_error.Stopped) = (new ≡ old) × (k.has_stopped old.core.keeper ≡ true)
+  -- the event came to its end
+  pub record Done (old new : Coordinator K) (event : Event) (items : List Item) (sealed : Sealed) : Type 0 where
+    pub enters : Enters k old new event items
+    pub seals : IsSealed event items sealed
+
+  -- the disk failed at an act: those up to it are done
+  pub record Failed (old new : Coordinator K) (event : Event) (items : List Item) (told : Entries) : Type 0 where
+    pub left : List Item
+    pub struck : IsStruck items left
+    pub enters : Enters k old new event left
+    pub entries : AreEntries event left told
+    pub rose : Rose (k.faults old.core.keeper) (k.faults new.core.keeper)
+    pub stopped : k.has_stopped new.core.keeper ≡ true
+
+  -- at an event for which the rules give these items
+  abbrev pub Steps : (old new : Coordinator K) → Event → List Item → Result Sealed StepError → Type 0
+  Steps old new event items (Ok sealed) = Done old new event items sealed
+  Steps old new event items (Err (step_error.Disk entries)) = Failed old new event items entries
+  Steps old new event items (Err step_error.Stopped) = new ≡ old
+  Steps old new event items (Err step_error.Memory) = new ≡ old

@@ -3,7 +3,7 @@ ghost use Rattle.std.specs.Prelude.{◌≡◌, ◌≤◌, ◌+◌, [], ◌∷◌
 ghost use Rattle.policy_model.specs.Events.{Notes, Joined};
 ghost use Rattle.policy_model.specs.Joins.{is_asked_to_join};
 ghost use Rattle.policy_model.specs.Moves.{moved_all};
-ghost use Rattle.coordinator.specs.Does.{DoesAll, Survives};
+ghost use Rattle.coordinator.specs.Does.{DoesAll};
 ghost use Rattle.coordinator.specs.Plans.{IsPlanned};
 ghost use Rattle.coordinator.specs.Views.{view_in, IsReady};
 
@@ -25,7 +25,12 @@ impl<K: Keeper> Coordinator<K> {
         Ok(plan)
     }
 
-    fn is_asked_to_join(&mut self, out: &mut Output, p: NodeId, term: u64) -> Result<(), EventError>
+    pub(crate) fn is_asked_to_join(
+        &mut self,
+        out: &mut Output,
+        p: NodeId,
+        term: u64,
+    ) -> Result<(), EventError>
         requires ready { IsReady self.old }
         requires steps { 2 ≤ out.old.steps.room }
         requires frames { 32 ≤ out.old.frames.room }
@@ -52,17 +57,5 @@ impl<K: Keeper> Coordinator<K> {
             Ok(()) => Ok(()),
             Err(_) => Err(EventError::Struck),
         }
-    }
-
-    /// A node in this term asks to be joined. A crash at any moment of it leaves what is kept of the acts so far, without the
-    /// act in hand or with it.
-    pub fn on_join_ask(&mut self, out: &mut Output, p: NodeId, term: u64) -> Result<(), EventError>
-        requires ready { IsReady self.old }
-        requires steps { 2 ≤ out.old.steps.room }
-        requires frames { 32 ≤ out.old.frames.room }
-        ensures does { DoesAll K.Keeper self.old self.new out.old out.new (λ s v. is_asked_to_join s v p term) result }
-        ensures crash { Survives K.Keeper self.old self.new (λ s v. is_asked_to_join s v p term) }
-    {
-        self.is_asked_to_join(out, p, term)
     }
 }

@@ -3,7 +3,7 @@ ghost use Rattle.std.specs.Prelude.{◌≡◌, ◌≤◌, ◌+◌, [], ◌∷◌
 ghost use Rattle.policy_model.specs.Publications.{acks_exclusions, is_told_commit};
 ghost use Rattle.policy_model.specs.Moves.{moved_all};
 ghost use Rattle.coordinator.specs.Ahead.{IsPlannedCommit, finishes};
-ghost use Rattle.coordinator.specs.Does.{Does, DoesAll, Survives};
+ghost use Rattle.coordinator.specs.Does.{Does, DoesAll};
 ghost use Rattle.coordinator.specs.Plans.{IsPlanned, replies_planned};
 ghost use Rattle.coordinator.specs.Rooms.{Uses};
 ghost use Rattle.coordinator.specs.Views.{view_in, IsReady};
@@ -102,7 +102,12 @@ impl<K: Keeper> Coordinator<K> {
     }
 
     // A commit from p.
-    fn is_told_commit(&mut self, out: &mut Output, p: NodeId, id: StateId) -> Result<(), EventError>
+    pub(crate) fn is_told_commit(
+        &mut self,
+        out: &mut Output,
+        p: NodeId,
+        id: StateId,
+    ) -> Result<(), EventError>
         requires ready { IsReady self.old }
         requires steps { 3 ≤ out.old.steps.room }
         requires frames { 32 ≤ out.old.frames.room }
@@ -118,17 +123,5 @@ impl<K: Keeper> Coordinator<K> {
             Ok(()) => Ok(()),
             Err(_) => Err(EventError::Struck),
         }
-    }
-
-    /// A commit came from p. A crash at any moment of it leaves what is kept of the acts so far, without the act in hand or
-    /// with it.
-    pub fn on_commit(&mut self, out: &mut Output, p: NodeId, id: StateId) -> Result<(), EventError>
-        requires ready { IsReady self.old }
-        requires steps { 3 ≤ out.old.steps.room }
-        requires frames { 32 ≤ out.old.frames.room }
-        ensures does { DoesAll K.Keeper self.old self.new out.old out.new (λ s v. is_told_commit s v p id) result }
-        ensures crash { Survives K.Keeper self.old self.new (λ s v. is_told_commit s v p id) }
-    {
-        self.is_told_commit(out, p, id)
     }
 }

@@ -7,7 +7,7 @@ ghost use Rattle.policy_model.specs.Events.{Turns, Notes, Joined};
 ghost use Rattle.policy_model.specs.declared.events.Mode.TheVariants.{Leader};
 ghost use Rattle.policy_model.specs.Moves.{moved_all};
 ghost use Rattle.coordinator.specs.Ahead.{winning, IsPlannedJoin};
-ghost use Rattle.coordinator.specs.Does.{Does, DoesAll, Survives};
+ghost use Rattle.coordinator.specs.Does.{Does, DoesAll};
 ghost use Rattle.coordinator.specs.Plans.{IsPlanned, replies_planned};
 ghost use Rattle.coordinator.specs.Rooms.{Uses};
 ghost use Rattle.coordinator.specs.Showing.{shown_in, showing};
@@ -148,23 +148,5 @@ impl<K: Keeper> Coordinator<K> {
             }
             Err(_) => Err(EventError::Struck),
         }
-    }
-
-    /// A join came from p. A crash at any moment of it leaves what is kept of the acts so far, without the act in hand or
-    /// with it.
-    pub fn on_join(
-        &mut self,
-        out: &mut Output,
-        p: NodeId,
-        term: u64,
-        last: StateId,
-    ) -> Result<(), EventError>
-        requires ready { IsReady self.old }
-        requires steps { 6 ≤ out.old.steps.room }
-        requires frames { 33 ≤ out.old.frames.room }
-        ensures does { DoesAll K.Keeper self.old self.new out.old out.new (λ s v. is_joined s v p term last) result }
-        ensures crash { Survives K.Keeper self.old self.new (λ s v. is_joined s v p term last) }
-    {
-        self.is_joined(out, p, term, last)
     }
 }

@@ -13,10 +13,14 @@ mod next;
 mod outcomes;
 pub mod output;
 pub mod plan;
+mod responding;
+pub mod sending;
+mod sorting;
 pub mod step;
 mod ticking;
 
 pub use coordinator::{Coordinator, EventError, Struck};
 pub use output::{Listed, Output};
 pub use plan::{NewState, Plan};
-pub use step::{Sealed, StepError};
+pub use sending::Broadcast;
+pub use step::{Entries, Sealed, StepError};

@@ -9,7 +9,7 @@ ghost use Rattle.master_tasks.specs.NextState.{leader_of as master_of};
 ghost use Rattle.policy_model.specs.Doing.{is_leader, leader_of};
 ghost use Rattle.policy_model.specs.Requests.{replies, takes_line};
 ghost use Rattle.coordinator.specs.Ahead.{HasPlan, queues_one};
-ghost use Rattle.coordinator.specs.Does.{Does, DoesAll, Survives};
+ghost use Rattle.coordinator.specs.Does.{Does, DoesAll};
 ghost use Rattle.coordinator.specs.Views.{view_in, IsReady};
 
 use crate::coordinator::{Coordinator, EventError};
@@ -112,7 +112,12 @@ impl<K: Keeper> Coordinator<K> {
     }
 
     // What a line was read as.
-    fn takes_line(&mut self, out: &mut Output, conn: u64, line: &Line) -> Result<(), EventError>
+    pub(crate) fn takes_line(
+        &mut self,
+        out: &mut Output,
+        conn: u64,
+        line: &Line,
+    ) -> Result<(), EventError>
         requires ready { IsReady self.old }
         requires steps { 2 ≤ out.old.steps.room }
         requires frames { 32 ≤ out.old.frames.room }
@@ -123,17 +128,5 @@ impl<K: Keeper> Coordinator<K> {
             Err(LineError::Fault(fault)) => self.reply(out, conn, Reply::BadLine(fault)),
             Err(LineError::Memory) => Err(EventError::Memory),
         }
-    }
-
-    /// A line of a client came. A crash at any moment of it leaves what is kept of the acts so far, without the act in hand
-    /// or with it.
-    pub fn on_line(&mut self, out: &mut Output, conn: u64, line: &Line) -> Result<(), EventError>
-        requires ready { IsReady self.old }
-        requires steps { 2 ≤ out.old.steps.room }
-        requires frames { 32 ≤ out.old.frames.room }
-        ensures does { DoesAll K.Keeper self.old self.new out.old out.new (λ s v. takes_line s v conn (line_request line.now)) result }
-        ensures crash { Survives K.Keeper self.old self.new (λ s v. takes_line s v conn (line_request line.now)) }
-    {
-        self.takes_line(out, conn, line)
     }
 }

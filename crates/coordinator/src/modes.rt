@@ -60,6 +60,7 @@ impl<K: Keeper> Coordinator<K> {
         requires replies { length self.old.tasks.waiting ≤ out.old.replies.room }
         ensures does { Does K.Keeper self.old self.new out.old out.new becomes_candidate_once true }
         ensures uses { Uses out.old out.new 1 0 (length self.old.tasks.waiting) }
+        ensures waiting { length self.new.tasks.waiting ≤ out.new.replies.room }
     {
         let mode = self.mode;
         match mode {
@@ -81,6 +82,7 @@ impl<K: Keeper> Coordinator<K> {
         requires replies { length self.old.tasks.waiting ≤ out.old.replies.room }
         ensures does { Does K.Keeper self.old self.new out.old out.new (λ s v. starts_join s v candidate term) (is_ok result) }
         ensures uses { Uses out.old out.new 2 1 (length self.old.tasks.waiting) }
+        ensures waiting { length self.new.tasks.waiting ≤ out.new.replies.room }
     {
         let taken = self.act_start_join(out, candidate, term)?;
         if taken {
@@ -112,6 +114,7 @@ impl<K: Keeper> Coordinator<K> {
         requires replies { length self.old.tasks.waiting ≤ out.old.replies.room }
         ensures does { Does K.Keeper self.old self.new out.old out.new (λ s v. raises_term s v candidate term) (is_ok result) }
         ensures uses { Uses out.old out.new 2 1 (length self.old.tasks.waiting) }
+        ensures waiting { length self.new.tasks.waiting ≤ out.new.replies.room }
     {
         if self.core.term() < term {
             self.start_join(out, candidate, term)

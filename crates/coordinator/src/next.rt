@@ -1,42 +1,29 @@
 //! What a leader does that has no publication in flight.
-ghost use Rattle.std.specs.Prelude.{◌≡◌, ◌≤◌, ◌+◌, ◌++◌, ◌^◌, [], map, true, false, not, ◌&&◌, length, find, if◌then◌else◌};
-ghost use Rattle.voting_config.specs.Ids.{Id, has};
+ghost use Rattle.std.specs.Prelude.{◌≡◌, ◌≤◌, ◌+◌, ◌^◌, true, false, not, ◌&&◌, length, find, if◌then◌else◌};
+ghost use Rattle.voting_config.specs.Ids.{has};
 ghost use Rattle.master_tasks.specs.NextState.{next_answers};
 ghost use Rattle.policy_model.specs.Views.{View};
 ghost use Rattle.policy_model.specs.Parts.{as_master};
 ghost use Rattle.policy_model.specs.Doing.{is_leader, may_win as may_win_of};
 ghost use Rattle.policy_model.specs.NextState.{goes_on, makes_state, hands_over, publishes, is_in_flight, asks_successor, successor_of};
-ghost use Rattle.wire_frames.specs.declared.frame.Message.TheVariants as message;
 ghost use Rattle.coordinator.specs.Does.{Does, Ends};
-ghost use Rattle.coordinator.specs.Plans.{IsPlan, IsNewState, IsPlanned, replies_planned, state_by, frame_to};
+ghost use Rattle.coordinator.specs.Plans.{IsPlan, IsNewState, IsPlanned, replies_planned, state_by};
 ghost use Rattle.coordinator.specs.Rooms.{Uses};
-ghost use Rattle.coordinator.specs.Showing.{shown_in};
 ghost use Rattle.coordinator.specs.Views.{view_in, IsReady};
 
 use crate::coordinator::Coordinator;
 use crate::output::Output;
 use crate::plan::{NewState, Plan};
+use crate::sending::Broadcast;
 use cluster_state::LAST_NUMBER;
 use election_clock::due;
 use exclusions::may_win;
 use policy_model::Mode;
 use state_journal::Keeper;
 use voting_config::{NodeId, NodeSet};
-use wire_frames::Message;
 
 /// How long after a hand-over the next one may come, in ms.
 pub const HANDOVER_INTERVAL: u64 = 1000;
-
-// The same request to join to each of these nodes.
-fn send_start_joins(out: &mut Output, me: NodeId, ids: &[NodeId], candidate: NodeId, term: u64)
-    requires { length ids.now ≤ out.old.frames.room }
-    ensures shown { shown_in out.new ≡ record (shown_in out.old) { frames = (shown_in out.old).frames ++ map (λ (to : Id). frame_to me (message.StartJoin candidate term) to) ids.now } }
-    ensures uses { Uses out.old out.new 0 (length ids.now) 0 }
-{
-    for to in ids {
-        out.send(me, *to, Message::StartJoin { candidate, term });
-    }
-}
 
 // The first of these nodes that is among the others.
 fn first_among(ids: &NodeSet, others: &NodeSet) -> Option<NodeId>
@@ -154,7 +141,8 @@ impl<K: Keeper> Coordinator<K> {
         if term <= LAST_NUMBER {
             let targets = publication.targets();
             let _ = targets.len();
-            send_start_joins(out, self.settings.me, targets.as_slice(), id, term);
+            let join = Broadcast::StartJoin(id, term);
+            out.send_all(self.settings.me, targets.as_slice(), &join);
         }
     }
 

@@ -1,26 +1,60 @@
-//! A whole event: its output is given out only sealed, once its last write was synced.
+//! A whole event: what it shows is given out only sealed, once its last write was synced.
 ghost use Rattle.std.specs.Prelude.{◌≡◌, ◌≤◌, IfOk, true};
-ghost use Rattle.client_lines.specs.Reading.{line_request};
-ghost use Rattle.policy_model.specs.Joins.{is_joined};
-ghost use Rattle.policy_model.specs.Requests.{takes_line};
-ghost use Rattle.coordinator.specs.Does.{Survives};
 ghost use Rattle.coordinator.specs.Showing.{shown_in, nothing_shown};
-ghost use Rattle.coordinator.specs.Steps.{sealing, Steps};
-ghost use Rattle.coordinator.specs.Views.{IsReady};
+ghost use Rattle.coordinator.specs.Steps.{Seals, drops_for, frames_for, steps_for};
 
-use crate::coordinator::{Coordinator, EventError};
+use crate::coordinator::EventError;
 use crate::output::{Listed, Output};
-use client_lines::Line;
-use cluster_state::StateId;
+use crate::sorting::{sort_drops, sort_frames};
 use master_tasks::Replies;
-use state_journal::Keeper;
+use policy_model::{Event, MemberDrop, Step};
 use std::alloc::{AllocError, Global};
-use voting_config::NodeId;
+use wire_frames::Frame;
+
+/// How many steps an event has at most: three acts and as many modes.
+const MOST_STEPS: usize = 6;
+
+/// What an event comes to beside frames and replies.
+#[derive(Drop)]
+pub struct Entries {
+    pub event: Event,
+    /// The acts and the changes of mode, in order.
+    pub steps: Listed<Step>,
+    /// Whom a leader drops, by ascending member.
+    pub drops: Listed<MemberDrop>,
+}
 
 /// What an event showed, after its last write. Nobody but this crate makes one.
 #[derive(Drop)]
 pub struct Sealed {
-    output: Output,
+    entries: Entries,
+    sends: Listed<Frame>,
+    replies: Replies,
+}
+
+impl Sealed {
+    ghost use Rattle.std.specs.Prelude.{◌≡◌};
+
+    /// What the event came to beside frames and replies.
+    pub fn entries(&self) -> &Entries
+        ensures { result.now ≡ self.now.entries }
+    {
+        &self.entries
+    }
+
+    /// The frames to be sent, by ascending receiver.
+    pub fn sends(&self) -> &Listed<Frame>
+        ensures { result.now ≡ self.now.sends }
+    {
+        &self.sends
+    }
+
+    /// The replies to clients, in order.
+    pub fn replies(&self) -> &Replies
+        ensures { result.now ≡ self.now.replies }
+    {
+        &self.replies
+    }
 }
 
 /// Why an event gave nothing to send.
@@ -30,72 +64,64 @@ pub enum StepError {
     Stopped,
     /// Memory was lacking, and nothing was done.
     Memory,
-    /// The disk failed. What is sealed has its steps and drops, and is not to be sent.
-    Disk(Sealed),
+    /// The disk failed: its count of faults rose. These are the entries up to the act that met the fault.
+    Disk(Entries),
 }
 
-// Nothing shown yet, with room for what an event shows at most, but for its replies.
-fn new_output(alloc: Global) -> Result<Output, AllocError>
+// Nothing shown yet, with room for what the event shows at most, but for its replies. At the start no memory is taken.
+pub(crate) fn new_output(alloc: Global, event: &Event) -> Result<Output, AllocError>
     ensures shown { IfOk result (λ o. shown_in o ≡ nothing_shown) }
-    ensures steps { IfOk result (λ o. 6 ≤ o.steps.room) }
-    ensures drops { IfOk result (λ o. 64 ≤ o.drops.room) }
-    ensures frames { IfOk result (λ o. 96 ≤ o.frames.room) }
+    ensures steps { IfOk result (λ o. steps_for event.now ≤ o.steps.room) }
+    ensures drops { IfOk result (λ o. drops_for event.now ≤ o.drops.room) }
+    ensures frames { IfOk result (λ o. frames_for event.now ≤ o.frames.room) }
 {
+    let (steps, drops, frames) = match event {
+        Event::Start => (0, 0, 0),
+        Event::Tick { .. } => (MOST_STEPS, 64, 96),
+        Event::Frame(_) | Event::Client { .. } => (MOST_STEPS, 0, 33),
+    };
     Ok(Output {
         alloc,
-        steps: Listed::with_room(alloc, 6)?,
-        drops: Listed::with_room(alloc, 64)?,
-        frames: Listed::with_room(alloc, 96)?,
+        steps: Listed::with_room(alloc, steps)?,
+        drops: Listed::with_room(alloc, drops)?,
+        frames: Listed::with_room(alloc, frames)?,
         replies: Replies::new(alloc),
     })
 }
 
-fn seal(ended: Result<(), EventError>, output: Output) -> Result<Sealed, StepError>
-    ensures { result ≡ sealing ended output }
+// What was shown, in its order.
+pub(crate) fn seal(
+    ended: Result<(), EventError>,
+    event: Event,
+    output: Output,
+) -> Result<Sealed, StepError>
+    ensures { Seals ended event (shown_in output) result }
 {
+    let Output {
+        alloc: _,
+        steps,
+        drops,
+        frames,
+        replies,
+    } = output;
+    let mut drops = drops;
+    sort_drops(&mut drops);
+    let entries = Entries {
+        event,
+        steps,
+        drops,
+    };
     match ended {
-        Ok(()) => Ok(Sealed { output }),
-        Err(EventError::Struck) => Err(StepError::Disk(Sealed { output })),
+        Ok(()) => {
+            let mut sends = frames;
+            sort_frames(&mut sends);
+            Ok(Sealed {
+                entries,
+                sends,
+                replies,
+            })
+        }
+        Err(EventError::Struck) => Err(StepError::Disk(entries)),
         Err(EventError::Memory) => Err(StepError::Memory),
-    }
-}
-
-impl<K: Keeper> Coordinator<K> {
-    /// A line of a client.
-    pub fn step_line(&mut self, alloc: Global, conn: u64, line: &Line) -> Result<Sealed, StepError>
-        requires { IsReady self.old }
-        ensures steps { Steps K.Keeper self.old self.new (λ s v. takes_line s v conn (line_request line.now)) result }
-        ensures crash { Survives K.Keeper self.old self.new (λ s v. takes_line s v conn (line_request line.now)) }
-    {
-        if self.core.keeper().stopped() {
-            return Err(StepError::Stopped);
-        }
-        let Ok(mut output) = new_output(alloc) else {
-            return Err(StepError::Memory);
-        };
-        let ended = self.on_line(&mut output, conn, line);
-        seal(ended, output)
-    }
-
-    /// A join from p.
-    pub fn step_join(
-        &mut self,
-        alloc: Global,
-        p: NodeId,
-        term: u64,
-        last: StateId,
-    ) -> Result<Sealed, StepError>
-        requires { IsReady self.old }
-        ensures steps { Steps K.Keeper self.old self.new (λ s v. is_joined s v p term last) result }
-        ensures crash { Survives K.Keeper self.old self.new (λ s v. is_joined s v p term last) }
-    {
-        if self.core.keeper().stopped() {
-            return Err(StepError::Stopped);
-        }
-        let Ok(mut output) = new_output(alloc) else {
-            return Err(StepError::Memory);
-        };
-        let ended = self.on_join(&mut output, p, term, last);
-        seal(ended, output)
     }
 }

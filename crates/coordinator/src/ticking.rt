@@ -2,12 +2,10 @@
 ghost use Rattle.std.specs.Prelude.{◌≡◌, ◌≤◌, ◌+◌, ◌++◌, [], ◌∷◌, map, true, false, IfOk, length};
 ghost use Rattle.voting_config.specs.Ids.{Id};
 ghost use Rattle.fault_checks.specs.Followers.{to_ask, to_drop_for_checks, to_drop_for_lag};
-ghost use Rattle.wire_frames.specs.declared.frame.Message.TheVariants as message;
 ghost use Rattle.policy_model.specs.Checks.{checks_followers};
 ghost use Rattle.policy_model.specs.Requests.{times_out_exclusions};
 ghost use Rattle.policy_model.specs.Rules.{has_timed_out, is_failed, ticks_leader};
-ghost use Rattle.coordinator.specs.Does.{Does, DoesAll, Survives};
-ghost use Rattle.coordinator.specs.Plans.{frame_to};
+ghost use Rattle.coordinator.specs.Does.{Does, DoesAll};
 ghost use Rattle.coordinator.specs.Rooms.{Uses};
 ghost use Rattle.coordinator.specs.Showing.{shown_in};
 ghost use Rattle.coordinator.specs.Ticks.{all_removed, dropped, ticks_members, IsPlannedTick};
@@ -16,6 +14,7 @@ ghost use Rattle.coordinator.specs.Views.{view_in, IsReady};
 use crate::coordinator::{Coordinator, EventError};
 use crate::output::Output;
 use crate::plan::Plan;
+use crate::sending::Broadcast;
 use fault_checks::Checked;
 use master_tasks::{MasterTasks, Replies};
 use policy_model::{DropCause, MemberDrop};
@@ -23,7 +22,6 @@ use publication::Stage;
 use state_journal::Keeper;
 use std::alloc::{AllocError, Global};
 use voting_config::NodeId;
-use wire_frames::Message;
 
 // These are to be members no more.
 fn remove_members(tasks: &mut MasterTasks, ids: &[NodeId])
@@ -43,17 +41,6 @@ fn show_drops(out: &mut Output, ids: &[NodeId], cause: DropCause)
 {
     for id in ids {
         out.drops.push(MemberDrop { member: *id, cause });
-    }
-}
-
-// The check goes to each of these.
-fn send_checks(out: &mut Output, me: NodeId, ids: &[NodeId], term: u64)
-    requires { length ids.now ≤ out.old.frames.room }
-    ensures shown { shown_in out.new ≡ record (shown_in out.old) { frames = (shown_in out.old).frames ++ map (λ (to : Id). frame_to me (message.FollowerCheck term) to) ids.now } }
-    ensures uses { Uses out.old out.new 0 (length ids.now) 0 }
-{
-    for to in ids {
-        out.send(me, *to, Message::FollowerCheck { term });
     }
 }
 
@@ -84,7 +71,8 @@ impl<K: Keeper> Coordinator<K> {
         show_drops(out, lag.as_slice(), DropCause::Lag);
         remove_members(&mut self.tasks, checks.as_slice());
         remove_members(&mut self.tasks, lag.as_slice());
-        send_checks(out, self.settings.me, ask.as_slice(), self.core.term());
+        let check = Broadcast::FollowerCheck(self.core.term());
+        out.send_all(self.settings.me, ask.as_slice(), &check);
     }
 
     // What going on will take behind these.
@@ -125,7 +113,7 @@ impl<K: Keeper> Coordinator<K> {
     }
 
     // A leader's tick, at a moment that is kept already.
-    fn ticks_leader(&mut self, out: &mut Output) -> Result<(), EventError>
+    pub(crate) fn ticks_leader(&mut self, out: &mut Output) -> Result<(), EventError>
         requires ready { IsReady self.old }
         requires steps { 2 ≤ out.old.steps.room }
         requires frames { 64 ≤ out.old.frames.room }
@@ -148,19 +136,6 @@ impl<K: Keeper> Coordinator<K> {
         self.tick_members(out);
         self.go_on(out, plan);
         Ok(())
-    }
-
-    /// A leader's tick, at a moment that is kept already. A crash at any moment of it leaves what is kept of the acts so far,
-    /// without the act in hand or with it.
-    pub fn on_leader_tick(&mut self, out: &mut Output) -> Result<(), EventError>
-        requires ready { IsReady self.old }
-        requires steps { 2 ≤ out.old.steps.room }
-        requires frames { 64 ≤ out.old.frames.room }
-        requires drops { 64 ≤ out.old.drops.room }
-        ensures does { DoesAll K.Keeper self.old self.new out.old out.new ticks_leader result }
-        ensures crash { Survives K.Keeper self.old self.new ticks_leader }
-    {
-        self.ticks_leader(out)
     }
 }
 
