@@ -6,6 +6,7 @@ mod ahead;
 mod asking;
 mod committing;
 pub mod coordinator;
+mod following;
 mod joining;
 mod lines;
 mod modes;
