@@ -11,14 +11,14 @@ use Rattle.world_model.specs.declared.acts.Act.TheVariants.{Publish}
 use Rattle.policy_model.specs.declared.settings.Settings.{Settings}
 use Rattle.policy_model.specs.Events.{Item}
 use Rattle.policy_model.specs.Views.{View}
-use Rattle.policy_model.specs.Doing.{act_now, after_act, takes}
-use Rattle.policy_model.specs.Publications.{accepts}
+use Rattle.policy_model.specs.Doing.{act_now, after_act, takes, raises_term}
+use Rattle.policy_model.specs.Publications.{accepts, is_published_to}
 use Rattle.coordinator.specs.Accepts.{responds}
 use Rattle.coordinator.specs.Showing.{Shown}
 use Rattle.coordinator.specs.Views.{view_in}
-use Rattle.coordinator.specs.Does.{Makes, Fails}
+use Rattle.coordinator.specs.Does.{Makes, Fails, Ends}
 use Rattle.coordinator.specs.declared.coordinator.Coordinator.{Coordinator}
-use Rattle.coordinator.proofs.Composing.{makes_then, fails_before}
+use Rattle.coordinator.proofs.Composing.{makes_then, ends_rule, fails_before}
 use Rattle.coordinator.proofs.Becoming.{makes_as}
 
 module _ {K : Type 0} (k : Ghosts K) where
@@ -57,3 +57,16 @@ module _ {K : Type 0} (k : Ghosts K) where
   pub accepts_struck : (old new : Coordinator K) (o o1 : Shown) (p : Id) (state : ClusterState) → Fails k old new o o1 (act_now old.settings (view old) (publishing p state) ∷ [])
       → Fails k old new o o1 (accepts old.settings (view old) p state)
   accepts_struck old new o o1 p state fails = fails_before k old new o o1 (act_now old.settings (view old) (publishing p state) ∷ []) _ fails
+
+  -- the whole of a published state
+  pub published_whole : (old mid new : Coordinator K) (o o1 o2 : Shown) (p : Id) (state : ClusterState) (term : ℕ) (fine : Bool) → term ≡ state.term → Make old mid o o1 (raises_term old.settings (view old) p term)
+      → Ends k fine mid new o1 o2 (accepts mid.settings (view mid) p state) → Ends k fine old new o o2 (is_published_to old.settings (view old) p state)
+  published_whole old mid new o o1 o2 p state term fine term_is raised next =
+      ends_rule k old mid new o o1 o2 (raises_term old.settings (view old) p state.term) (λ s v. accepts s v p state) fine
+      (makes_as k old mid o o1 _ _ raised (ap (λ (n : ℕ). raises_term old.settings (view old) p n) term_is)) next
+
+  pub published_struck : (old new : Coordinator K) (o o1 : Shown) (p : Id) (state : ClusterState) (term : ℕ) → term ≡ state.term → Fails k old new o o1 (raises_term old.settings (view old) p term)
+      → Fails k old new o o1 (is_published_to old.settings (view old) p state)
+  published_struck old new o o1 p state term term_is raised =
+      fails_before k old new o o1 (raises_term old.settings (view old) p state.term) _
+      (subst (λ (n : ℕ). Fails k old new o o1 (raises_term old.settings (view old) p n)) term_is raised)

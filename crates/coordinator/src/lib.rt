@@ -14,6 +14,7 @@ mod next;
 mod outcomes;
 pub mod output;
 pub mod plan;
+mod publishing;
 mod responding;
 pub mod sending;
 mod sorting;

@@ -1,0 +1,118 @@
+//! States that are published to the node.
+ghost use Rattle.std.specs.Prelude.{◌≡◌, ◌≤◌, ◌+◌, true, length, is_ok};
+ghost use Rattle.cluster_state.specs.States.{IsFit};
+ghost use Rattle.policy_model.specs.Publications.{accepts, is_published_to};
+ghost use Rattle.coordinator.specs.Accepts.{follows_other, responds};
+ghost use Rattle.coordinator.specs.Does.{Does, DoesAll};
+ghost use Rattle.coordinator.specs.Rooms.{Uses};
+ghost use Rattle.coordinator.specs.Views.{IsReady};
+
+use crate::coordinator::{Coordinator, EventError, Struck};
+use crate::output::Output;
+use cluster_state::{ClusterState, StateId};
+use state_journal::{Keeper, Ready};
+use voting_config::NodeId;
+use wire_frames::Message;
+
+impl<K: Keeper> Coordinator<K> {
+    // The publisher is followed, unless it is the node itself.
+    fn follow_other(&mut self, out: &mut Output, p: NodeId)
+        requires steps { 2 ≤ out.old.steps.room }
+        requires replies { length self.old.tasks.waiting ≤ out.old.replies.room }
+        ensures does { Does K.Keeper self.old self.new out.old out.new (λ s v. follows_other s v p) true }
+    {
+        if p != self.settings.me {
+            self.become_follower(out, p);
+        }
+    }
+
+    // It is responded to, and followed.
+    fn respond(&mut self, out: &mut Output, p: NodeId, id: StateId)
+        requires steps { 2 ≤ out.old.steps.room }
+        requires frames { 1 ≤ out.old.frames.room }
+        requires replies { length self.old.tasks.waiting ≤ out.old.replies.room }
+        ensures does { Does K.Keeper self.old self.new out.old out.new (λ s v. responds s v p id) true }
+    {
+        self.send(out, p, Message::Response(id));
+        self.follow_other(out, p);
+    }
+
+    // A state is accepted, which the entry holds once more.
+    fn accept(
+        &mut self,
+        out: &mut Output,
+        p: NodeId,
+        state: Ready,
+        entry: ClusterState,
+    ) -> Result<(), Struck>
+        requires ready { IsReady self.old }
+        requires entry { entry ≡ state.state }
+        requires steps { 3 ≤ out.old.steps.room }
+        requires frames { 1 ≤ out.old.frames.room }
+        requires replies { length self.old.tasks.waiting ≤ out.old.replies.room }
+        ensures does { Does K.Keeper self.old self.new out.old out.new (λ s v. accepts s v p state.state) (is_ok result) }
+    {
+        let id = entry.id();
+        match self.act_publish(out, p, state, entry) {
+            Err(_) => Err(Struck),
+            Ok(taken) => {
+                if taken {
+                    self.respond(out, p, id);
+                }
+                Ok(())
+            }
+        }
+    }
+
+    // A state of p, which may raise the node's term.
+    fn is_published_to(
+        &mut self,
+        out: &mut Output,
+        p: NodeId,
+        state: Ready,
+        entry: ClusterState,
+    ) -> Result<(), Struck>
+        requires ready { IsReady self.old }
+        requires entry { entry ≡ state.state }
+        requires steps { 5 ≤ out.old.steps.room }
+        requires frames { 2 ≤ out.old.frames.room }
+        requires replies { length self.old.tasks.waiting ≤ out.old.replies.room }
+        ensures does { Does K.Keeper self.old self.new out.old out.new (λ s v. is_published_to s v p state.state) (is_ok result) }
+    {
+        match self.raise_term(out, p, entry.term) {
+            Err(_) => Err(Struck),
+            Ok(()) => self.accept(out, p, state, entry),
+        }
+    }
+
+    // A state of p came.
+    pub(crate) fn take_publication(
+        &mut self,
+        out: &mut Output,
+        p: NodeId,
+        state: &ClusterState,
+    ) -> Result<(), EventError>
+        requires ready { IsReady self.old }
+        requires fit { IsFit state.now }
+        requires steps { 5 ≤ out.old.steps.room }
+        requires frames { 2 ≤ out.old.frames.room }
+        ensures does { DoesAll K.Keeper self.old self.new out.old out.new (λ s v. is_published_to s v p state.now) result }
+    {
+        let Ok(entry) = state.copy() else {
+            return Err(EventError::Memory);
+        };
+        let Ok(copy) = state.copy() else {
+            return Err(EventError::Memory);
+        };
+        let Ok(ready) = Ready::new(out.alloc, copy) else {
+            return Err(EventError::Memory);
+        };
+        let Ok(()) = out.make_room(self.tasks.open_count(), &None) else {
+            return Err(EventError::Memory);
+        };
+        match self.is_published_to(out, p, ready, entry) {
+            Ok(()) => Ok(()),
+            Err(_) => Err(EventError::Struck),
+        }
+    }
+}
