@@ -14,3 +14,4 @@ pub mod Steps
 pub mod Accepts
 pub mod Lives
 pub mod Orders
+pub mod Kinds

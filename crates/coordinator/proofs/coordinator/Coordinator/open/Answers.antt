@@ -1,0 +1,23 @@
+use Rattle.std.proofs.Common.{sym, ap, ◌∙◌}
+use Rattle.world_model.specs.NodeState.{NodeState}
+use Rattle.peer_finder.specs.Peers.{PeerFinder}
+use Rattle.fault_checks.specs.Followers.{Followers}
+use Rattle.master_tasks.specs.Queue.{Tasks}
+use Rattle.policy_model.specs.Moves.{opened}
+use Rattle.policy_model.proofs.Standing.{opening_moves}
+use Rattle.coordinator.proofs.coordinator.Coordinator.open.Goals as goal
+
+pub returns-clause-view : goal.returns-clause-view
+returns-clause-view g c =
+    ap (λ (n : NodeState). record (opened c.args.settings (g.K.Keeper.record_of c.args.keeper)) { node = n; finder = c.new-2.result; followers = c.new-3.result; tasks = c.new-4.result }) c.new.ensures.stands
+    ∙ ap (λ (f : PeerFinder). record (opened c.args.settings (g.K.Keeper.record_of c.args.keeper)) { finder = f; followers = c.new-3.result; tasks = c.new-4.result }) c.new-2.ensures
+    ∙ ap (λ (f : Followers). record (opened c.args.settings (g.K.Keeper.record_of c.args.keeper)) { followers = f; tasks = c.new-4.result }) c.new-3.ensures
+    ∙ ap (λ (t : Tasks). record (opened c.args.settings (g.K.Keeper.record_of c.args.keeper)) { tasks = t }) c.new-4.ensures
+
+pub returns-clause-stands : goal.returns-clause-stands
+returns-clause-stands g c = λ life continues.
+    ap (λ (n : NodeState). record (opened c.args.settings (g.K.Keeper.record_of c.args.keeper)) { node = n; finder = c.new-2.result; followers = c.new-3.result; tasks = c.new-4.result }) c.new.ensures.stands
+    ∙ ap (λ (f : PeerFinder). record (opened c.args.settings (g.K.Keeper.record_of c.args.keeper)) { finder = f; followers = c.new-3.result; tasks = c.new-4.result }) c.new-2.ensures
+    ∙ ap (λ (f : Followers). record (opened c.args.settings (g.K.Keeper.record_of c.args.keeper)) { followers = f; tasks = c.new-4.result }) c.new-3.ensures
+    ∙ ap (λ (t : Tasks). record (opened c.args.settings (g.K.Keeper.record_of c.args.keeper)) { tasks = t }) c.new-4.ensures
+    ∙ sym (opening_moves c.args.settings life (g.K.Keeper.record_of c.args.keeper) continues)

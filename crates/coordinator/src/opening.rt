@@ -1,0 +1,70 @@
+//! A node that was just opened.
+ghost use Rattle.std.specs.Prelude.{◌≡◌, false};
+ghost use Rattle.world_model.specs.declared.acts.Act.TheVariants.{Open};
+ghost use Rattle.world_model.specs.Histories.{ContinuesUnlessFirst};
+ghost use Rattle.policy_model.specs.Entries.{Life, Opened, log_of};
+ghost use Rattle.policy_model.specs.Events.{acts_of};
+ghost use Rattle.policy_model.specs.Moves.{opened};
+ghost use Rattle.coordinator.specs.Lives.{StandsForLife};
+ghost use Rattle.coordinator.specs.Views.{view_in, IsReady};
+
+use crate::coordinator::Coordinator;
+use cluster_state::StateId;
+use coord_state::CoordState;
+use fault_checks::FollowerChecks;
+use master_tasks::MasterTasks;
+use peer_finder::PeerFinder;
+use policy_model::{Mode, Settings};
+use state_journal::Keeper;
+use std::alloc::Global;
+
+impl<K: Keeper> Coordinator<K> {
+    /// A node over what keeps its record and has not met a fault. Its first event is the start, which comes once.
+    pub fn open(alloc: Global, settings: Settings, keeper: K) -> Coordinator<K>
+        requires { K.has_stopped keeper ≡ false }
+        ensures settings { result.settings ≡ settings }
+        ensures keeper { result.core.keeper ≡ keeper }
+        ensures view { view_in K.Keeper result ≡ opened settings (K.record_of keeper) }
+        ensures ready { IsReady result }
+
+        // Whatever its life before, it stands for that life with this opening, where the record is what was kept.
+        ensures stands { (life : Life) → ContinuesUnlessFirst (acts_of (log_of life)) (Open (K.record_of keeper)) → StandsForLife K.Keeper result (Opened life (K.record_of keeper)) }
+    {
+        let me = settings.me;
+        Coordinator {
+            core: CoordState::new(me, keeper),
+            settings,
+            mode: Mode::Candidate,
+            leader_term: 0,
+            moment: 0,
+            finder: PeerFinder::new(me),
+            deadline: None,
+            attempt: 0,
+            round: None,
+            publication: None,
+            applied: StateId {
+                term: 0,
+                version: 0,
+            },
+            followers: FollowerChecks::new(),
+            leader_check: None,
+            tasks: MasterTasks::new(alloc),
+            handover_due: 0,
+        }
+    }
+
+    /// What keeps the node's record.
+    pub fn keeper(&self) -> &K
+        ensures { result.now ≡ self.now.core.keeper }
+    {
+        self.core.keeper()
+    }
+
+    /// What kept the node's record, given up by the node.
+    pub fn into_keeper(self) -> K
+        ensures { result ≡ self.core.keeper }
+    {
+        let Coordinator { core, .. } = self;
+        core.into_keeper()
+    }
+}
