@@ -1,10 +1,9 @@
 ghost use Rattle.std.specs.Prelude.{◌≡◌, ◌<◌, [], Some, drop};
 
-use crate::{Sink, Source};
+use crate::{Failed, Sink, Source};
 use std::alloc::Global;
-use zen_disk::Failed;
 
-/// A source in memory.
+/// A source in memory. A read fails exactly where its number is in the list that the source was made with.
 #[derive(Drop)]
 pub struct MemSource {
     bytes: Vec<u8>,
@@ -19,6 +18,8 @@ impl MemSource {
     pub fn new(bytes: Vec<u8>, fails: Vec<u64>) -> MemSource
         ensures left { ⟦<MemSource as Source>⟧.left result ≡ Some bytes.items }
         ensures faults { ⟦<MemSource as Source>⟧.faults result ≡ 0 }
+        ensures calls { result.calls ≡ 0 }
+        ensures fails { result.fails ≡ fails }
     {
         MemSource {
             bytes,
@@ -31,9 +32,13 @@ impl MemSource {
 }
 
 impl Source for MemSource {
+    ghost use Rattle.zen_link.specs.MemStream.{MemReads};
+
     ghost left = { λ source. Some (drop source.at source.bytes.items) };
 
     ghost faults = { λ source. source.faults };
+
+    ghost steps = { MemReads };
 
     fn read(&mut self, into: &mut [u8]) -> Result<usize, Failed> {
         self.calls = self.calls.saturating_add(1);
@@ -51,7 +56,8 @@ impl Source for MemSource {
     }
 }
 
-/// A sink in memory, which takes at most so many bytes in a write.
+/// A sink in memory, which takes at most so many bytes in a write. A write fails where its number is in the list that the
+/// sink was made with, and also where the bytes find no memory.
 #[derive(Drop)]
 pub struct MemSink {
     bytes: Vec<u8>,
@@ -68,6 +74,9 @@ impl MemSink {
         requires { 0 < most }
         ensures written { ⟦<MemSink as Sink>⟧.written result ≡ Some [] }
         ensures faults { ⟦<MemSink as Sink>⟧.faults result ≡ 0 }
+        ensures calls { result.calls ≡ 0 }
+        ensures fails { result.fails ≡ fails }
+        ensures most { result.most ≡ most }
     {
         MemSink {
             bytes: Vec::new(alloc),
@@ -87,9 +96,13 @@ impl MemSink {
 }
 
 impl Sink for MemSink {
+    ghost use Rattle.zen_link.specs.MemStream.{MemWrites};
+
     ghost written = { λ sink. Some sink.bytes.items };
 
     ghost faults = { λ sink. sink.faults };
+
+    ghost steps = { MemWrites };
 
     fn write(&mut self, bytes: &[u8]) -> Result<usize, Failed> {
         self.calls = self.calls.saturating_add(1);

@@ -1,0 +1,23 @@
+-- Which calls of a source and a sink in memory fail.
+use Rattle.std.specs.Prelude.{◌≡◌, ℕ, min, length, List, true, false, not, Result, IfOk, is_ok}
+use Rattle.zen_disk.specs.Numbered.{next_number, is_listed}
+use Rattle.zen_link.specs.declared.stream.Failed.{Failed}
+use Rattle.zen_link.specs.declared.mem_stream.MemSource.{MemSource}
+use Rattle.zen_link.specs.declared.mem_stream.MemSink.{MemSink}
+
+-- A read fails exactly where its number is listed. Only a read that fails counts a fault.
+pub record MemReads (old new : MemSource) (result : Result ℕ Failed) : Type 0 where
+  pub number : new.calls ≡ next_number old.calls
+  pub fails : new.fails ≡ old.fails
+  pub answer : is_ok result ≡ not (is_listed old.fails.items new.calls)
+  pub faults : is_ok result ≡ true → new.faults ≡ old.faults
+
+-- A write whose number is listed fails; another takes as many bytes as there are and as the sink takes, or fails for want
+-- of memory. Only a write that fails counts a fault.
+pub record MemWrites (old : MemSink) (bytes : List ℕ) (new : MemSink) (result : Result ℕ Failed) : Type 0 where
+  pub number : new.calls ≡ next_number old.calls
+  pub fails : new.fails ≡ old.fails
+  pub most : new.most ≡ old.most
+  pub listed : is_listed old.fails.items new.calls ≡ true → is_ok result ≡ false
+  pub count : IfOk result (λ count. count ≡ min (length bytes) old.most)
+  pub faults : is_ok result ≡ true → new.faults ≡ old.faults
