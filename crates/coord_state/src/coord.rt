@@ -1,4 +1,4 @@
-ghost use Rattle.std.specs.Prelude.{◌≡◌, ℕ, ◌<◌, ◌≤◌, ◌^◌, Bool, false, true, ◌&&◌, ◌⊎◌, Option, length};
+ghost use Rattle.std.specs.Prelude.{◌≡◌, ℕ, ◌<◌, ◌≤◌, ◌^◌, Bool, false, true, ◌&&◌, ◌⊎◌, ◌↔◌, Option, Some, length};
 ghost use Rattle.voting_config.specs.Ids.{Id, has, is_quorum_of, most_ids};
 ghost use Rattle.zen_disk.specs.Moments.{LeavesOnly, Same};
 ghost use Rattle.world_model.specs.declared.acts.Act.TheVariants as act;
@@ -6,6 +6,7 @@ ghost use Rattle.world_model.specs.Acts.{NodeHistory};
 ghost use Rattle.world_model.specs.Replies.{reply_at};
 ghost use Rattle.cluster_state.specs.Initial.{initial_state};
 ghost use Rattle.cluster_state.specs.States.{IsFit};
+ghost use Rattle.cluster_state.specs.declared.state.Kept.{Kept as Record};
 ghost use Rattle.world_model.specs.NodeState.{opened};
 ghost use Rattle.coord_state.specs.Outcomes.{initial_outcome, start_outcome, join_outcome, value_outcome, publish_outcome, response_outcome, commit_outcome, HandsBack};
 ghost use Rattle.coord_state.specs.StandsFor.{Acts, StandsFor, fields_of};
@@ -89,6 +90,9 @@ impl<K: Keeper> CoordState<K> {
         ensures bounded { (K.record_of self.now.keeper).term ≤ 2 ^ 62 }
         ensures fit { IsFit (K.record_of self.now.keeper).accepted }
         ensures older { (K.record_of self.now.keeper).accepted.term ≤ (K.record_of self.now.keeper).term }
+
+        // Between two calls a crash leaves this record and nothing else.
+        ensures durable { K.told → K.has_stopped self.now.keeper ≡ false → (found : Option Record) → (K.left_since self.now.keeper (K.moment self.now.keeper) found ↔ (found ≡ Some (K.record_of self.now.keeper))) }
     {
         self.keeper.kept()
     }
