@@ -5,7 +5,7 @@ use crate::{ActError, CoordState};
 use cluster_state::{
     ClusterState, ClusterValue, Join, PublishCause, PublishRequest, PublishResponse, ValueCause,
 };
-use state_journal::{PlainKeeper, Ready};
+use state_journal::{Keeper, PlainKeeper, Ready};
 use std::alloc::Global;
 use std::test::Fail;
 use voting_config::{NodeId, NodeSet, VotingConfig};
@@ -97,6 +97,9 @@ fn a_node_alone_wins_and_commits(rt: HostRuntime) -> Result<(), Fail> {
     };
     commits(&mut node, &response);
     assert!(rt; node.kept().committed.members().len() == 1);
+    assert!(rt; node.term() == 1);
+    assert!(rt; node.accepted().version == 1);
+    assert!(rt; node.committed().members().len() == 1);
     Ok(())
 }
 
@@ -115,6 +118,6 @@ fn a_refused_value_is_handed_back(rt: HostRuntime) {
     let config = VotingConfig::of(&only_a());
     let back = handed_back(node.client_value(7, config, ClusterValue::empty(alloc)));
     assert!(rt; back == Some(1));
-    assert!(rt; node.keeper().kept.term == 0);
-    assert!(rt; node.into_keeper().kept.term == 0);
+    assert!(rt; node.keeper().kept().term == 0);
+    assert!(rt; node.into_keeper().kept().term == 0);
 }
