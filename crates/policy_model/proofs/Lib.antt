@@ -3,3 +3,4 @@ pub mod Answering
 pub mod Locals
 pub mod Standing
 pub mod Examples
+pub mod PartLookBacks

@@ -16,3 +16,5 @@ pub mod Rules
 pub mod Follows
 pub mod Local
 pub mod Laws
+pub mod PartCalls
+pub mod PartLaws

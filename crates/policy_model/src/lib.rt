@@ -1,12 +1,13 @@
-//! The policy of a node: what it does at each event, told by what it saw and did before.
 #![tactic(auto)]
 
 pub mod events;
 pub mod laws;
+pub mod part_laws;
 pub mod settings;
 
 pub use events::{DropCause, Event, MemberDrop, Mode, Step};
 pub use laws::{law_event_moves, law_life_is_local, law_opening_moves};
+pub use part_laws::law_parts_look_back;
 pub use settings::{NodeIds, Settings};
 
 #[cfg(test)]

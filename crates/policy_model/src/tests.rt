@@ -26,4 +26,5 @@ fn laws() {
     law_life_is_local();
     law_event_moves();
     law_opening_moves();
+    law_parts_look_back();
 }
