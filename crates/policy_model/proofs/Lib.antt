@@ -4,3 +4,6 @@ pub mod Locals
 pub mod Standing
 pub mod Examples
 pub mod PartLookBacks
+pub mod Settled
+pub mod Served
+pub mod Queuing

@@ -18,3 +18,4 @@ pub mod Local
 pub mod Laws
 pub mod PartCalls
 pub mod PartLaws
+pub mod Queues

@@ -27,4 +27,5 @@ fn laws() {
     law_event_moves();
     law_opening_moves();
     law_parts_look_back();
+    law_queue();
 }
