@@ -4,6 +4,7 @@ pub mod Locals
 pub mod Standing
 pub mod Examples
 pub mod PartLookBacks
+pub mod Determined
 pub mod Settled
 pub mod Served
 pub mod Queuing

@@ -18,4 +18,5 @@ pub mod Local
 pub mod Laws
 pub mod PartCalls
 pub mod PartLaws
+pub mod Told
 pub mod Queues

@@ -28,4 +28,5 @@ fn laws() {
     law_opening_moves();
     law_parts_look_back();
     law_queue();
+    law_determined();
 }
