@@ -65,3 +65,10 @@ fn a_leader_that_refuses(rt: HostRuntime) {
     }
     assert!(rt; check.tick(3_000) == LeaderTick::Lost);
 }
+
+#[test]
+fn laws() {
+    law_asked();
+    law_dropped();
+    law_leader_lost();
+}

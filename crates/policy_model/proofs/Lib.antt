@@ -3,3 +3,8 @@ pub mod Answering
 pub mod Locals
 pub mod Standing
 pub mod Examples
+pub mod PartLookBacks
+pub mod Determined
+pub mod Settled
+pub mod Served
+pub mod Queuing

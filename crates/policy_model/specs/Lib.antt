@@ -16,3 +16,7 @@ pub mod Rules
 pub mod Follows
 pub mod Local
 pub mod Laws
+pub mod PartCalls
+pub mod PartLaws
+pub mod Told
+pub mod Queues

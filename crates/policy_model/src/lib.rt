@@ -3,11 +3,17 @@
 
 pub mod events;
 pub mod laws;
+pub mod part_laws;
+pub mod queue;
 pub mod settings;
+pub mod told;
 
 pub use events::{DropCause, Event, MemberDrop, Mode, Step};
 pub use laws::{law_event_moves, law_life_is_local, law_opening_moves};
+pub use part_laws::law_parts_look_back;
+pub use queue::law_queue;
 pub use settings::{NodeIds, Settings};
+pub use told::law_determined;
 
 #[cfg(test)]
 mod tests;

@@ -26,4 +26,7 @@ fn laws() {
     law_life_is_local();
     law_event_moves();
     law_opening_moves();
+    law_parts_look_back();
+    law_queue();
+    law_determined();
 }

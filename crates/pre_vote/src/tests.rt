@@ -61,3 +61,8 @@ fn replies(rt: HostRuntime) -> Result<(), Fail> {
     assert_eq!(rt; answer(a, Some(b)), Reply::Refused(b));
     Ok(())
 }
+
+#[test]
+fn laws() {
+    law_counted();
+}
