@@ -60,7 +60,7 @@ fn replayed(alloc: Global, input: &[u8]) -> Result<(Status, MemSink), AllocError
 fn whole_traces(rt: HostRuntime) -> Result<(), Fail> {
     for (name, schedule, trace) in WHOLE {
         let (status, sink) = replayed(rt.alloc(), schedule.as_bytes())?;
-        assert!(rt; status == Status::Success, "{name}");
+        assert!(rt; status == Status::Ok, "{name}");
         assert!(rt; sink.as_bytes() == trace.as_bytes(), "{name}");
     }
     Ok(())
@@ -70,7 +70,7 @@ fn whole_traces(rt: HostRuntime) -> Result<(), Fail> {
 fn ends_of_traces(rt: HostRuntime) -> Result<(), Fail> {
     for (name, schedule, end) in ENDS {
         let (status, sink) = replayed(rt.alloc(), schedule.as_bytes())?;
-        assert!(rt; status == Status::Success, "{name}");
+        assert!(rt; status == Status::Ok, "{name}");
         assert!(rt; sink.as_bytes().ends_with(end.as_bytes()), "{name}");
     }
     Ok(())
@@ -80,7 +80,7 @@ fn ends_of_traces(rt: HostRuntime) -> Result<(), Fail> {
 fn stops_and_restarts(rt: HostRuntime) -> Result<(), Fail> {
     for (name, schedule, end) in STOPS {
         let (status, sink) = replayed(rt.alloc(), schedule.as_bytes())?;
-        assert!(rt; status == Status::Success, "{name}");
+        assert!(rt; status == Status::Ok, "{name}");
         assert!(rt; sink.as_bytes().ends_with(end.as_bytes()), "{name}");
     }
     Ok(())
@@ -178,7 +178,7 @@ fn each_device_call_struck(rt: HostRuntime) -> Result<(), Fail> {
             let schedule = struck_schedule(rt.alloc(), strike, call)?;
             let end = struck_end(rt.alloc(), strike, call)?;
             let (status, sink) = replayed(rt.alloc(), schedule.as_bytes())?;
-            assert!(rt; status == Status::Success, "{call}");
+            assert!(rt; status == Status::Ok, "{call}");
             assert!(rt; sink.as_bytes().ends_with(end.as_bytes()), "{call}");
         }
     }
@@ -189,7 +189,7 @@ fn each_device_call_struck(rt: HostRuntime) -> Result<(), Fail> {
 fn what_would_be_unsafe_is_refused(rt: HostRuntime) -> Result<(), Fail> {
     for (name, schedule, end) in SAFE {
         let (status, sink) = replayed(rt.alloc(), schedule.as_bytes())?;
-        assert!(rt; status == Status::Success, "{name}");
+        assert!(rt; status == Status::Ok, "{name}");
         assert!(rt; sink.as_bytes().ends_with(end.as_bytes()), "{name}");
     }
     Ok(())
@@ -293,7 +293,7 @@ fn random_schedules(rt: HostRuntime) -> Result<(), Fail> {
             assert!(rt; again.as_bytes() == text.as_bytes(), "{seed}");
         }
         let (status, _) = replayed(rt.alloc(), text.as_bytes())?;
-        assert!(rt; status == Status::Success, "{seed}");
+        assert!(rt; status == Status::Ok, "{seed}");
     }
     Ok(())
 }
