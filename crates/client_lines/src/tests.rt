@@ -268,9 +268,9 @@ fn long_lines(rt: HostRuntime) -> Result<(), Fail> {
 }
 
 // The lines, each with a semicolon behind it.
-fn joined(alloc: Global, lines: &Lines) -> Result<Vec<u8>, AllocError> {
+fn joined(alloc: Global, lines: Lines) -> Result<Vec<u8>, AllocError> {
     let mut text = Vec::new(alloc);
-    for line in lines.as_slice() {
+    for line in lines.into_lines() {
         text.extend_from_slice(line.as_bytes())?;
         text.push(b';')?;
     }
@@ -290,7 +290,7 @@ fn cut_lines(rt: HostRuntime) -> Result<(), Fail> {
         ("\n\n", "h;;"),
     ] {
         let lines = reader.feed(bytes.as_bytes())?;
-        let text = joined(rt.alloc(), &lines)?;
+        let text = joined(rt.alloc(), lines)?;
         assert_eq!(rt; text.as_slice(), want.as_bytes());
     }
     law_cuts();
@@ -299,36 +299,11 @@ fn cut_lines(rt: HostRuntime) -> Result<(), Fail> {
 }
 
 #[test]
-fn bad_settings(rt: HostRuntime) -> Result<(), Fail> {
-    for (key, value, want) in [
-        (0, 0, Some(0)),
-        (1, 0, None),
-        (128, 1_024, None),
-        (129, 0, Some(129)),
-        (128, 1_025, Some(1_025)),
-        (129, 1_025, Some(129)),
-        (0, 1_025, Some(0)),
-    ] {
-        let ask = Ask::Put {
-            key: blanks(rt.alloc(), key)?,
-            value: blanks(rt.alloc(), value)?,
-        };
-        assert_eq!(rt; ask.bad_setting(), want, "of {key} and {value}");
-    }
-    let remove = Ask::Remove {
-        key: blanks(rt.alloc(), 129)?,
-    };
-    assert_eq!(rt; remove.bad_setting(), None);
+fn a_line_of_bytes(rt: HostRuntime) -> Result<(), Fail> {
+    let mut bytes = Vec::new(rt.alloc());
+    bytes.extend_from_slice(b"ab")?;
+    assert!(rt; Line::of(bytes).as_bytes() == b"ab".as_slice());
     Ok(())
-}
-
-// A text of so many bytes.
-fn blanks(alloc: Global, length: usize) -> Result<Text, AllocError> {
-    let mut text = String::new(alloc);
-    for _ in 0..length {
-        text.push_str(" ")?;
-    }
-    Ok(Text::of(text))
 }
 
 #[test]

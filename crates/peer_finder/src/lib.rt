@@ -155,30 +155,40 @@ impl PeerFinder {
 
     /// The peers.
     pub fn known_set(&self) -> NodeSet
-        ensures { result ≡ known_set_of self.now }
+        ensures value { result ≡ known_set_of self.now }
+        ensures few { length result ≤ MAX_PEERS }
     {
         set_of(self.known.as_slice())
     }
 
     /// The peers that have answered.
     pub fn answered_set(&self) -> NodeSet
-        ensures { result ≡ answered_set_of self.now }
+        ensures value { result ≡ answered_set_of self.now }
+        ensures few { length result ≤ MAX_PEERS }
     {
         set_chosen(self.peers.as_slice(), Choice::Answered)
     }
 
     /// The peers whose last answer names no master.
     pub fn free_set(&self) -> NodeSet
-        ensures { result ≡ free_set_of self.now }
+        ensures value { result ≡ free_set_of self.now }
+        ensures few { length result ≤ MAX_PEERS }
     {
         set_chosen(self.peers.as_slice(), Choice::Free)
+    }
+
+    /// Whether discovery is due now, in ms.
+    pub fn is_due(&self, now: u64) -> bool
+        ensures { result ≡ nat_le self.now.due now }
+    {
+        self.since <= now && self.wait <= now - self.since
     }
 
     /// Whom to ask now, in ms: the peers where discovery is due, else nobody.
     pub fn tick(&self, now: u64) -> NodeSet
         ensures { result ≡ to_ask self.now now }
     {
-        if self.since <= now && self.wait <= now - self.since {
+        if self.is_due(now) {
             self.known_set()
         } else {
             NodeSet::new()
@@ -288,7 +298,8 @@ fn ids_of(peers: &[Peer]) -> ArrayVec<NodeId, MAX_PEERS>
 
 fn set_of(ids: &[NodeId]) -> NodeSet
     requires { length ids.now ≤ MAX_PEERS }
-    ensures { result ≡ set_of_ids ids.now }
+    ensures value { result ≡ set_of_ids ids.now }
+    ensures few { length result ≤ length ids.now }
 {
     let mut set = NodeSet::new();
     let mut place = ids.len();
@@ -301,7 +312,8 @@ fn set_of(ids: &[NodeId]) -> NodeSet
 
 fn set_chosen(peers: &[Peer], choice: Choice) -> NodeSet
     requires { length peers.now ≤ MAX_PEERS }
-    ensures { result ≡ set_of_ids (ids_in (filter (λ (p : PeerOf). is_chosen_of choice p) peers.now)) }
+    ensures value { result ≡ set_of_ids (ids_in (filter (λ (p : PeerOf). is_chosen_of choice p) peers.now)) }
+    ensures few { length result ≤ MAX_PEERS }
 {
     let kept = chosen(peers, choice);
     let ids = ids_of(kept.as_slice());

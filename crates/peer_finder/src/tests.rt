@@ -40,6 +40,7 @@ fn answers(rt: HostRuntime) {
     assert_eq!(rt; finder.tick(0).len(), 2);
     finder.asked(5);
     assert_eq!(rt; finder.tick(1_004).len(), 0);
+    assert!(rt; !finder.is_due(1_004) && finder.is_due(1_005));
     assert_eq!(rt; finder.tick(1_005).len(), 2);
     finder.answered(id("b"), None);
     finder.answered(id("c"), Some(id("b")));

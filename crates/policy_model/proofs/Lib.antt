@@ -2,6 +2,7 @@ pub mod Sweeps
 pub mod Answering
 pub mod Locals
 pub mod Standing
+pub mod Fits
 pub mod Examples
 pub mod PartLookBacks
 pub mod Determined

@@ -1,9 +1,9 @@
 -- What became of the requests that a leader queued.
 use Rattle.std.specs.Prelude.{◌≡◌, ℕ, ◌+◌, Bool, true, false, ◌&&◌, List, [], ◌∷◌, ◌++◌, length, filter, nat_eq, if◌then◌else◌}
-use Rattle.client_lines.specs.declared.reply.Answer.{Answer}
-use Rattle.client_lines.specs.declared.reply.Answer.TheVariants as answer
-use Rattle.client_lines.specs.declared.reply.Reply.{Reply}
-use Rattle.client_lines.specs.declared.reply.Reply.TheVariants as reply
+use Rattle.cluster_state.specs.declared.reply.Answer.{Answer}
+use Rattle.cluster_state.specs.declared.reply.Answer.TheVariants as answer
+use Rattle.cluster_state.specs.declared.reply.Reply.{Reply}
+use Rattle.cluster_state.specs.declared.reply.Reply.TheVariants as reply
 use Rattle.master_tasks.specs.declared.waiting.Waiting.{Waiting}
 use Rattle.master_tasks.specs.declared.waiting.Outgoing.{Outgoing}
 use Rattle.master_tasks.specs.Queue.{arriving}

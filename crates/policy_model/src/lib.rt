@@ -9,7 +9,10 @@ pub mod settings;
 pub mod told;
 
 pub use events::{DropCause, Event, MemberDrop, Mode, Step};
-pub use laws::{law_event_moves, law_life_is_local, law_opening_moves};
+pub use laws::{
+    law_event_holds_settings, law_event_moves, law_life_is_local, law_opened_is_fit,
+    law_opening_moves, law_stays_fit,
+};
 pub use part_laws::law_parts_look_back;
 pub use queue::law_queue;
 pub use settings::{NodeIds, Settings};

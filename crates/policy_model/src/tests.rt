@@ -29,4 +29,7 @@ fn laws() {
     law_parts_look_back();
     law_queue();
     law_determined();
+    law_opened_is_fit();
+    law_stays_fit();
+    law_event_holds_settings(&Event::Start);
 }

@@ -133,7 +133,7 @@ fn is_spelled(rt: &HostRuntime, message: Message, kind: u8, fields: &[u8]) -> Re
     };
     let bytes = write_frame(rt.alloc(), &frame)?;
     let read = read_frame(rt.alloc(), &body).ok().ok_or("a frame")?;
-    let again = write_frame(rt.alloc(), &read)?;
+    let again = write_frame(rt.alloc(), &read.copy()?)?;
     let (length, rest) = bytes.as_slice().split_at_checked(4).ok_or("four bytes")?;
     Ok(
         rest == body.as_slice()

@@ -2,7 +2,7 @@
 use Rattle.std.proofs.Common.{◌≡◌, ℕ, List, None, arith}
 use Rattle.std.proofs.lemmas.Bool.Decides.{nat_tests}
 use Rattle.cluster_state.specs.Fields.{IsFitSetting}
-use Rattle.client_lines.specs.Settings.{bad_length}
+use Rattle.cluster_state.specs.Puts.{bad_length}
 
 pub IsFitSetting-bad_length : (key value : List ℕ) → bad_length key value ≡ None → IsFitSetting (key, value)
 IsFitSetting-bad_length key value good = record {

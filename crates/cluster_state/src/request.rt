@@ -1,5 +1,5 @@
 ghost use Rattle.std.specs.Prelude.{◌≡◌, IfOk};
-ghost use Rattle.client_lines.specs.Settings.{bad_setting_of};
+ghost use Rattle.cluster_state.specs.Puts.{bad_setting_of};
 
 use crate::text::Text;
 use std::alloc::AllocError;

@@ -1,5 +1,4 @@
-use crate::fault::LineFault;
-use cluster_state::{ClusterState, StateId};
+use crate::state::{ClusterState, StateId};
 use voting_config::{NodeId, NodeSet};
 
 /// What a request is answered.
@@ -27,6 +26,17 @@ pub enum Answer {
     FailedToCommit(u64),
     /// These of the ids to be excluded are still voters at the end of the wait.
     ExclusionTimeout(NodeSet),
+}
+
+/// What is wrong with a client's line, in the order in which it is tested.
+#[derive(Clone, Copy, Debug, PartialEq, Eq, thiserror::Error)]
+pub enum LineFault {
+    #[error("the line has more than 8192 bytes")]
+    TooLong,
+    #[error("the line is no JSON value")]
+    NotJson,
+    #[error("the JSON value is no request")]
+    BadShape,
 }
 
 /// What is sent to a client.

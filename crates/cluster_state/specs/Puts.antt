@@ -1,7 +1,7 @@
 -- Which settings a client may put.
 use Rattle.std.specs.Prelude.{ℕ, ◌==◌, ◌||◌, List, length, nat_lt, Option, Some, None, if◌then◌else◌}
-use Rattle.client_lines.specs.declared.request.Ask.{Ask}
-use Rattle.client_lines.specs.declared.request.Ask.TheVariants.{Put, Remove, Exclude, Clear, State}
+use Rattle.cluster_state.specs.declared.request.Ask.{Ask}
+use Rattle.cluster_state.specs.declared.request.Ask.TheVariants.{Put, Remove, Exclude, Clear, State}
 
 -- the length of a key that is empty or too long, else of a value that is too long
 abbrev pub bad_length : List ℕ → List ℕ → Option ℕ
