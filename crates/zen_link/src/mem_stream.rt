@@ -1,7 +1,16 @@
-ghost use Rattle.std.specs.Prelude.{◌≡◌, ◌<◌, [], Some, drop};
+ghost use Rattle.std.specs.Prelude.{◌≡◌, ◌<◌, ◌≤◌, [], Some, drop};
+ghost use Rattle.zen_disk.specs.Faults.{Rose};
 
 use crate::{Failed, Sink, Source};
 use std::alloc::Global;
+
+fn count_fault(faults: &mut u64) -> Failed
+    ensures later { faults.old ≤ faults.new }
+    ensures rose { Rose faults.old faults.new }
+{
+    *faults = faults.saturating_add(1);
+    Failed
+}
 
 /// A source in memory. A read fails exactly where its number is in the list that the source was made with.
 #[derive(Drop)]
@@ -43,8 +52,7 @@ impl Source for MemSource {
     fn read(&mut self, into: &mut [u8]) -> Result<usize, Failed> {
         self.calls = self.calls.saturating_add(1);
         if self.fails.contains(&self.calls) {
-            self.faults = self.faults.saturating_add(1);
-            return Err(Failed);
+            return Err(count_fault(&mut self.faults));
         }
         let Some(rest) = self.bytes.get(self.at..) else {
             return Ok(0);
@@ -57,7 +65,7 @@ impl Source for MemSource {
 }
 
 /// A sink in memory, which takes at most so many bytes in a write. A write fails where its number is in the list that the
-/// sink was made with, and also where the bytes find no memory.
+/// sink was made with, and also where its bytes need more room than there is and find no memory.
 #[derive(Drop)]
 pub struct MemSink {
     bytes: Vec<u8>,
@@ -106,12 +114,13 @@ impl Sink for MemSink {
 
     fn write(&mut self, bytes: &[u8]) -> Result<usize, Failed> {
         self.calls = self.calls.saturating_add(1);
-        let count = bytes.len().min(self.most);
-        let front = &bytes[..count];
-        if self.fails.contains(&self.calls) || self.bytes.extend_from_slice(front).is_err() {
-            self.faults = self.faults.saturating_add(1);
-            return Err(Failed);
+        if self.fails.contains(&self.calls) {
+            return Err(count_fault(&mut self.faults));
         }
+        let count = bytes.len().min(self.most);
+        let Ok(()) = self.bytes.extend_from_slice(&bytes[..count]) else {
+            return Err(count_fault(&mut self.faults));
+        };
         Ok(count)
     }
 }
