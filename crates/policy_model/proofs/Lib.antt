@@ -8,3 +8,4 @@ pub mod Determined
 pub mod Settled
 pub mod Served
 pub mod Queuing
+pub mod Cases
