@@ -9,3 +9,4 @@ pub mod Determined
 pub mod Settled
 pub mod Served
 pub mod Queuing
+pub mod Cases

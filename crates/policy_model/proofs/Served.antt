@@ -1,5 +1,5 @@
 -- Each rule queues requests and answers those that wait, and those only.
-use Rattle.std.proofs.Common.{◌≡◌, ◌∙◌, ap, subst, append_assoc, ℕ, Bool, true, false, not, ◌&&◌, Option, None, Some, Result, Ok, Err, List, [], ◌∷◌, ◌++◌, refl}
+use Rattle.std.proofs.Common.{◌≡◌, ◌∙◌, ap, sym, subst, append_assoc, ℕ, Bool, true, false, not, ◌&&◌, Option, None, Some, Result, Ok, Err, List, [], ◌∷◌, ◌++◌, refl}
 use Rattle.std.specs.Prelude.{if◌then◌else◌, is_some, nat_lt}
 use Rattle.voting_config.specs.Ids.{Id, same}
 use Rattle.bootstrap.specs.Decisions.{decision_of}
@@ -12,6 +12,10 @@ use Rattle.wire_frames.specs.declared.frame.Message.TheVariants as message
 use Rattle.cluster_state.specs.declared.reply.LineFault.{LineFault}
 use Rattle.cluster_state.specs.declared.request.Request.{Request}
 use Rattle.client_lines.specs.Reading.{line_request}
+use Rattle.client_lines.specs.Settings.{bad_setting_of}
+use Rattle.client_lines.specs.declared.reply.Answer.TheVariants as answer
+use Rattle.client_lines.specs.declared.reply.Reply.TheVariants as reply
+use Rattle.master_tasks.specs.declared.waiting.Waiting.{Waiting}
 use Rattle.pre_vote.specs.declared.rounds.Added.{Added}
 use Rattle.pre_vote.specs.declared.rounds.Added.TheVariants.{Counted, Fresher, Quorum}
 use Rattle.pre_vote.specs.declared.replies.Reply.{Reply as PreVoteReply}
@@ -22,7 +26,7 @@ use Rattle.fault_checks.specs.declared.leader.LeaderTick.TheVariants.{Quiet, Ask
 use Rattle.fault_checks.specs.Leaders.{LeaderCheck, leader_tick}
 use Rattle.master_tasks.specs.declared.waiting.Outgoing.{Outgoing}
 use Rattle.master_tasks.specs.Queue.{is_full_of}
-use Rattle.master_tasks.specs.Answering.{answers_by, committed_in}
+use Rattle.master_tasks.specs.Answering.{answers_by, committed_in, failed}
 use Rattle.reconfigurator.specs.Targets.{among}
 use Rattle.cluster_state.specs.States.{id_of}
 use Rattle.master_tasks.specs.NextState.{next_answers, is_nothing_new}
@@ -45,13 +49,14 @@ use Rattle.policy_model.specs.Requests as requests
 use Rattle.policy_model.specs.Rules as rules
 use Rattle.policy_model.specs.Queues.{answers_line}
 use Rattle.policy_model.proofs.Sweeps.{moved_all-append, moved_all-replies, moved_all-sends}
-use Rattle.policy_model.proofs.Settled.{IsStep, next-step, committed-step, done-step, timed_out-step}
+use Rattle.policy_model.proofs.Settled.{IsStep, step-none, failed-step, next-step, committed-step, done-step, timed_out-step}
 
 -- an item that neither queues nor answers a request that waits
 abbrev pub is_aside : Item → Bool
 is_aside (Opens found) = false
 is_aside (Acts act o) = not (is_opening act)
 is_aside (Turns Candidate term) = false
+is_aside (Turns (Follower leader) term) = false
 is_aside (Replies out) = answers_line out.reply
 is_aside (Notes (Queued conn request)) = false
 is_aside (Notes ExclusionsTimedOut) = false
@@ -72,17 +77,25 @@ data AreAside : List Item → Type 0 where
   Nothing : AreAside []
   Also : (i : Item) (is : List Item) → is_aside i ≡ true → AreAside is → AreAside (i ∷ is)
 
+-- who does not lead has no requests
+abbrev pub IsIdle : View → Type 0
+IsIdle v = doing.is_leader v.mode ≡ false → v.tasks.waiting ≡ []
+
 -- of a node that is v at their beginning
 pub data IsServed (s : Settings) : View → List Item → Type 0 where
   Ended : (v : View) → IsServed s v []
   Aside : (v : View) (i : Item) (is : List Item) → is_aside i ≡ true → IsServed s (moved s v i) is → IsServed s v (i ∷ is)
   Queues : (v : View) (conn : ℕ) (request : Request) (is : List Item)
-      → IsServed s (moved s v (Notes (Queued conn request))) is → IsServed s v (Notes (Queued conn request) ∷ is)
+      → doing.is_leader v.mode ≡ true → IsServed s (moved s v (Notes (Queued conn request))) is → IsServed s v (Notes (Queued conn request) ∷ is)
   Answers : (v : View) (answers : List Outgoing) (note : Note) (is : List Item)
       → is_answering note ≡ true → IsStep v.tasks.waiting (moved s v (Notes note)).tasks.waiting answers
       → IsServed s (moved s v (Notes note)) is → IsServed s v (doing.reply_all s answers ++ (Notes note ∷ is))
   Fails : (v : View) (answers : List Outgoing) (term : ℕ) (is : List Item)
+      → (IsIdle v → IsStep v.tasks.waiting [] answers)
       → IsServed s (moved s v (Turns Candidate term)) is → IsServed s v (doing.reply_all s answers ++ (Turns Candidate term ∷ is))
+  Follows : (v : View) (leader : Id) (term : ℕ) (is : List Item)
+      → doing.is_leader v.mode ≡ false
+      → IsServed s (moved s v (Turns (Follower leader) term)) is → IsServed s v (Turns (Follower leader) term ∷ is)
 
 aside-append : (xs ys : List Item) → AreAside xs → AreAside ys → AreAside (xs ++ ys)
 aside-append xs ys Nothing r = r
@@ -114,15 +127,16 @@ module _ (s : Settings) where
   served-append : (v : View) (xs ys : List Item) → IsServed s v xs → IsServed s (moved_all s v xs) ys → IsServed s v (xs ++ ys)
   served-append v xs ys (Ended u) b = b
   served-append v xs ys (Aside u i is e a) b = Aside u i (is ++ ys) e (served-append (moved s u i) is ys a b)
-  served-append v xs ys (Queues u conn request is a) b = Queues u conn request (is ++ ys) (served-append (moved s u (Notes (Queued conn request))) is ys a b)
+  served-append v xs ys (Queues u conn request is e a) b = Queues u conn request (is ++ ys) e (served-append (moved s u (Notes (Queued conn request))) is ys a b)
   served-append v xs ys (Answers u answers note is e k a) b =
       let c = subst (λ (w : View). IsServed s w ys) (behind-replies u answers (Notes note) is) b in
       rw (append_assoc (doing.reply_all s answers) (Notes note ∷ is) ys)
       (Answers u answers note (is ++ ys) e k (served-append (moved s u (Notes note)) is ys a c))
-  served-append v xs ys (Fails u answers term is a) b =
+  served-append v xs ys (Fails u answers term is k a) b =
       let c = subst (λ (w : View). IsServed s w ys) (behind-replies u answers (Turns Candidate term) is) b in
       rw (append_assoc (doing.reply_all s answers) (Turns Candidate term ∷ is) ys)
-      (Fails u answers term (is ++ ys) (served-append (moved s u (Turns Candidate term)) is ys a c))
+      (Fails u answers term (is ++ ys) k (served-append (moved s u (Turns Candidate term)) is ys a c))
+  served-append v xs ys (Follows u leader term is e a) b = Follows u leader term (is ++ ys) e (served-append (moved s u (Turns (Follower leader) term)) is ys a b)
 
   served-if : (v : View) (b : Bool) (xs ys : List Item) → IsServed s v xs → IsServed s v ys → IsServed s v (if b then xs else ys)
   served-if v true xs ys q r = q
@@ -132,25 +146,33 @@ module _ (s : Settings) where
   served-then v xs rule a b = served-append v xs (rule (moved_all s v xs)) a (b (moved_all s v xs))
 
   -- changes of mode
-  served-fails : (u : View) (b : Bool) (answers : List Outgoing) (term : ℕ) → IsServed s u ((if b then doing.reply_all s answers else []) ++ Turns Candidate term ∷ [])
-  served-fails u true answers term = Fails u answers term [] (Ended _)
-  served-fails u false answers term = Fails u [] term [] (Ended _)
+  served-fails : (v : View) (b : Bool) → doing.is_leader v.mode ≡ b → IsServed s v ((if b then doing.reply_all s (answers_by (failed v.leader_term) v.tasks.waiting) else []) ++ Turns Candidate v.node.term ∷ [])
+  served-fails v true e = Fails v (answers_by (failed v.leader_term) v.tasks.waiting) v.node.term [] (λ idle. failed-step v.leader_term v.tasks.waiting) (Ended _)
+  served-fails v false e = Fails v [] v.node.term [] (λ idle. subst (λ (ws : List Waiting). IsStep ws [] []) (sym (idle e)) (step-none [])) (Ended _)
 
-  served-becomes_candidate : (u v : View) → IsServed s u (doing.becomes_candidate s v)
-  served-becomes_candidate u v = served-fails u (doing.is_leader v.mode) _ v.node.term
+  served-becomes_candidate : (v : View) → IsServed s v (doing.becomes_candidate s v)
+  served-becomes_candidate v = served-fails v (doing.is_leader v.mode) refl
 
-  served-becomes_candidate_once : (u v : View) → IsServed s u (doing.becomes_candidate_once s v)
-  served-becomes_candidate_once u v = served-if u (doing.is_candidate v.mode) _ _ (Ended u) (served-becomes_candidate u v)
+  leads-no_more : (v : View) (b : Bool) (answers : List Outgoing) (term : ℕ) → doing.is_leader (moved_all s v ((if b then doing.reply_all s answers else []) ++ Turns Candidate term ∷ [])).mode ≡ false
+  leads-no_more v true answers term = ap (λ (u : View). doing.is_leader u.mode) (behind-replies v answers (Turns Candidate term) [])
+  leads-no_more v false answers term = refl
 
-  served-becomes_follower : (u v : View) (p : Id) → IsServed s u (doing.becomes_follower s v p)
-  served-becomes_follower u v p =
-      served-if u (doing.follows_node v.mode p) _ _ (Ended u)
-      (served-append u _ _ (served-if u (doing.is_leader v.mode) _ _ (served-becomes_candidate u v) (Ended u)) (Aside _ _ _ refl (Ended _)))
+  served-becomes_candidate_once : (v : View) → IsServed s v (doing.becomes_candidate_once s v)
+  served-becomes_candidate_once v = served-if v (doing.is_candidate v.mode) _ _ (Ended v) (served-becomes_candidate v)
+
+  served-turns : (v : View) (p : Id) (b : Bool) → doing.is_leader v.mode ≡ b → IsServed s v ((if b then doing.becomes_candidate s v else []) ++ Turns (Follower p) v.node.term ∷ [])
+  served-turns v p true e =
+      served-append v (doing.becomes_candidate s v) _ (served-becomes_candidate v)
+      (Follows _ p v.node.term [] (leads-no_more v (doing.is_leader v.mode) (answers_by (failed v.leader_term) v.tasks.waiting) v.node.term) (Ended _))
+  served-turns v p false e = Follows v p v.node.term [] e (Ended _)
+
+  served-becomes_follower : (v : View) (p : Id) → IsServed s v (doing.becomes_follower s v p)
+  served-becomes_follower v p = served-if v (doing.follows_node v.mode p) _ _ (Ended v) (served-turns v p (doing.is_leader v.mode) refl)
 
   served-starts_join : (v : View) (c : Id) (t : ℕ) → IsServed s v (doing.starts_join s v c t)
   served-starts_join v c t =
       Aside v _ _ refl
-      (served-if _ (doing.takes s v (StartJoin c t)) _ _ (Aside _ _ _ refl (served-becomes_candidate_once _ (doing.after_act s v (StartJoin c t)))) (Ended _))
+      (served-if _ (doing.takes s v (StartJoin c t)) _ _ (Aside _ _ _ refl (served-becomes_candidate_once (doing.after_act s v (StartJoin c t)))) (Ended _))
 
   served-raises_term : (v : View) (c : Id) (t : ℕ) → IsServed s v (doing.raises_term s v c t)
   served-raises_term v c t = served-if v (nat_lt v.node.term t) _ _ (served-starts_join v c t) (Ended v)
@@ -160,7 +182,7 @@ module _ (s : Settings) where
   served-publishes v made =
       Aside made _ _ refl
       (served-if _ (doing.takes s made (next.value_act s v)) _ _
-      (served-aside _ _ (aside-sends s _ _)) (served-becomes_candidate _ (doing.after_act s made (next.value_act s v))))
+      (served-aside _ _ (aside-sends s _ _)) (served-becomes_candidate (doing.after_act s made (next.value_act s v))))
 
   served-makes_state : (v : View) → IsServed s v (next.makes_state s v)
   served-makes_state v =
@@ -245,7 +267,7 @@ module _ (s : Settings) where
       let act : Act = Publish (record { source = p; state = state }) in
       Aside v _ _ refl
       (served-if _ (doing.takes s v act) _ _
-      (Aside _ _ _ refl (served-if _ (same p s.me) _ _ (Ended _) (served-becomes_follower _ (doing.after_act s v act) p))) (Ended _))
+      (Aside _ _ _ refl (served-if _ (same p s.me) _ _ (Ended _) (served-becomes_follower (doing.after_act s v act) p))) (Ended _))
 
   served-published_to : (v : View) (p : Id) (state : ClusterState) → IsServed s v (publications.is_published_to s v p state)
   served-published_to v p state = served-then v _ (λ u. publications.accepts s u p state) (served-raises_term v p state.term) (λ u. served-accepts u p state)
@@ -286,19 +308,19 @@ module _ (s : Settings) where
   aside-checks_followers : (v : View) → AreAside (checks.checks_followers s v)
   aside-checks_followers v = search (aside-append, aside-drops, aside-sends, Also)
 
-  served-does_check : (u v : View) (leader : Id) (t : LeaderTick) → IsServed s u (checks.does_check s v leader t)
-  served-does_check u v leader Quiet = Ended u
-  served-does_check u v leader Ask = Aside _ _ _ refl (Ended _)
-  served-does_check u v leader Lost = served-becomes_candidate u v
+  served-does_check : (v : View) (leader : Id) (t : LeaderTick) → IsServed s v (checks.does_check s v leader t)
+  served-does_check v leader Quiet = Ended v
+  served-does_check v leader Ask = Aside _ _ _ refl (Ended _)
+  served-does_check v leader Lost = served-becomes_candidate v
 
   served-checks_leader : (v : View) (leader : Id) (c : Option LeaderCheck) → IsServed s v (checks.checks_leader s v leader c)
   served-checks_leader v leader None = Ended v
-  served-checks_leader v leader (Some c) = Aside _ _ _ refl (served-does_check _ (moved s v (Notes LeaderChecked)) leader (leader_tick c v.moment))
+  served-checks_leader v leader (Some c) = Aside _ _ _ refl (served-does_check (moved s v (Notes LeaderChecked)) leader (leader_tick c v.moment))
 
   served-follows_checker : (v : View) (p : Id) → IsServed s v (checks.follows_checker s v p)
   served-follows_checker v p =
       served-if v (doing.is_leader v.mode) _ _ (Aside _ _ _ refl (Ended _))
-      (served-then v _ (λ u. checks.answers_leader s u p true) (served-becomes_follower v v p) (λ u. Aside _ _ _ refl (Ended _)))
+      (served-then v _ (λ u. checks.answers_leader s u p true) (served-becomes_follower v p) (λ u. Aside _ _ _ refl (Ended _)))
 
   served-checked_by_leader : (v : View) (p : Id) (term : ℕ) → IsServed s v (checks.is_checked_by_leader s v p term)
   served-checked_by_leader v p term =
@@ -309,13 +331,17 @@ module _ (s : Settings) where
   served-times_out : (v : View) → IsServed s v (requests.times_out_exclusions s v)
   served-times_out v = Answers v _ ExclusionsTimedOut [] refl (timed_out-step v.node.committed v.moment v.tasks.waiting) (Ended _)
 
-  served-queues : (v : View) (conn : ℕ) (r : Request) (o : Option ℕ) → IsServed s v (requests.queues s v conn r o)
-  served-queues v conn r (Some length) = Aside _ _ _ refl (Ended _)
-  served-queues v conn r None = served-if v (is_full_of v.tasks) _ _ (Aside _ _ _ refl (Ended _)) (Queues v conn r _ (served-goes_on _))
+  served-queues : (v : View) (conn : ℕ) (r : Request) (o : Option ℕ) → doing.is_leader v.mode ≡ true → IsServed s v (requests.queues s v conn r o)
+  served-queues v conn r (Some length) e = Aside _ _ _ refl (Ended _)
+  served-queues v conn r None e = served-if v (is_full_of v.tasks) _ _ (Aside _ _ _ refl (Ended _)) (Queues v conn r _ e (served-goes_on _))
 
   served-takes_line : (v : View) (conn : ℕ) (r : Result Request LineFault) → IsServed s v (requests.takes_line s v conn r)
   served-takes_line v conn (Err e) = Aside _ _ _ refl (Ended _)
-  served-takes_line v conn (Ok r) = served-if v (doing.is_leader v.mode) _ _ (served-queues v conn r _) (Aside _ _ _ refl (Ended _))
+  served-takes_line v conn (Ok r) =
+      elim (doing.is_leader v.mode) as (λ b. doing.is_leader v.mode ≡ b → IsServed s v (if b then requests.queues s v conn r (bad_setting_of r.ask) else requests.replies conn (reply.To r.id (answer.NotMaster (doing.leader_of s.me v.mode))))) [
+        | true ↦ λ e. served-queues v conn r (bad_setting_of r.ask) e
+        | false ↦ λ e. Aside _ _ _ refl (Ended _)
+      ] refl
 
   -- ticks
   served-ticks_candidate : (v : View) (word : ℕ) → IsServed s v (rules.ticks_candidate s v word)
@@ -326,7 +352,7 @@ module _ (s : Settings) where
 
   served-ticks_leader : (v : View) → IsServed s v (rules.ticks_leader s v)
   served-ticks_leader v =
-      served-if v (rules.has_timed_out v.publication v.moment) _ _ (served-becomes_candidate v v)
+      served-if v (rules.has_timed_out v.publication v.moment) _ _ (served-becomes_candidate v)
       (served-then v _ (next.goes_on s)
       (served-then v _ (checks.checks_followers s) (served-times_out v) (λ u. served-aside u _ (aside-checks_followers u)))
       served-goes_on)

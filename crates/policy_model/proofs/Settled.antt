@@ -23,7 +23,7 @@ use Rattle.master_tasks.specs.declared.waiting.Waiting.{Waiting}
 use Rattle.master_tasks.specs.declared.waiting.Outgoing.{Outgoing}
 use Rattle.master_tasks.specs.Queue.{Tasks}
 use Rattle.master_tasks.specs.Replying.{answer_to}
-use Rattle.master_tasks.specs.Answering.{answers_by, left_by, committed_in, exclusion_done, timed_out, nothing_new, excluded_by, unless_voting, if_late, some_among, exclusion_span}
+use Rattle.master_tasks.specs.Answering.{failed, answers_by, left_by, committed_in, exclusion_done, timed_out, nothing_new, excluded_by, unless_voting, if_late, some_among, exclusion_span}
 use Rattle.master_tasks.specs.Processing.{AnsweredAtOnce, Makes, Processed, processing, processing_once, excluding, clearing, refused, and_then, with_next, before_all}
 use Rattle.master_tasks.specs.NextState.{Leader, processed_by, next_answers, tasks_after, is_nothing_new, acks, unacked, value_before}
 use Rattle.policy_model.specs.Queues.{is_for_line, answers_line, is_from, is_to, how_many, AreAmong, NoneWaits, Waits, IsGone, IsQueue}
@@ -86,7 +86,7 @@ step-trans ws us vs xs ys h k = record {
   late = all-append (λ (o : Outgoing). not (answers_line o.reply)) xs ys h.late k.late;
 }
 
-step-none : (ws : List Waiting) → IsStep ws ws []
+pub step-none : (ws : List Waiting) → IsStep ws ws []
 step-none ws = record { queue = record { in_order = among-all ws; each = λ conn id. omega arith }; late = refl }
 
 -- one is answered, or stays
@@ -159,6 +159,16 @@ late-nothing_new committed id w a h =
       | true ↦ λ k. late-done committed id w a k
       | false ↦ λ k. answer-if true (answer.Acked id) a refl k
     ] h
+
+left-none : (term : ℕ) (ws : List Waiting) → left_by (failed term) ws ≡ []
+left-none term [] = refl
+left-none term (w ∷ ws) = left-none term ws
+
+late-failed : (term : ℕ) → IsLate (failed term)
+late-failed term w a h = answer-if true (answer.FailedToCommit term) a refl h
+
+pub failed-step : (term : ℕ) (ws : List Waiting) → IsStep ws [] (answers_by (failed term) ws)
+failed-step term ws = subst (λ (left : List Waiting). IsStep ws left (answers_by (failed term) ws)) (left-none term ws) (decided-step (failed term) (late-failed term) ws)
 
 pub committed-step : (id : StateId) (ws : List Waiting) → IsStep ws (left_by (committed_in id) ws) (answers_by (committed_in id) ws)
 committed-step id ws = decided-step (committed_in id) (late-committed id) ws

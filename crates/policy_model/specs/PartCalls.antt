@@ -33,7 +33,8 @@ abbrev pub round_calls : Settings → Log → Option pre_vote.Calls
 round_calls s NoItems = None
 round_calls s (And l (Opens found)) = None
 round_calls s (And l (Notes (RoundBegun word))) = Some (pre_vote.Start s.me (id_of (node_of l).accepted) (node_of l).term)
-round_calls s (And l (Notes (RoundAnswered source term last))) = option_map (λ calls. pre_vote.Add calls source term last) (round_calls s l)
+round_calls s (And l (Notes (RoundAnswered source term last))) =
+    option_map (λ calls. pre_vote.Add calls source term last) (round_calls s l)
 round_calls s (And l (Notes RoundEnded)) = None
 round_calls s (And l (Turns Candidate term)) = None
 round_calls s (And l i) = round_calls s l
@@ -62,12 +63,14 @@ abbrev pub is_open : Option publication.Calls → Bool
 is_open None = false
 is_open (Some calls) = not (publication.was_finished calls)
 
--- of the checks of the followers, since the node became leader: the other members of each value, when its publication was finished, ticks and answers
+-- of the checks of the followers, since the node became leader: the other members of each value, when its publication was finished,
+-- ticks and answers
 abbrev pub follower_calls : Settings → Log → followers.Calls
 follower_calls s NoItems = followers.Started
 follower_calls s (And l (Opens found)) = followers.Started
 follower_calls s (And l (Acts (Value version config value) o)) =
-    if is_ok o then followers.Then (follower_calls s l) (followers.Watched (without_id s.me value.members) (moment_of l)) else follower_calls s l
+    if is_ok o then followers.Then (follower_calls s l) (followers.Watched (without_id s.me value.members) (moment_of l))
+    else follower_calls s l
 follower_calls s (And l (Acts (Commit commit) o)) =
     if is_ok o && is_open (publication_calls l)
     then followers.Then (follower_calls s l) (followers.Finished (id_of (node_of l).accepted) (moment_of l))
@@ -84,6 +87,8 @@ leader_calls NoItems = None
 leader_calls (And l (Opens found)) = None
 leader_calls (And l (Turns (Follower leader) term)) = Some (leaders.LeaderStarted leader (moment_of l))
 leader_calls (And l (Turns mode term)) = None
-leader_calls (And l (Notes LeaderChecked)) = option_map (λ calls. leaders.LeaderThen calls (leaders.LeaderTicked (moment_of l))) (leader_calls l)
-leader_calls (And l (Notes (LeaderAnswered good))) = option_map (λ calls. leaders.LeaderThen calls (leaders.LeaderAnswered good (moment_of l))) (leader_calls l)
+leader_calls (And l (Notes LeaderChecked)) =
+    option_map (λ calls. leaders.LeaderThen calls (leaders.LeaderTicked (moment_of l))) (leader_calls l)
+leader_calls (And l (Notes (LeaderAnswered good))) =
+    option_map (λ calls. leaders.LeaderThen calls (leaders.LeaderAnswered good (moment_of l))) (leader_calls l)
 leader_calls (And l i) = leader_calls l

@@ -8,17 +8,17 @@ use Rattle.master_tasks.specs.declared.waiting.Waiting.{Waiting}
 use Rattle.master_tasks.specs.declared.waiting.Outgoing.{Outgoing}
 use Rattle.master_tasks.specs.Queue.{arriving}
 use Rattle.policy_model.specs.declared.settings.Settings.{Settings}
-use Rattle.policy_model.specs.Events.{Candidate, Log, NoItems, And, Opens, Turns, Replies, Notes, Queued}
+use Rattle.policy_model.specs.Events.{Log, NoItems, And, Opens, Replies, Notes, Queued}
 use Rattle.policy_model.specs.Entries.{Life, log_of}
-use Rattle.policy_model.specs.LookBacks.{moment_of, tasks_of}
+use Rattle.policy_model.specs.LookBacks.{mode_of, moment_of, tasks_of}
+use Rattle.policy_model.specs.Doing.{is_leader}
 use Rattle.policy_model.specs.Follows.{Follows, is_struck}
 
--- the requests that were queued since the node became a candidate last, the oldest first
+-- the requests that were queued since the opening, the oldest first
 abbrev pub queued_in : Log → List Waiting
 queued_in NoItems = []
 queued_in (And l (Opens found)) = []
 queued_in (And l (Notes (Queued conn request))) = queued_in l ++ arriving conn (moment_of l) request ∷ []
-queued_in (And l (Turns Candidate term)) = []
 queued_in (And l i) = queued_in l
 
 -- what is answered as its line comes, and not queued
@@ -32,12 +32,11 @@ abbrev pub answers_line : Reply → Bool
 answers_line (reply.BadLine fault) = true
 answers_line (reply.To id answer) = is_for_line answer
 
--- the replies to requests that were queued since then
+-- the replies since then to requests that were queued
 abbrev pub replied_in : Log → List Outgoing
 replied_in NoItems = []
 replied_in (And l (Opens found)) = []
 replied_in (And l (Replies out)) = if answers_line out.reply then replied_in l else replied_in l ++ out ∷ []
-replied_in (And l (Turns Candidate term)) = []
 replied_in (And l i) = replied_in l
 
 -- a request, and a reply, by connection and id
@@ -57,7 +56,8 @@ how_many test xs = length (filter test xs)
 -- some of the queued, in their order, each perhaps processed since
 pub data AreAmong : List Waiting → List Waiting → Type 0 where
   NoneWaits : AreAmong [] []
-  Waits : (w : Waiting) (processed : Bool) (ws qs : List Waiting) → AreAmong ws qs → AreAmong (record w { processed = processed } ∷ ws) (w ∷ qs)
+  Waits : (w : Waiting) (processed : Bool) (ws qs : List Waiting)
+      → AreAmong ws qs → AreAmong (record w { processed = processed } ∷ ws) (w ∷ qs)
   IsGone : (w : Waiting) (ws qs : List Waiting) → AreAmong ws qs → AreAmong ws (w ∷ qs)
 
 -- each request that was queued waits in its place, or was replied to once
@@ -69,3 +69,9 @@ abbrev pub LawQueue : Type 0
 LawQueue =
     (s : Settings) (life : Life) → Follows s life → is_struck life ≡ false
     → IsQueue (queued_in (log_of life)) (tasks_of s (log_of life)).waiting (replied_in (log_of life))
+
+-- only a leader has requests that wait: another node has replied to all that it queued
+abbrev pub LawOnlyLeaders : Type 0
+LawOnlyLeaders =
+    (s : Settings) (life : Life) → Follows s life → is_struck life ≡ false
+    → is_leader (mode_of (log_of life)) ≡ false → (tasks_of s (log_of life)).waiting ≡ []

@@ -38,4 +38,6 @@ told_of (Lived life entry) = Passed (told_of life) entry
 
 -- what a node does is determined: two lives that follow the policy and are told the same are the same
 abbrev pub LawDetermined : Type 0
-LawDetermined = (s : Settings) (life other : Life) → Follows s life → Follows s other → told_of life ≡ told_of other → life ≡ other
+LawDetermined =
+    (s : Settings) (life other : Life)
+    → Follows s life → Follows s other → told_of life ≡ told_of other → life ≡ other
