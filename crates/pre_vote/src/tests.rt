@@ -62,7 +62,8 @@ fn a_node_that_follows_another_leader_refuses_a_pre_vote(rt: HostRuntime) -> Res
     Ok(())
 }
 
+// A law is an empty function: its contract says it all, and the call shows that it can be called.
 #[test]
-fn laws() {
+fn the_laws_can_be_called() {
     law_counted();
 }
