@@ -178,7 +178,7 @@ fn refused(tasks: &mut MasterTasks, request: Request) -> Option<u64> {
 }
 
 #[test]
-fn queue(rt: HostRuntime) -> Result<(), Fail> {
+fn a_65th_request_is_refused(rt: HostRuntime) -> Result<(), Fail> {
     let mut tasks = MasterTasks::new(rt.alloc());
     for _ in 0..MAX_OPEN {
         take(rt.alloc(), &mut tasks, 5, 7, Wish::State)?;
@@ -213,7 +213,7 @@ fn came(alloc: Global, voters: &str, exclusions: &str, wishes: &[Wish]) -> Resul
 }
 
 #[test]
-fn requests(rt: HostRuntime) -> Result<(), Fail> {
+fn requests_make_this_state_or_get_this_answer(rt: HostRuntime) -> Result<(), Fail> {
     for (voters, exclusions, wishes, want) in [
         ("abc", "", [Wish::State].as_slice(), "same, 1 state 1/1"),
         (
@@ -290,7 +290,7 @@ fn requests(rt: HostRuntime) -> Result<(), Fail> {
 }
 
 #[test]
-fn an_older_term(rt: HostRuntime) -> Result<(), Fail> {
+fn an_accepted_state_of_an_older_term_is_published_anew(rt: HostRuntime) -> Result<(), Fail> {
     let mut tasks = MasterTasks::new(rt.alloc());
     let accepted = state(rt.alloc(), "abc", "abc", "")?;
     let text = next(rt.alloc(), &mut tasks, 2, &accepted)?;
@@ -301,7 +301,7 @@ fn an_older_term(rt: HostRuntime) -> Result<(), Fail> {
 }
 
 #[test]
-fn many_settings(rt: HostRuntime) -> Result<(), Fail> {
+fn a_1025th_setting_is_refused(rt: HostRuntime) -> Result<(), Fail> {
     let mut accepted = state(rt.alloc(), "abc", "abc", "")?;
     for number in 1..1024u64 {
         let key = format!(in rt.alloc(); "{number}")?;
@@ -346,7 +346,7 @@ fn changed(alloc: Global, members: &str, removals: &str, additions: &str) -> Res
 }
 
 #[test]
-fn members(rt: HostRuntime) -> Result<(), Fail> {
+fn members_leave_and_join_up_to_32(rt: HostRuntime) -> Result<(), Fail> {
     let all = "bcdefghijklmnopqrstuvwxyz0123456";
     let others = "acdefghijklmnopqrstuvwxyz0123456";
     for (members, removals, additions, want) in [
@@ -368,7 +368,7 @@ fn members(rt: HostRuntime) -> Result<(), Fail> {
 }
 
 #[test]
-fn a_33rd_member(rt: HostRuntime) -> Result<(), Fail> {
+fn a_33rd_member_is_left_out(rt: HostRuntime) -> Result<(), Fail> {
     let mut tasks = MasterTasks::new(rt.alloc());
     for id in letters("bcdefghijklmnopqrstuvwxyz0123456").as_slice() {
         tasks.add_member(*id);
@@ -393,7 +393,7 @@ fn three(alloc: Global) -> Result<MasterTasks, Fail> {
 }
 
 #[test]
-fn answers(rt: HostRuntime) -> Result<(), Fail> {
+fn each_occasion_answers_its_requests(rt: HostRuntime) -> Result<(), Fail> {
     let id = StateId {
         term: 1,
         version: 2,

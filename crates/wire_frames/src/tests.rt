@@ -65,7 +65,7 @@ fn a_join_byte_by_byte(rt: HostRuntime) -> Result<(), Fail> {
 }
 
 #[test]
-fn faults(rt: HostRuntime) -> Result<(), Fail> {
+fn the_first_fault_of_a_frame_is_named(rt: HostRuntime) -> Result<(), Fail> {
     let field = |fault: FieldError| Some(FrameFault::Field(fault));
     let mut longer = JOIN;
     longer[3] = 30;
@@ -83,7 +83,7 @@ fn faults(rt: HostRuntime) -> Result<(), Fail> {
 }
 
 #[test]
-fn lengths(rt: HostRuntime) -> Result<(), Fail> {
+fn a_frame_of_more_than_8_388_608_bytes_is_too_long(rt: HostRuntime) -> Result<(), Fail> {
     for (last, wanted) in [(0, None), (1, Some(FrameFault::TooLong))] {
         assert!(rt; fed(&rt, &[0, 0x80, 0], &[])? == (0, None));
         assert!(rt; fed(&rt, &[0, 0x80, 0], &[last])? == (0, wanted));
@@ -220,8 +220,9 @@ fn spelled_checks(rt: HostRuntime) -> Result<(), Fail> {
     Ok(())
 }
 
+// A law is an empty function: its contract says it all, and the call shows that it can be called.
 #[test]
-fn laws_are_called() {
+fn the_laws_can_be_called() {
     law_one_frame();
     law_first_frame();
     law_stream();
