@@ -11,9 +11,11 @@ use Rattle.schedule_text.specs.declared.schedule.Schedule.{Schedule}
 use Rattle.schedule_text.specs.Limits.{most_bytes}
 use Rattle.schedule_text.specs.Lines.{FitsLine}
 use Rattle.schedule_text.specs.Reading.{fault_of}
+use Rattle.schedule_text.specs.FirstBad.{IsFirstBad}
 use Rattle.schedule_text.specs.Printed.{bad_line}
 use Rattle.schedule_text.specs.Spelled.{Spells, Nothing, Text}
 use Rattle.schedule_text.proofs.ScheduleLaws.{one_schedule}
+use Rattle.schedule_text.proofs.FirstBadLaws.{law_first_bad_line}
 use Rattle.schedule_replay.specs.Legal.{IsWellFormed}
 use Rattle.schedule_replay.specs.Replayed.{replayed}
 use Rattle.schedule_replay.specs.Trace.{trace}
@@ -167,6 +169,9 @@ module _ (words : List (List ℕ)) (source source_now : SourceView) (sink sink_n
         told_fault : (bs : List ℕ) → source.left ≡ Some bs → fault_of (read_of bs) ≡ Some b
         told_fault bs e = subst (λ (l : List ℕ). fault_of l ≡ Some b) (told bs e).0 fault
 
+        first_bad : (bs : List ℕ) → source.left ≡ Some bs → IsFirstBad b.line (read_of bs)
+        first_bad bs e = (law_first_bad_line (read_of bs) b.line).0 (b.why, told_fault bs e)
+
         no_schedule : {A : Type 0} (bs : List ℕ) (s : Schedule) → source.left ≡ Some bs → Spells bs s → A
         no_schedule bs s e spelled = absurd (none s (spells_read bs source_now.left bytes s (told bs e) spelled))
 
@@ -174,14 +179,14 @@ module _ (words : List (List ℕ)) (source source_now : SourceView) (sink sink_n
         from (inl is) =
             subst (λ (x : Status). Ran words source source_now sink sink_now x) (sym is)
             (ran exit.BadSchedule (λ e. absurd cc) (λ e. absurd cc) (λ e. absurd cc) (λ bs e. record {
-              ended = ((told bs e).1, record { bad = b; fault = told_fault bs e; written = refusal.whole is });
+              ended = ((told bs e).1, record { bad = b; fault = told_fault bs e; first = first_bad bs e; written = refusal.whole is });
               traced = λ s sp. no_schedule bs s e sp;
               complete = λ s sp r w. no_schedule bs s e sp;
             }))
         from (inr (inl is)) =
             subst (λ (x : Status). Ran words source source_now sink sink_now x) (sym is)
             (ran exit.WriteFault (λ e. absurd cc) (λ e. absurd cc) (λ _. (refusal.cut is).1) (λ bs e. record {
-              ended = ((told bs e).1, inr (record { bad = b; fault = told_fault bs e; written = (refusal.cut is).0 }));
+              ended = ((told bs e).1, inr (record { bad = b; fault = told_fault bs e; first = first_bad bs e; written = (refusal.cut is).0 }));
               traced = λ s sp. no_schedule bs s e sp;
               complete = λ s sp r w. no_schedule bs s e sp;
             }))

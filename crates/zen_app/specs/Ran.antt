@@ -9,6 +9,7 @@ use Rattle.schedule_text.specs.declared.fault.BadSchedule.{BadSchedule}
 use Rattle.schedule_text.specs.declared.schedule.Schedule.{Schedule}
 use Rattle.schedule_text.specs.Spelled.{Spells}
 use Rattle.schedule_text.specs.Reading.{fault_of}
+use Rattle.schedule_text.specs.FirstBad.{IsFirstBad}
 use Rattle.schedule_text.specs.Printed.{bad_line}
 use Rattle.schedule_replay.specs.Replayed.{replayed}
 use Rattle.schedule_replay.specs.Showing.{Shows, Agrees}
@@ -65,16 +66,19 @@ pub record ReplayedPrefix (bytes : List ℕ) (was now : Option (List ℕ)) : Typ
   pub written : AppendedFront was now (trace schedule)
   pub safe_trace : IsSafeTrace schedule
 
--- what was read of the bytes is no schedule, and which line is bad and why was written
+-- What was read of the bytes is no schedule, and which line is bad and why was written: some schedule has the same lines before it, and none has
+-- the same lines up to it.
 pub record Refused (bytes : List ℕ) (was now : Option (List ℕ)) : Type 0 where
   pub bad : BadSchedule
   pub fault : fault_of (read_of bytes) ≡ Some bad
+  pub first : IsFirstBad bad.line (read_of bytes)
   pub written : Appended was now (bad_line bad)
 
 -- the same, but only a prefix of that line was written
 pub record RefusedPrefix (bytes : List ℕ) (was now : Option (List ℕ)) : Type 0 where
   pub bad : BadSchedule
   pub fault : fault_of (read_of bytes) ≡ Some bad
+  pub first : IsFirstBad bad.line (read_of bytes)
   pub written : AppendedFront was now (bad_line bad)
 
 -- ---- how a run ends
