@@ -1,19 +1,15 @@
 -- From what is within the limits a node sends and becomes only what is.
 use Rattle.std.proofs.Common.{◌≡◌, ℕ, ◌+◌, ◌≤◌, ◌^◌, Bool, true, false, not, cond, ◌&&◌, Option, None, Some, Result, Ok, Err, List, [], ◌∷◌, ◌++◌, refl, sym, ◌∙◌, arith}
-use Rattle.std.specs.Prelude.{if◌then◌else◌, max, is_some, is_none, nat_le, nat_lt, nat_eq}
+use Rattle.std.specs.Prelude.{if◌then◌else◌, max, is_some, nat_le, nat_lt, nat_eq}
 use Rattle.std.specs.List.{flat_map, AllByRecursion}
 use Rattle.std.proofs.lemmas.Bool.Decides.{nat_tests}
-use Rattle.voting_config.specs.Ids.{Id, before, same, same_config, with_id, without_id, is_quorum_of}
+use Rattle.voting_config.specs.Ids.{Id, before, same, same_config, is_quorum_of}
 use Rattle.bootstrap.specs.Decisions.{decision_of}
 use Rattle.election_clock.specs.Delays.{is_due}
-use Rattle.peer_finder.specs.Peers.{known_set, answered_set}
-use Rattle.reconfigurator.specs.Targets.{among}
+use Rattle.peer_finder.specs.Peers.{answered_set}
 use Rattle.cluster_state.specs.JoinCheck.{is_empty}
-use Rattle.cluster_state.specs.declared.causes.StartCause.{StartCause}
 use Rattle.cluster_state.specs.declared.causes.StartCause.TheVariants as start_cause
 use Rattle.cluster_state.specs.declared.causes.ValueCause.TheVariants as value_cause
-use Rattle.cluster_state.specs.declared.messages.PublishRequest.{PublishRequest}
-use Rattle.cluster_state.specs.declared.reply.Answer.{Answer}
 use Rattle.cluster_state.specs.declared.reply.LineFault.{LineFault}
 use Rattle.cluster_state.specs.declared.request.Request.{Request}
 use Rattle.cluster_state.specs.declared.state.ClusterState.{ClusterState}
@@ -35,7 +31,7 @@ use Rattle.pre_vote.specs.declared.rounds.Added.{Added}
 use Rattle.pre_vote.specs.declared.rounds.Added.TheVariants.{Counted, Fresher, Quorum}
 use Rattle.pre_vote.specs.declared.replies.Reply.{Reply as PreVoteReply}
 use Rattle.pre_vote.specs.declared.replies.Reply.TheVariants.{Answer as PreVoteAnswer, Refused as PreVoteRefused}
-use Rattle.pre_vote.specs.Rounds.{Round, answered}
+use Rattle.pre_vote.specs.Rounds.{Round}
 use Rattle.fault_checks.specs.declared.leader.LeaderTick.{LeaderTick}
 use Rattle.fault_checks.specs.declared.leader.LeaderTick.TheVariants.{Quiet, Ask, Lost}
 use Rattle.fault_checks.specs.Leaders.{LeaderCheck, leader_tick}
@@ -43,8 +39,8 @@ use Rattle.master_tasks.specs.declared.waiting.Outgoing.{Outgoing}
 use Rattle.master_tasks.specs.declared.waiting.Waiting.{Waiting}
 use Rattle.master_tasks.specs.Answering.{timed_out, committed_in, exclusion_done}
 use Rattle.master_tasks.specs.Fitting.{HaveGoodSettings}
-use Rattle.master_tasks.specs.NextState.{next_answers, next_value, is_nothing_new}
-use Rattle.master_tasks.specs.Queue.{Tasks, is_full_of, arriving, to_be_added, no_tasks}
+use Rattle.master_tasks.specs.NextState.{next_answers, is_nothing_new}
+use Rattle.master_tasks.specs.Queue.{Tasks, is_full_of, arriving, to_be_added}
 use Rattle.master_tasks.proofs.Limits.{fits_next, good_after, good_left, good_offered}
 use Rattle.world_model.specs.declared.acts.Act.{Act}
 use Rattle.world_model.specs.declared.acts.Act.TheVariants.{Bootstrap, StartJoin, TakeJoin, Value, Publish, Response, Commit, Open}
@@ -52,16 +48,15 @@ use Rattle.world_model.specs.declared.acts.Cause.{Cause}
 use Rattle.world_model.specs.declared.acts.Cause.TheVariants.{Start as StartRefused, Value as ValueRefused}
 use Rattle.world_model.specs.declared.acts.Message.{Message as SentMessage}
 use Rattle.world_model.specs.declared.acts.Message.TheVariants.{Publish as PublishSent}
-use Rattle.world_model.specs.declared.acts.Outcome.{Outcome}
 use Rattle.world_model.specs.declared.acts.Outcome.TheVariants.{Answered}
 use Rattle.world_model.specs.declared.acts.Reply.{Reply}
 use Rattle.world_model.specs.declared.acts.Reply.TheVariants.{Taken, Refused, Stopped}
-use Rattle.world_model.specs.Acts.{is_ok, is_effective}
+use Rattle.world_model.specs.Acts.{is_effective}
 use Rattle.world_model.specs.NodeState.{NodeState}
-use Rattle.world_model.specs.Replies.{reply_at, is_taken, after_check, start_checked, start_reply, value_reply, join_from, last_number}
+use Rattle.world_model.specs.Replies.{reply_at, is_taken, after_check, start_checked, start_reply, value_reply, last_number}
 use Rattle.policy_model.specs.declared.settings.Settings.{Settings}
 use Rattle.policy_model.specs.Events.{Mode, Candidate, Leader, Follower, Event, Start, Tick, FrameCame, LineCame, DropCause, Note, Met, Heard, PeersAsked, ElectionOff, ElectionSet, RoundBegun, RoundAnswered, RoundEnded, Joined, FollowersChecked, FollowerAnswered, LeaderChecked, LeaderAnswered, Queued, ExclusionsTimedOut, CommitAcked, ExclusionsAcked, StateMade, HandedOver, Item, Opens, Begins, Acts, Turns, Drops, Sends, Replies, Notes}
-use Rattle.policy_model.specs.Entries.{frames_in, put_frame, by_receiver, frames_of}
+use Rattle.policy_model.specs.Entries.{frames_in, put_frame, by_receiver}
 use Rattle.policy_model.specs.Parts.{as_master, all_to_be_added, round_answered, published_id}
 use Rattle.policy_model.specs.Views.{View}
 use Rattle.policy_model.specs.Moves.{opened, moved, moved_all}

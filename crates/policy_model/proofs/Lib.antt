@@ -3,6 +3,8 @@ pub mod Answering
 pub mod Locals
 pub mod Standing
 pub mod Fits
+pub mod Shortness
+pub mod Spending
 pub mod Examples
 pub mod PartLookBacks
 pub mod Determined

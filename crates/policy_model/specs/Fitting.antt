@@ -1,5 +1,5 @@
 -- What is within the limits: numbers of at most 2^62, states and settings as they can be spelled.
-use Rattle.std.specs.Prelude.{ℕ, ◌≤◌, ◌^◌, Option, None, Some, List}
+use Rattle.std.specs.Prelude.{◌≤◌, ◌^◌, Option, None, Some, List}
 use Rattle.std.specs.List.{AllByRecursion}
 use Rattle.cluster_state.specs.declared.state.Kept.{Kept}
 use Rattle.cluster_state.specs.declared.state.StateId.{StateId}

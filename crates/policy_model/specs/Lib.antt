@@ -15,6 +15,7 @@ pub mod Requests
 pub mod Rules
 pub mod Follows
 pub mod Fitting
+pub mod Bounds
 pub mod Local
 pub mod Laws
 pub mod PartCalls

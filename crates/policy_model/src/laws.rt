@@ -1,5 +1,6 @@
 //! What holds of each life that follows the policy. The calls do nothing: what they promise is proved.
 ghost use Rattle.policy_model.specs.Laws.{LawEventMoves, LawLifeIsLocal, LawOpeningMoves};
+ghost use Rattle.policy_model.specs.Bounds.{LawAnswersFew, LawEventIsShort, LawStruckIsShort};
 ghost use Rattle.policy_model.specs.Fitting.{EventHoldsSettings, LawOpenedIsFit, LawStaysFit};
 
 use crate::events::Event;
@@ -42,3 +43,18 @@ pub fn law_event_holds_settings(event: &Event)
         }
     }
 }
+
+/// At an event a node does three acts at most, and shows six steps at most: acts and changes of mode.
+pub fn law_event_is_short()
+    ensures { LawEventIsShort }
+{}
+
+/// So it does where an act does not come to its end.
+pub fn law_struck_is_short()
+    ensures { LawStruckIsShort }
+{}
+
+/// Where no more requests wait than may, no more replies are sent at an event, and no more wait after it.
+pub fn law_answers_few()
+    ensures { LawAnswersFew }
+{}

@@ -33,4 +33,7 @@ fn the_laws_can_be_called() {
     law_opened_is_fit();
     law_stays_fit();
     law_event_holds_settings(&Event::Start);
+    law_event_is_short();
+    law_struck_is_short();
+    law_answers_few();
 }
