@@ -1,15 +1,22 @@
 #!/bin/sh
 # Refuses each growth of the heap in turn, over each schedule: the program must end with status 4 and a front of its trace, or, where it can do
 # without that growth, with status 0 and the whole trace.
-# Usage: bench/growths.sh [PROGRAM [SCHEDULE..]]; PROGRAM is what `rt run` leaves in crates/zen/out/zen, and the schedules are the examples where
-# none is named. It needs a C compiler.
+# Usage: bench/growths.sh [PROGRAM [SCHEDULE..]]; PROGRAM is what `rt run` leaves in crates/zen/out/zen, and the schedules are those of the stories in
+# examples/ where none is named. It needs a C compiler.
 set -eu
 top=$(cd "$(dirname "$0")/.." && pwd)
 zen=${1:-$top/crates/zen/out/zen}
 [ $# -eq 0 ] || shift
-[ $# -gt 0 ] || set -- "$top"/examples/*.schedule
 work=$(mktemp -d)
 trap 'rm -rf "$work"' EXIT
+if [ $# -eq 0 ]; then
+    mkdir "$work/stories"
+    for story in "$top"/examples/*.md; do
+        "$top/examples/cut" schedule "$story" > "$work/stories/$(basename "$story" .md)"
+    done
+    rm "$work/stories/README"
+    set -- "$work"/stories/*
+fi
 cc -shared -fPIC -O1 -o "$work/refuse.so" "$top/bench/refuse_growth.c" -ldl
 
 # Runs the program on a schedule with this growth refused; its trace is in $work/trace.

@@ -8,9 +8,8 @@ use Rattle.world_model.specs.Acts.{wins}
 use Rattle.world_model.specs.declared.acts.Act.{Act}
 use Rattle.world_model.specs.declared.acts.Outcome.{Outcome}
 use Rattle.world_model.specs.NodeState.{term_of, accepted_of}
-use Rattle.cluster_state.specs.Initial.{initial_state}
 use Rattle.world_model.specs.Histories.{History, NoEntries, Next, node_history}
-use Rattle.world_model.specs.Safety.{Win, winners, Published, published, IsCommitted, Descends, HoldsAnswers, IsSafe}
+use Rattle.world_model.specs.Safety.{Win, winners, Published, published, IsCommitted, Descends, HoldsAnswers, IsSafeFrom}
 use Rattle.world_model.proofs.Facts.{Facts, IsAtMost, IsPublished, Election, elections}
 use Rattle.agreement.proofs.Order.{same_versions, IsBelow, at_most_or_below, at_most_from_below, at_most_term}
 use Rattle.agreement.proofs.Lineage.{IsAfter, published_all, root_lowest, descends_after, descends_id}
@@ -141,11 +140,11 @@ kernel_agree h root facts = record {
 }
 
 -- What is promised of each legal history, from its facts and from what each node keeps.
-pub safe_from_facts : (initial : List Id) (h : History) → Facts h (initial_state initial) → HoldsAnswers h → IsSafe initial h
-safe_from_facts initial h facts held = record {
+pub safe_from_facts : (root : ClusterState) (h : History) → Facts h root → HoldsAnswers h → IsSafeFrom root h
+safe_from_facts root h facts held = record {
   one_winner = agree_winner facts;
   one_state = agree_state facts;
   one_line = agree_line facts;
-  from_initial = agree_root facts;
+  from_root = agree_root facts;
   held = held;
 }

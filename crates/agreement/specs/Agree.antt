@@ -1,10 +1,10 @@
 -- Agreement, as statements.
-use Rattle.std.specs.Prelude.{◌≡◌, ◌<◌, ◌↔◌, List, Contains}
+use Rattle.std.specs.Prelude.{◌↔◌, List, Contains}
 use Rattle.voting_config.specs.Ids.{Id}
 use Rattle.cluster_state.specs.declared.state.Kept.{Kept}
 use Rattle.world_model.specs.NodeState.{accepted_of}
 use Rattle.world_model.specs.Histories.{History, node_history, IsLegal, IsPrefix}
-use Rattle.world_model.specs.Safety.{Win, winners, Published, published, IsCommitted, Descends, IsAtLeast, HoldsAnswers, IsSafe}
+use Rattle.world_model.specs.Safety.{Published, published, IsCommitted, Descends, IsAtLeast, IsSafe, IsSafeFrom}
 use Rattle.world_model.specs.Restarts.{IsAlone, IsLegalFrom}
 
 -- each published state descends from each committed state whose id is not above its own
@@ -22,13 +22,6 @@ LawLost =
     (initial : List Id) (h : History) → IsLegal initial h → (node : Id) (p : History) → IsPrefix p h → (c : Published) → IsCommitted h c
     → Descends h c.state (accepted_of (node_history p node)) ↔ IsAtLeast (accepted_of (node_history p node)) c.state.term c.state.version
 
--- what is promised from the restart of one node on
-pub record IsSafeFrom (kept : Kept) (h : History) : Type 0 where
-  pub one_winner : (v w : Win) → Contains (winners h) v → Contains (winners h) w → v.term ≡ w.term → v.node ≡ w.node
-  pub one_state : (p q : Published) → IsCommitted h p → IsCommitted h q → p.state.version ≡ q.state.version → p.state ≡ q.state
-  pub one_line : (p q : Published) → IsCommitted h p → IsCommitted h q → p.state.version < q.state.version → Descends h p.state q.state
-  pub from_kept : (p : Published) → IsCommitted h p → Descends h kept.accepted p.state
-  pub held : HoldsAnswers h
-
+-- from the restart of one node on each legal history is safe over the state that this node had kept
 abbrev pub LawRestarted : Type 0
-LawRestarted = (first : Id) (kept : Kept) (h : History) → IsAlone first kept → IsLegalFrom first kept h → IsSafeFrom kept h
+LawRestarted = (first : Id) (kept : Kept) (h : History) → IsAlone first kept → IsLegalFrom first kept h → IsSafeFrom kept.accepted h

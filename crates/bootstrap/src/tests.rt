@@ -13,7 +13,7 @@ fn letters(text: &str) -> NodeSet {
 }
 
 #[test]
-fn decides(rt: HostRuntime) -> Result<(), Fail> {
+fn a_listed_node_that_knows_more_than_half_bootstraps(rt: HostRuntime) -> Result<(), Fail> {
     let names = letters("abc");
     let rows = [
         ("a", "", false, false),

@@ -12,7 +12,7 @@ use Rattle.serde_json.specs.Find.{as_array}
 use Rattle.serde_json.proofs.Views.{items_len-items_view}
 use Rattle.voting_config.specs.Ids.{Id, same, has, with_id}
 use Rattle.voting_config.proofs.Sorted.{has-with_id}
-use Rattle.client_lines.specs.declared.request.Ask.TheVariants.{Exclude}
+use Rattle.cluster_state.specs.declared.request.Ask.TheVariants.{Exclude}
 use Rattle.client_lines.specs.Requests.{node_id_of, node_ids_of, are_distinct, set_of, as_set, node_set_of, exclude_of}
 use Rattle.client_lines.proofs.Distinct.{has-append, are_distinct-again, are_distinct-push, length-with_id}
 

@@ -1,7 +1,7 @@
 -- What a line keeps.
 use Rattle.std.proofs.Common.{◌≡◌, ◌∙◌, refl, sym, ap, inl, inr, ℕ, zero, suc, ◌<◌, ◌≤◌, true, Err, List, [], ◌∷◌, length, take, nat_lt, arith}
 use Rattle.std.proofs.lemmas.Bool.Decides.{nat_tests, leb_tells}
-use Rattle.client_lines.specs.declared.fault.LineFault.TheVariants.{TooLong}
+use Rattle.cluster_state.specs.declared.reply.LineFault.TheVariants.{TooLong}
 use Rattle.client_lines.specs.Lines.{kept}
 use Rattle.client_lines.specs.Reading.{line_request}
 use Rattle.client_lines.specs.Laws.{KeepsEnough}

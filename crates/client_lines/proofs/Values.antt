@@ -4,7 +4,7 @@ use Rattle.std.specs.Prelude.{ok_or}
 use Rattle.std.specs.Str.{is_utf8, IsUtf8}
 use Rattle.std.proofs.lemmas.Str.{IsUtf8-from_is_utf8}
 use Rattle.serde_json.specs.Read.{read}
-use Rattle.client_lines.specs.declared.fault.LineFault.TheVariants.{NotJson}
+use Rattle.cluster_state.specs.declared.reply.LineFault.TheVariants.{NotJson}
 use Rattle.client_lines.specs.Reading.{json_of}
 
 none_by : (bytes : List ℕ) (b : Bool) → is_utf8 bytes ≡ b → (IsUtf8 bytes → read bytes ≡ None) → cond b (read bytes) None ≡ None

@@ -1,4 +1,3 @@
-pub mod Settings
 pub mod Requests
 pub mod Reading
 pub mod Replies

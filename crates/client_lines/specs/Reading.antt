@@ -5,9 +5,9 @@ use Rattle.serde_json.specs.Data.{Data}
 use Rattle.serde_json.specs.Read.{read}
 use Rattle.serde_json.specs.View.{view}
 use Rattle.serde_json.specs.declared.value.Value.{Value}
-use Rattle.client_lines.specs.declared.request.Request.{Request}
-use Rattle.client_lines.specs.declared.fault.LineFault.{LineFault}
-use Rattle.client_lines.specs.declared.fault.LineFault.TheVariants.{TooLong, NotJson, BadShape}
+use Rattle.cluster_state.specs.declared.request.Request.{Request}
+use Rattle.cluster_state.specs.declared.reply.LineFault.{LineFault}
+use Rattle.cluster_state.specs.declared.reply.LineFault.TheVariants.{TooLong, NotJson, BadShape}
 use Rattle.client_lines.specs.declared.fault.LineError.{LineError}
 use Rattle.client_lines.specs.declared.fault.LineError.TheVariants.{Fault, Memory}
 use Rattle.client_lines.specs.Requests.{request_of}

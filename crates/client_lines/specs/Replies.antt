@@ -4,12 +4,12 @@ use Rattle.serde_json.specs.Data.{Data, number, unsigned, string, object, no_mem
 use Rattle.serde_json.specs.Written.{compact_text}
 use Rattle.cluster_state.specs.Json.{ids_json, master_json, state_json}
 use Rattle.cluster_state.specs.declared.state.StateId.{StateId}
-use Rattle.client_lines.specs.declared.fault.LineFault.{LineFault}
-use Rattle.client_lines.specs.declared.fault.LineFault.TheVariants.{TooLong, NotJson, BadShape}
-use Rattle.client_lines.specs.declared.reply.Answer.{Answer}
-use Rattle.client_lines.specs.declared.reply.Answer.TheVariants.{Acked, State, NotMaster, BadSetting, QueueFull, TooManySettings, NotMember, TooManyExclusions, StillMember, FailedToCommit, ExclusionTimeout}
-use Rattle.client_lines.specs.declared.reply.Reply.{Reply}
-use Rattle.client_lines.specs.declared.reply.Reply.TheVariants.{To, BadLine}
+use Rattle.cluster_state.specs.declared.reply.LineFault.{LineFault}
+use Rattle.cluster_state.specs.declared.reply.LineFault.TheVariants.{TooLong, NotJson, BadShape}
+use Rattle.cluster_state.specs.declared.reply.Answer.{Answer}
+use Rattle.cluster_state.specs.declared.reply.Answer.TheVariants.{Acked, State, NotMaster, BadSetting, QueueFull, TooManySettings, NotMember, TooManyExclusions, StillMember, FailedToCommit, ExclusionTimeout}
+use Rattle.cluster_state.specs.declared.reply.Reply.{Reply}
+use Rattle.cluster_state.specs.declared.reply.Reply.TheVariants.{To, BadLine}
 
 abbrev pub number_json : ℕ → Data
 number_json n = number (unsigned n)

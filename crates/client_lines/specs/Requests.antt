@@ -7,9 +7,9 @@ use Rattle.serde_json.specs.Events.{members_len, items_len}
 use Rattle.serde_json.specs.Find.{get, as_number, as_u64, as_str, as_bool, as_array, as_object}
 use Rattle.voting_config.specs.Ids.{Id, has, with_id, most_ids}
 use Rattle.voting_config.specs.Parse.{parsed}
-use Rattle.client_lines.specs.declared.request.Request.{Request}
-use Rattle.client_lines.specs.declared.request.Ask.{Ask}
-use Rattle.client_lines.specs.declared.request.Ask.TheVariants.{Put, Remove, Exclude, Clear, State}
+use Rattle.cluster_state.specs.declared.request.Request.{Request}
+use Rattle.cluster_state.specs.declared.request.Ask.{Ask}
+use Rattle.cluster_state.specs.declared.request.Ask.TheVariants.{Put, Remove, Exclude, Clear, State}
 
 infixl 10 ◌>>=◌
 abbrev pub ◌>>=◌ : {A B : Type 0} → Option A → (A → Option B) → Option B

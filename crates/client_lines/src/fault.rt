@@ -3,18 +3,8 @@
 ghost use Rattle.std.specs.Prelude.{◌≡◌};
 ghost use Rattle.client_lines.specs.declared.fault.LineError.TheVariants as error;
 
+use cluster_state::LineFault;
 use std::alloc::{AllocError, AllocFailed};
-
-/// What is wrong with a line, in the order in which it is tested.
-#[derive(Clone, Copy, Debug, PartialEq, Eq, thiserror::Error)]
-pub enum LineFault {
-    #[error("the line has more than 8192 bytes")]
-    TooLong,
-    #[error("the line is no JSON value")]
-    NotJson,
-    #[error("the JSON value is no request")]
-    BadShape,
-}
 
 /// Why a line was not read.
 #[derive(Clone, Copy, Debug, PartialEq, Eq, thiserror::Error)]

@@ -27,6 +27,13 @@ impl Model for Line {
 }
 
 impl Line {
+    /// The line of these bytes.
+    pub fn of(bytes: Vec<u8>) -> Line
+        ensures { result ≡ bytes.items }
+    {
+        Line { bytes }
+    }
+
     /// The bytes.
     pub fn as_bytes(&self) -> &[u8]
         ensures { result.now ≡ self.now }
@@ -58,6 +65,13 @@ impl Lines {
         ensures { result.now ≡ self.now }
     {
         &self.lines
+    }
+
+    /// The lines, to be owned one by one.
+    pub fn into_lines(self) -> Vec<Line>
+        ensures { result.items ≡ self }
+    {
+        self.lines
     }
 }
 

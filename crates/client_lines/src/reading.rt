@@ -3,9 +3,8 @@ ghost use Rattle.serde_json.specs.View.{view, items_view};
 ghost use Rattle.client_lines.specs.Requests.{has_members as members_are, id_of, text_at, put_of, remove_of, node_id_of, node_set_of, exclude_of, clear_of, state_of, ask_of, request_of};
 ghost use Rattle.client_lines.specs.Reading.{json_of, shaped, line_request, Reads, ReadsValue};
 
-use crate::fault::{LineError, LineFault};
-use crate::request::{Ask, Request};
-use crate::text::Text;
+use crate::fault::LineError;
+use cluster_state::{Ask, LineFault, Request, Text};
 use serde_json::Value;
 use std::alloc::Global;
 use voting_config::{NodeId, NodeSet};

@@ -56,7 +56,7 @@ fn letters(text: &str) -> NodeSet {
 }
 
 #[test]
-fn requests(rt: HostRuntime) -> Result<(), Fail> {
+fn each_request_is_read(rt: HostRuntime) -> Result<(), Fail> {
     for (line, want) in [
         (
             "{\"id\":1,\"put\":{\"key\":\"k\",\"value\":\"v\"}}",
@@ -108,7 +108,7 @@ fn requests(rt: HostRuntime) -> Result<(), Fail> {
 }
 
 #[test]
-fn no_json(rt: HostRuntime) -> Result<(), Fail> {
+fn a_line_that_is_no_json_is_refused(rt: HostRuntime) -> Result<(), Fail> {
     for line in [
         "",
         " ",
@@ -135,7 +135,7 @@ fn no_json(rt: HostRuntime) -> Result<(), Fail> {
 }
 
 #[test]
-fn bad_shapes(rt: HostRuntime) -> Result<(), Fail> {
+fn json_that_is_no_request_is_refused(rt: HostRuntime) -> Result<(), Fail> {
     for line in [
         "1",
         "null",
@@ -208,7 +208,7 @@ fn exclude_line(alloc: Global, count: u8) -> Result<String, AllocError> {
 }
 
 #[test]
-fn many_exclusions(rt: HostRuntime) -> Result<(), Fail> {
+fn a_33rd_id_to_exclude_is_refused(rt: HostRuntime) -> Result<(), Fail> {
     let line = exclude_line(rt.alloc(), 32)?;
     let request = read_line(rt.alloc(), line.as_bytes())?;
     assert!(rt; matches!(&request.ask, Ask::Exclude(ids) if ids.len() == 32));
@@ -230,7 +230,7 @@ fn nested(alloc: Global, depth: usize) -> Result<String, AllocError> {
 }
 
 #[test]
-fn nestings(rt: HostRuntime) -> Result<(), Fail> {
+fn json_nested_128_deep_is_refused(rt: HostRuntime) -> Result<(), Fail> {
     for (depth, want) in [(127, BAD_SHAPE), (128, NOT_JSON)] {
         let line = nested(rt.alloc(), depth)?;
         assert_eq!(rt; told(rt.alloc(), line.as_bytes())?.as_str(), want);
@@ -249,7 +249,7 @@ fn padded(alloc: Global, length: usize) -> Result<Vec<u8>, AllocError> {
 }
 
 #[test]
-fn long_lines(rt: HostRuntime) -> Result<(), Fail> {
+fn a_line_of_8193_bytes_is_too_long(rt: HostRuntime) -> Result<(), Fail> {
     for (length, kept, want) in [
         (8_192, 8_192, "1 state"),
         (8_193, 8_193, TOO_LONG),
@@ -268,9 +268,9 @@ fn long_lines(rt: HostRuntime) -> Result<(), Fail> {
 }
 
 // The lines, each with a semicolon behind it.
-fn joined(alloc: Global, lines: &Lines) -> Result<Vec<u8>, AllocError> {
+fn joined(alloc: Global, lines: Lines) -> Result<Vec<u8>, AllocError> {
     let mut text = Vec::new(alloc);
-    for line in lines.as_slice() {
+    for line in lines.into_lines() {
         text.extend_from_slice(line.as_bytes())?;
         text.push(b';')?;
     }
@@ -278,7 +278,7 @@ fn joined(alloc: Global, lines: &Lines) -> Result<Vec<u8>, AllocError> {
 }
 
 #[test]
-fn cut_lines(rt: HostRuntime) -> Result<(), Fail> {
+fn lines_are_the_same_however_the_bytes_are_cut(rt: HostRuntime) -> Result<(), Fail> {
     let mut reader = LineReader::new(rt.alloc());
     for (bytes, want) in [
         ("", ""),
@@ -290,7 +290,7 @@ fn cut_lines(rt: HostRuntime) -> Result<(), Fail> {
         ("\n\n", "h;;"),
     ] {
         let lines = reader.feed(bytes.as_bytes())?;
-        let text = joined(rt.alloc(), &lines)?;
+        let text = joined(rt.alloc(), lines)?;
         assert_eq!(rt; text.as_slice(), want.as_bytes());
     }
     law_cuts();
@@ -299,40 +299,15 @@ fn cut_lines(rt: HostRuntime) -> Result<(), Fail> {
 }
 
 #[test]
-fn bad_settings(rt: HostRuntime) -> Result<(), Fail> {
-    for (key, value, want) in [
-        (0, 0, Some(0)),
-        (1, 0, None),
-        (128, 1_024, None),
-        (129, 0, Some(129)),
-        (128, 1_025, Some(1_025)),
-        (129, 1_025, Some(129)),
-        (0, 1_025, Some(0)),
-    ] {
-        let ask = Ask::Put {
-            key: blanks(rt.alloc(), key)?,
-            value: blanks(rt.alloc(), value)?,
-        };
-        assert_eq!(rt; ask.bad_setting(), want, "of {key} and {value}");
-    }
-    let remove = Ask::Remove {
-        key: blanks(rt.alloc(), 129)?,
-    };
-    assert_eq!(rt; remove.bad_setting(), None);
+fn a_line_has_the_bytes_that_it_is_made_of(rt: HostRuntime) -> Result<(), Fail> {
+    let mut bytes = Vec::new(rt.alloc());
+    bytes.extend_from_slice(b"ab")?;
+    assert!(rt; Line::of(bytes).as_bytes() == b"ab".as_slice());
     Ok(())
 }
 
-// A text of so many bytes.
-fn blanks(alloc: Global, length: usize) -> Result<Text, AllocError> {
-    let mut text = String::new(alloc);
-    for _ in 0..length {
-        text.push_str(" ")?;
-    }
-    Ok(Text::of(text))
-}
-
 #[test]
-fn copies(rt: HostRuntime) -> Result<(), Fail> {
+fn a_copy_is_the_same_request(rt: HostRuntime) -> Result<(), Fail> {
     for (line, want) in [
         (
             "{\"id\":1,\"put\":{\"key\":\"k\",\"value\":\"v\"}}",
@@ -348,7 +323,7 @@ fn copies(rt: HostRuntime) -> Result<(), Fail> {
 }
 
 #[test]
-fn answers(rt: HostRuntime) -> Result<(), Fail> {
+fn each_answer_has_this_text(rt: HostRuntime) -> Result<(), Fail> {
     let state = StateId {
         term: 1,
         version: 2,
@@ -400,7 +375,7 @@ const STATE: &str =
     "{\"id\":0,\"state\":{\"committed\":[\"a\",\"b\"],\"config\":[\"a\",\"b\"],\"term\":0,\"value\":{\"exclusions\":[],\"master\":null,\"members\":[],\"settings\":{\"k\":\"\\n\"}},\"version\":0}}";
 
 #[test]
-fn a_state(rt: HostRuntime) -> Result<(), Fail> {
+fn an_answered_state_has_this_text(rt: HostRuntime) -> Result<(), Fail> {
     let mut state = ClusterState::initial(rt.alloc(), &letters("ba"));
     state.value.settings.put("k", "\n")?;
     let answer = Answer::State(state);
@@ -410,7 +385,7 @@ fn a_state(rt: HostRuntime) -> Result<(), Fail> {
 }
 
 #[test]
-fn bad_lines(rt: HostRuntime) -> Result<(), Fail> {
+fn each_fault_of_a_line_has_this_text(rt: HostRuntime) -> Result<(), Fail> {
     for (fault, want) in [
         (LineFault::TooLong, "{\"error\":\"too_long\"}"),
         (LineFault::NotJson, "{\"error\":\"not_json\"}"),

@@ -5,9 +5,7 @@ ghost use Rattle.serde_json.specs.Written.{has_float};
 ghost use Rattle.cluster_state.specs.Json.{ids_json, master_json, state_json};
 ghost use Rattle.client_lines.specs.Replies.{beside_id, number_json, state_id_json, answer_json, fault_name as name_of_fault, reply_json, reply_text, text_of};
 
-use crate::fault::LineFault;
-use crate::reply::{Answer, Reply};
-use cluster_state::{ClusterState, StateId, to_json};
+use cluster_state::{Answer, ClusterState, LineFault, Reply, StateId, to_json};
 use serde_json::{Map, Value, json};
 use std::alloc::{AllocError, Global};
 use voting_config::{NodeId, NodeSet};

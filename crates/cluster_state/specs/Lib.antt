@@ -8,3 +8,4 @@ pub mod Same
 pub mod Fields
 pub mod States
 pub mod Json
+pub mod Puts

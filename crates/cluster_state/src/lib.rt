@@ -1,4 +1,5 @@
-//! Cluster states, the messages about them, why an act refuses one, and states as bytes and as JSON.
+//! Cluster states, the messages about them, why an act refuses one, states as bytes and as JSON, and what clients ask
+//! for and are answered.
 #![tactic(auto)]
 
 pub mod causes;
@@ -8,8 +9,11 @@ pub mod fault;
 pub mod fields;
 pub mod json;
 pub mod messages;
+pub mod reply;
+pub mod request;
 pub mod settings;
 pub mod state;
+pub mod text;
 pub mod uniqueness;
 pub mod writing;
 
@@ -21,9 +25,12 @@ pub use encoding::encode_state;
 pub use fault::{DecodeError, FieldError, ReadError, StateFault};
 pub use fields::{MAX_EXCLUSIONS, MAX_SETTINGS, Reader};
 pub use json::{to_json, value_to_json};
-pub use messages::{ApplyCommit, Join, PublishRequest, PublishResponse, StartJoin};
+pub use messages::{ApplyCommit, Join, PublishRequest, PublishResponse};
+pub use reply::{Answer, LineFault, Reply};
+pub use request::{Ask, MAX_KEY, MAX_VALUE, Request};
 pub use settings::Settings;
 pub use state::{ClusterState, ClusterValue, Kept, LAST_NUMBER, StateId};
+pub use text::Text;
 
 #[cfg(test)]
 mod tests;

@@ -1,4 +1,4 @@
-ghost use Rattle.std.specs.Prelude.{◌≡◌, ℕ, ◌<◌, ◌≤◌, ◌^◌, Bool, false, true, ◌&&◌, ◌⊎◌, Option, length};
+ghost use Rattle.std.specs.Prelude.{◌≡◌, ℕ, ◌<◌, ◌≤◌, ◌^◌, Bool, false, true, ◌&&◌, ◌⊎◌, ◌↔◌, Option, Some, length};
 ghost use Rattle.voting_config.specs.Ids.{Id, has, is_quorum_of, most_ids};
 ghost use Rattle.zen_disk.specs.Moments.{LeavesOnly, Same};
 ghost use Rattle.world_model.specs.declared.acts.Act.TheVariants as act;
@@ -6,6 +6,7 @@ ghost use Rattle.world_model.specs.Acts.{NodeHistory};
 ghost use Rattle.world_model.specs.Replies.{reply_at};
 ghost use Rattle.cluster_state.specs.Initial.{initial_state};
 ghost use Rattle.cluster_state.specs.States.{IsFit};
+ghost use Rattle.cluster_state.specs.declared.state.Kept.{Kept as Record};
 ghost use Rattle.world_model.specs.NodeState.{opened};
 ghost use Rattle.coord_state.specs.Outcomes.{initial_outcome, start_outcome, join_outcome, value_outcome, publish_outcome, response_outcome, commit_outcome, HandsBack};
 ghost use Rattle.coord_state.specs.StandsFor.{Acts, StandsFor, fields_of};
@@ -83,14 +84,20 @@ impl<K: Keeper> CoordState<K> {
         self.me
     }
 
-    /// What the node keeps durably.
+    /// What the node keeps durably: a term of at most 2^62, and a state within the limits and of no greater term.
     pub fn kept(&self) -> &Kept
-        ensures { result.now ≡ K.record_of self.now.keeper }
+        ensures kept { result.now ≡ K.record_of self.now.keeper }
+        ensures bounded { (K.record_of self.now.keeper).term ≤ 2 ^ 62 }
+        ensures fit { IsFit (K.record_of self.now.keeper).accepted }
+        ensures older { (K.record_of self.now.keeper).accepted.term ≤ (K.record_of self.now.keeper).term }
+
+        // Between two calls a crash leaves this record and nothing else.
+        ensures durable { K.told → K.has_stopped self.now.keeper ≡ false → (found : Option Record) → (K.left_since self.now.keeper (K.moment self.now.keeper) found ↔ (found ≡ Some (K.record_of self.now.keeper))) }
     {
         self.keeper.kept()
     }
 
-    /// The node's term, which is at most 2^62.
+    /// The node's current term, which is at most 2^62.
     pub fn term(&self) -> u64
         ensures term { result ≡ (K.record_of self.now.keeper).term }
         ensures bounded { result ≤ 2 ^ 62 }
@@ -98,7 +105,7 @@ impl<K: Keeper> CoordState<K> {
         self.keeper.kept().term
     }
 
-    /// The node's accepted state, which is within the limits.
+    /// The state that the node accepted last, which is within the limits.
     pub fn accepted(&self) -> &ClusterState
         ensures accepted { result.now ≡ (K.record_of self.now.keeper).accepted }
         ensures fit { IsFit (K.record_of self.now.keeper).accepted }
@@ -106,7 +113,7 @@ impl<K: Keeper> CoordState<K> {
         &self.keeper.kept().accepted
     }
 
-    /// The committed configuration.
+    /// The configuration that the node knows to be committed.
     pub fn committed(&self) -> &VotingConfig
         ensures { result.now ≡ (K.record_of self.now.keeper).committed }
     {

@@ -5,7 +5,7 @@ use crate::{ActError, CoordState};
 use cluster_state::{
     ClusterState, ClusterValue, Join, PublishCause, PublishRequest, PublishResponse, ValueCause,
 };
-use state_journal::{PlainKeeper, Ready};
+use state_journal::{Keeper, PlainKeeper, Ready};
 use std::alloc::Global;
 use std::test::Fail;
 use voting_config::{NodeId, NodeSet, VotingConfig};
@@ -36,12 +36,12 @@ fn is_won_by(node: &mut CoordState<PlainKeeper>, join: &Join) -> bool {
     }
 }
 
-// How many nodes the configuration has that comes back with a refusal.
+// The configuration that comes back with a refusal.
 fn handed_back(
     answer: Result<PublishRequest, ActError<ValueCause, (VotingConfig, ClusterValue)>>,
-) -> Option<usize> {
+) -> Option<VotingConfig> {
     match answer {
-        Err(ActError::Refused(_, back)) => Some(back.0.members().len()),
+        Err(ActError::Refused(_, (config, _))) => Some(config),
         Err(ActError::Stopped(_)) => None,
         Err(ActError::Disk) => None,
         Ok(_) => None,
@@ -80,7 +80,7 @@ fn a_node_alone_wins_and_commits(rt: HostRuntime) -> Result<(), Fail> {
     let join = own_join(&mut node).ok_or("no join")?;
     assert!(rt; node.started() && !node.won());
     assert!(rt; is_won_by(&mut node, &join));
-    assert!(rt; node.won() && node.votes().len() == 1);
+    assert!(rt; node.won() && node.votes().as_slice() == only_a().as_slice());
     let config = VotingConfig::of(&only_a());
     let Ok(request) = node.client_value(1, config, ClusterValue::empty(alloc)) else {
         panic!(rt; "the value is refused");
@@ -96,7 +96,11 @@ fn a_node_alone_wins_and_commits(rt: HostRuntime) -> Result<(), Fail> {
         panic!(rt; "the state is refused");
     };
     commits(&mut node, &response);
-    assert!(rt; node.kept().committed.members().len() == 1);
+    let voters = VotingConfig::of(&only_a());
+    assert!(rt; node.kept().committed.is_same(&voters));
+    assert!(rt; node.term() == 1);
+    assert!(rt; node.accepted().version == 1);
+    assert!(rt; node.committed().is_same(&voters));
     Ok(())
 }
 
@@ -114,7 +118,7 @@ fn a_refused_value_is_handed_back(rt: HostRuntime) {
     let mut node = opened(alloc);
     let config = VotingConfig::of(&only_a());
     let back = handed_back(node.client_value(7, config, ClusterValue::empty(alloc)));
-    assert!(rt; back == Some(1));
-    assert!(rt; node.keeper().kept.term == 0);
-    assert!(rt; node.into_keeper().kept.term == 0);
+    assert!(rt; back.is_some_and(|back| back.is_same(&VotingConfig::of(&only_a()))));
+    assert!(rt; node.keeper().kept().term == 0);
+    assert!(rt; node.into_keeper().kept().term == 0);
 }

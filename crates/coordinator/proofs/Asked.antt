@@ -4,7 +4,7 @@ use Rattle.state_journal.specs.declared.keeper.Keeper.{Ghosts}
 use Rattle.std.specs.Prelude.{Option}
 use Rattle.cluster_state.specs.declared.state.Kept.{Kept}
 use Rattle.voting_config.specs.Ids.{Id}
-use Rattle.client_lines.specs.declared.request.Request.{Request}
+use Rattle.cluster_state.specs.declared.request.Request.{Request}
 use Rattle.master_tasks.specs.Queue.{Tasks, to_be_added, offered, arriving}
 use Rattle.master_tasks.specs.NextState.{leader_of}
 use Rattle.policy_model.specs.declared.settings.Settings.{Settings}

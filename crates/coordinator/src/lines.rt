@@ -1,9 +1,9 @@
 //! What a client's request comes to.
 ghost use Rattle.std.specs.Prelude.{◌≡◌, ◌≤◌, ◌+◌, [], ◌∷◌, true, false, Ok, None, IfOk, length};
-ghost use Rattle.client_lines.specs.declared.reply.Answer.TheVariants as answer;
-ghost use Rattle.client_lines.specs.declared.reply.Reply.TheVariants as reply;
+ghost use Rattle.cluster_state.specs.declared.reply.Answer.TheVariants as answer;
+ghost use Rattle.cluster_state.specs.declared.reply.Reply.TheVariants as reply;
 ghost use Rattle.client_lines.specs.Reading.{line_request};
-ghost use Rattle.client_lines.specs.Settings.{bad_setting_of};
+ghost use Rattle.cluster_state.specs.Puts.{bad_setting_of};
 ghost use Rattle.master_tasks.specs.Queue.{is_full_of};
 ghost use Rattle.master_tasks.specs.NextState.{leader_of as master_of};
 ghost use Rattle.policy_model.specs.Doing.{is_leader, leader_of};
@@ -15,7 +15,8 @@ ghost use Rattle.coordinator.specs.Views.{view_in, IsReady};
 use crate::coordinator::{Coordinator, EventError};
 use crate::output::Output;
 use crate::plan::Plan;
-use client_lines::{Answer, Line, LineError, Reply, Request, read_line};
+use client_lines::{Line, LineError, read_line};
+use cluster_state::{Answer, Reply, Request};
 use master_tasks::{MAX_OPEN, MasterTasks, Outgoing};
 use policy_model::Mode;
 use state_journal::Keeper;

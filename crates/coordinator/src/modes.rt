@@ -13,7 +13,6 @@ ghost use Rattle.coordinator.specs.Showing.{shown_in, showing};
 use crate::coordinator::{Coordinator, Struck};
 use crate::output::Output;
 use fault_checks::FollowerChecks;
-use master_tasks::MasterTasks;
 use policy_model::Mode;
 use state_journal::Keeper;
 use voting_config::NodeId;
@@ -50,7 +49,7 @@ impl<K: Keeper> Coordinator<K> {
         self.publication = None;
         self.followers = FollowerChecks::new();
         self.leader_check = None;
-        self.tasks = MasterTasks::new(out.alloc);
+        self.tasks.clear();
         out.turn(Mode::Candidate, self.core.term());
     }
 

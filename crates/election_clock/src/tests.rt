@@ -2,7 +2,7 @@ use super::*;
 use std::test::*;
 
 #[test]
-fn waits(rt: HostRuntime) {
+fn delays_grow_with_the_attempts_up_to_ten_seconds(rt: HostRuntime) {
     for (attempt, word, want) in [
         (0, 12345, 46),
         (3, 12345, 346),

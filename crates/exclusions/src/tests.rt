@@ -13,10 +13,10 @@ fn letters(text: &str) -> NodeSet {
 }
 
 #[test]
-fn adds(rt: HostRuntime) -> Result<(), Fail> {
+fn only_members_and_at_most_ten_nodes_are_excluded(rt: HostRuntime) -> Result<(), Fail> {
     for (excluded, members, asked, want) in [
-        ("", "abc", "c", "1 excluded"),
-        ("c", "abc", "bc", "2 excluded"),
+        ("", "abc", "c", "c"),
+        ("c", "abc", "bc", "bc"),
         (
             "abcdefghij",
             "k",
@@ -26,17 +26,21 @@ fn adds(rt: HostRuntime) -> Result<(), Fail> {
         ("", "abc", "xyz", "x is no member"),
         ("abcdefghij", "", "x", "x is no member"),
     ] {
-        let added = match add(&letters(excluded), &letters(members), &letters(asked)) {
-            Ok(ids) => format!(in rt.alloc(); "{} excluded", ids.len())?,
-            Err(error) => format!(in rt.alloc(); "{error}")?,
-        };
-        assert_eq!(rt; added.as_str(), want);
+        match add(&letters(excluded), &letters(members), &letters(asked)) {
+            Ok(ids) => assert!(rt; ids.as_slice() == letters(want).as_slice(), "{want}"),
+            Err(error) => {
+                let text = format!(in rt.alloc(); "{error}")?;
+                assert_eq!(rt; text.as_str(), want);
+            }
+        }
     }
     Ok(())
 }
 
 #[test]
-fn clears(rt: HostRuntime) -> Result<(), Fail> {
+fn a_clear_that_waits_is_refused_while_an_excluded_node_is_a_member(
+    rt: HostRuntime,
+) -> Result<(), Fail> {
     for (wait, want) in [
         (true, "c is excluded and still a member"),
         (false, "cleared"),
@@ -51,7 +55,7 @@ fn clears(rt: HostRuntime) -> Result<(), Fail> {
 }
 
 #[test]
-fn wins(rt: HostRuntime) -> Result<(), Fail> {
+fn an_excluded_node_wins_only_where_it_is_a_voter(rt: HostRuntime) -> Result<(), Fail> {
     let a = NodeId::parse("a").ok().ok_or("a letter is an id")?;
     let none = VotingConfig::of(&letters(""));
     let voters = VotingConfig::of(&letters("a"));

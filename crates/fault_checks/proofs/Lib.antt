@@ -1,4 +1,6 @@
 mod Ascending
+pub mod Examples
+pub mod Happened
 mod Refilled
 mod Sets
-mod Standing
+pub mod Standing

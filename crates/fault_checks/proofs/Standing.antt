@@ -52,7 +52,8 @@ ticked-each calls now (y ∷ ys) =
       | false ↦ others
     ]
 
-followers_of-Then : (calls : Calls) (call : Call) → followers_of (Then calls call) ≡ after (followers_of calls) call
+-- the look-backs over one more call are those of before, changed by this call
+pub followers_of-Then : (calls : Calls) (call : Call) → followers_of (Then calls call) ≡ after (followers_of calls) call
 followers_of-Then calls (Watched members now) =
     ap (λ (fs : List Follower). record (followers_of calls) { watched = fs }) (map-each _ _ members (watched-each calls members now))
 followers_of-Then calls (Finished state now) =

@@ -3,11 +3,13 @@
 
 pub mod checking;
 pub mod followers;
+pub mod laws;
 pub mod leader;
 pub mod spans;
 
 pub use checking::Check;
 pub use followers::{Behind, Checked, Follower, FollowerChecks};
+pub use laws::{law_asked, law_dropped, law_leader_lost};
 pub use leader::{LeaderCheck, LeaderTick};
 pub use spans::{CHECK_INTERVAL, CHECK_RETRY_COUNT, CHECK_TIMEOUT, FOLLOWER_LAG_TIMEOUT};
 

@@ -23,11 +23,10 @@ const MAX_FRAME: usize = MAX_BODY + 5;
 #[derive(Drop)]
 pub struct GateLog<D: Disk> {
     alloc: Global,
-    pub disk: D,
-    /// The offset of the closed gate.
-    pub gate: u64,
-    /// Whether a call answered `Disk`.
-    pub stopped: bool,
+    disk: D,
+    // the offset of the closed gate
+    gate: u64,
+    stopped: bool,
     ghost limit: { gate < 2 ^ 63 },
     ghost settled: { D.told → stopped ≡ false → IsSettled (D.seen disk) (D.may_leave disk) gate },
 }
@@ -203,6 +202,13 @@ impl<D: Disk> GateLog<D> {
         };
         self.gate += frame.len() as u64;
         Ok(())
+    }
+
+    /// Whether a call answered `Disk`. Every call is refused from then on.
+    pub fn stopped(&self) -> bool
+        ensures { result ≡ self.now.stopped }
+    {
+        self.stopped
     }
 
     /// Lends the disk.

@@ -4,3 +4,4 @@ pub mod Stepping
 pub mod Making
 pub mod Limits
 pub mod Sameness
+pub mod Counting

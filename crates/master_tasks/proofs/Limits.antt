@@ -18,13 +18,15 @@ use Rattle.cluster_state.specs.States.{IsFitValue}
 use Rattle.cluster_state.proofs.JsonLaws.{keys}
 use Rattle.cluster_state.proofs.Putting.{ascends_put, each_put, longer_by_one, same_length}
 use Rattle.cluster_state.proofs.Removing.{ascends_without}
-use Rattle.client_lines.specs.declared.request.Ask.{Ask}
-use Rattle.client_lines.specs.declared.request.Ask.TheVariants as ask
-use Rattle.client_lines.specs.declared.reply.Answer.TheVariants as answer
-use Rattle.client_lines.specs.Settings.{bad_setting_of}
-use Rattle.client_lines.proofs.Settings.{IsFitSetting-bad_length}
+use Rattle.cluster_state.specs.declared.request.Ask.{Ask}
+use Rattle.cluster_state.specs.declared.request.Ask.TheVariants as ask
+use Rattle.cluster_state.specs.declared.reply.Answer.{Answer}
+use Rattle.cluster_state.specs.declared.reply.Answer.TheVariants as answer
+use Rattle.cluster_state.specs.Puts.{bad_setting_of}
+use Rattle.cluster_state.proofs.Puts.{IsFitSetting-bad_length}
 use Rattle.master_tasks.specs.declared.waiting.Waiting.{Waiting}
-use Rattle.master_tasks.specs.Queue.{Tasks}
+use Rattle.master_tasks.specs.Queue.{Tasks, offered}
+use Rattle.master_tasks.specs.Answering.{left_by}
 use Rattle.master_tasks.specs.Processing.{Processing, AnsweredAtOnce, Makes, Processed, and_then, before_all, clearing, excluding, processing, processing_once, putting, value_after, with_next}
 use Rattle.master_tasks.specs.NextState.{Leader, is_nothing_new, next_value, processed_by, tasks_after, unacked, value_before}
 use Rattle.master_tasks.specs.Fitting.{HaveGoodSettings}
@@ -60,7 +62,7 @@ fits_put v s f good =
     ] refl
 
 -- a setting is removed
-each_filter : {A : Type 0} (P : A → Type 0) (q : A → Bool) (xs : List A) → AllByRecursion P xs → AllByRecursion P (filter q xs)
+pub each_filter : {A : Type 0} (P : A → Type 0) (q : A → Bool) (xs : List A) → AllByRecursion P xs → AllByRecursion P (filter q xs)
 each_filter P q [] h = h
 each_filter P q (x ∷ xs) h =
     elim (q x) as (λ b. AllByRecursion P (cond b (x ∷ filter q xs) (filter q xs))) [
@@ -141,7 +143,7 @@ fits_next l t fit up good =
     record { fit = record { exclusions = fit.exclusions; settings = fit.settings }; ascending = up } good).fit
 
 -- those who wait afterwards have good settings too
-each_append : {A : Type 0} (P : A → Type 0) (xs ys : List A) → AllByRecursion P xs → AllByRecursion P ys → AllByRecursion P (xs ++ ys)
+pub each_append : {A : Type 0} (P : A → Type 0) (xs ys : List A) → AllByRecursion P xs → AllByRecursion P ys → AllByRecursion P (xs ++ ys)
 each_append P [] ys h k = k
 each_append P (x ∷ xs) ys h k = (h.0, each_append P xs ys h.1 k)
 
@@ -149,7 +151,7 @@ good_then : (p : Processed) (w : Waiting) (step : Processing) → HaveGoodSettin
 good_then p w (AnsweredAtOnce a) h good = h
 good_then p w (Makes v) h good = each_append _ p.waiting (record w { processed = true } ∷ []) h (good, tt)
 
-good_all : (accepted : ClusterState) (p : Processed) (ws : List Waiting) → HaveGoodSettings p.waiting → HaveGoodSettings ws → HaveGoodSettings (fold (with_next accepted) p ws).waiting
+pub good_all : (accepted : ClusterState) (p : Processed) (ws : List Waiting) → HaveGoodSettings p.waiting → HaveGoodSettings ws → HaveGoodSettings (fold (with_next accepted) p ws).waiting
 good_all accepted p [] h good = h
 good_all accepted p (w ∷ ws) h good = good_all accepted (with_next accepted p w) ws (good_then p w (processing_once accepted p.value w) h good.0) good.1
 
@@ -161,3 +163,10 @@ good_after l t good =
       | true ↦ each_filter _ _ (processed_by l t).waiting all
       | false ↦ all
     ]
+
+-- so have those who wait on when others are answered, and those who wait when one more comes
+pub good_left : (decide : Waiting → Option Answer) (ws : List Waiting) → HaveGoodSettings ws → HaveGoodSettings (left_by decide ws)
+good_left decide ws good = each_filter _ _ ws good
+
+pub good_offered : (t : Tasks) (w : Waiting) → HaveGoodSettings t.waiting → bad_setting_of w.request.ask ≡ None → HaveGoodSettings (offered t w).waiting
+good_offered t w good fine = each_append _ t.waiting (w ∷ []) good (fine, tt)

@@ -4,7 +4,7 @@ use Rattle.std.specs.List.{remove}
 use Rattle.std.proofs.Math.ListN.{drop_of_length-le}
 use Rattle.std.proofs.Math.Seq.{take-append_seam, drop-append_seam}
 use Rattle.std.proofs.lemmas.List.{drop_more, take_more, append_assoc, append-nil, length-append, length-drop, length-take-le, take_all}
-use Rattle.client_lines.specs.declared.reply.Answer.{Answer}
+use Rattle.cluster_state.specs.declared.reply.Answer.{Answer}
 use Rattle.master_tasks.specs.declared.waiting.Waiting.{Waiting}
 use Rattle.master_tasks.specs.Replying.{Replies, with_sent, answer_to}
 use Rattle.master_tasks.specs.Answering.{answers_by, left_by}
@@ -13,12 +13,13 @@ use Rattle.master_tasks.specs.Answering.{answers_by, left_by}
 pub record Settles (decide : Waiting → Option Answer) (first now : List Waiting) (place : ℕ) (out_first out : Replies) : Type 0 where
   pub within : place ≤ length now
   pub enough : length now ≤ place + out.room
+  pub few : length now ≤ length first
   pub left : left_by decide first ≡ take place now ++ left_by decide (drop place now)
   pub answered : out_first.sent ++ answers_by decide first ≡ out.sent ++ answers_by decide (drop place now)
   pub room : out.room + length out.sent ≡ out_first.room + length out_first.sent
 
 pub settles-start : (decide : Waiting → Option Answer) (first : List Waiting) (out : Replies) → length first ≤ out.room → Settles decide first first 0 out out
-settles-start decide first out enough = record { within = omega arith; enough = omega arith; left = refl; answered = refl; room = refl }
+settles-start decide first out enough = record { within = omega arith; enough = omega arith; few = omega arith; left = refl; answered = refl; room = refl }
 
 -- the request at the place stays
 pub settles-none : (decide : Waiting → Option Answer) (first now : List Waiting) (place : ℕ) (o_first o : Replies) (w : Waiting) → Settles decide first now place o_first o → place < length now → w ≡ get_or now place w → decide w ≡ None
@@ -31,6 +32,7 @@ settles-none decide first now place o_first o w s h at none =
     record {
       within = omega (arith, h);
       enough = omega (arith, s.enough);
+      few = s.few;
       left = s.left ∙ rw (more, stays, taken) (sym (append_assoc (take place now) (w ∷ []) (left_by decide (drop (place + 1) now))));
       answered = s.answered ∙ rw (more, silent) refl;
       room = s.room;
@@ -51,6 +53,7 @@ settles-some decide first now place o_first o w a s h at some =
     record {
       within = omega (arith, shorter);
       enough = omega (arith, s.enough, shorter);
+      few = omega (arith, s.few, shorter);
       left = s.left ∙ rw (more, goes, kept, rest) refl;
       answered = s.answered ∙ rw (more, replied, rest) (sym (append_assoc o.sent (answer_to w a ∷ []) (answers_by decide (drop (suc place) now))));
       room = omega (arith, s.room, s.enough, longer);

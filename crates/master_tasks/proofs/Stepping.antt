@@ -4,7 +4,7 @@ use Rattle.std.proofs.lemmas.List.{length-append, take_all}
 use Rattle.std.proofs.lemmas.List.Sums.{fold_more}
 use Rattle.cluster_state.specs.declared.state.ClusterState.{ClusterState}
 use Rattle.cluster_state.specs.declared.state.ClusterValue.{ClusterValue}
-use Rattle.client_lines.specs.declared.reply.Answer.{Answer}
+use Rattle.cluster_state.specs.declared.reply.Answer.{Answer}
 use Rattle.master_tasks.specs.declared.waiting.Waiting.{Waiting}
 use Rattle.master_tasks.specs.Replying.{Replies, room_for, with_sent, answer_to}
 use Rattle.master_tasks.specs.Processing.{Processing, AnsweredAtOnce, Makes, Processed, and_then, answer_after, before_all, processed_all, processing_once, value_after, with_next}
@@ -70,6 +70,7 @@ pub record AllProcessed (accepted : ClusterState) (before : ClusterValue) (all :
   pub waiting_is : waiting ≡ (processed_all accepted before all).waiting
   pub replies_are : out ≡ with_sent (room_for (length all)) (processed_all accepted before all).answers
   pub fits : length waiting ≤ out.room
+  pub few : length waiting ≤ length all
 
 pub processes-end : (accepted : ClusterState) (before : ClusterValue) (all : List Waiting) (place : ℕ) (value : ClusterValue) (waiting : List Waiting) (out : Replies) → Processes accepted before all place value waiting out → length all ≤ place → place ≤ length all
     → AllProcessed accepted before all value waiting out
@@ -83,6 +84,7 @@ processes-end accepted before all place value waiting out p whole within =
       waiting_is = sym (ap (λ (q : Processed). q.waiting) done);
       replies_are = same_replies out (room_for (length all)) room ∙ ap (with_sent (room_for (length all))) answers;
       fits = omega (arith, p.room, p.count);
+      few = omega (arith, p.count, within);
     }
   where
     same_replies : (out first : Replies) → out.room ≡ first.room - length out.sent → out ≡ record { sent = out.sent; room = first.room - length out.sent }

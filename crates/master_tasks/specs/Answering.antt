@@ -5,10 +5,10 @@ use Rattle.std.specs.Option.{option_map}
 use Rattle.voting_config.specs.Ids.{Id, has}
 use Rattle.reconfigurator.specs.Targets.{among}
 use Rattle.cluster_state.specs.declared.state.StateId.{StateId}
-use Rattle.client_lines.specs.declared.request.Ask.{Ask}
-use Rattle.client_lines.specs.declared.request.Ask.TheVariants as ask
-use Rattle.client_lines.specs.declared.reply.Answer.{Answer}
-use Rattle.client_lines.specs.declared.reply.Answer.TheVariants as answer
+use Rattle.cluster_state.specs.declared.request.Ask.{Ask}
+use Rattle.cluster_state.specs.declared.request.Ask.TheVariants as ask
+use Rattle.cluster_state.specs.declared.reply.Answer.{Answer}
+use Rattle.cluster_state.specs.declared.reply.Answer.TheVariants as answer
 use Rattle.master_tasks.specs.declared.waiting.Waiting.{Waiting}
 use Rattle.master_tasks.specs.declared.waiting.Outgoing.{Outgoing}
 use Rattle.master_tasks.specs.Queue.{Tasks}

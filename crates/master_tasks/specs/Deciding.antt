@@ -1,6 +1,6 @@
 -- The answer that a request gets for each reason.
 use Rattle.std.specs.Prelude.{Option}
-use Rattle.client_lines.specs.declared.reply.Answer.{Answer}
+use Rattle.cluster_state.specs.declared.reply.Answer.{Answer}
 use Rattle.master_tasks.specs.declared.waiting.Waiting.{Waiting}
 use Rattle.master_tasks.specs.declared.answering.Decision.{Decision}
 use Rattle.master_tasks.specs.declared.answering.Decision.TheVariants as decision

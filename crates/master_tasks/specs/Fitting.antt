@@ -2,7 +2,7 @@
 use Rattle.std.specs.Prelude.{◌≡◌, None, List}
 use Rattle.std.specs.List.{AllByRecursion}
 use Rattle.cluster_state.specs.States.{IsFitValue}
-use Rattle.client_lines.specs.Settings.{bad_setting_of}
+use Rattle.cluster_state.specs.Puts.{bad_setting_of}
 use Rattle.master_tasks.specs.declared.waiting.Waiting.{Waiting}
 use Rattle.master_tasks.specs.declared.next.Next.{Next}
 use Rattle.master_tasks.specs.declared.next.Next.TheVariants.{Same, New}

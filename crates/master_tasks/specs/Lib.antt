@@ -7,3 +7,4 @@ pub mod Members
 pub mod Processing
 pub mod NextState
 pub mod Fitting
+pub mod Counts

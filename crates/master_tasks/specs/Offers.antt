@@ -1,5 +1,5 @@
 -- What a refused offer hands back.
-use Rattle.client_lines.specs.declared.request.Request.{Request}
+use Rattle.cluster_state.specs.declared.request.Request.{Request}
 use Rattle.master_tasks.specs.declared.tasks.OfferError.{OfferError}
 use Rattle.master_tasks.specs.declared.tasks.OfferError.TheVariants.{QueueFull, Memory}
 

@@ -9,10 +9,10 @@ use Rattle.exclusions.specs.declared.AddError.{AddError}
 use Rattle.exclusions.specs.declared.AddError.TheVariants.{NotMember, TooMany}
 use Rattle.exclusions.specs.declared.StillMember.{StillMember}
 use Rattle.exclusions.specs.Exclusions.{added_of, cleared_of}
-use Rattle.client_lines.specs.declared.request.Ask.{Ask}
-use Rattle.client_lines.specs.declared.request.Ask.TheVariants as ask
-use Rattle.client_lines.specs.declared.reply.Answer.{Answer}
-use Rattle.client_lines.specs.declared.reply.Answer.TheVariants as answer
+use Rattle.cluster_state.specs.declared.request.Ask.{Ask}
+use Rattle.cluster_state.specs.declared.request.Ask.TheVariants as ask
+use Rattle.cluster_state.specs.declared.reply.Answer.{Answer}
+use Rattle.cluster_state.specs.declared.reply.Answer.TheVariants as answer
 use Rattle.master_tasks.specs.declared.waiting.Waiting.{Waiting}
 use Rattle.master_tasks.specs.declared.waiting.Outgoing.{Outgoing}
 use Rattle.master_tasks.specs.Replying.{answer_to}

@@ -1,7 +1,7 @@
 -- What a leader has to do: the requests that are not answered yet, in order of arrival, and the members that are to go and to come.
 use Rattle.std.specs.Prelude.{ℕ, Bool, false, List, [], ◌∷◌, ◌++◌, length, remove, nat_le, nat_lt, if◌then◌else◌}
 use Rattle.voting_config.specs.Ids.{Id, most_ids, with_id}
-use Rattle.client_lines.specs.declared.request.Request.{Request}
+use Rattle.cluster_state.specs.declared.request.Request.{Request}
 use Rattle.master_tasks.specs.declared.waiting.Waiting.{Waiting}
 
 pub record Tasks : Type 0 where

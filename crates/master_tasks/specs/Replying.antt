@@ -1,7 +1,7 @@
 -- Replies, and the room that is left for more.
 use Rattle.std.specs.Prelude.{ℕ, ◌-◌, List, [], ◌++◌, length}
-use Rattle.client_lines.specs.declared.reply.Answer.{Answer}
-use Rattle.client_lines.specs.declared.reply.Reply.TheVariants as reply
+use Rattle.cluster_state.specs.declared.reply.Answer.{Answer}
+use Rattle.cluster_state.specs.declared.reply.Reply.TheVariants as reply
 use Rattle.master_tasks.specs.declared.waiting.Waiting.{Waiting}
 use Rattle.master_tasks.specs.declared.waiting.Outgoing.{Outgoing}
 

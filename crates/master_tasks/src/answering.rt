@@ -9,8 +9,7 @@ ghost use Rattle.master_tasks.specs.Deciding.{decided};
 
 use crate::sets::{among, some_among};
 use crate::waiting::Waiting;
-use client_lines::{Answer, Ask};
-use cluster_state::StateId;
+use cluster_state::{Answer, Ask, StateId};
 use voting_config::VotingConfig;
 
 /// How long an exclusion waits, in ms: 30 s, the default of `timeout` of the voting configuration exclusions API

@@ -13,7 +13,10 @@ pub mod tasks;
 pub mod waiting;
 
 pub use answering::EXCLUSION_SPAN;
-pub use laws::law_nothing_new;
+pub use laws::{
+    law_answered_or_left, law_left_are_good, law_next_answered_or_left, law_nothing_new,
+    law_offered_are_good,
+};
 pub use next::Next;
 pub use replies::Replies;
 pub use tasks::{MAX_OPEN, MasterTasks, OfferError};

@@ -3,8 +3,7 @@ ghost use Rattle.master_tasks.specs.Processing.{answer_after, clearing, excludin
 ghost use Rattle.exclusions.specs.Exclusions.{added_of, cleared_of};
 
 use crate::waiting::Waiting;
-use client_lines::{Answer, Ask, Text};
-use cluster_state::{ClusterState, ClusterValue, MAX_SETTINGS};
+use cluster_state::{Answer, Ask, ClusterState, ClusterValue, MAX_SETTINGS, Text};
 use exclusions::AddError;
 use std::alloc::AllocError;
 use voting_config::NodeSet;

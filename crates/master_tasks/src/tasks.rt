@@ -23,8 +23,7 @@ use crate::processing::process_once;
 use crate::replies::Replies;
 use crate::sets::{among, outside};
 use crate::waiting::Waiting;
-use client_lines::Request;
-use cluster_state::{ClusterState, ClusterValue, StateId};
+use cluster_state::{ClusterState, ClusterValue, Request, StateId};
 use reconfigurator::target;
 use std::alloc::{AllocError, Global};
 use std::marker::Model;
@@ -48,7 +47,12 @@ impl Model for MasterTasks {
 
     ghost Value = { Tasks };
 
+    ghost use Rattle.std.specs.Prelude.{◌≤◌, length};
+    ghost use Rattle.master_tasks.specs.Queue.{most_open};
+
     ghost view = { λ t. record { waiting = t.waiting.items; removals = t.removals; additions = t.additions } };
+
+    ghost invariant = { λ t. length t.waiting.items ≤ most_open };
 }
 
 /// Why a request was not taken. It is handed back.
@@ -91,9 +95,19 @@ impl MasterTasks {
         }
     }
 
-    /// How many requests are not answered yet.
+    /// Nothing is left to do: who waits is not answered, and nobody is to come or to go.
+    pub fn clear(&mut self)
+        ensures { self.new ≡ no_tasks }
+    {
+        self.waiting.clear();
+        self.removals = NodeSet::new();
+        self.additions = NodeSet::new();
+    }
+
+    /// How many requests are not answered yet: at most [`MAX_OPEN`].
     pub fn open_count(&self) -> usize
-        ensures { result ≡ length self.now.waiting }
+        ensures count { result ≡ length self.now.waiting }
+        ensures few { result ≤ MAX_OPEN }
     {
         self.waiting.len()
     }
@@ -237,6 +251,7 @@ impl MasterTasks {
         ensures waiting { IfOk result (λ p. p.waiting.items ≡ (processed_all accepted.now value self.now.waiting).waiting) }
         ensures replies { IfOk result (λ p. p.replies ≡ with_sent (room_for (length self.now.waiting)) (processed_all accepted.now value self.now.waiting).answers) }
         ensures fits { IfOk result (λ p. length p.waiting.items ≤ p.replies.room) }
+        ensures few { IfOk result (λ p. length p.waiting.items ≤ length self.now.waiting) }
     {
         let mut waiting = Vec::new(self.alloc);
         let mut replies = Replies::with_room(self.alloc, self.waiting.len())?;

@@ -1,9 +1,20 @@
 use crate::*;
-use client_lines::{Request, read_line, write_reply};
-use cluster_state::{ClusterState, ClusterValue, Settings, StateId, value_to_json};
+use cluster_state::{
+    Answer, Ask, ClusterState, ClusterValue, Reply, Request, Settings, StateId, Text, value_to_json,
+};
 use std::alloc::{AllocError, Global};
 use std::test::*;
 use voting_config::{NodeId, NodeSet, VotingConfig};
+
+// What a client wishes, as it stands in a table. Nodes are letters.
+#[derive(Clone, Copy)]
+enum Wish {
+    Put(&'static str, &'static str),
+    Remove(&'static str),
+    Exclude(&'static str),
+    Clear { wait: bool },
+    State,
+}
 
 fn id(text: &str) -> NodeId {
     NodeId::parse(text).unwrap_or_default()
@@ -24,13 +35,31 @@ fn config(text: &str) -> VotingConfig {
     VotingConfig::of(&letters(text))
 }
 
-fn request(alloc: Global, line: &str) -> Result<Request, Fail> {
-    Ok(read_line(alloc, line.as_bytes())?)
+fn text(alloc: Global, text: &str) -> Result<Text, AllocError> {
+    Ok(Text::of(String::from_str(alloc, text)?))
 }
 
-// Takes the request that the line is, which comes by connection 1 at a moment.
-fn take(alloc: Global, tasks: &mut MasterTasks, at: u64, line: &str) -> Result<(), Fail> {
-    let request = request(alloc, line)?;
+fn request(alloc: Global, id: u64, wish: Wish) -> Result<Request, AllocError> {
+    let ask = match wish {
+        Wish::Put(key, value) => Ask::Put {
+            key: text(alloc, key)?,
+            value: text(alloc, value)?,
+        },
+        Wish::Remove(key) => Ask::Remove {
+            key: text(alloc, key)?,
+        },
+        Wish::Exclude(nodes) => Ask::Exclude(letters(nodes)),
+        Wish::Clear { wait } => Ask::Clear {
+            wait_for_removal: wait,
+        },
+        Wish::State => Ask::State,
+    };
+    Ok(Request { id, ask })
+}
+
+// Takes a request of this id, which comes by connection 1 at a moment.
+fn take(alloc: Global, tasks: &mut MasterTasks, at: u64, id: u64, wish: Wish) -> Result<(), Fail> {
+    let request = request(alloc, id, wish)?;
     tasks.offer(1, at, request).ok().ok_or("taken")?;
     Ok(())
 }
@@ -58,16 +87,48 @@ fn state(
     })
 }
 
-// The replies as JSON, each after a space.
+// The replies in words, each after a comma: the id of the request, and its answer.
 fn write_replies(alloc: Global, text: &mut Vec<u8>, replies: &Replies) -> Result<(), AllocError> {
     for outgoing in replies.as_slice() {
-        text.push(b' ')?;
-        text.extend_from_slice(&write_reply(alloc, &outgoing.reply)?)?;
+        text.extend_from_slice(b", ")?;
+        text.extend_from_slice(told_reply(alloc, &outgoing.reply)?.as_bytes())?;
     }
     Ok(())
 }
 
-// What comes of tasks, as JSON: the new voters and value, or 'same', and the replies.
+fn told_reply(alloc: Global, reply: &Reply) -> Result<String, AllocError> {
+    match reply {
+        Reply::To { id, answer } => told_answer(alloc, *id, answer),
+        Reply::BadLine(fault) => format!(in alloc; "{fault}"),
+    }
+}
+
+fn told_answer(alloc: Global, id: u64, answer: &Answer) -> Result<String, AllocError> {
+    match answer {
+        Answer::Acked(state) => format!(in alloc; "{id} acked {}/{}", state.term, state.version),
+        Answer::State(state) => format!(in alloc; "{id} state {}/{}", state.term, state.version),
+        Answer::NotMaster(_) => format!(in alloc; "{id} not master"),
+        Answer::BadSetting(length) => format!(in alloc; "{id} bad setting {length}"),
+        Answer::QueueFull(count) => format!(in alloc; "{id} queue full {count}"),
+        Answer::TooManySettings(count) => format!(in alloc; "{id} too many settings {count}"),
+        Answer::NotMember(node) => format!(in alloc; "{id} not member {}", node.as_str()),
+        Answer::TooManyExclusions(count) => format!(in alloc; "{id} too many exclusions {count}"),
+        Answer::StillMember(node) => format!(in alloc; "{id} still member {}", node.as_str()),
+        Answer::FailedToCommit(term) => format!(in alloc; "{id} failed in {term}"),
+        Answer::ExclusionTimeout(nodes) => told_timeout(alloc, id, nodes),
+    }
+}
+
+fn told_timeout(alloc: Global, id: u64, nodes: &NodeSet) -> Result<String, AllocError> {
+    let mut text = format!(in alloc; "{id} timed out with")?;
+    for node in nodes.as_slice() {
+        text.push_str(" ")?;
+        text.push_str(node.as_str())?;
+    }
+    Ok(text)
+}
+
+// What comes of tasks: the new voters and value (as JSON), or 'same', and the replies.
 fn told(alloc: Global, next: &Next) -> Result<Vec<u8>, AllocError> {
     let mut text = Vec::new(alloc);
     match next {
@@ -117,13 +178,13 @@ fn refused(tasks: &mut MasterTasks, request: Request) -> Option<u64> {
 }
 
 #[test]
-fn queue(rt: HostRuntime) -> Result<(), Fail> {
+fn a_65th_request_is_refused(rt: HostRuntime) -> Result<(), Fail> {
     let mut tasks = MasterTasks::new(rt.alloc());
     for _ in 0..MAX_OPEN {
-        take(rt.alloc(), &mut tasks, 5, "{\"id\":7,\"state\":{}}")?;
+        take(rt.alloc(), &mut tasks, 5, 7, Wish::State)?;
     }
     assert!(rt; tasks.is_full());
-    let last = request(rt.alloc(), "{\"id\":9,\"state\":{}}")?;
+    let last = request(rt.alloc(), 9, Wish::State)?;
     assert_eq!(rt; refused(&mut tasks, last), Some(9));
     let copy = tasks.copy()?;
     assert_eq!(rt; copy.open_count(), MAX_OPEN);
@@ -133,103 +194,103 @@ fn queue(rt: HostRuntime) -> Result<(), Fail> {
     let settled = tasks.settle(63);
     assert_eq!(rt; settled.request.id, 7);
     assert!(rt; !tasks.is_full());
+    tasks.add_member(id("a"));
+    tasks.clear();
+    assert_eq!(rt; tasks.open_count(), 0);
     Ok(())
 }
 
-// What comes of requests, a line each.
-fn came(alloc: Global, voters: &str, exclusions: &str, lines: &str) -> Result<Vec<u8>, Fail> {
+// What comes of requests, of ids from 1 on.
+fn came(alloc: Global, voters: &str, exclusions: &str, wishes: &[Wish]) -> Result<Vec<u8>, Fail> {
     let mut tasks = MasterTasks::new(alloc);
-    for line in lines.lines() {
-        take(alloc, &mut tasks, 0, line)?;
+    let mut id = 0;
+    for wish in wishes {
+        id += 1;
+        take(alloc, &mut tasks, 0, id, *wish)?;
     }
     let accepted = state(alloc, voters, "abc", exclusions)?;
     Ok(next(alloc, &mut tasks, 1, &accepted)?)
 }
 
 #[test]
-fn requests(rt: HostRuntime) -> Result<(), Fail> {
-    for (voters, exclusions, lines, want) in [
+fn requests_make_this_state_or_get_this_answer(rt: HostRuntime) -> Result<(), Fail> {
+    for (voters, exclusions, wishes, want) in [
+        ("abc", "", [Wish::State].as_slice(), "same, 1 state 1/1"),
         (
             "abc",
             "",
-            "{\"id\":1,\"state\":{}}",
-            "same {\"id\":1,\"state\":{\"committed\":[\"a\",\"b\",\"c\"],\"config\":[\"a\",\"b\",\"c\"],\"term\":1,\"value\":{\"exclusions\":[],\"master\":\"a\",\"members\":[\"a\",\"b\",\"c\"],\"settings\":{\"v\":\"x\"}},\"version\":1}}",
+            [Wish::Put("v", "x")].as_slice(),
+            "same, 1 acked 1/1",
         ),
         (
             "abc",
             "",
-            "{\"id\":1,\"put\":{\"key\":\"v\",\"value\":\"x\"}}",
-            "same {\"acked\":{\"term\":1,\"version\":1},\"id\":1}",
-        ),
-        (
-            "abc",
-            "",
-            "{\"id\":1,\"put\":{\"key\":\"w\",\"value\":\"1\"}}\n{\"id\":2,\"put\":{\"key\":\"w\",\"value\":\"2\"}}",
+            [Wish::Put("w", "1"), Wish::Put("w", "2")].as_slice(),
             "abc {\"exclusions\":[],\"master\":\"a\",\"members\":[\"a\",\"b\",\"c\"],\"settings\":{\"v\":\"x\",\"w\":\"2\"}}",
         ),
         (
             "abc",
             "",
-            "{\"id\":1,\"remove\":{\"key\":\"w\"}}",
-            "same {\"acked\":{\"term\":1,\"version\":1},\"id\":1}",
+            [Wish::Remove("w")].as_slice(),
+            "same, 1 acked 1/1",
         ),
         (
             "abc",
             "",
-            "{\"id\":1,\"remove\":{\"key\":\"v\"}}",
+            [Wish::Remove("v")].as_slice(),
             "abc {\"exclusions\":[],\"master\":\"a\",\"members\":[\"a\",\"b\",\"c\"],\"settings\":{}}",
         ),
         (
             "abc",
             "",
-            "{\"id\":1,\"exclude\":[\"x\"]}",
-            "same {\"id\":1,\"not_member\":\"x\"}",
+            [Wish::Exclude("x")].as_slice(),
+            "same, 1 not member x",
         ),
         (
             "abc",
             "defghijklm",
-            "{\"id\":1,\"exclude\":[\"c\"]}",
-            "same {\"id\":1,\"too_many_exclusions\":11}",
+            [Wish::Exclude("c")].as_slice(),
+            "same, 1 too many exclusions 11",
         ),
         (
             "abc",
             "",
-            "{\"id\":1,\"exclude\":[\"c\"]}",
+            [Wish::Exclude("c")].as_slice(),
             "ab {\"exclusions\":[\"c\"],\"master\":\"a\",\"members\":[\"a\",\"b\",\"c\"],\"settings\":{\"v\":\"x\"}}",
         ),
         (
             "a",
             "c",
-            "{\"id\":1,\"exclude\":[\"c\"]}",
-            "same {\"acked\":{\"term\":1,\"version\":1},\"id\":1}",
+            [Wish::Exclude("c")].as_slice(),
+            "same, 1 acked 1/1",
         ),
         (
             "a",
             "c",
-            "{\"id\":1,\"clear\":{}}",
-            "same {\"id\":1,\"still_member\":\"c\"}",
+            [Wish::Clear { wait: true }].as_slice(),
+            "same, 1 still member c",
         ),
         (
             "a",
             "c",
-            "{\"id\":1,\"clear\":{\"wait_for_removal\":false}}",
+            [Wish::Clear { wait: false }].as_slice(),
             "abc {\"exclusions\":[],\"master\":\"a\",\"members\":[\"a\",\"b\",\"c\"],\"settings\":{\"v\":\"x\"}}",
         ),
         (
             "ab",
             "",
-            "",
+            [].as_slice(),
             "abc {\"exclusions\":[],\"master\":\"a\",\"members\":[\"a\",\"b\",\"c\"],\"settings\":{\"v\":\"x\"}}",
         ),
     ] {
-        let text = came(rt.alloc(), voters, exclusions, lines)?;
-        assert_eq!(rt; text.as_slice(), want.as_bytes(), "{lines}");
+        let text = came(rt.alloc(), voters, exclusions, wishes)?;
+        assert_eq!(rt; text.as_slice(), want.as_bytes());
     }
     Ok(())
 }
 
 #[test]
-fn an_older_term(rt: HostRuntime) -> Result<(), Fail> {
+fn an_accepted_state_of_an_older_term_is_published_anew(rt: HostRuntime) -> Result<(), Fail> {
     let mut tasks = MasterTasks::new(rt.alloc());
     let accepted = state(rt.alloc(), "abc", "abc", "")?;
     let text = next(rt.alloc(), &mut tasks, 2, &accepted)?;
@@ -240,24 +301,18 @@ fn an_older_term(rt: HostRuntime) -> Result<(), Fail> {
 }
 
 #[test]
-fn many_settings(rt: HostRuntime) -> Result<(), Fail> {
+fn a_1025th_setting_is_refused(rt: HostRuntime) -> Result<(), Fail> {
     let mut accepted = state(rt.alloc(), "abc", "abc", "")?;
     for number in 1..1024u64 {
         let key = format!(in rt.alloc(); "{number}")?;
         accepted.value.settings.put(key.as_str(), "")?;
     }
-    for (line, want) in [
-        (
-            "{\"id\":1,\"put\":{\"key\":\"w\",\"value\":\"\"}}",
-            "same {\"id\":1,\"too_many_settings\":1025}",
-        ),
-        (
-            "{\"id\":1,\"put\":{\"key\":\"v\",\"value\":\"x\"}}",
-            "same {\"acked\":{\"term\":1,\"version\":1},\"id\":1}",
-        ),
+    for (wish, want) in [
+        (Wish::Put("w", ""), "same, 1 too many settings 1025"),
+        (Wish::Put("v", "x"), "same, 1 acked 1/1"),
     ] {
         let mut tasks = MasterTasks::new(rt.alloc());
-        take(rt.alloc(), &mut tasks, 0, line)?;
+        take(rt.alloc(), &mut tasks, 0, 1, wish)?;
         let text = next(rt.alloc(), &mut tasks, 1, &accepted)?;
         assert_eq!(rt; text.as_slice(), want.as_bytes());
     }
@@ -291,7 +346,7 @@ fn changed(alloc: Global, members: &str, removals: &str, additions: &str) -> Res
 }
 
 #[test]
-fn members(rt: HostRuntime) -> Result<(), Fail> {
+fn members_leave_and_join_up_to_32(rt: HostRuntime) -> Result<(), Fail> {
     let all = "bcdefghijklmnopqrstuvwxyz0123456";
     let others = "acdefghijklmnopqrstuvwxyz0123456";
     for (members, removals, additions, want) in [
@@ -313,7 +368,7 @@ fn members(rt: HostRuntime) -> Result<(), Fail> {
 }
 
 #[test]
-fn a_33rd_member(rt: HostRuntime) -> Result<(), Fail> {
+fn a_33rd_member_is_left_out(rt: HostRuntime) -> Result<(), Fail> {
     let mut tasks = MasterTasks::new(rt.alloc());
     for id in letters("bcdefghijklmnopqrstuvwxyz0123456").as_slice() {
         tasks.add_member(*id);
@@ -329,20 +384,16 @@ fn a_33rd_member(rt: HostRuntime) -> Result<(), Fail> {
 // Three requests, of which the first two are processed.
 fn three(alloc: Global) -> Result<MasterTasks, Fail> {
     let mut tasks = MasterTasks::new(alloc);
-    for line in [
-        "{\"id\":1,\"put\":{\"key\":\"w\",\"value\":\"1\"}}",
-        "{\"id\":2,\"exclude\":[\"b\"]}",
-    ] {
-        take(alloc, &mut tasks, 0, line)?;
-    }
+    take(alloc, &mut tasks, 0, 1, Wish::Put("w", "1"))?;
+    take(alloc, &mut tasks, 0, 2, Wish::Exclude("b"))?;
     let accepted = state(alloc, "abc", "abc", "")?;
     let _ = next(alloc, &mut tasks, 1, &accepted)?;
-    take(alloc, &mut tasks, 1, "{\"id\":3,\"exclude\":[\"x\"]}")?;
+    take(alloc, &mut tasks, 1, 3, Wish::Exclude("x"))?;
     Ok(tasks)
 }
 
 #[test]
-fn answers(rt: HostRuntime) -> Result<(), Fail> {
+fn each_occasion_answers_its_requests(rt: HostRuntime) -> Result<(), Fail> {
     let id = StateId {
         term: 1,
         version: 2,
@@ -374,7 +425,16 @@ fn answers(rt: HostRuntime) -> Result<(), Fail> {
     let mut text = Vec::new(rt.alloc());
     write_replies(rt.alloc(), &mut text, &all)?;
     let want =
-        " {\"failed_to_commit\":4,\"id\":1} {\"failed_to_commit\":4,\"id\":2} {\"failed_to_commit\":4,\"id\":3} {\"acked\":{\"term\":1,\"version\":2},\"id\":1} {\"acked\":{\"term\":1,\"version\":2},\"id\":2} {\"exclusion_timeout\":[],\"id\":3} {\"exclusion_timeout\":[\"b\"],\"id\":2}";
+        ", 1 failed in 4, 2 failed in 4, 3 failed in 4, 1 acked 1/2, 2 acked 1/2, 3 timed out with, 2 timed out with b";
     assert_eq!(rt; text.as_slice(), want.as_bytes());
     Ok(())
+}
+
+#[test]
+fn laws() {
+    law_nothing_new();
+    law_answered_or_left();
+    law_next_answered_or_left();
+    law_left_are_good();
+    law_offered_are_good();
 }

@@ -1,8 +1,8 @@
 ghost use Rattle.std.specs.Prelude.{◌≡◌, IfOk, true};
-ghost use Rattle.client_lines.specs.declared.reply.Answer.{Answer as AnswerOf};
+ghost use Rattle.cluster_state.specs.declared.reply.Answer.{Answer as AnswerOf};
 ghost use Rattle.master_tasks.specs.Replying.{answer_to};
 
-use client_lines::{Answer, Reply, Request};
+use cluster_state::{Answer, Reply, Request};
 use std::alloc::AllocError;
 
 /// A request that is not answered yet.

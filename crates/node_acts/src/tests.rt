@@ -26,6 +26,17 @@ fn only_a() -> NodeSet {
     ids
 }
 
+// The ids that are the letters of a text.
+fn letters(text: &str) -> NodeSet {
+    let mut ids = NodeSet::new();
+    for letter in text.as_bytes() {
+        if let Some(id) = NodeId::from_bytes(&[*letter]) {
+            let _ = ids.insert(id);
+        }
+    }
+    ids
+}
+
 // A join of this node for a, in term 1.
 fn join_of(source: NodeId) -> Join {
     Join {
@@ -37,14 +48,14 @@ fn join_of(source: NodeId) -> Join {
     }
 }
 
-// The state of version 1 of term 1, with the empty value.
-fn published(alloc: Global) -> ClusterState
+// The state of version 1 of term 1, with these voters and the empty value.
+fn published(alloc: Global, voters: &NodeSet) -> ClusterState
     ensures { IsFit result }
 {
     ClusterState {
         term: 1,
         version: 1,
-        config: VotingConfig::of(&only_a()),
+        config: VotingConfig::of(voters),
         committed: VotingConfig::of(&only_a()),
         value: ClusterValue::empty(alloc),
     }
@@ -73,7 +84,7 @@ fn own_commit() -> ApplyCommit {
 
 // What a node alone is asked for until its first value is committed.
 fn alone(alloc: Global) -> Result<Vec<Request>, Fail> {
-    let Ok(state) = Ready::new(alloc, published(alloc)) else {
+    let Ok(state) = Ready::new(alloc, published(alloc, &only_a())) else {
         return Err(Fail::new("no memory"));
     };
     let boot = InitialState::new(alloc, &only_a())?;
@@ -136,15 +147,21 @@ fn cause(did: &Did) -> Option<Cause> {
     }
 }
 
-// The term, the accepted id, and how many voters are accepted and committed.
-fn shown(kept: &Kept) -> [u64; 5] {
-    [
-        kept.term,
-        kept.accepted.term,
-        kept.accepted.version,
-        kept.accepted.config.members().len() as u64,
-        kept.committed.members().len() as u64,
-    ]
+// A record: the term, the accepted state's term and version, and the letters of its configuration and of the committed one.
+type Record = (u64, u64, u64, &'static str, &'static str);
+
+fn is_record(kept: &Kept, record: &Record) -> bool {
+    let (term, accepted_term, version, config, committed) = *record;
+    kept.term == term
+        && kept.accepted.term == accepted_term
+        && kept.accepted.version == version
+        && kept
+            .accepted
+            .config
+            .is_same(&VotingConfig::of(&letters(config)))
+        && kept
+            .committed
+            .is_same(&VotingConfig::of(&letters(committed)))
 }
 
 #[test]
@@ -160,44 +177,81 @@ fn a_node_alone_commits_its_first_value(rt: HostRuntime) -> Result<(), Fail> {
         assert!(rt; sends(did) == name);
     }
     assert!(rt; node.won());
-    assert!(rt; shown(node.kept()) == [1, 1, 1, 1, 1]);
+    assert!(rt; is_record(node.kept(), &(1, 1, 1, "a", "a")));
     Ok(())
 }
 
-// The node's first requests, with a stop of its disk inside this device call.
+// What node a is asked for until it has changed the voters from a to a and b, and that is committed.
+fn changing(alloc: Global) -> Result<Vec<Request>, Fail> {
+    let both = letters("ab");
+    let Ok(state) = Ready::new(alloc, published(alloc, &both)) else {
+        return Err(Fail::new("no memory"));
+    };
+    let boot = InitialState::new(alloc, &only_a())?;
+    let b = NodeId::parse("b").unwrap_or_default();
+    let others = PublishResponse {
+        source: b,
+        target: a(),
+        term: 1,
+        version: 1,
+    };
+    let requests = vec![in alloc;
+        Request::SetInitial(boot),
+        Request::StartJoin(a(), 1),
+        Request::TakeJoin(join_of(a())),
+        Request::TakeJoin(join_of(b)),
+        Request::ClientValue(1, VotingConfig::of(&both), ClusterValue::empty(alloc)),
+        Request::Publish(a(), state),
+        Request::Respond(own_response()),
+        Request::Respond(others),
+        Request::Commit(own_commit()),
+    ]?;
+    Ok(requests)
+}
+
+// The record that is left where the disk stops inside this device call of these requests.
 fn stops_in(
     rt: &impl Abort,
     alloc: Global,
     call: u64,
     way: Way,
     done: usize,
-    records: &[[u64; 5]],
+    record: &Record,
 ) -> Result<(), Fail> {
     let mut node = opened(alloc, MemDisk::new(alloc, Vec::new(alloc), Vec::new(alloc)))?;
     node.arm(Order::Stop(call, way));
-    let dids = run(alloc, &mut node, alone(alloc)?)?;
+    let dids = run(alloc, &mut node, changing(alloc)?)?;
     assert!(rt; dids.len() == done);
     assert!(rt; dids.as_slice().last().is_some_and(|did| did.is_disk()));
     let disk = node.into_keeper().into_disk().into_disk();
     let again = opened(alloc, disk)?;
-    let found = shown(again.kept());
-    assert!(rt; records.iter().any(|record| *record == found));
+    assert!(rt; is_record(again.kept(), record), "call {call}");
     Ok(())
 }
 
+// A write places a body, syncs, opens its gate and syncs. Whether it is kept where the disk stops inside one of these four calls.
+fn is_kept(call: u64, way: Way) -> bool {
+    match call {
+        3 => way == Way::Kept || way == Way::Torn(1),
+        4 => way != Way::Lost && way != Way::Torn(0),
+        _ => false,
+    }
+}
+
 #[test]
-fn a_stop_leaves_one_of_the_two_records(rt: HostRuntime) -> Result<(), Fail> {
+fn a_stop_leaves_the_record_of_its_device_call(rt: HostRuntime) -> Result<(), Fail> {
     let alloc = rt.alloc();
-    let writes: [(u64, usize, [[u64; 5]; 2]); 4] = [
-        (0, 1, [[0, 0, 0, 0, 0], [0, 0, 0, 1, 1]]),
-        (4, 2, [[0, 0, 0, 1, 1], [1, 0, 0, 1, 1]]),
-        (8, 5, [[1, 0, 0, 1, 1], [1, 1, 1, 1, 1]]),
-        (12, 7, [[1, 1, 1, 1, 1], [1, 1, 1, 1, 1]]),
+    let writes: [(u64, usize, Record, Record); 4] = [
+        (0, 1, (0, 0, 0, "", ""), (0, 0, 0, "a", "a")),
+        (4, 2, (0, 0, 0, "a", "a"), (1, 0, 0, "a", "a")),
+        (8, 6, (1, 0, 0, "a", "a"), (1, 1, 1, "ab", "a")),
+        (12, 9, (1, 1, 1, "ab", "a"), (1, 1, 1, "ab", "ab")),
     ];
-    for (before, done, records) in writes {
+    for (before, done, old, new) in writes {
         for call in 1..5 {
             for way in [Way::Lost, Way::Kept, Way::Torn(1), Way::Torn(0)] {
-                stops_in(&rt, alloc, before + call, way, done, &records)?;
+                let left = if is_kept(call, way) { &new } else { &old };
+                stops_in(&rt, alloc, before + call, way, done, left)?;
             }
         }
     }

@@ -1,3 +1,3 @@
-mod Members
+pub mod Members
 mod Refilled
 mod Sets

@@ -10,7 +10,7 @@ fn numbered(number: u8) -> NodeId {
 }
 
 #[test]
-fn thirty_two_peers(rt: HostRuntime) {
+fn a_32nd_peer_is_left_out(rt: HostRuntime) {
     let mut finder = PeerFinder::new(id("a"));
     finder.add(id("a"));
     for number in 1..33 {
@@ -33,25 +33,26 @@ fn thirty_two_peers(rt: HostRuntime) {
 }
 
 #[test]
-fn answers(rt: HostRuntime) {
+fn known_peers_are_asked_each_second(rt: HostRuntime) {
     let mut finder = PeerFinder::new(id("a"));
     finder.add(id("c"));
     finder.add(id("b"));
-    assert_eq!(rt; finder.tick(0).len(), 2);
+    let both = [id("b"), id("c")];
+    assert!(rt; finder.tick(0).as_slice() == both.as_slice());
     finder.asked(5);
-    assert_eq!(rt; finder.tick(1_004).len(), 0);
-    assert_eq!(rt; finder.tick(1_005).len(), 2);
+    assert!(rt; finder.tick(1_004).len() == 0);
+    assert!(rt; !finder.is_due(1_004) && finder.is_due(1_005));
+    assert!(rt; finder.tick(1_005).as_slice() == both.as_slice());
     finder.answered(id("b"), None);
     finder.answered(id("c"), Some(id("b")));
     finder.answered(id("d"), None);
     assert!(rt; matches!(finder.found(id("b")), Some(Found { master: None })));
     assert!(rt; matches!(finder.found(id("c")), Some(Found { master: Some(_) })));
     assert!(rt; finder.found(id("d")).is_none());
-    assert_eq!(rt; finder.known_set().len(), 2);
-    assert_eq!(rt; finder.answered_set().len(), 2);
-    assert!(rt; finder.free_set().contains(id("b")));
-    assert_eq!(rt; finder.free_set().len(), 1);
+    assert!(rt; finder.known_set().as_slice() == both.as_slice());
+    assert!(rt; finder.answered_set().as_slice() == both.as_slice());
+    assert!(rt; finder.free_set().as_slice() == [id("b")].as_slice());
     finder.forget_answers(100);
     assert!(rt; finder.found(id("b")).is_none());
-    assert_eq!(rt; finder.tick(100).len(), 2);
+    assert!(rt; finder.tick(100).as_slice() == both.as_slice());
 }

@@ -10,8 +10,8 @@ use Rattle.cluster_state.specs.declared.state.StateId.{StateId}
 use Rattle.wire_frames.specs.declared.frame.Frame.{Frame}
 use Rattle.wire_frames.specs.declared.frame.Message.{Message}
 use Rattle.wire_frames.specs.declared.frame.Message.TheVariants as message
-use Rattle.client_lines.specs.declared.fault.LineFault.{LineFault}
-use Rattle.client_lines.specs.declared.request.Request.{Request}
+use Rattle.cluster_state.specs.declared.reply.LineFault.{LineFault}
+use Rattle.cluster_state.specs.declared.request.Request.{Request}
 use Rattle.client_lines.specs.Reading.{line_request}
 use Rattle.pre_vote.specs.declared.rounds.Added.{Added}
 use Rattle.pre_vote.specs.declared.rounds.Added.TheVariants.{Counted, Fresher, Quorum}

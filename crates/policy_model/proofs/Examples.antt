@@ -8,10 +8,10 @@ use Rattle.cluster_state.specs.declared.state.StateId.{StateId}
 use Rattle.wire_frames.specs.declared.frame.Frame.{Frame}
 use Rattle.wire_frames.specs.declared.frame.Message.{Message}
 use Rattle.wire_frames.specs.declared.frame.Message.TheVariants as message
-use Rattle.client_lines.specs.declared.request.Ask.TheVariants as ask
-use Rattle.client_lines.specs.declared.request.Request.{Request}
-use Rattle.client_lines.specs.declared.reply.Answer.TheVariants as answer
-use Rattle.client_lines.specs.declared.reply.Reply.TheVariants as reply
+use Rattle.cluster_state.specs.declared.request.Ask.TheVariants as ask
+use Rattle.cluster_state.specs.declared.request.Request.{Request}
+use Rattle.cluster_state.specs.declared.reply.Answer.TheVariants as answer
+use Rattle.cluster_state.specs.declared.reply.Reply.TheVariants as reply
 use Rattle.master_tasks.specs.declared.waiting.Waiting.{Waiting}
 use Rattle.master_tasks.specs.Queue.{no_tasks, is_full_of}
 use Rattle.master_tasks.specs.NextState.{processed_by, next_value, config_for, next_config, is_accepted, is_nothing_new, next_answers, tasks_after}

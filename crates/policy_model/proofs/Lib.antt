@@ -2,4 +2,13 @@ pub mod Sweeps
 pub mod Answering
 pub mod Locals
 pub mod Standing
+pub mod Fits
+pub mod Shortness
+pub mod Spending
 pub mod Examples
+pub mod PartLookBacks
+pub mod Determined
+pub mod Settled
+pub mod Served
+pub mod Queuing
+pub mod Cases

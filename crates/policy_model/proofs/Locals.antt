@@ -13,7 +13,7 @@ use Rattle.world_model.specs.Steps.{is_opening}
 use Rattle.world_model.specs.Histories.{IsLocal, ContinuesUnlessFirst, is_down}
 use Rattle.policy_model.specs.declared.settings.Settings.{Settings}
 use Rattle.policy_model.specs.Events.{Event, Item, Log, Opens, Begins, Acts, Turns, Drops, Sends, Replies, Notes, And, added, acts_of}
-use Rattle.policy_model.specs.Entries.{Life, NotBegun, Opened, Lived, Did, Gone, Bad, NoMemory, log_of}
+use Rattle.policy_model.specs.Entries.{Life, NotBegun, Opened, Lived, Did, Gone, Bad, NoMemory, Unread, log_of}
 use Rattle.policy_model.specs.Views.{View, view_of}
 use Rattle.policy_model.specs.Moves.{moved, view_of-And}
 use Rattle.policy_model.specs.Local.{IsAnswered, ByAct, ByQuiet, Ended, is_quiet}
@@ -133,7 +133,7 @@ struck_local s l v is left h a (Later (Notes note) rest left' q) f =
     struck_local s (And l (Notes note)) (moved s v (Notes note)) rest left' (ap (λ (u : View). moved s u (Notes note)) h ∙ sym (view_of-And s l (Notes note) refl)) a q
     (record { local = f.local; up = f.up })
 
-fault_later : (i : Item) (left : List Item) → has_fault left ≡ true → has_fault (without_output i ++ left) ≡ true
+pub fault_later : (i : Item) (left : List Item) → has_fault left ≡ true → has_fault (without_output i ++ left) ≡ true
 fault_later (Opens found) left h = h
 fault_later (Begins event) left h = h
 fault_later (Acts act o) left h = rw h (or-true (is_fault o))
@@ -143,7 +143,7 @@ fault_later (Sends frame) left h = h
 fault_later (Replies answer) left h = h
 fault_later (Notes note) left h = h
 
-struck_fault : (is left : List Item) → IsStruck is left → has_fault left ≡ true
+pub struck_fault : (is left : List Item) → IsStruck is left → has_fault left ≡ true
 struck_fault is left (Here act sends wins rest o w e) = rw e refl
 struck_fault is left (Later i rest left' q) = fault_later i left' (struck_fault rest left' q)
 
@@ -176,8 +176,9 @@ lived s (Opened life found) f =
     record { local = (before.local, record { follows = refl; up = λ h. refl }, f.1); up = λ u. refl }
 lived s (Lived life (Did e is)) f = lived_event s life e is (lived s life f.0) f.1
 lived s (Lived life (Gone conn)) f = let before = lived s life f.0 in record { local = before.local; up = before.up }
-lived s (Lived life (Bad conn)) f = let before = lived s life f.0 in record { local = before.local; up = before.up }
+lived s (Lived life (Bad conn fault)) f = let before = lived s life f.0 in record { local = before.local; up = before.up }
 lived s (Lived life NoMemory) f = let before = lived s life f.0 in record { local = before.local; up = before.up }
+lived s (Lived life (Unread conn)) f = let before = lived s life f.0 in record { local = before.local; up = before.up }
 
 -- the acts of a life that follows the policy follow each other
 pub life_local : (s : Settings) (life : Life) → Follows s life → IsLocal s.me (acts_of (log_of life))

@@ -27,7 +27,7 @@ view_of-added s l (i ∷ is) h =
     let parts = and-parts (is_own i) (are_own is) h in
     view_of-added s (And l i) is parts.1 ∙ ap (λ (v : View). moved_all s v is) (view_of-And s l i parts.0)
 
-own-quiet : (i : Item) → is_quiet i ≡ true → is_own i ≡ true
+pub own-quiet : (i : Item) → is_quiet i ≡ true → is_own i ≡ true
 own-quiet (Opens found) h = h
 own-quiet (Begins event) h = refl
 own-quiet (Acts act o) h = cc

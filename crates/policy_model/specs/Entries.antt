@@ -3,6 +3,7 @@ use Rattle.std.specs.Prelude.{ℕ, List, [], ◌∷◌, if◌then◌else◌}
 use Rattle.std.specs.List.{flat_map}
 use Rattle.voting_config.specs.Ids.{before}
 use Rattle.cluster_state.specs.declared.state.Kept.{Kept}
+use Rattle.wire_frames.specs.declared.fault.FrameFault.{FrameFault}
 use Rattle.wire_frames.specs.declared.frame.Frame.{Frame}
 use Rattle.master_tasks.specs.declared.waiting.Outgoing.{Outgoing}
 use Rattle.policy_model.specs.declared.events.MemberDrop.{MemberDrop}
@@ -13,11 +14,12 @@ use Rattle.policy_model.specs.Events.{Event, Item, Log, Opens, Begins, Acts, Tur
 pub data Entry : Type 0 where
   -- an event, and what the node did at it, in the order of the rules
   Did : (event : Event) → (items : List Item) → Entry
-  -- a connection ended, or its bytes are faulty: the node does nothing
+  -- a connection ended, or its bytes have this fault and it is dropped: the node does nothing
   Gone : (conn : ℕ) → Entry
-  Bad : (conn : ℕ) → Entry
-  -- an event that found no memory
+  Bad : (conn : ℕ) → (fault : FrameFault) → Entry
+  -- an event that found no memory; a connection that is dropped, since its bytes found none
   NoMemory : Entry
+  Unread : (conn : ℕ) → Entry
 
 -- the openings of a node's journal and its entries, the newest last
 pub data Life : Type 0 where

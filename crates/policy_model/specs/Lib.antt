@@ -14,5 +14,11 @@ pub mod Checks
 pub mod Requests
 pub mod Rules
 pub mod Follows
+pub mod Fitting
+pub mod Bounds
 pub mod Local
 pub mod Laws
+pub mod PartCalls
+pub mod PartLaws
+pub mod Told
+pub mod Queues

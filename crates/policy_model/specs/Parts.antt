@@ -2,7 +2,7 @@
 use Rattle.std.specs.Prelude.{ℕ, ◌+◌, ◌^◌, min, Bool, Option, None, Some, List, [], ◌∷◌, if◌then◌else◌}
 use Rattle.voting_config.specs.Ids.{Id, without_id}
 use Rattle.cluster_state.specs.declared.state.StateId.{StateId}
-use Rattle.client_lines.specs.declared.request.Request.{Request}
+use Rattle.cluster_state.specs.declared.request.Request.{Request}
 use Rattle.world_model.specs.NodeState.{NodeState}
 use Rattle.cluster_state.specs.States.{id_of}
 use Rattle.election_clock.specs.Delays.{delay_of}

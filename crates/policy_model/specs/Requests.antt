@@ -1,11 +1,11 @@
 -- What a client's line is answered, and the answers that come with time.
 use Rattle.std.specs.Prelude.{ℕ, Option, None, Some, Result, Ok, Err, List, [], ◌∷◌, ◌++◌, if◌then◌else◌}
-use Rattle.client_lines.specs.declared.fault.LineFault.{LineFault}
-use Rattle.client_lines.specs.declared.request.Request.{Request}
-use Rattle.client_lines.specs.declared.reply.Answer.TheVariants as answer
-use Rattle.client_lines.specs.declared.reply.Reply.{Reply}
-use Rattle.client_lines.specs.declared.reply.Reply.TheVariants as reply
-use Rattle.client_lines.specs.Settings.{bad_setting_of}
+use Rattle.cluster_state.specs.declared.reply.LineFault.{LineFault}
+use Rattle.cluster_state.specs.declared.request.Request.{Request}
+use Rattle.cluster_state.specs.declared.reply.Answer.TheVariants as answer
+use Rattle.cluster_state.specs.declared.reply.Reply.{Reply}
+use Rattle.cluster_state.specs.declared.reply.Reply.TheVariants as reply
+use Rattle.cluster_state.specs.Puts.{bad_setting_of}
 use Rattle.master_tasks.specs.Queue.{most_open, is_full_of}
 use Rattle.master_tasks.specs.Answering.{answers_by, timed_out}
 use Rattle.policy_model.specs.declared.settings.Settings.{Settings}

@@ -1,5 +1,10 @@
 //! What holds of each life that follows the policy. The calls do nothing: what they promise is proved.
 ghost use Rattle.policy_model.specs.Laws.{LawEventMoves, LawLifeIsLocal, LawOpeningMoves};
+ghost use Rattle.policy_model.specs.Bounds.{LawAnswersFew, LawEventIsShort, LawStruckIsShort};
+ghost use Rattle.policy_model.specs.Fitting.{EventHoldsSettings, LawOpenedIsFit, LawStaysFit};
+
+use crate::events::Event;
+use wire_frames::Message;
 
 /// Acts that follow the policy are right by themselves: each outcome is the reply that the node's acts so far call
 /// for, or a fault of the disk or a crash where the act would be taken; and each opening finds what was kept.
@@ -15,4 +20,41 @@ pub fn law_event_moves()
 /// What a node is after an opening is told by the record that it found.
 pub fn law_opening_moves()
     ensures { LawOpeningMoves }
+{}
+
+/// A node that is within the limits and to which a frame within the limits comes, or anything else, sends frames
+/// within the limits and stays so: its term, its accepted state, its applied id, its round and its queue.
+pub fn law_stays_fit()
+    ensures { LawStaysFit }
+{}
+
+/// A node that was just opened is within the limits where the record is that it found.
+pub fn law_opened_is_fit()
+    ensures { LawOpenedIsFit }
+{}
+
+/// Settings in memory ascend by key, also those of a state that is published.
+pub fn law_event_holds_settings(event: &Event)
+    ensures { EventHoldsSettings event.now }
+{
+    if let Event::Frame(frame) = event {
+        if let Message::Publish(state) = &frame.message {
+            let _ = state.value.settings.texts();
+        }
+    }
+}
+
+/// At an event a node does three acts at most, and shows six steps at most: acts and changes of mode.
+pub fn law_event_is_short()
+    ensures { LawEventIsShort }
+{}
+
+/// So it does where an act does not come to its end.
+pub fn law_struck_is_short()
+    ensures { LawStruckIsShort }
+{}
+
+/// Where no more requests wait than may, no more replies are sent at an event, and no more wait after it.
+pub fn law_answers_few()
+    ensures { LawAnswersFew }
 {}

@@ -21,9 +21,19 @@ fn listed_peers_keep_their_order(rt: HostRuntime) {
     assert!(rt; settings.peers.as_slice() == [id("b"), id("a"), id("b")].as_slice());
 }
 
+// A law is an empty function: its contract says it all, and the call shows that it can be called.
 #[test]
-fn laws() {
+fn the_laws_can_be_called() {
     law_life_is_local();
     law_event_moves();
     law_opening_moves();
+    law_parts_look_back();
+    law_queue();
+    law_determined();
+    law_opened_is_fit();
+    law_stays_fit();
+    law_event_holds_settings(&Event::Start);
+    law_event_is_short();
+    law_struck_is_short();
+    law_answers_few();
 }

@@ -17,7 +17,7 @@ same_back x y h =
     let e : x ≡ y = same_text x y (sym h) in
     subst (λ (i : Id). same i x ≡ true) e (subst (λ (i : Id). same x i ≡ true) (sym e) h)
 
-same_flipped : (x y : Id) → same x y ≡ same y x
+pub same_flipped : (x y : Id) → same x y ≡ same y x
 same_flipped x y =
     elim (same x y) as (λ b. same x y ≡ b → b ≡ same y x) [
       | true ↦ λ e. sym (same_back x y e)
@@ -46,7 +46,7 @@ left_step true false false h p = refl
 left_step false true c h p = refl
 left_step false false c h p = refl
 
-has-without_id : (q x : Id) (ys : List Id) → has q (without_id x ys) ≡ (has q ys && not (same x q))
+pub has-without_id : (q x : Id) (ys : List Id) → has q (without_id x ys) ≡ (has q ys && not (same x q))
 has-without_id q x [] = refl
 has-without_id q x (y ∷ ys) =
     inner (same y x) (has-without_id q x ys) ∙ left_step (same y q) (same y x) (same x q) (has q ys) (other_than x y q)

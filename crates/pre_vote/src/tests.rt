@@ -19,7 +19,7 @@ fn version(version: u64) -> StateId {
 }
 
 #[test]
-fn a_round(rt: HostRuntime) -> Result<(), Fail> {
+fn a_fresher_node_is_no_pre_vote_and_a_quorum_names_the_term(rt: HostRuntime) -> Result<(), Fail> {
     let a = NodeId::parse("a").ok().ok_or("a letter is an id")?;
     let b = NodeId::parse("b").ok().ok_or("a letter is an id")?;
     let c = NodeId::parse("c").ok().ok_or("a letter is an id")?;
@@ -41,7 +41,7 @@ fn a_round(rt: HostRuntime) -> Result<(), Fail> {
 }
 
 #[test]
-fn more_voters(rt: HostRuntime) -> Result<(), Fail> {
+fn a_pre_vote_needs_a_quorum_of_both_configurations(rt: HostRuntime) -> Result<(), Fail> {
     let a = NodeId::parse("a").ok().ok_or("a letter is an id")?;
     let b = NodeId::parse("b").ok().ok_or("a letter is an id")?;
     let config = letters("abc");
@@ -53,11 +53,17 @@ fn more_voters(rt: HostRuntime) -> Result<(), Fail> {
 }
 
 #[test]
-fn replies(rt: HostRuntime) -> Result<(), Fail> {
+fn a_node_that_follows_another_leader_refuses_a_pre_vote(rt: HostRuntime) -> Result<(), Fail> {
     let a = NodeId::parse("a").ok().ok_or("a letter is an id")?;
     let b = NodeId::parse("b").ok().ok_or("a letter is an id")?;
     assert_eq!(rt; answer(a, None), Reply::Answer);
     assert_eq!(rt; answer(a, Some(a)), Reply::Answer);
     assert_eq!(rt; answer(a, Some(b)), Reply::Refused(b));
     Ok(())
+}
+
+// A law is an empty function: its contract says it all, and the call shows that it can be called.
+#[test]
+fn the_laws_can_be_called() {
+    law_counted();
 }

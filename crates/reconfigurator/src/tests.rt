@@ -13,7 +13,7 @@ fn letters(text: &str) -> NodeSet {
 }
 
 #[test]
-fn targets(rt: HostRuntime) -> Result<(), Fail> {
+fn the_voters_become_these(rt: HostRuntime) -> Result<(), Fail> {
     let a = NodeId::parse("a").ok().ok_or("a letter is an id")?;
     for (live, excluded, config, shrink, want) in [
         ("abcd", "", "abc", true, "abc"),

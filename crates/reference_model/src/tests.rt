@@ -368,7 +368,7 @@ fn early() -> Act {
 }
 
 #[test]
-fn refusals(rt: HostRuntime) -> Result<(), Fail> {
+fn acts_are_refused_with_these_causes(rt: HostRuntime) -> Result<(), Fail> {
     let alloc = rt.alloc();
     let mut a = opened(alloc, id("a"))?;
     a.does(alloc, early(), "Join(NotStarted)")?;

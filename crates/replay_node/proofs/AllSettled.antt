@@ -6,7 +6,7 @@ use Rattle.world_model.specs.declared.acts.Message.{Message}
 use Rattle.world_model.specs.declared.acts.Outcome.{Outcome}
 use Rattle.world_model.specs.declared.acts.Outcome.TheVariants.{Answered, Disk, Crashed}
 use Rattle.world_model.specs.Acts.{NodeHistory, Then}
-use Rattle.world_model.specs.Histories.{History, NoEntries, Next, node_history, sent, sent_by, is_open, IsSourced, IsLocal, IsLegal}
+use Rattle.world_model.specs.Histories.{History, NoEntries, Next, node_history, sent, sent_by, is_opening, IsSourced, IsLocal, IsLegal}
 use Rattle.world_model.specs.Local.{BeginsEmpty, IsSourcedAll}
 use Rattle.world_model.proofs.Guards.{same_is}
 use Rattle.world_model.proofs.Assemble.{legal_is}
@@ -24,7 +24,7 @@ other_entry h node act o n e = ap (λ (b : Bool). cond b (Then (node_history h n
 own_settled : (k : Bool) (h s : History) (node : Id) (act : Act) (o : Outcome) (n : Id) → same node n ≡ true → node_history s n ≡ settled k (node_history h n) → node_history (settled_entry k h s node act o) n ≡ settled k (Then (node_history h n) act o)
 own_settled k h s node act (Disk was) n e r = own_entry h node act (Disk k) n e
 own_settled k h s node act (Crashed was) n e r = own_entry h node act (Crashed k) n e
-own_settled k h s node act (Answered reply) n e r = own_entry (if is_open act then h else s) node act (Answered reply) n e ∙ from (is_open act)
+own_settled k h s node act (Answered reply) n e r = own_entry (if is_opening act then h else s) node act (Answered reply) n e ∙ from (is_opening act)
   where
     from : (b : Bool) → Then (node_history (if b then h else s) n) act (Answered reply) ≡ (if b then Then (node_history h n) act (Answered reply) else Then (settled k (node_history h n)) act (Answered reply))
     from true = refl
@@ -44,7 +44,7 @@ settled_own n k (Next h node act o) = from (same node n) refl (settled_own n k h
 other_settled : (k : Bool) (h s : History) (node : Id) (act : Act) (o : Outcome) (m : Id) → same node m ≡ false → node_history s m ≡ node_history h m → node_history (settled_entry k h s node act o) m ≡ node_history h m
 other_settled k h s node act (Disk was) m e r = other_entry h node act (Disk k) m e
 other_settled k h s node act (Crashed was) m e r = other_entry h node act (Crashed k) m e
-other_settled k h s node act (Answered reply) m e r = other_entry (if is_open act then h else s) node act (Answered reply) m e ∙ from (is_open act)
+other_settled k h s node act (Answered reply) m e r = other_entry (if is_opening act then h else s) node act (Answered reply) m e ∙ from (is_opening act)
   where
     from : (b : Bool) → node_history (if b then h else s) m ≡ node_history h m
     from true = refl
@@ -66,7 +66,7 @@ settled_other n m k (Next h node act o) d = from (same node n) refl (settled_oth
 sent_settled : (k : Bool) (h s : History) (node : Id) (act : Act) (o : Outcome) → sent s ≡ sent h → sent (settled_entry k h s node act o) ≡ sent (Next h node act o)
 sent_settled k h s node act (Disk was) r = refl
 sent_settled k h s node act (Crashed was) r = refl
-sent_settled k h s node act (Answered reply) r = from (is_open act)
+sent_settled k h s node act (Answered reply) r = from (is_opening act)
   where
     from : (b : Bool) → sent (Next (if b then h else s) node act (Answered reply)) ≡ sent (Next h node act (Answered reply))
     from true = refl
@@ -88,7 +88,7 @@ sourced_next initial h s node act o p e r f = (r, subst (λ (l : List Message). 
 sourced_entry : (initial : List Id) (k : Bool) (h s : History) (node : Id) (act : Act) (o : Outcome) → sent s ≡ sent h → IsSourcedAll initial s → IsSourcedAll initial (Next h node act o) → IsSourcedAll initial (settled_entry k h s node act o)
 sourced_entry initial k h s node act (Disk was) e r f = f
 sourced_entry initial k h s node act (Crashed was) e r f = f
-sourced_entry initial k h s node act (Answered reply) e r f = from (is_open act)
+sourced_entry initial k h s node act (Answered reply) e r f = from (is_opening act)
   where
     from : (b : Bool) → IsSourcedAll initial (Next (if b then h else s) node act (Answered reply))
     from true = f
@@ -107,7 +107,7 @@ settled_sourced initial n k (Next h node act o) f = from (same node n) (settled_
 unstruck_entry : (k : Bool) (h s : History) (node : Id) (act : Act) (o : Outcome) (g : NodeHistory) → IsUnstruck (Then g act o) → (IsUnstruck g → s ≡ h) → settled_entry k h s node act o ≡ Next h node act o
 unstruck_entry k h s node act (Disk was) g u r = absurd u
 unstruck_entry k h s node act (Crashed was) g u r = absurd u
-unstruck_entry k h s node act (Answered reply) g u r = from (is_open act) u
+unstruck_entry k h s node act (Answered reply) g u r = from (is_opening act) u
   where
     from : (b : Bool) → cond b (Unit {0}) (IsUnstruck g) → Next (if b then h else s) node act (Answered reply) ≡ Next h node act (Answered reply)
     from true u = refl

@@ -10,7 +10,7 @@ use Rattle.world_model.specs.declared.acts.Outcome.TheVariants.{Answered, Disk, 
 use Rattle.world_model.specs.Acts.{NodeHistory, NoActs, Then}
 use Rattle.world_model.specs.NodeState.{stopped_of}
 use Rattle.world_model.specs.Replies.{reply_of, writes}
-use Rattle.world_model.specs.Histories.{is_open, is_down, ContinuesUnlessFirst, MayFollow, IsLocal}
+use Rattle.world_model.specs.Histories.{is_opening, is_down, ContinuesUnlessFirst, MayFollow, IsLocal}
 use Rattle.world_model.specs.Local.{BeginsEmpty}
 use Rattle.replay_node.specs.Settled.{settled, IsUnstruck}
 use Rattle.replay_node.proofs.Settling.{unstruck, settled_stopped, settled_down}
@@ -37,12 +37,12 @@ still me (Then g act (Crashed was)) l = inr (inr refl)
 still me (Then g act (Answered reply)) l = still_then me g act reply l.1 (still me g l.0)
 
 -- a node that is stopped answers that it is
-pub stopped_reply : (me : Id) (g : NodeHistory) (act : Act) → is_open act ≡ false → stopped_of g ≡ true → reply_of me g act ≡ Stopped
+pub stopped_reply : (me : Id) (g : NodeHistory) (act : Act) → is_opening act ≡ false → stopped_of g ≡ true → reply_of me g act ≡ Stopped
 stopped_reply me g (Open found) o e = cc
 stopped_reply me g act o e = rw e refl
 
 -- so whether the act was kept, its answers are the same
-pub settled_reply : (me : Id) (k : Bool) (g : NodeHistory) (act : Act) → IsLocal me g → is_open act ≡ false → is_down g ≡ false → reply_of me (settled k g) act ≡ reply_of me g act
+pub settled_reply : (me : Id) (k : Bool) (g : NodeHistory) (act : Act) → IsLocal me g → is_opening act ≡ false → is_down g ≡ false → reply_of me (settled k g) act ≡ reply_of me g act
 settled_reply me k g act l o d = from (still me g l)
   where
     from : IsStill g → reply_of me (settled k g) act ≡ reply_of me g act
@@ -50,19 +50,19 @@ settled_reply me k g act l o d = from (still me g l)
     from (inr (inl e)) = stopped_reply me (settled k g) act o (settled_stopped k g ∙ e) ∙ sym (stopped_reply me g act o e)
     from (inr (inr e)) = cc
 
-continues_any : (g : NodeHistory) (act : Act) → is_open act ≡ false → ContinuesUnlessFirst g act
+continues_any : (g : NodeHistory) (act : Act) → is_opening act ≡ false → ContinuesUnlessFirst g act
 continues_any NoActs act o = tt
 continues_any (Then g a p) (Open found) o = cc
 continues_any (Then g a p) act o = tt
 
-up_before : (me : Id) (g : NodeHistory) (act : Act) (o : Outcome) → MayFollow me g act o → is_open act ≡ false → is_down g ≡ false
+up_before : (me : Id) (g : NodeHistory) (act : Act) (o : Outcome) → MayFollow me g act o → is_opening act ≡ false → is_down g ≡ false
 up_before me g act o f c = from (is_down g) refl
   where
     from : (b : Bool) → is_down g ≡ b → b ≡ false
     from false e = refl
     from true e = let up = f.up e in cc
 
-local_then : (me : Id) (k : Bool) (g : NodeHistory) (act : Act) (reply : Reply) → is_open act ≡ false → IsLocal me (Then g act (Answered reply)) → IsLocal me (settled k g) → IsLocal me (Then (settled k g) act (Answered reply))
+local_then : (me : Id) (k : Bool) (g : NodeHistory) (act : Act) (reply : Reply) → is_opening act ≡ false → IsLocal me (Then g act (Answered reply)) → IsLocal me (settled k g) → IsLocal me (Then (settled k g) act (Answered reply))
 local_then me k g act reply o l s =
     let reply_is = settled_reply me k g act l.0 o (up_before me g act (Answered reply) l.1 o) in
     (s, record { follows = l.1.follows ∙ sym reply_is; up = λ d. l.1.up (sym (settled_down k g) ∙ d) }, continues_any (settled k g) act o)
@@ -80,7 +80,7 @@ begins_less : (g : NodeHistory) (act : Act) (o : Outcome) → BeginsEmpty (Then 
 begins_less NoActs act o b = tt
 begins_less (Then g a p) act o b = b
 
-begins_then : (g : NodeHistory) (act : Act) (o : Outcome) → is_open act ≡ false → BeginsEmpty g → BeginsEmpty (Then g act o)
+begins_then : (g : NodeHistory) (act : Act) (o : Outcome) → is_opening act ≡ false → BeginsEmpty g → BeginsEmpty (Then g act o)
 begins_then NoActs (Open found) o c b = cc
 begins_then NoActs act o c b = tt
 begins_then (Then g a p) act o c b = b

@@ -8,14 +8,14 @@ use Rattle.world_model.specs.declared.acts.Outcome.{Outcome}
 use Rattle.world_model.specs.declared.acts.Outcome.TheVariants.{Answered, Disk, Crashed}
 use Rattle.world_model.specs.Acts.{NodeHistory, NoActs, Then, is_disk}
 use Rattle.world_model.specs.NodeState.{stopped_of}
-use Rattle.world_model.specs.Histories.{is_open, is_down}
+use Rattle.world_model.specs.Histories.{is_opening, is_down}
 use Rattle.replay_node.specs.Settled.{settled, IsUnstruck}
 use Rattle.replay_node.specs.Takes.{TakesFrom}
 use Rattle.replay_node.specs.Published.{published_by, last_published}
 
 -- one more act
 
-pub unstruck_opening : (g : NodeHistory) (act : Act) (reply : Reply) → is_open act ≡ true → IsUnstruck (Then g act (Answered reply))
+pub unstruck_opening : (g : NodeHistory) (act : Act) (reply : Reply) → is_opening act ≡ true → IsUnstruck (Then g act (Answered reply))
 unstruck_opening g (Open found) reply e = tt
 unstruck_opening g act reply e = cc
 
@@ -23,15 +23,15 @@ pub unstruck_then : (g : NodeHistory) (act : Act) (reply : Reply) → IsUnstruck
 unstruck_then g (Open found) reply u = tt
 unstruck_then g act reply u = u
 
-pub unstruck_before : (g : NodeHistory) (act : Act) (reply : Reply) → is_open act ≡ false → IsUnstruck (Then g act (Answered reply)) → IsUnstruck g
+pub unstruck_before : (g : NodeHistory) (act : Act) (reply : Reply) → is_opening act ≡ false → IsUnstruck (Then g act (Answered reply)) → IsUnstruck g
 unstruck_before g (Open found) reply e u = cc
 unstruck_before g act reply e u = u
 
-pub settled_opening : (k : Bool) (g : NodeHistory) (act : Act) (reply : Reply) → is_open act ≡ true → settled k (Then g act (Answered reply)) ≡ Then g act (Answered reply)
+pub settled_opening : (k : Bool) (g : NodeHistory) (act : Act) (reply : Reply) → is_opening act ≡ true → settled k (Then g act (Answered reply)) ≡ Then g act (Answered reply)
 settled_opening k g (Open found) reply e = refl
 settled_opening k g act reply e = cc
 
-pub settled_then : (k : Bool) (g : NodeHistory) (act : Act) (reply : Reply) → is_open act ≡ false → settled k (Then g act (Answered reply)) ≡ Then (settled k g) act (Answered reply)
+pub settled_then : (k : Bool) (g : NodeHistory) (act : Act) (reply : Reply) → is_opening act ≡ false → settled k (Then g act (Answered reply)) ≡ Then (settled k g) act (Answered reply)
 settled_then k g (Open found) reply e = cc
 settled_then k g act reply e = refl
 

@@ -37,7 +37,7 @@ use Rattle.world_model.specs.declared.acts.Reply.TheVariants.{Taken, Refused, St
 use Rattle.world_model.specs.declared.acts.Outcome.{Outcome}
 use Rattle.world_model.specs.declared.acts.Outcome.TheVariants.{Answered, Disk, Crashed}
 use Rattle.world_model.specs.Acts.{NodeHistory, Then}
-use Rattle.world_model.specs.Histories.{is_open, is_down}
+use Rattle.world_model.specs.Histories.{is_opening, is_down}
 use Rattle.world_model.specs.NodeState.{NodeState, durable_of, stopped_of}
 use Rattle.world_model.specs.Replies.{reply_of, reply_at, is_taken, writes}
 use Rattle.replay_node.specs.Did.{outcome_of}
@@ -96,11 +96,11 @@ answered_done old new act Stopped d stands running wrote = (refl, subst (λ (j :
 
 -- ---- the journal has stopped as the acts say
 
-stopped_then : (g : NodeHistory) (act : Act) (reply : Reply) → is_open act ≡ false → stopped_of (Then g act (Answered reply)) ≡ stopped_of g
+stopped_then : (g : NodeHistory) (act : Act) (reply : Reply) → is_opening act ≡ false → stopped_of (Then g act (Answered reply)) ≡ stopped_of g
 stopped_then g (Open found) reply o = cc
 stopped_then g act reply o = refl
 
-stopped_disk : (g : NodeHistory) (act : Act) (kept : Bool) → is_open act ≡ false → stopped_of (Then g act (Disk kept)) ≡ true
+stopped_disk : (g : NodeHistory) (act : Act) (kept : Bool) → is_opening act ≡ false → stopped_of (Then g act (Disk kept)) ≡ true
 stopped_disk g (Open found) kept o = cc
 stopped_disk g act kept o = refl
 
@@ -111,7 +111,7 @@ stands_durable : (c : CoordState Journal) (g : NodeHistory) → StandsFor record
 stands_durable c g s = ap (λ (p : NodeState). record { term = p.term; accepted = p.accepted; committed = p.committed }) s
 
 -- an act that is taken finds the journal running
-runs_of : (me : Id) (c : CoordState Journal) (g : NodeHistory) (act : Act) → is_open act ≡ false → StandsFor record_of has_stopped faults c g → is_taken (reply_of me g act) ≡ true → c.keeper.log.stopped ≡ false
+runs_of : (me : Id) (c : CoordState Journal) (g : NodeHistory) (act : Act) → is_opening act ≡ false → StandsFor record_of has_stopped faults c g → is_taken (reply_of me g act) ≡ true → c.keeper.log.stopped ≡ false
 runs_of me c g act o s taken = from c.keeper.log.stopped refl
   where
     from : (b : Bool) → c.keeper.log.stopped ≡ b → c.keeper.log.stopped ≡ false
@@ -122,7 +122,7 @@ runs_of me c g act o s taken = from c.keeper.log.stopped refl
 
 -- ---- an act that is answered
 
-leaves_stopped : (fuse : MemFuse) (g : NodeHistory) (act : Act) (reply : Reply) → is_open act ≡ false → is_taken reply ≡ false → LeavesActs fuse g → LeavesActs fuse (Then g act (Answered reply))
+leaves_stopped : (fuse : MemFuse) (g : NodeHistory) (act : Act) (reply : Reply) → is_opening act ≡ false → is_taken reply ≡ false → LeavesActs fuse g → LeavesActs fuse (Then g act (Answered reply))
 leaves_stopped fuse g act reply o refused leaves =
     let same : (k : Bool) → durable_of (settled k (Then g act (Answered reply))) ≡ durable_of (settled k g) = λ k. ap durable_of (settled_then k g act reply o) ∙ durable_refused (settled k g) act reply o refused in
     record {
@@ -131,7 +131,7 @@ leaves_stopped fuse g act reply o refused leaves =
       shown = tells_of _ _ _ _ (same false) (same true) leaves.shown;
     }
 
-module _ (old new : CoordState Journal) (act : Act) (reply : Reply) (step : Step old new act (Answered reply)) (o : is_open act ≡ false) (w : NodeWorld) (stands : OpenStands old.me old w) where
+module _ (old new : CoordState Journal) (act : Act) (reply : Reply) (step : Step old new act (Answered reply)) (o : is_opening act ≡ false) (w : NodeWorld) (stands : OpenStands old.me old w) where
   reply_is : reply ≡ reply_of old.me w.acts act
   reply_is = step.acts.answers w.acts stands.acts
 
@@ -190,7 +190,7 @@ module _ (old new : CoordState Journal) (act : Act) (step : Step old new act (Di
   struck_taken : (is_taken (reply_of old.me w.acts act) ≡ true) × (writes act ≡ true)
   struck_taken = step.acts.answers w.acts stands.acts
 
-  struck_closed : is_open act ≡ false
+  struck_closed : is_opening act ≡ false
   struck_closed = closed_of_writes act struck_taken.1
 
   struck_runs : old.keeper.log.stopped ≡ false
@@ -273,7 +273,7 @@ answered_after me state w did.Crashed reply is stands = absurd (cc is)
 answered_after me state w did.Down reply is stands = absurd (cc is)
 answered_after me state w d reply is stands = stands
 
-module _ (old new : CoordState Journal) (act : Act) (closed : is_open act ≡ false) (w : NodeWorld) (stands : OpenStands old.me old w) where
+module _ (old new : CoordState Journal) (act : Act) (closed : is_opening act ≡ false) (w : NodeWorld) (stands : OpenStands old.me old w) where
   answered_did : (was now : Did) (o : Outcome) (reply : Reply) → outcome_of was ≡ Some (Answered reply) → outcome_of was ≡ Some o → Step old new act o → now ≡ was → StateDid old.me new w act now
   answered_did was now o reply is by step told =
       let same : o ≡ Answered reply = cc in
@@ -299,10 +299,10 @@ module _ (old new : CoordState Journal) (act : Act) (closed : is_open act ≡ fa
       absurd (cc (same, step.acts.at.runs))
   state_did did.Down now o is step told = absurd (cc is)
 
-pub does : (old new : CoordState Journal) (act : Act) (o : Outcome) (was now : Did) → is_open act ≡ false → outcome_of was ≡ Some o → Step old new act o → IsToldBy new was now → StateDoes old new act now
+pub does : (old new : CoordState Journal) (act : Act) (o : Outcome) (was now : Did) → is_opening act ≡ false → outcome_of was ≡ Some o → Step old new act o → IsToldBy new was now → StateDoes old new act now
 does old new act o was now closed is step told = record { me = step.acts.at.me; does = λ w stands. state_did old new act closed w stands was now o is step told }
 
-pub told_does : (old new : CoordState Journal) (act : Act) (o : Outcome) (was : Did) → is_open act ≡ false → outcome_of was ≡ Some o → Step old new act o
+pub told_does : (old new : CoordState Journal) (act : Act) (o : Outcome) (was : Did) → is_opening act ≡ false → outcome_of was ≡ Some o → Step old new act o
     → (r : Result Did AllocError) → IfOk r (IsToldBy new was) → IfOk r (StateDoes old new act)
 told_does old new act o was closed is step r told = IfOk-weaker r (IsToldBy new was) (StateDoes old new act) (λ now. does old new act o was now closed is step) told
 

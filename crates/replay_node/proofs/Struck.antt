@@ -11,7 +11,7 @@ use Rattle.world_model.specs.declared.acts.Reply.TheVariants.{Taken, Refused, St
 use Rattle.world_model.specs.declared.acts.Outcome.TheVariants.{Answered, Disk, Crashed}
 use Rattle.world_model.specs.Acts.{NodeHistory, Then}
 use Rattle.world_model.specs.NodeState.{term_of, accepted_of, committed_of, node_state, durable_of}
-use Rattle.world_model.specs.Histories.{is_open}
+use Rattle.world_model.specs.Histories.{is_opening}
 use Rattle.world_model.specs.Replies.{reply_of, is_taken, writes}
 use Rattle.world_model.proofs.Guards.{same_is, boot_guard, publish_guard}
 use Rattle.world_model.proofs.Legal.{same_self}
@@ -19,25 +19,25 @@ use Rattle.replay_node.specs.Settled.{settled, shows_as, is_kept}
 
 -- an act that is not taken changes nothing
 
-pub durable_refused : (g : NodeHistory) (act : Act) (reply : Reply) → is_open act ≡ false → is_taken reply ≡ false → durable_of (Then g act (Answered reply)) ≡ durable_of g
+pub durable_refused : (g : NodeHistory) (act : Act) (reply : Reply) → is_opening act ≡ false → is_taken reply ≡ false → durable_of (Then g act (Answered reply)) ≡ durable_of g
 durable_refused g act (Taken sends wins) e r = cc
 durable_refused g (Open found) (Refused cause) e r = cc
 durable_refused g act (Refused cause) e r = refl
 durable_refused g (Open found) Stopped e r = cc
 durable_refused g act Stopped e r = refl
 
-pub state_refused : (g : NodeHistory) (act : Act) (reply : Reply) → is_open act ≡ false → is_taken reply ≡ false → node_state (Then g act (Answered reply)) ≡ node_state g
+pub state_refused : (g : NodeHistory) (act : Act) (reply : Reply) → is_opening act ≡ false → is_taken reply ≡ false → node_state (Then g act (Answered reply)) ≡ node_state g
 state_refused g act (Taken sends wins) e r = cc
 state_refused g (Open found) (Refused cause) e r = cc
 state_refused g act (Refused cause) e r = refl
 state_refused g (Open found) Stopped e r = cc
 state_refused g act Stopped e r = refl
 
-pub durable_lost : (g : NodeHistory) (act : Act) → is_open act ≡ false → durable_of (Then g act (Disk false)) ≡ durable_of g
+pub durable_lost : (g : NodeHistory) (act : Act) → is_opening act ≡ false → durable_of (Then g act (Disk false)) ≡ durable_of g
 durable_lost g (Open found) e = cc
 durable_lost g act e = refl
 
-pub durable_lost_crash : (g : NodeHistory) (act : Act) → is_open act ≡ false → durable_of (Then g act (Crashed false)) ≡ durable_of g
+pub durable_lost_crash : (g : NodeHistory) (act : Act) → is_opening act ≡ false → durable_of (Then g act (Crashed false)) ≡ durable_of g
 durable_lost_crash g (Open found) e = cc
 durable_lost_crash g act e = refl
 
@@ -45,7 +45,7 @@ pub durable_kept : (g : NodeHistory) (act : Act) → durable_of (Then g act (Dis
 durable_kept g (Open found) = refl
 durable_kept g act = refl
 
-pub closed_of_writes : (act : Act) → writes act ≡ true → is_open act ≡ false
+pub closed_of_writes : (act : Act) → writes act ≡ true → is_opening act ≡ false
 closed_of_writes (Open found) e = cc
 closed_of_writes act e = cc
 
@@ -106,7 +106,7 @@ taken_is r e = cc
 kept_shown : (g : NodeHistory) (act : Act) → shows_as (durable_of g) (durable_of (Then g act (Crashed true))) ≡ true → Shown (durable_of g) (durable_of (Then g act (Crashed true)))
 kept_shown g act e = shown (durable_of g) (durable_of (Then g act (Crashed true))) e
 
-pub shown_same : (me : Id) (g : NodeHistory) (act : Act) → is_open act ≡ false → is_taken (reply_of me g act) ≡ true → shows_as (durable_of g) (durable_of (Then g act (Crashed true))) ≡ true → durable_of g ≡ durable_of (Then g act (Crashed true))
+pub shown_same : (me : Id) (g : NodeHistory) (act : Act) → is_opening act ≡ false → is_taken (reply_of me g act) ≡ true → shows_as (durable_of g) (durable_of (Then g act (Crashed true))) ≡ true → durable_of g ≡ durable_of (Then g act (Crashed true))
 shown_same me g (Bootstrap config) o t e =
     let k = taken_is (reply_of me g (Bootstrap config)) t in
     let guard = boot_guard me g config k.0 k.1 k.2 in

@@ -6,7 +6,7 @@ use Rattle.world_model.specs.declared.acts.Act.{Act}
 use Rattle.world_model.specs.declared.acts.Outcome.{Outcome}
 use Rattle.world_model.specs.declared.acts.Outcome.TheVariants.{Answered, Disk, Crashed}
 use Rattle.world_model.specs.Acts.{NodeHistory, NoActs, Then}
-use Rattle.world_model.specs.Histories.{History, NoEntries, Next, is_open}
+use Rattle.world_model.specs.Histories.{History, NoEntries, Next, is_opening}
 use Rattle.world_model.specs.NodeState.{durable_of}
 
 -- the acts, where the act since the last opening that the disk failed or stopped in was kept, or was not
@@ -14,14 +14,14 @@ abbrev pub settled : Bool → NodeHistory → NodeHistory
 settled kept NoActs = NoActs
 settled kept (Then g act (Disk was)) = Then g act (Disk kept)
 settled kept (Then g act (Crashed was)) = Then g act (Crashed kept)
-settled kept (Then g act (Answered reply)) = if is_open act then Then g act (Answered reply) else Then (settled kept g) act (Answered reply)
+settled kept (Then g act (Answered reply)) = if is_opening act then Then g act (Answered reply) else Then (settled kept g) act (Answered reply)
 
 -- there is no such act
 abbrev pub IsUnstruck : NodeHistory → Type 0
 IsUnstruck NoActs = Unit {0}
 IsUnstruck (Then g act (Disk was)) = ⊥
 IsUnstruck (Then g act (Crashed was)) = ⊥
-IsUnstruck (Then g act (Answered reply)) = cond (is_open act) (Unit {0}) (IsUnstruck g)
+IsUnstruck (Then g act (Answered reply)) = cond (is_opening act) (Unit {0}) (IsUnstruck g)
 
 -- the line `record` of one shows what that of the other does
 abbrev pub shows_as : Kept → Kept → Bool
@@ -42,7 +42,7 @@ is_kept g found = shows_as found (durable_of (settled true g))
 abbrev pub settled_entry : Bool → (before settled_before : History) → Id → Act → Outcome → History
 settled_entry kept before settled_before n act (Disk was) = Next before n act (Disk kept)
 settled_entry kept before settled_before n act (Crashed was) = Next before n act (Crashed kept)
-settled_entry kept before settled_before n act (Answered reply) = Next (if is_open act then before else settled_before) n act (Answered reply)
+settled_entry kept before settled_before n act (Answered reply) = Next (if is_opening act then before else settled_before) n act (Answered reply)
 
 abbrev pub settled_for : Id → Bool → History → History
 settled_for n kept NoEntries = NoEntries

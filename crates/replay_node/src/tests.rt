@@ -19,7 +19,7 @@ fn content(rt: &HostRuntime, fuse: &mut Fuse<MemDisk>) -> Result<Vec<u8>, Fail> 
 }
 
 #[test]
-fn runs_again(rt: HostRuntime) -> Result<(), Fail> {
+fn a_restarted_disk_holds_what_the_stop_left(rt: HostRuntime) -> Result<(), Fail> {
     let table = [
         (Way::Lost, b"ab".as_slice()),
         (Way::Kept, b"abcd".as_slice()),

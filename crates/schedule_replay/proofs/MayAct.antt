@@ -10,7 +10,7 @@ use Rattle.world_model.specs.declared.acts.Message.TheVariants.{Join as JoinMess
 use Rattle.world_model.specs.declared.acts.Reply.{Reply}
 use Rattle.world_model.specs.declared.acts.Reply.TheVariants.{Taken, Refused, Stopped}
 use Rattle.world_model.specs.Acts.{NodeHistory}
-use Rattle.world_model.specs.Histories.{node_history, sent, is_down, is_open, Continues, IsSourced, MayHappen}
+use Rattle.world_model.specs.Histories.{node_history, sent, is_down, is_opening, Continues, IsSourced, MayHappen}
 use Rattle.world_model.specs.Replies.{reply_of, is_taken, writes, IsOutcome}
 use Rattle.replay_node.specs.NodeDisk.{NodeDisk, CallsEnd, Done, Failed, StoppedIn, calls_made}
 use Rattle.replay_node.specs.NodeWorld.{NodeWorld, act_called, act_calls, outcome_at, outcome_by}
@@ -40,7 +40,7 @@ outcome_is me g act (StoppedIn way) (inr w) = w
 outcome_may : (me : Id) (w : NodeWorld) (act : Act) → IsOutcome me w.acts act (outcome_at me w act)
 outcome_may me w act = outcome_is me w.acts act (act_called me w act).ended (ends_well w.disk (reply_of me w.acts act) act w.disk.file.read)
 
-continues : (g : NodeHistory) (act : Act) → is_open act ≡ false → Continues g act
+continues : (g : NodeHistory) (act : Act) → is_opening act ≡ false → Continues g act
 continues g (Open found) e = absurd (cc)
 continues g (Bootstrap config) e = tt
 continues g (StartJoin candidate term) e = tt
@@ -50,7 +50,7 @@ continues g (Publish request) e = tt
 continues g (Response response) e = tt
 continues g (Commit commit) e = tt
 
-pub may_act : (initial : List Id) (w : World) (n : Id) (act : Act) → is_down (node_history w.history n) ≡ false → IsSourced initial (sent w.history) act → is_open act ≡ false → MayHappen initial w.history n act (outcome_at n (node_world w n) act)
+pub may_act : (initial : List Id) (w : World) (n : Id) (act : Act) → is_down (node_history w.history n) ≡ false → IsSourced initial (sent w.history) act → is_opening act ≡ false → MayHappen initial w.history n act (outcome_at n (node_world w n) act)
 may_act initial w n act up sourced closed = record {
   follows = record { follows = outcome_may n (node_world w n) act; up = λ down. absurd (cc) };
   continues = continues (node_history w.history n) act closed;
@@ -64,7 +64,7 @@ sourced_taking initial messages (PublishMessage r) h = h
 sourced_taking initial messages (ResponseMessage r) h = h
 sourced_taking initial messages (CommitMessage c) h = h
 
-pub taking_shut : (m : Message) → is_open (taking m) ≡ false
+pub taking_shut : (m : Message) → is_opening (taking m) ≡ false
 taking_shut (JoinMessage j) = refl
 taking_shut (PublishMessage r) = refl
 taking_shut (ResponseMessage r) = refl

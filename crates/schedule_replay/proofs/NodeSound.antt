@@ -32,7 +32,7 @@ use Rattle.world_model.specs.declared.acts.Reply.TheVariants.{Taken, Refused, St
 use Rattle.world_model.specs.declared.acts.Outcome.TheVariants.{Answered, Disk, Crashed}
 use Rattle.world_model.specs.Acts.{NodeHistory, NoActs, Then}
 use Rattle.world_model.specs.NodeState.{term_of, accepted_of, committed_of, durable_of, stopped_of}
-use Rattle.world_model.specs.Histories.{is_down, is_open, IsLocal}
+use Rattle.world_model.specs.Histories.{is_down, is_opening, IsLocal}
 use Rattle.world_model.specs.Replies.{reply_of, writes}
 use Rattle.world_model.proofs.Guards.{start_guard, publish_guard}
 use Rattle.replay_node.specs.NodeDisk.{NodeDisk, CallsEnd, Done, Failed, StoppedIn, Called, calls_made, gate_of, opening}
@@ -174,16 +174,16 @@ leaves_acts w s = from (needs_opening w) refl
 
 -- ---- an act
 
-stopped_then : (g : NodeHistory) (act : Act) (reply : Reply) → is_open act ≡ false → stopped_of (Then g act (Answered reply)) ≡ stopped_of g
+stopped_then : (g : NodeHistory) (act : Act) (reply : Reply) → is_opening act ≡ false → stopped_of (Then g act (Answered reply)) ≡ stopped_of g
 stopped_then g (Open found) reply o = cc
 stopped_then g act reply o = refl
 
-stopped_disk : (g : NodeHistory) (act : Act) (kept : Bool) → is_open act ≡ false → stopped_of (Then g act (Disk kept)) ≡ true
+stopped_disk : (g : NodeHistory) (act : Act) (kept : Bool) → is_opening act ≡ false → stopped_of (Then g act (Disk kept)) ≡ true
 stopped_disk g (Open found) kept o = cc
 stopped_disk g act kept o = refl
 
 -- one that changes nothing that is kept
-quiet_sound : (w : NodeWorld) (act : Act) (reply : Reply) → is_open act ≡ false → ((g : NodeHistory) → durable_of (Then g act (Answered reply)) ≡ durable_of g) → Sound w → w.down ≡ false → Sound (record { acts = Then w.acts act (Answered reply); disk = w.disk; down = false })
+quiet_sound : (w : NodeWorld) (act : Act) (reply : Reply) → is_opening act ≡ false → ((g : NodeHistory) → durable_of (Then g act (Answered reply)) ≡ durable_of g) → Sound w → w.down ≡ false → Sound (record { acts = Then w.acts act (Answered reply); disk = w.disk; down = false })
 quiet_sound w act reply o same s up =
     let needs : stopped_of (Then w.acts act (Answered reply)) ≡ needs_opening w = stopped_then w.acts act reply o ∙ sym (ap (λ (b : Bool). b || stopped_of w.acts) up) in
     let own : (k : Bool) → durable_of (settled k (Then w.acts act (Answered reply))) ≡ durable_of (settled k w.acts) = λ k. ap durable_of (settled_then k w.acts act reply o) ∙ same (settled k w.acts) in
@@ -201,7 +201,7 @@ quiet_sound w act reply o same s up =
 abbrev acted_by : CallsEnd → NodeDisk → NodeHistory → Act → Reply → NodeWorld
 acted_by end disk g act reply = record { acts = Then g act (outcome_by end reply); disk = disk; down = is_stop end }
 
-module _ (g : NodeHistory) (act : Act) (o : is_open act ≡ false) (k : Keeps g act) (free : IsUnstruck g) (going : stopped_of g ≡ false) (fit : IsFitKept (durable_of g)) where
+module _ (g : NodeHistory) (act : Act) (o : is_opening act ≡ false) (k : Keeps g act) (free : IsUnstruck g) (going : stopped_of g ≡ false) (fit : IsFitKept (durable_of g)) where
   abbrev next : Kept
   next = changed (durable_of g) k.change
 
@@ -236,7 +236,7 @@ after_reply w act reply =
     let called : Called = calls_made w.disk (act_calls reply (change_of act) w.disk.file.read) in
     acted_by called.ended called.disk w.acts act reply
 
-unwritten : (act : Act) (sends : Option Message) (wins : Bool) → writes act ≡ false → is_open act ≡ false → (change_of act ≡ None) × ((g : NodeHistory) → durable_of (Then g act (Answered (Taken sends wins))) ≡ durable_of g)
+unwritten : (act : Act) (sends : Option Message) (wins : Bool) → writes act ≡ false → is_opening act ≡ false → (change_of act ≡ None) × ((g : NodeHistory) → durable_of (Then g act (Answered (Taken sends wins))) ≡ durable_of g)
 unwritten (TakeJoin join) sends wins e o = (refl, λ g. refl)
 unwritten (Value version config value) sends wins e o = (refl, λ g. refl)
 unwritten (Response response) sends wins e o = (refl, λ g. refl)
@@ -246,7 +246,7 @@ unwritten (Publish request) sends wins e o = absurd (cc)
 unwritten (Commit commit) sends wins e o = absurd (cc)
 unwritten (Open found) sends wins e o = absurd (cc)
 
-module _ (me : Id) (w : NodeWorld) (act : Act) (s : Sound w) (up : w.down ≡ false) (o : is_open act ≡ false) (fits : IsFitAct act) where
+module _ (me : Id) (w : NodeWorld) (act : Act) (s : Sound w) (up : w.down ≡ false) (o : is_opening act ≡ false) (fits : IsFitAct act) where
   writing : (sends : Option Message) (wins : Bool) → Taken sends wins ≡ reply_of me w.acts act → writes act ≡ true → stopped_of w.acts ≡ false → Sound (after_reply w act (Taken sends wins))
   writing sends wins is w_act going =
       let needs : needs_opening w ≡ false = ap (λ (b : Bool). b || stopped_of w.acts) up ∙ going in

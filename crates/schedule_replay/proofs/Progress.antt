@@ -70,7 +70,7 @@ module _ (ids initial : List Id) (nodes : List ReplayNode) (messages : List Sent
       in
       subst (λ (t : List ℕ). Appended was later t) whole (appended_more was now later m.front bytes m.written h)
 
--- an error tells no more than that a front was written
+-- an error tells no more than that a prefix was written
 pub front_at_err : {E : Type 0} (r : Result (Unit {0}) E) (was now : Option (List ℕ)) (all : List ℕ) → IsErr r → AppendedFront was now all → WritesAll was now all r
 front_at_err (Ok u) was now all is f = absurd (cc)
 front_at_err (Err e) was now all is f = f

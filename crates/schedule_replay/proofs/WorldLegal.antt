@@ -17,7 +17,7 @@ use Rattle.world_model.specs.declared.acts.Reply.TheVariants.{Taken, Refused, St
 use Rattle.world_model.specs.declared.acts.Outcome.TheVariants.{Answered}
 use Rattle.world_model.specs.Acts.{NodeHistory}
 use Rattle.world_model.specs.NodeState.{durable_of, stopped_of}
-use Rattle.world_model.specs.Histories.{History, node_history, sent, sent_by, is_open, IsLegal, IsLocal, IsSourced}
+use Rattle.world_model.specs.Histories.{History, node_history, sent, sent_by, is_opening, IsLegal, IsLocal, IsSourced}
 use Rattle.world_model.specs.Replies.{reply_of}
 use Rattle.world_model.proofs.Assemble.{legal_is}
 use Rattle.world_model.proofs.Guards.{same_is, value_guard}
@@ -119,14 +119,14 @@ outcome_fits (StoppedIn way) reply f = tt
 
 -- ---- an act
 
-acted_node : (me : Id) (w : NodeWorld) (act : Act) → Sound w → is_open act ≡ false → IsFitAct act → Sound (after_unless_down me w act)
+acted_node : (me : Id) (w : NodeWorld) (act : Act) → Sound w → is_opening act ≡ false → IsFitAct act → Sound (after_unless_down me w act)
 acted_node me w act s shut fits = from w.down refl
   where
     from : (b : Bool) → w.down ≡ b → Sound (if b then w else after_act me w act)
     from true down = s
     from false up = act_sound me w act s up shut fits
 
-acted : (initial : List Id) (w : World) (n : Id) (act : Act) → SoundWorld initial w → IsSourced initial (sent w.history) act → is_open act ≡ false → IsFitAct act → SoundWorld initial (did_unless_down w n act)
+acted : (initial : List Id) (w : World) (n : Id) (act : Act) → SoundWorld initial w → IsSourced initial (sent w.history) act → is_opening act ≡ false → IsFitAct act → SoundWorld initial (did_unless_down w n act)
 acted initial w n act s sourced shut fits = record { legal = legal (w.down n) refl; nodes = nodes; messages = messages (w.down n) refl }
   where
     x : NodeWorld
@@ -234,8 +234,8 @@ fresh : (initial : List Id) → SoundWorld initial fresh_world
 fresh initial = record { legal = tt; nodes = λ n. fresh_sound; messages = tt }
 
 pub replay_is_legal : LawReplayIsLegal
-replay_is_legal s set fits named = from s.lines fits named
+replay_is_legal s well = from s.lines well.fit well.named
   where
     from : (ls : List Line) → AllByRecursion (FitsLine s.nodes) ls → (s.initial ≡ [] → ls ≡ []) → IsLegal s.initial (replayed_from s.initial fresh_world ls).history
     from [] f none = tt
-    from (l ∷ ls) f none = (lines_sound s.nodes s.initial fresh_world (l ∷ ls) (λ e. let is = none e in cc) (set_fits s.initial set) f (fresh s.initial)).legal
+    from (l ∷ ls) f none = (lines_sound s.nodes s.initial fresh_world (l ∷ ls) (λ e. let is = none e in cc) (set_fits s.initial well.initial) f (fresh s.initial)).legal

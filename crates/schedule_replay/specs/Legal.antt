@@ -1,4 +1,4 @@
--- The history of a schedule is legal, as a statement.
+-- The history of a schedule is legal, as a statement. Not part of the statement of `run`, which says it of its schedule.
 use Rattle.std.specs.Prelude.{◌≡◌, []}
 use Rattle.std.specs.List.{AllByRecursion}
 use Rattle.voting_config.specs.Ids.{IsIdSet}
@@ -7,6 +7,12 @@ use Rattle.schedule_text.specs.declared.schedule.Schedule.{Schedule}
 use Rattle.schedule_text.specs.Lines.{FitsLine}
 use Rattle.schedule_replay.specs.Replayed.{replayed}
 
+-- the initial configuration is a set of ids, which is not empty unless there is no line, and the lines are of the schedule's nodes
+pub record IsWellFormed (s : Schedule) : Type 0 where
+  pub initial : IsIdSet s.initial
+  pub fit : AllByRecursion (FitsLine s.nodes) s.lines
+  pub named : s.initial ≡ [] → s.lines ≡ []
+
 -- whatever the lines stop, fail and restart, and wherever in a device call
 abbrev pub LawReplayIsLegal : Type 0
-LawReplayIsLegal = (s : Schedule) → IsIdSet s.initial → AllByRecursion (FitsLine s.nodes) s.lines → (s.initial ≡ [] → s.lines ≡ []) → IsLegal s.initial (replayed s)
+LawReplayIsLegal = (s : Schedule) → IsWellFormed s → IsLegal s.initial (replayed s)

@@ -1,5 +1,12 @@
+pub mod ActShown
 pub mod Legal
+pub mod LineByLine
 pub mod Replayed
+pub mod Showing
 pub mod SoFar
-pub mod WorldStands
+pub mod Steps
+pub mod Told
 pub mod Trace
+pub mod TraceLaws
+pub mod TraceSteps
+pub mod WorldStands

@@ -1,4 +1,4 @@
--- The one history of a schedule.
+-- The one history of a schedule. Part of the statement.
 use Rattle.std.specs.Prelude.{◌-◌, ℕ, Bool, false, cond, Option, None, Some, List, [], ◌∷◌, slice_get, codes, if◌then◌else◌}
 use Rattle.voting_config.specs.Ids.{Id, same}
 use Rattle.cluster_state.specs.declared.state.ClusterValue.{ClusterValue}

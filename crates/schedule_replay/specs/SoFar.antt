@@ -1,4 +1,4 @@
--- Between two lines of a replay.
+-- Where a replay stands between two lines. Not part of the statement.
 use Rattle.std.specs.Prelude.{◌≡◌, ℕ, Option, Result, Ok, Err, List, ◌++◌}
 use Rattle.voting_config.specs.Ids.{Id}
 use Rattle.schedule_text.specs.declared.schedule.Line.{Line}
@@ -19,7 +19,7 @@ pub record SoFar (ids initial : List Id) (nodes : List ReplayNode) (messages : L
   pub whole : front ++ (pending ++ trace_from initial world left) ≡ all
   pub ends : replayed_from initial world left ≡ end
 
--- a piece was added to what is held back, and a front of it all was written; at an error a front of it was
+-- a piece was added to what is held back, and a prefix of it all was written; at an error a prefix of it was
 pub record HoldsBack (was now : Option (List ℕ)) (before after piece : List ℕ) : Type 0 where
   pub front : List ℕ
   pub written : Appended was now front

@@ -1,4 +1,4 @@
--- When a replay stands for what its nodes did.
+-- When a replay stands for what its nodes did. Not part of the statement.
 use Rattle.std.specs.Prelude.{◌≡◌, ◌≤◌, true, List, [], ◌∷◌, ◌++◌, map, length, ℕ}
 use Rattle.voting_config.specs.Ids.{Id, ascends, most_ids}
 use Rattle.world_model.specs.declared.acts.Act.{Act}

@@ -1,8 +1,35 @@
+//! What holds of the history and the trace of every schedule. The calls do nothing: what they promise is proved.
 ghost use Rattle.schedule_replay.specs.Legal.{LawReplayIsLegal};
+ghost use Rattle.schedule_replay.specs.TraceLaws.{LawStepsGoOn, LawTraceAgrees, LawTraceFollows, LawTraceShows, LawTraceTells};
 
 /// The history of a schedule is legal, wherever its nodes stop and their disks fail: of each schedule whose lines are of its
-/// nodes, and whose initial configuration is a set of ids, which is not empty unless there is no line. The call does
-/// nothing: what it promises is proved.
+/// nodes, and whose initial configuration is a set of ids, which is not empty unless there is no line.
 pub fn law_replay_is_legal()
     ensures { LawReplayIsLegal }
+{}
+
+/// The trace of each schedule is the text of its steps, and the history of the schedule is read off these steps: its acts and
+/// openings, with their outcomes, in order. The steps echo the lines, and number the messages in the order in which they were sent.
+pub fn law_trace_tells()
+    ensures { LawTraceTells }
+{}
+
+/// More lines leave the steps of the lines before as they are, so the trace tells the history at each moment.
+pub fn law_steps_go_on()
+    ensures { LawStepsGoOn }
+{}
+
+/// Behind the echo of each line stands what the line asks for, as told by the steps before it.
+pub fn law_trace_follows()
+    ensures { LawTraceFollows }
+{}
+
+/// The `won` lines of a trace are the wins of the history, and its `committed` lines show just the states committed in it.
+pub fn law_trace_shows()
+    ensures { LawTraceShows }
+{}
+
+/// No two `won` lines of one term name two nodes, and no two `committed` lines of one version differ.
+pub fn law_trace_agrees()
+    ensures { LawTraceAgrees }
 {}

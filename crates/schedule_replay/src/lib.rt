@@ -6,5 +6,8 @@ pub mod nodes;
 pub mod replayer;
 pub mod replaying;
 
-pub use laws::law_replay_is_legal;
+pub use laws::{
+    law_replay_is_legal, law_steps_go_on, law_trace_agrees, law_trace_follows, law_trace_shows,
+    law_trace_tells,
+};
 pub use replaying::{ReplayError, replay};

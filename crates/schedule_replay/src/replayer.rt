@@ -1,9 +1,7 @@
 ghost use Rattle.std.specs.Prelude.{◌≡◌, ◌<◌, ◌++◌, OnOk, IfOk, ℕ, List, [], None, true, length, map};
 ghost use Rattle.voting_config.specs.Ids.{Id, has};
 ghost use Rattle.cluster_state.specs.States.{IsFitValue};
-ghost use Rattle.zen_disk.specs.declared.orders.Order.{Order as DiskOrder};
 ghost use Rattle.world_model.specs.declared.acts.Act.{Act};
-ghost use Rattle.world_model.specs.declared.acts.Message.{Message};
 ghost use Rattle.world_model.specs.declared.acts.Act.TheVariants as act;
 ghost use Rattle.schedule_text.specs.Lines.{FitsLine};
 ghost use Rattle.replay_node.specs.Did.{did_text, outcome_of};

@@ -53,8 +53,8 @@ fn out_of_memory<S: Sink>(out: &mut S, held: &Text) -> ReplayError
     }
 }
 
-/// Replays a schedule, and writes the trace of its one history, of which `law_replay_is_legal` tells. `Write` only where the
-/// sink's count of faults rose; a front of the trace is written then, and at `Memory` too.
+/// Replays a schedule, and writes the trace of its one history, of which the laws of this crate tell. `Write` only where the
+/// count of faults of the sink rose; a prefix of the trace is written then, and at `Memory` too.
 pub fn replay<S: Sink>(alloc: Global, schedule: &Schedule, out: &mut S) -> Result<(), ReplayError>
     requires fits { AllByRecursion (FitsLine schedule.now.nodes) schedule.now.lines }
     ensures written { WritesAll (S.written out.old) (S.written out.new) (trace schedule.now) result }

@@ -1,4 +1,6 @@
 pub mod Written
+pub mod FirstBadLaws
+pub mod FirstLines
 pub mod IdListLaws
 pub mod LineLaws
 pub mod ModeLaws

@@ -24,13 +24,13 @@ use Rattle.schedule_text.specs.Spelled.{text_lines, with_feeds, schedule_text, I
 use Rattle.schedule_text.proofs.WordLaws.{is_plain, bind_ok, want_ok, ok_is, lacks, split_join, join_split, parts_lack, parts_not_empty, ids_each, list_law}
 use Rattle.schedule_text.proofs.LineLaws.{AreIds, one_is, split_words, one_piece, line_takes, line_again, line_lacks}
 
-abbrev read : {A : Type 0} → A → Result A BadSchedule
+abbrev pub read : {A : Type 0} → A → Result A BadSchedule
 read x = Ok x
 
 read_is : {A : Type 0} (x y : A) → read x ≡ read y → x ≡ y
 read_is x y e = cc
 
-then_ok : {A B : Type 0} (r : Result A BadSchedule) (f : A → Result B BadSchedule) (y : B) → (r >>> f) ≡ Ok y → (x : A) × (r ≡ Ok x) × (f x ≡ Ok y)
+pub then_ok : {A B : Type 0} (r : Result A BadSchedule) (f : A → Result B BadSchedule) (y : B) → (r >>> f) ≡ Ok y → (x : A) × (r ≡ Ok x) × (f x ≡ Ok y)
 then_ok (Ok x) f y e = (x, refl, e)
 then_ok (Err d) f y e = absurd cc
 
@@ -44,12 +44,12 @@ guard_ok false d r y e = (refl, e)
 
 -- ---- sizes
 
-record IsSized (p : Place) (line : List ℕ) : Type 0 where
-  bytes : p.before + length line + 1 ≤ most_bytes
-  count : p.number ≤ most_lines
-  long : length line ≤ most_line_bytes
+pub record IsSized (p : Place) (line : List ℕ) : Type 0 where
+  pub bytes : p.before + length line + 1 ≤ most_bytes
+  pub count : p.number ≤ most_lines
+  pub long : length line ≤ most_line_bytes
 
-sized_takes : {A : Type 0} (p : Place) (line : List ℕ) (f : List ℕ → Result A Why) (x : A) → in_line p (sized_at p line >>= f) ≡ Ok x → IsSized p line × (f line ≡ Ok x)
+pub sized_takes : {A : Type 0} (p : Place) (line : List ℕ) (f : List ℕ → Result A Why) (x : A) → in_line p (sized_at p line >>= f) ≡ Ok x → IsSized p line × (f line ≡ Ok x)
 sized_takes p line f x e =
     let got = bind_ok (sized_at p line) f x (in_line_ok p (sized_at p line >>= f) x e) in
     let big = guard_ok (nat_lt most_bytes (p.before + length line + 1)) why.TooBig _ got.0 got.1 in
@@ -57,7 +57,7 @@ sized_takes p line f x e =
     let long = guard_ok (nat_lt most_line_bytes (length line)) why.TooLong _ got.0 many.1 in
     (record { bytes = ltb-false _ _ big.0; count = ltb-false _ _ many.0; long = ltb-false _ _ long.0 }, ap f (ok_is line got.0 long.1) ∙ got.2)
 
-sized_again : {A : Type 0} (p : Place) (line : List ℕ) (f : List ℕ → Result A Why) (x : A) → IsSized p line → f line ≡ Ok x → in_line p (sized_at p line >>= f) ≡ Ok x
+pub sized_again : {A : Type 0} (p : Place) (line : List ℕ) (f : List ℕ → Result A Why) (x : A) → IsSized p line → f line ≡ Ok x → in_line p (sized_at p line >>= f) ≡ Ok x
 sized_again p line f x h e =
     let big : nat_lt most_bytes (p.before + length line + 1) ≡ false = le-ltb _ _ h.bytes in
     let many : nat_lt most_lines p.number ≡ false = le-ltb _ _ h.count in
@@ -66,10 +66,10 @@ sized_again p line f x h e =
 
 -- ---- the header
 
-record IsHeader (name line : List ℕ) (xs : List Id) : Type 0 where
-  spelled : line ≡ name ++ 32 ∷ list_text xs
-  ids : are_ids_after [] xs ≡ true
-  some : 0 < length xs
+pub record IsHeader (name line : List ℕ) (xs : List Id) : Type 0 where
+  pub spelled : line ≡ name ++ 32 ∷ list_text xs
+  pub ids : are_ids_after [] xs ≡ true
+  pub some : 0 < length xs
 
 header_ok : (r : Result (List Id) Why) (xs : List Id) → as_header r ≡ Ok xs → r ≡ Ok xs
 header_ok (Ok ys) xs e = e
@@ -87,7 +87,7 @@ words_header name (v ∷ ws) xs e =
     let parts = and_parts (are_ids_after [] xs) (is_some_list xs) taken.1 in
     (ap (λ t. t ∷ ws) (same_text v name (sym got.0)) ∙ ap (λ t. name ∷ t) (one_is ws inner.0 inner.1 ∙ ap (λ t. t ∷ []) taken.0), parts.0, some_list xs parts.1)
 
-header_takes : (name line : List ℕ) (xs : List Id) → header_at name line ≡ Ok xs → IsHeader name line xs
+pub header_takes : (name line : List ℕ) (xs : List Id) → header_at name line ≡ Ok xs → IsHeader name line xs
 header_takes name line xs e =
     let got = words_header name (words_of line) xs e in
     record { spelled = sym (join_split 32 line) ∙ ap (join_with_byte 32) got.0; ids = got.1; some = got.2 }
@@ -98,7 +98,7 @@ header_again name xs plain same ids some =
     let words = split_words name (list_text xs ∷ []) (and_from _ _ plain (and_from _ _ ((list_law is_some_list).plain xs fits) refl)) in
     ap (header_words name) words ∙ rw (same, (list_law is_some_list).again xs fits) refl
 
-header_lacks : (name : List ℕ) (xs : List Id) → is_plain name ≡ true → are_ids_after [] xs ≡ true → 0 < length xs → lacks 10 (name ++ 32 ∷ list_text xs) ≡ true
+pub header_lacks : (name : List ℕ) (xs : List Id) → is_plain name ≡ true → are_ids_after [] xs ≡ true → 0 < length xs → lacks 10 (name ++ 32 ∷ list_text xs) ≡ true
 header_lacks name xs plain ids some =
     let fits : (are_ids_after [] xs && is_some_list xs) ≡ true = and_from _ _ ids (lt-ltb 0 (length xs) some) in
     one_piece (name ∷ list_text xs ∷ []) (and_from _ _ plain (and_from _ _ ((list_law is_some_list).plain xs fits) refl))
@@ -111,7 +111,7 @@ initial_takes ids line xs e =
     let P : List Id → Type 0 = λ ys. IsHeader (codes "initial") line ys × (are_among ids ys ≡ true) in
     subst P (ok_is got.0 xs in_all.1) (header_takes (codes "initial") line got.0 got.1, in_all.0)
 
-initial_again : (ids xs : List Id) → are_ids_after [] xs ≡ true → 0 < length xs → are_among ids xs ≡ true → initial_line_at ids (codes "initial" ++ 32 ∷ list_text xs) ≡ Ok xs
+pub initial_again : (ids xs : List Id) → are_ids_after [] xs ≡ true → 0 < length xs → are_among ids xs ≡ true → initial_line_at ids (codes "initial" ++ 32 ∷ list_text xs) ≡ Ok xs
 initial_again ids xs after some among = rw (header_again (codes "initial") xs refl refl after some, among) refl
 
 are_ids : (xs : List Id) → are_ids_after [] xs ≡ true → AreIds xs
@@ -164,11 +164,11 @@ lines_take ids good p front (line ∷ next ∷ more) ls some k e =
       each = (omega (arith, long, sized.0.long), rest.each);
     }
 
-more_lines : (ids : List Id) (p : Place) (front : List Line) (line : List ℕ) (rest : List (List ℕ)) → rest ≢ [] → lines_at ids p front (line ∷ rest) ≡ (one_line_at ids p line >>> λ l. lines_at ids (after_line p line) (front ++ l ∷ []) rest)
+pub more_lines : (ids : List Id) (p : Place) (front : List Line) (line : List ℕ) (rest : List (List ℕ)) → rest ≢ [] → lines_at ids p front (line ∷ rest) ≡ (one_line_at ids p line >>> λ l. lines_at ids (after_line p line) (front ++ l ∷ []) rest)
 more_lines ids p front line [] h = absurd (h refl)
 more_lines ids p front line (next ∷ more) h = refl
 
-ended : (xs : List (List ℕ)) → xs ++ [] ∷ [] ≢ []
+pub ended : (xs : List (List ℕ)) → xs ++ [] ∷ [] ≢ []
 ended [] e = absurd cc
 ended (x ∷ xs) e = absurd cc
 
@@ -203,7 +203,7 @@ lack_ended : (c : ℕ) (xs : List (List ℕ)) → list_all (lacks c) xs ≡ true
 lack_ended c [] h = refl
 lack_ended c (x ∷ xs) h = let parts = and_parts (lacks c x) _ h in and_from _ _ parts.0 (lack_ended c xs parts.1)
 
-feeds_split : (lines : List (List ℕ)) → list_all (lacks 10) lines ≡ true → pieces (with_feeds lines) ≡ lines ++ [] ∷ []
+pub feeds_split : (lines : List (List ℕ)) → list_all (lacks 10) lines ≡ true → pieces (with_feeds lines) ≡ lines ++ [] ∷ []
 feeds_split lines h = ap pieces (sym (join_feeds lines)) ∙ split_whole 10 (lines ++ [] ∷ []) (ended lines) (lack_ended 10 lines h)
 
 lines_lack : (ids : List Id) → AreIds ids → (ls : List Line) → AllByRecursion (FitsLine ids) ls → list_all (lacks 10) (map line_text ls) ≡ true
@@ -219,7 +219,7 @@ length-map_text (l ∷ ls) = ap suc (length-map_text ls)
 spelled_by : (bytes : List ℕ) (lines : List (List ℕ)) → pieces bytes ≡ lines ++ [] ∷ [] → bytes ≡ with_feeds lines
 spelled_by bytes lines e = sym (join_split 10 bytes) ∙ ap (join_with_byte 10) e ∙ join_feeds lines
 
-abbrev empty : Schedule
+abbrev pub empty : Schedule
 empty = record { nodes = []; initial = []; lines = [] }
 
 no_lines : (bytes line : List ℕ) (s : Schedule) → pieces bytes ≡ line ∷ [] → end_at first_place line empty ≡ Ok s → Spells bytes s
@@ -321,7 +321,7 @@ nodes_take bytes (line ∷ next ∷ more) s e k =
 pub schedule_takes : (bytes : List ℕ) (s : Schedule) → schedule_at bytes ≡ Ok s → Spells bytes s
 schedule_takes bytes s e = nodes_take bytes (pieces bytes) s refl e
 
-more_initial : (ids : List Id) (p : Place) (line : List ℕ) (rest : List (List ℕ)) → rest ≢ [] → initial_at ids p (line ∷ rest) ≡ (second_line_at ids p line >>> λ initial. lines_at ids (after_line p line) [] rest >>> λ lines. read {A = Schedule} (record { nodes = ids; initial = initial; lines = lines }))
+pub more_initial : (ids : List Id) (p : Place) (line : List ℕ) (rest : List (List ℕ)) → rest ≢ [] → initial_at ids p (line ∷ rest) ≡ (second_line_at ids p line >>> λ initial. lines_at ids (after_line p line) [] rest >>> λ lines. read {A = Schedule} (record { nodes = ids; initial = initial; lines = lines }))
 more_initial ids p line [] h = absurd (h refl)
 more_initial ids p line (next ∷ more) h = refl
 

@@ -137,7 +137,7 @@ number_law low high h = record {
 abbrev pub lacks : ℕ → List ℕ → Bool
 lacks c xs = list_all (λ b. not (b == c)) xs
 
-is_false : (b : Bool) → not b ≡ true → b ≡ false
+pub is_false : (b : Bool) → not b ≡ true → b ≡ false
 is_false true h = absurd cc
 is_false false h = refl
 

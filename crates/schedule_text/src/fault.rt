@@ -1,6 +1,7 @@
 ghost use Rattle.std.specs.Prelude.{◌≡◌};
 ghost use Rattle.schedule_text.specs.Printed.{why_text};
 
+use std::fmt::Display;
 use thiserror::Error;
 
 /// Why a line is bad. Where several hold, it is the first of them in this order, and among the last five that of the
@@ -77,8 +78,11 @@ pub struct BadSchedule {
 }
 
 /// Why nothing was read: a fault of the bytes, or too little memory.
-#[derive(Clone, Copy, Debug, PartialEq, Eq)]
+#[derive(Clone, Copy, Debug, PartialEq, Eq, Error)]
+#[error_bound(E: Display)]
 pub enum ReadError<E> {
+    #[error("{0}")]
     Bad(E),
+    #[error("memory ran out")]
     Memory,
 }

@@ -16,6 +16,7 @@ pub mod words;
 
 pub use fault::{BadSchedule, ReadError, Why};
 pub use id_list::IdList;
+pub use laws::{law_first_bad_line, law_no_fault, law_one_schedule};
 pub use lines::MAX_ORDINAL;
 pub use place::{MAX_BYTES, MAX_LINE_BYTES, MAX_LINES};
 pub use printing::write_schedule;

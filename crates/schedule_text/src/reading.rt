@@ -206,7 +206,7 @@ pub fn read_schedule(alloc: Global, bytes: &[u8]) -> Result<Schedule, ReadError<
     ensures found { IfOk result (λ s. Spells bytes.now s) }
     // What is spelled so is read, unless memory runs out.
     ensures only { (s : Schedule) → Spells bytes.now s → Answers result (Ok s) }
-    // Which fault it is, where there is one.
+    // Which fault it is, where there is one. `law_first_bad_line` says which line it names.
     ensures fault { Faulted result (fault_of bytes.now) }
 {
     match read_exact(alloc, bytes) {

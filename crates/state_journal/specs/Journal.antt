@@ -1,7 +1,7 @@
 -- The record that a journal stands for.
 use Rattle.std.specs.Prelude.{◌≡◌, ℕ, ◌+◌, List, [], ◌∷◌, length, nat_lt, nat_le, Bool, true, Option, Some, Result, Ok, Err, if◌then◌else◌}
 use Rattle.std.specs.Result.{result_ok}
-use Rattle.std.proofs.Common.{◌∙◌, ap}
+use Rattle.std.proofs.Common.{◌∙◌, ap, sym}
 use Rattle.zen_disk.specs.Moments.{Only}
 use Rattle.cluster_state.specs.Initial.{empty_record}
 use Rattle.cluster_state.specs.declared.state.Kept.{Kept}
@@ -69,3 +69,7 @@ FoundAsSome outcomes file = (d : List ℕ) × outcomes d × (found_of file ≡ f
 pub only_record : (seen : List ℕ) (left_now may_leave : List ℕ → Type 0) (kept : Kept) (found : Option Kept) → ((c : List ℕ) → left_now c → may_leave c) → Only seen may_leave → found_of seen ≡ Ok kept
     → (c : List ℕ) × left_now c × (found ≡ record_of_file c) → found ≡ Some kept
 only_record seen left_now may_leave kept found now only is left = left.2 ∙ ap record_of_file (only left.0 (now left.0 left.1)) ∙ ap result_ok is
+
+-- a crash since t might have left the record, where it might have left the file as it reads
+pub record_stays : (seen : List ℕ) (left_since : ℕ → List ℕ → Type 0) (t : ℕ) (kept : Kept) → left_since t seen → found_of seen ≡ Ok kept → StoodFor left_since t (Some kept)
+record_stays seen left_since t kept left is = (seen, left, sym (ap result_ok is))

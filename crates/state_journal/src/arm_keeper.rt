@@ -2,8 +2,8 @@ ghost use Rattle.std.specs.Prelude.{◌≡◌, ℕ, Option};
 ghost use Rattle.zen_disk.specs.Moments.{Same};
 ghost use Rattle.zen_disk.specs.declared.orders.Order.{Order as DiskOrder};
 
-use crate::{Keeper, StateJournal};
-use zen_disk::{Armable, Order};
+use crate::Keeper;
+use zen_disk::Order;
 
 /// A keeper whose disk can be ordered to stop or to fail at a later call.
 pub trait ArmKeeper: Keeper {
@@ -18,12 +18,4 @@ pub trait ArmKeeper: Keeper {
         ensures moment { Self.Keeper.moment self.new ≡ Self.Keeper.moment self.old }
         ensures left_since { (t : ℕ) → Same (Self.Keeper.left_since self.old t) (Self.Keeper.left_since self.new t) }
         ensures arms { arms self.old order self.new };
-}
-
-impl<D: Armable> ArmKeeper for StateJournal<D> {
-    ghost arms = { λ j order k. D.arms j.log.disk order k.log.disk × (k.log.gate ≡ j.log.gate) × (k.log.stopped ≡ j.log.stopped) × (k.kept ≡ j.kept) × (k.records ≡ j.records) };
-
-    fn arm(&mut self, order: Order) {
-        self.log.arm(order);
-    }
 }

@@ -6,26 +6,26 @@ ghost use Rattle.zen_disk.specs.Moments.{LeavesOnly};
 ghost use Rattle.zen_disk.specs.Runs.{Ran};
 ghost use Rattle.state_journal.specs.Fit.{IsFit-prop};
 ghost use Rattle.state_journal.specs.Bodies.{body_of};
-ghost use Rattle.state_journal.specs.Journal.{found_of, records_of, only_record, FoundAsSome, StoodFor};
+ghost use Rattle.state_journal.specs.Journal.{found_of, records_of, only_record, record_stays, FoundAsSome, StoodFor};
 
 use crate::append::append_ready;
 use crate::body::{committed_body, term_body};
 use crate::fold::{FoldError, fold_bodies};
 use crate::refusal::refused;
-use crate::{KeepError, Keeper, OpenError, Ready};
+use crate::{ArmKeeper, KeepError, Keeper, OpenError, Ready};
 use cluster_state::Kept;
 use gate_log::{GateLog, Opened};
 use std::alloc::Global;
 use voting_config::VotingConfig;
-use zen_disk::Disk;
+use zen_disk::{Armable, Disk, Order};
 
 /// A keeper over a journal on a disk, in which each change is a body.
 #[derive(Drop)]
 pub struct StateJournal<D: Disk> {
-    pub log: GateLog<D>,
-    pub kept: Kept,
-    /// How many bodies the journal has.
-    pub records: u64,
+    log: GateLog<D>,
+    kept: Kept,
+    // how many bodies the journal has
+    records: u64,
     ghost stands: { D.told → log.stopped ≡ false → found_of (D.seen log.disk) ≡ Ok kept },
     ghost counted: { D.told → log.stopped ≡ false → records ≡ records_of (D.seen log.disk) },
     ghost bounded: { kept.term ≤ 2 ^ 62 },
@@ -118,16 +118,19 @@ impl<D: Disk> Keeper for StateJournal<D> {
     ghost only_kept = { λ j found told running left.
         only_record (D.seen j.log.disk) (D.left_since j.log.disk (D.moment j.log.disk)) (D.may_leave j.log.disk) j.kept found (D.only_now j.log.disk) (j.log.settled told running).durable (j.stands told running) left };
 
+    ghost may_stay = { λ j t told so_far running.
+        record_stays (D.seen j.log.disk) (D.left_since j.log.disk) t j.kept (D.counts_now j.log.disk t (D.seen j.log.disk) so_far (D.seen_may_stay j.log.disk told)) (j.stands told running) };
+
     fn kept(&self) -> &Kept {
         &self.kept
     }
 
     fn stopped(&self) -> bool {
-        self.log.stopped
+        self.log.stopped()
     }
 
     fn set_term(&mut self, term: u64) -> Result<(), KeepError> {
-        if self.log.stopped {
+        if self.log.stopped() {
             return Err(KeepError::Stopped);
         }
         let Ok(()) = self.log.append_small(&term_body(term)) else {
@@ -139,7 +142,7 @@ impl<D: Disk> Keeper for StateJournal<D> {
     }
 
     fn set_accepted(&mut self, ready: Ready) -> Result<(), KeepError> {
-        if self.log.stopped {
+        if self.log.stopped() {
             return Err(KeepError::Stopped);
         }
         let Ok(()) = append_ready(&mut self.log, &ready) else {
@@ -152,7 +155,7 @@ impl<D: Disk> Keeper for StateJournal<D> {
     }
 
     fn mark_committed(&mut self) -> Result<(), KeepError> {
-        if self.log.stopped {
+        if self.log.stopped() {
             return Err(KeepError::Stopped);
         }
         let Ok(()) = self.log.append_small(&committed_body()) else {
@@ -161,5 +164,13 @@ impl<D: Disk> Keeper for StateJournal<D> {
         self.kept.committed = VotingConfig::of(self.kept.accepted.config.members());
         self.records = self.records.saturating_add(1);
         Ok(())
+    }
+}
+
+impl<D: Armable> ArmKeeper for StateJournal<D> {
+    ghost arms = { λ j order k. D.arms j.log.disk order k.log.disk × (k.log.gate ≡ j.log.gate) × (k.log.stopped ≡ j.log.stopped) × (k.kept ≡ j.kept) × (k.records ≡ j.records) };
+
+    fn arm(&mut self, order: Order) {
+        self.log.arm(order);
     }
 }

@@ -85,4 +85,7 @@ pub trait Keeper {
 
     /// Between two calls a crash leaves the record.
     ghost only_kept: { (k : Self) (found : Option Record) → told → has_stopped k ≡ false → left_since k (moment k) found → found ≡ Some (record_of k) };
+
+    /// While it runs, the record is among what a crash since any earlier moment might have left.
+    ghost may_stay: { (k : Self) (t : ℕ) → told → t ≤ moment k → has_stopped k ≡ false → left_since k t (Some (record_of k)) };
 }

@@ -1,4 +1,4 @@
-ghost use Rattle.std.specs.Prelude.{◌≡◌, ◌≤◌, ◌^◌, ⊤, false, true, Some};
+ghost use Rattle.std.specs.Prelude.{◌≡◌, ◌≤◌, ◌^◌, ⊤, false, true, refl, Some};
 ghost use Rattle.cluster_state.specs.Initial.{empty_record};
 ghost use Rattle.cluster_state.specs.States.{IsFit};
 ghost use Rattle.state_journal.specs.Fit.{IsFit-prop};
@@ -12,7 +12,7 @@ use voting_config::VotingConfig;
 /// A keeper in memory, which never fails.
 #[derive(Drop)]
 pub struct PlainKeeper {
-    pub kept: Kept,
+    kept: Kept,
     ghost bounded: { kept.term ≤ 2 ^ 62 },
     ghost fit: { IsFit kept.accepted } by { IsFit-prop kept.accepted },
     ghost older: { kept.accepted.term ≤ kept.term },
@@ -45,6 +45,8 @@ impl Keeper for PlainKeeper {
     ghost writes = { λ j change k ok. (k.kept ≡ changed j.kept change) × (ok ≡ true) };
 
     ghost only_kept = { λ k found told running left. left };
+
+    ghost may_stay = { λ k t told so_far running. refl };
 
     fn kept(&self) -> &Kept {
         &self.kept

@@ -1,11 +1,11 @@
 use crate::{ArmKeeper, KeepError, Keeper, OpenError, PlainKeeper, Ready, StateJournal, Why};
 use std::test::Fail;
-use voting_config::{NodeId, NodeSet};
+use voting_config::{NodeId, NodeSet, VotingConfig};
 use zen_disk::{Disk, Fuse, MemDisk, Order};
 
 fn one_id() -> NodeSet {
     let mut ids = NodeSet::new();
-    let _ = ids.insert(NodeId::default());
+    let _ = ids.insert(NodeId::parse("b").unwrap_or_default());
     ids
 }
 
@@ -17,8 +17,9 @@ fn a_plain_keeper_keeps(rt: HostRuntime) -> Result<(), Fail> {
     assert!(rt; keeper.mark_committed() == Ok(()));
     assert!(rt; !keeper.stopped());
     assert!(rt; keeper.kept().term == 1);
-    assert!(rt; keeper.kept().accepted.config.members().len() == 1);
-    assert!(rt; keeper.kept().committed.members().len() == 1);
+    let config = VotingConfig::of(&one_id());
+    assert!(rt; keeper.kept().accepted.config.is_same(&config));
+    assert!(rt; keeper.kept().committed.is_same(&config));
     Ok(())
 }
 
@@ -120,15 +121,16 @@ fn finds_what_it_kept(rt: HostRuntime) -> Result<(), Fail> {
         return Err(Fail::new("the state's term is greater"));
     }
     assert_eq!(&rt; journal.set_accepted(ready), Ok(()));
-    assert_eq!(&rt; journal.kept().accepted.config.members().len(), 1);
+    let config = VotingConfig::of(&one_id());
+    assert!(&rt; journal.kept().accepted.config.is_same(&config));
     assert_eq!(&rt; journal.mark_committed(), Ok(()));
     assert_eq!(&rt; journal.records(), 3);
     let bytes = content(&rt, journal)?;
     let again = open_journal(&rt, &bytes)?;
     assert_eq!(&rt; again.records(), 3);
     assert_eq!(&rt; again.kept().term, 7);
-    assert_eq!(&rt; again.kept().accepted.config.members().len(), 1);
-    assert_eq!(&rt; again.kept().committed.members().len(), 1);
+    assert!(&rt; again.kept().accepted.config.is_same(&config));
+    assert!(&rt; again.kept().committed.is_same(&config));
     assert_eq!(&rt; again.disk().struck(), None);
     Ok(())
 }

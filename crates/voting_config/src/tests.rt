@@ -16,7 +16,7 @@ fn set(letters: &[u8]) -> NodeSet {
 }
 
 #[test]
-fn ids(rt: HostRuntime) {
+fn an_id_has_1_to_32_letters_digits_and_hyphens(rt: HostRuntime) {
     let long = "a2345678901234567890123456789012";
     for (text, wanted) in [
         ("", Some(IdError::Empty)),
@@ -33,7 +33,7 @@ fn ids(rt: HostRuntime) {
 }
 
 #[test]
-fn sets(rt: HostRuntime) {
+fn a_33rd_id_is_refused(rt: HostRuntime) {
     let mut ids = set(b"cab");
     assert!(rt; ids.get(0) == Some(id("a")) && ids.get(3) == None);
     assert!(rt; ids.insert(id("b")) == Ok(false));
@@ -47,7 +47,7 @@ fn sets(rt: HostRuntime) {
 }
 
 #[test]
-fn quorums(rt: HostRuntime) {
+fn a_quorum_is_more_than_half(rt: HostRuntime) {
     for (config, votes, wanted) in [
         ("", "a", false),
         ("a", "a", true),

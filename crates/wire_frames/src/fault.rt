@@ -24,9 +24,11 @@ pub enum FrameFault {
 }
 
 /// Why a frame was not read.
-#[derive(Clone, Copy, Debug, PartialEq, Eq)]
+#[derive(Clone, Copy, Debug, PartialEq, Eq, thiserror::Error)]
 pub enum FrameError {
+    #[error("out of memory")]
     Memory,
+    #[error("{0}")]
     Fault(FrameFault),
 }
 

@@ -1,8 +1,9 @@
 //! Frames and the messages in them.
 
-ghost use Rattle.std.specs.Prelude.{◌≡◌};
+ghost use Rattle.std.specs.Prelude.{◌≡◌, IfOk};
 
 use cluster_state::{ClusterState, StateId};
+use std::alloc::AllocError;
 use voting_config::{NodeId, NodeSet};
 
 /// How many bytes a frame has at most after its four bytes of length.
@@ -168,6 +169,56 @@ impl Message {
             Message::LeaderAnswer { .. } => Kind::LeaderAnswer,
         }
     }
+
+    /// The same message once more.
+    pub fn copy(&self) -> Result<Message, AllocError>
+        ensures { IfOk result (λ message. message ≡ self.now) }
+    {
+        Ok(match self {
+            Message::StartJoin { candidate, term } => Message::StartJoin {
+                candidate: *candidate,
+                term: *term,
+            },
+            Message::Join { term, last } => Message::Join {
+                term: *term,
+                last: *last,
+            },
+            Message::Publish(state) => Message::Publish(state.copy()?),
+            Message::Response(id) => Message::Response(*id),
+            Message::Commit(id) => Message::Commit(*id),
+            Message::JoinAsk { term } => Message::JoinAsk { term: *term },
+            Message::PeersAsk { known } => Message::PeersAsk {
+                known: known.copy(),
+            },
+            Message::PeersAnswer {
+                master,
+                term,
+                known,
+            } => Message::PeersAnswer {
+                master: *master,
+                term: *term,
+                known: known.copy(),
+            },
+            Message::PreVoteAsk => Message::PreVoteAsk,
+            Message::PreVoteAnswer { term, last } => Message::PreVoteAnswer {
+                term: *term,
+                last: *last,
+            },
+            Message::PreVoteRefuse { leader } => Message::PreVoteRefuse { leader: *leader },
+            Message::FollowerCheck { term } => Message::FollowerCheck { term: *term },
+            Message::FollowerAnswer {
+                good,
+                term,
+                applied,
+            } => Message::FollowerAnswer {
+                good: *good,
+                term: *term,
+                applied: *applied,
+            },
+            Message::LeaderCheck { term } => Message::LeaderCheck { term: *term },
+            Message::LeaderAnswer { good } => Message::LeaderAnswer { good: *good },
+        })
+    }
 }
 
 /// A message from a node to another.
@@ -176,4 +227,17 @@ pub struct Frame {
     pub from: NodeId,
     pub to: NodeId,
     pub message: Message,
+}
+
+impl Frame {
+    /// The same frame once more.
+    pub fn copy(&self) -> Result<Frame, AllocError>
+        ensures { IfOk result (λ frame. frame ≡ self.now) }
+    {
+        Ok(Frame {
+            from: self.from,
+            to: self.to,
+            message: self.message.copy()?,
+        })
+    }
 }

@@ -65,7 +65,7 @@ fn a_join_byte_by_byte(rt: HostRuntime) -> Result<(), Fail> {
 }
 
 #[test]
-fn faults(rt: HostRuntime) -> Result<(), Fail> {
+fn the_first_fault_of_a_frame_is_named(rt: HostRuntime) -> Result<(), Fail> {
     let field = |fault: FieldError| Some(FrameFault::Field(fault));
     let mut longer = JOIN;
     longer[3] = 30;
@@ -83,7 +83,7 @@ fn faults(rt: HostRuntime) -> Result<(), Fail> {
 }
 
 #[test]
-fn lengths(rt: HostRuntime) -> Result<(), Fail> {
+fn a_frame_of_more_than_8_388_608_bytes_is_too_long(rt: HostRuntime) -> Result<(), Fail> {
     for (last, wanted) in [(0, None), (1, Some(FrameFault::TooLong))] {
         assert!(rt; fed(&rt, &[0, 0x80, 0], &[])? == (0, None));
         assert!(rt; fed(&rt, &[0, 0x80, 0], &[last])? == (0, wanted));
@@ -133,7 +133,7 @@ fn is_spelled(rt: &HostRuntime, message: Message, kind: u8, fields: &[u8]) -> Re
     };
     let bytes = write_frame(rt.alloc(), &frame)?;
     let read = read_frame(rt.alloc(), &body).ok().ok_or("a frame")?;
-    let again = write_frame(rt.alloc(), &read)?;
+    let again = write_frame(rt.alloc(), &read.copy()?)?;
     let (length, rest) = bytes.as_slice().split_at_checked(4).ok_or("four bytes")?;
     Ok(
         rest == body.as_slice()
@@ -220,8 +220,9 @@ fn spelled_checks(rt: HostRuntime) -> Result<(), Fail> {
     Ok(())
 }
 
+// A law is an empty function: its contract says it all, and the call shows that it can be called.
 #[test]
-fn laws_are_called() {
+fn the_laws_can_be_called() {
     law_one_frame();
     law_first_frame();
     law_stream();

@@ -10,7 +10,7 @@ use Rattle.cluster_state.specs.declared.messages.PublishResponse.{PublishRespons
 use Rattle.cluster_state.specs.declared.messages.ApplyCommit.{ApplyCommit}
 use Rattle.world_model.specs.Acts.{Act, Outcome, NodeHistory, Message, TakeJoin, Value, Publish, Response, Commit, NoActs, Then, Taken, Answered, PublishMessage, ResponseMessage, CommitMessage}
 use Rattle.world_model.specs.NodeState.{NodeState, node_state, term_of, accepted_of, committed_of, started_of, won_of, version_of, config_of, acks_of}
-use Rattle.world_model.specs.Histories.{is_open}
+use Rattle.world_model.specs.Histories.{is_opening}
 use Rattle.world_model.proofs.Guards.{Joined, Valued, Accepts, Responded, Commits, response_guard}
 use Rattle.world_model.proofs.Moments.{Begins, begins_self, begins_before, IsSent, sent_later, sent_cases}
 use Rattle.world_model.proofs.System.{IsExecution, IsSystem, execution_before, IsUp, taken_up, PublishBy, CommitBy, sent_at, origin}
@@ -258,7 +258,7 @@ module _ (D : Id → NodeHistory) (root : ClusterState) (W : IsSystem D root) (n
       → IsAloneIn D n c.term → ((d : ApplyCommit) → IsSent g (CommitMessage d) → d.term ≡ c.term → CommitIn D n d.term d.version) → CommitIn D n c.term c.version
   commit_now g c flag a f by b alone before =
       let v = commit_is_value D root W n c (record { before = g; act = a; flag = flag; is_in = b }) in
-      let u = taken_up n g a (ok (Some (CommitMessage c)) flag) f.1.follows (ap is_open by.act_is) by.runs in
+      let u = taken_up n g a (ok (Some (CommitMessage c)) flag) f.1.follows (ap is_opening by.act_is) by.runs in
       let begins = begins_before _ _ _ _ b in
       let term = v.term_is ∙ by.term_is in
       let version = v.version_is ∙ by.version_is in

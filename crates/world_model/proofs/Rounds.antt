@@ -12,7 +12,7 @@ use Rattle.cluster_state.specs.declared.messages.ApplyCommit.{ApplyCommit}
 use Rattle.world_model.specs.Acts.{Act, Outcome, NodeHistory, Reply, Message, Bootstrap, StartJoin, TakeJoin, Value, Publish, Response, Commit, Open, NoActs, Then, Taken, Refused, Stopped, Answered, Disk, Crashed, JoinMessage, PublishMessage, ResponseMessage, is_ok, is_first, wins}
 use Rattle.world_model.specs.NodeState.{NodeState, node_state, term_of, accepted_of, committed_of, started_of, votes_of, won_of, version_of, config_of, acks_of, initial_state}
 use Rattle.world_model.specs.Replies.{IsOutcome}
-use Rattle.world_model.specs.Histories.{is_down, is_open, MayFollow}
+use Rattle.world_model.specs.Histories.{is_down, is_opening, MayFollow}
 use Rattle.world_model.proofs.Facts.{IsIdAtMost, IsAtMost}
 use Rattle.world_model.proofs.Guards.{Booted, Started, Joined, Valued, Accepts, Responded, Commits, boot_guard, start_guard, join_guard, value_guard, publish_guard, response_guard, commit_guard, same_is}
 use Rattle.world_model.proofs.Moments.{Begins, begins_self, begins_trans, IsSent, sent_later, sent_cases}
@@ -27,11 +27,11 @@ abbrev pub ok : Option Message → Bool → Outcome
 ok sends flag = Answered (Taken sends flag)
 
 -- a node that runs ran before its last act, if that is no opening
-up_before : (me : Id) (g : NodeHistory) (a : Act) (r : Reply) → MayFollow me g a (Answered r) → is_open a ≡ false → IsUp (Then g a (Answered r)) → IsUp g
+up_before : (me : Id) (g : NodeHistory) (a : Act) (r : Reply) → MayFollow me g a (Answered r) → is_opening a ≡ false → IsUp (Then g a (Answered r)) → IsUp g
 up_before me g (Open found) r m h u = cc
 up_before me g a r m h u = record { runs = u.runs; alive = alive (is_down g) m.up }
   where
-    alive : (b : Bool) → (b ≡ true → is_open a ≡ true) → b ≡ false
+    alive : (b : Bool) → (b ≡ true → is_opening a ≡ true) → b ≡ false
     alive true k = absurd (both_ways _ h (k refl))
     alive false k = refl
 

@@ -10,7 +10,7 @@ use Rattle.cluster_state.specs.declared.messages.ApplyCommit.{ApplyCommit}
 use Rattle.world_model.specs.Acts.{Act, Outcome, NodeHistory, Message, Bootstrap, StartJoin, TakeJoin, Value, Publish, Response, Commit, Open, NoActs, Then, Taken, Answered, JoinMessage, PublishMessage, ResponseMessage, CommitMessage, is_first}
 use Rattle.world_model.specs.NodeState.{node_state, term_of, accepted_of, committed_of, votes_of, won_of, version_of, acks_of, stopped_of, durable_of, initial_state, empty_state}
 use Rattle.world_model.specs.Replies.{commits, reply_of}
-use Rattle.world_model.specs.Histories.{is_down, is_open, MayFollow}
+use Rattle.world_model.specs.Histories.{is_down, is_opening, MayFollow}
 use Rattle.world_model.proofs.Guards.{Responded, boot_guard, start_guard, join_guard, value_guard, publish_guard, response_guard, commit_guard}
 use Rattle.world_model.proofs.Moments.{Begins, IsSent}
 
@@ -72,12 +72,12 @@ pub record IsUp (g : NodeHistory) : Type 0 where
   pub alive : is_down g ≡ false
 
 -- a node that takes an act, other than an opening, runs
-pub taken_up : (me : Id) (g : NodeHistory) (act : Act) (o : Outcome) → MayFollow me g act o → is_open act ≡ false → stopped_of g ≡ false → IsUp g
+pub taken_up : (me : Id) (g : NodeHistory) (act : Act) (o : Outcome) → MayFollow me g act o → is_opening act ≡ false → stopped_of g ≡ false → IsUp g
 taken_up me g act o m h runs =
     let alive : is_down g ≡ false = true_or (is_down g) m.up in
     record { runs = runs; alive = alive }
   where
-    true_or : (b : Bool) → (b ≡ true → is_open act ≡ true) → b ≡ false
+    true_or : (b : Bool) → (b ≡ true → is_opening act ≡ true) → b ≡ false
     true_or true k = cc (k refl)
     true_or false k = refl
 

@@ -16,6 +16,16 @@ pub data NodeHistory : Type 0 where
   NoActs : NodeHistory
   Then : (before : NodeHistory) → (act : Act) → (outcome : Outcome) → NodeHistory
 
+abbrev pub is_opening : Act → Bool
+is_opening (Open found) = true
+is_opening (Bootstrap config) = false
+is_opening (StartJoin candidate term) = false
+is_opening (TakeJoin join) = false
+is_opening (Value version config value) = false
+is_opening (Publish request) = false
+is_opening (Response response) = false
+is_opening (Commit commit) = false
+
 -- whether the act was taken
 abbrev pub is_ok : Outcome → Bool
 is_ok (Answered (Taken sends wins)) = true

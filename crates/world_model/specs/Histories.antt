@@ -2,6 +2,7 @@
 use Rattle.std.specs.Prelude.{◌≡◌, ◌≢◌, Bool, true, false, cond, None, Some, List, [], ◌∷◌, ◌++◌, Contains, ◌⊎◌}
 use Rattle.voting_config.specs.Ids.{Id, same}
 use Rattle.world_model.specs.Acts.{Act, Outcome, NodeHistory, Message, Bootstrap, StartJoin, TakeJoin, Value, Publish, Response, Commit, Open, NoActs, Then, Taken, Refused, Stopped, Answered, Disk, Crashed, JoinMessage, PublishMessage, ResponseMessage, CommitMessage, wins}
+pub use Rattle.world_model.specs.Acts.{is_opening}
 use Rattle.world_model.specs.NodeState.{durable_of}
 use Rattle.world_model.specs.Replies.{IsOutcome}
 
@@ -35,16 +36,6 @@ is_down (Then g act (Answered reply)) = false
 is_down (Then g act (Disk kept)) = false
 is_down (Then g act (Crashed kept)) = true
 
-abbrev pub is_open : Act → Bool
-is_open (Open found) = true
-is_open (Bootstrap config) = false
-is_open (StartJoin candidate term) = false
-is_open (TakeJoin join) = false
-is_open (Value version config value) = false
-is_open (Publish request) = false
-is_open (Response response) = false
-is_open (Commit commit) = false
-
 -- an opening finds what the node keeps
 abbrev pub Continues : NodeHistory → Act → Type 0
 Continues g (Open found) = found ≡ durable_of g
@@ -75,7 +66,7 @@ IsSourced initial messages (Open found) = Unit {0}
 -- what a node may do next
 pub record MayFollow (me : Id) (g : NodeHistory) (act : Act) (outcome : Outcome) : Type 0 where
   pub follows : IsOutcome me g act outcome
-  pub up : is_down g ≡ true → is_open act ≡ true
+  pub up : is_down g ≡ true → is_opening act ≡ true
 
 -- the acts of one node follow each other
 abbrev pub IsLocal : Id → NodeHistory → Type 0

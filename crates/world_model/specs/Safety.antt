@@ -65,11 +65,15 @@ pub record HoldsAnswers (h : History) : Type 0 where
   -- and so does the record of each opening
   pub opened : (node : Id) (p : History) (found : Kept) (outcome : Outcome) → IsPrefix (Next p node (Open found) outcome) h → HoldsAll found (node_history p node)
 
--- What is promised of a history in which all nodes bootstrap with the configuration `initial`: one winner a term; committed states
--- of one version are equal, and each descends from each of a lower version and from the initial state; no node forgets what it answered for.
-pub record IsSafe (initial : List Id) (h : History) : Type 0 where
+-- What is promised of a history whose nodes all began with the state `root`: one winner a term; committed states of one version are equal, and
+-- each descends from each of a lower version and from `root`; no node forgets what it answered for.
+pub record IsSafeFrom (root : ClusterState) (h : History) : Type 0 where
   pub one_winner : (v w : Win) → Contains (winners h) v → Contains (winners h) w → v.term ≡ w.term → v.node ≡ w.node
   pub one_state : (p q : Published) → IsCommitted h p → IsCommitted h q → p.state.version ≡ q.state.version → p.state ≡ q.state
   pub one_line : (p q : Published) → IsCommitted h p → IsCommitted h q → p.state.version < q.state.version → Descends h p.state q.state
-  pub from_initial : (p : Published) → IsCommitted h p → Descends h (initial_state initial) p.state
+  pub from_root : (p : Published) → IsCommitted h p → Descends h root p.state
   pub held : HoldsAnswers h
+
+-- the same where all nodes bootstrap with the configuration `initial`
+abbrev pub IsSafe : List Id → History → Type 0
+IsSafe initial h = IsSafeFrom (initial_state initial) h

@@ -2,6 +2,7 @@
 use Rattle.std.specs.Prelude.{◌≡◌, max, Bool, true, false, cond, ◌||◌, [], refl}
 use Rattle.voting_config.specs.Ids.{with_id}
 use Rattle.world_model.specs.Acts.{Act, Outcome, NodeHistory, Bootstrap, StartJoin, TakeJoin, Value, Publish, Response, Commit, Open, Then, is_ok, is_effective, wins, is_disk}
+pub use Rattle.world_model.specs.Acts.{is_opening}
 use Rattle.world_model.specs.NodeState.{NodeState, node_state, initial_state}
 
 -- the part after an act that is no opening
@@ -47,16 +48,6 @@ node_state_after p (Commit commit) o = record p {
   stopped = is_disk o || p.stopped;
 }
 node_state_after p (Open found) o = p
-
-abbrev pub is_opening : Act → Bool
-is_opening (Open found) = true
-is_opening (Bootstrap config) = false
-is_opening (StartJoin candidate term) = false
-is_opening (TakeJoin join) = false
-is_opening (Value version config value) = false
-is_opening (Publish request) = false
-is_opening (Response response) = false
-is_opening (Commit commit) = false
 
 -- the look-ups over one more act are those of before, moved by this act
 pub node_state-Then : (g : NodeHistory) (act : Act) (o : Outcome) → is_opening act ≡ false → node_state (Then g act o) ≡ node_state_after (node_state g) act o

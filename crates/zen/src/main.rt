@@ -19,8 +19,13 @@ fn words(rt: &HostRuntime) -> io::Result<Vec<String>> {
 }
 
 fn main(rt: HostRuntime) -> ExitCode {
-    let Ok(words) = words(&rt) else {
-        return ExitCode::from(Status::NoMemory.code());
+    let words = match words(&rt) {
+        Ok(words) => words,
+        Err(error) if error.kind() == io::ErrorKind::OutOfMemory => {
+            return ExitCode::from(Status::NoMemory.code());
+        }
+        // a word is no UTF-8, and so none that the program knows: without words, `run` writes the usage
+        Err(_) => Vec::new(rt.alloc()),
     };
     let mut input = StandardInput::new(rt.stdin());
     let mut output = StandardOutput::new(rt.stdout());

@@ -1,6 +1,6 @@
 //! The standard streams as a source and a sink. What they give and take is not told: that they carry bytes is tested.
 
-ghost use Rattle.std.specs.Prelude.{None};
+ghost use Rattle.std.specs.Prelude.{None, ⊤};
 
 use std::io::{Read, Stdin, Stdout, Write};
 use zen_link::{Failed, Host, Sink, Source};
@@ -23,6 +23,8 @@ impl Source for StandardInput {
     ghost left = { λ _. None };
 
     ghost faults = { λ input. input.faults };
+
+    ghost steps = { λ _ _ _. ⊤ };
 
     fn read(&mut self, into: &mut [u8]) -> Result<usize, Failed> {
         let Ok(count) = self.input.read(into) else {
@@ -51,6 +53,8 @@ impl Sink for StandardOutput {
     ghost written = { λ _. None };
 
     ghost faults = { λ output. output.faults };
+
+    ghost steps = { λ _ _ _ _. ⊤ };
 
     fn write(&mut self, bytes: &[u8]) -> Result<usize, Failed> {
         if let Ok(count) = self.output.write(bytes) {

@@ -1,28 +1,35 @@
 -- How a run ends, from how its parts ended.
-use Rattle.std.proofs.Common.{◌≡◌, ℕ, ◌+◌, ◌≤◌, ◌<◌, true, Option, Some, List, [], length, take, refl, sym, ◌∙◌, ap, subst, arith, inl, inr, ◌⊎◌}
+use Rattle.std.proofs.Common.{◌≡◌, ◌≢◌, ℕ, ◌≤◌, ◌<◌, true, Option, None, Some, List, [], length, take, refl, sym, ◌∙◌, ap, subst, arith, inl, inr, ◌⊎◌, append-nil}
 use Rattle.std.specs.List.{AllByRecursion}
 use Rattle.std.proofs.lemmas.List.{take_all, length-take}
 use Rattle.voting_config.specs.Ids.{IsIdSet}
 use Rattle.zen_disk.specs.Faults.{Rose}
 use Rattle.zen_link.specs.Streams.{Appended, AppendedFront}
-use Rattle.world_model.specs.Histories.{IsLegal}
-use Rattle.world_model.specs.Safety.{IsSafe}
 use Rattle.agreement.proofs.Laws.{safe_of_legal}
 use Rattle.schedule_text.specs.declared.fault.BadSchedule.{BadSchedule}
 use Rattle.schedule_text.specs.declared.schedule.Schedule.{Schedule}
 use Rattle.schedule_text.specs.Limits.{most_bytes}
 use Rattle.schedule_text.specs.Lines.{FitsLine}
 use Rattle.schedule_text.specs.Reading.{fault_of}
+use Rattle.schedule_text.specs.FirstBad.{IsFirstBad}
 use Rattle.schedule_text.specs.Printed.{bad_line}
 use Rattle.schedule_text.specs.Spelled.{Spells, Nothing, Text}
+use Rattle.schedule_text.proofs.ScheduleLaws.{one_schedule}
+use Rattle.schedule_text.proofs.FirstBadLaws.{law_first_bad_line}
+use Rattle.schedule_replay.specs.Legal.{IsWellFormed}
 use Rattle.schedule_replay.specs.Replayed.{replayed}
 use Rattle.schedule_replay.specs.Trace.{trace}
 use Rattle.schedule_replay.proofs.FitLines.{none_set, ids_set}
+use Rattle.schedule_replay.proofs.TraceLaws.{tells, shows, agrees}
 use Rattle.schedule_replay.proofs.WorldLegal.{replay_is_legal}
-use Rattle.zen_app.specs.Reading.{IsInput}
-use Rattle.zen_app.specs.Ran.{Ran, Refusal, is_replay}
+use Rattle.zen_app.specs.Reading.{most_read, read_of, ReadsAtMost, IsInput}
+use Rattle.zen_app.specs.Ran.{SourceView, SinkView, IsSafeTrace, Replays, Ran, is_replay}
+use Rattle.zen_app.specs.Refusing.{Refusal}
 use Rattle.zen_app.specs.declared.status.Status.{Status}
-use Rattle.zen_app.specs.declared.status.Status.TheVariants.{Success, BadSchedule as IsBadSchedule, NoMemory, WriteFault}
+use Rattle.zen_app.specs.declared.status.Status.TheVariants as exit
+use Rattle.zen_app.proofs.Inputs.{none_unread}
+
+-- ---- of a schedule that is spelled
 
 pub spells_fits : (bytes : List ℕ) (s : Schedule) → Spells bytes s → AllByRecursion (FitsLine s.nodes) s.lines
 spells_fits _ _ Nothing = tt
@@ -39,22 +46,27 @@ spells_set : (bytes : List ℕ) (s : Schedule) → Spells bytes s → IsIdSet s.
 spells_set _ _ Nothing = none_set
 spells_set _ _ (Text s is within) = ids_set s.initial is.initial
 
-spells_legal : (bytes : List ℕ) (s : Schedule) → Spells bytes s → IsLegal s.initial (replayed s)
-spells_legal bytes s spelled = replay_is_legal s (spells_set bytes s spelled) (spells_fits bytes s spelled) (spells_named bytes s spelled)
+spells_well_formed : (bytes : List ℕ) (s : Schedule) → Spells bytes s → IsWellFormed s
+spells_well_formed bytes s spelled = record { initial = spells_set bytes s spelled; fit = spells_fits bytes s spelled; named = spells_named bytes s spelled }
 
-spells_safe : (bytes : List ℕ) (s : Schedule) → Spells bytes s → IsSafe s.initial (replayed s)
-spells_safe bytes s spelled = (safe_of_legal s.initial (replayed s) (spells_legal bytes s spelled)).0
+spells_safe_trace : (bytes : List ℕ) (s : Schedule) → Spells bytes s → IsSafeTrace s
+spells_safe_trace bytes s spelled =
+    let well = spells_well_formed bytes s spelled in
+    let legal = replay_is_legal s well in
+    record { legal = legal; safe = (safe_of_legal s.initial (replayed s) legal).0; tells = tells s; shows = shows s well; agrees = agrees s well }
 
 spells_short : (bytes : List ℕ) (s : Schedule) → Spells bytes s → length bytes ≤ most_bytes
 spells_short _ _ Nothing = omega arith
 spells_short _ _ (Text s is within) = within.bytes
 
+-- ---- of what was read
+
 -- all of the input was read, where that is no longer than a schedule
 all_read : (left : List ℕ) (now : Option (List ℕ)) (bytes : List ℕ) → IsInput (Some left) now bytes → length bytes ≤ most_bytes → (bytes ≡ left) × (now ≡ Some [])
 all_read left now bytes r short =
-    let long : length (take (most_bytes + 1) left) ≤ most_bytes = subst (λ (l : List ℕ). length l ≤ most_bytes) r.0 short in
-    let low : length left ≤ most_bytes = omega (arith, long, length-take (most_bytes + 1) left) in
-    (r.0 ∙ take_all (most_bytes + 1) left (omega (arith, low)), r.1 low)
+    let long : length (take most_read left) ≤ most_bytes = subst (λ (l : List ℕ). length l ≤ most_bytes) r.0 short in
+    let low : length left ≤ most_bytes = omega (arith, long, length-take most_read left) in
+    (r.0 ∙ take_all most_read left (omega (arith, low)), r.1 ∙ ap (λ (x : List ℕ). Some x) (none_unread left low))
 
 spells_left : (left : List ℕ) (now : Option (List ℕ)) (bytes : List ℕ) (s : Schedule) → IsInput (Some left) now bytes → Spells bytes s → Spells left s × (now ≡ Some [])
 spells_left left now bytes s r spelled =
@@ -65,94 +77,118 @@ spells_left left now bytes s r spelled =
 spells_read : (left : List ℕ) (now : Option (List ℕ)) (bytes : List ℕ) (s : Schedule) → IsInput (Some left) now bytes → Spells left s → Spells bytes s
 spells_read left now bytes s r spelled =
     let short = spells_short left s spelled in
-    let is : bytes ≡ left = r.0 ∙ take_all (most_bytes + 1) left (omega (arith, short)) in
+    let is : bytes ≡ left = r.0 ∙ take_all most_read left (omega (arith, short)) in
     subst (λ (l : List ℕ). Spells l s) (sym is) spelled
 
-module _ (words : List (List ℕ)) (left left_now : Option (List ℕ)) (read read_now : ℕ) (was now : Option (List ℕ)) (wrote wrote_now : ℕ) (bytes : List ℕ) (command : is_replay words ≡ true) (input : IsInput left left_now bytes) (read_later : read ≤ read_now) (wrote_later : wrote ≤ wrote_now) where
-  told : (bs : List ℕ) → left ≡ Some bs → IsInput (Some bs) left_now bytes
-  told bs e = subst (λ (l : Option (List ℕ)). IsInput l left_now bytes) e input
+-- ---- of what was written
 
-  pub succeeded : (s : Schedule) → Spells bytes s → Appended was now (trace s) → Ran words left left_now read read_now was now wrote wrote_now Success
-  succeeded s spelled written = record {
+pub wrote_nothing : (was : Option (List ℕ)) → Appended was was []
+wrote_nothing None = refl
+wrote_nothing (Some was) = ap (λ (x : List ℕ). Some x) (sym (append-nil was))
+
+whole_front : (was now : Option (List ℕ)) (bytes : List ℕ) → Appended was now bytes → AppendedFront was now bytes
+whole_front was now bytes written = record { front = bytes; rest = []; whole = append-nil bytes; appended = written }
+
+no_front : (was now : Option (List ℕ)) (bytes : List ℕ) → Appended was now [] → AppendedFront was now bytes
+no_front was now bytes written = record { front = []; rest = bytes; whole = refl; appended = written }
+
+-- a prefix of the trace of the schedule that the bytes spell, where they spell one
+abbrev IsTraced : List ℕ → (was now : Option (List ℕ)) → Type 0
+IsTraced bytes was now = (s : Schedule) → Spells bytes s → AppendedFront was now (trace s) × IsSafeTrace s
+
+traced : (bytes : List ℕ) (was now : Option (List ℕ)) (s : Schedule) → Spells bytes s → AppendedFront was now (trace s) → IsTraced bytes was now
+traced bytes was now s spelled written t other = (subst (λ (x : Schedule). AppendedFront was now (trace x)) (one_schedule bytes s t spelled other) written, spells_safe_trace bytes t other)
+
+traced_nothing : (bytes : List ℕ) (was now : Option (List ℕ)) → Appended was now [] → IsTraced bytes was now
+traced_nothing bytes was now written s spelled = (no_front was now (trace s) written, spells_safe_trace bytes s spelled)
+
+-- ---- how a replay ends
+
+module _ (words : List (List ℕ)) (source source_now : SourceView) (sink sink_now : SinkView) (command : is_replay words ≡ true) (at_most : ReadsAtMost most_read source.left source_now.left)
+    (read_later : source.faults ≤ source_now.faults) (wrote_later : sink.faults ≤ sink_now.faults) where
+  ran : (status : Status) → status ≢ exit.Usage → (status ≡ exit.ReadFault → Rose source.faults source_now.faults) → (status ≡ exit.WriteFault → Rose sink.faults sink_now.faults)
+      → ((bytes : List ℕ) → source.left ≡ Some bytes → Replays bytes source source_now sink sink_now status) → Ran words source source_now sink sink_now status
+  ran status other read_fault write_fault replays = record {
     usage = λ e. absurd cc;
-    command = λ _ e. absurd cc;
-    replays = λ _ bs e.
-        let l = spells_left bs left_now bytes s (told bs e) spelled in
-        (l.1, record { schedule = s; spelled = l.0; written = written; legal = spells_legal bs s l.0; safe = spells_safe bs s l.0 });
-    complete = λ _ bs e t sp r w. inl refl;
-    read_fault = λ e. absurd cc;
-    write_fault = λ e. absurd cc;
+    command = λ _. other;
+    replays = λ _. replays;
+    read_at_most = at_most;
+    read_fault = read_fault;
+    write_fault = write_fault;
     read_later = read_later;
     wrote_later = wrote_later;
   }
 
-  pub cut_short : (s : Schedule) → Spells bytes s → AppendedFront was now (trace s) → Rose wrote wrote_now → Ran words left left_now read read_now was now wrote wrote_now WriteFault
-  cut_short s spelled written rose = record {
-    usage = λ e. absurd cc;
-    command = λ _ e. absurd cc;
-    replays = λ _ bs e. let l = spells_left bs left_now bytes s (told bs e) spelled in inl (record { schedule = s; spelled = l.0; written = written; legal = spells_legal bs s l.0; safe = spells_safe bs s l.0 });
-    complete = λ _ bs e t sp r w. absurd (w rose);
-    read_fault = λ e. absurd cc;
-    write_fault = λ e. rose;
-    read_later = read_later;
-    wrote_later = wrote_later;
-  }
+  pub read_failed : Appended sink.written sink_now.written [] → Rose source.faults source_now.faults → Ran words source source_now sink sink_now exit.ReadFault
+  read_failed nothing rose = ran exit.ReadFault (λ e. absurd cc) (λ _. rose) (λ e. absurd cc) (λ bs e. record {
+    ended = nothing;
+    traced = traced_nothing bs sink.written sink_now.written nothing;
+    complete = λ t sp r w. absurd (r rose);
+  })
 
-  pub out_of_memory : (s : Schedule) → Spells bytes s → AppendedFront was now (trace s) → Ran words left left_now read read_now was now wrote wrote_now NoMemory
-  out_of_memory s spelled written = record {
-    usage = λ e. absurd cc;
-    command = λ _ e. absurd cc;
-    replays = λ _ bs e. let l = spells_left bs left_now bytes s (told bs e) spelled in inl (record { schedule = s; spelled = l.0; written = written; legal = spells_legal bs s l.0; safe = spells_safe bs s l.0 });
-    complete = λ _ bs e t sp r w. inr refl;
-    read_fault = λ e. absurd cc;
-    write_fault = λ e. absurd cc;
-    read_later = read_later;
-    wrote_later = wrote_later;
-  }
+  -- memory ran out before anything was written
+  pub no_memory : Appended sink.written sink_now.written [] → Ran words source source_now sink sink_now exit.NoMemory
+  no_memory nothing = ran exit.NoMemory (λ e. absurd cc) (λ e. absurd cc) (λ e. absurd cc) (λ bs e. record {
+    ended = inr nothing;
+    traced = traced_nothing bs sink.written sink_now.written nothing;
+    complete = λ t sp r w. inr refl;
+  })
 
-  pub bad : (status : Status) (bad : BadSchedule) → fault_of bytes ≡ Some bad → ((s : Schedule) → Spells bytes s → ⊥) → Refusal was now wrote wrote_now (bad_line bad) status → Ran words left left_now read read_now was now wrote wrote_now status
-  bad status b fault none refusal = from refusal.refused
-    where
-      told_fault : (bs : List ℕ) → left ≡ Some bs → fault_of (take (most_bytes + 1) bs) ≡ Some b
-      told_fault bs e = subst (λ (l : List ℕ). fault_of l ≡ Some b) (told bs e).0 fault
+  module _ (bytes : List ℕ) (input : IsInput source.left source_now.left bytes) where
+    told : (bs : List ℕ) → source.left ≡ Some bs → IsInput (Some bs) source_now.left bytes
+    told bs e = subst (λ (l : Option (List ℕ)). IsInput l source_now.left bytes) e input
 
-      no_schedule : (bs : List ℕ) → left ≡ Some bs → (s : Schedule) → Spells bs s → ⊥
-      no_schedule bs e s spelled = none s (spells_read bs left_now bytes s (told bs e) spelled)
+    left_of : (bs : List ℕ) (s : Schedule) → source.left ≡ Some bs → Spells bytes s → Spells bs s × (source_now.left ≡ Some [])
+    left_of bs s e spelled = spells_left bs source_now.left bytes s (told bs e) spelled
 
-      from : (status ≡ IsBadSchedule) ⊎ ((status ≡ WriteFault) ⊎ (status ≡ NoMemory)) → Ran words left left_now read read_now was now wrote wrote_now status
-      from (inl e) =
-          subst (λ (x : Status). Ran words left left_now read read_now was now wrote wrote_now x) (sym e)
-          (record {
-            usage = λ k. absurd cc;
-            command = λ _ k. absurd cc;
-            replays = λ _ bs k. record { bad = b; fault = told_fault bs k; written = refusal.whole e };
-            complete = λ _ bs k t sp r w. absurd (no_schedule bs k t sp);
-            read_fault = λ k. absurd cc;
-            write_fault = λ k. absurd cc;
-            read_later = read_later;
-            wrote_later = wrote_later;
-          })
-      from (inr (inl e)) =
-          subst (λ (x : Status). Ran words left left_now read read_now was now wrote wrote_now x) (sym e)
-          (record {
-            usage = λ k. absurd cc;
-            command = λ _ k. absurd cc;
-            replays = λ _ bs k. inr (inl (record { bad = b; fault = told_fault bs k; written = (refusal.cut e).0 }));
-            complete = λ _ bs k t sp r w. absurd (no_schedule bs k t sp);
-            read_fault = λ k. absurd cc;
-            write_fault = λ k. (refusal.cut e).1;
-            read_later = read_later;
-            wrote_later = wrote_later;
-          })
-      from (inr (inr e)) =
-          subst (λ (x : Status). Ran words left left_now read read_now was now wrote wrote_now x) (sym e)
-          (record {
-            usage = λ k. absurd cc;
-            command = λ _ k. absurd cc;
-            replays = λ _ bs k. inr (inr (refusal.nothing e));
-            complete = λ _ bs k t sp r w. inr refl;
-            read_fault = λ k. absurd cc;
-            write_fault = λ k. absurd cc;
-            read_later = read_later;
-            wrote_later = wrote_later;
-          })
+    pub succeeded : (s : Schedule) → Spells bytes s → Appended sink.written sink_now.written (trace s) → Ran words source source_now sink sink_now exit.Ok
+    succeeded s spelled written = ran exit.Ok (λ e. absurd cc) (λ e. absurd cc) (λ e. absurd cc) (λ bs e. let l = left_of bs s e spelled in record {
+      ended = (l.1, record { schedule = s; spelled = l.0; written = written; safe_trace = spells_safe_trace bs s l.0 });
+      traced = traced bs sink.written sink_now.written s l.0 (whole_front sink.written sink_now.written (trace s) written);
+      complete = λ t sp r w. inl refl;
+    })
+
+    pub cut_short : (s : Schedule) → Spells bytes s → AppendedFront sink.written sink_now.written (trace s) → Rose sink.faults sink_now.faults → Ran words source source_now sink sink_now exit.WriteFault
+    cut_short s spelled written rose = ran exit.WriteFault (λ e. absurd cc) (λ e. absurd cc) (λ _. rose) (λ bs e. let l = left_of bs s e spelled in record {
+      ended = ((told bs e).1, inl (record { schedule = s; spelled = l.0; written = written; safe_trace = spells_safe_trace bs s l.0 }));
+      traced = traced bs sink.written sink_now.written s l.0 written;
+      complete = λ t sp r w. absurd (w rose);
+    })
+
+    pub out_of_memory : (s : Schedule) → Spells bytes s → AppendedFront sink.written sink_now.written (trace s) → Ran words source source_now sink sink_now exit.NoMemory
+    out_of_memory s spelled written = ran exit.NoMemory (λ e. absurd cc) (λ e. absurd cc) (λ e. absurd cc) (λ bs e. let l = left_of bs s e spelled in record {
+      ended = inl (record { schedule = s; spelled = l.0; written = written; safe_trace = spells_safe_trace bs s l.0 });
+      traced = traced bs sink.written sink_now.written s l.0 written;
+      complete = λ t sp r w. inr refl;
+    })
+
+    pub bad : (status : Status) (bad : BadSchedule) → fault_of bytes ≡ Some bad → ((s : Schedule) → Spells bytes s → ⊥) → Refusal sink.written sink_now.written sink.faults sink_now.faults (bad_line bad) status
+        → Ran words source source_now sink sink_now status
+    bad status b fault none refusal = from refusal.refused
+      where
+        told_fault : (bs : List ℕ) → source.left ≡ Some bs → fault_of (read_of bs) ≡ Some b
+        told_fault bs e = subst (λ (l : List ℕ). fault_of l ≡ Some b) (told bs e).0 fault
+
+        first_bad : (bs : List ℕ) → source.left ≡ Some bs → IsFirstBad b.line (read_of bs)
+        first_bad bs e = (law_first_bad_line (read_of bs) b.line).0 (b.why, told_fault bs e)
+
+        no_schedule : {A : Type 0} (bs : List ℕ) (s : Schedule) → source.left ≡ Some bs → Spells bs s → A
+        no_schedule bs s e spelled = absurd (none s (spells_read bs source_now.left bytes s (told bs e) spelled))
+
+        from : (status ≡ exit.BadSchedule) ⊎ ((status ≡ exit.WriteFault) ⊎ (status ≡ exit.NoMemory)) → Ran words source source_now sink sink_now status
+        from (inl is) =
+            subst (λ (x : Status). Ran words source source_now sink sink_now x) (sym is)
+            (ran exit.BadSchedule (λ e. absurd cc) (λ e. absurd cc) (λ e. absurd cc) (λ bs e. record {
+              ended = ((told bs e).1, record { bad = b; fault = told_fault bs e; first = first_bad bs e; written = refusal.whole is });
+              traced = λ s sp. no_schedule bs s e sp;
+              complete = λ s sp r w. no_schedule bs s e sp;
+            }))
+        from (inr (inl is)) =
+            subst (λ (x : Status). Ran words source source_now sink sink_now x) (sym is)
+            (ran exit.WriteFault (λ e. absurd cc) (λ e. absurd cc) (λ _. (refusal.cut is).1) (λ bs e. record {
+              ended = ((told bs e).1, inr (record { bad = b; fault = told_fault bs e; first = first_bad bs e; written = (refusal.cut is).0 }));
+              traced = λ s sp. no_schedule bs s e sp;
+              complete = λ s sp r w. no_schedule bs s e sp;
+            }))
+        from (inr (inr is)) =
+            subst (λ (x : Status). Ran words source source_now sink sink_now x) (sym is) (no_memory (refusal.nothing is))

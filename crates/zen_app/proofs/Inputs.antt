@@ -4,7 +4,7 @@ use Rattle.std.proofs.Math.Seq.{take-add}
 use Rattle.std.proofs.lemmas.List.{take_all, length-drop, drop-drop, nil_from_length}
 use Rattle.zen_link.specs.Streams.{Left}
 use Rattle.schedule_text.specs.Limits.{most_bytes}
-use Rattle.zen_app.specs.Reading.{IsInput, PieceRead, ReadsPiece, IsReadOn, IsReadSoFar}
+use Rattle.zen_app.specs.Reading.{most_read, unread_of, IsInput, PieceRead, ReadsPiece, IsReadOn, IsReadSoFar}
 
 pub none_read : (left : Option (List ℕ)) → IsReadSoFar left left []
 none_read None = refl
@@ -30,6 +30,9 @@ more_read (Some left) now later before after count so_far on =
       omega (arith, long, step.within, length-drop (length before) left, so_far.2),
     )
 
+pub none_unread : (left : List ℕ) → length left ≤ most_bytes → unread_of left ≡ []
+none_unread left short = nil_from_length (drop most_read left) (omega (arith, length-drop most_read left, short))
+
 -- nothing is left
 pub read_to_end : (left now later : Option (List ℕ)) (before after : List ℕ) (count : ℕ) → IsReadSoFar left now before → IsReadOn now later before after count → count ≡ 0 → length before ≤ most_bytes → IsInput left later after
 read_to_end None now later before after count so_far on none few = tt
@@ -40,11 +43,11 @@ read_to_end (Some left) now later before after count so_far on none few =
     let short : length left ≤ length before = let e : length (drop (length before) left) ≡ 0 = ap (λ (x : List ℕ). length x) rest in omega (arith, e, length-drop (length before) left) in
     let all = more_read (Some left) now later before after count so_far on in
     let whole : after ≡ left = all.0 ∙ take_all (length after) left (omega (arith, long, short)) in (
-      whole ∙ sym (take_all (most_bytes + 1) left (omega (arith, short, few))),
-      λ _. all.1 ∙ ap (λ (x : List ℕ). Some x) (nil_from_length (drop (length after) left) (omega (arith, length-drop (length after) left, long, short))),
+      whole ∙ sym (take_all most_read left (omega (arith, short, few))),
+      all.1 ∙ ap (λ (x : List ℕ). Some x) (nil_from_length (drop (length after) left) (omega (arith, length-drop (length after) left, long, short)) ∙ sym (none_unread left (omega (arith, short, few)))),
     )
 
 -- as many bytes are read as may be
-pub read_enough : (left now : Option (List ℕ)) (bytes : List ℕ) → IsReadSoFar left now bytes → length bytes ≡ most_bytes + 1 → IsInput left now bytes
+pub read_enough : (left now : Option (List ℕ)) (bytes : List ℕ) → IsReadSoFar left now bytes → length bytes ≡ most_read → IsInput left now bytes
 read_enough None now bytes so_far long = tt
-read_enough (Some left) now bytes so_far long = (so_far.0 ∙ ap (λ (n : ℕ). take n left) long, λ short. absurd (omega (arith, long, so_far.2, short)))
+read_enough (Some left) now bytes so_far long = (so_far.0 ∙ ap (λ (n : ℕ). take n left) long, so_far.1 ∙ ap (λ (n : ℕ). Some (drop n left)) long)

@@ -1,12 +1,12 @@
--- The exit status that stands for each end of a run.
+-- The exit status that stands for each end of a run. This is the statement of `Status::code`.
 use Rattle.std.specs.Prelude.{ℕ}
 use Rattle.zen_app.specs.declared.status.Status.{Status}
-use Rattle.zen_app.specs.declared.status.Status.TheVariants.{Success, Usage, BadSchedule, NoMemory, ReadFault, WriteFault}
+use Rattle.zen_app.specs.declared.status.Status.TheVariants as exit
 
 abbrev pub code_of : Status → ℕ
-code_of Success = 0
-code_of Usage = 2
-code_of BadSchedule = 3
-code_of NoMemory = 4
-code_of ReadFault = 5
-code_of WriteFault = 6
+code_of exit.Ok = 0
+code_of exit.Usage = 2
+code_of exit.BadSchedule = 3
+code_of exit.NoMemory = 4
+code_of exit.ReadFault = 5
+code_of exit.WriteFault = 6

@@ -1,3 +1,4 @@
 pub mod Codes
 pub mod Ran
 pub mod Reading
+pub mod Refusing

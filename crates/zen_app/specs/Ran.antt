@@ -1,5 +1,5 @@
--- How a run of the program ends.
-use Rattle.std.specs.Prelude.{◌≡◌, ◌≢◌, ℕ, ◌+◌, ◌≤◌, ◌⊎◌, Bool, true, false, ◌&&◌, Option, Some, List, [], ◌∷◌, take, codes}
+-- How a run of the program ends. This is the statement of `run`.
+use Rattle.std.specs.Prelude.{◌≡◌, ◌≢◌, ℕ, ◌≤◌, ◌⊎◌, Bool, true, false, ◌&&◌, Option, Some, List, [], ◌∷◌, codes}
 use Rattle.std.specs.Str.{bytes_eq}
 use Rattle.zen_disk.specs.Faults.{Rose}
 use Rattle.zen_link.specs.Streams.{Appended, AppendedFront}
@@ -7,14 +7,28 @@ use Rattle.world_model.specs.Histories.{IsLegal}
 use Rattle.world_model.specs.Safety.{IsSafe}
 use Rattle.schedule_text.specs.declared.fault.BadSchedule.{BadSchedule}
 use Rattle.schedule_text.specs.declared.schedule.Schedule.{Schedule}
-use Rattle.schedule_text.specs.Limits.{most_bytes}
 use Rattle.schedule_text.specs.Spelled.{Spells}
 use Rattle.schedule_text.specs.Reading.{fault_of}
+use Rattle.schedule_text.specs.FirstBad.{IsFirstBad}
 use Rattle.schedule_text.specs.Printed.{bad_line}
 use Rattle.schedule_replay.specs.Replayed.{replayed}
+use Rattle.schedule_replay.specs.Showing.{Shows, Agrees}
 use Rattle.schedule_replay.specs.Trace.{trace}
+use Rattle.schedule_replay.specs.TraceLaws.{Tells}
+use Rattle.schedule_replay.specs.TraceSteps.{steps}
+use Rattle.zen_app.specs.Reading.{most_read, read_of, unread_of, ReadsAtMost}
 use Rattle.zen_app.specs.declared.status.Status.{Status}
-use Rattle.zen_app.specs.declared.status.Status.TheVariants.{Success, Usage, BadSchedule as IsBadSchedule, NoMemory, ReadFault, WriteFault}
+use Rattle.zen_app.specs.declared.status.Status.TheVariants as exit
+
+-- what a source tells: the bytes left, where it tells them, and how many faults there were
+pub record SourceView : Type 0 where
+  pub left : Option (List ℕ)
+  pub faults : ℕ
+
+-- what a sink tells: the bytes written, where it tells them, and how many faults there were
+pub record SinkView : Type 0 where
+  pub written : Option (List ℕ)
+  pub faults : ℕ
 
 -- the words of the one command
 abbrev pub is_replay : List (List ℕ) → Bool
@@ -24,79 +38,88 @@ is_replay other = false
 abbrev pub usage_line : List ℕ
 usage_line = codes "zen: usage\n"
 
--- The bytes are a schedule, its whole trace was written and nothing else, its history is legal, and that very history is safe: no term has two
--- winners, committed states of one version are equal, each descends from every earlier committed one, and no node forgets what it
--- answered for.
+-- ---- what was written
+
+-- The trace of the schedule tells a legal history, and that very history is safe: no term has two winners, committed states of one version are
+-- equal, each descends from every earlier committed one, and no node forgets what it answered for.
+pub record IsSafeTrace (s : Schedule) : Type 0 where
+  pub legal : IsLegal s.initial (replayed s)
+  pub safe : IsSafe s.initial (replayed s)
+  -- the trace is the text of its steps, and this history is read off these steps
+  pub tells : Tells s (steps s)
+  -- the `won` lines are the wins of this history, and the `committed` lines show the states committed in it
+  pub shows : Shows (replayed s) (steps s)
+  -- no two `won` lines of one term name two nodes, and no two `committed` lines of one version differ
+  pub agrees : Agrees (steps s)
+
+-- the bytes are a schedule, and its whole trace was written and nothing else
 pub record Replayed (bytes : List ℕ) (was now : Option (List ℕ)) : Type 0 where
   pub schedule : Schedule
   pub spelled : Spells bytes schedule
   pub written : Appended was now (trace schedule)
-  pub legal : IsLegal schedule.initial (replayed schedule)
-  pub safe : IsSafe schedule.initial (replayed schedule)
+  pub safe_trace : IsSafeTrace schedule
 
--- the bytes are a schedule, and a front of its trace was written; the whole history is legal and safe all the same
-pub record ReplayedFront (bytes : List ℕ) (was now : Option (List ℕ)) : Type 0 where
+-- the same, but only a prefix of the trace was written
+pub record ReplayedPrefix (bytes : List ℕ) (was now : Option (List ℕ)) : Type 0 where
   pub schedule : Schedule
   pub spelled : Spells bytes schedule
   pub written : AppendedFront was now (trace schedule)
-  pub legal : IsLegal schedule.initial (replayed schedule)
-  pub safe : IsSafe schedule.initial (replayed schedule)
+  pub safe_trace : IsSafeTrace schedule
 
--- what is read of these bytes: one byte more than a schedule has at most
-abbrev pub read_of : List ℕ → List ℕ
-read_of bytes = take (most_bytes + 1) bytes
-
--- the bytes read are no schedule, and which line is bad and why was written
+-- What was read of the bytes is no schedule, and which line is bad and why was written: some schedule has the same lines before it, and none has
+-- the same lines up to it.
 pub record Refused (bytes : List ℕ) (was now : Option (List ℕ)) : Type 0 where
   pub bad : BadSchedule
   pub fault : fault_of (read_of bytes) ≡ Some bad
+  pub first : IsFirstBad bad.line (read_of bytes)
   pub written : Appended was now (bad_line bad)
 
--- the same, and a front of the line was written
-pub record RefusedFront (bytes : List ℕ) (was now : Option (List ℕ)) : Type 0 where
+-- the same, but only a prefix of that line was written
+pub record RefusedPrefix (bytes : List ℕ) (was now : Option (List ℕ)) : Type 0 where
   pub bad : BadSchedule
   pub fault : fault_of (read_of bytes) ≡ Some bad
+  pub first : IsFirstBad bad.line (read_of bytes)
   pub written : AppendedFront was now (bad_line bad)
 
--- how writing the line of a bad schedule ends
-pub record Refusal (was now : Option (List ℕ)) (wrote wrote_now : ℕ) (line : List ℕ) (status : Status) : Type 0 where
-  pub refused : (status ≡ IsBadSchedule) ⊎ ((status ≡ WriteFault) ⊎ (status ≡ NoMemory))
-  pub whole : status ≡ IsBadSchedule → Appended was now line
-  pub cut : status ≡ WriteFault → AppendedFront was now line × Rose wrote wrote_now
-  pub nothing : status ≡ NoMemory → Appended was now []
-  pub later : wrote ≤ wrote_now
+-- ---- how a run ends
 
--- what a run that was cut short has written
-abbrev pub WroteFront : List ℕ → Option (List ℕ) → Option (List ℕ) → Type 0
-WroteFront bytes was now = ReplayedFront bytes was now ⊎ (RefusedFront bytes was now ⊎ Appended was now [])
+-- what each status of a replay says, where the input held these bytes
+abbrev pub EndsWith : (bytes : List ℕ) → (left_now : Option (List ℕ)) → (was now : Option (List ℕ)) → Status → Type 0
+EndsWith bytes left_now was now exit.Ok = (left_now ≡ Some []) × Replayed bytes was now
+EndsWith bytes left_now was now exit.BadSchedule = (left_now ≡ Some (unread_of bytes)) × Refused bytes was now
+EndsWith bytes left_now was now exit.NoMemory = ReplayedPrefix bytes was now ⊎ Appended was now []
+EndsWith bytes left_now was now exit.WriteFault =
+    (left_now ≡ Some (unread_of bytes)) × (ReplayedPrefix bytes was now ⊎ RefusedPrefix bytes was now)
+EndsWith bytes left_now was now exit.ReadFault = Appended was now []
+EndsWith bytes left_now was now exit.Usage = ⊥
 
 -- how a replay ends, where the input held these bytes
-abbrev pub Replays : (bytes : List ℕ) → (left_now : Option (List ℕ)) → (was now : Option (List ℕ)) → Status → Type 0
-Replays bytes left_now was now Success = (left_now ≡ Some []) × Replayed bytes was now
-Replays bytes left_now was now IsBadSchedule = Refused bytes was now
-Replays bytes left_now was now NoMemory = WroteFront bytes was now
-Replays bytes left_now was now WriteFault = WroteFront bytes was now
-Replays bytes left_now was now ReadFault = Appended was now []
-Replays bytes left_now was now Usage = ⊥
+pub record Replays (bytes : List ℕ) (source source_now : SourceView) (sink sink_now : SinkView) (status : Status) : Type 0 where
+  pub ended : EndsWith bytes source_now.left sink.written sink_now.written status
+  -- whatever the status: of a schedule a prefix of its trace was written, and the history that the trace tells is legal and safe
+  pub traced : (s : Schedule) → Spells bytes s → AppendedFront sink.written sink_now.written (trace s) × IsSafeTrace s
+  -- a schedule, with no fault counted, is replayed to the end, unless memory runs out
+  pub complete : (s : Schedule) → Spells bytes s → (Rose source.faults source_now.faults → ⊥) → (Rose sink.faults sink_now.faults → ⊥)
+      → (status ≡ exit.Ok) ⊎ (status ≡ exit.NoMemory)
 
 -- how a run of other words ends
-abbrev pub Refuses : (was now : Option (List ℕ)) → Status → Type 0
-Refuses was now Usage = Appended was now usage_line
-Refuses was now WriteFault = AppendedFront was now usage_line
-Refuses was now other = ⊥
+abbrev pub RefusesWords : (was now : Option (List ℕ)) → Status → Type 0
+RefusesWords was now exit.Usage = Appended was now usage_line
+RefusesWords was now exit.WriteFault = AppendedFront was now usage_line
+RefusesWords was now other = ⊥
 
--- The whole clause. `left` and `left_now` are what the source told before and after, `read` and `read_now` its count of faults, `was` and `now`
--- what the sink told, `wrote` and `wrote_now` its count of faults.
-pub record Ran (words : List (List ℕ)) (left left_now : Option (List ℕ)) (read read_now : ℕ) (was now : Option (List ℕ)) (wrote wrote_now : ℕ) (status : Status) : Type 0 where
+-- The whole clause: of the words, of what the source and the sink told before the run and after it, and of the status.
+pub record Ran (words : List (List ℕ)) (source source_now : SourceView) (sink sink_now : SinkView) (status : Status) : Type 0 where
   -- other words are refused, and nothing is read
-  pub usage : is_replay words ≡ false → Refuses was now status × (left_now ≡ left) × (read_now ≡ read)
+  pub usage : is_replay words ≡ false → RefusesWords sink.written sink_now.written status × (source_now ≡ source)
   -- the words of the command are no usage error
-  pub command : is_replay words ≡ true → status ≢ Usage
+  pub command : is_replay words ≡ true → status ≢ exit.Usage
   -- where the source tells its bytes
-  pub replays : is_replay words ≡ true → (bytes : List ℕ) → left ≡ Some bytes → Replays bytes left_now was now status
-  -- the bytes of a schedule, with no fault counted, are replayed to the end, unless memory runs out
-  pub complete : is_replay words ≡ true → (bytes : List ℕ) → left ≡ Some bytes → (s : Schedule) → Spells bytes s → (Rose read read_now → ⊥) → (Rose wrote wrote_now → ⊥) → (status ≡ Success) ⊎ (status ≡ NoMemory)
-  pub read_fault : status ≡ ReadFault → Rose read read_now
-  pub write_fault : status ≡ WriteFault → Rose wrote wrote_now
-  pub read_later : read ≤ read_now
-  pub wrote_later : wrote ≤ wrote_now
+  pub replays : is_replay words ≡ true → (bytes : List ℕ) → source.left ≡ Some bytes
+      → Replays bytes source source_now sink sink_now status
+  -- at most one byte more is read than a schedule has
+  pub read_at_most : ReadsAtMost most_read source.left source_now.left
+  pub read_fault : status ≡ exit.ReadFault → Rose source.faults source_now.faults
+  pub write_fault : status ≡ exit.WriteFault → Rose sink.faults sink_now.faults
+  pub read_later : source.faults ≤ source_now.faults
+  pub wrote_later : sink.faults ≤ sink_now.faults

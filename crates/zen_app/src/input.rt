@@ -1,6 +1,6 @@
 ghost use Rattle.std.specs.Prelude.{◌≡◌, ◌<◌, ◌≤◌, IfOk, OnErr};
 ghost use Rattle.zen_disk.specs.Faults.{Rose};
-ghost use Rattle.zen_app.specs.Reading.{IsInput, IsReadOn};
+ghost use Rattle.zen_app.specs.Reading.{IsInput, IsReadOn, ReadsAtMost, most_read};
 
 use schedule_text::MAX_BYTES;
 use std::alloc::Global;
@@ -28,6 +28,7 @@ fn read_chunk<S: Source>(
     requires few { wanted ≤ CHUNK_BYTES }
     ensures read { IfOk result (λ count. IsReadOn (S.left input.old) (S.left input.new) bytes.old.items bytes.new.items count) }
     ensures within { IfOk result (λ count. count ≤ wanted) }
+    ensures at_most { ReadsAtMost wanted (S.left input.old) (S.left input.new) }
     ensures later { S.faults input.old ≤ S.faults input.new }
     ensures fault { result ≡ Err InputError.Read → Rose (S.faults input.old) (S.faults input.new) }
 {
@@ -46,6 +47,7 @@ fn read_chunk<S: Source>(
 /// of faults rose.
 pub fn read_input<S: Source>(alloc: Global, input: &mut S) -> Result<Vec<u8>, InputError>
     ensures read { IfOk result (λ bytes. IsInput (S.left input.old) (S.left input.new) bytes.items) }
+    ensures at_most { ReadsAtMost most_read (S.left input.old) (S.left input.new) }
     ensures later { S.faults input.old ≤ S.faults input.new }
     ensures fault { result ≡ Err InputError.Read → Rose (S.faults input.old) (S.faults input.new) }
 {

@@ -1,6 +1,7 @@
 ghost use Rattle.std.specs.Prelude.{◌≡◌, map, string_bytes};
 ghost use Rattle.schedule_text.specs.Printed.{bad_line};
-ghost use Rattle.zen_app.specs.Ran.{is_replay, Ran, Refusal};
+ghost use Rattle.zen_app.specs.Ran.{is_replay, Ran};
+ghost use Rattle.zen_app.specs.Refusing.{Refusal};
 
 use crate::Status;
 use crate::input::{InputError, read_input};
@@ -27,7 +28,13 @@ pub fn run<H: Host>(
     out: &mut H::Out,
     _host: &mut H,
 ) -> Status
-    ensures { Ran (map (λ w. string_bytes w) words.now) (H.In.left input.old) (H.In.left input.new) (H.In.faults input.old) (H.In.faults input.new) (H.Out.written out.old) (H.Out.written out.new) (H.Out.faults out.old) (H.Out.faults out.new) result }
+    ensures { Ran
+        (map (λ w. string_bytes w) words.now)
+        (record { left = H.In.left input.old; faults = H.In.faults input.old })
+        (record { left = H.In.left input.new; faults = H.In.faults input.new })
+        (record { written = H.Out.written out.old; faults = H.Out.faults out.old })
+        (record { written = H.Out.written out.new; faults = H.Out.faults out.new })
+        result }
 {
     if !is_command(words) {
         let Ok(()) = write_all(out, "zen: usage\n".as_bytes()) else {
@@ -46,7 +53,7 @@ pub fn run<H: Host>(
         Err(ReadError::Bad(bad)) => return refuse(alloc, out, &bad),
     };
     match replay(alloc, &schedule, out) {
-        Ok(()) => Status::Success,
+        Ok(()) => Status::Ok,
         Err(ReplayError::Write) => Status::WriteFault,
         Err(ReplayError::Memory) => Status::NoMemory,
     }

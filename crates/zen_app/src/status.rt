@@ -2,7 +2,7 @@
 #[derive(Clone, Copy, Debug, PartialEq, Eq)]
 pub enum Status {
     /// The command is done.
-    Success,
+    Ok,
     /// The words are no command.
     Usage,
     /// The input is no schedule.
@@ -24,7 +24,7 @@ impl Status {
         ensures { result ≡ code_of self }
     {
         match self {
-            Status::Success => 0,
+            Status::Ok => 0,
             Status::Usage => 2,
             Status::BadSchedule => 3,
             Status::NoMemory => 4,

@@ -2,9 +2,10 @@ mod random;
 mod rows;
 
 use crate::{Status, run};
-use rows::{ENDS, SAFE, STOPS, WHOLE};
+use rows::{RULES, Row, SAFE, STOPS};
 use schedule_text::{Text, read_schedule, write_schedule};
 use std::alloc::{AllocError, Global};
+use std::process::Abort;
 use std::test::Fail;
 use zen_link::{MemHost, MemSink, MemSource};
 
@@ -56,34 +57,50 @@ fn replayed(alloc: Global, input: &[u8]) -> Result<(Status, MemSink), AllocError
     ran(alloc, &case)
 }
 
-#[test]
-fn whole_traces(rt: HostRuntime) -> Result<(), Fail> {
-    for (name, schedule, trace) in WHOLE {
-        let (status, sink) = replayed(rt.alloc(), schedule.as_bytes())?;
-        assert!(rt; status == Status::Success, "{name}");
+// The schedule of a row and its trace.
+fn texts(alloc: Global, lines: &[&str]) -> Result<(Text, Text), AllocError> {
+    let mut schedule = Text::new(alloc);
+    let mut trace = Text::new(alloc);
+    for (place, line) in lines.iter().enumerate() {
+        let given = if place < 2 {
+            Some(*line)
+        } else {
+            trace.word(line)?;
+            trace.word("\n")?;
+            line.strip_prefix("> ")
+        };
+        if let Some(given) = given {
+            schedule.word(given)?;
+            schedule.word("\n")?;
+        }
+    }
+    Ok((schedule, trace))
+}
+
+// Each row's schedule is replayed, and must give its trace.
+fn replays_all(rt: &impl Abort, alloc: Global, rows: &[Row]) -> Result<(), Fail> {
+    for (name, lines) in rows {
+        let (schedule, trace) = texts(alloc, lines)?;
+        let (status, sink) = replayed(alloc, schedule.as_bytes())?;
+        assert!(rt; status == Status::Ok, "{name}");
         assert!(rt; sink.as_bytes() == trace.as_bytes(), "{name}");
     }
     Ok(())
 }
 
 #[test]
-fn ends_of_traces(rt: HostRuntime) -> Result<(), Fail> {
-    for (name, schedule, end) in ENDS {
-        let (status, sink) = replayed(rt.alloc(), schedule.as_bytes())?;
-        assert!(rt; status == Status::Success, "{name}");
-        assert!(rt; sink.as_bytes().ends_with(end.as_bytes()), "{name}");
-    }
-    Ok(())
+fn elections_and_publications_have_these_traces(rt: HostRuntime) -> Result<(), Fail> {
+    replays_all(&rt, rt.alloc(), &RULES)
 }
 
 #[test]
-fn stops_and_restarts(rt: HostRuntime) -> Result<(), Fail> {
-    for (name, schedule, end) in STOPS {
-        let (status, sink) = replayed(rt.alloc(), schedule.as_bytes())?;
-        assert!(rt; status == Status::Success, "{name}");
-        assert!(rt; sink.as_bytes().ends_with(end.as_bytes()), "{name}");
-    }
-    Ok(())
+fn stops_faults_and_restarts_have_these_traces(rt: HostRuntime) -> Result<(), Fail> {
+    replays_all(&rt, rt.alloc(), &STOPS)
+}
+
+#[test]
+fn what_would_be_unsafe_without_one_guard_is_refused(rt: HostRuntime) -> Result<(), Fail> {
+    replays_all(&rt, rt.alloc(), &SAFE)
 }
 
 // What strikes one of the first twelve device calls of node a.
@@ -172,13 +189,13 @@ fn struck_end(alloc: Global, strike: Strike, call: u64) -> Result<Text, AllocErr
 }
 
 #[test]
-fn each_device_call_struck(rt: HostRuntime) -> Result<(), Fail> {
+fn what_a_struck_device_call_leaves_is_found_again(rt: HostRuntime) -> Result<(), Fail> {
     for strike in STRIKES {
         for call in 1..=12 {
             let schedule = struck_schedule(rt.alloc(), strike, call)?;
             let end = struck_end(rt.alloc(), strike, call)?;
             let (status, sink) = replayed(rt.alloc(), schedule.as_bytes())?;
-            assert!(rt; status == Status::Success, "{call}");
+            assert!(rt; status == Status::Ok, "{call}");
             assert!(rt; sink.as_bytes().ends_with(end.as_bytes()), "{call}");
         }
     }
@@ -186,17 +203,7 @@ fn each_device_call_struck(rt: HostRuntime) -> Result<(), Fail> {
 }
 
 #[test]
-fn what_would_be_unsafe_is_refused(rt: HostRuntime) -> Result<(), Fail> {
-    for (name, schedule, end) in SAFE {
-        let (status, sink) = replayed(rt.alloc(), schedule.as_bytes())?;
-        assert!(rt; status == Status::Success, "{name}");
-        assert!(rt; sink.as_bytes().ends_with(end.as_bytes()), "{name}");
-    }
-    Ok(())
-}
-
-#[test]
-fn bad_schedules(rt: HostRuntime) -> Result<(), Fail> {
+fn the_first_bad_line_and_its_reason_are_written(rt: HostRuntime) -> Result<(), Fail> {
     for (schedule, line) in [
         (
             "nodes a\ninitial a\nboot z\n",
@@ -240,7 +247,7 @@ fn bad_schedules(rt: HostRuntime) -> Result<(), Fail> {
 }
 
 #[test]
-fn other_words(rt: HostRuntime) -> Result<(), Fail> {
+fn other_words_are_a_usage_and_nothing_is_read(rt: HostRuntime) -> Result<(), Fail> {
     for words in OTHERS {
         let case = Case {
             words,
@@ -256,8 +263,9 @@ fn other_words(rt: HostRuntime) -> Result<(), Fail> {
 }
 
 #[test]
-fn faults_of_the_outside(rt: HostRuntime) -> Result<(), Fail> {
-    let (_, schedule, trace) = WHOLE[0];
+fn a_fault_of_the_input_or_output_ends_the_run(rt: HostRuntime) -> Result<(), Fail> {
+    let (_, lines) = RULES[0];
+    let (schedule, trace) = texts(rt.alloc(), lines)?;
     let read = Case {
         words: &REPLAY,
         input: schedule.as_bytes(),
@@ -280,9 +288,27 @@ fn faults_of_the_outside(rt: HostRuntime) -> Result<(), Fail> {
     Ok(())
 }
 
+// Seeds whose schedules elect, commit, crash and fail most, and what a second replay, in another language, makes of those schedules: a trace of so
+// many bytes, with this 64-bit FNV-1a.
+const DRAWN: [(u64, usize, u64); 5] = [
+    (1_045, 12_204, 0x9234_d412_ec48_2b8b),
+    (1_254, 13_404, 0x296d_e697_d883_2964),
+    (1_703, 14_195, 0xd7be_fe7b_47ed_5c88),
+    (2_067, 12_104, 0x42f4_6343_3104_d12c),
+    (2_349, 15_673, 0x7cfe_90bb_9cbc_f9d4),
+];
+
+fn fnv(bytes: &[u8]) -> u64 {
+    let mut hash = 0xcbf2_9ce4_8422_2325_u64;
+    for byte in bytes {
+        hash = (hash ^ u64::from(*byte)).wrapping_mul(0x0000_0100_0000_01b3);
+    }
+    hash
+}
+
 #[test]
-fn random_schedules(rt: HostRuntime) -> Result<(), Fail> {
-    for seed in [1, 2, 3, 20_261_126, u64::MAX] {
+fn random_schedules_replay_as_by_the_second_replay(rt: HostRuntime) -> Result<(), Fail> {
+    for (seed, length, digest) in DRAWN {
         let drawn = random::schedule(rt.alloc(), seed)?;
         assert!(rt; drawn.lines.as_slice().len() == 200, "{seed}");
         let text = write_schedule(rt.alloc(), &drawn)?;
@@ -292,8 +318,10 @@ fn random_schedules(rt: HostRuntime) -> Result<(), Fail> {
             let again = write_schedule(rt.alloc(), &read)?;
             assert!(rt; again.as_bytes() == text.as_bytes(), "{seed}");
         }
-        let (status, _) = replayed(rt.alloc(), text.as_bytes())?;
-        assert!(rt; status == Status::Success, "{seed}");
+        let (status, sink) = replayed(rt.alloc(), text.as_bytes())?;
+        assert!(rt; status == Status::Ok, "{seed}");
+        assert_eq!(rt; sink.as_bytes().len(), length, "{seed}");
+        assert_eq!(rt; fnv(sink.as_bytes()), digest, "{seed}");
     }
     Ok(())
 }

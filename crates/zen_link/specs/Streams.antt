@@ -1,6 +1,6 @@
 -- What a source has left, and what was written to a sink.
 use Rattle.std.specs.Prelude.{◌≡◌, ℕ, ◌<◌, ◌≤◌, Option, None, Some, Result, Ok, Err, List, [], ◌++◌, length, take, drop}
-use Rattle.zen_disk.specs.declared.disk.Failed.{Failed}
+use Rattle.zen_link.specs.declared.stream.Failed.{Failed}
 
 -- where the sink tells what was written, these bytes were added
 abbrev pub Appended : Option (List ℕ) → Option (List ℕ) → List ℕ → Type 0

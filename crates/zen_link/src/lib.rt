@@ -9,5 +9,4 @@ mod tests;
 
 pub use host::{Host, MemHost};
 pub use mem_stream::{MemSink, MemSource};
-pub use stream::{Sink, Source, write_all};
-pub use zen_disk::Failed;
+pub use stream::{Failed, Sink, Source, write_all};

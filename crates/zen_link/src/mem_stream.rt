@@ -1,10 +1,18 @@
-ghost use Rattle.std.specs.Prelude.{◌≡◌, ◌<◌, [], Some, drop};
+ghost use Rattle.std.specs.Prelude.{◌≡◌, ◌<◌, ◌≤◌, [], Some, drop};
+ghost use Rattle.zen_disk.specs.Faults.{Rose};
 
-use crate::{Sink, Source};
+use crate::{Failed, Sink, Source};
 use std::alloc::Global;
-use zen_disk::Failed;
 
-/// A source in memory.
+fn count_fault(faults: &mut u64) -> Failed
+    ensures later { faults.old ≤ faults.new }
+    ensures rose { Rose faults.old faults.new }
+{
+    *faults = faults.saturating_add(1);
+    Failed
+}
+
+/// A source in memory. A read fails exactly where its number is in the list that the source was made with.
 #[derive(Drop)]
 pub struct MemSource {
     bytes: Vec<u8>,
@@ -19,6 +27,8 @@ impl MemSource {
     pub fn new(bytes: Vec<u8>, fails: Vec<u64>) -> MemSource
         ensures left { ⟦<MemSource as Source>⟧.left result ≡ Some bytes.items }
         ensures faults { ⟦<MemSource as Source>⟧.faults result ≡ 0 }
+        ensures calls { result.calls ≡ 0 }
+        ensures fails { result.fails ≡ fails }
     {
         MemSource {
             bytes,
@@ -31,15 +41,18 @@ impl MemSource {
 }
 
 impl Source for MemSource {
+    ghost use Rattle.zen_link.specs.MemStream.{MemReads};
+
     ghost left = { λ source. Some (drop source.at source.bytes.items) };
 
     ghost faults = { λ source. source.faults };
 
+    ghost steps = { MemReads };
+
     fn read(&mut self, into: &mut [u8]) -> Result<usize, Failed> {
         self.calls = self.calls.saturating_add(1);
         if self.fails.contains(&self.calls) {
-            self.faults = self.faults.saturating_add(1);
-            return Err(Failed);
+            return Err(count_fault(&mut self.faults));
         }
         let Some(rest) = self.bytes.get(self.at..) else {
             return Ok(0);
@@ -51,7 +64,8 @@ impl Source for MemSource {
     }
 }
 
-/// A sink in memory, which takes at most so many bytes in a write.
+/// A sink in memory, which takes at most so many bytes in a write. A write fails where its number is in the list that the
+/// sink was made with, and also where its bytes need more room than there is and find no memory.
 #[derive(Drop)]
 pub struct MemSink {
     bytes: Vec<u8>,
@@ -68,6 +82,9 @@ impl MemSink {
         requires { 0 < most }
         ensures written { ⟦<MemSink as Sink>⟧.written result ≡ Some [] }
         ensures faults { ⟦<MemSink as Sink>⟧.faults result ≡ 0 }
+        ensures calls { result.calls ≡ 0 }
+        ensures fails { result.fails ≡ fails }
+        ensures most { result.most ≡ most }
     {
         MemSink {
             bytes: Vec::new(alloc),
@@ -87,18 +104,23 @@ impl MemSink {
 }
 
 impl Sink for MemSink {
+    ghost use Rattle.zen_link.specs.MemStream.{MemWrites};
+
     ghost written = { λ sink. Some sink.bytes.items };
 
     ghost faults = { λ sink. sink.faults };
 
+    ghost steps = { MemWrites };
+
     fn write(&mut self, bytes: &[u8]) -> Result<usize, Failed> {
         self.calls = self.calls.saturating_add(1);
-        let count = bytes.len().min(self.most);
-        let front = &bytes[..count];
-        if self.fails.contains(&self.calls) || self.bytes.extend_from_slice(front).is_err() {
-            self.faults = self.faults.saturating_add(1);
-            return Err(Failed);
+        if self.fails.contains(&self.calls) {
+            return Err(count_fault(&mut self.faults));
         }
+        let count = bytes.len().min(self.most);
+        let Ok(()) = self.bytes.extend_from_slice(&bytes[..count]) else {
+            return Err(count_fault(&mut self.faults));
+        };
         Ok(count)
     }
 }

@@ -1,37 +1,54 @@
-ghost use Rattle.std.specs.Prelude.{◌≡◌, ℕ, ◌<◌, ◌≤◌, List, Option};
+ghost use Rattle.std.specs.Prelude.{◌≡◌, ℕ, ◌<◌, ◌≤◌, List, Option, Result};
 ghost use Rattle.zen_disk.specs.Faults.{HasCause};
 ghost use Rattle.zen_link.specs.Streams.{Reads, Writes, WritesAll};
 
-use zen_disk::Failed;
+use thiserror::Error;
+
+/// A call of a source or a sink has failed, and its count of faults rose.
+#[derive(Clone, Copy, Debug, PartialEq, Eq, Error)]
+#[error("the stream failed")]
+pub struct Failed;
 
 /// What text is read from.
 pub trait Source {
+    ghost use Rattle.zen_link.specs.declared.stream.Failed.{Failed};
+
     /// The bytes left, where the source tells.
     ghost left: { Self → Option (List ℕ) };
 
     /// How many faults there were.
     ghost faults: { Self → ℕ };
 
+    /// Whether a read with this result leads from one to the other, as far as the source tells.
+    ghost steps: { Self → Self → Result ℕ Failed → Type 0 };
+
     /// Reads the next bytes into a front of the buffer, and says how many. Zero into a buffer that is not empty is
     /// the end of input. `Failed` only where the count of faults rose; nothing is taken then.
     fn read(&mut self, into: &mut [u8]) -> Result<usize, Failed>
         ensures reads { Reads (left self.old) (left self.new) into.new result }
-        ensures cause { HasCause (faults self.old) (faults self.new) result };
+        ensures cause { HasCause (faults self.old) (faults self.new) result }
+        ensures steps { steps self.old self.new result };
 }
 
 /// What text is written to.
 pub trait Sink {
+    ghost use Rattle.zen_link.specs.declared.stream.Failed.{Failed};
+
     /// The bytes that were written, where the sink tells.
     ghost written: { Self → Option (List ℕ) };
 
     /// How many faults there were.
     ghost faults: { Self → ℕ };
 
+    /// Whether a write of these bytes with this result leads from one to the other, as far as the sink tells.
+    ghost steps: { Self → List ℕ → Self → Result ℕ Failed → Type 0 };
+
     /// Writes a front of the bytes, and says how many: at least one of a piece that is not empty. `Failed` only where
     /// the count of faults rose; nothing is written then.
     fn write(&mut self, bytes: &[u8]) -> Result<usize, Failed>
         ensures writes { Writes (written self.old) (written self.new) bytes.now result }
-        ensures cause { HasCause (faults self.old) (faults self.new) result };
+        ensures cause { HasCause (faults self.old) (faults self.new) result }
+        ensures steps { steps self.old bytes.now self.new result };
 }
 
 /// Writes all of the bytes. `Failed` only where the sink's count of faults rose; a front of them is written then.

@@ -23,19 +23,20 @@ fn node(draws: &mut Pcg32, nodes: &NodeSet) -> Option<NodeId> {
     nodes.get((draws.next_word() % 5) as usize)
 }
 
-// Small numbers are drawn most, since messages and terms that meet tell most.
+// Small numbers are drawn most, since terms and versions that meet tell most.
 fn number(draws: &mut Pcg32) -> u64 {
-    match draws.next_word() % 8 {
+    match draws.next_word() % 32 {
         0 => u64::MAX,
         1 => u64::from(draws.next_word()) << 32 | u64::from(draws.next_word()),
-        _ => u64::from(draws.next_word() % 4),
+        _ => u64::from(1 + draws.next_word() % 4),
     }
 }
 
-fn ordinal(draws: &mut Pcg32) -> u64 {
-    match draws.next_word() % 16 {
+// Of the messages that are likely to be sent before this line.
+fn ordinal(draws: &mut Pcg32, place: u32) -> u64 {
+    match draws.next_word() % 64 {
         0 => MAX_ORDINAL,
-        _ => 1 + u64::from(draws.next_word() % 30),
+        _ => 1 + u64::from(draws.next_word() % (1 + place / 8)),
     }
 }
 
@@ -62,38 +63,72 @@ fn way(draws: &mut Pcg32) -> Way {
     }
 }
 
-fn line(alloc: Global, draws: &mut Pcg32, nodes: &NodeSet) -> Result<Option<Line>, AllocError> {
-    let Some(id) = node(draws, nodes) else {
+fn value(
+    alloc: Global,
+    draws: &mut Pcg32,
+    leader: NodeId,
+    nodes: &NodeSet,
+    initial: &NodeSet,
+) -> Result<Option<Line>, AllocError> {
+    let text = TEXTS[(draws.next_word() % 3) as usize];
+    let Some(text) = SettingText::from_bytes(text.as_bytes()) else {
         return Ok(None);
     };
-    let line = match draws.next_word() % 16 {
+    let config = match draws.next_word() % 4 {
+        0 => IdList::of(alloc, &some_nodes(draws, nodes))?,
+        _ => IdList::of(alloc, initial)?,
+    };
+    Ok(Some(Line::Value(leader, number(draws), text, config)))
+}
+
+// The line at this place. In each forty lines one of the first two nodes is the likely candidate of a new term.
+fn line(
+    alloc: Global,
+    draws: &mut Pcg32,
+    nodes: &NodeSet,
+    initial: &NodeSet,
+    place: u32,
+) -> Result<Option<Line>, AllocError> {
+    let round = place / 40;
+    let (Some(id), Some(leader)) = (node(draws, nodes), nodes.get((round % 2) as usize)) else {
+        return Ok(None);
+    };
+    let line = match draws.next_word() % 64 {
         0 => Line::Boot(id),
-        1 | 2 => Line::StartJoin(id, id, number(draws)),
-        3 => Line::Crash(id, way(draws)),
-        4 | 5 => Line::Restart(id),
-        6 => Line::Fuse(id, u64::from(1 + draws.next_word() % 12), way(draws)),
-        7 => Line::Fail(id, u64::from(1 + draws.next_word() % 12)),
-        8 | 9 => {
-            let text = TEXTS[(draws.next_word() % 3) as usize];
-            let Some(text) = SettingText::from_bytes(text.as_bytes()) else {
+        1 | 2 => {
+            let Some(candidate) = node(draws, nodes) else {
                 return Ok(None);
             };
-            let config = some_nodes(draws, nodes);
-            Line::Value(id, number(draws), text, IdList::of(alloc, &config)?)
+            Line::StartJoin(id, candidate, number(draws))
         }
-        _ => Line::Deliver(id, ordinal(draws)),
+        3..=14 => Line::StartJoin(id, leader, u64::from(1 + round)),
+        15 => Line::Crash(id, way(draws)),
+        16..=24 => Line::Restart(id),
+        25 => Line::Fuse(id, u64::from(1 + draws.next_word() % 12), way(draws)),
+        26 => Line::Fail(id, u64::from(1 + draws.next_word() % 12)),
+        27..=32 => return value(alloc, draws, leader, nodes, initial),
+        _ => {
+            let to = match draws.next_word() % 2 {
+                0 => leader,
+                _ => id,
+            };
+            Line::Deliver(to, ordinal(draws, place))
+        }
     };
     Ok(Some(line))
 }
 
-/// A schedule of 200 lines over five nodes, drawn from this seed.
+/// A schedule of 200 lines over five nodes, drawn from this seed. In the first five each node boots.
 pub fn schedule(alloc: Global, seed: u64) -> Result<Schedule, AllocError> {
     let mut draws = Pcg32::new(seed, 1);
     let nodes = listed();
     let initial = some_nodes(&mut draws, &nodes);
     let mut lines = Vec::new(alloc);
-    for _ in 0..200 {
-        if let Some(line) = line(alloc, &mut draws, &nodes)? {
+    for id in nodes.as_slice() {
+        lines.push(Line::Boot(*id)).map_err(|_| AllocError)?;
+    }
+    for place in 5..200 {
+        if let Some(line) = line(alloc, &mut draws, &nodes, &initial, place)? {
             lines.push(line).map_err(|_| AllocError)?;
         }
     }

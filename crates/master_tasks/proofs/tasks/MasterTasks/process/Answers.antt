@@ -54,3 +54,6 @@ returns-clause-replies c = (ended c).replies_are
 
 pub returns-clause-fits : goal.returns-clause-fits
 returns-clause-fits c = (ended c).fits
+
+pub returns-clause-few : goal.returns-clause-few
+returns-clause-few c = (ended c).few

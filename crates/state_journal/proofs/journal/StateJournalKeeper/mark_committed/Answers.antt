@@ -1,4 +1,4 @@
-use Rattle.std.proofs.Common.{◌≡◌, ℕ, [], ◌∷◌, ◌++◌, List, true, Ok, refl, sym, ap, ◌∙◌, subst, arith}
+use Rattle.std.proofs.Common.{◌≡◌, ℕ, [], ◌∷◌, ◌++◌, List, true, false, Ok, refl, sym, ap, ◌∙◌, subst, arith}
 use Rattle.voting_config.specs.Ids.{Id}
 use Rattle.zen_disk.specs.Runs.{Ran}
 use Rattle.gate_log.specs.Calls.{append_calls}
@@ -22,13 +22,14 @@ invariant_of-self-2 g c =
     let now = c.append_small.new.self in
     let same : c.of-self.result ≡ old.kept.accepted.config = c.of-self.ensures ∙ c.members.ensures in
     let may : MayFollow old.kept Committed = record { reads = reads_committed; order = refl } in
+    let ran : old.log.stopped ≡ false = sym c.stopped.ensures ∙ c.if-stopped.false in
     record {
       stands = λ told running.
-          let is : IsOpen (g.D.Disk.seen old.log.disk) (g.D.Disk.may_leave old.log.disk) old.log.gate old.kept old.records = record { settled = old.log.settled told c.if-self.false; limit = old.log.limit; stands = old.stands told c.if-self.false; counted = old.counted told c.if-self.false } in
+          let is : IsOpen (g.D.Disk.seen old.log.disk) (g.D.Disk.may_leave old.log.disk) old.log.gate old.kept old.records = record { settled = old.log.settled told ran; limit = old.log.limit; stands = old.stands told ran; counted = old.counted told ran } in
           stands_after is Committed may (g.D.Disk.seen now.disk) (c.in-Ok.ensures.ok told ∙ ap (λ (b : List ℕ). standing (g.D.Disk.seen old.log.disk) ++ b ∷ []) c.committed_body.ensures) (now.settled told running).stands
           ∙ ap (λ (ids : List Id). Ok (record (old.kept) { committed = ids })) (sym same);
       counted = λ told running.
-          let is : IsOpen (g.D.Disk.seen old.log.disk) (g.D.Disk.may_leave old.log.disk) old.log.gate old.kept old.records = record { settled = old.log.settled told c.if-self.false; limit = old.log.limit; stands = old.stands told c.if-self.false; counted = old.counted told c.if-self.false } in
+          let is : IsOpen (g.D.Disk.seen old.log.disk) (g.D.Disk.may_leave old.log.disk) old.log.gate old.kept old.records = record { settled = old.log.settled told ran; limit = old.log.limit; stands = old.stands told ran; counted = old.counted told ran } in
           let more = counted_after is Committed may (g.D.Disk.seen now.disk) (c.in-Ok.ensures.ok told ∙ ap (λ (b : List ℕ). standing (g.D.Disk.seen old.log.disk) ++ b ∷ []) c.committed_body.ensures) in
           let room = few is in
           omega (arith, more, room, c.saturating_add-self.ensures);

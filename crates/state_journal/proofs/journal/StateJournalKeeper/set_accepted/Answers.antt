@@ -1,4 +1,4 @@
-use Rattle.std.proofs.Common.{◌≡◌, List, Ok, refl, sym, ap, ◌∙◌, arith}
+use Rattle.std.proofs.Common.{◌≡◌, List, Ok, false, refl, sym, ap, ◌∙◌, arith}
 use Rattle.std.proofs.lemmas.Bool.{le-leb}
 use Rattle.voting_config.specs.Ids.{Id}
 use Rattle.state_journal.specs.Bodies.{body_of}
@@ -20,13 +20,14 @@ invariant_of-self-2 g c =
     let now = c.append_ready.new.log in
     let same : c.of-self.result ≡ c.args.ready.state.committed = c.of-self.ensures ∙ c.members.ensures in
     let may : MayFollow old.kept (Accepted c.args.ready.state) = record { reads = c.args.ready.framed.again; order = le-leb _ _ c.requires } in
+    let ran : old.log.stopped ≡ false = sym c.stopped.ensures ∙ c.if-stopped.false in
     record {
       stands = λ told running.
-          let is : IsOpen (g.D.Disk.seen old.log.disk) (g.D.Disk.may_leave old.log.disk) old.log.gate old.kept old.records = record { settled = old.log.settled told c.if-self.false; limit = old.log.limit; stands = old.stands told c.if-self.false; counted = old.counted told c.if-self.false } in
+          let is : IsOpen (g.D.Disk.seen old.log.disk) (g.D.Disk.may_leave old.log.disk) old.log.gate old.kept old.records = record { settled = old.log.settled told ran; limit = old.log.limit; stands = old.stands told ran; counted = old.counted told ran } in
           stands_after is (Accepted c.args.ready.state) may (g.D.Disk.seen now.disk) (c.in-Ok.ensures.ok told) (now.settled told running).stands
           ∙ ap (λ (ids : List Id). Ok (record (old.kept) { accepted = c.args.ready.state; committed = ids })) (sym same);
       counted = λ told running.
-          let is : IsOpen (g.D.Disk.seen old.log.disk) (g.D.Disk.may_leave old.log.disk) old.log.gate old.kept old.records = record { settled = old.log.settled told c.if-self.false; limit = old.log.limit; stands = old.stands told c.if-self.false; counted = old.counted told c.if-self.false } in
+          let is : IsOpen (g.D.Disk.seen old.log.disk) (g.D.Disk.may_leave old.log.disk) old.log.gate old.kept old.records = record { settled = old.log.settled told ran; limit = old.log.limit; stands = old.stands told ran; counted = old.counted told ran } in
           let more = counted_after is (Accepted c.args.ready.state) may (g.D.Disk.seen now.disk) (c.in-Ok.ensures.ok told) in
           let room = few is in
           omega (arith, more, room, c.saturating_add-self.ensures);

@@ -1,4 +1,4 @@
-use Rattle.std.proofs.Common.{ℕ, [], ◌∷◌, ◌++◌, List, true, ap, ◌∙◌, subst, arith}
+use Rattle.std.proofs.Common.{◌≡◌, ℕ, [], ◌∷◌, ◌++◌, List, true, false, sym, ap, ◌∙◌, subst, arith}
 use Rattle.std.proofs.lemmas.Bool.{lt-ltb}
 use Rattle.zen_disk.specs.Runs.{Ran}
 use Rattle.gate_log.specs.Calls.{append_calls}
@@ -21,12 +21,13 @@ invariant_of-self-2 g c =
     let old = c.args.self.now in
     let now = c.append_small.new.self in
     let may : MayFollow old.kept (Term c.args.term) = record { reads = reads_term c.args.term c.requires.fits; order = lt-ltb _ _ c.requires.above } in
+    let ran : old.log.stopped ≡ false = sym c.stopped.ensures ∙ c.if-stopped.false in
     record {
       stands = λ told running.
-          let is : IsOpen (g.D.Disk.seen old.log.disk) (g.D.Disk.may_leave old.log.disk) old.log.gate old.kept old.records = record { settled = old.log.settled told c.if-self.false; limit = old.log.limit; stands = old.stands told c.if-self.false; counted = old.counted told c.if-self.false } in
+          let is : IsOpen (g.D.Disk.seen old.log.disk) (g.D.Disk.may_leave old.log.disk) old.log.gate old.kept old.records = record { settled = old.log.settled told ran; limit = old.log.limit; stands = old.stands told ran; counted = old.counted told ran } in
           stands_after is (Term c.args.term) may (g.D.Disk.seen now.disk) (c.in-Ok.ensures.ok told ∙ ap (λ (b : List ℕ). standing (g.D.Disk.seen old.log.disk) ++ b ∷ []) c.term_body.ensures) (now.settled told running).stands;
       counted = λ told running.
-          let is : IsOpen (g.D.Disk.seen old.log.disk) (g.D.Disk.may_leave old.log.disk) old.log.gate old.kept old.records = record { settled = old.log.settled told c.if-self.false; limit = old.log.limit; stands = old.stands told c.if-self.false; counted = old.counted told c.if-self.false } in
+          let is : IsOpen (g.D.Disk.seen old.log.disk) (g.D.Disk.may_leave old.log.disk) old.log.gate old.kept old.records = record { settled = old.log.settled told ran; limit = old.log.limit; stands = old.stands told ran; counted = old.counted told ran } in
           let more = counted_after is (Term c.args.term) may (g.D.Disk.seen now.disk) (c.in-Ok.ensures.ok told ∙ ap (λ (b : List ℕ). standing (g.D.Disk.seen old.log.disk) ++ b ∷ []) c.term_body.ensures) in
           let room = few is in
           omega (arith, more, room, c.saturating_add-self.ensures);

@@ -1,0 +1,200 @@
+-- What the rules say in more plain cases: pre-votes, joins that are asked for, peers, hand-overs, members that lag, exclusions.
+use Rattle.std.proofs.Common.{◌≡◌, ℕ, true, false, None, Some, List, [], ◌∷◌, refl}
+use Rattle.voting_config.specs.Ids.{Id}
+use Rattle.cluster_state.specs.declared.state.StateId.{StateId}
+use Rattle.cluster_state.specs.States.{id_of}
+use Rattle.wire_frames.specs.declared.frame.Message.{Message}
+use Rattle.wire_frames.specs.declared.frame.Message.TheVariants as message
+use Rattle.client_lines.specs.declared.request.Ask.TheVariants as ask
+use Rattle.client_lines.specs.declared.reply.Answer.TheVariants as answer
+use Rattle.client_lines.specs.declared.reply.Reply.TheVariants as reply
+use Rattle.fault_checks.specs.Checks.{unchecked}
+use Rattle.fault_checks.specs.Followers.{no_state}
+use Rattle.fault_checks.specs.declared.followers.Follower.{Follower as Watched}
+use Rattle.master_tasks.specs.declared.waiting.Waiting.{Waiting}
+use Rattle.master_tasks.specs.Queue.{no_tasks}
+use Rattle.pre_vote.specs.Rounds.{started}
+use Rattle.policy_model.specs.declared.settings.Settings.{Settings}
+use Rattle.policy_model.specs.Events.{Candidate, Leader, Follower, Checks, Lag, Item, Turns, Drops, Sends, Replies, Notes, Met, Heard, RoundAnswered, RoundEnded, Joined, FollowersChecked, LeaderChecked, ExclusionsTimedOut, CommitAcked, ExclusionsAcked, HandedOver}
+use Rattle.policy_model.specs.Parts.{no_peers, no_followers, published_at}
+use Rattle.policy_model.specs.Views.{View}
+use Rattle.policy_model.specs.Moves.{moved}
+use Rattle.policy_model.specs.NextState.{hands_over}
+use Rattle.policy_model.specs.Elections.{is_asked_pre_vote, counts_pre_vote}
+use Rattle.policy_model.specs.Discovery.{is_told_peers}
+use Rattle.policy_model.specs.Joins.{is_asked_to_join}
+use Rattle.policy_model.specs.Publications.{sends_first_commit, acks_exclusions}
+use Rattle.policy_model.specs.Checks.{checks_followers, checks_leader, is_checked_by_leader, is_checked_by_follower}
+use Rattle.policy_model.specs.Requests.{times_out_exclusions}
+
+abbrev a : Id
+a = 97 ∷ []
+
+abbrev b : Id
+b = 98 ∷ []
+
+abbrev c : Id
+c = 99 ∷ []
+
+abbrev state_id : ℕ → ℕ → StateId
+state_id term version = record { term = term; version = version }
+
+abbrev three : Settings
+three = record { me = a; peers = []; initial = a ∷ b ∷ c ∷ []; shrink = true }
+
+abbrev to : Id → Message → Item
+to id m = Sends (record { from = a; to = id; message = m })
+
+module _ (v : View) where
+  -- a follower refuses a pre-vote to another node, and answers its leader
+  follower_refuses : is_asked_pre_vote three (record v { mode = Follower b }) c ≡ to c (message.PreVoteRefuse b) ∷ []
+  follower_refuses = refl
+
+  leader_is_answered : is_asked_pre_vote three (record v { mode = Follower b }) b ≡ to b (message.PreVoteAnswer v.node.term (id_of v.node.accepted)) ∷ []
+  leader_is_answered = refl
+
+  -- a candidate of term 4 with a round, one of three voters, which has met the others
+  abbrev in_round : View
+  in_round = record v {
+    mode = Candidate;
+    node = record v.node { term = 4; committed = a ∷ b ∷ c ∷ []; accepted = record v.node.accepted { config = a ∷ b ∷ c ∷ [] } };
+    finder = record (no_peers a) { peers = record { id = b; answer = None } ∷ [] };
+    round = Some (started a (state_id 1 3) 4);
+  }
+
+  -- an answer that counts makes it stand for election, in the term behind the greatest
+  pre_vote_elects : counts_pre_vote three in_round in_round.round b 6 (state_id 1 3)
+      ≡ Notes (RoundAnswered b 6 (state_id 1 3)) ∷ Notes RoundEnded ∷ to a (message.StartJoin a 7) ∷ to b (message.StartJoin a 7) ∷ []
+  pre_vote_elects = refl
+
+  -- an answer of one that has accepted more doesn't
+  fresher_does_not : counts_pre_vote three in_round in_round.round b 6 (state_id 1 4) ≡ Notes (RoundAnswered b 6 (state_id 1 4)) ∷ []
+  fresher_does_not = refl
+
+  -- without a round, and in another mode, nothing is counted
+  no_round : counts_pre_vote three in_round None b 6 (state_id 1 3) ≡ []
+  no_round = refl
+
+  leader_counts_none : counts_pre_vote three (record in_round { mode = Leader }) in_round.round b 6 (state_id 1 3) ≡ []
+  leader_counts_none = refl
+
+  -- a leader takes who asks for a join as a member; in a later term it raises its own; another node does nothing
+  abbrev leading : View
+  leading = record v { mode = Leader; node = record v.node { term = 4 }; publication = Some (published_at (state_id 4 1) (a ∷ []) 0) }
+
+  leader_takes_member : is_asked_to_join three leading b 4 ≡ Notes (Joined (b ∷ [])) ∷ []
+  leader_takes_member = refl
+
+  follower_takes_none : is_asked_to_join three (record v { mode = Follower b }) c 4 ≡ []
+  follower_takes_none = refl
+
+  -- a candidate asks the master that it is told of by that master for a join
+  abbrev seeking : View
+  seeking = record v { mode = Candidate; node = record v.node { term = 4 } }
+
+  master_is_asked : is_told_peers three seeking b (Some b) 4 (c ∷ [])
+      ≡ Notes (Met (b ∷ c ∷ [])) ∷ Notes (Heard b (Some b)) ∷ to b (message.JoinAsk 4) ∷ []
+  master_is_asked = refl
+
+  other_master_is_not : is_told_peers three seeking b (Some c) 4 [] ≡ Notes (Met (b ∷ [])) ∷ Notes (Heard b (Some c)) ∷ []
+  other_master_is_not = refl
+
+  follower_meets : is_told_peers three (record v { mode = Follower b }) b (Some b) 4 (c ∷ []) ≡ Notes (Met (b ∷ c ∷ [])) ∷ []
+  follower_meets = refl
+
+  -- a hand-over comes a second after the last one at the earliest
+  abbrev leaving : ℕ → View
+  leaving now = record v {
+    node = record v.node { term = 4; committed = b ∷ [] };
+    moment = now;
+    handover_due = 2000;
+    publication = Some (record (published_at (state_id 4 1) (a ∷ b ∷ []) 0) { responders = a ∷ [] });
+  }
+
+  too_early : hands_over three (leaving 1999) ≡ []
+  too_early = refl
+
+  -- the second begins also where no responder votes
+  nobody_to_ask : hands_over three (leaving 2000) ≡ Notes HandedOver ∷ []
+  nobody_to_ask = refl
+
+  next_second : (moved three (leaving 2000) (Notes HandedOver)).handover_due ≡ 3000
+  next_second = refl
+
+  -- a member that fell behind at 5000
+  abbrev late : Watched
+  late = record { id = b; check = unchecked 94900; applied = no_state; behind = Some (record { state = state_id 1 2; since = 5000 }) }
+
+  abbrev watching : Watched → ℕ → View
+  watching f now = record v { moment = now; followers = record no_followers { watched = f ∷ [] } }
+
+  lag_drops : checks_followers three (watching late 95000) ≡ Drops b Lag ∷ Notes FollowersChecked ∷ []
+  lag_drops = refl
+
+  not_yet : checks_followers three (watching late 94999) ≡ Notes FollowersChecked ∷ []
+  not_yet = refl
+
+  -- one line for a member that lags and whose checks fail
+  checks_come_first : checks_followers three (watching (record late { check = record (unchecked 94900) { failures = 3 } }) 95000)
+      ≡ Drops b Checks ∷ Notes FollowersChecked ∷ []
+  checks_come_first = refl
+
+  -- a member is told whether the node leads it in its term
+  member_is_led : is_checked_by_follower three (record leading { publication = Some (published_at (state_id 4 1) (a ∷ b ∷ []) 0) }) b 4 ≡ to b (message.LeaderAnswer true) ∷ []
+  member_is_led = refl
+
+  other_term_is_not : is_checked_by_follower three (record leading { publication = Some (published_at (state_id 4 1) (a ∷ b ∷ []) 0) }) b 3 ≡ to b (message.LeaderAnswer false) ∷ []
+  other_term_is_not = refl
+
+  no_member_is_not : is_checked_by_follower three leading b 4 ≡ to b (message.LeaderAnswer false) ∷ []
+  no_member_is_not = refl
+
+  -- a check of an earlier term is answered no
+  earlier_leader : is_checked_by_leader three (record v { node = record v.node { term = 4 } }) b 3 ≡ to b (message.FollowerAnswer false 4 v.applied) ∷ []
+  earlier_leader = refl
+
+  -- a leader whose checks failed three times is lost
+  abbrev following : ℕ → View
+  following failures = record v {
+    mode = Follower b;
+    moment = 5000;
+    leader_check = Some (record { leader = b; check = record (unchecked 4000) { failures = failures } });
+  }
+
+  leader_is_lost : checks_leader three (following 3) b (following 3).leader_check ≡ Notes LeaderChecked ∷ Turns Candidate v.node.term ∷ []
+  leader_is_lost = refl
+
+  leader_is_asked : checks_leader three (following 2) b (following 2).leader_check ≡ Notes LeaderChecked ∷ to b (message.LeaderCheck v.node.term) ∷ []
+  leader_is_asked = refl
+
+  -- an exclusion of b and c, processed
+  abbrev excluding : Waiting
+  excluding = record { conn = 5; arrived = 100; request = record { id = 9; ask = ask.Exclude (b ∷ c ∷ []) }; processed = true }
+
+  abbrev answering : List Id → ℕ → View
+  answering committed now = record v {
+    node = record v.node { term = 1; version = 2; committed = committed };
+    moment = now;
+    tasks = record no_tasks { waiting = excluding ∷ [] };
+    publication = Some (published_at (state_id 1 2) [] 0);
+  }
+
+  -- the commit alone does not acknowledge it
+  commit_is_not_enough : sends_first_commit three (answering (a ∷ []) 200) (state_id 1 2) ≡ Notes CommitAcked ∷ []
+  commit_is_not_enough = refl
+
+  -- it is acknowledged once none of its nodes votes
+  votes_no_more : acks_exclusions three (answering (a ∷ []) 200)
+      ≡ Replies (record { conn = 5; reply = reply.To 9 (answer.Acked (id_of v.node.accepted)) }) ∷ Notes ExclusionsAcked ∷ []
+  votes_no_more = refl
+
+  still_votes : acks_exclusions three (answering (a ∷ c ∷ []) 200) ≡ Notes ExclusionsAcked ∷ []
+  still_votes = refl
+
+  -- or told after 30 seconds which of them still vote
+  waits_too_long : times_out_exclusions three (answering (a ∷ c ∷ []) 30100)
+      ≡ Replies (record { conn = 5; reply = reply.To 9 (answer.ExclusionTimeout (c ∷ [])) }) ∷ Notes ExclusionsTimedOut ∷ []
+  waits_too_long = refl
+
+  waits_on : times_out_exclusions three (answering (a ∷ c ∷ []) 30099) ≡ Notes ExclusionsTimedOut ∷ []
+  waits_on = refl

@@ -1,0 +1,120 @@
+-- A life that follows the policy is the one that is made of what it is told.
+use Rattle.std.proofs.Common.{◌≡◌, ℕ, zero, suc, ◌+◌, Bool, true, false, ◌||◌, ◌⊎◌, inl, inr, Option, None, Some, List, [], ◌∷◌, ◌++◌, refl, sym, ap, ◌∙◌, cond, arith}
+use Rattle.std.specs.Option.{option_map}
+use Rattle.world_model.specs.declared.acts.Outcome.{Outcome}
+use Rattle.policy_model.specs.declared.settings.Settings.{Settings}
+use Rattle.policy_model.specs.Events.{Event, Begins, Item, Opens, Acts, Turns, Drops, Sends, Replies, Notes, And}
+use Rattle.policy_model.specs.Entries.{Did, Life, NotBegun, Opened, Lived, log_of}
+use Rattle.policy_model.specs.Views.{View, view_of}
+use Rattle.policy_model.specs.Local.{IsAnswered, Ended, ByAct, ByQuiet, is_quiet}
+use Rattle.policy_model.specs.Follows.{Follows, items_of, is_fault, has_fault, without_output, IsStruck, Here, Later, IsNext}
+use Rattle.policy_model.specs.Told.{Fault, one_later, fault_in, Told, NothingTold, Found, Came, Passed, told_of}
+use Rattle.policy_model.proofs.Answering.{answered-next}
+
+-- what stays of some items where a fault struck the act behind so many
+abbrev left_at : List Item → ℕ → Outcome → List Item
+left_at [] place fault = []
+left_at (Acts act o ∷ is) zero fault = Acts act fault ∷ []
+left_at (Acts act o ∷ is) (suc place) fault = Acts act o ∷ left_at is place fault
+left_at (i ∷ is) place fault = without_output i ++ left_at is place fault
+
+abbrev left_by : List Item → Option Fault → List Item
+left_by is None = is
+left_by is (Some fault) = left_at is fault.acts_before fault.outcome
+
+-- a fault, and what it leaves
+record IsLeft (is left : List Item) : Type 0 where
+  fault : Fault
+  found : fault_in left ≡ Some fault
+  left_is : left ≡ left_at is fault.acts_before fault.outcome
+
+or-false : (a b : Bool) → (a || b) ≡ false → (a ≡ false) × (b ≡ false)
+or-false false b h = (refl, h)
+or-false true b h = absurd (cc)
+
+later : (i : Item) (rest left : List Item) → has_fault (i ∷ rest) ≡ false → (has_fault rest ≡ false → IsLeft rest left) → IsLeft (i ∷ rest) (without_output i ++ left)
+later (Acts act o) rest left h more =
+    let parts = or-false (is_fault o) (has_fault rest) h in
+    let m : IsLeft rest left = more parts.1 in
+    let up : suc m.fault.acts_before ≡ m.fault.acts_before + 1 = omega arith in
+    record {
+      fault = one_later m.fault;
+      found =
+          ap (λ b. cond b (Some (struck o)) (option_map one_later (fault_in left))) parts.0
+          ∙ ap (λ (f : Option Fault). option_map one_later f) m.found;
+      left_is = ap (λ (t : List Item). Acts act o ∷ t) m.left_is ∙ ap (λ (k : ℕ). left_at (Acts act o ∷ rest) k m.fault.outcome) up;
+    }
+  where
+    struck : Outcome → Fault
+    struck out = record { acts_before = 0; outcome = out }
+later (Opens found) rest left h more = let m : IsLeft rest left = more h in record { fault = m.fault; found = m.found; left_is = ap (λ (t : List Item). Opens found ∷ t) m.left_is }
+later (Begins event) rest left h more = let m : IsLeft rest left = more h in record { fault = m.fault; found = m.found; left_is = ap (λ (t : List Item). Begins event ∷ t) m.left_is }
+later (Turns mode term) rest left h more = let m : IsLeft rest left = more h in record { fault = m.fault; found = m.found; left_is = ap (λ (t : List Item). Turns mode term ∷ t) m.left_is }
+later (Drops member cause) rest left h more = let m : IsLeft rest left = more h in record { fault = m.fault; found = m.found; left_is = ap (λ (t : List Item). Drops member cause ∷ t) m.left_is }
+later (Notes note) rest left h more = let m : IsLeft rest left = more h in record { fault = m.fault; found = m.found; left_is = ap (λ (t : List Item). Notes note ∷ t) m.left_is }
+later (Sends frame) rest left h more = let m : IsLeft rest left = more h in record { fault = m.fault; found = m.found; left_is = m.left_is }
+later (Replies answer) rest left h more = let m : IsLeft rest left = more h in record { fault = m.fault; found = m.found; left_is = m.left_is }
+
+struck-left : (is left : List Item) → IsStruck is left → has_fault is ≡ false → IsLeft is left
+struck-left is left (Here act sends wins rest fault w f) h = record {
+  fault = record { acts_before = 0; outcome = fault };
+  found = rw f refl;
+  left_is = refl;
+}
+struck-left is left (Later i rest some d) h = later i rest some h (λ k. struck-left rest some d k)
+
+no-fault : (is : List Item) → has_fault is ≡ false → fault_in is ≡ None
+no-fault [] h = refl
+no-fault (Acts act o ∷ is) h =
+    let parts = or-false (is_fault o) (has_fault is) h in
+    let none : fault_in is ≡ None = no-fault is parts.1 in
+    rw (parts.0, none) refl
+no-fault (i ∷ is) h = no-fault is h
+
+quiet-fault : (i : Item) (is : List Item) → is_quiet i ≡ true → has_fault (i ∷ is) ≡ has_fault is
+quiet-fault (Opens found) is h = refl
+quiet-fault (Begins event) is h = refl
+quiet-fault (Acts act o) is h = absurd (cc)
+quiet-fault (Turns mode term) is h = refl
+quiet-fault (Drops member cause) is h = refl
+quiet-fault (Sends frame) is h = refl
+quiet-fault (Replies answer) is h = refl
+quiet-fault (Notes note) is h = refl
+
+answered-fault : (s : Settings) (v : View) (is : List Item) → IsAnswered s v is → has_fault is ≡ false
+answered-fault s v xs (Ended u) = refl
+answered-fault s v xs (ByAct u act is e a) = answered-fault s _ is a
+answered-fault s v xs (ByQuiet u i is e a) = quiet-fault i is e ∙ answered-fault s _ is a
+
+-- the items of an event
+items-determined : (s : Settings) (life : Life) (event : Event) (items : List Item) → IsNext s life event items → items ≡ left_by (items_of s (log_of life) event) (fault_in items)
+items-determined s life event items next = by_way next.does
+  where
+    whole : List Item
+    whole = items_of s (log_of life) event
+
+    sound : has_fault whole ≡ false
+    sound = answered-fault s (view_of s (And (log_of life) (Begins event))) whole (answered-next s (view_of s (And (log_of life) (Begins event))) event)
+
+    by_way : (items ≡ whole) ⊎ IsStruck whole items → items ≡ left_by whole (fault_in items)
+    by_way (inl e) = e ∙ ap (λ (f : Option Fault). left_by whole f) (sym (ap (λ (is : List Item). fault_in is) e ∙ no-fault whole sound))
+    by_way (inr d) = let m : IsLeft whole items = struck-left whole items d sound in m.left_is ∙ ap (λ (f : Option Fault). left_by whole f) (sym m.found)
+
+abbrev made : Settings → Told → Life
+made s NothingTold = NotBegun
+made s (Found t found) = Opened (made s t) found
+made s (Came t event fault) = Lived (made s t) (Did event (left_by (items_of s (log_of (made s t)) event) fault))
+made s (Passed t entry) = Lived (made s t) entry
+
+is-made : (s : Settings) (life : Life) → Follows s life → life ≡ made s (told_of life)
+is-made s NotBegun f = refl
+is-made s (Opened life found) f = ap (λ (l : Life). Opened l found) (is-made s life f.0)
+is-made s (Lived life (Did event items)) f =
+    let before : life ≡ made s (told_of life) = is-made s life f.0 in
+    ap (λ (l : Life). Lived l (Did event items)) before
+    ∙ ap (λ (is : List Item). Lived (made s (told_of life)) (Did event is))
+    (items-determined s life event items f.1 ∙ ap (λ (l : Life). left_by (items_of s (log_of l) event) (fault_in items)) before)
+is-made s (Lived life entry) f = ap (λ (l : Life). Lived l entry) (is-made s life f.0)
+
+pub determined : (s : Settings) (life other : Life) → Follows s life → Follows s other → told_of life ≡ told_of other → life ≡ other
+determined s life other f g same = is-made s life f ∙ ap (λ (t : Told). made s t) same ∙ sym (is-made s other g)

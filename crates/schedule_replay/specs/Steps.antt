@@ -1,0 +1,64 @@
+-- The steps of a trace, and their text. Part of the statement. A step is an act with all that its lines show, or one other line. It holds what
+-- its text shows and nothing else, but for the value of a record's accepted state, of which the text shows the id and the configuration.
+use Rattle.std.specs.Prelude.{ℕ, Option, None, Some, List, [], ◌++◌, codes}
+use Rattle.std.specs.List.{flat_map}
+use Rattle.voting_config.specs.Ids.{Id}
+use Rattle.cluster_state.specs.declared.state.ClusterState.{ClusterState}
+use Rattle.cluster_state.specs.declared.state.Kept.{Kept}
+use Rattle.world_model.specs.declared.acts.Act.{Act}
+use Rattle.world_model.specs.declared.acts.Message.{Message}
+use Rattle.schedule_text.specs.declared.schedule.Line.{Line}
+use Rattle.schedule_text.specs.Lines.{line_text}
+use Rattle.trace_text.specs.declared.ending.Ending.{Ending}
+use Rattle.trace_text.specs.Trace.{act_line, committed_text, crashed_line, disk_line, down_line, message_line, record_line, up_line}
+use Rattle.replay_node.specs.Did.{won_by}
+
+-- a message and its number, which counts the messages of all nodes from 1 on
+pub record NumberedMessage : Type 0 where
+  pub number : ℕ
+  pub message : Message
+
+-- an act of a node and how it ended; the term that it won, the state that it committed, and the message that it sent
+pub record ActShown : Type 0 where
+  pub node : Id
+  pub act : Act
+  pub ending : Ending
+  pub won : Option ℕ
+  pub committed : Option ClusterState
+  pub sends : Option NumberedMessage
+
+pub data Step : Type 0 where
+  -- a line of the schedule
+  Echo : (line : Line) → Step
+  -- an act of a node, with its `won` or `committed` line and its message
+  Did : (shown : ActShown) → Step
+  -- `record`: a node opened its journal, and found this record
+  Opened : (node : Id) → (found : Kept) → Step
+  -- `down`: a node took nothing, as it was down; `up`: it was not opened, as it was up
+  WasDown : (node : Id) → Step
+  WasUp : (node : Id) → Step
+  -- `crashed`: a node stopped, between two acts or as it opened its journal; `disk`: its disk failed as it opened its journal
+  WentDown : (node : Id) → Step
+  DiskFailed : (node : Id) → Step
+  -- `unsent`: no message of this number was sent
+  Unsent : Step
+
+abbrev pub sends_text : Option NumberedMessage → List ℕ
+sends_text None = []
+sends_text (Some m) = message_line m.number m.message
+
+abbrev pub shown_text : ActShown → List ℕ
+shown_text x = act_line x.node x.ending x.act ++ (won_by x.won x.node ++ (committed_text x.committed ++ sends_text x.sends))
+
+abbrev pub step_text : Step → List ℕ
+step_text (Echo l) = codes "> " ++ line_text l ++ codes "\n"
+step_text (Did x) = shown_text x
+step_text (Opened n found) = record_line n found.term found.accepted found.committed
+step_text (WasDown n) = down_line n
+step_text (WasUp n) = up_line n
+step_text (WentDown n) = crashed_line n
+step_text (DiskFailed n) = disk_line n
+step_text Unsent = codes "unsent\n"
+
+abbrev pub text_of : List Step → List ℕ
+text_of steps = flat_map step_text steps

@@ -1,0 +1,283 @@
+-- A fault names the first bad line.
+use Rattle.std.proofs.Common.{◌≡◌, ℕ, suc, ◌+◌, ◌-◌, ◌<◌, ◌≤◌, ◌≢◌, true, ◌&&◌, List, [], ◌∷◌, ◌++◌, length, Option, Some, Result, Ok, Err, refl, sym, ap, subst, ◌∙◌, append_assoc, arith, inl, inr}
+use Rattle.std.specs.Prelude.{codes, nat_lt, nat_le}
+use Rattle.std.specs.List.{list_all, join_with_byte}
+use Rattle.std.proofs.lemmas.Bool.{and_parts, and_from, cases_lt}
+use Rattle.std.proofs.lemmas.Bool.Decides.{nat_tests}
+use Rattle.std.proofs.lemmas.List.{length-append}
+use Rattle.std.proofs.lemmas.Slice.Eq.{bytes_eq-Decides}
+use Rattle.voting_config.specs.Ids.{Id, is_id, most_ids}
+use Rattle.schedule_text.specs.declared.fault.Why.{Why}
+use Rattle.schedule_text.specs.declared.fault.BadSchedule.{BadSchedule}
+use Rattle.schedule_text.specs.declared.place.Place.{Place}
+use Rattle.schedule_text.specs.declared.schedule.Line.{Line}
+use Rattle.schedule_text.specs.declared.schedule.Schedule.{Schedule}
+use Rattle.schedule_text.specs.Words.{list_text, may_follow, are_ids_after, are_among}
+use Rattle.schedule_text.specs.Reading.{first_place, after_line, in_line, ◌>>>◌, header_at, initial_line_at, end_at, no_initial, first_line_at, second_line_at, one_line_at, lines_at, pieces, initial_at, nodes_at, schedule_at, fault_in, fault_of}
+use Rattle.schedule_text.specs.Spelled.{with_feeds}
+use Rattle.schedule_text.specs.FirstBad.{first_lines, BeginsSchedule, IsFirstBad, LawFirstBadLine}
+use Rattle.schedule_text.proofs.WordLaws.{lacks, join_split, parts_lack, parts_not_empty}
+use Rattle.schedule_text.proofs.FirstLines.{first_line, feeds_more, feeds_join, first_feeds, fewer_lines, same_head, same_alone}
+use Rattle.schedule_text.proofs.ScheduleLaws.{read, then_ok, IsSized, sized_takes, sized_again, header_takes, header_lacks, initial_again, more_lines, more_initial, ended, feeds_split, join_more, empty, schedule_takes, schedule_again}
+
+-- ---- faults
+
+abbrev failed : {A : Type 0} → BadSchedule → Result A BadSchedule
+failed bad = Err bad
+
+failed_is : {A : Type 0} (x y : BadSchedule) → failed {A = A} x ≡ failed y → x ≡ y
+failed_is x y e = cc
+
+not_both : {A : Type 0} (r : Result A BadSchedule) (x : A) (bad : BadSchedule) → r ≡ Ok x → r ≡ Err bad → ⊥
+not_both r x bad e f = absurd cc
+
+number_is : (n : ℕ) (why : Why) (bad : BadSchedule) → (let made : BadSchedule = record { line = n; why = why } in made) ≡ bad → bad.line ≡ n
+number_is n why bad e = ap (λ (b : BadSchedule). b.line) (sym e)
+
+in_line_err : {A : Type 0} (p : Place) (r : Result A Why) (bad : BadSchedule) → in_line p r ≡ Err bad → bad.line ≡ p.number
+in_line_err p (Ok x) bad e = absurd cc
+in_line_err {A} p (Err why) bad e = number_is p.number why bad (failed_is {A = A} _ bad e)
+
+end_err : {A : Type 0} (p : Place) (line : List ℕ) (x : A) (bad : BadSchedule) → end_at p line x ≡ Err bad → bad.line ≡ p.number
+end_err p [] x bad e = absurd cc
+end_err {A} p (b ∷ bs) x bad e = number_is p.number _ bad (failed_is {A = A} _ bad e)
+
+initial_err : {A : Type 0} (p : Place) (line : List ℕ) (bad : BadSchedule) → no_initial {A = A} p line ≡ Err bad → bad.line ≡ p.number
+initial_err {A} p [] bad e = number_is p.number _ bad (failed_is {A = A} _ bad e)
+initial_err {A} p (b ∷ bs) bad e = number_is p.number _ bad (failed_is {A = A} _ bad e)
+
+map_err : {A B : Type 0} (r : Result A BadSchedule) (f : A → B) (bad : BadSchedule) → (r >>> λ x. read (f x)) ≡ Err bad → r ≡ Err bad
+map_err (Ok x) f bad e = absurd cc
+map_err {A} {B} (Err d) f bad e = ap (λ b. failed {A = A} b) (failed_is {A = B} d bad e)
+
+-- ---- where a reader of parts stops
+
+-- The lines before the bad one, and what may stand after them in its place. What has the same lines up to the bad one is not read.
+record Stops {A : Type 0} (reads : List (List ℕ) → Result A BadSchedule) (start : ℕ) (parts : List (List ℕ)) (bad : BadSchedule) : Type 0 where
+  good : List (List ℕ)
+  number : bad.line ≡ start + length good
+  begin : first_lines (length good) (join_with_byte 10 parts) ≡ with_feeds good
+  lack : list_all (lacks 10) good ≡ true
+  more : List (List ℕ)
+  more_lack : list_all (lacks 10) more ≡ true
+  value : A
+  again : reads (good ++ (more ++ [] ∷ [])) ≡ Ok value
+  here : (others : List (List ℕ)) (x : A) → list_all (lacks 10) others ≡ true → others ≢ [] → first_lines (suc (length good)) (join_with_byte 10 others) ≡ first_lines (suc (length good)) (join_with_byte 10 parts) → reads others ≡ Ok x → ⊥
+
+ended_twice : (xs ys : List (List ℕ)) → xs ++ (ys ++ [] ∷ []) ≢ []
+ended_twice [] ys e = ended ys e
+ended_twice (x ∷ xs) ys e = absurd cc
+
+-- at a line without its line feed
+stops_cut : {A : Type 0} (reads : List (List ℕ) → Result A BadSchedule) (start : ℕ) (line : List ℕ) (bad : BadSchedule) (more : List (List ℕ)) (value : A) → lacks 10 line ≡ true → reads (line ∷ []) ≡ Err bad → bad.line ≡ start
+    → list_all (lacks 10) more ≡ true → reads (more ++ [] ∷ []) ≡ Ok value → Stops reads start (line ∷ []) bad
+stops_cut reads start line bad more value l e number more_lack again = record {
+  good = [];
+  number = omega (arith, number);
+  begin = refl;
+  lack = refl;
+  more = more;
+  more_lack = more_lack;
+  value = value;
+  again = again;
+  here = λ others x k some same is. not_both (reads others) x bad is (ap reads (same_alone line others k l some same) ∙ e);
+}
+
+-- a reader of parts by a reader of the first one, where others follow
+module _ {A X : Type 0} (reads : List (List ℕ) → Result A BadSchedule) (one : List ℕ → Result X BadSchedule) (next : List ℕ → X → List (List ℕ) → Result A BadSchedule) (goes : (line : List ℕ) (rest : List (List ℕ)) → rest ≢ [] → reads (line ∷ rest) ≡ (one line >>> λ x. next line x rest)) where
+  reads_as : (line : List ℕ) (rest : List (List ℕ)) (r : Result X BadSchedule) → rest ≢ [] → one line ≡ r → reads (line ∷ rest) ≡ (r >>> λ x. next line x rest)
+  reads_as line rest r some e = goes line rest some ∙ ap (λ s. s >>> λ x. next line x rest) e
+
+  -- at this line
+  stops_here : (start : ℕ) (line : List ℕ) (rest : List (List ℕ)) (bad : BadSchedule) (more : List (List ℕ)) (value : A) → rest ≢ [] → lacks 10 line ≡ true → one line ≡ Err bad → bad.line ≡ start
+      → list_all (lacks 10) more ≡ true → reads (more ++ [] ∷ []) ≡ Ok value → Stops reads start (line ∷ rest) bad
+  stops_here start line rest bad more value some l e number more_lack again = record {
+    good = [];
+    number = omega (arith, number);
+    begin = refl;
+    lack = refl;
+    more = more;
+    more_lack = more_lack;
+    value = value;
+    again = again;
+    here = λ others x k other same is.
+        let head = same_head 0 line rest others k l other some same in
+        not_both (reads others) x bad is (ap reads head.whole ∙ reads_as line head.others (Err bad) head.some e);
+  }
+
+  -- at a later one
+  stops_later : (start : ℕ) (line : List ℕ) (rest : List (List ℕ)) (bad : BadSchedule) (x : X) → rest ≢ [] → lacks 10 line ≡ true → one line ≡ Ok x → Stops (next line x) (start + 1) rest bad → Stops reads start (line ∷ rest) bad
+  stops_later start line rest bad x some l e later = record {
+    good = line ∷ later.good;
+    number = omega (arith, later.number);
+    begin = ap (first_lines (suc (length later.good))) (join_more 10 line rest some) ∙ first_line (length later.good) line (join_with_byte 10 rest) l ∙ ap (λ t. line ++ 10 ∷ t) later.begin ∙ sym (feeds_more line later.good);
+    lack = and_from _ _ l later.lack;
+    more = later.more;
+    more_lack = later.more_lack;
+    value = later.value;
+    again = reads_as line (later.good ++ (later.more ++ [] ∷ [])) (Ok x) (ended_twice later.good later.more) e ∙ later.again;
+    here = λ others y k other same is.
+        let head = same_head (suc (length later.good)) line rest others k l other some same in
+        let lacks_all = and_parts (lacks 10 line) _ (subst (λ (ps : List (List ℕ)). list_all (lacks 10) ps ≡ true) head.whole k) in
+        later.here head.others y lacks_all.1 head.some head.same (sym (ap reads head.whole ∙ reads_as line head.others (Ok x) head.some e) ∙ is);
+  }
+
+stops_map : {A B : Type 0} (reads : List (List ℕ) → Result A BadSchedule) (f : A → B) (start : ℕ) (parts : List (List ℕ)) (bad : BadSchedule) → Stops reads start parts bad → Stops (λ ps. reads ps >>> λ x. read (f x)) start parts bad
+stops_map reads f start parts bad s = record {
+  good = s.good;
+  number = s.number;
+  begin = s.begin;
+  lack = s.lack;
+  more = s.more;
+  more_lack = s.more_lack;
+  value = f s.value;
+  again = ap (λ r. r >>> λ x. read (f x)) s.again;
+  here = λ others y k some same is.
+      let got = then_ok (reads others) (λ x. read (f x)) y is in
+      s.here others got.0 k some same got.1;
+}
+
+-- ---- the lines
+
+lines_stop : (ids : List Id) (p : Place) (front : List Line) (parts : List (List ℕ)) (bad : BadSchedule) → parts ≢ [] → list_all (lacks 10) parts ≡ true → lines_at ids p front parts ≡ Err bad → Stops (lines_at ids p front) p.number parts bad
+lines_stop ids p front [] bad some k e = absurd (some refl)
+lines_stop ids p front (line ∷ []) bad some k e = stops_cut (lines_at ids p front) p.number line bad [] front (and_parts (lacks 10 line) _ k).0 e (end_err p line front bad e) refl refl
+lines_stop ids p front (line ∷ rest ∷ more) bad some k e =
+    let lack = and_parts (lacks 10 line) _ k in
+    let next = λ (t : List ℕ) (l : Line) (ps : List (List ℕ)). lines_at ids (after_line p t) (front ++ l ∷ []) ps in
+    let goes = more_lines ids p front in
+    elim (one_line_at ids p line) as (λ r. one_line_at ids p line ≡ r → (r >>> λ l. next line l (rest ∷ more)) ≡ Err bad → Stops (lines_at ids p front) p.number (line ∷ rest ∷ more) bad) [
+      | Ok l ↦ λ is h. stops_later (lines_at ids p front) (one_line_at ids p) next goes p.number line (rest ∷ more) bad l (λ x. absurd cc) lack.0 is (lines_stop ids (after_line p line) (front ++ l ∷ []) (rest ∷ more) bad (λ x. absurd cc) lack.1 h)
+      | Err d ↦ λ is h.
+          let same = is ∙ ap (λ b. failed {A = Line} b) (failed_is {A = List Line} d bad h) in
+          stops_here (lines_at ids p front) (one_line_at ids p) next goes p.number line (rest ∷ more) bad [] front (λ x. absurd cc) lack.0 same (in_line_err p _ bad same) refl refl
+    ] refl e
+
+-- ---- the header
+
+-- a second line that may stand here
+record Second (ids : List Id) (p : Place) : Type 0 where
+  text : List ℕ
+  lack : lacks 10 text ≡ true
+  value : Schedule
+  reads : initial_at ids p (text ∷ [] ∷ []) ≡ Ok value
+
+second_by : (ids : List Id) (p : Place) (xs : List Id) → initial_line_at ids (codes "initial" ++ 32 ∷ list_text xs) ≡ Ok xs → IsSized p (codes "initial" ++ 32 ∷ list_text xs) → are_ids_after [] xs ≡ true → 0 < length xs → Second ids p
+second_by ids p xs e sized after some =
+    let text = codes "initial" ++ 32 ∷ list_text xs in
+    record {
+      text = text;
+      lack = header_lacks (codes "initial") xs refl after some;
+      value = record { nodes = ids; initial = xs; lines = [] };
+      reads = ap (λ r. r >>> λ initial. lines_at ids (after_line p text) [] ([] ∷ []) >>> λ lines. read {A = Schedule} (record { nodes = ids; initial = initial; lines = lines })) (sized_again p text (initial_line_at ids) xs sized e);
+    }
+
+-- the one with the first node
+second_for : (ids : List Id) (line : List ℕ) → IsSized first_place line → are_ids_after [] ids ≡ true → 0 < length ids → Second ids (after_line first_place line)
+second_for [] line sized after some = absurd (omega (arith, some))
+second_for (x ∷ xs) line sized after some =
+    let may = (and_parts (may_follow [] x) _ after).0 in
+    let id = (and_parts (is_id x) _ (and_parts (is_id x && nat_lt 0 most_ids) _ may).0).0 in
+    let sizes = and_parts (nat_lt 0 (length x) && nat_le (length x) 32) _ id in
+    let short : length x ≤ 32 = grind (arith, nat_tests, (and_parts (nat_lt 0 (length x)) _ sizes.0).1) in
+    let one : are_ids_after [] (x ∷ []) ≡ true = and_from _ _ may refl in
+    let among : are_among (x ∷ xs) (x ∷ []) ≡ true = rw ((bytes_eq-Decides x x).1 refl) refl in
+    let long = length-append (codes "initial ") x in
+    second_by (x ∷ xs) (after_line first_place line) (x ∷ []) (initial_again (x ∷ xs) (x ∷ []) one (omega arith) among)
+    (record { bytes = omega (arith, sized.long, short, long); count = omega arith; long = omega (arith, short, long) }) one (omega arith)
+
+initial_stop : (ids : List Id) (p : Place) (parts : List (List ℕ)) (bad : BadSchedule) → Second ids p → parts ≢ [] → list_all (lacks 10) parts ≡ true → initial_at ids p parts ≡ Err bad → Stops (initial_at ids p) p.number parts bad
+initial_stop ids p [] bad second some k e = absurd (some refl)
+initial_stop ids p (line ∷ []) bad second some k e =
+    stops_cut (initial_at ids p) p.number line bad (second.text ∷ []) second.value (and_parts (lacks 10 line) _ k).0 e (initial_err {A = Schedule} p line bad e) (and_from _ _ second.lack refl) second.reads
+initial_stop ids p (line ∷ rest ∷ more) bad second some k e =
+    let lack = and_parts (lacks 10 line) _ k in
+    let made : List Id → List Line → Schedule = λ initial lines. record { nodes = ids; initial = initial; lines = lines } in
+    let next = λ (t : List ℕ) (initial : List Id) (ps : List (List ℕ)). lines_at ids (after_line p t) [] ps >>> λ lines. read (made initial lines) in
+    let goes = more_initial ids p in
+    elim (second_line_at ids p line) as (λ r. second_line_at ids p line ≡ r → (r >>> λ initial. next line initial (rest ∷ more)) ≡ Err bad → Stops (initial_at ids p) p.number (line ∷ rest ∷ more) bad) [
+      | Ok initial ↦ λ is h.
+          let later = lines_stop ids (after_line p line) [] (rest ∷ more) bad (λ x. absurd cc) lack.1 (map_err (lines_at ids (after_line p line) [] (rest ∷ more)) (made initial) bad h) in
+          stops_later (initial_at ids p) (second_line_at ids p) next goes p.number line (rest ∷ more) bad initial (λ x. absurd cc) lack.0 is (stops_map (lines_at ids (after_line p line) []) (made initial) (p.number + 1) (rest ∷ more) bad later)
+      | Err d ↦ λ is h.
+          let same = is ∙ ap (λ b. failed {A = List Id} b) (failed_is {A = Schedule} d bad h) in
+          stops_here (initial_at ids p) (second_line_at ids p) next goes p.number line (rest ∷ more) bad (second.text ∷ []) second.value (λ x. absurd cc) lack.0 same (in_line_err p _ bad same) (and_from _ _ second.lack refl) second.reads
+    ] refl e
+
+more_nodes : (line : List ℕ) (rest : List (List ℕ)) → rest ≢ [] → nodes_at first_place (line ∷ rest) ≡ (first_line_at first_place line >>> λ ids. initial_at ids (after_line first_place line) rest)
+more_nodes line [] h = absurd (h refl)
+more_nodes line (next ∷ more) h = refl
+
+nodes_stop : (parts : List (List ℕ)) (bad : BadSchedule) → parts ≢ [] → list_all (lacks 10) parts ≡ true → nodes_at first_place parts ≡ Err bad → Stops (nodes_at first_place) 1 parts bad
+nodes_stop [] bad some k e = absurd (some refl)
+nodes_stop (line ∷ []) bad some k e = stops_cut (nodes_at first_place) 1 line bad [] empty (and_parts (lacks 10 line) _ k).0 e (end_err first_place line empty bad e) refl refl
+nodes_stop (line ∷ rest ∷ more) bad some k e =
+    let lack = and_parts (lacks 10 line) _ k in
+    let next = λ (t : List ℕ) (ids : List Id) (ps : List (List ℕ)). initial_at ids (after_line first_place t) ps in
+    elim (first_line_at first_place line) as (λ r. first_line_at first_place line ≡ r → (r >>> λ ids. next line ids (rest ∷ more)) ≡ Err bad → Stops (nodes_at first_place) 1 (line ∷ rest ∷ more) bad) [
+      | Ok ids ↦ λ is h.
+          let sized = sized_takes first_place line (header_at (codes "nodes")) ids is in
+          let header = header_takes (codes "nodes") line ids sized.1 in
+          let second = second_for ids line sized.0 header.ids header.some in
+          stops_later (nodes_at first_place) (first_line_at first_place) next more_nodes 1 line (rest ∷ more) bad ids (λ x. absurd cc) lack.0 is (initial_stop ids (after_line first_place line) (rest ∷ more) bad second (λ x. absurd cc) lack.1 h)
+      | Err d ↦ λ is h.
+          let same = is ∙ ap (λ b. failed {A = List Id} b) (failed_is {A = Schedule} d bad h) in
+          stops_here (nodes_at first_place) (first_line_at first_place) next more_nodes 1 line (rest ∷ more) bad [] empty (λ x. absurd cc) lack.0 same (in_line_err first_place _ bad same) refl refl
+    ] refl e
+
+-- ---- the whole
+
+both_lack : (xs ys : List (List ℕ)) → list_all (lacks 10) xs ≡ true → list_all (lacks 10) ys ≡ true → list_all (lacks 10) (xs ++ ys) ≡ true
+both_lack [] ys h k = k
+both_lack (x ∷ xs) ys h k = let parts = and_parts (lacks 10 x) _ h in and_from _ _ parts.0 (both_lack xs ys parts.1 k)
+
+first_bad : (bytes : List ℕ) (bad : BadSchedule) → schedule_at bytes ≡ Err bad → IsFirstBad bad.line bytes
+first_bad bytes bad e =
+    let stop = nodes_stop (pieces bytes) bad (parts_not_empty 10 bytes) (parts_lack 10 bytes) e in
+    let n = length stop.good in
+    let text = with_feeds (stop.good ++ stop.more) in
+    let reads : schedule_at text ≡ Ok stop.value =
+    ap (nodes_at first_place) (feeds_split (stop.good ++ stop.more) (both_lack stop.good stop.more stop.lack stop.more_lack) ∙ append_assoc stop.good stop.more ([] ∷ [])) ∙ stop.again in
+    let same : first_lines n text ≡ first_lines n bytes =
+    ap (first_lines n) (feeds_join stop.good stop.more) ∙ first_feeds stop.good (with_feeds stop.more) stop.lack ∙ sym stop.begin ∙ ap (first_lines n) (join_split 10 bytes) in
+    let before_it : n ≡ bad.line - 1 = omega (arith, stop.number) in
+    let with_it : bad.line ≡ suc n = omega (arith, stop.number) in
+    record {
+      before = subst (λ (m : ℕ). BeginsSchedule m bytes) before_it (text, stop.value, schedule_takes text stop.value reads, same);
+      here = λ begins.
+          let agree = subst (λ (m : ℕ). first_lines m begins.0 ≡ first_lines m bytes) with_it begins.3 in
+          stop.here (pieces begins.0) begins.1 (parts_lack 10 begins.0) (parts_not_empty 10 begins.0)
+          (ap (first_lines (suc n)) (join_split 10 begins.0) ∙ agree ∙ ap (first_lines (suc n)) (sym (join_split 10 bytes))) (schedule_again begins.0 begins.1 begins.2);
+    }
+
+begins_fewer : (n m : ℕ) (bytes : List ℕ) → n ≤ m → BeginsSchedule m bytes → BeginsSchedule n bytes
+begins_fewer n m bytes h begins = (begins.0, begins.1, begins.2, sym (fewer_lines n m begins.0 h) ∙ ap (first_lines n) begins.3 ∙ fewer_lines n m bytes h)
+
+not_later : (bytes : List ℕ) (m n : ℕ) → IsFirstBad m bytes → IsFirstBad n bytes → n ≤ m
+not_later bytes m n a b = elim (cases_lt m n) [
+  | inl lt ↦ absurd (a.here (begins_fewer m (n - 1) bytes (omega (arith, lt)) b.before))
+  | inr le ↦ le
+]
+
+one_first_bad : (bytes : List ℕ) (m n : ℕ) → IsFirstBad m bytes → IsFirstBad n bytes → m ≡ n
+one_first_bad bytes m n a b = omega (arith, not_later bytes m n a b, not_later bytes n m b a)
+
+abbrev some_bad : BadSchedule → Option BadSchedule
+some_bad bad = Some bad
+
+fault_err : {A : Type 0} (r : Result A BadSchedule) (bad : BadSchedule) → fault_in r ≡ Some bad → r ≡ Err bad
+fault_err (Ok x) bad e = absurd cc
+fault_err {A} (Err d) bad e = let same : d ≡ bad = cc in ap (λ b. failed {A = A} b) same
+
+abbrev Named : ℕ → List ℕ → Type 0
+Named line bytes = (why : Why) × (fault_of bytes ≡ Some (record { line = line; why = why }))
+
+named : (bytes : List ℕ) (line : ℕ) (r : Result Schedule BadSchedule) → schedule_at bytes ≡ r → IsFirstBad line bytes → Named line bytes
+named bytes line (Ok s) e is = absurd (is.here (bytes, s, schedule_takes bytes s e, refl))
+named bytes line (Err bad) e is =
+    let same = one_first_bad bytes bad.line line (first_bad bytes bad e) is in
+    (bad.why, ap fault_in e ∙ ap (λ n. some_bad (record { line = n; why = bad.why })) same)
+
+pub law_first_bad_line : LawFirstBadLine
+law_first_bad_line bytes line =
+    (λ fault. first_bad bytes (record { line = line; why = fault.0 }) (fault_err (schedule_at bytes) (record { line = line; why = fault.0 }) fault.1), λ is. named bytes line (schedule_at bytes) refl is)
