@@ -13,6 +13,7 @@ ghost use Rattle.coordinator.specs.Showing.{shown_in, showing};
 use crate::coordinator::{Coordinator, Struck};
 use crate::output::Output;
 use fault_checks::FollowerChecks;
+use master_tasks::MasterTasks;
 use policy_model::Mode;
 use state_journal::Keeper;
 use voting_config::NodeId;
