@@ -14,3 +14,5 @@ pub mod Steps
 pub mod Accepts
 pub mod Lives
 pub mod Orders
+pub mod Bootstraps
+pub mod Rounds

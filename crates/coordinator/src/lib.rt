@@ -4,8 +4,11 @@
 mod acting;
 mod ahead;
 mod asking;
+mod checks;
 mod committing;
 pub mod coordinator;
+mod discovery;
+mod elections;
 mod following;
 mod joining;
 mod lines;
@@ -14,10 +17,12 @@ mod next;
 mod outcomes;
 pub mod output;
 pub mod plan;
+mod pre_votes;
 mod responding;
 pub mod sending;
 mod sorting;
 pub mod step;
+mod tick;
 mod ticking;
 
 pub use coordinator::{Coordinator, EventError, Struck};
