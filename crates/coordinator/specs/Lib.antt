@@ -15,3 +15,5 @@ pub mod Accepts
 pub mod Lives
 pub mod Orders
 pub mod Kinds
+pub mod Bootstraps
+pub mod Rounds

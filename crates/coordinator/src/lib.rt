@@ -4,9 +4,12 @@
 mod acting;
 mod ahead;
 mod asking;
+mod checks;
 mod committing;
 pub mod coordinator;
 pub mod dispatch;
+mod discovery;
+mod elections;
 mod following;
 mod joining;
 mod lines;
@@ -17,10 +20,12 @@ mod outcomes;
 pub mod output;
 pub mod plan;
 mod publishing;
+mod pre_votes;
 mod responding;
 pub mod sending;
 mod sorting;
 pub mod step;
+mod tick;
 mod ticking;
 
 pub use coordinator::{Coordinator, EventError, Struck};

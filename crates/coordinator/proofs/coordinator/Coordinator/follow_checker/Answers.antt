@@ -1,0 +1,11 @@
+use Rattle.std.proofs.Common.{sym, ◌∙◌}
+use Rattle.coordinator.proofs.Checking.{checker_refused, checker_followed}
+use Rattle.coordinator.proofs.coordinator.Coordinator.follow_checker.Goals as goal
+
+pub returns-then-is_leader-clause-does : goal.returns-then-is_leader-clause-does
+returns-then-is_leader-clause-does g c =
+    checker_refused g.K.Keeper c.args.self.now _ _ c.args.leader (sym c.is_leader.ensures ∙ c.if-is_leader.true) c.answer_leader.ensures.does
+
+pub returns-clause-does : goal.returns-clause-does
+returns-clause-does g c =
+    checker_followed g.K.Keeper c.args.self.now c.become_follower.new.self _ _ _ c.args.leader (sym c.is_leader.ensures ∙ c.if-is_leader.false) c.become_follower.ensures.does c.answer_leader-2.ensures.does

@@ -1,0 +1,224 @@
+//! How nodes find each other, and a master to join.
+ghost use Rattle.std.specs.Prelude.{◌≡◌, ◌≤◌, ◌+◌, ◌<◌, [], ◌∷◌, true, length, is_ok};
+ghost use Rattle.voting_config.specs.Ids.{with_id};
+ghost use Rattle.policy_model.specs.Events.{Notes, Met, Heard};
+ghost use Rattle.policy_model.specs.Doing.{is_candidate as is_candidate_of, leader_of as leader_of_mode, then_rule};
+ghost use Rattle.policy_model.specs.Discovery.{is_node as is_node_of, meets_first, asks_peers, tells_peers, is_asked_for_peers, seeks_master, hears_peer, is_told_peers};
+ghost use Rattle.policy_model.specs.Parts.{met};
+ghost use Rattle.coordinator.specs.Does.{Does};
+ghost use Rattle.coordinator.specs.Rooms.{Uses};
+ghost use Rattle.coordinator.specs.Views.{IsReady};
+
+use crate::coordinator::{Coordinator, Struck};
+use crate::output::Output;
+use crate::sending::Broadcast;
+use peer_finder::PeerFinder;
+use policy_model::Mode;
+use state_journal::Keeper;
+use voting_config::{NodeId, NodeSet};
+use wire_frames::Message;
+
+/// Whether a node in this mode is a candidate.
+pub(crate) fn is_candidate(mode: Mode) -> bool
+    ensures { result ≡ is_candidate_of mode }
+{
+    match mode {
+        Mode::Candidate => true,
+        Mode::Leader | Mode::Follower(_) => false,
+    }
+}
+
+/// The leader that a node in this mode knows.
+pub(crate) fn leader_of(me: NodeId, mode: Mode) -> Option<NodeId>
+    ensures { result ≡ leader_of_mode me mode }
+{
+    match mode {
+        Mode::Candidate => None,
+        Mode::Leader => Some(me),
+        Mode::Follower(leader) => Some(leader),
+    }
+}
+
+/// The set with one more id, for which there is room.
+pub(crate) fn with(ids: NodeSet, id: NodeId) -> NodeSet
+    requires { length ids < 32 }
+    ensures { result ≡ with_id id ids }
+{
+    let mut more = ids;
+    let _ = more.insert(id);
+    more
+}
+
+// Whether this node is the master.
+fn is_node(master: Option<NodeId>, id: NodeId) -> bool
+    ensures { result ≡ is_node_of master id }
+{
+    match master {
+        None => false,
+        Some(master) => master == id,
+    }
+}
+
+// Nodes are met, in this order.
+fn meet_all(finder: &mut PeerFinder, ids: &[NodeId])
+    ensures { finder.new ≡ met finder.old ids.now }
+{
+    for id in ids {
+        finder.add(*id);
+    }
+}
+
+impl<K: Keeper> Coordinator<K> {
+    // The listed peers are met, and then the members of the accepted value.
+    pub(crate) fn meet_first(&mut self)
+        ensures { (out : _) → Does K.Keeper self.old self.new out out meets_first true }
+    {
+        meet_all(&mut self.finder, self.settings.peers.as_slice());
+        meet_all(
+            &mut self.finder,
+            self.core.accepted().value.members.as_slice(),
+        );
+    }
+
+    // Asks all peers, where discovery is due.
+    pub(crate) fn ask_peers(&mut self, out: &mut Output)
+        requires frames { 32 ≤ out.old.frames.room }
+        ensures does { Does K.Keeper self.old self.new out.old out.new asks_peers true }
+        ensures uses { Uses out.old out.new 0 32 0 }
+    {
+        if !self.finder.is_due(self.moment) {
+            return;
+        }
+        let known = self.finder.known_set();
+        self.finder.asked(self.moment);
+        let ask = Broadcast::PeersAsk(known.copy());
+        self.send_all(out, &known, &ask);
+    }
+
+    // Who asks for peers is met, with those that it knows, and is told the leader, the term and all peers.
+    pub(crate) fn is_asked_for_peers(&mut self, out: &mut Output, from: NodeId, known: &NodeSet)
+        requires frames { 1 ≤ out.old.frames.room }
+        ensures does { Does K.Keeper self.old self.new out.old out.new (λ s v. is_asked_for_peers s v from known.now) true }
+        ensures uses { Uses out.old out.new 0 1 0 }
+    {
+        self.meet(from, known);
+        self.tell_peers(out, from);
+    }
+
+    // A node is met, and those that it knows.
+    fn meet(&mut self, from: NodeId, known: &NodeSet)
+        ensures does { (out : _) → Does K.Keeper self.old self.new out out (λ s v. Notes (Met (from ∷ known.now)) ∷ []) true }
+        ensures rest { self.new ≡ record self.old { finder = self.new.finder } }
+    {
+        self.finder.add(from);
+        meet_all(&mut self.finder, known.as_slice());
+    }
+
+    fn tell_peers(&self, out: &mut Output, to: NodeId)
+        requires frames { 1 ≤ out.old.frames.room }
+        ensures does { Does K.Keeper self.now self.now out.old out.new (λ s v. tells_peers s v to) true }
+        ensures uses { Uses out.old out.new 0 1 0 }
+    {
+        let me = self.settings.me;
+        let answer = Message::PeersAnswer {
+            master: leader_of(me, self.mode),
+            term: self.core.term(),
+            known: with(self.finder.known_set(), me),
+        };
+        self.send(out, to, answer);
+    }
+
+    // A candidate that a master tells of itself joins it.
+    pub(crate) fn is_told_peers(
+        &mut self,
+        out: &mut Output,
+        from: NodeId,
+        master: &Option<NodeId>,
+        term: u64,
+        known: &NodeSet,
+    ) -> Result<(), Struck>
+        requires ready { IsReady self.old }
+        requires steps { 2 ≤ out.old.steps.room }
+        requires frames { 1 ≤ out.old.frames.room }
+        requires replies { length self.old.tasks.waiting ≤ out.old.replies.room }
+        ensures does { Does K.Keeper self.old self.new out.old out.new (λ s v. is_told_peers s v from master.now term known.now) (is_ok result) }
+        ensures uses { Uses out.old out.new 2 1 (length self.old.tasks.waiting) }
+    {
+        self.meet(from, known);
+        self.hear_peer(out, from, master, term)
+    }
+
+    // A candidate keeps a peer's answer.
+    fn hear_peer(
+        &mut self,
+        out: &mut Output,
+        from: NodeId,
+        master: &Option<NodeId>,
+        term: u64,
+    ) -> Result<(), Struck>
+        requires ready { IsReady self.old }
+        requires steps { 2 ≤ out.old.steps.room }
+        requires frames { 1 ≤ out.old.frames.room }
+        requires replies { length self.old.tasks.waiting ≤ out.old.replies.room }
+        ensures does { Does K.Keeper self.old self.new out.old out.new (λ s v. hears_peer s v from master.now term) (is_ok result) }
+        ensures uses { Uses out.old out.new 2 1 (length self.old.tasks.waiting) }
+    {
+        if is_candidate(self.mode) {
+            self.join_master(out, from, master, term)
+        } else {
+            Ok(())
+        }
+    }
+
+    fn join_master(
+        &mut self,
+        out: &mut Output,
+        from: NodeId,
+        master: &Option<NodeId>,
+        term: u64,
+    ) -> Result<(), Struck>
+        requires ready { IsReady self.old }
+        requires steps { 2 ≤ out.old.steps.room }
+        requires frames { 1 ≤ out.old.frames.room }
+        requires replies { length self.old.tasks.waiting ≤ out.old.replies.room }
+        ensures does { Does K.Keeper self.old self.new out.old out.new (λ s v. then_rule s v (Notes (Heard from master.now) ∷ []) (λ u. seeks_master s u from master.now term)) (is_ok result) }
+        ensures uses { Uses out.old out.new 2 1 (length self.old.tasks.waiting) }
+    {
+        self.hear(from, master);
+        self.seek_master(out, from, master, term)
+    }
+
+    // A peer answers with the master that it knows.
+    fn hear(&mut self, from: NodeId, master: &Option<NodeId>)
+        ensures does { (out : _) → Does K.Keeper self.old self.new out out (λ s v. Notes (Heard from master.now) ∷ []) true }
+        ensures rest { self.new ≡ record self.old { finder = self.new.finder } }
+    {
+        self.finder.answered(from, *master);
+    }
+
+    // A master is joined: at once where its term is greater, else it is asked for a join.
+    fn seek_master(
+        &mut self,
+        out: &mut Output,
+        from: NodeId,
+        master: &Option<NodeId>,
+        term: u64,
+    ) -> Result<(), Struck>
+        requires ready { IsReady self.old }
+        requires steps { 2 ≤ out.old.steps.room }
+        requires frames { 1 ≤ out.old.frames.room }
+        requires replies { length self.old.tasks.waiting ≤ out.old.replies.room }
+        ensures does { Does K.Keeper self.old self.new out.old out.new (λ s v. seeks_master s v from master.now term) (is_ok result) }
+        ensures uses { Uses out.old out.new 2 1 (length self.old.tasks.waiting) }
+    {
+        if !is_node(*master, from) {
+            return Ok(());
+        }
+        let current = self.core.term();
+        if current < term {
+            return self.start_join(out, from, term);
+        }
+        self.send(out, from, Message::JoinAsk { term: current });
+        Ok(())
+    }
+}

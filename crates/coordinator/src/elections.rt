@@ -1,0 +1,254 @@
+//! How a candidate comes to be elected: the first configuration, and the wait for an election.
+ghost use Rattle.std.specs.Prelude.{◌≡◌, ◌≤◌, ◌+◌, ◌&&◌, [], ◌∷◌, true, is_ok, IfOk};
+ghost use Rattle.voting_config.specs.Ids.{without_id};
+ghost use Rattle.world_model.specs.Replies.{elects as elects_of};
+ghost use Rattle.policy_model.specs.Doing.{may_win as may_win_of, then_rule};
+ghost use Rattle.policy_model.specs.Discovery.{asks_peers};
+ghost use Rattle.policy_model.specs.Rules.{ticks_candidate};
+ghost use Rattle.policy_model.specs.Events.{Notes, RoundBegun};
+ghost use Rattle.policy_model.specs.Elections.{bootstraps, stands_for_election, free_nodes as free_nodes_of, begins_round, waits_until, waits_for_election};
+ghost use Rattle.policy_model.specs.Parts.{next_attempt as next_attempt_of, round_begun};
+ghost use Rattle.coordinator.specs.Bootstraps.{IsPlannedInitial};
+ghost use Rattle.coordinator.specs.Does.{Does};
+ghost use Rattle.coordinator.specs.Rooms.{Uses};
+ghost use Rattle.coordinator.specs.Rounds.{stands_alone};
+ghost use Rattle.coordinator.specs.Views.{view_in, IsReady};
+
+use crate::coordinator::{Coordinator, Struck};
+use crate::discovery::with;
+use crate::output::Output;
+use crate::sending::Broadcast;
+use cluster_state::LAST_NUMBER;
+use election_clock::{DURATION, delay, due};
+use exclusions::may_win;
+use pre_vote::PreVotes;
+use state_journal::{Keeper, Ready};
+use std::alloc::{AllocError, Global};
+use voting_config::{NodeId, NodeSet};
+
+// Attempts are counted up to this one.
+const MOST_ATTEMPTS: u64 = 99;
+
+// The set without an id.
+fn without(ids: &NodeSet, id: NodeId) -> NodeSet
+    ensures { result ≡ without_id id ids.now }
+{
+    let mut others = ids.copy();
+    others.remove(id);
+    others
+}
+
+fn next_attempt(attempt: u64) -> u64
+    ensures { result ≡ next_attempt_of attempt }
+{
+    if attempt < MOST_ATTEMPTS {
+        attempt + 1
+    } else {
+        MOST_ATTEMPTS
+    }
+}
+
+impl<K: Keeper> Coordinator<K> {
+    /// The state that a candidate will bootstrap with, if it will.
+    pub(crate) fn plan_bootstrap(&self, alloc: Global) -> Result<Option<Ready>, AllocError>
+        ensures { IfOk result (λ initial. IsPlannedInitial self.now.settings (view_in K.Keeper self.now) initial) }
+    {
+        let has_config = !self.core.accepted().config.is_empty();
+        let known = self.finder.answered_set();
+        match bootstrap::decide(&self.settings.initial, &known, self.settings.me, has_config) {
+            None => Ok(None),
+            Some(config) => {
+                let initial = Ready::initial(alloc, config.members())?;
+                Ok(Some(initial))
+            }
+        }
+    }
+
+    // Takes the first configuration, if it will.
+    fn bootstrap(&mut self, out: &mut Output, initial: Option<Ready>) -> Result<(), Struck>
+        requires ready { IsReady self.old }
+        requires initial { IsPlannedInitial self.old.settings (view_in K.Keeper self.old) initial }
+        requires steps { 1 ≤ out.old.steps.room }
+        ensures does { Does K.Keeper self.old self.new out.old out.new bootstraps (is_ok result) }
+        ensures uses { Uses out.old out.new 1 0 0 }
+    {
+        match initial {
+            None => Ok(()),
+            Some(ready) => match self.act_set_initial(out, ready) {
+                Ok(_) => Ok(()),
+                Err(_) => Err(Struck),
+            },
+        }
+    }
+
+    // Takes the first configuration, if it will, and asks all peers where discovery is due.
+    fn find_peers(&mut self, out: &mut Output, initial: Option<Ready>) -> Result<(), Struck>
+        requires ready { IsReady self.old }
+        requires initial { IsPlannedInitial self.old.settings (view_in K.Keeper self.old) initial }
+        requires steps { 1 ≤ out.old.steps.room }
+        requires frames { 32 ≤ out.old.frames.room }
+        ensures does { Does K.Keeper self.old self.new out.old out.new (λ s v. then_rule s v (bootstraps s v) (asks_peers s)) (is_ok result) }
+        ensures uses { Uses out.old out.new 1 32 0 }
+    {
+        match self.bootstrap(out, initial) {
+            Err(_) => Err(Struck),
+            Ok(()) => {
+                self.ask_peers(out);
+                Ok(())
+            }
+        }
+    }
+
+    // A tick of a candidate, with what it will bootstrap with.
+    pub(crate) fn tick_candidate(
+        &mut self,
+        out: &mut Output,
+        initial: Option<Ready>,
+        word: u64,
+    ) -> Result<(), Struck>
+        requires ready { IsReady self.old }
+        requires initial { IsPlannedInitial self.old.settings (view_in K.Keeper self.old) initial }
+        requires steps { 1 ≤ out.old.steps.room }
+        requires frames { 96 ≤ out.old.frames.room }
+        ensures does { Does K.Keeper self.old self.new out.old out.new (λ s v. ticks_candidate s v word) (is_ok result) }
+        ensures uses { Uses out.old out.new 1 96 0 }
+    {
+        match self.find_peers(out, initial) {
+            Err(_) => Err(Struck),
+            Ok(()) => {
+                self.wait_for_election(out, word);
+                Ok(())
+            }
+        }
+    }
+
+    // The round ends, and all peers and the node itself are asked to join.
+    pub(crate) fn stand_for_election(&mut self, out: &mut Output, term: u64)
+        requires frames { 32 ≤ out.old.frames.room }
+        ensures does { Does K.Keeper self.old self.new out.old out.new (λ s v. stands_for_election s v term) true }
+        ensures uses { Uses out.old out.new 0 32 0 }
+    {
+        self.round = None;
+        if LAST_NUMBER < term {
+            return;
+        }
+        let me = self.settings.me;
+        let all = with(self.finder.known_set(), me);
+        self.send_all(out, &all, &Broadcast::StartJoin(me, term));
+    }
+
+    // A node that is a quorum alone stands for election.
+    fn stand_alone(&mut self, out: &mut Output)
+        requires frames { 32 ≤ out.old.frames.room }
+        ensures does { Does K.Keeper self.old self.new out.old out.new stands_alone true }
+        ensures uses { Uses out.old out.new 0 32 0 }
+    {
+        let alone = with(NodeSet::new(), self.settings.me);
+        if !self.elects(&alone) {
+            return;
+        }
+        let term = self.core.term() + 1;
+        self.stand_for_election(out, term);
+    }
+
+    // The node, and the peers whose last answer names no master.
+    fn free_nodes(&self) -> NodeSet
+        ensures { result ≡ free_nodes_of self.now.settings (view_in K.Keeper self.now) }
+    {
+        with(self.finder.free_set(), self.settings.me)
+    }
+
+    // Whether these are an election quorum.
+    fn elects(&self, ids: &NodeSet) -> bool
+        ensures { result ≡ elects_of (view_in K.Keeper self.now).node ids.now }
+    {
+        self.core.committed().is_quorum(ids) && self.core.accepted().config.is_quorum(ids)
+    }
+
+    // Whether the node votes or is not excluded, and these are an election quorum.
+    fn may_be_elected(&self, ids: &NodeSet) -> bool
+        ensures { result ≡ (may_win_of self.now.settings (view_in K.Keeper self.now) && elects_of (view_in K.Keeper self.now).node ids.now) }
+    {
+        let accepted = self.core.accepted();
+        may_win(
+            self.settings.me,
+            self.core.committed(),
+            &accepted.config,
+            &accepted.value.exclusions,
+        ) && self.elects(ids)
+    }
+
+    // A round that begins now.
+    fn new_round(&self) -> PreVotes
+        ensures { result ≡ round_begun self.now.settings.me (view_in K.Keeper self.now).node }
+    {
+        PreVotes::start(
+            self.settings.me,
+            self.core.accepted().id(),
+            self.core.term(),
+        )
+    }
+
+    // A round begins, and so does the wait for the next.
+    fn open_round(&mut self, word: u64)
+        requires { IsReady self.old }
+        ensures { (out : _) → Does K.Keeper self.old self.new out out (λ s v. Notes (RoundBegun word) ∷ []) true }
+    {
+        let attempt = next_attempt(self.attempt);
+        let round = self.new_round();
+        self.round = Some(round);
+        self.attempt = attempt;
+        self.deadline = Some(self.moment + delay(attempt, word) + DURATION);
+    }
+
+    // A round of pre-votes, which a node that is a quorum alone ends at once.
+    fn begin_round(&mut self, out: &mut Output, free: &NodeSet, word: u64)
+        requires ready { IsReady self.old }
+        requires free { free.now ≡ free_nodes_of self.old.settings (view_in K.Keeper self.old) }
+        requires frames { 64 ≤ out.old.frames.room }
+        ensures does { Does K.Keeper self.old self.new out.old out.new (λ s v. begins_round s v word) true }
+        ensures uses { Uses out.old out.new 0 64 0 }
+    {
+        let others = without(free, self.settings.me);
+        self.open_round(word);
+        self.send_all(out, &others, &Broadcast::PreVoteAsk);
+        self.stand_alone(out);
+    }
+
+    // A deadline is set, or a round begins that was waited for.
+    fn wait_until(&mut self, out: &mut Output, free: &NodeSet, word: u64, deadline: Option<u64>)
+        requires ready { IsReady self.old }
+        requires free { free.now ≡ free_nodes_of self.old.settings (view_in K.Keeper self.old) }
+        requires frames { 64 ≤ out.old.frames.room }
+        ensures does { Does K.Keeper self.old self.new out.old out.new (λ s v. waits_until s v word deadline) true }
+        ensures uses { Uses out.old out.new 0 64 0 }
+    {
+        match deadline {
+            None => {
+                self.attempt = 0;
+                self.deadline = Some(self.moment + delay(0, word));
+            }
+            Some(deadline) => {
+                if due(deadline, self.moment) {
+                    self.begin_round(out, free, word);
+                }
+            }
+        }
+    }
+
+    // Waits for an election, where the node may win and the free nodes are a quorum.
+    fn wait_for_election(&mut self, out: &mut Output, word: u64)
+        requires ready { IsReady self.old }
+        requires frames { 64 ≤ out.old.frames.room }
+        ensures does { Does K.Keeper self.old self.new out.old out.new (λ s v. waits_for_election s v word) true }
+        ensures uses { Uses out.old out.new 0 64 0 }
+    {
+        let free = self.free_nodes();
+        if !self.may_be_elected(&free) {
+            self.deadline = None;
+            return;
+        }
+        let deadline = self.deadline;
+        self.wait_until(out, &free, word, deadline);
+    }
+}
