@@ -2,7 +2,7 @@ mod random;
 mod rows;
 
 use crate::{Status, run};
-use rows::{RULES, Row, SAFE, STOPS};
+use rows::{RULES, Row, SAFE_COMMITS, SAFE_JOINS, SAFE_VALUES, STOPS};
 use schedule_text::{Text, read_schedule, write_schedule};
 use std::alloc::{AllocError, Global};
 use std::process::Abort;
@@ -99,8 +99,20 @@ fn stops_faults_and_restarts_have_these_traces(rt: HostRuntime) -> Result<(), Fa
 }
 
 #[test]
-fn what_would_be_unsafe_without_one_guard_is_refused(rt: HostRuntime) -> Result<(), Fail> {
-    replays_all(&rt, rt.alloc(), &SAFE)
+fn elections_that_would_be_unsafe_without_one_guard_are_refused(
+    rt: HostRuntime,
+) -> Result<(), Fail> {
+    replays_all(&rt, rt.alloc(), &SAFE_JOINS)
+}
+
+#[test]
+fn values_that_would_be_unsafe_without_one_guard_are_refused(rt: HostRuntime) -> Result<(), Fail> {
+    replays_all(&rt, rt.alloc(), &SAFE_VALUES)
+}
+
+#[test]
+fn commits_that_would_be_unsafe_without_one_guard_are_refused(rt: HostRuntime) -> Result<(), Fail> {
+    replays_all(&rt, rt.alloc(), &SAFE_COMMITS)
 }
 
 // What strikes one of the first twelve device calls of node a.
