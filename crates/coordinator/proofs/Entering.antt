@@ -1,5 +1,5 @@
 -- What the acts of an event come to, all together.
-use Rattle.std.proofs.Common.{◌≡◌, ℕ, ◌≤◌, Bool, true, false, ◌&&◌, List, [], ◌∷◌, ◌++◌, arith, refl, sym, ap, subst, ◌∙◌}
+use Rattle.std.proofs.Common.{◌≡◌, ℕ, ◌≤◌, Bool, true, false, ◌&&◌, ◌||◌, List, [], ◌∷◌, ◌++◌, arith, refl, sym, ap, subst, ◌∙◌}
 use Rattle.state_journal.specs.declared.keeper.Keeper.{Ghosts}
 use Rattle.std.specs.Prelude.{Result, Ok, Err, max, min}
 use Rattle.zen_disk.specs.Faults.{Rose}
@@ -20,8 +20,9 @@ use Rattle.policy_model.specs.declared.events.Event.TheVariants.{Start, Tick, Fr
 use Rattle.policy_model.specs.Events.{acts_of, Item, Opens, Begins, Acts, Turns, Drops, Sends, Replies, Notes, Log, And, added}
 use Rattle.policy_model.specs.Entries.{Life, log_of}
 use Rattle.policy_model.specs.Views.{View, view_of}
-use Rattle.policy_model.specs.Moves.{begun, moved_all, is_own, are_own, view_of-And}
-use Rattle.policy_model.specs.Follows.{IsStruck, Here, Later, without_output, is_fault, items_of}
+use Rattle.policy_model.specs.Moves.{begun, moved, moved_all, is_own, are_own, view_of-And}
+use Rattle.policy_model.specs.Follows.{IsStruck, Here, Later, without_output, is_fault, has_fault, items_of}
+use Rattle.policy_model.specs.Local.{IsAnswered, Ended, ByAct, ByQuiet, is_quiet}
 use Rattle.policy_model.specs.Parts.{last_moment}
 use Rattle.policy_model.specs.Rules.{next_of}
 use Rattle.policy_model.proofs.Answering.{answered-next}
@@ -81,6 +82,42 @@ stopped_by p (Publish request) o w d = rw d refl
 stopped_by p (Response response) o w d = cc
 stopped_by p (Commit commit) o w d = rw d refl
 stopped_by p (Open found) o w d = cc
+
+-- an act that met no fault leaves the node running
+running_by : (p : NodeState) (act : Act) (o : Outcome) → is_fault o ≡ false → (node_state_after p act o).stopped ≡ p.stopped
+running_by p (Bootstrap config) (Answered reply) f = refl
+running_by p (StartJoin candidate term) (Answered reply) f = refl
+running_by p (TakeJoin join) (Answered reply) f = refl
+running_by p (Value version config value) (Answered reply) f = refl
+running_by p (Publish request) (Answered reply) f = refl
+running_by p (Response response) (Answered reply) f = refl
+running_by p (Commit commit) (Answered reply) f = refl
+running_by p (Open found) (Answered reply) f = refl
+running_by p act (Disk b) f = cc
+running_by p act (Crashed b) f = cc
+
+no_fault : (a b : Bool) → (a || b) ≡ false → (a ≡ false) × (b ≡ false)
+no_fault true b h = cc
+no_fault false b h = (refl, h)
+
+faultless_quiet : (i : Item) (is : List Item) → is_quiet i ≡ true → has_fault is ≡ false → has_fault (i ∷ is) ≡ false
+faultless_quiet (Opens found) is q h = h
+faultless_quiet (Begins event) is q h = h
+faultless_quiet (Acts act o) is q h = cc
+faultless_quiet (Turns mode term) is q h = h
+faultless_quiet (Drops member cause) is q h = h
+faultless_quiet (Sends frame) is q h = h
+faultless_quiet (Replies answer) is q h = h
+faultless_quiet (Notes note) is q h = h
+
+faultless_answered : (s : Settings) (v : View) (is : List Item) → IsAnswered s v is → has_fault is ≡ false
+faultless_answered s v is (Ended u) = refl
+faultless_answered s v is (ByAct u act rest e a) = faultless_answered s _ rest a
+faultless_answered s v is (ByQuiet u i rest q a) = faultless_quiet i rest q (faultless_answered s (moved s u i) rest a)
+
+-- the rules name no fault
+pub faultless_next : (s : Settings) (v : View) (event : Event) → has_fault (next_of s v event) ≡ false
+faultless_next s v event = faultless_answered s v (next_of s v event) (answered-next s v event)
 
 capped : (before now last : ℕ) → before ≤ last → max before (min now last) ≤ last
 capped before now last h = omega (arith, h)
@@ -159,6 +196,20 @@ module _ {K : Type 0} (k : Ghosts K) where
     wrote = did_wrote old.core new.core items passes.core;
     later = did_later old.core new.core items passes.core;
   }
+
+  -- a node that met no fault runs on
+  pub did_run : (old new : CoordState K) (is : List Item) → has_fault is ≡ false → Did old new is → k.has_stopped new.keeper ≡ k.has_stopped old.keeper
+  did_run old new [] f same = ap (λ (c : CoordState K). k.has_stopped c.keeper) same
+  did_run old new (Opens found ∷ is) f did = absurd did
+  did_run old new (Begins event ∷ is) f did = absurd did
+  did_run old new (Acts act o ∷ is) f did =
+      let parts = no_fault (is_fault o) (has_fault is) f in
+      did_run did.0 new is parts.1 did.2 ∙ ap (λ (n : NodeState). n.stopped) did.1.acts.at.after ∙ running_by (fields_of k.record_of k.has_stopped k.faults old) act o parts.0
+  did_run old new (Turns mode term ∷ is) f did = did_run old new is f did
+  did_run old new (Drops member cause ∷ is) f did = did_run old new is f did
+  did_run old new (Sends frame ∷ is) f did = did_run old new is f did
+  did_run old new (Replies answer ∷ is) f did = did_run old new is f did
+  did_run old new (Notes note ∷ is) f did = did_run old new is f did
 
   -- a struck node writes no more
   pub did_stops : (old new : CoordState K) (items left : List Item) → IsStruck items left → Did old new left → k.has_stopped new.keeper ≡ true

@@ -29,7 +29,7 @@ use Rattle.coordinator.specs.declared.step.Entries.{Entries}
 use Rattle.coordinator.specs.declared.step.StepError.{StepError}
 use Rattle.coordinator.specs.declared.step.StepError.TheVariants as step_error
 use Rattle.coordinator.proofs.Appending.{steps-shown, drops-shown}
-use Rattle.coordinator.proofs.Entering.{own_next, own_struck, items_now, enters, did_rise, did_stops}
+use Rattle.coordinator.proofs.Entering.{own_next, own_struck, faultless_next, items_now, enters, did_rise, did_run, did_stops}
 
 frames-shown : (o : Shown) (is : List Item) → (showing_all o is).frames ≡ o.frames ++ flat_map frames_in is
 frames-shown o [] = sym (append-nil o.frames)
@@ -54,7 +54,7 @@ replies-shown o (Replies answer ∷ is) = replies-shown (showing o (Replies answ
 replies-shown o (Notes note ∷ is) = replies-shown o is
 
 -- what the items show, in its order
-sealed_so : (event : Event) (items : List Item) (shown : Shown) (sealed : Sealed) → shown ≡ showing_all nothing_shown items → IsOrdered event shown sealed → IsSealed event items sealed
+pub sealed_so : (event : Event) (items : List Item) (shown : Shown) (sealed : Sealed) → shown ≡ showing_all nothing_shown items → IsOrdered event shown sealed → IsSealed event items sealed
 sealed_so event items shown sealed is ordered = record {
   entries = record {
     event = ordered.entries.event;
@@ -78,14 +78,16 @@ sealed_not_stopped (Err error.Memory) event shown r seals e = cc
 module _ {K : Type 0} (k : Ghosts K) where
   steps_by : (ended : Result (Unit {0}) EventError) (r : Result Sealed StepError) (old new : Coordinator K) (event : Event) (shown : Shown)
       → EventEnds k ended old new event nothing_shown shown (next_of old.settings (begun (view_in k old) event) event) → Seals ended event shown r
+      → k.has_stopped old.core.keeper ≡ false
       → Steps k old new event (next_of old.settings (begun (view_in k old) event) event) r
-  steps_by (Ok u) (Ok sealed) old new event shown brings seals = record {
+  steps_by (Ok u) (Ok sealed) old new event shown brings seals up = record {
     enters = enters k old new event _ (own_next old.settings (begun (view_in k old) event) event) brings.passes;
     seals = sealed_so event _ shown sealed brings.shown seals;
+    runs = did_run k old.core new.core (next_of old.settings (begun (view_in k old) event) event) (faultless_next old.settings (begun (view_in k old) event) event) brings.passes.core ∙ up;
   }
-  steps_by (Ok u) (Err e) old new event shown brings seals = absurd seals
-  steps_by (Err error.Struck) (Ok sealed) old new event shown breaks seals = absurd seals
-  steps_by (Err error.Struck) (Err (step_error.Disk entries)) old new event shown breaks seals = record {
+  steps_by (Ok u) (Err e) old new event shown brings seals up = absurd seals
+  steps_by (Err error.Struck) (Ok sealed) old new event shown breaks seals up = absurd seals
+  steps_by (Err error.Struck) (Err (step_error.Disk entries)) old new event shown breaks seals up = record {
     left = breaks.left;
     struck = breaks.struck;
     enters = enters k old new event breaks.left (own_struck _ breaks.left breaks.struck (own_next old.settings (begun (view_in k old) event) event)) breaks.passes;
@@ -93,16 +95,16 @@ module _ {K : Type 0} (k : Ghosts K) where
     rose = did_rise k old.core new.core _ breaks.left breaks.struck breaks.passes.core;
     stopped = did_stops k old.core new.core _ breaks.left breaks.struck breaks.passes.core;
   }
-  steps_by (Err error.Struck) (Err step_error.Stopped) old new event shown breaks seals = absurd seals
-  steps_by (Err error.Struck) (Err step_error.Memory) old new event shown breaks seals = absurd seals
-  steps_by (Err error.Memory) r old new event shown same seals =
+  steps_by (Err error.Struck) (Err step_error.Stopped) old new event shown breaks seals up = absurd seals
+  steps_by (Err error.Struck) (Err step_error.Memory) old new event shown breaks seals up = absurd seals
+  steps_by (Err error.Memory) r old new event shown same seals up =
       subst (λ (x : Result Sealed StepError). Steps k old new event (next_of old.settings (begun (view_in k old) event) event) x) (sym seals) same
 
   -- whatever life the node stood for, the event is the one of that life
   pub steps : (ended : Result (Unit {0}) EventError) (r : Result Sealed StepError) (old new : Coordinator K) (event : Event) (sent shown : Shown) → sent ≡ nothing_shown
-      → EventEnds k ended old new event sent shown (next_of old.settings (begun (view_in k old) event) event) → Seals ended event shown r
+      → EventEnds k ended old new event sent shown (next_of old.settings (begun (view_in k old) event) event) → Seals ended event shown r → k.has_stopped old.core.keeper ≡ false
       → (life : Life) → StandsForLife k old life → Steps k old new event (items_of old.settings (log_of life) event) r
-  steps ended r old new event sent shown none does seals life stands =
+  steps ended r old new event sent shown none does seals up life stands =
       subst (λ (items : List Item). Steps k old new event items r) (items_now k old life event stands)
       (steps_by ended r old new event shown
-      (subst (λ (o : Shown). EventEnds k ended old new event o shown (next_of old.settings (begun (view_in k old) event) event)) none does) seals)
+      (subst (λ (o : Shown). EventEnds k ended old new event o shown (next_of old.settings (begun (view_in k old) event) event)) none does) seals up)

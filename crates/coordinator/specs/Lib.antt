@@ -17,3 +17,4 @@ pub mod Orders
 pub mod Kinds
 pub mod Bootstraps
 pub mod Rounds
+pub mod Limits

@@ -1,5 +1,5 @@
 -- What a whole event comes to.
-use Rattle.std.specs.Prelude.{◌≡◌, ℕ, true, Result, Ok, Err, List}
+use Rattle.std.specs.Prelude.{◌≡◌, ℕ, true, false, Result, Ok, Err, List}
 use Rattle.state_journal.specs.declared.keeper.Keeper.{Ghosts}
 use Rattle.zen_disk.specs.Faults.{Rose}
 use Rattle.policy_model.specs.declared.events.Event.{Event}
@@ -73,6 +73,7 @@ module _ {K : Type 0} (k : Ghosts K) where
   pub record Done (old new : Coordinator K) (event : Event) (items : List Item) (sealed : Sealed) : Type 0 where
     pub enters : Enters k old new event items
     pub seals : IsSealed event items sealed
+    pub runs : k.has_stopped new.core.keeper ≡ false
 
   -- the disk failed at an act: those up to it are done
   pub record Failed (old new : Coordinator K) (event : Event) (items : List Item) (told : Entries) : Type 0 where

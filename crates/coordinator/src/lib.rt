@@ -7,8 +7,8 @@ mod asking;
 mod checks;
 mod committing;
 pub mod coordinator;
-pub mod dispatch;
 mod discovery;
+pub mod dispatch;
 mod elections;
 mod following;
 mod joining;
@@ -19,8 +19,8 @@ mod opening;
 mod outcomes;
 pub mod output;
 pub mod plan;
-mod publishing;
 mod pre_votes;
+mod publishing;
 mod responding;
 pub mod sending;
 mod sorting;
@@ -33,3 +33,6 @@ pub use output::{Listed, Output};
 pub use plan::{NewState, Plan};
 pub use sending::Broadcast;
 pub use step::{Entries, Sealed, StepError};
+
+#[cfg(test)]
+mod tests;

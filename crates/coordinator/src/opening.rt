@@ -1,5 +1,6 @@
 //! A node that was just opened.
-ghost use Rattle.std.specs.Prelude.{◌≡◌, false};
+ghost use Rattle.std.specs.Prelude.{◌≡◌, ℕ, false};
+ghost use Rattle.zen_disk.specs.Moments.{Same};
 ghost use Rattle.world_model.specs.declared.acts.Act.TheVariants.{Open};
 ghost use Rattle.world_model.specs.Histories.{ContinuesUnlessFirst};
 ghost use Rattle.policy_model.specs.Entries.{Life, Opened, log_of};
@@ -15,8 +16,9 @@ use fault_checks::FollowerChecks;
 use master_tasks::MasterTasks;
 use peer_finder::PeerFinder;
 use policy_model::{Mode, Settings};
-use state_journal::Keeper;
+use state_journal::{ArmKeeper, Keeper};
 use std::alloc::Global;
+use zen_disk::Order;
 
 impl<K: Keeper> Coordinator<K> {
     /// A node over what keeps its record and has not met a fault. Its first event is the start, which comes once.
@@ -66,5 +68,19 @@ impl<K: Keeper> Coordinator<K> {
     {
         let Coordinator { core, .. } = self;
         core.into_keeper()
+    }
+}
+
+impl<K: ArmKeeper> Coordinator<K> {
+    /// Takes an order for the disk that the record is kept on, in place of an earlier one of its kind.
+    pub fn arm(&mut self, order: Order)
+        ensures rest { self.new ≡ record self.old { core = self.new.core } }
+        ensures view { view_in K.Keeper self.new ≡ view_in K.Keeper self.old }
+        ensures me { self.new.core.me ≡ self.old.core.me }
+        ensures moment { K.Keeper.moment self.new.core.keeper ≡ K.Keeper.moment self.old.core.keeper }
+        ensures left_since { (t : ℕ) → Same (K.Keeper.left_since self.old.core.keeper t) (K.Keeper.left_since self.new.core.keeper t) }
+        ensures arms { K.arms self.old.core.keeper order self.new.core.keeper }
+    {
+        self.core.arm(order);
     }
 }

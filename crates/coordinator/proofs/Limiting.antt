@@ -1,0 +1,70 @@
+-- What is sealed is short, and within the limits.
+use Rattle.std.proofs.Common.{◌≡◌, ℕ, ◌≤◌, List, length, refl, sym, ap, subst}
+use Rattle.std.specs.Prelude.{Result, Ok, Err, IfOk}
+use Rattle.std.specs.List.{AllByRecursion}
+use Rattle.state_journal.specs.declared.keeper.Keeper.{Ghosts}
+use Rattle.wire_frames.specs.declared.frame.Frame.{Frame}
+use Rattle.wire_frames.specs.Frames.{IsFitFrame}
+use Rattle.master_tasks.specs.declared.waiting.Outgoing.{Outgoing}
+use Rattle.master_tasks.specs.Queue.{most_open}
+use Rattle.policy_model.specs.declared.events.Event.{Event}
+use Rattle.policy_model.specs.declared.events.Event.TheVariants.{Start, Tick, Frame as FrameCame, Client as LineCame}
+use Rattle.policy_model.specs.declared.events.Step.{Step}
+use Rattle.policy_model.specs.Events.{Item}
+use Rattle.policy_model.specs.Entries.{steps_of, frames_of, replies_of}
+use Rattle.policy_model.specs.Fitting.{IsFitView, IsFitEvent, EventHoldsSettings}
+use Rattle.policy_model.specs.Moves.{begun, moved_all}
+use Rattle.policy_model.specs.Rules.{next_of}
+use Rattle.policy_model.specs.Views.{View}
+use Rattle.policy_model.proofs.Fits.{stays_fit}
+use Rattle.policy_model.proofs.Shortness.{event_short}
+use Rattle.policy_model.proofs.Spending.{answers_few}
+use Rattle.coordinator.specs.Lives.{EventEnds}
+use Rattle.coordinator.specs.Limits.{IsWithin}
+use Rattle.coordinator.specs.Showing.{Shown, showing_all, nothing_shown}
+use Rattle.coordinator.specs.Steps.{Seals}
+use Rattle.coordinator.specs.Views.{view_in}
+use Rattle.coordinator.specs.declared.coordinator.Coordinator.{Coordinator}
+use Rattle.coordinator.specs.declared.coordinator.EventError.{EventError}
+use Rattle.coordinator.specs.declared.coordinator.EventError.TheVariants as error
+use Rattle.coordinator.specs.declared.step.Sealed.{Sealed}
+use Rattle.coordinator.specs.declared.step.StepError.{StepError}
+use Rattle.coordinator.specs.declared.step.StepError.TheVariants as step_error
+use Rattle.coordinator.proofs.Sealing.{sealed_so}
+
+-- the moment is within no limit that matters here
+fit_begun : (v : View) (event : Event) → IsFitView v → IsFitView (begun v event)
+fit_begun v Start fit = fit
+fit_begun v (Tick now word) fit = record { term = fit.term; accepted = fit.accepted; settings = fit.settings; applied_id = fit.applied_id; terms = fit.terms; good = fit.good }
+fit_begun v (FrameCame frame) fit = fit
+fit_begun v (LineCame conn line) fit = fit
+
+waiting_begun : (v : View) (event : Event) → (begun v event).tasks.waiting ≡ v.tasks.waiting
+waiting_begun v Start = refl
+waiting_begun v (Tick now word) = refl
+waiting_begun v (FrameCame frame) = refl
+waiting_begun v (LineCame conn line) = refl
+
+module _ {K : Type 0} (k : Ghosts K) where
+  -- what is sealed
+  pub within : (ended : Result (Unit {0}) EventError) (r : Result Sealed StepError) (old new : Coordinator K) (event : Event) (sent shown : Shown) → sent ≡ nothing_shown
+      → EventEnds k ended old new event sent shown (next_of old.settings (begun (view_in k old) event) event) → Seals ended event shown r
+      → IsFitEvent event → EventHoldsSettings event → length old.tasks.waiting ≤ most_open
+      → IfOk r (λ (sealed : Sealed). IsWithin k old new sealed)
+  within (Ok u) (Ok sealed) old new event sent shown none brings seals fit holds few =
+      let s = old.settings in
+      let v = begun (view_in k old) event in
+      let items = next_of s v event in
+      let is = sealed_so event items shown sealed (subst (λ (o : Shown). shown ≡ showing_all o items) none brings.shown) seals in
+      let answers = answers_few s v event (subst (λ (n : ℕ). n ≤ most_open) (sym (ap (λ l. length l) (waiting_begun (view_in k old) event))) few) in
+      record {
+        steps = subst (λ (l : List Step). length l ≤ 6) (sym is.entries.steps) (event_short s v event).steps;
+        replies = subst (λ (l : List Outgoing). length l ≤ most_open) (sym is.replies) answers.replies;
+        sends = λ fit_before. subst (λ (l : List Frame). AllByRecursion IsFitFrame l) (sym is.sends) (stays_fit s v event (fit_begun (view_in k old) event fit_before) fit holds).frames;
+        after = λ fit_before. subst (λ (u : View). IsFitView u) (sym brings.passes.view) (stays_fit s v event (fit_begun (view_in k old) event fit_before) fit holds).after;
+      }
+  within (Ok u) (Err e) old new event sent shown none brings seals fit holds few = tt
+  within (Err error.Struck) (Ok sealed) old new event sent shown none breaks seals fit holds few = absurd seals
+  within (Err error.Struck) (Err e) old new event sent shown none breaks seals fit holds few = tt
+  within (Err error.Memory) (Ok sealed) old new event sent shown none same seals fit holds few = cc
+  within (Err error.Memory) (Err e) old new event sent shown none same seals fit holds few = tt

@@ -1,0 +1,25 @@
+use Rattle.std.proofs.Common.{true≢false, sym, ap, ◌∙◌}
+use Rattle.coordinator.proofs.Entering.{event_ready, event_leaves, life_leaves}
+use Rattle.coordinator.proofs.Limiting.{within}
+use Rattle.coordinator.proofs.Sealing.{steps, sealed_not_stopped}
+use Rattle.coordinator.proofs.coordinator.Coordinator.step.Goals as goal
+
+pub returns-clause-steps : goal.returns-clause-steps
+returns-clause-steps g c =
+    steps g.K.Keeper c.take_event-ended.result c.seal.result c.args.self.now c.take_event-ended.new.self c.args.event _ _ c.in-Ok.ensures.shown c.take_event-ended.ensures.does c.seal.ensures (ap (λ x. g.K.Keeper.has_stopped x) (sym c.keeper.ensures) ∙ sym c.stopped.ensures ∙ c.if-stopped.false)
+
+pub returns-clause-crash : goal.returns-clause-crash
+returns-clause-crash g c =
+    life_leaves g.K.Keeper c.args.self.now c.take_event-ended.new.self c.args.event (event_leaves g.K.Keeper c.take_event-ended.result c.args.self.now c.take_event-ended.new.self c.args.event _ _ _ c.take_event-ended.ensures.does)
+
+pub returns-clause-ready : goal.returns-clause-ready
+returns-clause-ready g c =
+    event_ready g.K.Keeper c.take_event-ended.result c.args.self.now c.take_event-ended.new.self c.args.event _ _ _ c.requires.ready c.take_event-ended.ensures.does
+
+pub returns-clause-within : goal.returns-clause-within
+returns-clause-within g c =
+    within g.K.Keeper c.take_event-ended.result c.seal.result c.args.self.now c.take_event-ended.new.self c.args.event _ _ c.in-Ok.ensures.shown c.take_event-ended.ensures.does c.seal.ensures c.requires.fit c.law_event_holds_settings.ensures (rw (← c.open_count.ensures.count) c.open_count.ensures.few)
+
+pub returns-clause-stopped : goal.returns-clause-stopped
+returns-clause-stopped g c =
+    (λ e. absurd (sealed_not_stopped c.take_event-ended.result c.args.event _ c.seal.result c.seal.ensures e), λ stopped. absurd (true≢false (sym stopped ∙ ap (λ x. g.K.Keeper.has_stopped x) (sym c.keeper.ensures) ∙ sym c.stopped.ensures ∙ c.if-stopped.false)))
