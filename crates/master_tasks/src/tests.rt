@@ -203,9 +203,9 @@ fn a_65th_request_is_refused(rt: HostRuntime) -> Result<(), Fail> {
 // What comes of requests, of ids from 1 on.
 fn came(alloc: Global, voters: &str, exclusions: &str, wishes: &[Wish]) -> Result<Vec<u8>, Fail> {
     let mut tasks = MasterTasks::new(alloc);
-    let mut id = 0;
+    let mut id: u64 = 0;
     for wish in wishes {
-        id += 1;
+        id = id.wrapping_add(1);
         take(alloc, &mut tasks, 0, id, *wish)?;
     }
     let accepted = state(alloc, voters, "abc", exclusions)?;

@@ -5,9 +5,9 @@ use Rattle.cluster_state.specs.declared.state.StateId.{StateId}
 use Rattle.cluster_state.specs.States.{id_of}
 use Rattle.wire_frames.specs.declared.frame.Message.{Message}
 use Rattle.wire_frames.specs.declared.frame.Message.TheVariants as message
-use Rattle.client_lines.specs.declared.request.Ask.TheVariants as ask
-use Rattle.client_lines.specs.declared.reply.Answer.TheVariants as answer
-use Rattle.client_lines.specs.declared.reply.Reply.TheVariants as reply
+use Rattle.cluster_state.specs.declared.request.Ask.TheVariants as ask
+use Rattle.cluster_state.specs.declared.reply.Answer.TheVariants as answer
+use Rattle.cluster_state.specs.declared.reply.Reply.TheVariants as reply
 use Rattle.fault_checks.specs.Checks.{unchecked}
 use Rattle.fault_checks.specs.Followers.{no_state}
 use Rattle.fault_checks.specs.declared.followers.Follower.{Follower as Watched}

@@ -12,9 +12,9 @@ use Rattle.wire_frames.specs.declared.frame.Message.TheVariants as message
 use Rattle.cluster_state.specs.declared.reply.LineFault.{LineFault}
 use Rattle.cluster_state.specs.declared.request.Request.{Request}
 use Rattle.client_lines.specs.Reading.{line_request}
-use Rattle.client_lines.specs.Settings.{bad_setting_of}
-use Rattle.client_lines.specs.declared.reply.Answer.TheVariants as answer
-use Rattle.client_lines.specs.declared.reply.Reply.TheVariants as reply
+use Rattle.cluster_state.specs.Puts.{bad_setting_of}
+use Rattle.cluster_state.specs.declared.reply.Answer.TheVariants as answer
+use Rattle.cluster_state.specs.declared.reply.Reply.TheVariants as reply
 use Rattle.master_tasks.specs.declared.waiting.Waiting.{Waiting}
 use Rattle.pre_vote.specs.declared.rounds.Added.{Added}
 use Rattle.pre_vote.specs.declared.rounds.Added.TheVariants.{Counted, Fresher, Quorum}
