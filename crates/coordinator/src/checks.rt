@@ -1,5 +1,5 @@
 //! How leaders and followers check each other.
-ghost use Rattle.std.specs.Prelude.{◌≡◌, ◌≤◌, ◌+◌, [], ◌∷◌, true, length, is_ok};
+ghost use Rattle.std.specs.Prelude.{◌≡◌, ◌≤◌, true, length, is_ok};
 ghost use Rattle.std.specs.Option.{option_map};
 ghost use Rattle.voting_config.specs.Ids.{has};
 ghost use Rattle.fault_checks.specs.Leaders.{leader_tick};

@@ -1,5 +1,5 @@
 //! How nodes find each other, and a master to join.
-ghost use Rattle.std.specs.Prelude.{◌≡◌, ◌≤◌, ◌+◌, ◌<◌, [], ◌∷◌, true, length, is_ok};
+ghost use Rattle.std.specs.Prelude.{◌≡◌, ◌≤◌, ◌<◌, [], ◌∷◌, true, length, is_ok};
 ghost use Rattle.voting_config.specs.Ids.{with_id};
 ghost use Rattle.policy_model.specs.Events.{Notes, Met, Heard};
 ghost use Rattle.policy_model.specs.Doing.{is_candidate as is_candidate_of, leader_of as leader_of_mode, then_rule};

@@ -1,5 +1,5 @@
 //! Following another node.
-ghost use Rattle.std.specs.Prelude.{◌≡◌, ◌≤◌, ◌+◌, [], ◌∷◌, true, length};
+ghost use Rattle.std.specs.Prelude.{◌≡◌, ◌≤◌, [], ◌∷◌, true, length};
 ghost use Rattle.policy_model.specs.Doing.{becomes_follower, follows_node};
 ghost use Rattle.policy_model.specs.Events.{Turns};
 ghost use Rattle.policy_model.specs.declared.events.Mode.TheVariants.{Follower};

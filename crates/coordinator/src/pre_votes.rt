@@ -1,6 +1,5 @@
 //! Pre-votes, asked and answered.
-ghost use Rattle.std.specs.Prelude.{◌≡◌, ◌≤◌, ◌+◌, ◌^◌, [], ◌∷◌, true};
-ghost use Rattle.policy_model.specs.Events.{Notes, Met};
+ghost use Rattle.std.specs.Prelude.{◌≡◌, ◌≤◌, ◌^◌, true};
 ghost use Rattle.policy_model.specs.Elections.{is_asked_pre_vote, goes_to_election, counts_pre_vote, is_refused_pre_vote};
 ghost use Rattle.coordinator.specs.Does.{Does};
 ghost use Rattle.coordinator.specs.Rooms.{Uses};

@@ -1,4 +1,3 @@
-use Rattle.coordinator.proofs.Composing.{ready_then}
 use Rattle.coordinator.proofs.Electing.{begins}
 use Rattle.coordinator.proofs.coordinator.Coordinator.begin_round.Goals as goal
 

@@ -1,4 +1,4 @@
-use Rattle.std.proofs.Common.{List, sym, ap, ◌∙◌}
+use Rattle.std.proofs.Common.{sym, ap, ◌∙◌}
 use Rattle.cluster_state.specs.declared.state.ClusterState.{ClusterState}
 use Rattle.coordinator.proofs.PreVoting.{counts_added, counts_nothing, counts_no_candidate}
 use Rattle.coordinator.proofs.coordinator.Coordinator.count_pre_vote.Goals as goal

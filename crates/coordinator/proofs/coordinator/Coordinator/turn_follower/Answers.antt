@@ -1,5 +1,4 @@
 use Rattle.std.proofs.Common.{refl}
-use Rattle.policy_model.specs.declared.events.Mode.TheVariants.{Follower}
 use Rattle.coordinator.proofs.coordinator.Coordinator.turn_follower.Goals as goal
 
 pub returns-clause-does : goal.returns-clause-does
