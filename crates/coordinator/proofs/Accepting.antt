@@ -1,5 +1,5 @@
 -- A state that is accepted.
-use Rattle.std.proofs.Common.{◌≡◌, ℕ, Bool, true, false, List, [], ◌∷◌, ◌++◌, sym, ap, subst, ◌∙◌}
+use Rattle.std.proofs.Common.{◌≡◌, ℕ, Bool, true, false, List, [], ◌∷◌, sym, ap, subst, ◌∙◌}
 use Rattle.std.specs.Prelude.{if◌then◌else◌}
 use Rattle.state_journal.specs.declared.keeper.Keeper.{Ghosts}
 use Rattle.cluster_state.specs.declared.state.StateId.{StateId}

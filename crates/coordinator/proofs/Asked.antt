@@ -1,8 +1,7 @@
 -- Plans of a leader whose tasks change before it goes on.
-use Rattle.std.proofs.Common.{◌≡◌, ℕ, Bool, true, List, [], ◌∷◌, refl, ap, subst, ◌∙◌}
+use Rattle.std.proofs.Common.{◌≡◌, ℕ, true, List, [], ◌∷◌, refl, ap, subst, ◌∙◌}
 use Rattle.state_journal.specs.declared.keeper.Keeper.{Ghosts}
 use Rattle.std.specs.Prelude.{Option}
-use Rattle.cluster_state.specs.declared.state.Kept.{Kept}
 use Rattle.voting_config.specs.Ids.{Id}
 use Rattle.cluster_state.specs.declared.request.Request.{Request}
 use Rattle.master_tasks.specs.Queue.{Tasks, to_be_added, offered, arriving}

@@ -1,10 +1,9 @@
 -- Rules after rules.
-use Rattle.std.proofs.Common.{◌≡◌, ℕ, Bool, true, false, Option, List, ◌++◌, sym, ap, subst, ◌∙◌}
+use Rattle.std.proofs.Common.{◌≡◌, Bool, true, false, List, ◌++◌, sym, ap, subst, ◌∙◌}
 use Rattle.state_journal.specs.declared.keeper.Keeper.{Ghosts}
 use Rattle.std.proofs.lemmas.List.{append_assoc}
 use Rattle.std.specs.Prelude.{Result, Ok, Err, IsErr, is_ok}
 use Rattle.std.specs.List.{flat_map}
-use Rattle.cluster_state.specs.declared.state.Kept.{Kept}
 use Rattle.policy_model.specs.declared.settings.Settings.{Settings}
 use Rattle.policy_model.specs.declared.events.Step.{Step}
 use Rattle.policy_model.specs.declared.events.MemberDrop.{MemberDrop}

@@ -2,7 +2,6 @@
 use Rattle.std.proofs.Common.{◌≡◌, ℕ, Bool, true, false, not, ◌&&◌, List, [], ◌∷◌, refl, sym, ap, subst, ◌∙◌}
 use Rattle.state_journal.specs.declared.keeper.Keeper.{Ghosts}
 use Rattle.std.specs.Prelude.{if◌then◌else◌, Option}
-use Rattle.cluster_state.specs.declared.state.Kept.{Kept}
 use Rattle.cluster_state.specs.declared.state.StateId.{StateId}
 use Rattle.voting_config.specs.Ids.{Id}
 use Rattle.world_model.specs.declared.acts.Act.{Act}

@@ -17,7 +17,7 @@ use Rattle.coord_state.specs.declared.coord.CoordState.{CoordState}
 use Rattle.policy_model.specs.declared.settings.Settings.{Settings}
 use Rattle.policy_model.specs.declared.events.Event.{Event}
 use Rattle.policy_model.specs.declared.events.Event.TheVariants.{Start, Tick, Frame as FrameCame, Client as LineCame}
-use Rattle.policy_model.specs.Events.{acts_of, Item, Opens, Begins, Acts, Turns, Drops, Sends, Replies, Notes, Log, And, added}
+use Rattle.policy_model.specs.Events.{acts_of, Item, Opens, Begins, Acts, Turns, Drops, Sends, Replies, Notes, And, added}
 use Rattle.policy_model.specs.Entries.{Life, log_of}
 use Rattle.policy_model.specs.Views.{View, view_of}
 use Rattle.policy_model.specs.Moves.{begun, moved, moved_all, is_own, are_own, view_of-And}

@@ -1,5 +1,5 @@
 -- What a crash leaves at each moment of some items.
-use Rattle.std.proofs.Common.{◌≡◌, ℕ, Bool, true, false, List, [], ◌∷◌, sym, subst, inl, inr, ⊎_elim}
+use Rattle.std.proofs.Common.{◌≡◌, true, false, List, [], ◌∷◌, sym, subst, inl, inr, ⊎_elim}
 use Rattle.state_journal.specs.declared.keeper.Keeper.{Ghosts}
 use Rattle.std.specs.Prelude.{Option, Some}
 use Rattle.zen_disk.specs.Moments.{LeavesOnly, quiet, joins}

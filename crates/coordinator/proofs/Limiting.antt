@@ -10,10 +10,8 @@ use Rattle.master_tasks.specs.Queue.{most_open}
 use Rattle.policy_model.specs.declared.events.Event.{Event}
 use Rattle.policy_model.specs.declared.events.Event.TheVariants.{Start, Tick, Frame as FrameCame, Client as LineCame}
 use Rattle.policy_model.specs.declared.events.Step.{Step}
-use Rattle.policy_model.specs.Events.{Item}
-use Rattle.policy_model.specs.Entries.{steps_of, frames_of, replies_of}
 use Rattle.policy_model.specs.Fitting.{IsFitView, IsFitEvent, EventHoldsSettings}
-use Rattle.policy_model.specs.Moves.{begun, moved_all}
+use Rattle.policy_model.specs.Moves.{begun}
 use Rattle.policy_model.specs.Rules.{next_of}
 use Rattle.policy_model.specs.Views.{View}
 use Rattle.policy_model.proofs.Fits.{stays_fit}
@@ -29,7 +27,6 @@ use Rattle.coordinator.specs.declared.coordinator.EventError.{EventError}
 use Rattle.coordinator.specs.declared.coordinator.EventError.TheVariants as error
 use Rattle.coordinator.specs.declared.step.Sealed.{Sealed}
 use Rattle.coordinator.specs.declared.step.StepError.{StepError}
-use Rattle.coordinator.specs.declared.step.StepError.TheVariants as step_error
 use Rattle.coordinator.proofs.Sealing.{sealed_so}
 
 -- the moment is within no limit that matters here

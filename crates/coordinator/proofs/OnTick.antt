@@ -2,8 +2,6 @@
 use Rattle.std.proofs.Common.{◌≡◌, ℕ, List, ap, subst, ◌∙◌}
 use Rattle.std.specs.Prelude.{max, min}
 use Rattle.state_journal.specs.declared.keeper.Keeper.{Ghosts}
-use Rattle.coord_state.specs.declared.coord.CoordState.{CoordState}
-use Rattle.policy_model.specs.declared.settings.Settings.{Settings}
 use Rattle.policy_model.specs.declared.events.Event.TheVariants.{Tick}
 use Rattle.policy_model.specs.Events.{Item}
 use Rattle.policy_model.specs.Moves.{begun}

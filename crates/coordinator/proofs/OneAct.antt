@@ -1,6 +1,6 @@
 -- One act of the core, with its entry.
 use Rattle.std.proofs.Common.{◌≡◌, ℕ, Bool, true, false, true≢false, List, [], ◌∷◌, refl, sym, ap, subst, ◌∙◌}
-use Rattle.std.specs.Prelude.{Option, Some, Result, Ok, Err, IfOk, is_ok}
+use Rattle.std.specs.Prelude.{Option, Result, IfOk, is_ok}
 use Rattle.std.proofs.lemmas.List.{append-nil}
 use Rattle.state_journal.specs.declared.keeper.Keeper.{Ghosts}
 use Rattle.voting_config.specs.Ids.{Id}

@@ -1,8 +1,7 @@
 -- Lists of frames and of replies change nothing but what is shown.
-use Rattle.std.proofs.Common.{◌≡◌, ℕ, Bool, Option, List, [], ◌∷◌, ◌++◌, map, refl, sym, ap, subst, ◌∙◌}
+use Rattle.std.proofs.Common.{◌≡◌, ℕ, List, [], ◌∷◌, ◌++◌, map, refl, sym, ap, subst, ◌∙◌}
 use Rattle.state_journal.specs.declared.keeper.Keeper.{Ghosts}
 use Rattle.std.proofs.lemmas.List.{append_assoc, append-nil}
-use Rattle.cluster_state.specs.declared.state.Kept.{Kept}
 use Rattle.voting_config.specs.Ids.{Id}
 use Rattle.coord_state.specs.declared.coord.CoordState.{CoordState}
 use Rattle.master_tasks.specs.declared.waiting.Outgoing.{Outgoing}

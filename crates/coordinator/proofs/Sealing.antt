@@ -1,31 +1,25 @@
 -- An event whose output is sealed.
-use Rattle.std.proofs.Common.{◌≡◌, ℕ, Bool, true, false, List, [], ◌∷◌, ◌++◌, refl, sym, ap, subst, ◌∙◌}
-use Rattle.std.specs.Prelude.{Option, Result, Ok, Err}
+use Rattle.std.proofs.Common.{◌≡◌, false, List, [], ◌∷◌, ◌++◌, sym, ap, subst, ◌∙◌}
+use Rattle.std.specs.Prelude.{Result, Ok, Err}
 use Rattle.std.specs.List.{flat_map}
 use Rattle.std.proofs.lemmas.List.{append_assoc, append-nil}
 use Rattle.state_journal.specs.declared.keeper.Keeper.{Ghosts}
-use Rattle.zen_disk.specs.Moments.{LeavesOnly}
 use Rattle.wire_frames.specs.declared.frame.Frame.{Frame}
-use Rattle.master_tasks.specs.declared.waiting.Outgoing.{Outgoing}
-use Rattle.policy_model.specs.declared.settings.Settings.{Settings}
 use Rattle.policy_model.specs.declared.events.Event.{Event}
 use Rattle.policy_model.specs.declared.events.MemberDrop.{MemberDrop}
-use Rattle.policy_model.specs.declared.events.Step.{Step}
-use Rattle.policy_model.specs.Events.{Item, Opens, Begins, Acts, Turns, Drops, Sends, Replies, Notes, acts_of}
-use Rattle.policy_model.specs.Entries.{Life, log_of, steps_of, drops_in, steps_in, frames_in, replies_in, frames_of, replies_of, by_member, by_receiver}
+use Rattle.policy_model.specs.Events.{Item, Opens, Begins, Acts, Turns, Drops, Sends, Replies, Notes}
+use Rattle.policy_model.specs.Entries.{Life, log_of, frames_in, replies_in, by_member, by_receiver}
 use Rattle.policy_model.specs.Follows.{items_of}
 use Rattle.policy_model.specs.Moves.{begun}
 use Rattle.policy_model.specs.Rules.{next_of}
-use Rattle.policy_model.specs.Views.{View}
 use Rattle.coordinator.specs.Showing.{Shown, showing, showing_all, nothing_shown}
-use Rattle.coordinator.specs.Lives.{StandsForLife, Brings, Breaks, EventEnds}
-use Rattle.coordinator.specs.Steps.{AreEntries, AreOrdered, IsSealed, IsOrdered, Seals, Steps}
+use Rattle.coordinator.specs.Lives.{StandsForLife, EventEnds}
+use Rattle.coordinator.specs.Steps.{IsSealed, IsOrdered, Seals, Steps}
 use Rattle.coordinator.specs.Views.{view_in}
 use Rattle.coordinator.specs.declared.coordinator.Coordinator.{Coordinator}
 use Rattle.coordinator.specs.declared.coordinator.EventError.{EventError}
 use Rattle.coordinator.specs.declared.coordinator.EventError.TheVariants as error
 use Rattle.coordinator.specs.declared.step.Sealed.{Sealed}
-use Rattle.coordinator.specs.declared.step.Entries.{Entries}
 use Rattle.coordinator.specs.declared.step.StepError.{StepError}
 use Rattle.coordinator.specs.declared.step.StepError.TheVariants as step_error
 use Rattle.coordinator.proofs.Appending.{steps-shown, drops-shown}

@@ -1,5 +1,5 @@
 -- How a response is counted, and what its commit brings.
-use Rattle.std.specs.Prelude.{ℕ, Bool, List, [], ◌∷◌, ◌++◌, if◌then◌else◌}
+use Rattle.std.specs.Prelude.{List, [], ◌∷◌, ◌++◌, if◌then◌else◌}
 use Rattle.voting_config.specs.Ids.{Id}
 use Rattle.cluster_state.specs.declared.state.StateId.{StateId}
 use Rattle.world_model.specs.declared.acts.Act.{Act}

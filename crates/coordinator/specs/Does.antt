@@ -1,8 +1,7 @@
 -- When a node does what a rule says.
-use Rattle.std.specs.Prelude.{◌≡◌, ℕ, Bool, true, false, Option, Result, Ok, Err, List, ◌++◌}
+use Rattle.std.specs.Prelude.{◌≡◌, Bool, true, false, Result, Ok, Err, List, ◌++◌}
 use Rattle.state_journal.specs.declared.keeper.Keeper.{Ghosts}
 use Rattle.std.specs.List.{flat_map}
-use Rattle.cluster_state.specs.declared.state.Kept.{Kept}
 use Rattle.policy_model.specs.declared.settings.Settings.{Settings}
 use Rattle.policy_model.specs.Entries.{steps_in, drops_in}
 use Rattle.policy_model.specs.Events.{Item}

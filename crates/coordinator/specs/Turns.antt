@@ -1,5 +1,5 @@
 -- The acts among the items, as calls of the core one after the other.
-use Rattle.std.specs.Prelude.{◌≡◌, ℕ, Bool, Option, Some, List, [], ◌∷◌, ◌⊎◌}
+use Rattle.std.specs.Prelude.{◌≡◌, Option, Some, List, [], ◌∷◌, ◌⊎◌}
 use Rattle.state_journal.specs.declared.keeper.Keeper.{Ghosts}
 use Rattle.zen_disk.specs.Moments.{LeavesOnly}
 use Rattle.cluster_state.specs.declared.state.Kept.{Kept}

@@ -1,7 +1,6 @@
 -- A node as the rules see it, by its fields.
-use Rattle.std.specs.Prelude.{◌≡◌, ℕ, ◌≤◌, Bool}
+use Rattle.std.specs.Prelude.{◌≡◌, ◌≤◌}
 use Rattle.state_journal.specs.declared.keeper.Keeper.{Ghosts}
-use Rattle.cluster_state.specs.declared.state.Kept.{Kept}
 use Rattle.coord_state.specs.StandsFor.{fields_of}
 use Rattle.policy_model.specs.Views.{View}
 use Rattle.policy_model.specs.Parts.{last_moment}

@@ -1,5 +1,4 @@
 use Rattle.std.proofs.Common.{ℕ, arith, ap, ◌∙◌}
-use Rattle.cluster_state.specs.declared.state.StateId.{StateId}
 use Rattle.master_tasks.specs.Answering.{committed_in}
 use Rattle.master_tasks.specs.Replying.{Replies}
 use Rattle.coordinator.specs.Showing.{shown_in}

@@ -1,7 +1,5 @@
-use Rattle.std.proofs.Common.{refl, ap, ◌∙◌}
-use Rattle.world_model.specs.NodeState.{NodeState}
+use Rattle.std.proofs.Common.{refl}
 use Rattle.world_model.specs.declared.acts.Act.TheVariants as act
-use Rattle.coordinator.specs.Views.{view_in}
 use Rattle.coordinator.proofs.OneAct.{makes_act, taken_now, won_now, plain_view}
 use Rattle.coordinator.proofs.coordinator.Coordinator.act_join.Goals as goal
 

@@ -1,7 +1,5 @@
-use Rattle.std.proofs.Common.{refl, ap, ◌∙◌}
-use Rattle.world_model.specs.NodeState.{NodeState}
+use Rattle.std.proofs.Common.{refl}
 use Rattle.world_model.specs.declared.acts.Act.TheVariants as act
-use Rattle.coordinator.specs.Views.{view_in}
 use Rattle.coordinator.proofs.OneAct.{ends_act, plain_view, taken_act}
 use Rattle.coordinator.proofs.coordinator.Coordinator.act_publish.Goals as goal
 

@@ -1,5 +1,4 @@
 use Rattle.std.proofs.Common.{sym, ◌∙◌}
-use Rattle.coordinator.proofs.Counted.{is_true, is_false}
 use Rattle.coordinator.proofs.Committed.{counted_whole, counted_none}
 use Rattle.coordinator.proofs.coordinator.Coordinator.count_response.Goals as goal
 
