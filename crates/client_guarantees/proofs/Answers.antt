@@ -1,0 +1,259 @@
+-- The answers that requests get, and when they are true.
+use Rattle.std.proofs.Common.{◌≡◌, ℕ, Bool, true, false, Option, None, Some, Result, Ok, Err, List, [], ◌∷◌, ◌++◌, refl, sym, ◌∙◌, ap, subst, inl, inr, ◌||◌, ◌<◌, true≢false, arith}
+use Rattle.std.specs.Prelude.{if◌then◌else◌, is_some, is_none, nat_le, nat_eq, fold, not, ◌&&◌, ◌+◌, length, map}
+use Rattle.std.specs.List.{cons_option}
+use Rattle.std.specs.Option.{option_map}
+use Rattle.std.proofs.lemmas.Bool.{and_parts, or_parts, not-true}
+use Rattle.std.proofs.lemmas.Bool.Decides.{nat_tests}
+use Rattle.std.proofs.lemmas.List.{append_assoc, append-nil}
+use Rattle.voting_config.specs.Ids.{Id, has, same}
+use Rattle.reconfigurator.specs.Targets.{among}
+use Rattle.exclusions.specs.declared.AddError.{AddError}
+use Rattle.exclusions.specs.declared.AddError.TheVariants.{NotMember, TooMany}
+use Rattle.exclusions.specs.declared.StillMember.{StillMember}
+use Rattle.exclusions.specs.Exclusions.{added_of, cleared_of}
+use Rattle.cluster_state.specs.Fields.{most_settings}
+use Rattle.cluster_state.specs.Settings.{put_setting}
+use Rattle.cluster_state.specs.declared.state.ClusterState.{ClusterState}
+use Rattle.cluster_state.specs.declared.state.ClusterValue.{ClusterValue}
+use Rattle.cluster_state.specs.declared.state.StateId.{StateId}
+use Rattle.cluster_state.specs.States.{id_of}
+use Rattle.cluster_state.specs.declared.request.Ask.{Ask}
+use Rattle.cluster_state.specs.declared.request.Request.{Request}
+use Rattle.cluster_state.specs.declared.request.Ask.TheVariants as ask
+use Rattle.cluster_state.specs.declared.reply.Answer.{Answer}
+use Rattle.cluster_state.specs.declared.reply.Answer.TheVariants as answer
+use Rattle.master_tasks.specs.declared.waiting.Waiting.{Waiting}
+use Rattle.master_tasks.specs.declared.waiting.Outgoing.{Outgoing}
+use Rattle.master_tasks.specs.Queue.{Tasks}
+use Rattle.master_tasks.specs.Replying.{answer_to}
+use Rattle.master_tasks.specs.Answering.{answers_by, left_by, excluded_by, some_among, failed, committed_in, unless_voting, exclusion_done, if_late, timed_out, nothing_new}
+use Rattle.master_tasks.specs.Processing.{Processing, AnsweredAtOnce, Makes, excluding, clearing, processing, processing_once, Processed, before_all, and_then, with_next}
+use Rattle.master_tasks.specs.NextState.{Leader as NextMaster, value_before, processed_by, next_value, is_accepted, is_nothing_new, next_answers}
+use Rattle.master_tasks.proofs.Sameness.{stays_accepted}
+use Rattle.world_model.specs.Histories.{History}
+use Rattle.world_model.proofs.Guards.{same_is}
+use Rattle.world_model.specs.Safety.{Published, IsCommitted}
+use Rattle.client_guarantees.specs.Replies.{HasCommitted}
+use Rattle.client_guarantees.specs.Asked.{MeetsEach, HasNoVoterOf}
+use Rattle.client_guarantees.proofs.Folding.{Each, each-map, IsAmong, Of, had-behind}
+use Rattle.client_guarantees.proofs.Telling.{AckIsTrue, AnswerIsTrue, AllTrue, true-none, true-cons, true-append}
+
+-- nobody waits on where nobody waits
+pub left_none : (decide : Waiting → Option Answer) (ws : List Waiting) → ws ≡ [] → left_by decide ws ≡ []
+left_none decide ws e = ap (left_by decide) e
+
+-- a state of an earlier term is none of this one
+other_term : (a b : ℕ) (x y : Bool) → a < b → (nat_eq a b && x && y) ≡ false
+other_term a b x y less = grind (arith, nat_tests)
+
+pub something_new : (l : NextMaster) (t : Tasks) → l.accepted.term < l.term → is_nothing_new l t ≡ false
+unfolding is_nothing_new is_accepted
+something_new l t less = other_term l.accepted.term l.term _ _ less
+
+-- a request that is among others stands between some of them
+record Split (done : List Waiting) (w : Waiting) : Type 0 where
+  earlier : List Waiting
+  later : List Waiting
+  is : done ≡ earlier ++ w ∷ later
+
+split : (done : List Waiting) (w : Waiting) → IsAmong done w → Split done w
+split [] w a = absurd a
+split (x ∷ xs) w (inl e) = record { earlier = []; later = xs; is = ap (λ (v : Waiting). v ∷ xs) (sym e) }
+split (x ∷ xs) w (inr a) = let rest = split xs w a in record { earlier = x ∷ rest.earlier; later = rest.later; is = ap (λ (l : List Waiting). x ∷ l) rest.is }
+
+-- a committed state of this id has what was processed since some moment
+pub record HasDone (h : History) (g : List Waiting) (done : List Waiting) (id : StateId) : Type 0 where
+  pub older : List Waiting
+  pub processed : g ≡ older ++ done
+  pub as_published : Published
+  pub is_committed : IsCommitted h as_published
+  pub is_id : id_of as_published.state ≡ id
+  pub had : MeetsEach as_published.state.value done
+
+each-all : (P : Waiting → Type 0) → ((w : Waiting) → P w) → (ws : List Waiting) → Each P ws
+each-all P f [] = tt
+each-all P f (w ∷ ws) = (f w, each-all P f ws)
+
+-- a committed state may be shown to those who came
+abbrev pub MayBeShown : History → (ℕ → Request → Type 0) → ClusterState → Waiting → Type 0
+MayBeShown h P accepted w = HasCommitted h accepted × Of P w
+
+-- the accepted state is committed, and so is its configuration
+abbrev pub IsSettled : History → NextMaster → Type 0
+IsSettled h l = HasCommitted h l.accepted × (l.committed ≡ l.accepted.config)
+
+-- ---- exclusions
+
+none_among : (ids config : List Id) → some_among ids config ≡ false → (id : Id) → has id ids ≡ true → has id config ≡ false
+none_among [] config n id k = absurd (true≢false (sym k))
+none_among (x ∷ xs) config n id k = from (same x id) refl k (λ m q. none_among xs config m id q)
+  where
+    parts : (has x config ≡ false) × (some_among xs config ≡ false)
+    parts = or_parts (has x config) (some_among xs config) n
+
+    from : (b : Bool) → same x id ≡ b → (b || has id xs) ≡ true → (some_among xs config ≡ false → has id xs ≡ true → has id config ≡ false) → has id config ≡ false
+    from true e q rest = subst (λ (y : Id). has y config ≡ false) (same_is x id e) parts.0
+    from false e q rest = rest parts.1 q
+
+no_voter : (config : List Id) (a : Ask) (ids : List Id) → excluded_by a ≡ Some ids → some_among ids config ≡ false → HasNoVoterOf config a
+no_voter config (ask.Exclude asked) ids e n = none_among asked config (subst (λ (l : List Id). some_among l config ≡ false) (sym (ap ids_of e)) n)
+  where
+    ids_of : Option (List Id) → List Id
+    ids_of None = []
+    ids_of (Some l) = l
+no_voter config (ask.Put key text) ids e n = tt
+no_voter config (ask.Remove key) ids e n = tt
+no_voter config (ask.Clear wait) ids e n = tt
+no_voter config ask.State ids e n = tt
+
+excludes_none : (config : List Id) (a : Ask) → is_some (excluded_by a) ≡ false → HasNoVoterOf config a
+excludes_none config (ask.Exclude asked) e = absurd (true≢false e)
+excludes_none config (ask.Put key text) e = tt
+excludes_none config (ask.Remove key) e = tt
+excludes_none config (ask.Clear wait) e = tt
+excludes_none config ask.State e = tt
+
+none_is : (o : Option (List Id)) → is_none o ≡ true → is_some o ≡ false
+none_is None e = refl
+none_is (Some ids) e = absurd (true≢false (sym e))
+
+module _ (h : History) (P : ℕ → Request → Type 0) (g : List Waiting) where
+  granted : (done : List Waiting) (id : StateId) → (d : HasDone h g done id) → (w : Waiting) → HasNoVoterOf d.as_published.state.config w.request.ask → IsAmong done w → AckIsTrue h g w.conn w.request.id id
+  granted done id d w n a =
+      let p = split done w a in
+      record {
+        request = w;
+        earlier = d.older ++ p.earlier;
+        later = p.later;
+        after = [];
+        is_processed = d.processed ∙ ap (λ (l : List Waiting). d.older ++ l) p.is ∙ sym (append_assoc d.older p.earlier (w ∷ p.later)) ∙ sym (append-nil ((d.older ++ p.earlier) ++ w ∷ p.later));
+        has_conn = refl;
+        has_number = refl;
+        as_published = d.as_published;
+        is_committed = d.is_committed;
+        is_id = d.is_id;
+        meets = had-behind d.as_published.state.value p.earlier (w ∷ p.later) (subst (MeetsEach d.as_published.state.value) p.is d.had);
+        votes = n;
+      }
+
+  abbrev pub IsTrueOption : Waiting → Option Answer → Type 0
+  IsTrueOption w None = Unit {0}
+  IsTrueOption w (Some a) = AnswerIsTrue h P g w.conn w.request.id a
+
+  true-decided : (w : Waiting) (o : Option Answer) (rest : List Outgoing) → IsTrueOption w o → AllTrue h P g rest → AllTrue h P g (cons_option (option_map (answer_to w) o) rest)
+  true-decided w None rest t a = a
+  true-decided w (Some x) rest t a = true-cons h P g (answer_to w x) rest t a
+
+  true-answers_by : (decide : Waiting → Option Answer) (ws : List Waiting) → Each (λ w. IsTrueOption w (decide w)) ws → AllTrue h P g (answers_by decide ws)
+  true-answers_by decide [] e = true-none h P g
+  true-answers_by decide (w ∷ ws) e = true-decided w (decide w) (answers_by decide ws) e.0 (true-answers_by decide ws e.1)
+
+  true-if : (w : Waiting) (b : Bool) (x y : Option Answer) → (b ≡ true → IsTrueOption w x) → (b ≡ false → IsTrueOption w y) → IsTrueOption w (if b then x else y)
+  true-if w true x y t u = t refl
+  true-if w false x y t u = u refl
+
+  pub true-failed : (term : ℕ) (ws : List Waiting) → AllTrue h P g (answers_by (failed term) ws)
+  true-failed term ws = true-answers_by (failed term) ws (each-all (λ w. IsTrueOption w (failed term w)) (λ w. tt) ws)
+
+  late_one : (w : Waiting) (committed : List Id) (late : Bool) (o : Option (List Id)) → IsTrueOption w (if_late committed late o)
+  late_one w committed late None = tt
+  late_one w committed late (Some ids) = true-if w late (Some (answer.ExclusionTimeout (among ids committed))) None (λ e. tt) (λ e. tt)
+
+  pub true-timed_out : (committed : List Id) (now : ℕ) (ws : List Waiting) → AllTrue h P g (answers_by (timed_out committed now) ws)
+  true-timed_out committed now ws = true-answers_by (timed_out committed now) ws (each-all (λ w. IsTrueOption w (timed_out committed now w)) (λ w. late_one w committed _ (excluded_by w.request.ask)) ws)
+
+  committed_one : (done : List Waiting) (id : StateId) → HasDone h g done id → (w : Waiting) → (w.processed ≡ true → IsAmong done w) → IsTrueOption w (committed_in id w)
+  committed_one done id d w a =
+      true-if w (w.processed && is_none (excluded_by w.request.ask)) (Some (answer.Acked id)) None
+      (λ e. granted done id d w (excludes_none _ w.request.ask (none_is _ (and_parts _ _ e).1)) (a (and_parts _ _ e).0)) (λ e. tt)
+
+  pub true-committed_in : (done : List Waiting) (id : StateId) → HasDone h g done id → (ws : List Waiting) → Each (λ w. w.processed ≡ true → IsAmong done w) ws → AllTrue h P g (answers_by (committed_in id) ws)
+  true-committed_in done id d ws e =
+      true-answers_by (committed_in id) ws (each-map (λ w. w.processed ≡ true → IsAmong done w) (λ w. IsTrueOption w (committed_in id w)) (committed_one done id d) ws e)
+
+  -- the committed configuration is the state's
+  module _ (done : List Waiting) (committed : List Id) (id : StateId) (d : HasDone h g done id) (c : committed ≡ d.as_published.state.config) where
+    voting_one : (w : Waiting) (o : Option (List Id)) → excluded_by w.request.ask ≡ o → (w.processed ≡ true → IsAmong done w) → IsTrueOption w (unless_voting committed id w.processed o)
+    voting_one w None e a = tt
+    voting_one w (Some asked) e a =
+        true-if w (w.processed && not (some_among asked committed)) (Some (answer.Acked id)) None
+        (λ t. granted done id d w (no_voter _ w.request.ask asked e (subst (λ (l : List Id). some_among asked l ≡ false) c (not-true _ (and_parts _ _ t).1))) (a (and_parts _ _ t).0)) (λ t. tt)
+
+    pub true-exclusion_done : (ws : List Waiting) → Each (λ w. w.processed ≡ true → IsAmong done w) ws → AllTrue h P g (answers_by (exclusion_done committed id) ws)
+    true-exclusion_done ws e =
+        true-answers_by (exclusion_done committed id) ws
+        (each-map (λ w. w.processed ≡ true → IsAmong done w) (λ w. IsTrueOption w (exclusion_done committed id w)) (λ w a. voting_one w (excluded_by w.request.ask) refl a) ws e)
+
+    nothing_new_one : (w : Waiting) → IsAmong done w → IsTrueOption w (nothing_new committed id w)
+    nothing_new_one w a =
+        true-if w (is_some (excluded_by w.request.ask)) (exclusion_done committed id w) (Some (answer.Acked id))
+        (λ e. voting_one w (excluded_by w.request.ask) refl (λ t. a)) (λ e. granted done id d w (excludes_none _ w.request.ask e) a)
+
+    true-nothing_new : (ws : List Waiting) → Each (IsAmong done) ws → AllTrue h P g (answers_by (nothing_new committed id) ws)
+    true-nothing_new ws e =
+        true-answers_by (nothing_new committed id) ws (each-map (IsAmong done) (λ w. IsTrueOption w (nothing_new committed id w)) nothing_new_one ws e)
+
+  -- requests that are answered at once are not acknowledged, and one for the state is shown the accepted one
+  abbrev IsTrueProcessing : Waiting → Processing → Type 0
+  IsTrueProcessing w (AnsweredAtOnce a) = AnswerIsTrue h P g w.conn w.request.id a
+  IsTrueProcessing w (Makes value) = Unit {0}
+
+  either : (w : Waiting) (b : Bool) (x y : Processing) → IsTrueProcessing w x → IsTrueProcessing w y → IsTrueProcessing w (if b then x else y)
+  either w true x y t u = t
+  either w false x y t u = u
+
+  true-excluding : (w : Waiting) (value : ClusterValue) (r : Result (List Id) AddError) → IsTrueProcessing w (excluding value r)
+  true-excluding w value (Ok ids) = tt
+  true-excluding w value (Err (NotMember id)) = tt
+  true-excluding w value (Err (TooMany count)) = tt
+
+  true-clearing : (w : Waiting) (value : ClusterValue) (r : Result (Unit {0}) StillMember) → IsTrueProcessing w (clearing value r)
+  true-clearing w value (Ok u) = tt
+  true-clearing w value (Err still) = tt
+
+  true-processing : (w : Waiting) (accepted : ClusterState) (value : ClusterValue) (a : Ask) → w.request.ask ≡ a → MayBeShown h P accepted w → IsTrueProcessing w (processing accepted value a)
+  true-processing w accepted value (ask.Put key text) e c =
+      either w (not (has key (map (λ t. t.0) value.settings)) && nat_le most_settings (length value.settings))
+      (AnsweredAtOnce (answer.TooManySettings (most_settings + 1))) (Makes (record value { settings = put_setting (key, text) value.settings })) tt tt
+  true-processing w accepted value (ask.Remove key) e c = tt
+  true-processing w accepted value (ask.Exclude ids) e c = true-excluding w value (added_of value.exclusions value.members ids)
+  true-processing w accepted value (ask.Clear wait) e c = true-clearing w value (cleared_of value.exclusions value.members wait)
+  true-processing w accepted value ask.State e c = record { request = w.request; has_number = refl; is_asked = e; came = c.1; committed = c.0 }
+
+  true-and_then : (p : Processed) (w : Waiting) (x : Processing) → IsTrueProcessing w x → AllTrue h P g p.answers → AllTrue h P g (and_then p w x).answers
+  true-and_then p w (AnsweredAtOnce a) t all = true-append h P g p.answers (answer_to w a ∷ []) all (true-cons h P g (answer_to w a) [] t (true-none h P g))
+  true-and_then p w (Makes made) t all = all
+
+  true-processed : (accepted : ClusterState) (p : Processed) (ws : List Waiting) → Each (MayBeShown h P accepted) ws → AllTrue h P g p.answers → AllTrue h P g (fold (with_next accepted) p ws).answers
+  true-processed accepted p [] c all = all
+  true-processed accepted p (w ∷ ws) c all =
+      true-processed accepted (with_next accepted p w) ws c.1
+      (true-and_then p w (processing_once accepted p.value w) (either w w.processed (Makes p.value) (processing accepted p.value w.request.ask) tt (true-processing w accepted p.value w.request.ask refl c.0)) all)
+
+  true-when : (b : Bool) (xs : List Outgoing) → (b ≡ true → AllTrue h P g xs) → AllTrue h P g (if b then xs else [])
+  true-when true xs a = a refl
+  true-when false xs a = true-none h P g
+
+  -- where nothing is new, the accepted state has what was processed
+  has_done : (l : NextMaster) (t : Tasks) (older done : List Waiting) → g ≡ older ++ done → MeetsEach (next_value l t) done → HasCommitted h l.accepted → is_nothing_new l t ≡ true → HasDone h g done (id_of l.accepted)
+  has_done l t older done e a c n =
+      let same : next_value l t ≡ c.as_published.state.value = (stays_accepted l t n).value ∙ sym (ap (λ (x : ClusterState). x.value) c.is_state) in
+      record {
+        older = older;
+        processed = e;
+        as_published = c.as_published;
+        is_committed = c.is_committed;
+        is_id = ap id_of c.is_state;
+        had = subst (λ (v : ClusterValue). MeetsEach v done) same a;
+      }
+
+  -- the answers of a next state
+  pub true-next : (l : NextMaster) (t : Tasks) (older done : List Waiting) → g ≡ older ++ done → MeetsEach (next_value l t) done → Each (IsAmong done) (processed_by l t).waiting
+      → Each (MayBeShown h P l.accepted) t.waiting → (is_nothing_new l t ≡ true → IsSettled h l) → AllTrue h P g (next_answers l t)
+  unfolding next_answers processed_by has_done
+  true-next l t older done e a w shown c =
+      true-append h P g _ _ (true-processed l.accepted (before_all (value_before l.me t l.accepted.value)) t.waiting shown (true-none h P g))
+      (true-when (is_nothing_new l t) _ (λ n.
+      let k = c n in
+      true-nothing_new done l.committed (id_of l.accepted) (has_done l t older done e a k.0 n) (k.1 ∙ sym (ap (λ (x : ClusterState). x.config) k.0.is_state)) (processed_by l t).waiting w))

@@ -1,0 +1,228 @@
+-- Each event of a life that follows the policy tells what is true of what came and was processed.
+use Rattle.std.proofs.Common.{◌≡◌, ℕ, true, false, true≢false, List, [], ◌∷◌, ◌++◌, refl, sym, ◌∙◌, ap, subst, arith, ◌⊎◌, inl, inr}
+use Rattle.std.specs.List.{Contains, All}
+use Rattle.std.proofs.lemmas.Bool.{both_ways, and_parts}
+use Rattle.std.proofs.lemmas.List.Elements.{All-nil, All-cons, All-head, All-tail, Contains-append_left, Contains-append_right}
+use Rattle.cluster_state.specs.declared.state.ClusterState.{ClusterState}
+use Rattle.cluster_state.specs.declared.reply.Answer.TheVariants as answer
+use Rattle.cluster_state.specs.declared.reply.Reply.{Reply}
+use Rattle.cluster_state.specs.declared.reply.Reply.TheVariants as reply
+use Rattle.master_tasks.specs.declared.waiting.Waiting.{Waiting}
+use Rattle.master_tasks.specs.declared.waiting.Outgoing.{Outgoing}
+use Rattle.world_model.specs.declared.acts.Outcome.TheVariants.{Answered}
+use Rattle.world_model.specs.Acts.{NodeHistory}
+use Rattle.world_model.specs.Replies.{reply_at}
+use Rattle.world_model.specs.Histories.{History, node_history}
+use Rattle.world_model.proofs.System.{IsSystem}
+use Rattle.world_model.proofs.Moments.{Begins as IsBeginning, begins_self, begins_trans}
+use Rattle.policy_model.specs.declared.settings.Settings.{Settings}
+use Rattle.policy_model.specs.declared.events.Event.{Event}
+use Rattle.policy_model.specs.Events.{Met, Heard, PeersAsked, ElectionOff, ElectionSet, RoundBegun, RoundAnswered, RoundEnded, Joined, FollowersChecked, FollowerAnswered, LeaderChecked, LeaderAnswered, Queued, ExclusionsTimedOut, CommitAcked, ExclusionsAcked, StateMade, HandedOver, Item, Log, Opens, Begins, Acts, Turns, Drops, Sends, Replies, Notes, And, added, acts_of}
+use Rattle.policy_model.specs.Entries.{Life, NotBegun, Opened, Lived, Did, Gone, Bad, NoMemory, Unread, log_of, replies_of}
+use Rattle.policy_model.specs.Views.{View, view_of}
+use Rattle.policy_model.specs.Moves.{moved, moved_all, is_own, are_own, view_of-And}
+use Rattle.policy_model.specs.Local.{IsAnswered, ByAct, ByQuiet, Ended, is_quiet}
+use Rattle.policy_model.specs.Follows.{Follows, IsStruck, Here, Later, without_output, is_struck, items_of}
+use Rattle.policy_model.proofs.Answering.{answered-next}
+use Rattle.policy_model.proofs.Standing.{view_of-added, own-quiet, own-answered}
+use Rattle.policy_model.proofs.Locals.{struck_fault}
+use Rattle.client_guarantees.specs.Processed.{processed_of, CameIn}
+use Rattle.client_guarantees.specs.Replies.{IsTrueReply, RepliesTruly}
+use Rattle.client_guarantees.proofs.Backing.{Backs, backs, unique}
+use Rattle.client_guarantees.proofs.Telling.{processed_after, processed_after_all, ReplyIsTrue, place, AllTrue, AreBacked, Ends}
+use Rattle.client_guarantees.proofs.Holding.{Holds, holds-idle, holds-more}
+use Rattle.client_guarantees.proofs.Coming.{processed_came}
+use Rattle.client_guarantees.proofs.Rules.{keeps-next}
+
+-- the acts before an item begin those with it
+begins_item : (l : Log) (i : Item) → IsBeginning (acts_of l) (acts_of (And l i))
+begins_item l (Opens found) = inr (begins_self (acts_of l))
+begins_item l (Begins event) = begins_self (acts_of l)
+begins_item l (Acts act o) = inr (begins_self (acts_of l))
+begins_item l (Turns mode term) = begins_self (acts_of l)
+begins_item l (Drops member cause) = begins_self (acts_of l)
+begins_item l (Sends frame) = begins_self (acts_of l)
+begins_item l (Replies answer) = begins_self (acts_of l)
+begins_item l (Notes note) = begins_self (acts_of l)
+
+begins_added : (l : Log) (is : List Item) → IsBeginning (acts_of l) (acts_of (added l is))
+begins_added l [] = begins_self (acts_of l)
+begins_added l (i ∷ is) = begins_trans (acts_of l) (acts_of (And l i)) (acts_of (added (And l i) is)) (begins_item l i) (begins_added (And l i) is)
+
+-- an event that is struck tells nothing
+silent_item : (i : Item) (left : List Item) → replies_of left ≡ [] → replies_of (without_output i ++ left) ≡ []
+silent_item (Opens found) left e = e
+silent_item (Begins event) left e = e
+silent_item (Acts act o) left e = e
+silent_item (Turns mode term) left e = e
+silent_item (Drops member cause) left e = e
+silent_item (Sends frame) left e = e
+silent_item (Replies answer) left e = e
+silent_item (Notes note) left e = e
+
+struck_silent : (is left : List Item) → IsStruck is left → replies_of left ≡ []
+struck_silent is left (Here act sends wins rest o w e) = refl
+struck_silent is left (Later i rest left' q) = silent_item i left' (struck_silent rest left' q)
+
+-- what was processed over one more item
+processed-And : (s : Settings) (l : Log) (i : Item) → is_own i ≡ true → processed_of s (And l i) ≡ processed_after s (view_of s l) (processed_of s l) i
+processed-And s l (Opens found) e = absurd (true≢false (sym e))
+processed-And s l (Begins event) e = refl
+processed-And s l (Acts act o) e = refl
+processed-And s l (Turns mode term) e = refl
+processed-And s l (Drops member cause) e = refl
+processed-And s l (Sends frame) e = refl
+processed-And s l (Replies answer) e = refl
+processed-And s l (Notes (Met ids)) e = refl
+processed-And s l (Notes (Heard peer master)) e = refl
+processed-And s l (Notes PeersAsked) e = refl
+processed-And s l (Notes ElectionOff) e = refl
+processed-And s l (Notes (ElectionSet word)) e = refl
+processed-And s l (Notes (RoundBegun word)) e = refl
+processed-And s l (Notes (RoundAnswered source term last)) e = refl
+processed-And s l (Notes RoundEnded) e = refl
+processed-And s l (Notes (Joined ids)) e = refl
+processed-And s l (Notes FollowersChecked) e = refl
+processed-And s l (Notes (FollowerAnswered from good applied)) e = refl
+processed-And s l (Notes LeaderChecked) e = refl
+processed-And s l (Notes (LeaderAnswered good)) e = refl
+processed-And s l (Notes (Queued conn request)) e = refl
+processed-And s l (Notes ExclusionsTimedOut) e = refl
+processed-And s l (Notes CommitAcked) e = refl
+processed-And s l (Notes ExclusionsAcked) e = refl
+processed-And s l (Notes StateMade) e = refl
+processed-And s l (Notes HandedOver) e = refl
+
+processed-added : (s : Settings) (l : Log) (is : List Item) → are_own is ≡ true → processed_of s (added l is) ≡ processed_after_all s (view_of s l) (processed_of s l) is
+processed-added s l [] e = refl
+processed-added s l (i ∷ is) e =
+    let parts = and_parts (is_own i) (are_own is) e in
+    processed-added s (And l i) is parts.1
+    ∙ ap (λ (v : View). processed_after_all s v (processed_of s (And l i)) is) (view_of-And s l i parts.0)
+    ∙ ap (λ (g : List Waiting). processed_after_all s (moved s (view_of s l) i) g is) (processed-And s l i parts.0)
+
+-- ---- what is true by which requests came and were processed, said of a life
+
+true_at : (h : History) (s : Settings) (life : Life) → Follows s life → (conn : ℕ) (r : Reply) → ReplyIsTrue h (CameIn life) (processed_of s (log_of life)) conn r → IsTrueReply h s life conn r
+true_at h s life f conn (reply.BadLine fault) t = tt
+true_at h s life f conn (reply.To number (answer.Acked id)) t = record {
+  request = t.request;
+  has_conn = t.has_conn;
+  has_number = t.has_number;
+  came = subst (λ (c : ℕ). CameIn life c t.request.request) t.has_conn (processed_came s life f t.request is_in);
+  earlier = t.earlier;
+  later = t.later;
+  after = t.after;
+  is_processed = t.is_processed;
+  as_published = t.as_published;
+  is_committed = t.is_committed;
+  is_id = t.is_id;
+  meets = t.meets;
+  votes = t.votes;
+}
+  where
+    is_in : Contains (processed_of s (log_of life)) t.request
+    is_in =
+        subst (λ (ws : List Waiting). Contains ws t.request) (sym t.is_processed)
+        (Contains-append_left (t.earlier ++ t.request ∷ t.later) t.after t.request (Contains-append_right t.earlier (t.request ∷ t.later) t.request (0, (omega arith), refl)))
+true_at h s life f conn (reply.To number (answer.State state)) t =
+    record { request = t.request; has_number = t.has_number; is_asked = t.is_asked; came = t.came; committed = t.committed }
+true_at h s life f conn (reply.To number (answer.NotMaster leader)) t = tt
+true_at h s life f conn (reply.To number (answer.BadSetting length)) t = tt
+true_at h s life f conn (reply.To number (answer.QueueFull count)) t = tt
+true_at h s life f conn (reply.To number (answer.TooManySettings count)) t = tt
+true_at h s life f conn (reply.To number (answer.NotMember id)) t = tt
+true_at h s life f conn (reply.To number (answer.TooManyExclusions count)) t = tt
+true_at h s life f conn (reply.To number (answer.StillMember id)) t = tt
+true_at h s life f conn (reply.To number (answer.FailedToCommit term)) t = tt
+true_at h s life f conn (reply.To number (answer.ExclusionTimeout ids)) t = tt
+
+all_true_at : (h : History) (s : Settings) (life : Life) → Follows s life → (outs : List Outgoing) → AllTrue h (CameIn life) (processed_of s (log_of life)) outs
+    → All (λ (out : Outgoing). IsTrueReply h s life out.conn out.reply) outs
+all_true_at h s life f [] t = All-nil (λ (out : Outgoing). IsTrueReply h s life out.conn out.reply)
+all_true_at h s life f (out ∷ outs) t =
+    let P : Outgoing → Type 0 = λ x. ReplyIsTrue h (CameIn life) (processed_of s (log_of life)) x.conn x.reply in
+    All-cons (λ (x : Outgoing). IsTrueReply h s life x.conn x.reply) out outs (true_at h s life f out.conn out.reply (All-head P out outs t.all))
+    (all_true_at h s life f outs (record { all = All-tail P out outs t.all }))
+
+module _ (h : History) (root : ClusterState) (W : IsSystem (node_history h) root) (s : Settings) where
+  quietly : (v : View) (i : Item) (is : List Item) → is_quiet i ≡ true → AreBacked h s (moved s v i) is → AreBacked h s v (i ∷ is)
+  quietly v (Opens found) is e a = cc
+  quietly v (Begins event) is e a = cc
+  quietly v (Acts act o) is e a = cc
+  quietly v (Turns mode term) is e a = (tt, a)
+  quietly v (Drops member cause) is e a = (tt, a)
+  quietly v (Sends frame) is e a = (tt, a)
+  quietly v (Replies answer) is e a = (tt, a)
+  quietly v (Notes note) is e a = (tt, a)
+
+  -- the history backs the acts of the node's log
+  backed : (l : Log) (v : View) (is : List Item) → IsAnswered s v is → v ≡ view_of s l → IsBeginning (acts_of (added l is)) (node_history h s.me) → AreBacked h s v is
+  backed l v xs (Ended u) e b = tt
+  backed l v xs (ByAct u act is o a) e b =
+      let i : Item = Acts act (Answered (reply_at s.me u.node act)) in
+      let own : is_own i ≡ true = rw o refl in
+      let here = begins_trans (acts_of (And l i)) (acts_of (added (And l i) is)) (node_history h s.me) (begins_added (And l i) is) b in (
+        subst (λ (w : View). Backs h w.node act (reply_at s.me u.node act)) (sym e) (backs h root W s.me (acts_of l) act (reply_at s.me u.node act) here),
+        backed (And l i) (moved s u i) is a (ap (λ (w : View). moved s w i) e ∙ sym (view_of-And s l i own)) b,
+      )
+  backed l v xs (ByQuiet u i is q a) e b =
+      quietly u i is q (backed (And l i) (moved s u i) is a (ap (λ (w : View). moved s w i) e ∙ sym (view_of-And s l i (own-quiet i q))) b)
+
+  abbrev Stood : Life → Type 0
+  Stood life = Holds h s (CameIn life) (place (view_of s (log_of life)) (processed_of s (log_of life)))
+
+  pub record Told (life : Life) : Type 0 where
+    pub tells : RepliesTruly h s life
+    pub stands : is_struck life ≡ false → Stood life
+
+  -- an event that does as the rules say
+  as_it_does : (life : Life) (e : Event) → Follows s (Lived life (Did e (items_of s (log_of life) e))) → Told life
+      → IsBeginning (acts_of (log_of (Lived life (Did e (items_of s (log_of life) e))))) (node_history h s.me) → Told (Lived life (Did e (items_of s (log_of life) e)))
+  as_it_does life e f t b =
+      let log = And (log_of life) (Begins e) in
+      let v = view_of s (And (log_of life) (Begins e)) in
+      let items = items_of s (log_of life) e in
+      let now = Lived life (Did e (items_of s (log_of life) e)) in
+      let before : Holds h s (CameIn (Lived life (Did e (items_of s (log_of life) e)))) (place (view_of s (And (log_of life) (Begins e))) (processed_of s (log_of life))) =
+      holds-more h s (CameIn (Lived life (Did e (items_of s (log_of life) e)))) (CameIn life) (λ c r k. inr k) (place (view_of s (And (log_of life) (Begins e))) (processed_of s (log_of life))) (t.stands f.1.up) in
+      let ends : Ends h s (CameIn (Lived life (Did e (items_of s (log_of life) e)))) (view_of s (And (log_of life) (Begins e))) (processed_of s (log_of life)) (items_of s (log_of life) e) (Holds h s (CameIn (Lived life (Did e (items_of s (log_of life) e))))) =
+      (keeps-next h (unique h root W) s (CameIn now) v (processed_of s (log_of life)) e (λ c r k. inl k) before).ends (backed log v items (answered-next s v e) refl b) in
+      let own = own-answered s v items (answered-next s v e) in
+      let processed : processed_of s (added (And (log_of life) (Begins e)) (items_of s (log_of life) e)) ≡ processed_after_all s (view_of s (And (log_of life) (Begins e))) (processed_of s (log_of life)) (items_of s (log_of life) e) = processed-added s log items own in
+      record {
+        tells = (t.tells, all_true_at h s now f (replies_of items) (subst (λ (g : List Waiting). AllTrue h (CameIn (Lived life (Did e (items_of s (log_of life) e)))) g (replies_of (items_of s (log_of life) e))) (sym processed) ends.told));
+        stands = λ u.
+            subst (λ (w : View). Holds h s (CameIn (Lived life (Did e (items_of s (log_of life) e)))) (place w (processed_of s (added (And (log_of life) (Begins e)) (items_of s (log_of life) e))))) (sym (view_of-added s log items own))
+            (subst (λ (g : List Waiting). Holds h s (CameIn (Lived life (Did e (items_of s (log_of life) e)))) (place (moved_all s (view_of s (And (log_of life) (Begins e))) (items_of s (log_of life) e)) g)) (sym processed) ends.stands);
+      }
+
+  told_event : (life : Life) (e : Event) (is : List Item) → Follows s (Lived life (Did e is)) → Told life → IsBeginning (acts_of (log_of (Lived life (Did e is)))) (node_history h s.me) → Told (Lived life (Did e is))
+  told_event life e is f t b = by_way f.1.does
+    where
+      by_way : (is ≡ items_of s (log_of life) e) ⊎ IsStruck (items_of s (log_of life) e) is → Told (Lived life (Did e is))
+      by_way (inl same) =
+          subst (λ (x : List Item). Told (Lived life (Did e x))) (sym same)
+          (as_it_does life e (subst (λ (x : List Item). Follows s (Lived life (Did e x))) same f) t
+          (subst (λ (x : List Item). IsBeginning (acts_of (added (And (log_of life) (Begins e)) x)) (node_history h s.me)) same b))
+      by_way (inr struck) = record {
+        tells = (t.tells, subst (All (λ (out : Outgoing). IsTrueReply h s (Lived life (Did e is)) out.conn out.reply)) (sym (struck_silent (items_of s (log_of life) e) is struck)) (All-nil (λ (out : Outgoing). IsTrueReply h s (Lived life (Did e is)) out.conn out.reply)));
+        stands = λ u. absurd (both_ways _ u (struck_fault (items_of s (log_of life) e) is struck));
+      }
+
+  told : (life : Life) → Follows s life → IsBeginning (acts_of (log_of life)) (node_history h s.me) → Told life
+  told NotBegun f b = record { tells = tt; stands = λ u. holds-idle h s (CameIn NotBegun) _ refl refl refl }
+  told (Opened life found) f b =
+      let t = told life f.0 (begins_trans (acts_of (log_of life)) (acts_of (log_of (Opened life found))) (node_history h s.me) (begins_item (log_of life) (Opens found)) b) in
+      record { tells = t.tells; stands = λ u. holds-idle h s (CameIn (Opened life found)) _ refl refl refl }
+  told (Lived life (Did e is)) f b =
+      let before = begins_trans (acts_of (log_of life)) (acts_of (log_of (Lived life (Did e is)))) (node_history h s.me) (begins_added (And (log_of life) (Begins e)) is) b in
+      told_event life e is f (told life f.0 before) b
+  told (Lived life (Gone conn)) f b = let t = told life f.0 b in record { tells = t.tells; stands = λ u. holds-more h s (CameIn (Lived life (Gone conn))) (CameIn life) (λ c r k. k) _ (t.stands u) }
+  told (Lived life (Bad conn fault)) f b = let t = told life f.0 b in record { tells = t.tells; stands = λ u. holds-more h s (CameIn (Lived life (Bad conn fault))) (CameIn life) (λ c r k. k) _ (t.stands u) }
+  told (Lived life NoMemory) f b = let t = told life f.0 b in record { tells = t.tells; stands = λ u. holds-more h s (CameIn (Lived life NoMemory)) (CameIn life) (λ c r k. k) _ (t.stands u) }
+  told (Lived life (Unread conn)) f b = let t = told life f.0 b in record { tells = t.tells; stands = λ u. holds-more h s (CameIn (Lived life (Unread conn))) (CameIn life) (λ c r k. k) _ (t.stands u) }
+
+  -- where the node's acts are those of its life
+  pub replies_true : (life : Life) → Follows s life → node_history h s.me ≡ acts_of (log_of life) → RepliesTruly h s life
+  replies_true life f e = (told life f (subst (λ (g : NodeHistory). IsBeginning (acts_of (log_of life)) g) (sym e) (begins_self (acts_of (log_of life))))).tells

@@ -1,0 +1,4 @@
+pub mod Asked
+pub mod Processed
+pub mod Replies
+pub mod Laws

@@ -1,0 +1,48 @@
+//! What a client may rely on. The calls do nothing: what they promise is proved.
+#![tactic(auto)]
+
+ghost use Rattle.client_guarantees.specs.Laws.{
+  LawLastRepliesAreTrue,
+  LawLastSettingStands,
+  LawNextMeetsEach,
+  LawProcessedCame,
+  LawRepliesAreTrue,
+  LawRestartedRepliesAreTrue,
+};
+
+#[cfg(test)]
+mod tests;
+
+/// Where a node follows the policy and its acts are those of a legal history, each reply of its last event is true.
+/// An ack names a committed state that has what the request asked for, unless one that was processed after it undoes
+/// it; and of the nodes that the request excludes none votes in that state. A state that is shown is committed.
+pub fn law_last_replies_are_true()
+    ensures { LawLastRepliesAreTrue }
+{}
+
+/// So is each reply of each of its events.
+pub fn law_replies_are_true()
+    ensures { LawRepliesAreTrue }
+{}
+
+/// So it is from the restart of one node on.
+pub fn law_restarted_replies_are_true()
+    ensures { LawRestartedRepliesAreTrue }
+{}
+
+/// What a node that follows the policy has processed since it was opened last came as a line, by the connection to
+/// which its replies go.
+pub fn law_processed_came()
+    ensures { LawProcessedCame }
+{}
+
+/// The value that a leader makes of the requests that wait has what each request that it processes asks for, unless a
+/// later one undoes it.
+pub fn law_next_meets_each()
+    ensures { LawNextMeetsEach }
+{}
+
+/// Under each key it has what the last of these requests says that sets or removes it.
+pub fn law_last_setting_stands()
+    ensures { LawLastSettingStands }
+{}
