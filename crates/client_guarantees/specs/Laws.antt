@@ -41,7 +41,8 @@ LawRestartedRepliesAreTrue =
     (first : Id) (kept : Kept) (h : History) → IsAlone first kept → IsLegalFrom first kept h
     → (s : Settings) (life : Life) → IsLifeIn h s life → RepliesTruly h s life
 
--- what a node that follows the policy has processed since it was opened last came as a line since then, by the connection to which the replies go
+-- what a node that follows the policy has processed since it was opened last came as a line since then, by the connection to which the
+-- replies go
 abbrev pub LawProcessedCame : Type 0
 LawProcessedCame =
     (s : Settings) (life : Life) → Follows s life

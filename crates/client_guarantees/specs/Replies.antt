@@ -26,9 +26,10 @@ pub record HasCommitted (h : History) (state : ClusterState) : Type 0 where
   pub is_committed : IsCommitted h as_published
   pub is_state : as_published.state ≡ state
 
--- What an ack of this id says to a connection, of a request's number: since the node was opened last, a line with such a request came by this connection,
--- and the node processed it. A committed state of this id has what the request asks for, unless one of those processed later, up to where the state was
--- made, may have undone it; and so it has what each of these asks for. Where nodes are to be excluded from voting, none of them votes in that state.
+-- What an ack of this id says to a connection, of a request's number: since the node was opened last, a line with such a request
+-- came by this connection, and the node processed it. A committed state of this id has what the request asks for, unless one of
+-- those processed later, up to where the state was made, may have undone it; and so it has what each of these asks for. Where nodes
+-- are to be excluded from voting, none of them votes in that state.
 pub record IsAcked (h : History) (s : Settings) (life : Life) (conn number : ℕ) (id : StateId) : Type 0 where
   pub request : Waiting
   pub has_conn : request.conn ≡ conn
@@ -44,7 +45,8 @@ pub record IsAcked (h : History) (s : Settings) (life : Life) (conn number : ℕ
   pub meets : MeetsEach as_published.state.value (request ∷ later)
   pub votes : HasNoVoterOf as_published.state.config request.request.ask
 
--- What a state that is shown says: it is committed, and since the node was opened last a line with such a request for the state came by this connection.
+-- What a state that is shown says: it is committed, and since the node was opened last a line with such a request for the state came
+-- by this connection.
 pub record IsShown (h : History) (life : Life) (conn number : ℕ) (state : ClusterState) : Type 0 where
   pub request : Request
   pub has_number : request.id ≡ number
