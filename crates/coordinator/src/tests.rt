@@ -1,265 +1,650 @@
+//! Small worlds of coordinators, and the lines that their events are to show, in the forms of a trace.
+//!
+//! The lines were not taken from this program: they are worked examples that the rules of the policy were given with,
+//! written out by hand before there was any code. Where such an example tells only some lines of an event, only those are
+//! compared, and `...` stands for the others, if any.
+ghost use Rattle.std.specs.Prelude.{IfOk};
+ghost use Rattle.std.specs.List.{AllByRecursion};
+ghost use Rattle.wire_frames.specs.Frames.{IsFitFrame};
+ghost use Rattle.policy_model.specs.Fitting.{IsFitEvent};
+
 use crate::{Coordinator, Sealed, StepError};
-use client_lines::{Answer, Line, Reply};
-use cluster_state::StateId;
-use policy_model::{Event, Mode, NodeIds, Settings, Step};
-use state_journal::{Keeper, PlainKeeper, StateJournal};
-use std::alloc::Global;
+use client_lines::{Line, write_reply};
+use cluster_state::value_to_json;
+use policy_model::{
+    DropCause, Event, MemberDrop, Mode, NodeIds, Settings, Step, law_opened_is_fit,
+};
+use state_journal::PlainKeeper;
+use std::alloc::{AllocError, Global};
+use std::marker::Model;
 use std::test::*;
 use voting_config::{NodeId, NodeSet};
-use wire_frames::Message;
-use world_model::Outcome;
-use zen_disk::{Fuse, MemDisk, Order};
+use wire_frames::{Frame, Message};
+use world_model::{Act, Outcome, Reply};
 
-fn id(text: &str) -> NodeId {
-    NodeId::parse(text).unwrap_or_default()
+// ---- nodes and frames within the limits, as `step` requires them
+
+#[derive(Drop)]
+struct Member {
+    node: Coordinator<PlainKeeper>,
 }
 
-fn settings(alloc: Global, me: &str, peers: &[&str]) -> Result<Settings, Fail> {
-    let mut listed = Vec::new(alloc);
-    for peer in peers {
-        listed.push(id(peer))?;
+impl Model for Member {
+    ghost use Rattle.voting_config.specs.Ids.{Id};
+    ghost use Rattle.policy_model.specs.Fitting.{IsFitView};
+    ghost use Rattle.coordinator.specs.Views.{IsReady, view_in};
+    ghost use Rattle.state_journal.specs.contracts.plain.PlainKeeperKeeper.TheImpl.{ghosts};
+
+    ghost Value = { Id };
+
+    ghost view = { λ m. m.node.settings.me };
+
+    ghost invariant = { λ m. IsReady m.node × IsFitView (view_in ghosts m.node) };
+}
+
+impl Member {
+    fn open(alloc: Global, settings: Settings) -> Member {
+        law_opened_is_fit();
+        Member {
+            node: Coordinator::open(alloc, settings, PlainKeeper::new(alloc)),
+        }
+    }
+
+    fn name(&self) -> NodeId {
+        self.node.settings.me
+    }
+
+    fn step(self, alloc: Global, event: Event) -> Result<(Member, Sealed), Fail>
+        requires { IsFitEvent event }
+        ensures { IfOk result (λ r. AllByRecursion IsFitFrame r.1.sends.list) }
+    {
+        let Member { mut node } = self;
+        match node.step(alloc, event) {
+            Ok(sealed) => Ok((Member { node }, sealed)),
+            Err(StepError::Stopped) => Err(Fail::new("the node is stopped")),
+            Err(StepError::Memory) => Err(Fail::new("out of memory")),
+            Err(StepError::Disk(_)) => Err(Fail::new("the disk failed")),
+        }
+    }
+}
+
+#[derive(Drop)]
+struct Sent {
+    frame: Frame,
+}
+
+impl Model for Sent {
+    ghost use Rattle.wire_frames.specs.declared.frame.Frame.{Frame};
+    ghost use Rattle.wire_frames.specs.Frames.{IsFitFrame};
+
+    ghost Value = { Frame };
+
+    ghost view = { λ s. s.frame };
+
+    ghost invariant = { λ s. IsFitFrame s.frame };
+}
+
+impl Sent {
+    fn copy(&self) -> Result<Frame, AllocError>
+        ensures { IfOk result IsFitFrame }
+    {
+        self.frame.copy()
+    }
+}
+
+fn keep(frame: &Frame) -> Result<Sent, AllocError>
+    requires { IsFitFrame frame.now }
+{
+    Ok(Sent {
+        frame: frame.copy()?,
+    })
+}
+
+// ---- texts
+
+// The ids in order, joined by commas, or `_`.
+fn list(alloc: Global, ids: &NodeSet) -> Result<String, AllocError> {
+    let mut text = String::new(alloc);
+    for id in ids.as_slice() {
+        if !text.as_str().is_empty() {
+            text.push_str(",")?;
+        }
+        text.push_str(id.as_str())?;
+    }
+    if text.as_str().is_empty() {
+        text.push_str("_")?;
+    }
+    Ok(text)
+}
+
+fn reply_ending(reply: &Reply) -> &'static str {
+    match reply {
+        Reply::Taken(_, _) => "ok",
+        Reply::Refused(_) => "refused",
+        Reply::Stopped => "stopped",
+    }
+}
+
+fn ending(outcome: &Outcome) -> &'static str {
+    match outcome {
+        Outcome::Answered(reply) => reply_ending(reply),
+        Outcome::Disk(_) => "disk",
+        Outcome::Crashed(_) => "crashed",
+    }
+}
+
+fn reply_wins(reply: &Reply) -> bool {
+    match reply {
+        Reply::Taken(_, wins) => *wins,
+        Reply::Refused(_) | Reply::Stopped => false,
+    }
+}
+
+fn wins(outcome: &Outcome) -> bool {
+    match outcome {
+        Outcome::Answered(reply) => reply_wins(reply),
+        Outcome::Disk(_) | Outcome::Crashed(_) => false,
+    }
+}
+
+fn act_text(alloc: Global, act: &Act) -> Result<String, Fail> {
+    Ok(match act {
+        Act::Bootstrap(config) => format!(in alloc; "boot {}", list(alloc, config.members())?)?,
+        Act::StartJoin(candidate, term) => format!(in alloc; "startjoin {candidate} {term}")?,
+        Act::TakeJoin(j) => format!(in alloc;
+            "join {} {} {} {}/{}",
+            j.source, j.target, j.term, j.last_term, j.last_version
+        )?,
+        Act::Value(version, config, value) => {
+            let config = list(alloc, config.members())?;
+            let json = value_to_json(alloc, value)?;
+            let value = str::from_utf8(&json)?;
+            format!(in alloc; "value {version} {config} {value}")?
+        }
+        Act::Publish(p) => {
+            format!(in alloc; "publish {} {}/{}", p.source, p.state.term, p.state.version)?
+        }
+        Act::Response(r) => {
+            format!(in alloc;
+                "response {} {} {}/{}",
+                r.source, r.target, r.term, r.version
+            )?
+        }
+        Act::Commit(c) => format!(in alloc; "commit {} {}/{}", c.source, c.term, c.version)?,
+        Act::Open(_) => String::from_str(alloc, "open")?,
+    })
+}
+
+fn mode_text(alloc: Global, mode: Mode) -> Result<String, AllocError> {
+    match mode {
+        Mode::Candidate => String::from_str(alloc, "candidate"),
+        Mode::Leader => String::from_str(alloc, "leader"),
+        Mode::Follower(leader) => format!(in alloc; "follower {leader}"),
+    }
+}
+
+// The kind and the fields, a state by its id, for the messages that the worlds below send.
+fn message_text(alloc: Global, message: &Message) -> Result<String, AllocError> {
+    match message {
+        Message::StartJoin { candidate, term } => {
+            format!(in alloc; "startjoin {candidate} {term}")
+        }
+        Message::Join { term, last } => {
+            format!(in alloc; "join {term} {}/{}", last.term, last.version)
+        }
+        Message::Publish(state) => format!(in alloc; "publish {}/{}", state.term, state.version),
+        Message::Response(id) => format!(in alloc; "response {}/{}", id.term, id.version),
+        Message::Commit(id) => format!(in alloc; "commit {}/{}", id.term, id.version),
+        Message::PeersAsk { known } => {
+            let known = list(alloc, known)?;
+            format!(in alloc; "peersask {known}")
+        }
+        other => format!(in alloc; "{:?}", other.kind()),
+    }
+}
+
+// ---- what an event shows
+
+fn show_act(
+    alloc: Global,
+    lines: &mut Vec<String>,
+    me: NodeId,
+    act: &Act,
+    outcome: &Outcome,
+) -> Result<(), Fail> {
+    let how = ending(outcome);
+    let what = act_text(alloc, act)?;
+    lines.push(format!(in alloc; "act {me} {how} {what}")?)?;
+    if !wins(outcome) {
+        return Ok(());
+    }
+    if let Act::TakeJoin(join) = act {
+        lines.push(format!(in alloc; "won {me} {}", join.term)?)?;
+    }
+    Ok(())
+}
+
+fn show_step(alloc: Global, lines: &mut Vec<String>, me: NodeId, step: &Step) -> Result<(), Fail> {
+    match step {
+        Step::Act(act, outcome) => show_act(alloc, lines, me, act, outcome)?,
+        Step::Mode(mode, term) => {
+            let mode = mode_text(alloc, *mode)?;
+            lines.push(format!(in alloc; "mode {me} {mode} {term}")?)?;
+        }
+    }
+    Ok(())
+}
+
+fn show_drop(
+    alloc: Global,
+    lines: &mut Vec<String>,
+    me: NodeId,
+    dropped: &MemberDrop,
+) -> Result<(), Fail> {
+    let cause = match dropped.cause {
+        DropCause::Checks => "checks",
+        DropCause::Lag => "lag",
+    };
+    lines.push(format!(in alloc; "drop {me} {} {cause}", dropped.member)?)?;
+    Ok(())
+}
+
+fn show_frame(
+    alloc: Global,
+    lines: &mut Vec<String>,
+    number: usize,
+    frame: &Frame,
+) -> Result<(), Fail> {
+    let message = message_text(alloc, &frame.message)?;
+    lines.push(format!(in alloc; "m{number} {}->{} {message}", frame.from, frame.to)?)?;
+    Ok(())
+}
+
+fn show_reply(
+    alloc: Global,
+    lines: &mut Vec<String>,
+    me: NodeId,
+    reply: &client_lines::Reply,
+) -> Result<(), Fail> {
+    let json = write_reply(alloc, reply)?;
+    let text = str::from_utf8(&json)?;
+    lines.push(format!(in alloc; "reply {me} {text}")?)?;
+    Ok(())
+}
+
+// ---- worlds
+
+// Nodes, and all frames that they sent, in order.
+#[derive(Drop)]
+struct World {
+    alloc: Global,
+    members: Vec<Member>,
+    frames: Vec<Sent>,
+}
+
+impl World {
+    // The nodes of these names, where a alone is a first voter, each started with the others as its listed peers.
+    fn of(alloc: Global, names: &[&str]) -> Result<World, Fail> {
+        let mut world = World {
+            alloc,
+            members: Vec::new(alloc),
+            frames: Vec::new(alloc),
+        };
+        for name in names {
+            let settings = settings_of(alloc, NodeId::parse(name)?, names)?;
+            let (member, _) = Member::open(alloc, settings).step(alloc, Event::Start)?;
+            world.members.push(member)?;
+        }
+        Ok(world)
+    }
+
+    fn place_of(&self, name: NodeId) -> usize {
+        for (place, member) in self.members.iter().enumerate() {
+            if member.name() == name {
+                return place;
+            }
+        }
+        self.members.len()
+    }
+
+    // Takes out the node of this name.
+    fn take(&mut self, name: NodeId) -> Result<Member, Fail> {
+        let place = self.place_of(name);
+        if place < self.members.len() {
+            return Ok(self.members.swap_remove(place));
+        }
+        Err(Fail::new(format_args!("there is no node {name}")))
+    }
+
+    // The frame of this number, counted from 1.
+    fn frame(&self, number: usize) -> Result<Frame, Fail>
+        ensures { IfOk result IsFitFrame }
+    {
+        if 0 < number && number <= self.frames.len() {
+            return Ok(self.frames[number - 1].copy()?);
+        }
+        Err(Fail::new(format_args!("frame {number} was not sent")))
+    }
+
+    // `tick N NOW WORD`, `deliver N K`, `client N LINE`: the event that comes to the node.
+    fn read_event(&self, verb: &str, fields: &str) -> Result<Event, Fail>
+        ensures { IfOk result IsFitEvent }
+    {
+        if verb == "deliver" {
+            return Ok(Event::Frame(self.frame(fields.parse::<usize>()?)?));
+        }
+        if verb == "client" {
+            let mut bytes = Vec::new(self.alloc);
+            bytes.extend_from_slice(fields.as_bytes())?;
+            let line = Line::of(bytes);
+            return Ok(Event::Client { conn: 0, line });
+        }
+        let (now, word) = halves(fields)?;
+        let now = now.parse::<u64>()?;
+        let word = word.parse::<u64>()?;
+        Ok(Event::Tick { now, word })
+    }
+
+    // The event of this line happens. Answers the lines that it shows.
+    fn happens(&mut self, text: &str) -> Result<Vec<String>, Fail> {
+        let (verb, rest) = halves(text)?;
+        let (name, fields) = halves(rest)?;
+        let event = self.read_event(verb, fields)?;
+        let (member, sealed) = self.take(NodeId::parse(name)?)?.step(self.alloc, event)?;
+        let me = member.name();
+        self.members.push(member)?;
+        self.show(me, &sealed)
+    }
+
+    // The frames of an event are kept, each under the next number.
+    fn show_frames(&mut self, lines: &mut Vec<String>, sends: &[Frame]) -> Result<(), Fail>
+        requires { AllByRecursion IsFitFrame sends.now }
+    {
+        for frame in sends {
+            self.frames.push(keep(frame)?)?;
+            show_frame(self.alloc, lines, self.frames.len(), frame)?;
+        }
+        Ok(())
+    }
+
+    // What an event showed, as lines: acts and modes, drops, frames, replies. The frames are kept.
+    fn show(&mut self, me: NodeId, sealed: &Sealed) -> Result<Vec<String>, Fail>
+        requires { AllByRecursion IsFitFrame sealed.now.sends.list }
+    {
+        let alloc = self.alloc;
+        let mut lines = Vec::new(alloc);
+        for step in sealed.entries().steps.as_slice() {
+            show_step(alloc, &mut lines, me, step)?;
+        }
+        for dropped in sealed.entries().drops.as_slice() {
+            show_drop(alloc, &mut lines, me, dropped)?;
+        }
+        self.show_frames(&mut lines, sealed.sends().as_slice())?;
+        for outgoing in sealed.replies().as_slice() {
+            show_reply(alloc, &mut lines, me, &outgoing.reply)?;
+        }
+        Ok(lines)
+    }
+
+    // Each event of the table, behind `> `, shows the lines that follow it.
+    fn follows(&mut self, table: &[&str]) -> Result<(), Fail> {
+        let mut shown = Shown::of(Vec::new(self.alloc));
+        for line in table {
+            match line.strip_prefix("> ") {
+                Some(event) => {
+                    shown.ends()?;
+                    shown = Shown::of(self.happens(event)?);
+                }
+                None => shown.continues(line)?,
+            }
+        }
+        shown.ends()
+    }
+}
+
+fn settings_of(alloc: Global, me: NodeId, names: &[&str]) -> Result<Settings, Fail> {
+    let mut peers = Vec::new(alloc);
+    for name in names {
+        let peer = NodeId::parse(name)?;
+        if peer != me {
+            peers.push(peer)?;
+        }
     }
     let mut initial = NodeSet::new();
-    let _ = initial.insert(id("a"));
+    let _ = initial.insert(NodeId::parse("a")?);
     Ok(Settings {
-        me: id(me),
-        peers: NodeIds::of(listed),
+        me,
+        peers: NodeIds::of(peers),
         initial,
         shrink: true,
     })
 }
 
-fn node(alloc: Global, me: &str, peers: &[&str]) -> Result<Coordinator<PlainKeeper>, Fail> {
-    let mut node = Coordinator::open(alloc, settings(alloc, me, peers)?, PlainKeeper::new(alloc));
-    let started = done(node.step(alloc, Event::Start))?;
-    if !started.sends().as_slice().is_empty() {
-        return Err(Fail::new("a start sends nothing"));
-    }
-    Ok(node)
-}
-
-fn done(stepped: Result<Sealed, StepError>) -> Result<Sealed, Fail> {
-    match stepped {
-        Ok(sealed) => Ok(sealed),
-        Err(StepError::Stopped) => Err(Fail::new("stopped")),
-        Err(StepError::Memory) => Err(Fail::new("memory")),
-        Err(StepError::Disk(_)) => Err(Fail::new("the disk failed")),
+// What stands before the first space and behind it.
+fn halves(text: &str) -> Result<(&str, &str), Fail> {
+    match text.split_once(' ') {
+        Some(halves) => Ok(halves),
+        None => Err(Fail::new("a word is missing in an event")),
     }
 }
 
-fn tick<K: Keeper>(
-    alloc: Global,
-    node: &mut Coordinator<K>,
-    now: u64,
-    word: u64,
-) -> Result<Sealed, Fail> {
-    done(node.step(alloc, Event::Tick { now, word }))
+// The lines that an event showed, and how many of them were met.
+#[derive(Drop)]
+struct Shown {
+    lines: Vec<String>,
+    met: usize,
+    skips: bool,
 }
 
-fn deliver<K: Keeper>(
-    alloc: Global,
-    node: &mut Coordinator<K>,
-    from: &Sealed,
-    place: usize,
-) -> Result<Sealed, Fail> {
-    let frame = from.sends().as_slice()[place].copy()?;
-    done(node.step(alloc, Event::Frame(frame)))
-}
-
-fn line<K: Keeper>(alloc: Global, node: &mut Coordinator<K>, text: &str) -> Result<Sealed, Fail> {
-    let mut bytes = Vec::new(alloc);
-    bytes.extend_from_slice(text.as_bytes())?;
-    done(node.step(
-        alloc,
-        Event::Client {
-            conn: 1,
-            line: Line::of(bytes),
-        },
-    ))
-}
-
-fn word(message: &Message) -> &str {
-    match message {
-        Message::StartJoin { .. } => "startjoin",
-        Message::Join { .. } => "join",
-        Message::PeersAsk { .. } => "peersask",
-        Message::PeersAnswer { .. } => "peersanswer",
-        Message::PreVoteAsk => "prevoteask",
-        Message::PreVoteAnswer { .. } => "prevoteanswer",
-        Message::PreVoteRefuse { .. } => "prevoterefuse",
-        Message::FollowerCheck { .. } => "followercheck",
-        Message::FollowerAnswer { .. } => "followeranswer",
-        Message::LeaderCheck { .. } => "leadercheck",
-        Message::LeaderAnswer { .. } => "leaderanswer",
-        Message::JoinAsk { .. } => "joinask",
-        Message::Publish(_) => "publish",
-        Message::Response(_) => "response",
-        Message::Commit(_) => "commit",
-    }
-}
-
-// What an event sends, as words.
-fn sent(alloc: Global, sealed: &Sealed) -> Result<String, Fail> {
-    let mut all = String::new(alloc);
-    for frame in sealed.sends().as_slice() {
-        if !all.as_str().is_empty() {
-            all.push_str(" ")?;
-        }
-        all.push_str(frame.to.as_str())?;
-        all.push_str(":")?;
-        all.push_str(word(&frame.message))?;
-    }
-    Ok(all)
-}
-
-fn mode_of(sealed: &Sealed) -> Option<Mode> {
-    let mut last = None;
-    for step in sealed.entries().steps.as_slice() {
-        if let Step::Mode(mode, _) = step {
-            last = Some(*mode);
+impl Shown {
+    fn of(lines: Vec<String>) -> Shown {
+        Shown {
+            lines,
+            met: 0,
+            skips: false,
         }
     }
-    last
-}
 
-fn answer(sealed: &Sealed, place: usize) -> Option<&Answer> {
-    match &sealed.replies().as_slice()[place].reply {
-        Reply::To { answer, .. } => Some(answer),
-        Reply::BadLine(_) => None,
+    // The place of the line from which the next one is to be met.
+    fn place_of(&self, wanted: &str) -> usize {
+        if self.skips {
+            for (place, line) in self.lines.iter().enumerate() {
+                if place >= self.met && line.as_str() == wanted {
+                    return place;
+                }
+            }
+        }
+        self.met
+    }
+
+    // The next line that is wanted, or `...`.
+    fn continues(&mut self, wanted: &str) -> Result<(), Fail> {
+        if wanted == "..." {
+            self.skips = true;
+            return Ok(());
+        }
+        let place = self.place_of(wanted);
+        if place < self.lines.len() && self.lines[place].as_str() == wanted {
+            self.met = place + 1;
+            self.skips = false;
+            return Ok(());
+        }
+        Err(Fail::new(format_args!("wanted {wanted} in {:?}", self.lines)))
+    }
+
+    // No more lines are wanted.
+    fn ends(&self) -> Result<(), Fail> {
+        if self.skips || self.met == self.lines.len() {
+            return Ok(());
+        }
+        Err(Fail::new(format_args!("{} of {:?}", self.met, self.lines)))
     }
 }
 
-// A node that leads alone, with its first state committed.
-fn leader(alloc: Global) -> Result<Coordinator<PlainKeeper>, Fail> {
-    let mut a = node(alloc, "a", &[])?;
-    tick(alloc, &mut a, 0, 7)?;
-    let start = tick(alloc, &mut a, 8, 7)?;
-    let join = deliver(alloc, &mut a, &start, 0)?;
-    let publish = deliver(alloc, &mut a, &join, 0)?;
-    let response = deliver(alloc, &mut a, &publish, 0)?;
-    let commit = deliver(alloc, &mut a, &response, 0)?;
-    let rest = deliver(alloc, &mut a, &commit, 0)?;
-    if !rest.sends().as_slice().is_empty() || rest.entries().steps.as_slice().len() != 1 {
-        return Err(Fail::new("the commit alone"));
-    }
-    Ok(a)
+// ---- what is to be seen
+
+// A node alone is elected, and has its first state committed.
+fn leader(alloc: Global) -> Result<World, Fail> {
+    let mut world = World::of(alloc, &["a"])?;
+    world.follows(&[
+        "> tick a 0 7",
+        "act a ok boot a",
+        "> tick a 8 7",
+        "m1 a->a startjoin a 1",
+        "> deliver a 1",
+        "...",
+        "> deliver a 2",
+        "act a ok join a a 1 0/0",
+        "won a 1",
+        "mode a leader 1",
+        "act a ok value 1 a {\"exclusions\":[],\"master\":\"a\",\"members\":[\"a\"],\"settings\":{}}",
+        "m3 a->a publish 1/1",
+        "> deliver a 3",
+        "...",
+        "> deliver a 4",
+        "...",
+        "> deliver a 5",
+        "act a ok commit a 1/1",
+    ])?;
+    Ok(world)
 }
 
 #[test]
-fn a_second_node_joins_and_follows(rt: HostRuntime) -> Result<(), Fail> {
-    let alloc = rt.alloc();
-    let mut a = node(alloc, "a", &["b"])?;
-    let mut b = node(alloc, "b", &["a"])?;
-    let boots = tick(alloc, &mut a, 0, 7)?;
-    assert_eq!(rt; sent(alloc, &boots)?.as_str(), "b:peersask");
-    assert_eq!(rt; boots.entries().steps.as_slice().len(), 1);
-    let stands = tick(alloc, &mut a, 8, 7)?;
-    assert_eq!(rt; sent(alloc, &stands)?.as_str(), "a:startjoin b:startjoin");
-    let own = deliver(alloc, &mut a, &stands, 0)?;
-    assert_eq!(rt; sent(alloc, &own)?.as_str(), "a:join");
-    let other = deliver(alloc, &mut b, &stands, 1)?;
-    assert_eq!(rt; sent(alloc, &other)?.as_str(), "a:join");
-    let wins = deliver(alloc, &mut a, &own, 0)?;
-    assert_eq!(rt; sent(alloc, &wins)?.as_str(), "a:publish");
-    assert!(rt; mode_of(&wins) == Some(Mode::Leader));
-    let member = deliver(alloc, &mut a, &other, 0)?;
-    assert_eq!(rt; sent(alloc, &member)?.as_str(), "");
-    let accepts = deliver(alloc, &mut a, &wins, 0)?;
-    assert_eq!(rt; sent(alloc, &accepts)?.as_str(), "a:response");
-    let commits = deliver(alloc, &mut a, &accepts, 0)?;
-    assert_eq!(rt; sent(alloc, &commits)?.as_str(), "a:commit");
-    let next = deliver(alloc, &mut a, &commits, 0)?;
-    assert_eq!(rt; sent(alloc, &next)?.as_str(), "a:publish b:publish");
-    let follows = deliver(alloc, &mut b, &next, 1)?;
-    assert_eq!(rt; sent(alloc, &follows)?.as_str(), "a:response");
-    assert!(rt; mode_of(&follows) == Some(Mode::Follower(id("a"))));
-    let asked = line(alloc, &mut b, "{\"id\":1,\"state\":{}}")?;
-    assert!(rt; matches!(answer(&asked, 0), Some(Answer::NotMaster(Some(_)))));
-    Ok(())
+fn a_node_alone_elects_itself_and_acknowledges_a_put_as_its_commit_is_sent(
+    rt: HostRuntime,
+) -> Result<(), Fail> {
+    leader(rt.alloc())?.follows(&[
+        "> client a {\"id\":1,\"put\":{\"key\":\"k\",\"value\":\"v\"}}",
+        "...",
+        "> deliver a 6",
+        "...",
+        "> deliver a 7",
+        "...",
+        "m8 a->a commit 1/2",
+        "reply a {\"acked\":{\"term\":1,\"version\":2},\"id\":1}",
+        "> deliver a 8",
+        "...",
+        "> client a {\"id\":2,\"put\":{\"key\":\"k\",\"value\":\"v\"}}",
+        "reply a {\"acked\":{\"term\":1,\"version\":2},\"id\":2}",
+    ])
 }
 
 #[test]
-fn a_put_is_acknowledged_when_its_commit_is_sent(rt: HostRuntime) -> Result<(), Fail> {
-    let alloc = rt.alloc();
-    let mut a = leader(alloc)?;
-    let put = "{\"id\":1,\"put\":{\"key\":\"k\",\"value\":\"v\"}}";
-    let publishes = line(alloc, &mut a, put)?;
-    assert_eq!(rt; sent(alloc, &publishes)?.as_str(), "a:publish");
-    assert_eq!(rt; publishes.replies().as_slice().len(), 0);
-    let accepts = deliver(alloc, &mut a, &publishes, 0)?;
-    assert_eq!(rt; accepts.replies().as_slice().len(), 0);
-    let commits = deliver(alloc, &mut a, &accepts, 0)?;
-    assert_eq!(rt; sent(alloc, &commits)?.as_str(), "a:commit");
-    let acked = StateId {
-        term: 1,
-        version: 2,
-    };
-    assert!(rt; matches!(answer(&commits, 0), Some(Answer::Acked(id)) if *id == acked));
-    deliver(alloc, &mut a, &commits, 0)?;
-    let again = line(alloc, &mut a, put)?;
-    assert_eq!(rt; sent(alloc, &again)?.as_str(), "");
-    assert!(rt; matches!(answer(&again, 0), Some(Answer::Acked(id)) if *id == acked));
-    Ok(())
+fn the_second_of_two_nodes_joins_and_follows_and_names_its_leader(
+    rt: HostRuntime,
+) -> Result<(), Fail> {
+    World::of(rt.alloc(), &["a", "b"])?.follows(&[
+        "> tick a 0 7",
+        "act a ok boot a",
+        "m1 a->b peersask b",
+        "> tick a 8 7",
+        "m2 a->a startjoin a 1",
+        "m3 a->b startjoin a 1",
+        "> deliver a 2",
+        "...",
+        "m4 a->a join 1 0/0",
+        "> deliver b 3",
+        "...",
+        "m5 b->a join 1 0/0",
+        "> deliver a 4",
+        "...",
+        "won a 1",
+        "...",
+        "m6 a->a publish 1/1",
+        "> deliver a 5",
+        "...",
+        "> deliver a 6",
+        "...",
+        "m7 a->a response 1/1",
+        "> deliver a 7",
+        "...",
+        "m8 a->a commit 1/1",
+        "> deliver a 8",
+        "...",
+        "act a ok value 2 a {\"exclusions\":[],\"master\":\"a\",\"members\":[\"a\",\"b\"],\"settings\":{}}",
+        "m9 a->a publish 1/2",
+        "m10 a->b publish 1/2",
+        "> deliver b 10",
+        "...",
+        "mode b follower a 1",
+        "m11 b->a response 1/2",
+        "> client b {\"id\":1,\"state\":{}}",
+        "reply b {\"id\":1,\"not_master\":\"a\"}",
+    ])
 }
 
 #[test]
-fn sixty_four_requests_wait_at_most(rt: HostRuntime) -> Result<(), Fail> {
+fn the_sixty_fifth_put_finds_the_queue_full(rt: HostRuntime) -> Result<(), Fail> {
     let alloc = rt.alloc();
-    let mut a = leader(alloc)?;
+    let mut world = leader(alloc)?;
     for n in 1..=64u64 {
-        let text = format!(in alloc;
-            "{{\"id\":{n},\"put\":{{\"key\":\"k{n}\",\"value\":\"v\"}}}}"
+        let put = format!(in alloc;
+            "client a {{\"id\":{n},\"put\":{{\"key\":\"k{n}\",\"value\":\"v\"}}}}"
         )?;
-        let waits = line(alloc, &mut a, text.as_str())?;
-        assert_eq!(rt; waits.replies().as_slice().len(), 0);
+        world.happens(put.as_str())?;
     }
-    let full = line(
-        alloc,
-        &mut a,
-        "{\"id\":65,\"put\":{\"key\":\"k65\",\"value\":\"v\"}}",
-    )?;
-    assert!(rt; matches!(answer(&full, 0), Some(Answer::QueueFull(64))));
-    let bad = line(alloc, &mut a, "{")?;
-    assert!(rt; matches!(&bad.replies().as_slice()[0].reply, Reply::BadLine(_)));
-    Ok(())
+    world.follows(&[
+        "> client a {\"id\":65,\"put\":{\"key\":\"k65\",\"value\":\"v\"}}",
+        "reply a {\"id\":65,\"queue_full\":64}",
+    ])
 }
 
 #[test]
-fn a_publication_that_is_not_finished_in_time_ends_the_term(rt: HostRuntime) -> Result<(), Fail> {
-    let alloc = rt.alloc();
-    let mut a = leader(alloc)?;
-    line(
-        alloc,
-        &mut a,
-        "{\"id\":1,\"put\":{\"key\":\"k\",\"value\":\"v\"}}",
-    )?;
-    let waits = tick(alloc, &mut a, 30_007, 7)?;
-    assert!(rt; mode_of(&waits).is_none());
-    let gives_up = tick(alloc, &mut a, 30_008, 7)?;
-    assert!(rt; mode_of(&gives_up) == Some(Mode::Candidate));
-    assert!(rt; matches!(answer(&gives_up, 0), Some(Answer::FailedToCommit(1))));
-    Ok(())
+fn before_its_first_tick_a_node_knows_no_master(rt: HostRuntime) -> Result<(), Fail> {
+    World::of(rt.alloc(), &["a"])?.follows(&[
+        "> client a {\"id\":1,\"put\":{\"key\":\"k\",\"value\":\"v\"}}",
+        "reply a {\"id\":1,\"not_master\":null}",
+    ])
 }
 
 #[test]
-fn a_fault_of_the_disk_stops_the_node(rt: HostRuntime) -> Result<(), Fail> {
+fn a_leader_refuses_a_key_of_129_bytes_by_its_length(rt: HostRuntime) -> Result<(), Fail> {
     let alloc = rt.alloc();
-    let disk = MemDisk::new(alloc, Vec::new(alloc), Vec::new(alloc));
-    let Ok(journal) = StateJournal::open(alloc, Fuse::new(disk)) else {
-        return Err(Fail::new("the journal is not opened"));
-    };
-    let mut a = Coordinator::open(alloc, settings(alloc, "a", &[])?, journal);
-    done(a.step(alloc, Event::Start))?;
-    a.arm(Order::Fault(1));
-    match a.step(alloc, Event::Tick { now: 0, word: 7 }) {
-        Err(StepError::Disk(entries)) => {
-            let steps = entries.steps.as_slice();
-            assert_eq!(rt; steps.len(), 1);
-            assert!(rt; matches!(&steps[0], Step::Act(_, Outcome::Disk(false))));
-        }
-        _ => return Err(Fail::new("the fault is told")),
+    let mut key = String::new(alloc);
+    for _ in 0..129 {
+        key.push_str("k")?;
     }
-    let after = a.step(alloc, Event::Tick { now: 1, word: 7 });
-    assert!(rt; matches!(after, Err(StepError::Stopped)));
-    Ok(())
+    let put = format!(in alloc;
+        "> client a {{\"id\":1,\"put\":{{\"key\":\"{key}\",\"value\":\"v\"}}}}"
+    )?;
+    leader(alloc)?.follows(&[put.as_str(), "reply a {\"bad_setting\":129,\"id\":1}"])
+}
+
+#[test]
+fn a_line_that_is_no_json_is_answered_so(rt: HostRuntime) -> Result<(), Fail> {
+    World::of(rt.alloc(), &["a"])?.follows(&["> client a {", "reply a {\"error\":\"not_json\"}"])
+}
+
+#[test]
+fn a_leader_whose_publication_fails_stands_again_and_publishes_the_same_value(
+    rt: HostRuntime,
+) -> Result<(), Fail> {
+    World::of(rt.alloc(), &["a"])?.follows(&[
+        "> tick a 0 7",
+        "act a ok boot a",
+        "> tick a 8 7",
+        "m1 a->a startjoin a 1",
+        "> deliver a 1",
+        "...",
+        "> deliver a 2",
+        "...",
+        "m3 a->a publish 1/1",
+        "> deliver a 3",
+        "...",
+        "> tick a 30008 7",
+        "mode a candidate 1",
+        "> tick a 30008 7",
+        "...",
+        "> tick a 30016 7",
+        "m5 a->a startjoin a 2",
+        "> deliver a 5",
+        "...",
+        "m6 a->a join 2 1/1",
+        "> deliver a 6",
+        "...",
+        "won a 2",
+        "mode a leader 2",
+        "act a ok value 2 a {\"exclusions\":[],\"master\":\"a\",\"members\":[\"a\"],\"settings\":{}}",
+        "m7 a->a publish 2/2",
+    ])
 }
