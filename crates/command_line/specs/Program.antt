@@ -1,0 +1,50 @@
+-- The commands, and the command line as clap is told of it.
+use Rattle.std.specs.Prelude.{◌≡◌, true, false, List, [], ◌∷◌, map, Some, codes}
+use Rattle.clap.specs.Words.{App, Rule, Shape, app_of, new_rule, with_rule}
+use Rattle.clap.specs.Simple.{new_shape}
+use Rattle.clap.specs.declared.builder.action.ArgAction.TheVariants.{SetTrue}
+use Rattle.clap.specs.declared.builder.command.Command.{Command}
+use Rattle.clap.specs.declared.builder.command.Command.TheViews.{out-Command}
+use Rattle.command_line.specs.Given.{Text, Named, option, flag, Entry}
+
+-- what each command takes
+abbrev pub replay_takes : List Named
+replay_takes = option (codes "level") ∷ []
+
+abbrev pub inspect_takes : List Named
+inspect_takes = option (codes "dir") ∷ []
+
+abbrev pub commands : List Entry
+commands = (codes "replay", replay_takes) ∷ (codes "inspect", inspect_takes) ∷ []
+
+-- ---- as clap is told
+
+abbrev pub raw : Named → Rule
+raw (option n) = record (new_rule n) { long = Some n }
+raw (flag n) = record (new_rule n) { long = Some n; action = Some SetTrue }
+
+pub record HasOneMore (old : Command) (r : Rule) (new : Command) : Type 0 where
+  pub app : app_of new ≡ with_rule (app_of old) r
+  pub globals : (out-Command new).has_globals ≡ (out-Command old).has_globals
+
+abbrev pub raw_app : Text → List Named → App
+raw_app name ks = record { top = record (new_shape name) { rules = map raw ks }; subs = [] }
+
+pub record IsLeaf (name : Text) (ks : List Named) (c : Command) : Type 0 where
+  pub app : app_of c ≡ raw_app name ks
+  pub globals : (out-Command c).has_globals ≡ false
+
+abbrev pub raw_of : Entry → Shape
+raw_of e = (raw_app e.0 e.1).top
+
+abbrev pub program_app : App
+program_app = record {
+  top = record (new_shape (codes "zen")) {
+    is_leaf = false;
+    no_binary_name = true;
+    disable_help_flag = true;
+    disable_help_subcommand = true;
+    disable_version_flag = true;
+  };
+  subs = map raw_of commands;
+}

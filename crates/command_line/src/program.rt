@@ -1,0 +1,42 @@
+ghost use Rattle.std.specs.Prelude.{◌≡◌, IfOk, codes};
+ghost use Rattle.clap.specs.Words.{app_of};
+ghost use Rattle.command_line.specs.Given.{option};
+ghost use Rattle.command_line.specs.Program.{raw, HasOneMore, IsLeaf, replay_takes, inspect_takes, program_app};
+
+use clap::{Arg, Command};
+use std::alloc::{AllocError, Global};
+
+fn with_option<'a>(
+    alloc: Global,
+    command: Command<'a>,
+    name: &'a str,
+) -> Result<Command<'a>, AllocError>
+    ensures { IfOk result (λ c. HasOneMore command.entry (raw (option name.entry.now)) c) }
+{
+    command.arg(Arg::new(alloc, name).long(name))
+}
+
+fn replay<'a>(alloc: Global) -> Result<Command<'a>, AllocError>
+    ensures { IfOk result (IsLeaf (codes "replay") replay_takes) }
+{
+    with_option(alloc, Command::new(alloc, "replay"), "level")
+}
+
+fn inspect<'a>(alloc: Global) -> Result<Command<'a>, AllocError>
+    ensures { IfOk result (IsLeaf (codes "inspect") inspect_takes) }
+{
+    with_option(alloc, Command::new(alloc, "inspect"), "dir")
+}
+
+/// The commands and what they take, as clap is told of them.
+pub fn program<'a>(alloc: Global) -> Result<Command<'a>, AllocError>
+    ensures { IfOk result (λ c. app_of c ≡ program_app) }
+{
+    Command::new(alloc, "zen")
+        .no_binary_name(true)
+        .disable_help_flag(true)
+        .disable_help_subcommand(true)
+        .disable_version_flag(true)
+        .subcommand(replay(alloc)?)?
+        .subcommand(inspect(alloc)?)
+}

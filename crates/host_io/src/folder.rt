@@ -1,0 +1,62 @@
+use std::fs::{File, OpenOptions, create_dir};
+use std::io;
+use std::os::fd::AsRawFd;
+use std::path::Path;
+
+// After it a crash of the machine loses no name in the folder.
+fn sync_folder(rt: &HostRuntime, path: &str) -> io::Result<()> {
+    let path = if path.is_empty() { "." } else { path };
+    File::open(rt, path)?.sync_all()
+}
+
+fn sync_parent(rt: &HostRuntime, path: &str) -> io::Result<()> {
+    match Path::new(path).parent() {
+        Some(parent) => sync_folder(rt, parent.as_str()),
+        None => Ok(()),
+    }
+}
+
+// Makes a folder where there is none, and syncs the one that it is in. An earlier run may have been ended before that
+// sync, so a folder that stands is synced in its own too, where the system lets it.
+fn make_folder(rt: &HostRuntime, path: &str) -> io::Result<()> {
+    match create_dir(rt, path) {
+        Ok(()) => sync_parent(rt, path),
+        Err(error) if error.kind() == io::ErrorKind::AlreadyExists => {
+            let _ = sync_parent(rt, path);
+            Ok(())
+        }
+        Err(error) => Err(error),
+    }
+}
+
+// Makes a folder and its parents, the highest first.
+fn make_folders(rt: &HostRuntime, dir: &str) -> io::Result<()> {
+    for (end, _) in dir.match_indices('/') {
+        if end > 0 {
+            make_folder(rt, &dir[..end])?;
+        }
+    }
+    make_folder(rt, dir)
+}
+
+fn open_or_make(rt: &HostRuntime, path: &str) -> io::Result<File> {
+    let file = OpenOptions::new()
+        .read(true)
+        .write(true)
+        .create(true)
+        .open(rt, path)?;
+    // Where a standard stream was closed, the file takes its number, and what is meant for the stream must not land in it.
+    if file.as_raw_fd() <= 2 {
+        return file.try_clone();
+    }
+    Ok(file)
+}
+
+/// Opens the file at `path` in the folder `dir`. It makes both where they are not there, the folder with its parents, and
+/// syncs the folders in which it made a name.
+pub fn open_in_folder(rt: &HostRuntime, dir: &str, path: &str) -> io::Result<File> {
+    make_folders(rt, dir)?;
+    let file = open_or_make(rt, path)?;
+    sync_folder(rt, dir)?;
+    Ok(file)
+}

@@ -1,0 +1,3 @@
+pub mod Inspects
+pub mod Report
+pub mod Shows

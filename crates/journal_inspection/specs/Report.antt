@@ -1,0 +1,60 @@
+-- What is written of a journal: seven lines that show what it keeps, or the line that says why it is none.
+use Rattle.std.specs.Prelude.{ℕ, List, ◌++◌, codes, decimal}
+use Rattle.hex.specs.Hex.{encode_lower}
+use Rattle.sha2.specs.Sha256.{sha256}
+use Rattle.serde_json.specs.Written.{compact_text}
+use Rattle.schedule_text.specs.Words.{list_text}
+use Rattle.cluster_state.specs.Json.{state_json}
+use Rattle.cluster_state.specs.States.{state}
+use Rattle.cluster_state.specs.declared.fault.FieldError.{FieldError}
+use Rattle.cluster_state.specs.declared.fault.FieldError.TheVariants as field
+use Rattle.cluster_state.specs.declared.state.ClusterState.{ClusterState}
+use Rattle.cluster_state.specs.declared.state.Kept.{Kept}
+use Rattle.state_journal.specs.declared.why.BodyFault.{BodyFault}
+use Rattle.state_journal.specs.declared.why.BodyFault.TheVariants as body
+use Rattle.state_journal.specs.declared.why.Why.{Why}
+use Rattle.state_journal.specs.declared.why.Why.TheVariants as why
+
+-- ---- what a journal keeps
+
+-- the SHA-256 of the state's encoding, in lower-case hexadecimal
+unfoldable pub digest_text : ClusterState → List ℕ
+digest_text s = encode_lower (sha256 (state.spelling s))
+
+abbrev pub accepted_lines : ClusterState → List ℕ
+accepted_lines s = codes "accepted=" ++ decimal s.term ++ codes "/" ++ decimal s.version ++ codes "\nconfig=" ++ list_text s.config
+
+abbrev pub state_lines : ClusterState → List ℕ
+state_lines s = codes "\nsha256=" ++ digest_text s ++ codes "\nstate=" ++ compact_text (state_json s) ++ codes "\n"
+
+-- the seven lines, where the journal has so many bodies
+abbrev pub report : Kept → ℕ → List ℕ
+report kept records =
+    codes "term=" ++ decimal kept.term ++ codes "\n" ++ accepted_lines kept.accepted ++ codes "\ncommitted=" ++ list_text kept.committed ++ codes "\nrecords=" ++ decimal records ++ state_lines kept.accepted
+
+-- ---- why a file is no journal
+
+abbrev pub field_name : FieldError → List ℕ
+field_name field.Short = codes "Short"
+field_name field.TermTooLarge = codes "TermTooLarge"
+field_name field.VersionTooLarge = codes "VersionTooLarge"
+field_name field.BadFlag = codes "BadFlag"
+field_name field.TooMany = codes "TooMany"
+field_name field.BadId = codes "BadId"
+field_name field.BadText = codes "BadText"
+field_name field.NotOrdered = codes "NotOrdered"
+
+abbrev pub body_fault_text : BodyFault → List ℕ
+body_fault_text body.Tag = codes "Tag"
+body_fault_text (body.Field fault) = field_name fault
+body_fault_text body.Trailing = codes "Trailing"
+
+abbrev pub why_text : Why → List ℕ
+why_text why.Header = codes "Header"
+why_text (why.Cut at) = codes "Cut(" ++ decimal at ++ codes ")"
+why_text (why.Long at) = codes "Long(" ++ decimal at ++ codes ")"
+why_text (why.Body at fault) = codes "Body(" ++ decimal at ++ codes "," ++ body_fault_text fault ++ codes ")"
+why_text (why.Order at) = codes "Order(" ++ decimal at ++ codes ")"
+
+abbrev pub not_a_journal : Why → List ℕ
+not_a_journal why = codes "zen: not a journal: " ++ why_text why ++ codes "\n"

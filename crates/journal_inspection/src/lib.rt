@@ -1,0 +1,12 @@
+//! What is shown of a folder's journal.
+#![tactic(auto)]
+
+pub mod inspecting;
+pub mod report;
+pub mod showing;
+#[cfg(test)]
+mod tests;
+
+pub use inspecting::{Inspection, inspect};
+pub use report::{write_not_a_journal, write_report};
+pub use showing::{Shown, show};

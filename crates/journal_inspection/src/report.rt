@@ -1,0 +1,128 @@
+ghost use Rattle.std.specs.Prelude.{◌≡◌, ◌++◌, OnOk, IfOk};
+ghost use Rattle.cluster_state.specs.States.{IsFit};
+ghost use Rattle.journal_inspection.specs.Report.{digest_text, accepted_lines, state_lines, report, field_name, body_fault_text, why_text, not_a_journal};
+
+use cluster_state::{ClusterState, FieldError, Kept, encode_state, to_json};
+use schedule_text::Text;
+use sha2::{Digest, Sha256};
+use state_journal::{BodyFault, Why};
+use std::alloc::{AllocError, Global};
+
+#[tactic(auto, unfolding(crate::specs::Report::digest_text))]
+fn write_digest(alloc: Global, text: &mut Text, state: &ClusterState) -> Result<(), AllocError>
+    requires { IsFit state.now }
+    ensures { OnOk result (text.new ≡ text.old ++ digest_text state.now) }
+{
+    let encoded = encode_state(alloc, state)?;
+    let digest = Sha256::digest(encoded.as_slice());
+    let shown = hex::encode(alloc, digest.as_slice())?;
+    text.word(shown.as_str())
+}
+
+fn write_accepted(text: &mut Text, state: &ClusterState) -> Result<(), AllocError>
+    ensures { OnOk result (text.new ≡ text.old ++ accepted_lines state.now) }
+{
+    text.word("accepted=")?;
+    text.number(state.term)?;
+    text.word("/")?;
+    text.number(state.version)?;
+    text.word("\nconfig=")?;
+    text.ids(state.config.members().as_slice())
+}
+
+fn write_state(alloc: Global, text: &mut Text, state: &ClusterState) -> Result<(), AllocError>
+    requires { IsFit state.now }
+    ensures { OnOk result (text.new ≡ text.old ++ state_lines state.now) }
+{
+    text.word("\nsha256=")?;
+    write_digest(alloc, text, state)?;
+    text.word("\nstate=")?;
+    let json = to_json(alloc, state)?;
+    text.bytes(json.as_slice())?;
+    text.word("\n")
+}
+
+/// Writes the seven lines that show what a journal of so many bodies keeps.
+pub fn write_report(
+    alloc: Global,
+    text: &mut Text,
+    kept: &Kept,
+    records: u64,
+) -> Result<(), AllocError>
+    requires { IsFit kept.now.accepted }
+    ensures { OnOk result (text.new ≡ text.old ++ report kept.now records) }
+{
+    text.word("term=")?;
+    text.number(kept.term)?;
+    text.word("\n")?;
+    write_accepted(text, &kept.accepted)?;
+    text.word("\ncommitted=")?;
+    text.ids(kept.committed.members().as_slice())?;
+    text.word("\nrecords=")?;
+    text.number(records)?;
+    write_state(alloc, text, &kept.accepted)
+}
+
+fn name_of_field(fault: FieldError) -> &'static str
+    ensures { result.now ≡ field_name fault }
+{
+    match fault {
+        FieldError::Short => "Short",
+        FieldError::TermTooLarge => "TermTooLarge",
+        FieldError::VersionTooLarge => "VersionTooLarge",
+        FieldError::BadFlag => "BadFlag",
+        FieldError::TooMany => "TooMany",
+        FieldError::BadId => "BadId",
+        FieldError::BadText => "BadText",
+        FieldError::NotOrdered => "NotOrdered",
+    }
+}
+
+fn name_of_fault(fault: BodyFault) -> &'static str
+    ensures { result.now ≡ body_fault_text fault }
+{
+    match fault {
+        BodyFault::Tag => "Tag",
+        BodyFault::Field(fault) => name_of_field(fault),
+        BodyFault::Trailing => "Trailing",
+    }
+}
+
+fn write_why(text: &mut Text, why: Why) -> Result<(), AllocError>
+    ensures { OnOk result (text.new ≡ text.old ++ why_text why) }
+{
+    match why {
+        Why::Header => text.word("Header"),
+        Why::Cut(at) => {
+            text.word("Cut(")?;
+            text.number(at)?;
+            text.word(")")
+        }
+        Why::Long(at) => {
+            text.word("Long(")?;
+            text.number(at)?;
+            text.word(")")
+        }
+        Why::Body(at, fault) => {
+            text.word("Body(")?;
+            text.number(at)?;
+            text.word(",")?;
+            text.word(name_of_fault(fault))?;
+            text.word(")")
+        }
+        Why::Order(at) => {
+            text.word("Order(")?;
+            text.number(at)?;
+            text.word(")")
+        }
+    }
+}
+
+/// Writes why a file is no journal, as `zen: not a journal: Cut(8)` with a line feed.
+pub fn write_not_a_journal(text: &mut Text, why: Why) -> Result<(), AllocError>
+    ensures { OnOk result (text.new ≡ text.old ++ not_a_journal why) }
+{
+    text.word("zen: not a journal: ")?;
+    write_why(text, why)?;
+    text.word("\n")
+}

@@ -1,0 +1,113 @@
+use crate::{Inspection, inspect};
+use std::alloc::{AllocError, Global};
+use std::test::Fail;
+use zen_disk::MemDisk;
+use zen_host::MemHost;
+use zen_link::MemSink;
+
+// A journal of one body, which sets term 1.
+const TERM_ONE: &[u8] = b"ZENJRNL1\x01\0\0\0\x09\x01\0\0\0\0\0\0\0\x01\0";
+
+// Its lines. The digest is that of 23 zero bytes.
+const TERM_ONE_LINES: &str = "term=1\naccepted=0/0\nconfig=_\ncommitted=_\nrecords=1\n\
+    sha256=015275e61fa0d0751c1d9f45541c7804c895404455470710ade3786f282f2da0\n\
+    state={\"committed\":[],\"config\":[],\"term\":0,\
+    \"value\":{\"exclusions\":[],\"master\":null,\"members\":[],\"settings\":{}},\"version\":0}\n";
+
+const EMPTY_LINES: &str = "term=0\naccepted=0/0\nconfig=_\ncommitted=_\nrecords=0\n\
+    sha256=015275e61fa0d0751c1d9f45541c7804c895404455470710ade3786f282f2da0\n\
+    state={\"committed\":[],\"config\":[],\"term\":0,\
+    \"value\":{\"exclusions\":[],\"master\":null,\"members\":[],\"settings\":{}},\"version\":0}\n";
+
+// The numbers of the calls that fail, of the host, of its disk and of the sink.
+#[derive(Clone, Copy)]
+struct Failing<'a> {
+    host: &'a [u64],
+    disk: &'a [u64],
+    sink: &'a [u64],
+}
+
+const NONE: Failing<'static> = Failing {
+    host: &[],
+    disk: &[],
+    sink: &[],
+};
+
+#[derive(Drop)]
+struct Ended {
+    end: Inspection,
+    sink: MemSink,
+    host: MemHost<MemDisk>,
+}
+
+fn inspected(alloc: Global, file: &[u8], failing: Failing<'_>) -> Result<Ended, AllocError> {
+    let failing_calls = Vec::from_slice(alloc, failing.disk)?;
+    let disk = MemDisk::new(alloc, Vec::from_slice(alloc, file)?, failing_calls);
+    let mut host = MemHost::new(alloc, disk, Vec::from_slice(alloc, failing.host)?);
+    let mut sink = MemSink::new(alloc, 100, Vec::from_slice(alloc, failing.sink)?);
+    let end = inspect(alloc, "a", &mut sink, &mut host);
+    Ok(Ended { end, sink, host })
+}
+
+#[test]
+fn a_journal_is_shown_in_seven_lines(rt: HostRuntime) -> Result<(), Fail> {
+    let ended = inspected(rt.alloc(), TERM_ONE, NONE)?;
+    assert!(rt; ended.end == Inspection::Done);
+    assert!(rt; ended.sink.as_bytes() == TERM_ONE_LINES.as_bytes());
+    assert!(rt; ended.host.asked().len() == 1 && ended.host.disk_back().is_some());
+    Ok(())
+}
+
+#[test]
+fn nine_bytes_are_an_empty_journal(rt: HostRuntime) -> Result<(), Fail> {
+    for file in [b"".as_slice(), b"ABCDEFGHI".as_slice()] {
+        let ended = inspected(rt.alloc(), file, NONE)?;
+        assert!(rt; ended.end == Inspection::Done);
+        assert!(rt; ended.sink.as_bytes() == EMPTY_LINES.as_bytes());
+    }
+    Ok(())
+}
+
+const FAULTS: [(&[u8], &str); 8] = [
+    (b"ABCDEFGHIJ", "Header"),
+    (b"ZENJRNL1\x01\0\0\0\xff\0", "Cut(8)"),
+    (b"ZENJRNL1\x01\0\x80\0\x01\0", "Long(8)"),
+    (b"ZENJRNL1\x01\0\0\0\x02\x01\0\0", "Body(8,Short)"),
+    (b"ZENJRNL1\x01\0\0\0\x02\x03\0\0", "Body(8,Trailing)"),
+    (b"ZENJRNL1\x01\0\0\0\x01\x05\0", "Body(8,Tag)"),
+    (
+        b"ZENJRNL1\x01\0\0\0\x09\x01\xff\0\0\0\0\0\0\0\0",
+        "Body(8,TermTooLarge)",
+    ),
+    (b"ZENJRNL1\x01\0\0\0\x09\x01\0\0\0\0\0\0\0\0\0", "Order(8)"),
+];
+
+#[test]
+fn a_file_that_is_no_journal_is_refused_by_its_first_fault(rt: HostRuntime) -> Result<(), Fail> {
+    for (file, why) in FAULTS {
+        let line = format!(in rt.alloc(); "zen: not a journal: {why}\n")?;
+        let ended = inspected(rt.alloc(), file, NONE)?;
+        assert!(rt; ended.end == Inspection::NotAJournal, "{why}");
+        assert!(rt; ended.sink.as_bytes() == line.as_bytes(), "{why}");
+    }
+    Ok(())
+}
+
+#[test]
+fn a_fault_of_the_host_its_disk_or_the_sink_ends_it(rt: HostRuntime) -> Result<(), Fail> {
+    let host = Failing { host: &[1], ..NONE };
+    let ended = inspected(rt.alloc(), TERM_ONE, host)?;
+    assert!(rt; ended.end == Inspection::HostFault && ended.sink.as_bytes().is_empty());
+    for call in [1, 2, 3] {
+        let disk = Failing {
+            disk: &[call],
+            ..NONE
+        };
+        let ended = inspected(rt.alloc(), TERM_ONE, disk)?;
+        assert!(rt; ended.end == Inspection::DiskFault && ended.sink.as_bytes().is_empty());
+    }
+    let sink = Failing { sink: &[2], ..NONE };
+    let ended = inspected(rt.alloc(), TERM_ONE, sink)?;
+    assert!(rt; ended.end == Inspection::WriteFault && ended.sink.as_bytes().len() == 100);
+    Ok(())
+}

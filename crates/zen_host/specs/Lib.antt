@@ -1,0 +1,3 @@
+pub mod AskedCalls
+pub mod HostCalls
+pub mod MemHost
