@@ -1,9 +1,10 @@
-ghost use Rattle.std.specs.Prelude.{◌≡◌, ◌<◌, ◌^◌, ◌++◌, OnOk};
+ghost use Rattle.std.specs.Prelude.{ℕ, ◌≡◌, ◌<◌, ◌^◌, [], ◌++◌, OnOk};
 ghost use Rattle.event_text.specs.Published.{published_after};
+ghost use Rattle.event_text.specs.Steps.{told_as};
 ghost use Rattle.event_text.specs.Events.{cause_text, drop_line, drops_text, event_results, replies_text, reply_line};
 
 use crate::frames::write_frames;
-use crate::steps::write_steps;
+use crate::steps::{write_steps, write_struck_steps};
 use client_lines::write_reply;
 use cluster_state::ClusterState;
 use master_tasks::Outgoing;
@@ -96,4 +97,23 @@ pub fn write_event(
     write_drops(text, node, drops)?;
     write_frames(text, alloc, count, frames)?;
     write_replies(text, alloc, node, replies)
+}
+
+/// Writes an event at which the disk failed in the last act: its acts and changes of mode, then drops. Nothing was sent and
+/// nobody was answered. Where `crashed`, the disk failed since the node stopped in that act. `published` is as for
+/// `write_steps`.
+pub fn write_struck_event(
+    text: &mut Text,
+    alloc: Global,
+    node: NodeId,
+    published: &mut Option<ClusterState>,
+    steps: &[Step],
+    drops: &[MemberDrop],
+    crashed: bool,
+) -> Result<(), AllocError>
+    ensures text { OnOk result ((count : ℕ) → text.new ≡ text.old ++ event_results count node published.old (told_as crashed steps.now) drops.now [] []) }
+    ensures published { OnOk result (published.new ≡ published_after published.old steps.now) }
+{
+    write_struck_steps(text, alloc, node, published, steps, crashed)?;
+    write_drops(text, node, drops)
 }
