@@ -6,6 +6,7 @@ pub mod Opens
 pub mod Published
 pub mod Sent
 pub mod Settled
+pub mod Stands
 pub mod StateDoes
 pub mod Takes
-pub mod Stands
+pub mod Worlds
