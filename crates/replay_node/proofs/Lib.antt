@@ -1,5 +1,7 @@
 pub mod AllSettled
+pub mod Alone
 pub mod AsSaid
+pub mod Carried
 pub mod Crashed
 pub mod FileLeft
 pub mod Found

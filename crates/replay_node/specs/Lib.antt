@@ -1,3 +1,5 @@
+pub mod Clusters
+pub mod Course
 pub mod Did
 pub mod NodeDisk
 pub mod NodeLines
