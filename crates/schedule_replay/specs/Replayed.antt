@@ -86,6 +86,7 @@ restarted w n = if needs_opening (node_world w n) then opened w n else w
 
 -- ---- lines
 
+-- a line of level node, which no schedule of level core has, leaves all as it is
 abbrev pub after : List Id → World → Line → World
 after initial w (line.Boot n) = did_unless_down w n (Bootstrap initial)
 after initial w (line.StartJoin n candidate term) = did_unless_down w n (StartJoin candidate term)
@@ -95,6 +96,8 @@ after initial w (line.Crash n way) = crashed w n way
 after initial w (line.Restart n) = restarted w n
 after initial w (line.Fuse n count way) = ordered w n (Stop count way)
 after initial w (line.Fail n count) = ordered w n (Fault count)
+after initial w (line.Tick n now word) = w
+after initial w (line.Client n bytes) = w
 
 abbrev pub replayed_from : List Id → World → List Line → World
 replayed_from initial w [] = w
