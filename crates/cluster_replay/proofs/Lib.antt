@@ -10,3 +10,4 @@ pub mod NextFits
 pub mod Playing
 pub mod Schedules
 pub mod Somes
+pub mod Spelled

@@ -37,16 +37,16 @@ use Rattle.policy_model.specs.Entries.{Life, Opened, log_of}
 use Rattle.policy_model.specs.Follows.{is_start}
 use Rattle.policy_model.specs.Views.{view_of}
 use Rattle.policy_model.proofs.Standing.{opening_moves}
-use Rattle.cluster_replay.specs.Lines.{Line, Schedule, FitsLine}
-use Rattle.cluster_replay.specs.Lines.{Tick as TickLine, Client, Deliver, Crash, Restart, Fuse, Fail}
+use Rattle.schedule_text.specs.declared.schedule.Line.{Line}
+use Rattle.schedule_text.specs.declared.schedule.Line.TheVariants as line
+use Rattle.schedule_text.specs.declared.schedule.Schedule.{Schedule}
 use Rattle.replay_node.specs.Course.{settled_life}
-use Rattle.cluster_replay.specs.Replayed.{fresh_cluster, after, replayed_from, replayed_history, replayed_life}
-use Rattle.replay_node.specs.Clusters.{Cluster, settings_of, with_life, after_event, after_event_if_up, after_frame, life_opened, with_opened, opened_by, after_restart, frame_at}
-use Rattle.cluster_replay.specs.Laws.{IsWellFormed, LawClusterRepliesAreTrue, LawClusterReplayIsLegal, LawLivesFollow}
+use Rattle.replay_node.specs.Clusters.{Cluster, settings_of, with_life, after_event, after_event_if_up, after_frame, life_opened, with_opened, opened_by, after_restart, frame_at, fresh_cluster, after, replayed_from, replayed_history, replayed_life}
+use Rattle.cluster_replay.specs.Laws.{IsWellFormed, node_of, LawClusterRepliesAreTrue, LawClusterReplayIsLegal, LawLivesFollow}
 use Rattle.cluster_replay.proofs.Allowing.{FitView, fit-none, IsGoodFrame, IsSentBy}
 use Rattle.cluster_replay.proofs.AllowedRules.{MayCome}
 use Rattle.cluster_replay.proofs.Asking.{good-asks}
-use Rattle.cluster_replay.proofs.Fits.{none_set}
+use Rattle.replay_node.proofs.IdLists.{none_set}
 use Rattle.cluster_replay.proofs.NextFits.{FitAccepted, empty_accepted}
 use Rattle.cluster_replay.proofs.Invariants.{SoundNode, SoundCluster, Waits, all-at, contained, listed-id, each-stays, event_sound}
 use Rattle.cluster_replay.proofs.Lives.{settled_acts, settled_follows}
@@ -226,16 +226,19 @@ module _ (nodes initial : List Id) (ids : IsIdSet nodes) (set : IsIdSet initial)
 
   -- ---- the lines
 
-  line_sound : (c : Cluster) (l : Line) → FitsLine nodes l → SoundCluster nodes initial c → SoundCluster nodes initial (after nodes initial c l)
-  line_sound c (TickLine n now word) f h = line_event n (Tick now word) c f refl tt h
-  line_sound c (Client n bytes) f h = line_event n (LineCame 0 bytes) c f refl (good-asks bytes) h
-  line_sound c (Deliver n number) f h = line_frame n (number - 1) (frame_at c number) c f refl h
-  line_sound c (Crash n way) f h = line_crash n way c f h
-  line_sound c (Restart n) f h = line_restart n c f h
-  line_sound c (Fuse n count way) f h = line_order n (Stop count way) c f h
-  line_sound c (Fail n count) f h = line_order n (Fault count) c f h
+  line_sound : (c : Cluster) (l : Line) → has (node_of l) nodes ≡ true → SoundCluster nodes initial c → SoundCluster nodes initial (after nodes initial c l)
+  line_sound c (line.Tick n now word) f h = line_event n (Tick now word) c f refl tt h
+  line_sound c (line.Client n bytes) f h = line_event n (LineCame 0 bytes) c f refl (good-asks bytes) h
+  line_sound c (line.Deliver n number) f h = line_frame n (number - 1) (frame_at c number) c f refl h
+  line_sound c (line.Crash n way) f h = line_crash n way c f h
+  line_sound c (line.Restart n) f h = line_restart n c f h
+  line_sound c (line.Fuse n count way) f h = line_order n (Stop count way) c f h
+  line_sound c (line.Fail n count) f h = line_order n (Fault count) c f h
+  line_sound c (line.Boot n) f h = h
+  line_sound c (line.StartJoin n candidate term) f h = h
+  line_sound c (line.Value n version text config) f h = h
 
-  lines_sound : (c : Cluster) (ls : List Line) → AllByRecursion (FitsLine nodes) ls → SoundCluster nodes initial c → SoundCluster nodes initial (replayed_from nodes initial c ls)
+  lines_sound : (c : Cluster) (ls : List Line) → AllByRecursion (λ (l : Line). has (node_of l) nodes ≡ true) ls → SoundCluster nodes initial c → SoundCluster nodes initial (replayed_from nodes initial c ls)
   lines_sound c [] f h = h
   lines_sound c (l ∷ ls) f h = lines_sound (after nodes initial c l) ls f.1 (line_sound c l f.0 h)
 

@@ -1,3 +1,1 @@
 pub mod Laws
-pub mod Lines
-pub mod Replayed
