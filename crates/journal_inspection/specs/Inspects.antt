@@ -34,7 +34,7 @@ pub record Opened {D : Type 0} (told : Type 0) (seen : D → List ℕ) (may_leav
   pub shows : Shows told (seen given) (may_leave back) (count given) (count back) s
 
 module _ {D : Type 0} (told : Type 0) (seen : D → List ℕ) (may_leave : D → List ℕ → Type 0) (count : D → ℕ) where
-  -- what was written at each end
+  -- what was written at each end; a disk that was given is given back, also where memory ran out
   abbrev pub EndsWith : (host host_now : HostView D) → (was now : Option (List ℕ)) → (wrote wrote_now : ℕ) → Inspection → Type 0
   EndsWith host host_now was now wrote wrote_now end.Done =
       (text : List ℕ) × Opened told seen may_leave count host.disk_ready host_now.disk_back (shown.Report text) × Appended was now text
@@ -46,7 +46,8 @@ module _ {D : Type 0} (told : Type 0) (seen : D → List ℕ) (may_leave : D →
   EndsWith host host_now was now wrote wrote_now end.DiskFault =
       Opened told seen may_leave count host.disk_ready host_now.disk_back shown.Disk × Appended was now []
   EndsWith host host_now was now wrote wrote_now end.HostFault = Rose host.faults host_now.faults × Appended was now []
-  EndsWith host host_now was now wrote wrote_now end.NoMemory = Appended was now []
+  EndsWith host host_now was now wrote wrote_now end.NoMemory =
+      ((host_now.calls ≡ host.calls) ⊎ Opened told seen may_leave count host.disk_ready host_now.disk_back shown.Memory) × Appended was now []
 
   -- a disk that stands for a record is shown, unless memory runs out, where nothing fails
   abbrev pub IsComplete : (host host_now : HostView D) → (wrote wrote_now : ℕ) → Inspection → Type 0

@@ -54,7 +54,8 @@ fn a_journal_is_shown_in_seven_lines(rt: HostRuntime) -> Result<(), Fail> {
     let ended = inspected(rt.alloc(), TERM_ONE, NONE)?;
     assert!(rt; ended.end == Inspection::Done);
     assert!(rt; ended.sink.as_bytes() == TERM_ONE_LINES.as_bytes());
-    assert!(rt; ended.host.asked().len() == 1 && ended.host.disk_back().is_some());
+    assert!(rt; ended.host.asked().len() == 1);
+    assert!(rt; ended.host.into_disk_back().is_some());
     Ok(())
 }
 

@@ -1,12 +1,10 @@
-//! The program `zen` over the standard streams.
+//! The program `zen` over the standard streams and the file system.
 #![tactic(auto)]
 
-mod streams;
-
+use host_io::{StandardInput, StandardOutput, SystemHost};
 use std::alloc::AllocError;
 use std::process::ExitCode;
 use std::{env, io};
-use streams::{StandardHost, StandardInput, StandardOutput};
 use zen_app::{Status, run};
 
 // The words after the program's name.
@@ -29,7 +27,7 @@ fn main(rt: HostRuntime) -> ExitCode {
     };
     let mut input = StandardInput::new(rt.stdin());
     let mut output = StandardOutput::new(rt.stdout());
-    let mut host = StandardHost;
+    let mut host = SystemHost::new(&rt);
     let status: Status = run(
         rt.alloc(),
         words.as_slice(),

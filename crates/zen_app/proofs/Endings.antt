@@ -1,5 +1,5 @@
 -- How a run ends, from how its parts ended.
-use Rattle.std.proofs.Common.{◌≡◌, ◌≢◌, ℕ, ◌≤◌, ◌<◌, true, Option, None, Some, List, [], length, take, refl, sym, ◌∙◌, ap, subst, arith, inl, inr, ◌⊎◌, append-nil}
+use Rattle.std.proofs.Common.{◌≡◌, ℕ, ◌≤◌, ◌<◌, Option, None, Some, List, [], length, take, refl, sym, ◌∙◌, ap, subst, arith, inl, inr, ◌⊎◌, append-nil}
 use Rattle.std.specs.List.{AllByRecursion}
 use Rattle.std.proofs.lemmas.List.{take_all, length-take}
 use Rattle.voting_config.specs.Ids.{IsIdSet}
@@ -22,8 +22,10 @@ use Rattle.schedule_replay.specs.Trace.{trace}
 use Rattle.replay_node.proofs.IdLists.{none_set, ids_set}
 use Rattle.schedule_replay.proofs.TraceLaws.{tells, shows, agrees}
 use Rattle.schedule_replay.proofs.WorldLegal.{replay_is_legal}
+use Rattle.command_line.specs.declared.command.Level.TheVariants.{Core}
 use Rattle.zen_app.specs.Reading.{most_read, read_of, ReadsAtMost, IsInput}
-use Rattle.zen_app.specs.Ran.{SourceView, SinkView, IsSafeTrace, Replays, Ran, is_replay}
+use Rattle.zen_app.specs.Ran.{SourceView, SinkView, IsSafeTrace, MayEndReplay, Replays}
+use Rattle.zen_app.specs.Runs.{ReplayEnded}
 use Rattle.zen_app.specs.Refusing.{Refusal}
 use Rattle.zen_app.specs.declared.status.Status.{Status}
 use Rattle.zen_app.specs.declared.status.Status.TheVariants as exit
@@ -104,14 +106,12 @@ traced_nothing bytes was now written s spelled = (no_front was now (trace s) wri
 
 -- ---- how a replay ends
 
-module _ (words : List (List ℕ)) (source source_now : SourceView) (sink sink_now : SinkView) (command : is_replay words ≡ true) (at_most : ReadsAtMost most_read source.left source_now.left)
+module _ (source source_now : SourceView) (sink sink_now : SinkView) (at_most : ReadsAtMost most_read source.left source_now.left)
     (read_later : source.faults ≤ source_now.faults) (wrote_later : sink.faults ≤ sink_now.faults) where
-  ran : (status : Status) → status ≢ exit.Usage → (status ≡ exit.ReadFault → Rose source.faults source_now.faults) → (status ≡ exit.WriteFault → Rose sink.faults sink_now.faults)
-      → ((bytes : List ℕ) → source.left ≡ Some bytes → Replays bytes source source_now sink sink_now status) → Ran words source source_now sink sink_now status
-  ran status other read_fault write_fault replays = record {
-    usage = λ e. absurd cc;
-    command = λ _. other;
-    replays = λ _. replays;
+  ended : (status : Status) → MayEndReplay status → (status ≡ exit.ReadFault → Rose source.faults source_now.faults) → (status ≡ exit.WriteFault → Rose sink.faults sink_now.faults)
+      → ((bytes : List ℕ) → source.left ≡ Some bytes → Replays bytes source source_now sink sink_now status) → ReplayEnded Core source source_now sink sink_now status
+  ended status may read_fault write_fault replays = record {
+    run = record { ends = may; replays = replays };
     read_at_most = at_most;
     read_fault = read_fault;
     write_fault = write_fault;
@@ -119,16 +119,16 @@ module _ (words : List (List ℕ)) (source source_now : SourceView) (sink sink_n
     wrote_later = wrote_later;
   }
 
-  pub read_failed : Appended sink.written sink_now.written [] → Rose source.faults source_now.faults → Ran words source source_now sink sink_now exit.ReadFault
-  read_failed nothing rose = ran exit.ReadFault (λ e. absurd cc) (λ _. rose) (λ e. absurd cc) (λ bs e. record {
+  pub read_failed : Appended sink.written sink_now.written [] → Rose source.faults source_now.faults → ReplayEnded Core source source_now sink sink_now exit.ReadFault
+  read_failed nothing rose = ended exit.ReadFault tt (λ _. rose) (λ e. absurd cc) (λ bs e. record {
     ended = nothing;
     traced = traced_nothing bs sink.written sink_now.written nothing;
     complete = λ t sp r w. absurd (r rose);
   })
 
   -- memory ran out before anything was written
-  pub no_memory : Appended sink.written sink_now.written [] → Ran words source source_now sink sink_now exit.NoMemory
-  no_memory nothing = ran exit.NoMemory (λ e. absurd cc) (λ e. absurd cc) (λ e. absurd cc) (λ bs e. record {
+  pub no_memory : Appended sink.written sink_now.written [] → ReplayEnded Core source source_now sink sink_now exit.NoMemory
+  no_memory nothing = ended exit.NoMemory tt (λ e. absurd cc) (λ e. absurd cc) (λ bs e. record {
     ended = inr nothing;
     traced = traced_nothing bs sink.written sink_now.written nothing;
     complete = λ t sp r w. inr refl;
@@ -141,29 +141,29 @@ module _ (words : List (List ℕ)) (source source_now : SourceView) (sink sink_n
     left_of : (bs : List ℕ) (s : Schedule) → source.left ≡ Some bs → Spells bytes s → Spells bs s × (source_now.left ≡ Some [])
     left_of bs s e spelled = spells_left bs source_now.left bytes s (told bs e) spelled
 
-    pub succeeded : (s : Schedule) → Spells bytes s → Appended sink.written sink_now.written (trace s) → Ran words source source_now sink sink_now exit.Ok
-    succeeded s spelled written = ran exit.Ok (λ e. absurd cc) (λ e. absurd cc) (λ e. absurd cc) (λ bs e. let l = left_of bs s e spelled in record {
+    pub succeeded : (s : Schedule) → Spells bytes s → Appended sink.written sink_now.written (trace s) → ReplayEnded Core source source_now sink sink_now exit.Ok
+    succeeded s spelled written = ended exit.Ok tt (λ e. absurd cc) (λ e. absurd cc) (λ bs e. let l = left_of bs s e spelled in record {
       ended = (l.1, record { schedule = s; spelled = l.0; written = written; safe_trace = spells_safe_trace bs s l.0 });
       traced = traced bs sink.written sink_now.written s l.0 (whole_front sink.written sink_now.written (trace s) written);
       complete = λ t sp r w. inl refl;
     })
 
-    pub cut_short : (s : Schedule) → Spells bytes s → AppendedFront sink.written sink_now.written (trace s) → Rose sink.faults sink_now.faults → Ran words source source_now sink sink_now exit.WriteFault
-    cut_short s spelled written rose = ran exit.WriteFault (λ e. absurd cc) (λ e. absurd cc) (λ _. rose) (λ bs e. let l = left_of bs s e spelled in record {
+    pub cut_short : (s : Schedule) → Spells bytes s → AppendedFront sink.written sink_now.written (trace s) → Rose sink.faults sink_now.faults → ReplayEnded Core source source_now sink sink_now exit.WriteFault
+    cut_short s spelled written rose = ended exit.WriteFault tt (λ e. absurd cc) (λ _. rose) (λ bs e. let l = left_of bs s e spelled in record {
       ended = ((told bs e).1, inl (record { schedule = s; spelled = l.0; written = written; safe_trace = spells_safe_trace bs s l.0 }));
       traced = traced bs sink.written sink_now.written s l.0 written;
       complete = λ t sp r w. absurd (w rose);
     })
 
-    pub out_of_memory : (s : Schedule) → Spells bytes s → AppendedFront sink.written sink_now.written (trace s) → Ran words source source_now sink sink_now exit.NoMemory
-    out_of_memory s spelled written = ran exit.NoMemory (λ e. absurd cc) (λ e. absurd cc) (λ e. absurd cc) (λ bs e. let l = left_of bs s e spelled in record {
+    pub out_of_memory : (s : Schedule) → Spells bytes s → AppendedFront sink.written sink_now.written (trace s) → ReplayEnded Core source source_now sink sink_now exit.NoMemory
+    out_of_memory s spelled written = ended exit.NoMemory tt (λ e. absurd cc) (λ e. absurd cc) (λ bs e. let l = left_of bs s e spelled in record {
       ended = inl (record { schedule = s; spelled = l.0; written = written; safe_trace = spells_safe_trace bs s l.0 });
       traced = traced bs sink.written sink_now.written s l.0 written;
       complete = λ t sp r w. inr refl;
     })
 
     pub bad : (status : Status) (bad : BadSchedule) → fault_of bytes ≡ Some bad → ((s : Schedule) → Spells bytes s → ⊥) → Refusal sink.written sink_now.written sink.faults sink_now.faults (bad_line bad) status
-        → Ran words source source_now sink sink_now status
+        → ReplayEnded Core source source_now sink sink_now status
     bad status b fault none refusal = from refusal.refused
       where
         told_fault : (bs : List ℕ) → source.left ≡ Some bs → fault_of (read_of bs) ≡ Some b
@@ -175,20 +175,20 @@ module _ (words : List (List ℕ)) (source source_now : SourceView) (sink sink_n
         no_schedule : {A : Type 0} (bs : List ℕ) (s : Schedule) → source.left ≡ Some bs → Spells bs s → A
         no_schedule bs s e spelled = absurd (none s (spells_read bs source_now.left bytes s (told bs e) spelled))
 
-        from : (status ≡ exit.BadSchedule) ⊎ ((status ≡ exit.WriteFault) ⊎ (status ≡ exit.NoMemory)) → Ran words source source_now sink sink_now status
+        from : (status ≡ exit.BadSchedule) ⊎ ((status ≡ exit.WriteFault) ⊎ (status ≡ exit.NoMemory)) → ReplayEnded Core source source_now sink sink_now status
         from (inl is) =
-            subst (λ (x : Status). Ran words source source_now sink sink_now x) (sym is)
-            (ran exit.BadSchedule (λ e. absurd cc) (λ e. absurd cc) (λ e. absurd cc) (λ bs e. record {
+            subst (λ (x : Status). ReplayEnded Core source source_now sink sink_now x) (sym is)
+            (ended exit.BadSchedule tt (λ e. absurd cc) (λ e. absurd cc) (λ bs e. record {
               ended = ((told bs e).1, record { bad = b; fault = told_fault bs e; first = first_bad bs e; written = refusal.whole is });
               traced = λ s sp. no_schedule bs s e sp;
               complete = λ s sp r w. no_schedule bs s e sp;
             }))
         from (inr (inl is)) =
-            subst (λ (x : Status). Ran words source source_now sink sink_now x) (sym is)
-            (ran exit.WriteFault (λ e. absurd cc) (λ e. absurd cc) (λ _. (refusal.cut is).1) (λ bs e. record {
+            subst (λ (x : Status). ReplayEnded Core source source_now sink sink_now x) (sym is)
+            (ended exit.WriteFault tt (λ e. absurd cc) (λ _. (refusal.cut is).1) (λ bs e. record {
               ended = ((told bs e).1, inr (record { bad = b; fault = told_fault bs e; first = first_bad bs e; written = (refusal.cut is).0 }));
               traced = λ s sp. no_schedule bs s e sp;
               complete = λ s sp r w. no_schedule bs s e sp;
             }))
         from (inr (inr is)) =
-            subst (λ (x : Status). Ran words source source_now sink sink_now x) (sym is) (no_memory (refusal.nothing is))
+            subst (λ (x : Status). ReplayEnded Core source source_now sink sink_now x) (sym is) (no_memory (refusal.nothing is))

@@ -2,6 +2,8 @@
 use Rattle.std.specs.Prelude.{ℕ}
 use Rattle.zen_app.specs.declared.status.Status.{Status}
 use Rattle.zen_app.specs.declared.status.Status.TheVariants as exit
+use Rattle.journal_inspection.specs.declared.inspecting.Inspection.{Inspection}
+use Rattle.journal_inspection.specs.declared.inspecting.Inspection.TheVariants as end
 
 abbrev pub code_of : Status → ℕ
 code_of exit.Ok = 0
@@ -10,3 +12,15 @@ code_of exit.BadSchedule = 3
 code_of exit.NoMemory = 4
 code_of exit.ReadFault = 5
 code_of exit.WriteFault = 6
+code_of exit.DiskFault = 7
+code_of exit.HostFault = 9
+code_of exit.NotAJournal = 10
+
+-- the status with which a run of `inspect` ends
+abbrev pub status_of : Inspection → Status
+status_of end.Done = exit.Ok
+status_of end.NotAJournal = exit.NotAJournal
+status_of end.NoMemory = exit.NoMemory
+status_of end.WriteFault = exit.WriteFault
+status_of end.DiskFault = exit.DiskFault
+status_of end.HostFault = exit.HostFault

@@ -2,3 +2,4 @@ pub mod Codes
 pub mod Ran
 pub mod Reading
 pub mod Refusing
+pub mod Runs

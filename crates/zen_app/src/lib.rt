@@ -2,6 +2,7 @@
 #![tactic(auto)]
 
 pub mod input;
+pub mod replaying;
 pub mod running;
 pub mod status;
 #[cfg(test)]

@@ -1,74 +1,65 @@
 ghost use Rattle.std.specs.Prelude.{◌≡◌, map, string_bytes};
-ghost use Rattle.schedule_text.specs.Printed.{bad_line};
-ghost use Rattle.zen_app.specs.Ran.{is_replay, Ran};
-ghost use Rattle.zen_app.specs.Refusing.{Refusal};
+ghost use Rattle.journal_inspection.specs.Inspects.{HostView};
+ghost use Rattle.zen_app.specs.Codes.{status_of};
+ghost use Rattle.zen_app.specs.Ran.{Ran};
+ghost use Rattle.zen_app.specs.Runs.{UsageRun};
 
 use crate::Status;
-use crate::input::{InputError, read_input};
-use schedule_replay::{ReplayError, replay};
-use schedule_text::{BadSchedule, ReadError, Text, read_schedule};
+use crate::replaying::run_replay;
+use command_line::{ProgramCommand, WordsError, read_words};
+use journal_inspection::{Inspection, inspect};
 use std::alloc::Global;
-use zen_link::{Host, Sink, write_all};
+use zen_host::Host;
+use zen_link::{Sink, write_all};
 
-fn is_command(words: &[String]) -> bool
-    ensures { result ≡ is_replay (map (λ w. string_bytes w) words.now) }
+fn status_after(end: Inspection) -> Status
+    ensures { result ≡ status_of end }
 {
-    match words {
-        [a, b, c] => a.as_str() == "replay" && b.as_str() == "--level" && c.as_str() == "core",
-        _ => false,
+    match end {
+        Inspection::Done => Status::Ok,
+        Inspection::NotAJournal => Status::NotAJournal,
+        Inspection::NoMemory => Status::NoMemory,
+        Inspection::WriteFault => Status::WriteFault,
+        Inspection::DiskFault => Status::DiskFault,
+        Inspection::HostFault => Status::HostFault,
     }
 }
 
-/// Runs the program: `words` are those after its name, and the one command is `replay --level core`, which reads a schedule
-/// and writes its trace. The clause of the status says what was written and of which history it tells.
+fn refuse_words<S: Sink>(out: &mut S) -> Status
+    ensures { UsageRun (S.written out.old) (S.written out.new) (S.faults out.old) (S.faults out.new) result }
+{
+    let Ok(()) = write_all(out, "zen: usage\n".as_bytes()) else {
+        return Status::WriteFault;
+    };
+    Status::Usage
+}
+
+/// Runs the program: `words` are those after its name. `replay --level core` reads a schedule and writes its trace.
+/// `inspect --dir D` opens the journal in a folder and writes what it keeps. The clause says what each status tells.
 pub fn run<H: Host>(
     alloc: Global,
     words: &[String],
     input: &mut H::In,
     out: &mut H::Out,
-    _host: &mut H,
+    host: &mut H,
 ) -> Status
-    ensures { Ran
+    ensures { Ran H.Disk.told H.Disk.seen H.Disk.may_leave H.Disk.faults
         (map (λ w. string_bytes w) words.now)
         (record { left = H.In.left input.old; faults = H.In.faults input.old })
         (record { left = H.In.left input.new; faults = H.In.faults input.new })
         (record { written = H.Out.written out.old; faults = H.Out.faults out.old })
         (record { written = H.Out.written out.new; faults = H.Out.faults out.new })
+        (record { calls = H.calls host.old; disk_ready = H.disk_ready host.old; disk_back = H.disk_back host.old; faults = H.faults host.old })
+        (record { calls = H.calls host.new; disk_ready = H.disk_ready host.new; disk_back = H.disk_back host.new; faults = H.faults host.new })
         result }
 {
-    if !is_command(words) {
-        let Ok(()) = write_all(out, "zen: usage\n".as_bytes()) else {
-            return Status::WriteFault;
-        };
-        return Status::Usage;
+    let command = match read_words(alloc, words) {
+        Ok(command) => command,
+        Err(WordsError::Usage) => return refuse_words(out),
+        Err(WordsError::Memory) => return Status::NoMemory,
+    };
+    match &command {
+        ProgramCommand::Replay(level) => run_replay(alloc, *level, input, out),
+        ProgramCommand::Inspect(dir) => status_after(inspect(alloc, dir.as_str(), out, host)),
     }
-    let bytes = match read_input(alloc, input) {
-        Ok(bytes) => bytes,
-        Err(InputError::Read) => return Status::ReadFault,
-        Err(InputError::Memory) => return Status::NoMemory,
-    };
-    let schedule = match read_schedule(alloc, bytes.as_slice()) {
-        Ok(schedule) => schedule,
-        Err(ReadError::Memory) => return Status::NoMemory,
-        Err(ReadError::Bad(bad)) => return refuse(alloc, out, &bad),
-    };
-    match replay(alloc, &schedule, out) {
-        Ok(()) => Status::Ok,
-        Err(ReplayError::Write) => Status::WriteFault,
-        Err(ReplayError::Memory) => Status::NoMemory,
-    }
-}
-
-// Writes which line is bad and why.
-fn refuse<S: Sink>(alloc: Global, out: &mut S, bad: &BadSchedule) -> Status
-    ensures { Refusal (S.written out.old) (S.written out.new) (S.faults out.old) (S.faults out.new) (bad_line bad.now) result }
-{
-    let mut text = Text::new(alloc);
-    let Ok(()) = text.bad_schedule(bad) else {
-        return Status::NoMemory;
-    };
-    let Ok(()) = write_all(out, text.as_bytes()) else {
-        return Status::WriteFault;
-    };
-    Status::BadSchedule
 }

@@ -13,6 +13,12 @@ pub enum Status {
     ReadFault,
     /// The output failed: its count of faults rose.
     WriteFault,
+    /// The disk that the host gave failed: its count of faults rose.
+    DiskFault,
+    /// The host failed: its count of faults rose.
+    HostFault,
+    /// The file in the folder is no journal.
+    NotAJournal,
 }
 
 impl Status {
@@ -30,6 +36,9 @@ impl Status {
             Status::NoMemory => 4,
             Status::ReadFault => 5,
             Status::WriteFault => 6,
+            Status::DiskFault => 7,
+            Status::HostFault => 9,
+            Status::NotAJournal => 10,
         }
     }
 }

@@ -7,28 +7,50 @@ use schedule_text::{Text, read_schedule, write_schedule};
 use std::alloc::{AllocError, Global};
 use std::process::Abort;
 use std::test::Fail;
-use zen_link::{MemHost, MemSink, MemSource};
+use zen_disk::{Disk, MemDisk};
+use zen_host::MemHost;
+use zen_link::{MemSink, MemSource};
 
-// The words of a command line, and the numbers of the reads and writes that fail.
-#[derive(Drop)]
+// A run: its words, what the input and the file of the journal hold, and the numbers of the calls that fail.
+#[derive(Clone, Copy)]
 struct Case<'a> {
     words: &'a [&'a str],
     input: &'a [u8],
+    file: &'a [u8],
     reads: &'a [u64],
     writes: &'a [u64],
+    openings: &'a [u64],
+    device_calls: &'a [u64],
 }
 
-const REPLAY: [&str; 3] = ["replay", "--level", "core"];
+const REPLAY: Case<'static> = Case {
+    words: &["replay", "--level", "core"],
+    input: b"",
+    file: b"",
+    reads: &[],
+    writes: &[],
+    openings: &[],
+    device_calls: &[],
+};
 
-const OTHERS: [&[&str]; 5] = [
-    &["replay", "--level", "none"],
-    &["replay", "--level"],
-    &["replay", "--level=core"],
-    &["replay", "--level", "core", "core"],
-    &[],
-];
+// Each read would fail.
+fn inspection<'a>(file: &'a [u8]) -> Case<'a> {
+    Case {
+        words: &["inspect", "--dir", "a"],
+        file,
+        reads: &[1],
+        ..REPLAY
+    }
+}
 
-fn ran(alloc: Global, case: &Case<'_>) -> Result<(Status, MemSink), AllocError> {
+#[derive(Drop)]
+struct Ended {
+    status: Status,
+    sink: MemSink,
+    host: MemHost<MemDisk>,
+}
+
+fn ran(alloc: Global, case: Case<'_>) -> Result<Ended, AllocError> {
     let mut words = Vec::new(alloc);
     for word in case.words {
         let word = String::from_str(alloc, word)?;
@@ -37,24 +59,15 @@ fn ran(alloc: Global, case: &Case<'_>) -> Result<(Status, MemSink), AllocError> 
     let bytes = Vec::from_slice(alloc, case.input)?;
     let mut source = MemSource::new(bytes, Vec::from_slice(alloc, case.reads)?);
     let mut sink = MemSink::new(alloc, 100, Vec::from_slice(alloc, case.writes)?);
-    let status = run(
-        alloc,
-        words.as_slice(),
-        &mut source,
-        &mut sink,
-        &mut MemHost,
-    );
-    Ok((status, sink))
+    let file = Vec::from_slice(alloc, case.file)?;
+    let disk = MemDisk::new(alloc, file, Vec::from_slice(alloc, case.device_calls)?);
+    let mut host = MemHost::new(alloc, disk, Vec::from_slice(alloc, case.openings)?);
+    let status = run(alloc, words.as_slice(), &mut source, &mut sink, &mut host);
+    Ok(Ended { status, sink, host })
 }
 
-fn replayed(alloc: Global, input: &[u8]) -> Result<(Status, MemSink), AllocError> {
-    let case = Case {
-        words: &REPLAY,
-        input,
-        reads: &[],
-        writes: &[],
-    };
-    ran(alloc, &case)
+fn replayed(alloc: Global, input: &[u8]) -> Result<Ended, AllocError> {
+    ran(alloc, Case { input, ..REPLAY })
 }
 
 // The schedule of a row and its trace.
@@ -81,9 +94,10 @@ fn texts(alloc: Global, lines: &[&str]) -> Result<(Text, Text), AllocError> {
 fn replays_all(rt: &impl Abort, alloc: Global, rows: &[Row]) -> Result<(), Fail> {
     for (name, lines) in rows {
         let (schedule, trace) = texts(alloc, lines)?;
-        let (status, sink) = replayed(alloc, schedule.as_bytes())?;
-        assert!(rt; status == Status::Ok, "{name}");
-        assert!(rt; sink.as_bytes() == trace.as_bytes(), "{name}");
+        let ended = replayed(alloc, schedule.as_bytes())?;
+        assert!(rt; ended.status == Status::Ok, "{name}");
+        assert!(rt; ended.sink.as_bytes() == trace.as_bytes(), "{name}");
+        assert!(rt; ended.host.asked().is_empty(), "{name}");
     }
     Ok(())
 }
@@ -206,9 +220,9 @@ fn what_a_struck_device_call_leaves_is_found_again(rt: HostRuntime) -> Result<()
         for call in 1..=12 {
             let schedule = struck_schedule(rt.alloc(), strike, call)?;
             let end = struck_end(rt.alloc(), strike, call)?;
-            let (status, sink) = replayed(rt.alloc(), schedule.as_bytes())?;
-            assert!(rt; status == Status::Ok, "{call}");
-            assert!(rt; sink.as_bytes().ends_with(end.as_bytes()), "{call}");
+            let ended = replayed(rt.alloc(), schedule.as_bytes())?;
+            assert!(rt; ended.status == Status::Ok, "{call}");
+            assert!(rt; ended.sink.as_bytes().ends_with(end.as_bytes()), "{call}");
         }
     }
     Ok(())
@@ -251,25 +265,46 @@ fn the_first_bad_line_and_its_reason_are_written(rt: HostRuntime) -> Result<(), 
             "zen: bad schedule at line 3: List\n",
         ),
     ] {
-        let (status, sink) = replayed(rt.alloc(), schedule.as_bytes())?;
-        assert!(rt; status == Status::BadSchedule, "{schedule}");
-        assert!(rt; sink.as_bytes() == line.as_bytes(), "{schedule}");
+        let ended = replayed(rt.alloc(), schedule.as_bytes())?;
+        assert!(rt; ended.status == Status::BadSchedule, "{schedule}");
+        assert!(rt; ended.sink.as_bytes() == line.as_bytes(), "{schedule}");
+    }
+    Ok(())
+}
+
+const OTHERS: [&[&str]; 7] = [
+    &["replay", "--level", "none"],
+    &["replay", "--level"],
+    &["replay", "--level", "core", "core"],
+    &["replay", "--level", "core", "--level=core"],
+    &["inspect"],
+    &["inspect", "--dir", "a", "--"],
+    &[],
+];
+
+#[test]
+fn other_words_are_a_usage_and_nothing_is_read_or_opened(rt: HostRuntime) -> Result<(), Fail> {
+    for words in OTHERS {
+        let case = Case {
+            words,
+            reads: &[1],
+            ..REPLAY
+        };
+        let ended = ran(rt.alloc(), case)?;
+        assert!(rt; ended.status == Status::Usage && ended.host.asked().is_empty());
+        assert!(rt; ended.sink.as_bytes() == b"zen: usage\n".as_slice());
     }
     Ok(())
 }
 
 #[test]
-fn other_words_are_a_usage_and_nothing_is_read(rt: HostRuntime) -> Result<(), Fail> {
-    for words in OTHERS {
-        let case = Case {
-            words,
-            input: b"nodes",
-            reads: &[1],
-            writes: &[],
-        };
-        let (status, sink) = ran(rt.alloc(), &case)?;
-        assert!(rt; status == Status::Usage);
-        assert!(rt; sink.as_bytes() == b"zen: usage\n".as_slice());
+fn an_option_may_stand_in_one_word_with_its_value(rt: HostRuntime) -> Result<(), Fail> {
+    for words in [
+        ["replay", "--level=core"].as_slice(),
+        ["inspect", "--dir=a"].as_slice(),
+    ] {
+        let ended = ran(rt.alloc(), Case { words, ..REPLAY })?;
+        assert!(rt; ended.status == Status::Ok);
     }
     Ok(())
 }
@@ -278,24 +313,24 @@ fn other_words_are_a_usage_and_nothing_is_read(rt: HostRuntime) -> Result<(), Fa
 fn a_fault_of_the_input_or_output_ends_the_run(rt: HostRuntime) -> Result<(), Fail> {
     let (_, lines) = RULES[0];
     let (schedule, trace) = texts(rt.alloc(), lines)?;
-    let read = Case {
-        words: &REPLAY,
+    let whole = Case {
         input: schedule.as_bytes(),
-        reads: &[2],
-        writes: &[],
+        ..REPLAY
     };
-    let (status, sink) = ran(rt.alloc(), &read)?;
-    assert!(rt; status == Status::ReadFault && sink.as_bytes().is_empty());
+    let reads = Case {
+        reads: &[2],
+        ..whole
+    };
+    let ended = ran(rt.alloc(), reads)?;
+    assert!(rt; ended.status == Status::ReadFault && ended.sink.as_bytes().is_empty());
     for write in [1, 3] {
-        let case = Case {
-            words: &REPLAY,
-            input: schedule.as_bytes(),
-            reads: &[],
+        let writes = Case {
             writes: &[write],
+            ..whole
         };
-        let (status, sink) = ran(rt.alloc(), &case)?;
-        assert!(rt; status == Status::WriteFault && status.code() == 6);
-        assert!(rt; trace.as_bytes().starts_with(sink.as_bytes()));
+        let ended = ran(rt.alloc(), writes)?;
+        assert!(rt; ended.status == Status::WriteFault && ended.status.code() == 6);
+        assert!(rt; trace.as_bytes().starts_with(ended.sink.as_bytes()));
     }
     Ok(())
 }
@@ -330,10 +365,125 @@ fn random_schedules_replay_as_by_the_second_replay(rt: HostRuntime) -> Result<()
             let again = write_schedule(rt.alloc(), &read)?;
             assert!(rt; again.as_bytes() == text.as_bytes(), "{seed}");
         }
-        let (status, sink) = replayed(rt.alloc(), text.as_bytes())?;
-        assert!(rt; status == Status::Ok, "{seed}");
-        assert_eq!(rt; sink.as_bytes().len(), length, "{seed}");
-        assert_eq!(rt; fnv(sink.as_bytes()), digest, "{seed}");
+        let ended = replayed(rt.alloc(), text.as_bytes())?;
+        assert!(rt; ended.status == Status::Ok, "{seed}");
+        assert_eq!(rt; ended.sink.as_bytes().len(), length, "{seed}");
+        assert_eq!(rt; fnv(ended.sink.as_bytes()), digest, "{seed}");
+    }
+    Ok(())
+}
+
+// A journal that has set term 1, and one that has then accepted a state and committed it.
+const TERM_ONE: &[u8] = b"ZENJRNL1\x01\0\0\0\x09\x01\0\0\0\0\0\0\0\x01\0";
+
+const COMMITTED: &[u8] =
+    b"ZENJRNL1\x01\0\0\0\x09\x01\0\0\0\0\0\0\0\x01\x01\0\0\0*\x02\0\0\0\0\0\0\0\x01\0\0\0\0\0\0\0\x01\
+    \x03\x01a\x01b\x01c\x03\x01a\x01b\x01c\0\0\0\0\x01\0\x01v\0\x01x\x01\0\0\0\x01\x03\0";
+
+const SHOWN: [(&[u8], &str); 4] = [
+    (
+        b"",
+        "term=0\naccepted=0/0\nconfig=_\ncommitted=_\nrecords=0\nsha256=015275e61fa0d075",
+    ),
+    (
+        b"ABCDEFGHI",
+        "term=0\naccepted=0/0\nconfig=_\ncommitted=_\nrecords=0\nsha256=015275e61fa0d075",
+    ),
+    (
+        TERM_ONE,
+        "term=1\naccepted=0/0\nconfig=_\ncommitted=_\nrecords=1\nsha256=015275e61fa0d075",
+    ),
+    (
+        COMMITTED,
+        "term=1\naccepted=1/1\nconfig=a,b,c\ncommitted=a,b,c\nrecords=3\nsha256=96ee0e6ffa10d333",
+    ),
+];
+
+#[test]
+fn the_journal_in_a_folder_is_shown(rt: HostRuntime) -> Result<(), Fail> {
+    for (file, lines) in SHOWN {
+        let ended = ran(rt.alloc(), inspection(file))?;
+        assert!(rt; ended.status == Status::Ok, "{lines}");
+        assert!(rt;
+            ended.sink.as_bytes().starts_with(lines.as_bytes()),
+            "{lines}"
+        );
+        assert!(rt; ended.host.asked().len() == 1, "{lines}");
+    }
+    Ok(())
+}
+
+#[test]
+fn an_empty_folder_gets_an_empty_journal(rt: HostRuntime) -> Result<(), Fail> {
+    let ended = ran(rt.alloc(), inspection(b""))?;
+    let Some(mut disk) = ended.host.into_disk_back() else {
+        panic!(rt; "the disk was not given back");
+    };
+    let mut bytes = [1; 9];
+    assert!(rt; disk.len() == Ok(9) && disk.read(0, &mut bytes).is_ok());
+    assert!(rt; bytes == *b"ZENJRNL1\0");
+    Ok(())
+}
+
+const OTHER_FILES: [(&[u8], &str); 5] = [
+    (b"ABCDEFGHIJ", "Header"),
+    (b"ZENJRNL1\x01\0\0\0\xff\0", "Cut(8)"),
+    (b"ZENJRNL1\x01\0\x80\0\x01\0", "Long(8)"),
+    (b"ZENJRNL1\x01\0\0\0\x01\x05\0", "Body(8,Tag)"),
+    (b"ZENJRNL1\x01\0\0\0\x09\x01\0\0\0\0\0\0\0\0\0", "Order(8)"),
+];
+
+#[test]
+fn a_file_that_is_no_journal_is_refused_with_its_reason(rt: HostRuntime) -> Result<(), Fail> {
+    for (file, why) in OTHER_FILES {
+        let line = format!(in rt.alloc(); "zen: not a journal: {why}\n")?;
+        let ended = ran(rt.alloc(), inspection(file))?;
+        assert!(rt;
+            ended.status == Status::NotAJournal && ended.status.code() == 10,
+            "{why}"
+        );
+        assert!(rt; ended.sink.as_bytes() == line.as_bytes(), "{why}");
+    }
+    Ok(())
+}
+
+// Opening an empty file makes four device calls, and opening a journal three.
+#[test]
+fn a_fault_of_the_disk_the_host_or_the_output_ends_an_inspection(
+    rt: HostRuntime,
+) -> Result<(), Fail> {
+    for (file, calls) in [(b"".as_slice(), 4), (TERM_ONE, 3)] {
+        for call in 1..=calls {
+            let case = Case {
+                device_calls: &[call],
+                ..inspection(file)
+            };
+            let ended = ran(rt.alloc(), case)?;
+            assert!(rt;
+                ended.status == Status::DiskFault && ended.status.code() == 7,
+                "{call}"
+            );
+            assert!(rt; ended.sink.as_bytes().is_empty(), "{call}");
+        }
+        let later = Case {
+            device_calls: &[calls + 1],
+            ..inspection(file)
+        };
+        assert!(rt; ran(rt.alloc(), later)?.status == Status::Ok, "{calls}");
+    }
+    let opening = Case {
+        openings: &[1],
+        ..inspection(TERM_ONE)
+    };
+    let ended = ran(rt.alloc(), opening)?;
+    assert!(rt; ended.status == Status::HostFault && ended.status.code() == 9);
+    assert!(rt; ended.sink.as_bytes().is_empty());
+    for file in [TERM_ONE, b"ABCDEFGHIJ".as_slice()] {
+        let closed = Case {
+            writes: &[1],
+            ..inspection(file)
+        };
+        assert!(rt; ran(rt.alloc(), closed)?.status == Status::WriteFault);
     }
     Ok(())
 }

@@ -1,5 +1,5 @@
 ghost use Rattle.std.specs.Prelude.{◌≡◌, ◌≤◌, true, [], ◌∷◌, ◌++◌, Some, None, map, OnOk, OnErr};
-ghost use Rattle.std.specs.Option.{ForSome, option_copied};
+ghost use Rattle.std.specs.Option.{ForSome};
 ghost use Rattle.zen_disk.specs.Faults.{Rose};
 ghost use Rattle.zen_host.specs.AskedCalls.{call_of};
 ghost use Rattle.zen_host.specs.HostCalls.{OpensDisk};
@@ -61,10 +61,10 @@ impl<D: Disk + Drop> MemHost<D> {
     }
 
     /// The disk that was given back last.
-    pub fn disk_back(&self) -> Option<&D>
-        ensures { option_copied result ≡ ⟦<MemHost<D> as Host>⟧.disk_back self.now }
+    pub fn into_disk_back(self) -> Option<D>
+        ensures { result ≡ ⟦<MemHost<D> as Host>⟧.disk_back self }
     {
-        self.disk_back.as_ref()
+        self.disk_back
     }
 }
 

@@ -13,8 +13,8 @@ fn a_host_gives_its_disk_and_takes_it_back(rt: HostRuntime) -> Result<(), Fail> 
     };
     assert!(rt; disk.len() == Ok(2));
     host.close_disk(disk);
-    assert!(rt; host.disk_back().is_some());
     assert!(rt; host.asked().len() == 2);
     assert!(rt; matches!(host.open_disk("b"), Err(HostError::Failed)));
+    assert!(rt; host.into_disk_back().is_some());
     Ok(())
 }

@@ -1,33 +1,13 @@
-use Rattle.std.proofs.Common.{refl, arith}
-use Rattle.zen_app.proofs.Endings.{spells_fits, wrote_nothing, read_failed, no_memory, succeeded, cut_short, out_of_memory, bad}
+use Rattle.std.proofs.Common.{◌∙◌, ap, Some}
+use Rattle.command_line.specs.declared.command.ProgramCommand.{ProgramCommand}
+use Rattle.zen_app.proofs.RunEnds.{ran_without_memory, ran_inspect}
 use Rattle.zen_app.proofs.running.run.Goals as goal
 
-pub replay-requires : goal.replay-requires
-replay-requires g c = record { fits = spells_fits _ _ c.in-Ok-read_schedule.ensures.found }
-
-pub returns-in-Err-Read : goal.returns-in-Err-Read
-returns-in-Err-Read g c =
-    read_failed _ _ _ _ _ (cc) c.read_input.ensures.at_most c.read_input.ensures.later (omega arith) (wrote_nothing _) ((rw c.in-Err-Read.field-0-is at c.in-Err-Read.ensures.fault) refl)
-
 pub returns-in-Err-Memory : goal.returns-in-Err-Memory
-returns-in-Err-Memory g c = no_memory _ _ _ _ _ (cc) c.read_input.ensures.at_most c.read_input.ensures.later (omega arith) (wrote_nothing _)
-
-pub returns-in-Err-Memory-read_schedule : goal.returns-in-Err-Memory-read_schedule
-returns-in-Err-Memory-read_schedule g c = no_memory _ _ _ _ _ (cc) c.read_input.ensures.at_most c.read_input.ensures.later (omega arith) (wrote_nothing _)
-
-pub returns-in-Ok-replay : goal.returns-in-Ok-replay
-returns-in-Ok-replay g c =
-    succeeded _ _ _ _ _ (cc) c.read_input.ensures.at_most c.read_input.ensures.later c.replay.ensures.later c.as_slice.result.now (rw c.as_slice.ensures.value c.in-Ok-read_input.ensures.read) _ c.in-Ok-read_schedule.ensures.found c.in-Ok-replay.ensures.written
-
-pub returns-in-Err-Write : goal.returns-in-Err-Write
-returns-in-Err-Write g c =
-    cut_short _ _ _ _ _ (cc) c.read_input.ensures.at_most c.read_input.ensures.later c.replay.ensures.later c.as_slice.result.now (rw c.as_slice.ensures.value c.in-Ok-read_input.ensures.read) _ c.in-Ok-read_schedule.ensures.found c.in-Err-Write.ensures.written ((rw c.in-Err-Write.field-0-is at c.in-Err-Write.ensures.fault) refl)
+returns-in-Err-Memory g c = ran_without_memory _ _ _ _ _ _ _ _
 
 pub returns : goal.returns
 returns g c =
-    out_of_memory _ _ _ _ _ (cc) c.read_input.ensures.at_most c.read_input.ensures.later c.replay.ensures.later c.as_slice.result.now (rw c.as_slice.ensures.value c.in-Ok-read_input.ensures.read) _ c.in-Ok-read_schedule.ensures.found c.in-Err-Memory-replay.ensures.written
-
-pub returns-in-Err-Bad : goal.returns-in-Err-Bad
-returns-in-Err-Bad g c =
-    bad _ _ _ _ _ (cc) c.read_input.ensures.at_most c.read_input.ensures.later c.refuse.ensures.later c.as_slice.result.now (rw c.as_slice.ensures.value c.in-Ok-read_input.ensures.read) c.refuse.result c.in-Err-Bad.bad
-    (rw c.in-Err-Bad.field-0-is at c.in-Err-Bad.ensures.fault) (λ s spelled. let other = (rw c.in-Err-Bad.field-0-is at c.in-Err-Bad.ensures.only) s spelled in cc) c.refuse.ensures
+    let is = c.in-Ok.ensures ∙ ap (λ (x : ProgramCommand). Some x) c.in-Inspect.is in
+    ran_inspect _ _ _ _ _ _ _ _ _ _ _ c.in-Inspect.dir c.inspect.result is c.status_after.ensures
+    ((rw c.as_str.ensures at c.inspect.ensures.asked)) c.inspect.ensures.ended c.inspect.ensures.complete c.inspect.ensures.wrote_later c.inspect.ensures.later

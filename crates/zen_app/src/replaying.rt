@@ -1,0 +1,71 @@
+ghost use Rattle.std.specs.Prelude.{◌≡◌};
+ghost use Rattle.schedule_text.specs.Printed.{bad_line};
+ghost use Rattle.zen_app.specs.Refusing.{Refusal};
+ghost use Rattle.zen_app.specs.Runs.{ReplayEnded};
+
+use crate::Status;
+use crate::input::{InputError, read_input};
+use command_line::Level;
+use schedule_replay::{ReplayError, replay};
+use schedule_text::{BadSchedule, ReadError, Text, read_schedule};
+use std::alloc::Global;
+use zen_link::{Sink, Source, write_all};
+
+// Reads a schedule of acts of the core and writes its trace.
+fn replay_core<I: Source, S: Sink>(alloc: Global, input: &mut I, out: &mut S) -> Status
+    ensures { ReplayEnded Level.Core
+        (record { left = I.left input.old; faults = I.faults input.old })
+        (record { left = I.left input.new; faults = I.faults input.new })
+        (record { written = S.written out.old; faults = S.faults out.old })
+        (record { written = S.written out.new; faults = S.faults out.new })
+        result }
+{
+    let bytes = match read_input(alloc, input) {
+        Ok(bytes) => bytes,
+        Err(InputError::Read) => return Status::ReadFault,
+        Err(InputError::Memory) => return Status::NoMemory,
+    };
+    let schedule = match read_schedule(alloc, bytes.as_slice()) {
+        Ok(schedule) => schedule,
+        Err(ReadError::Memory) => return Status::NoMemory,
+        Err(ReadError::Bad(bad)) => return refuse(alloc, out, &bad),
+    };
+    match replay(alloc, &schedule, out) {
+        Ok(()) => Status::Ok,
+        Err(ReplayError::Write) => Status::WriteFault,
+        Err(ReplayError::Memory) => Status::NoMemory,
+    }
+}
+
+/// Reads a schedule at this level and writes its trace.
+pub fn run_replay<I: Source, S: Sink>(
+    alloc: Global,
+    level: Level,
+    input: &mut I,
+    out: &mut S,
+) -> Status
+    ensures { ReplayEnded level
+        (record { left = I.left input.old; faults = I.faults input.old })
+        (record { left = I.left input.new; faults = I.faults input.new })
+        (record { written = S.written out.old; faults = S.faults out.old })
+        (record { written = S.written out.new; faults = S.faults out.new })
+        result }
+{
+    match level {
+        Level::Core => replay_core(alloc, input, out),
+    }
+}
+
+// Writes which line is bad and why.
+fn refuse<S: Sink>(alloc: Global, out: &mut S, bad: &BadSchedule) -> Status
+    ensures { Refusal (S.written out.old) (S.written out.new) (S.faults out.old) (S.faults out.new) (bad_line bad.now) result }
+{
+    let mut text = Text::new(alloc);
+    let Ok(()) = text.bad_schedule(bad) else {
+        return Status::NoMemory;
+    };
+    let Ok(()) = write_all(out, text.as_bytes()) else {
+        return Status::WriteFault;
+    };
+    Status::BadSchedule
+}
