@@ -1,3 +1,4 @@
 pub mod Endings
 pub mod Inputs
 pub mod RunEnds
+pub mod Spelled

@@ -1,8 +1,7 @@
 -- How a run of the program ends, by its command.
 use Rattle.std.proofs.Common.{◌≡◌, ℕ, ◌≤◌, Option, None, Some, List, refl, sym, ◌∙◌, subst, arith, inl, inr}
 use Rattle.zen_disk.specs.Faults.{Rose}
-use Rattle.command_line.specs.declared.command.Level.{Level}
-use Rattle.command_line.specs.declared.command.Level.TheVariants.{Core}
+use Rattle.schedule_text.specs.declared.level.Level.{Level}
 use Rattle.command_line.specs.declared.command.ProgramCommand.{ProgramCommand}
 use Rattle.command_line.specs.declared.command.ProgramCommand.TheVariants.{Replay, Inspect}
 use Rattle.command_line.specs.Commands.{command_of}
@@ -31,7 +30,7 @@ no_read_fault end.DiskFault h = absurd cc
 no_read_fault end.HostFault h = absurd cc
 
 no_replay : (level : Level) (source : SourceView) (sink : SinkView) → ReplayRun level source source sink sink exit.NoMemory
-no_replay Core source sink = (no_memory source source sink sink (none_taken source.left) (omega arith) (omega arith) (wrote_nothing sink.written)).run
+no_replay level source sink = (no_memory level source source sink sink (none_taken source.left) (omega arith) (omega arith) (wrote_nothing sink.written)).run
 
 module _ {D : Type 0} (told : Type 0) (seen : D → List ℕ) (may_leave : D → List ℕ → Type 0) (count : D → ℕ) where
   write_rose : (host host_now : HostView D) (was now : Option (List ℕ)) (wrote wrote_now : ℕ) (e : Inspection) → EndsWith told seen may_leave count host host_now was now wrote wrote_now e → status_of e ≡ exit.WriteFault → Rose wrote wrote_now

@@ -2,21 +2,13 @@
 use Rattle.std.specs.Prelude.{◌≡◌, ℕ, ◌≤◌, ◌⊎◌, Option, None, Some, List, [], codes}
 use Rattle.zen_disk.specs.Faults.{Rose}
 use Rattle.zen_link.specs.Streams.{Appended, AppendedFront}
-use Rattle.world_model.specs.Histories.{IsLegal}
-use Rattle.world_model.specs.Safety.{IsSafe}
 use Rattle.schedule_text.specs.declared.fault.BadSchedule.{BadSchedule}
+use Rattle.schedule_text.specs.declared.level.Level.{Level}
 use Rattle.schedule_text.specs.declared.schedule.Schedule.{Schedule}
 use Rattle.schedule_text.specs.Spelled.{Spells}
 use Rattle.schedule_text.specs.Reading.{fault_of}
 use Rattle.schedule_text.specs.FirstBad.{IsFirstBad}
 use Rattle.schedule_text.specs.Printed.{bad_line}
-use Rattle.schedule_replay.specs.Replayed.{replayed}
-use Rattle.schedule_replay.specs.Showing.{Shows, Agrees}
-use Rattle.schedule_replay.specs.Trace.{trace}
-use Rattle.schedule_replay.specs.TraceLaws.{Tells}
-use Rattle.schedule_replay.specs.TraceSteps.{steps}
-use Rattle.command_line.specs.declared.command.Level.{Level}
-use Rattle.command_line.specs.declared.command.Level.TheVariants.{Core}
 use Rattle.command_line.specs.declared.command.ProgramCommand.{ProgramCommand}
 use Rattle.command_line.specs.declared.command.ProgramCommand.TheVariants.{Replay, Inspect}
 use Rattle.command_line.specs.Commands.{command_of}
@@ -24,6 +16,7 @@ use Rattle.journal_inspection.specs.declared.inspecting.Inspection.{Inspection}
 use Rattle.journal_inspection.specs.Inspects.{HostView, Asked, EndsWith, IsComplete}
 use Rattle.zen_app.specs.Codes.{status_of}
 use Rattle.zen_app.specs.Reading.{most_read, read_of, unread_of, ReadsAtMost}
+use Rattle.zen_app.specs.SafeTrace.{trace_of, IsSafeTraceAt}
 use Rattle.zen_app.specs.declared.status.Status.{Status}
 use Rattle.zen_app.specs.declared.status.Status.TheVariants as exit
 
@@ -42,66 +35,54 @@ usage_line = codes "zen: usage\n"
 
 -- ---- what was written
 
--- The trace of the schedule tells a legal history, and that very history is safe: no term has two winners, committed states of one version are
--- equal, each descends from every earlier committed one, and no node forgets what it answered for.
-pub record IsSafeTrace (s : Schedule) : Type 0 where
-  pub legal : IsLegal s.initial (replayed s)
-  pub safe : IsSafe s.initial (replayed s)
-  -- the trace is the text of its steps, and this history is read off these steps
-  pub tells : Tells s (steps s)
-  -- the `won` lines are the wins of this history, and the `committed` lines show the states committed in it
-  pub shows : Shows (replayed s) (steps s)
-  -- no two `won` lines of one term name two nodes, and no two `committed` lines of one version differ
-  pub agrees : Agrees (steps s)
-
--- the bytes are a schedule, and its whole trace was written and nothing else
-pub record Replayed (bytes : List ℕ) (was now : Option (List ℕ)) : Type 0 where
+-- the bytes are a schedule of this level, and its whole trace was written and nothing else
+pub record Replayed (level : Level) (bytes : List ℕ) (was now : Option (List ℕ)) : Type 0 where
   pub schedule : Schedule
-  pub spelled : Spells bytes schedule
-  pub written : Appended was now (trace schedule)
-  pub safe_trace : IsSafeTrace schedule
+  pub spelled : Spells level bytes schedule
+  pub written : Appended was now (trace_of level schedule)
+  pub safe_trace : IsSafeTraceAt level schedule
 
 -- the same, but only a prefix of the trace was written
-pub record ReplayedPrefix (bytes : List ℕ) (was now : Option (List ℕ)) : Type 0 where
+pub record ReplayedPrefix (level : Level) (bytes : List ℕ) (was now : Option (List ℕ)) : Type 0 where
   pub schedule : Schedule
-  pub spelled : Spells bytes schedule
-  pub written : AppendedFront was now (trace schedule)
-  pub safe_trace : IsSafeTrace schedule
+  pub spelled : Spells level bytes schedule
+  pub written : AppendedFront was now (trace_of level schedule)
+  pub safe_trace : IsSafeTraceAt level schedule
 
--- What was read of the bytes is no schedule, and which line is bad and why was written: some schedule has the same lines before it, and none has
+-- What was read of the bytes is no schedule of this level, and which line is bad and why was written: some schedule has the same lines before it, and none has
 -- the same lines up to it.
-pub record Refused (bytes : List ℕ) (was now : Option (List ℕ)) : Type 0 where
+pub record Refused (level : Level) (bytes : List ℕ) (was now : Option (List ℕ)) : Type 0 where
   pub bad : BadSchedule
-  pub fault : fault_of (read_of bytes) ≡ Some bad
-  pub first : IsFirstBad bad.line (read_of bytes)
+  pub fault : fault_of level (read_of bytes) ≡ Some bad
+  pub first : IsFirstBad level bad.line (read_of bytes)
   pub written : Appended was now (bad_line bad)
 
 -- the same, but only a prefix of that line was written
-pub record RefusedPrefix (bytes : List ℕ) (was now : Option (List ℕ)) : Type 0 where
+pub record RefusedPrefix (level : Level) (bytes : List ℕ) (was now : Option (List ℕ)) : Type 0 where
   pub bad : BadSchedule
-  pub fault : fault_of (read_of bytes) ≡ Some bad
-  pub first : IsFirstBad bad.line (read_of bytes)
+  pub fault : fault_of level (read_of bytes) ≡ Some bad
+  pub first : IsFirstBad level bad.line (read_of bytes)
   pub written : AppendedFront was now (bad_line bad)
 
 -- ---- how a run ends
 
--- what each status of a replay at level core says, where the input held these bytes
-abbrev pub ReplayEnds : (bytes : List ℕ) → (left_now : Option (List ℕ)) → (was now : Option (List ℕ)) → Status → Type 0
-ReplayEnds bytes left_now was now exit.Ok = (left_now ≡ Some []) × Replayed bytes was now
-ReplayEnds bytes left_now was now exit.BadSchedule = (left_now ≡ Some (unread_of bytes)) × Refused bytes was now
-ReplayEnds bytes left_now was now exit.NoMemory = ReplayedPrefix bytes was now ⊎ Appended was now []
-ReplayEnds bytes left_now was now exit.WriteFault =
-    (left_now ≡ Some (unread_of bytes)) × (ReplayedPrefix bytes was now ⊎ RefusedPrefix bytes was now)
-ReplayEnds bytes left_now was now exit.ReadFault = Appended was now []
-ReplayEnds bytes left_now was now other = ⊥
+-- what each status of a replay at this level says, where the input held these bytes
+abbrev pub ReplayEnds : Level → (bytes : List ℕ) → (left_now : Option (List ℕ)) → (was now : Option (List ℕ)) → Status → Type 0
+ReplayEnds level bytes left_now was now exit.Ok = (left_now ≡ Some []) × Replayed level bytes was now
+ReplayEnds level bytes left_now was now exit.BadSchedule = (left_now ≡ Some (unread_of bytes)) × Refused level bytes was now
+ReplayEnds level bytes left_now was now exit.NoMemory = ReplayedPrefix level bytes was now ⊎ Appended was now []
+ReplayEnds level bytes left_now was now exit.WriteFault =
+    (left_now ≡ Some (unread_of bytes)) × (ReplayedPrefix level bytes was now ⊎ RefusedPrefix level bytes was now)
+ReplayEnds level bytes left_now was now exit.ReadFault = Appended was now []
+ReplayEnds level bytes left_now was now other = ⊥
 
--- how a replay at level core ends, where the input held these bytes
-pub record Replays (bytes : List ℕ) (source source_now : SourceView) (sink sink_now : SinkView) (status : Status) : Type 0 where
-  pub ended : ReplayEnds bytes source_now.left sink.written sink_now.written status
+-- how a replay at this level ends, where the input held these bytes
+pub record Replays (level : Level) (bytes : List ℕ) (source source_now : SourceView) (sink sink_now : SinkView) (status : Status) : Type 0 where
+  pub ended : ReplayEnds level bytes source_now.left sink.written sink_now.written status
   -- whatever the status: of a schedule a prefix of its trace was written, and the history that the trace tells is legal and safe
-  pub traced : (s : Schedule) → Spells bytes s → AppendedFront sink.written sink_now.written (trace s) × IsSafeTrace s
+  pub traced : (s : Schedule) → Spells level bytes s → AppendedFront sink.written sink_now.written (trace_of level s) × IsSafeTraceAt level s
   -- a schedule, with no fault counted, is replayed to the end, unless memory runs out
-  pub complete : (s : Schedule) → Spells bytes s → (Rose source.faults source_now.faults → ⊥) → (Rose sink.faults sink_now.faults → ⊥)
+  pub complete : (s : Schedule) → Spells level bytes s → (Rose source.faults source_now.faults → ⊥) → (Rose sink.faults sink_now.faults → ⊥)
       → (status ≡ exit.Ok) ⊎ (status ≡ exit.NoMemory)
 
 -- the statuses with which no replay ends
@@ -112,15 +93,11 @@ MayEndReplay exit.HostFault = ⊥
 MayEndReplay exit.NotAJournal = ⊥
 MayEndReplay other = Unit {0}
 
--- how a replay at this level ends, where the input held these bytes
-abbrev pub ReplaysAt : Level → (bytes : List ℕ) → (source source_now : SourceView) → (sink sink_now : SinkView) → Status → Type 0
-ReplaysAt Core bytes source source_now sink sink_now status = Replays bytes source source_now sink sink_now status
-
 -- a run of `replay --level`
 pub record ReplayRun (level : Level) (source source_now : SourceView) (sink sink_now : SinkView) (status : Status) : Type 0 where
   pub ends : MayEndReplay status
   -- where the source tells its bytes
-  pub replays : (bytes : List ℕ) → source.left ≡ Some bytes → ReplaysAt level bytes source source_now sink sink_now status
+  pub replays : (bytes : List ℕ) → source.left ≡ Some bytes → Replays level bytes source source_now sink sink_now status
 
 -- a run of `inspect --dir`: what the host was asked, what was written of the disk that it gave, and that a journal is shown where nothing fails
 pub record InspectRun {D : Type 0} (told : Type 0) (seen : D → List ℕ) (may_leave : D → List ℕ → Type 0) (count : D → ℕ) (dir : List ℕ) (host host_now : HostView D) (sink sink_now : SinkView) (status : Status) : Type 0 where

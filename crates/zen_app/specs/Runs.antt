@@ -1,7 +1,7 @@
 -- What the parts of `run` say. Not part of the statement.
 use Rattle.std.specs.Prelude.{◌≡◌, ℕ, ◌≤◌, Option, List}
 use Rattle.zen_disk.specs.Faults.{Rose}
-use Rattle.command_line.specs.declared.command.Level.{Level}
+use Rattle.schedule_text.specs.declared.level.Level.{Level}
 use Rattle.zen_app.specs.Ran.{SourceView, SinkView, ReplayRun, RefusesWords}
 use Rattle.zen_app.specs.Reading.{most_read, ReadsAtMost}
 use Rattle.zen_app.specs.declared.status.Status.{Status}

@@ -1,0 +1,68 @@
+-- The trace of a schedule that is spelled is safe, at each level.
+use Rattle.std.proofs.Common.{◌≡◌, ℕ, ◌≤◌, ◌<◌, List, [], length, refl, ap, arith}
+use Rattle.std.specs.List.{AllByRecursion}
+use Rattle.voting_config.specs.Ids.{IsIdSet}
+use Rattle.agreement.proofs.Laws.{safe_of_legal}
+use Rattle.schedule_text.specs.declared.level.Level.{Level}
+use Rattle.schedule_text.specs.declared.level.Level.TheVariants.{Core, Node}
+use Rattle.schedule_text.specs.declared.schedule.Schedule.{Schedule}
+use Rattle.schedule_text.specs.Limits.{most_bytes}
+use Rattle.schedule_text.specs.Lines.{FitsLine}
+use Rattle.schedule_text.specs.Spelled.{Spells, Nothing, Text}
+use Rattle.schedule_replay.specs.Legal.{IsWellFormed}
+use Rattle.schedule_replay.specs.Replayed.{replayed}
+use Rattle.replay_node.specs.Clusters.{replayed_history}
+use Rattle.replay_node.proofs.IdLists.{none_set, ids_set}
+use Rattle.schedule_replay.proofs.TraceLaws.{tells, shows, agrees}
+use Rattle.schedule_replay.proofs.WorldLegal.{replay_is_legal}
+use Rattle.cluster_replay.proofs.Schedules.{lives_follow, cluster_replay_is_legal, cluster_replies_are_true}
+use Rattle.cluster_replay.proofs.Spelled.{well_formed}
+use Rattle.zen_app.specs.SafeTrace.{IsSafeTrace, IsSafeClusterTrace, IsSafeTraceAt}
+
+pub spells_fits : (level : Level) (bytes : List ℕ) (s : Schedule) → Spells level bytes s → AllByRecursion (FitsLine level s.nodes) s.lines
+spells_fits level _ _ Nothing = tt
+spells_fits level _ _ (Text s is within) = is.lines
+
+pub spells_short : (level : Level) (bytes : List ℕ) (s : Schedule) → Spells level bytes s → length bytes ≤ most_bytes
+spells_short level _ _ Nothing = omega arith
+spells_short level _ _ (Text s is within) = within.bytes
+
+-- ---- level core
+
+spells_named : (bytes : List ℕ) (s : Schedule) → Spells Core bytes s → s.initial ≡ [] → s.lines ≡ []
+spells_named _ _ Nothing e = refl
+spells_named _ _ (Text s is within) e = absurd (none s.initial is.some_initial e)
+  where
+    none : (xs : List (List ℕ)) → 0 < length xs → xs ≡ [] → ⊥
+    none xs some e = let zero_long : length xs ≡ 0 = ap (λ (l : List (List ℕ)). length l) e in omega (arith, some, zero_long)
+
+spells_set : (bytes : List ℕ) (s : Schedule) → Spells Core bytes s → IsIdSet s.initial
+spells_set _ _ Nothing = none_set
+spells_set _ _ (Text s is within) = ids_set s.initial is.initial
+
+spells_well_formed : (bytes : List ℕ) (s : Schedule) → Spells Core bytes s → IsWellFormed s
+spells_well_formed bytes s spelled = record { initial = spells_set bytes s spelled; fit = spells_fits Core bytes s spelled; named = spells_named bytes s spelled }
+
+spells_safe_core : (bytes : List ℕ) (s : Schedule) → Spells Core bytes s → IsSafeTrace s
+spells_safe_core bytes s spelled =
+    let well = spells_well_formed bytes s spelled in
+    let legal = replay_is_legal s well in
+    record { legal = legal; safe = (safe_of_legal s.initial (replayed s) legal).0; tells = tells s; shows = shows s well; agrees = agrees s well }
+
+-- ---- level node
+
+spells_safe_cluster : (bytes : List ℕ) (s : Schedule) → Spells Node bytes s → IsSafeClusterTrace s
+spells_safe_cluster bytes s spelled =
+    let well = well_formed bytes s spelled in
+    let legal = cluster_replay_is_legal s well in
+    record {
+      legal = legal;
+      safe = (safe_of_legal s.initial (replayed_history s) legal).0;
+      nodes = λ n listed. record { life = lives_follow s well n listed; replies = cluster_replies_are_true s well n listed };
+    }
+
+-- ---- each level
+
+pub spells_safe_trace : (level : Level) (bytes : List ℕ) (s : Schedule) → Spells level bytes s → IsSafeTraceAt level s
+spells_safe_trace Core bytes s spelled = spells_safe_core bytes s spelled
+spells_safe_trace Node bytes s spelled = spells_safe_cluster bytes s spelled
