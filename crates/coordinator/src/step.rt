@@ -55,6 +55,18 @@ impl Sealed {
     {
         &self.replies
     }
+
+    /// What the event came to, the frames by ascending receiver, and the replies in order: given up without a copy.
+    pub fn into_parts(self) -> (Entries, Listed<Frame>, Replies)
+        ensures { result ≡ (self.entries, self.sends, self.replies) }
+    {
+        let Sealed {
+            entries,
+            sends,
+            replies,
+        } = self;
+        (entries, sends, replies)
+    }
 }
 
 /// Why an event gave nothing to send.
