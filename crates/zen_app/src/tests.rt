@@ -466,7 +466,7 @@ fn a_fault_of_the_disk_the_host_or_the_output_ends_an_inspection(
             assert!(rt; ended.sink.as_bytes().is_empty(), "{call}");
         }
         let later = Case {
-            device_calls: &[calls + 1],
+            device_calls: &[calls.saturating_add(1)],
             ..inspection(file)
         };
         assert!(rt; ran(rt.alloc(), later)?.status == Status::Ok, "{calls}");
