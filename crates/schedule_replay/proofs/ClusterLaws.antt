@@ -1,8 +1,8 @@
 -- The laws of a schedule of whole nodes.
-use Rattle.std.proofs.Common.{◌≡◌, List, [], sym, ◌∙◌, ap, subst}
+use Rattle.std.proofs.Common.{List, [], sym, ◌∙◌, ap, subst}
 use Rattle.world_model.specs.Histories.{History, NoEntries, sent, IsLegal}
 use Rattle.schedule_text.specs.declared.schedule.Schedule.{Schedule}
-use Rattle.replay_node.specs.Clusters.{Cluster, fresh_cluster, replayed, replayed_history}
+use Rattle.replay_node.specs.Clusters.{fresh_cluster, replayed, replayed_history}
 use Rattle.schedule_replay.specs.Showing.{Shows}
 use Rattle.schedule_replay.specs.Steps.{Step}
 use Rattle.schedule_replay.specs.Told.{numbered, told}

@@ -1,16 +1,15 @@
 -- The trace of a schedule of whole nodes is the text of its steps, and the steps tell its history and its frames.
-use Rattle.std.proofs.Common.{◌≡◌, ℕ, Bool, true, false, Option, None, Some, List, [], ◌∷◌, ◌++◌, length, map, refl, sym, ap, subst, append_assoc, codes, ◌∙◌, if◌then◌else◌}
+use Rattle.std.proofs.Common.{◌≡◌, ℕ, Bool, true, false, Option, None, Some, List, [], ◌∷◌, ◌++◌, length, refl, sym, ap, subst, append_assoc, codes, ◌∙◌, if◌then◌else◌}
 use Rattle.voting_config.specs.Ids.{Id, same}
 use Rattle.cluster_state.specs.declared.state.Kept.{Kept}
 use Rattle.master_tasks.specs.declared.waiting.Outgoing.{Outgoing}
 use Rattle.wire_frames.specs.declared.frame.Frame.{Frame}
-use Rattle.world_model.specs.Acts.{NodeHistory}
-use Rattle.world_model.specs.Histories.{History, NoEntries, node_history}
+use Rattle.world_model.specs.Histories.{History, node_history}
 use Rattle.schedule_text.specs.declared.schedule.Line.{Line}
 use Rattle.schedule_text.specs.declared.schedule.Line.TheVariants as line
 use Rattle.schedule_text.specs.Lines.{line_text}
 use Rattle.trace_text.specs.Trace.{crashed_line, down_line, up_line}
-use Rattle.event_text.specs.Events.{drop_line, drops_text, reply_line, replies_text}
+use Rattle.event_text.specs.Events.{drop_line, reply_line}
 use Rattle.policy_model.specs.declared.settings.Settings.{Settings}
 use Rattle.policy_model.specs.declared.events.Event.{Event}
 use Rattle.policy_model.specs.declared.events.Event.TheVariants.{Start, Tick, Frame as FrameCame, Client as LineCame}
@@ -24,12 +23,11 @@ use Rattle.replay_node.specs.NodeDisk.{CallsEnd, Done, Failed, StoppedIn, openin
 use Rattle.replay_node.specs.NodeWorld.{found_at, needs_opening, opening_text, after_crash}
 use Rattle.replay_node.specs.Worlds.{World, history_opened, node_world, with_node}
 use Rattle.replay_node.specs.Clusters.{Cluster, after, after_event, after_event_if_up, after_frame, after_restart, event_course, frame_at, opened_by, own_world, replayed_from, settings_of, with_opened}
-use Rattle.schedule_replay.specs.Steps.{Step, Echo, WasDown, WasUp, WentDown, Unsent}
+use Rattle.schedule_replay.specs.Steps.{Echo, WasDown, WasUp, WentDown, Unsent}
 use Rattle.schedule_replay.specs.TraceSteps.{opening_step}
 use Rattle.schedule_replay.specs.ClusterTrace.{items_text, event_shown, event_shown_if_up, frame_shown, start_shown, restart_shown, line_shown, trace_from}
-use Rattle.schedule_replay.specs.ClusterSteps.{ClusterStep, Shared, Framed, Dropped, Replied, Misrouted, shared_text}
-use Rattle.schedule_replay.specs.ClusterTold.{numbered_frames}
-use Rattle.schedule_replay.specs.ClusterTraceSteps.{policy_steps, items_steps, event_steps, event_steps_if_up, frame_steps, start_steps, restart_steps, line_steps, steps_from}
+use Rattle.schedule_replay.specs.ClusterSteps.{ClusterStep, Shared, Dropped, Replied, Misrouted, shared_text}
+use Rattle.schedule_replay.specs.ClusterTraceSteps.{items_steps, event_steps, event_steps_if_up, frame_steps, start_steps, restart_steps, line_steps, steps_from}
 use Rattle.schedule_replay.proofs.Right.{opening_right}
 use Rattle.schedule_replay.proofs.Telling.{opening_told, opening_no_line}
 use Rattle.schedule_replay.proofs.ClusterPieces.{Piece, both, nothing, shared, still, stills, frames_sent}
