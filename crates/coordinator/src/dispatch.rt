@@ -9,7 +9,7 @@ ghost use Rattle.policy_model.specs.Follows.{items_of};
 ghost use Rattle.policy_model.specs.Parts.{last_moment};
 ghost use Rattle.policy_model.specs.Rules.{takes_frame, takes_message};
 ghost use Rattle.coordinator.specs.Does.{Does, DoesAll};
-ghost use Rattle.coordinator.specs.Limits.{IsWithin};
+ghost use Rattle.coordinator.specs.Limits.{IsFew, IsWithin};
 ghost use Rattle.coordinator.specs.Kinds.{group_of as group_by, is_other};
 ghost use Rattle.coordinator.specs.Lives.{DoesEvent, Lasts, StandsForLife, Survives};
 ghost use Rattle.coordinator.specs.Steps.{Steps, steps_for, drops_for, frames_for};
@@ -20,7 +20,7 @@ use crate::coordinator::{Coordinator, EventError, Struck};
 use crate::output::Output;
 use crate::step::{Sealed, StepError, new_output, seal};
 use client_lines::Line;
-use policy_model::{Event, law_event_holds_settings};
+use policy_model::{Event, law_event_holds_set, law_event_holds_settings};
 use state_journal::Keeper;
 use std::alloc::Global;
 use voting_config::NodeId;
@@ -366,6 +366,9 @@ impl<K: Keeper> Coordinator<K> {
         // Few steps and replies; and where the node was within the limits, so are its frames, and the node after it.
         ensures within { IfOk result (λ sealed. IsWithin K.Keeper self.old self.new sealed) }
 
+        // At most 94 frames, and fewer but at a tick, where the node's sets were as small as sets in memory are; so they stay.
+        ensures few { IfOk result (λ sealed. IsFew K.Keeper self.old self.new event sealed) }
+
         // After Ok, where the keeper tells, a crash leaves the record of the acts with this event and nothing else.
         ensures durable { IfOk result (λ sealed. Lasts K.Keeper self.old self.new event) }
 
@@ -384,6 +387,7 @@ impl<K: Keeper> Coordinator<K> {
             return Err(StepError::Memory);
         };
         law_event_holds_settings(&event);
+        law_event_holds_set(&event);
         let _ = self.tasks.open_count();
         let ended = self.take_event(&mut output, &event);
         seal(ended, event, output)

@@ -2,7 +2,7 @@ use Rattle.std.proofs.Common.{true≢false, sym, ap, subst, ◌∙◌, arith}
 use Rattle.std.specs.Prelude.{Option}
 use Rattle.cluster_state.specs.declared.state.Kept.{Kept}
 use Rattle.coordinator.proofs.Entering.{event_ready, event_leaves, life_leaves}
-use Rattle.coordinator.proofs.Limiting.{within}
+use Rattle.coordinator.proofs.Limiting.{within, few}
 use Rattle.coordinator.proofs.Sealing.{steps, lasting, sealed_fine, sealed_not_stopped}
 use Rattle.coordinator.proofs.coordinator.Coordinator.step.Goals as goal
 
@@ -38,3 +38,7 @@ returns-clause-durable g c =
 
 pub returns-clause-start : goal.returns-clause-start
 returns-clause-start g c = λ start up. sealed_fine c.take_event-ended.result c.args.event _ c.seal.result c.seal.ensures (c.take_event-ended.ensures.start start)
+
+pub returns-clause-few : goal.returns-clause-few
+returns-clause-few g c =
+    few g.K.Keeper c.take_event-ended.result c.seal.result c.args.self.now c.take_event-ended.new.self c.args.event _ _ c.in-Ok.ensures.shown c.take_event-ended.ensures.does c.seal.ensures c.law_event_holds_set.ensures
