@@ -1,7 +1,14 @@
 pub mod AllSettled
+pub mod Alone
 pub mod AsSaid
+pub mod Carried
 pub mod Crashed
+pub mod FileLeft
 pub mod Found
+pub mod JournalLeft
+pub mod MayAct
+pub mod Moves
+pub mod NodeSound
 pub mod Nodes
 pub mod Opened
 pub mod Reopened
@@ -9,3 +16,4 @@ pub mod SettledLocal
 pub mod Settling
 pub mod StateSteps
 pub mod Struck
+pub mod WorldSound

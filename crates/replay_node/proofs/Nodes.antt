@@ -21,7 +21,8 @@ use Rattle.replay_node.specs.Did.{outcome_of, did_text}
 use Rattle.replay_node.specs.NodeDisk.{MemFuse, MayLeave, Restarted}
 use Rattle.replay_node.specs.NodeWorld.{NodeWorld, after_act, after_crash, outcome_at}
 use Rattle.replay_node.specs.NodeLines.{after_stop, stop_text, DoesLine}
-use Rattle.replay_node.specs.Published.{last_published, state_published}
+use Rattle.trace_text.specs.Published.{last_published}
+use Rattle.replay_node.specs.Published.{state_published}
 use Rattle.replay_node.specs.Sent.{taking}
 use Rattle.replay_node.specs.Settled.{IsUnstruck}
 use Rattle.replay_node.specs.Stands.{Journal, record_of, has_stopped, faults, LeavesActs, OpenStands, DownStands, CrashedStands, SlotStands, NodeStands, NodeDid, NodeDoes}

@@ -32,7 +32,8 @@ use Rattle.replay_node.specs.NodeDisk.{NodeDisk, CallsEnd, Done, Failed, Stopped
 use Rattle.replay_node.specs.NodeWorld.{NodeWorld, fresh_node, after_opening, found_at, needs_opening, opened_by, opening_text}
 use Rattle.replay_node.specs.NodeLines.{after_restart, restart_text, DoesLine}
 use Rattle.replay_node.specs.Opens.{ClosedStands, Opens, StaysDown}
-use Rattle.replay_node.specs.Published.{last_published, state_published}
+use Rattle.trace_text.specs.Published.{last_published}
+use Rattle.replay_node.specs.Published.{state_published}
 use Rattle.replay_node.specs.Settled.{settled, is_kept, IsUnstruck}
 use Rattle.replay_node.specs.Stands.{Journal, record_of, has_stopped, faults, LeavesActs, OpenStands, DownStands, SlotStands, NodeStands}
 use Rattle.replay_node.specs.declared.node.ReplayNode.{ReplayNode}

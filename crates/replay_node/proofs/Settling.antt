@@ -11,7 +11,7 @@ use Rattle.world_model.specs.NodeState.{stopped_of}
 use Rattle.world_model.specs.Histories.{is_opening, is_down}
 use Rattle.replay_node.specs.Settled.{settled, IsUnstruck}
 use Rattle.replay_node.specs.Takes.{TakesFrom}
-use Rattle.replay_node.specs.Published.{published_by, last_published}
+use Rattle.trace_text.specs.Published.{published_by, last_published}
 
 -- one more act
 

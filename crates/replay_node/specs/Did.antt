@@ -12,7 +12,7 @@ use Rattle.trace_text.specs.declared.ending.Ending.{Ending}
 use Rattle.trace_text.specs.declared.ending.Ending.TheVariants as ending
 use Rattle.trace_text.specs.Trace.{won_text, committed_text, committed_line, down_line, message_line, ending_text, results}
 use Rattle.replay_node.specs.NodeWorld.{NodeWorld, outcome_at, after_act}
-use Rattle.replay_node.specs.Published.{last_published}
+use Rattle.trace_text.specs.Published.{last_published}
 use Rattle.replay_node.specs.Sent.{message_of, message_of_some}
 use Rattle.replay_node.specs.declared.message.Publication.{Publication}
 use Rattle.replay_node.specs.declared.message.SentMessage.{SentMessage}

@@ -1,3 +1,5 @@
+pub mod Clusters
+pub mod Course
 pub mod Did
 pub mod NodeDisk
 pub mod NodeLines
@@ -6,6 +8,7 @@ pub mod Opens
 pub mod Published
 pub mod Sent
 pub mod Settled
+pub mod Stands
 pub mod StateDoes
 pub mod Takes
-pub mod Stands
+pub mod Worlds

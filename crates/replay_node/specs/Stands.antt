@@ -23,7 +23,8 @@ use Rattle.trace_text.specs.Trace.{act_text}
 use Rattle.replay_node.specs.Did.{outcome_of, did_text, outcome_unless_down, after_unless_down, act_results}
 use Rattle.replay_node.specs.NodeDisk.{MemFuse, MayLeave, DiskStands}
 use Rattle.replay_node.specs.NodeWorld.{NodeWorld}
-use Rattle.replay_node.specs.Published.{last_published, state_published}
+use Rattle.trace_text.specs.Published.{last_published}
+use Rattle.replay_node.specs.Published.{state_published}
 use Rattle.replay_node.specs.Settled.{settled, shows_as, IsUnstruck}
 use Rattle.replay_node.specs.declared.did.Did.{Did}
 use Rattle.replay_node.specs.declared.node.ReplayNode.{ReplayNode}

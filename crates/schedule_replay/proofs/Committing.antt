@@ -24,7 +24,7 @@ use Rattle.world_model.proofs.System.{IsSystem, IsExecution, CommitBy, origin, t
 use Rattle.world_model.proofs.Commits.{commit_is_value}
 use Rattle.world_model.proofs.Rounds.{ok, other_request}
 use Rattle.world_model.proofs.Legal.{system_of_legal, own_deeds, moment, is_listed, one_of, none_of}
-use Rattle.replay_node.specs.Published.{last_published}
+use Rattle.trace_text.specs.Published.{last_published}
 use Rattle.replay_node.specs.Settled.{settled_for}
 use Rattle.replay_node.proofs.AllSettled.{settled_sent}
 use Rattle.schedule_replay.specs.Steps.{NumberedMessage, ActShown, Step, Echo, Did, Opened, WasDown, WasUp, WentDown, DiskFailed, Unsent}

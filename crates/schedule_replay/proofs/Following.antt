@@ -22,7 +22,8 @@ use Rattle.trace_text.specs.Endings.{ending_of}
 use Rattle.replay_node.specs.NodeDisk.{NodeDisk, CallsEnd, Done, Failed, StoppedIn, opening}
 use Rattle.replay_node.specs.NodeWorld.{act_called, found_at, is_stop, needs_opening, opened_by, outcome_by}
 use Rattle.replay_node.specs.Sent.{taking}
-use Rattle.schedule_replay.specs.Replayed.{World, after, crashed, did, did_unless_down, message_at, node_world, opened, ordered, took_some, value_with}
+use Rattle.replay_node.specs.Worlds.{World, crashed, did, did_unless_down, node_world, opened, ordered}
+use Rattle.schedule_replay.specs.Replayed.{after, message_at, took_some, value_with}
 use Rattle.schedule_replay.specs.LineByLine.{is_crash, down_by, down_from, ShowsAct, ShowsDelivery, ShowsOpening, ShowsRestart, ShowsLine, ShowsLines}
 use Rattle.schedule_replay.specs.TraceSteps.{act_step, act_steps, delivery_steps, opening_step, line_steps, steps_from}
 use Rattle.schedule_replay.specs.Steps.{Step, WasDown, WasUp, WentDown, Unsent}

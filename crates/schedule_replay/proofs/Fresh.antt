@@ -5,7 +5,7 @@ use Rattle.voting_config.specs.Ids.{Id}
 use Rattle.replay_node.specs.NodeWorld.{fresh_node}
 use Rattle.replay_node.specs.Stands.{NodeStands}
 use Rattle.replay_node.specs.declared.node.ReplayNode.{ReplayNode}
-use Rattle.schedule_replay.specs.Replayed.{World, fresh_world, node_world}
+use Rattle.replay_node.specs.Worlds.{World, fresh_world, node_world}
 use Rattle.schedule_replay.specs.WorldStands.{AllStand}
 
 -- there are as many nodes as ids

@@ -2,16 +2,12 @@ pub mod ActShown
 pub mod Along
 pub mod Committing
 pub mod Examples
-pub mod FileLeft
 pub mod FitLines
 pub mod Following
 pub mod Fresh
-pub mod JournalLeft
 pub mod LastPublished
 pub mod Lines
-pub mod MayAct
 pub mod Movement
-pub mod NodeSound
 pub mod Progress
 pub mod Right
 pub mod Room

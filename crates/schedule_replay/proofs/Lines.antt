@@ -21,7 +21,8 @@ use Rattle.replay_node.specs.Takes.{TakesFrom}
 use Rattle.replay_node.specs.declared.did.Did.{Did}
 use Rattle.replay_node.specs.declared.message.SentMessage.{SentMessage}
 use Rattle.replay_node.specs.declared.node.ReplayNode.{ReplayNode}
-use Rattle.schedule_replay.specs.Replayed.{World, after, did_unless_down, message_at, took_some}
+use Rattle.replay_node.specs.Worlds.{World, did_unless_down}
+use Rattle.schedule_replay.specs.Replayed.{after, message_at, took_some}
 use Rattle.schedule_replay.specs.Trace.{delivery_results, line_results, results_of}
 use Rattle.schedule_replay.specs.WorldStands.{ActDone, AllStand, DoesAct, DoesLine, LineDone, Moves, Stands, WritesLine}
 use Rattle.schedule_replay.proofs.WorldSteps.{acted}

@@ -10,7 +10,8 @@ use Rattle.zen_link.specs.Streams.{Appended, AppendedFront, WritesAll}
 use Rattle.zen_link.proofs.Appending.{appended_more, front_after, front_within}
 use Rattle.replay_node.specs.declared.message.SentMessage.{SentMessage}
 use Rattle.replay_node.specs.declared.node.ReplayNode.{ReplayNode}
-use Rattle.schedule_replay.specs.Replayed.{World, after, fresh_world, replayed_from}
+use Rattle.replay_node.specs.Worlds.{World, fresh_world}
+use Rattle.schedule_replay.specs.Replayed.{after, replayed_from}
 use Rattle.schedule_replay.specs.Trace.{trace_from}
 use Rattle.schedule_replay.specs.WorldStands.{WritesLine}
 use Rattle.schedule_replay.specs.SoFar.{SoFar, HoldsBack}

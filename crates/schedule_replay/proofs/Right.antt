@@ -14,8 +14,9 @@ use Rattle.schedule_text.specs.Lines.{FitsLine}
 use Rattle.replay_node.specs.NodeDisk.{CallsEnd, Done, Failed, StoppedIn, opening}
 use Rattle.replay_node.specs.NodeWorld.{act_called, found_at, needs_opening, outcome_at}
 use Rattle.replay_node.specs.Sent.{taking}
-use Rattle.schedule_replay.specs.Replayed.{World, after, fresh_world, message_at, node_world, replayed_from, value_with}
-use Rattle.schedule_replay.proofs.MayAct.{taking_shut}
+use Rattle.replay_node.specs.Worlds.{World, fresh_world, node_world}
+use Rattle.schedule_replay.specs.Replayed.{after, message_at, replayed_from, value_with}
+use Rattle.replay_node.proofs.MayAct.{taking_shut}
 use Rattle.schedule_replay.proofs.WorldLegal.{replay_is_legal}
 use Rattle.schedule_replay.specs.Steps.{Step, WasDown, WasUp, WentDown, Unsent}
 use Rattle.schedule_replay.specs.Told.{told_from}

@@ -13,11 +13,12 @@ use Rattle.schedule_text.specs.declared.schedule.Line.TheVariants as line
 use Rattle.trace_text.specs.Trace.{down_line, up_line, results}
 use Rattle.replay_node.specs.NodeDisk.{CallsEnd, Done, Failed, StoppedIn, opening}
 use Rattle.replay_node.specs.NodeWorld.{act_called, found_at, needs_opening, opening_text, outcome_at}
-use Rattle.replay_node.specs.Published.{last_published}
+use Rattle.trace_text.specs.Published.{last_published}
 use Rattle.replay_node.specs.Sent.{taking}
-use Rattle.schedule_replay.specs.Replayed.{World, after, did, did_unless_down, history_opened, message_at, node_world, opened, replayed_from, took_some, value_with}
+use Rattle.replay_node.specs.Worlds.{World, did, did_unless_down, history_opened, node_world, opened}
+use Rattle.schedule_replay.specs.Replayed.{after, message_at, replayed_from, took_some, value_with}
 use Rattle.schedule_replay.specs.Trace.{trace_from, line_results, results_of, delivery_results}
-use Rattle.schedule_replay.proofs.MayAct.{taking_shut}
+use Rattle.replay_node.proofs.MayAct.{taking_shut}
 use Rattle.schedule_replay.specs.Steps.{Step, Echo, WasDown, WasUp, WentDown, Unsent, step_text, text_of}
 use Rattle.schedule_replay.specs.Told.{told_by, told_from, line_in, lines_of}
 use Rattle.schedule_replay.specs.TraceSteps.{act_step, act_steps, delivery_steps, opening_step, line_steps, steps_from}

@@ -1,7 +1,8 @@
 -- The laws of a schedule.
 use Rattle.std.proofs.Common.{◌≡◌, false, refl, sym, ◌∙◌, ap, subst}
 use Rattle.world_model.specs.Histories.{History, sent, IsLegal}
-use Rattle.schedule_replay.specs.Replayed.{fresh_world, replayed}
+use Rattle.replay_node.specs.Worlds.{fresh_world}
+use Rattle.schedule_replay.specs.Replayed.{replayed}
 use Rattle.schedule_replay.specs.TraceLaws.{LawTraceTells, LawStepsGoOn, LawTraceFollows, LawTraceShows, LawTraceAgrees}
 use Rattle.schedule_replay.specs.TraceSteps.{steps}
 use Rattle.schedule_replay.specs.Showing.{Shows}

@@ -21,7 +21,7 @@ use Rattle.replay_node.specs.Takes.{TakesFrom}
 use Rattle.replay_node.specs.declared.did.Did.{Did}
 use Rattle.replay_node.specs.declared.message.SentMessage.{SentMessage}
 use Rattle.replay_node.specs.declared.node.ReplayNode.{ReplayNode}
-use Rattle.schedule_replay.specs.Replayed.{World, crashed, did, did_unless_down, history_opened, node_world, opened, ordered, restarted}
+use Rattle.replay_node.specs.Worlds.{World, crashed, did, did_unless_down, history_opened, node_world, opened, ordered, restarted}
 use Rattle.schedule_replay.specs.WorldStands.{ActDone, AllStand, Stands}
 use Rattle.replay_node.proofs.AllSettled.{settled_own, settled_other, settled_sent}
 use Rattle.replay_node.proofs.Settling.{settled_takes}

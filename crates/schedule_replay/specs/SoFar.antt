@@ -5,7 +5,8 @@ use Rattle.schedule_text.specs.declared.schedule.Line.{Line}
 use Rattle.zen_link.specs.Streams.{Appended, AppendedFront}
 use Rattle.replay_node.specs.declared.message.SentMessage.{SentMessage}
 use Rattle.replay_node.specs.declared.node.ReplayNode.{ReplayNode}
-use Rattle.schedule_replay.specs.Replayed.{World, replayed_from}
+use Rattle.replay_node.specs.Worlds.{World}
+use Rattle.schedule_replay.specs.Replayed.{replayed_from}
 use Rattle.schedule_replay.specs.Trace.{trace_from}
 use Rattle.schedule_replay.specs.WorldStands.{Stands}
 

@@ -13,7 +13,8 @@ use Rattle.trace_text.specs.Trace.{down_line}
 use Rattle.replay_node.specs.Did.{act_results}
 use Rattle.replay_node.specs.NodeLines.{stop_text, restart_text}
 use Rattle.replay_node.specs.Sent.{taking}
-use Rattle.schedule_replay.specs.Replayed.{World, after, fresh_world, message_at, node_world, value_with}
+use Rattle.replay_node.specs.Worlds.{World, fresh_world, node_world}
+use Rattle.schedule_replay.specs.Replayed.{after, message_at, value_with}
 
 -- what an act of a node writes
 abbrev pub results_of : World → Id → Act → List ℕ

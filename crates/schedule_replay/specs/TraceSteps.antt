@@ -11,9 +11,10 @@ use Rattle.schedule_text.specs.declared.schedule.Line.TheVariants as line
 use Rattle.schedule_text.specs.declared.schedule.Schedule.{Schedule}
 use Rattle.replay_node.specs.NodeDisk.{CallsEnd, Done, Failed, StoppedIn, opening}
 use Rattle.replay_node.specs.NodeWorld.{outcome_at, found_at, needs_opening}
-use Rattle.replay_node.specs.Published.{last_published}
+use Rattle.trace_text.specs.Published.{last_published}
 use Rattle.replay_node.specs.Sent.{taking}
-use Rattle.schedule_replay.specs.Replayed.{World, after, fresh_world, message_at, node_world, value_with}
+use Rattle.replay_node.specs.Worlds.{World, fresh_world, node_world}
+use Rattle.schedule_replay.specs.Replayed.{after, message_at, value_with}
 use Rattle.schedule_replay.specs.Steps.{Step, Echo, Did, Opened, WasDown, WasUp, WentDown, DiskFailed, Unsent}
 use Rattle.schedule_replay.specs.ActShown.{act_shown}
 

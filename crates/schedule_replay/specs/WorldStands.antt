@@ -12,7 +12,8 @@ use Rattle.replay_node.specs.Takes.{TakesFrom}
 use Rattle.replay_node.specs.declared.did.Did.{Did}
 use Rattle.replay_node.specs.declared.message.SentMessage.{SentMessage}
 use Rattle.replay_node.specs.declared.node.ReplayNode.{ReplayNode}
-use Rattle.schedule_replay.specs.Replayed.{World, after, did_unless_down, node_world}
+use Rattle.replay_node.specs.Worlds.{World, did_unless_down, node_world}
+use Rattle.schedule_replay.specs.Replayed.{after}
 use Rattle.schedule_replay.specs.Trace.{trace_line}
 
 -- each node stands for what it did, and the nodes are these

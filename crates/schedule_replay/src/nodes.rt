@@ -5,7 +5,7 @@ ghost use Rattle.world_model.specs.declared.acts.Act.TheVariants as act;
 ghost use Rattle.replay_node.specs.NodeLines.{restart_text, stop_text};
 ghost use Rattle.replay_node.specs.Sent.{message_of, source_of, taking};
 ghost use Rattle.replay_node.specs.declared.message.SentMessage.{SentMessage as Message};
-ghost use Rattle.schedule_replay.specs.Replayed.{World, crashed, node_world, ordered, restarted};
+ghost use Rattle.replay_node.specs.Worlds.{World, crashed, node_world, ordered, restarted};
 ghost use Rattle.schedule_replay.specs.WorldStands.{AllStand, DoesAct, Moves, Stands};
 
 use cluster_state::ClusterValue;

@@ -7,7 +7,8 @@ ghost use Rattle.schedule_text.specs.Lines.{FitsLine};
 ghost use Rattle.replay_node.specs.Did.{did_text, outcome_of};
 ghost use Rattle.replay_node.specs.NodeLines.{restart_text, stop_text};
 ghost use Rattle.replay_node.specs.Sent.{message_of, some_message, source_of, taking, sent_some};
-ghost use Rattle.schedule_replay.specs.Replayed.{World, crashed, did_unless_down, fresh_world, message_at, node_world, ordered, restarted, took_some, value_with};
+ghost use Rattle.replay_node.specs.Worlds.{World, crashed, did_unless_down, fresh_world, node_world, ordered, restarted};
+ghost use Rattle.schedule_replay.specs.Replayed.{message_at, took_some, value_with};
 ghost use Rattle.schedule_replay.specs.Trace.{delivery_results, results_of};
 ghost use Rattle.schedule_replay.specs.WorldStands.{AllStand, Stands, DoesLine, WritesLine};
 

@@ -1,4 +1,5 @@
-use Rattle.schedule_replay.proofs.Movement.{line_at_ok, moves_crashed}
+use Rattle.replay_node.proofs.Moves.{moves_crashed}
+use Rattle.schedule_replay.proofs.Movement.{line_at_ok}
 use Rattle.replay_node.specs.NodeLines.{after_stop, stop_text}
 use Rattle.schedule_replay.proofs.nodes.crash.Goals as goal
 

@@ -1,5 +1,5 @@
 use Rattle.std.proofs.Common.{subst, sym}
-use Rattle.schedule_replay.specs.Replayed.{node_world}
+use Rattle.replay_node.specs.Worlds.{node_world}
 use Rattle.replay_node.specs.Stands.{NodeStands}
 use Rattle.replay_node.specs.declared.node.ReplayNode.{ReplayNode}
 use Rattle.schedule_replay.proofs.Movement.{here}

@@ -1,6 +1,7 @@
-use Rattle.schedule_replay.proofs.Movement.{here, line_at_ok, moves_restarted}
+use Rattle.replay_node.proofs.Moves.{moves_restarted}
+use Rattle.schedule_replay.proofs.Movement.{here, line_at_ok}
 use Rattle.replay_node.specs.NodeLines.{after_restart, restart_text}
-use Rattle.schedule_replay.specs.Replayed.{node_world}
+use Rattle.replay_node.specs.Worlds.{node_world}
 use Rattle.schedule_replay.proofs.nodes.restart.Goals as goal
 
 pub restart-requires : goal.restart-requires

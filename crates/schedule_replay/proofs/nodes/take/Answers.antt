@@ -1,7 +1,7 @@
 use Rattle.std.proofs.Common.{◌≡◌, ℕ, List, Some, true, slice_get, get_or}
 use Rattle.voting_config.specs.Ids.{Id, has}
 use Rattle.world_model.specs.declared.acts.Message.{Message}
-use Rattle.schedule_replay.specs.Replayed.{World, node_world}
+use Rattle.replay_node.specs.Worlds.{World, node_world}
 use Rattle.replay_node.specs.Sent.{source_of}
 use Rattle.replay_node.specs.Stands.{HasRoom}
 use Rattle.schedule_replay.specs.WorldStands.{Stands}

@@ -1,5 +1,5 @@
 use Rattle.std.proofs.Common.{take}
-use Rattle.schedule_replay.specs.Replayed.{fresh_world}
+use Rattle.replay_node.specs.Worlds.{fresh_world}
 use Rattle.schedule_replay.specs.WorldStands.{AllStand}
 use Rattle.schedule_replay.proofs.replayer.fresh_nodes.Given as goal
 

@@ -2,7 +2,8 @@ use Rattle.std.proofs.Common.{◌≡◌, ◌∙◌, ap, subst, IfSome}
 use Rattle.std.specs.Prelude.{Option}
 use Rattle.world_model.specs.declared.acts.Act.TheVariants.{Value}
 use Rattle.world_model.specs.declared.acts.Outcome.{Outcome}
-use Rattle.replay_node.specs.Published.{published_by, state_published}
+use Rattle.trace_text.specs.Published.{published_by}
+use Rattle.replay_node.specs.Published.{state_published}
 use Rattle.replay_node.specs.StateDoes.{Closes}
 use Rattle.replay_node.specs.declared.node.Slot.{Slot}
 use Rattle.replay_node.proofs.Nodes.{Publishes, open_does}

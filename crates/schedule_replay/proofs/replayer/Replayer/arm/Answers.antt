@@ -1,5 +1,5 @@
 use Rattle.std.proofs.Common.{refl, sym, [], append-nil}
-use Rattle.schedule_replay.specs.Replayed.{ordered}
+use Rattle.replay_node.specs.Worlds.{ordered}
 use Rattle.schedule_replay.proofs.Fresh.{many_lent}
 use Rattle.schedule_replay.proofs.Lines.{moved}
 use Rattle.schedule_replay.proofs.WorldSteps.{armed}

@@ -1,6 +1,6 @@
 use Rattle.std.proofs.Common.{refl}
 use Rattle.replay_node.specs.NodeLines.{stop_text}
-use Rattle.schedule_replay.specs.Replayed.{crashed, node_world}
+use Rattle.replay_node.specs.Worlds.{crashed, node_world}
 use Rattle.schedule_replay.proofs.Fresh.{many_lent}
 use Rattle.schedule_replay.proofs.Lines.{moved, on_ok}
 use Rattle.schedule_replay.proofs.WorldSteps.{stopped}

@@ -1,6 +1,6 @@
 use Rattle.std.proofs.Common.{refl, sym, subst, List}
 use Rattle.replay_node.specs.NodeLines.{restart_text}
-use Rattle.schedule_replay.specs.Replayed.{restarted, node_world}
+use Rattle.replay_node.specs.Worlds.{restarted, node_world}
 use Rattle.schedule_replay.specs.WorldStands.{AllStand}
 use Rattle.replay_node.specs.declared.node.ReplayNode.{ReplayNode}
 use Rattle.schedule_replay.proofs.Fresh.{many_lent}

@@ -44,8 +44,8 @@ use Rattle.replay_node.proofs.Reopened.{IsFound}
 use Rattle.replay_node.proofs.SettledLocal.{stopped_reply}
 use Rattle.replay_node.proofs.Settling.{settled_then, unstruck, unstruck_then}
 use Rattle.replay_node.proofs.Struck.{durable_kept, durable_lost, durable_lost_crash, durable_refused}
-use Rattle.schedule_replay.proofs.FileLeft.{Leaves, EndsIn, leaves_stop}
-use Rattle.schedule_replay.proofs.JournalLeft.{StandsWithEither, Runs, MayKeep, Opening, append_ends, empty_stands, opening_ends, runs_leaves}
+use Rattle.replay_node.proofs.FileLeft.{Leaves, EndsIn, leaves_stop}
+use Rattle.replay_node.proofs.JournalLeft.{StandsWithEither, Runs, MayKeep, Opening, append_ends, empty_stands, opening_ends, runs_leaves}
 
 -- ---- what fits into a body
 
@@ -54,6 +54,7 @@ pub record IsFitKept (kept : Kept) : Type 0 where
   pub term : kept.term ≤ 2 ^ 62
   pub config : (ids most_ids).Fits kept.accepted.config
   pub committed : (ids most_ids).Fits kept.committed
+  pub value : value_field.Fits kept.accepted.value
 
 -- what the act keeps fits into a body, and what it sends
 abbrev pub IsFitAct : Act → Type 0
@@ -65,11 +66,11 @@ IsFitAct other = Unit {0}
 none_fit : (limit : ℕ) → (ids limit).Fits []
 none_fit limit = (omega arith, refl, tt)
 
-pub empty_fit : IsFitKept empty_record
-empty_fit = record { term = omega arith; config = none_fit most_ids; committed = none_fit most_ids }
-
 empty_value_fits : value_field.Fits empty_value
 empty_value_fits = (tt, (none_fit most_ids, (none_fit 10, (omega arith, refl, tt))))
+
+pub empty_fit : IsFitKept empty_record
+empty_fit = record { term = omega arith; config = none_fit most_ids; committed = none_fit most_ids; value = empty_value_fits }
 
 initial_fits : (config : List Id) → (ids most_ids).Fits config → state.Fits (initial_state config)
 initial_fits config fits = (omega arith, (omega arith, (fits, (fits, empty_value_fits))))
@@ -102,7 +103,7 @@ keeps me g (Bootstrap config) sends wins is w fits kept = record {
   is = refl;
   with_it = refl;
   may = may_accept (durable_of g) (initial_state config) (initial_fits config fits) (omega arith);
-  fit = record { term = kept.term; config = fits; committed = fits };
+  fit = record { term = kept.term; config = fits; committed = fits; value = empty_value_fits };
 }
 keeps me g (StartJoin candidate term) sends wins is w fits kept =
     let guard = start_guard me g candidate term sends wins is in
@@ -114,7 +115,7 @@ keeps me g (StartJoin candidate term) sends wins is w fits kept =
       is = refl;
       with_it = ap (λ (t : ℕ). record { term = t; accepted = accepted_of g; committed = committed_of g }) greater;
       may = record { reads = reads_term term below; order = lt-ltb (term_of g) term above; short = short_term term };
-      fit = record { term = below; config = kept.config; committed = kept.committed };
+      fit = record { term = below; config = kept.config; committed = kept.committed; value = kept.value };
     }
 keeps me g (Publish request) sends wins is w fits kept =
     let guard = publish_guard me g request sends wins is in
@@ -124,14 +125,14 @@ keeps me g (Publish request) sends wins is w fits kept =
       is = refl;
       with_it = refl;
       may = may_accept (durable_of g) request.state fits (omega (arith, now));
-      fit = record { term = kept.term; config = fits.1.1.0; committed = fits.1.1.1.0 };
+      fit = record { term = kept.term; config = fits.1.1.0; committed = fits.1.1.1.0; value = fits.1.1.1.1 };
     }
 keeps me g (Commit commit) sends wins is w fits kept = record {
   change = Committed;
   is = refl;
   with_it = refl;
   may = record { reads = reads_committed; order = refl; short = short_committed };
-  fit = record { term = kept.term; config = kept.config; committed = kept.config };
+  fit = record { term = kept.term; config = kept.config; committed = kept.config; value = kept.value };
 }
 keeps me g (TakeJoin join) sends wins is w fits kept = absurd (cc)
 keeps me g (Value version config value) sends wins is w fits kept = absurd (cc)

@@ -15,7 +15,7 @@ use Rattle.world_model.specs.Replies.{reply_of, is_taken, writes, IsOutcome}
 use Rattle.replay_node.specs.NodeDisk.{NodeDisk, CallsEnd, Done, Failed, StoppedIn, calls_made}
 use Rattle.replay_node.specs.NodeWorld.{NodeWorld, act_called, act_calls, outcome_at, outcome_by}
 use Rattle.replay_node.specs.Sent.{taking}
-use Rattle.schedule_replay.specs.Replayed.{World, node_world}
+use Rattle.replay_node.specs.Worlds.{World, node_world}
 
 -- the calls of an act end well, unless it is taken and writes
 ends_well : (disk : NodeDisk) (reply : Reply) (act : Act) (read : List ℕ) → ((calls_made disk (act_calls reply (change_of act) read)).ended ≡ Done) ⊎ ((is_taken reply ≡ true) × (writes act ≡ true))

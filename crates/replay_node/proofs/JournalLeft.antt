@@ -19,7 +19,7 @@ use Rattle.state_journal.specs.Journal.{in_order, folded_from, found_in, found_o
 use Rattle.state_journal.specs.declared.change.Change.{Change}
 use Rattle.state_journal.proofs.Folds.{folded-push, makes, fold_end}
 use Rattle.replay_node.specs.NodeDisk.{NodeDisk, calls_made, gate_of, opening}
-use Rattle.schedule_replay.proofs.FileLeft.{Leaves, Ends, leaves_read, call_leaves, no_calls}
+use Rattle.replay_node.proofs.FileLeft.{Leaves, Ends, leaves_read, call_leaves, no_calls}
 
 -- an opening of the file finds this record, and the file is a journal or too short to be one
 pub record StandsWith (kept : Kept) (file : List ℕ) : Type 0 where

@@ -1,0 +1,85 @@
+-- Whole nodes, which do what the policy says: their one history, the life of each and the frames that they sent. Part of the statement.
+use Rattle.std.specs.Prelude.{◌-◌, ℕ, true, cond, Option, None, Some, List, ◌++◌, slice_get, if◌then◌else◌}
+use Rattle.voting_config.specs.Ids.{Id, same, without_id}
+use Rattle.cluster_state.specs.declared.state.Kept.{Kept}
+use Rattle.wire_frames.specs.declared.frame.Frame.{Frame}
+use Rattle.replay_node.specs.NodeDisk.{CallsEnd, Done, Failed, StoppedIn, opening}
+use Rattle.replay_node.specs.NodeWorld.{NodeWorld, found_at, needs_opening}
+use Rattle.replay_node.specs.Settled.{is_kept}
+use Rattle.replay_node.specs.Worlds.{World, node_world, opened}
+use Rattle.policy_model.specs.declared.settings.Settings.{Settings}
+use Rattle.policy_model.specs.declared.events.Event.{Event}
+use Rattle.policy_model.specs.declared.events.Event.TheVariants.{Start, Frame as FrameCame}
+use Rattle.policy_model.specs.Entries.{Life, NotBegun, Opened, Lived, Did, log_of, frames_of}
+use Rattle.policy_model.specs.Follows.{items_of}
+use Rattle.replay_node.specs.Course.{Course, played, settled_life}
+
+-- what all nodes did, their disks and which are down; the life of each; and all frames that were sent, the oldest first
+pub record Cluster : Type 0 where
+  pub world : World
+  pub lives : Id → Life
+  pub frames : List Frame
+
+-- a node is told all others, in ascending order, and the initial names
+abbrev pub settings_of : List Id → List Id → Id → Settings
+settings_of nodes initial n = record { me = n; peers = without_id n nodes; initial = initial; shrink = true }
+
+abbrev pub with_life : (Id → Life) → Id → Life → Id → Life
+with_life lives n life = λ m. cond (same n m) life (lives m)
+
+-- ---- what one node does; its settings name it
+
+module _ (s : Settings) where
+  -- the node as the acts and its disk tell it
+  abbrev pub own_world : Cluster → NodeWorld
+  own_world c = node_world c.world s.me
+
+  -- the life and the items of an event
+  abbrev pub event_course : Cluster → Event → Course
+  event_course c event = played s.me c.world (items_of s (log_of (c.lives s.me)) event)
+
+  abbrev pub event_done : Cluster → Event → Course → Cluster
+  event_done c event course = record {
+    world = course.world;
+    lives = with_life c.lives s.me (Lived (c.lives s.me) (Did event course.items));
+    frames = c.frames ++ frames_of course.items;
+  }
+
+  -- the node does what the policy says, as far as its disk lets it
+  abbrev pub after_event : Cluster → Event → Cluster
+  after_event c event = event_done c event (event_course c event)
+
+  -- a node that is down or stopped does nothing
+  abbrev pub after_event_if_up : Cluster → Event → Cluster
+  after_event_if_up c event = if needs_opening (own_world c) then c else after_event c event
+
+  -- a frame that was sent to the node; one for another node is not handed over
+  abbrev pub after_frame : Cluster → Option Frame → Cluster
+  after_frame c None = c
+  after_frame c (Some frame) = if same frame.to s.me then after_event_if_up c (FrameCame frame) else c
+
+  -- the life of a node that was opened and found a record: whether its last act was kept is known from then on
+  abbrev pub life_opened : Cluster → Life
+  life_opened c =
+      let found : Kept = found_at (own_world c) in
+      Opened (settled_life (is_kept (own_world c).acts found) (c.lives s.me)) found
+
+  abbrev pub with_opened : Cluster → Cluster
+  with_opened c = record c { world = opened c.world s.me; lives = with_life c.lives s.me (life_opened c) }
+
+  -- an opening by the end of its device calls; the first event follows one that succeeds
+  abbrev pub opened_by : CallsEnd → Cluster → Cluster
+  opened_by Done c = after_event (with_opened c) Start
+  opened_by Failed c = record c { world = opened c.world s.me }
+  opened_by (StoppedIn way) c = record c { world = opened c.world s.me }
+
+  abbrev pub after_restart : Cluster → Cluster
+  after_restart c = if needs_opening (own_world c) then opened_by (opening (own_world c).disk).ended c else c
+
+  -- a node whose journal was opened on an empty disk
+  abbrev pub first_life : Life
+  first_life = Lived NotBegun (Did Start (items_of s (log_of NotBegun) Start))
+
+-- the frame of this number, where it has been sent
+abbrev pub frame_at : Cluster → ℕ → Option Frame
+frame_at c number = slice_get c.frames (number - 1)
