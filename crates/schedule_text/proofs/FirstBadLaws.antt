@@ -9,6 +9,7 @@ use Rattle.std.proofs.lemmas.Slice.Eq.{bytes_eq-Decides}
 use Rattle.voting_config.specs.Ids.{Id, is_id, most_ids}
 use Rattle.schedule_text.specs.declared.fault.Why.{Why}
 use Rattle.schedule_text.specs.declared.fault.BadSchedule.{BadSchedule}
+use Rattle.schedule_text.specs.declared.level.Level.{Level}
 use Rattle.schedule_text.specs.declared.place.Place.{Place}
 use Rattle.schedule_text.specs.declared.schedule.Line.{Line}
 use Rattle.schedule_text.specs.declared.schedule.Schedule.{Schedule}
@@ -139,43 +140,43 @@ stops_map reads f start parts bad s = record {
 
 -- ---- the lines
 
-lines_stop : (ids : List Id) (p : Place) (front : List Line) (parts : List (List ℕ)) (bad : BadSchedule) → parts ≢ [] → list_all (lacks 10) parts ≡ true → lines_at ids p front parts ≡ Err bad → Stops (lines_at ids p front) p.number parts bad
-lines_stop ids p front [] bad some k e = absurd (some refl)
-lines_stop ids p front (line ∷ []) bad some k e = stops_cut (lines_at ids p front) p.number line bad [] front (and_parts (lacks 10 line) _ k).0 e (end_err p line front bad e) refl refl
-lines_stop ids p front (line ∷ rest ∷ more) bad some k e =
+lines_stop : (level : Level) (ids : List Id) (p : Place) (front : List Line) (parts : List (List ℕ)) (bad : BadSchedule) → parts ≢ [] → list_all (lacks 10) parts ≡ true → lines_at level ids p front parts ≡ Err bad → Stops (lines_at level ids p front) p.number parts bad
+lines_stop level ids p front [] bad some k e = absurd (some refl)
+lines_stop level ids p front (line ∷ []) bad some k e = stops_cut (lines_at level ids p front) p.number line bad [] front (and_parts (lacks 10 line) _ k).0 e (end_err p line front bad e) refl refl
+lines_stop level ids p front (line ∷ rest ∷ more) bad some k e =
     let lack = and_parts (lacks 10 line) _ k in
-    let next = λ (t : List ℕ) (l : Line) (ps : List (List ℕ)). lines_at ids (after_line p t) (front ++ l ∷ []) ps in
-    let goes = more_lines ids p front in
-    elim (one_line_at ids p line) as (λ r. one_line_at ids p line ≡ r → (r >>> λ l. next line l (rest ∷ more)) ≡ Err bad → Stops (lines_at ids p front) p.number (line ∷ rest ∷ more) bad) [
-      | Ok l ↦ λ is h. stops_later (lines_at ids p front) (one_line_at ids p) next goes p.number line (rest ∷ more) bad l (λ x. absurd cc) lack.0 is (lines_stop ids (after_line p line) (front ++ l ∷ []) (rest ∷ more) bad (λ x. absurd cc) lack.1 h)
+    let next = λ (t : List ℕ) (l : Line) (ps : List (List ℕ)). lines_at level ids (after_line p t) (front ++ l ∷ []) ps in
+    let goes = more_lines level ids p front in
+    elim (one_line_at level ids p line) as (λ r. one_line_at level ids p line ≡ r → (r >>> λ l. next line l (rest ∷ more)) ≡ Err bad → Stops (lines_at level ids p front) p.number (line ∷ rest ∷ more) bad) [
+      | Ok l ↦ λ is h. stops_later (lines_at level ids p front) (one_line_at level ids p) next goes p.number line (rest ∷ more) bad l (λ x. absurd cc) lack.0 is (lines_stop level ids (after_line p line) (front ++ l ∷ []) (rest ∷ more) bad (λ x. absurd cc) lack.1 h)
       | Err d ↦ λ is h.
           let same = is ∙ ap (λ b. failed {A = Line} b) (failed_is {A = List Line} d bad h) in
-          stops_here (lines_at ids p front) (one_line_at ids p) next goes p.number line (rest ∷ more) bad [] front (λ x. absurd cc) lack.0 same (in_line_err p _ bad same) refl refl
+          stops_here (lines_at level ids p front) (one_line_at level ids p) next goes p.number line (rest ∷ more) bad [] front (λ x. absurd cc) lack.0 same (in_line_err p _ bad same) refl refl
     ] refl e
 
 -- ---- the header
 
 -- a second line that may stand here
-record Second (ids : List Id) (p : Place) : Type 0 where
+record Second (level : Level) (ids : List Id) (p : Place) : Type 0 where
   text : List ℕ
   lack : lacks 10 text ≡ true
   value : Schedule
-  reads : initial_at ids p (text ∷ [] ∷ []) ≡ Ok value
+  reads : initial_at level ids p (text ∷ [] ∷ []) ≡ Ok value
 
-second_by : (ids : List Id) (p : Place) (xs : List Id) → initial_line_at ids (codes "initial" ++ 32 ∷ list_text xs) ≡ Ok xs → IsSized p (codes "initial" ++ 32 ∷ list_text xs) → are_ids_after [] xs ≡ true → 0 < length xs → Second ids p
-second_by ids p xs e sized after some =
+second_by : (level : Level) (ids : List Id) (p : Place) (xs : List Id) → initial_line_at ids (codes "initial" ++ 32 ∷ list_text xs) ≡ Ok xs → IsSized p (codes "initial" ++ 32 ∷ list_text xs) → are_ids_after [] xs ≡ true → 0 < length xs → Second level ids p
+second_by level ids p xs e sized after some =
     let text = codes "initial" ++ 32 ∷ list_text xs in
     record {
       text = text;
       lack = header_lacks (codes "initial") xs refl after some;
       value = record { nodes = ids; initial = xs; lines = [] };
-      reads = ap (λ r. r >>> λ initial. lines_at ids (after_line p text) [] ([] ∷ []) >>> λ lines. read {A = Schedule} (record { nodes = ids; initial = initial; lines = lines })) (sized_again p text (initial_line_at ids) xs sized e);
+      reads = ap (λ r. r >>> λ initial. lines_at level ids (after_line p text) [] ([] ∷ []) >>> λ lines. read {A = Schedule} (record { nodes = ids; initial = initial; lines = lines })) (sized_again p text (initial_line_at ids) xs sized e);
     }
 
 -- the one with the first node
-second_for : (ids : List Id) (line : List ℕ) → IsSized first_place line → are_ids_after [] ids ≡ true → 0 < length ids → Second ids (after_line first_place line)
-second_for [] line sized after some = absurd (omega (arith, some))
-second_for (x ∷ xs) line sized after some =
+second_for : (level : Level) (ids : List Id) (line : List ℕ) → IsSized first_place line → are_ids_after [] ids ≡ true → 0 < length ids → Second level ids (after_line first_place line)
+second_for level [] line sized after some = absurd (omega (arith, some))
+second_for level (x ∷ xs) line sized after some =
     let may = (and_parts (may_follow [] x) _ after).0 in
     let id = (and_parts (is_id x) _ (and_parts (is_id x && nat_lt 0 most_ids) _ may).0).0 in
     let sizes = and_parts (nat_lt 0 (length x) && nat_le (length x) 32) _ id in
@@ -183,46 +184,46 @@ second_for (x ∷ xs) line sized after some =
     let one : are_ids_after [] (x ∷ []) ≡ true = and_from _ _ may refl in
     let among : are_among (x ∷ xs) (x ∷ []) ≡ true = rw ((bytes_eq-Decides x x).1 refl) refl in
     let long = length-append (codes "initial ") x in
-    second_by (x ∷ xs) (after_line first_place line) (x ∷ []) (initial_again (x ∷ xs) (x ∷ []) one (omega arith) among)
+    second_by level (x ∷ xs) (after_line first_place line) (x ∷ []) (initial_again (x ∷ xs) (x ∷ []) one (omega arith) among)
     (record { bytes = omega (arith, sized.long, short, long); count = omega arith; long = omega (arith, short, long) }) one (omega arith)
 
-initial_stop : (ids : List Id) (p : Place) (parts : List (List ℕ)) (bad : BadSchedule) → Second ids p → parts ≢ [] → list_all (lacks 10) parts ≡ true → initial_at ids p parts ≡ Err bad → Stops (initial_at ids p) p.number parts bad
-initial_stop ids p [] bad second some k e = absurd (some refl)
-initial_stop ids p (line ∷ []) bad second some k e =
-    stops_cut (initial_at ids p) p.number line bad (second.text ∷ []) second.value (and_parts (lacks 10 line) _ k).0 e (initial_err {A = Schedule} p line bad e) (and_from _ _ second.lack refl) second.reads
-initial_stop ids p (line ∷ rest ∷ more) bad second some k e =
+initial_stop : (level : Level) (ids : List Id) (p : Place) (parts : List (List ℕ)) (bad : BadSchedule) → Second level ids p → parts ≢ [] → list_all (lacks 10) parts ≡ true → initial_at level ids p parts ≡ Err bad → Stops (initial_at level ids p) p.number parts bad
+initial_stop level ids p [] bad second some k e = absurd (some refl)
+initial_stop level ids p (line ∷ []) bad second some k e =
+    stops_cut (initial_at level ids p) p.number line bad (second.text ∷ []) second.value (and_parts (lacks 10 line) _ k).0 e (initial_err {A = Schedule} p line bad e) (and_from _ _ second.lack refl) second.reads
+initial_stop level ids p (line ∷ rest ∷ more) bad second some k e =
     let lack = and_parts (lacks 10 line) _ k in
     let made : List Id → List Line → Schedule = λ initial lines. record { nodes = ids; initial = initial; lines = lines } in
-    let next = λ (t : List ℕ) (initial : List Id) (ps : List (List ℕ)). lines_at ids (after_line p t) [] ps >>> λ lines. read (made initial lines) in
-    let goes = more_initial ids p in
-    elim (second_line_at ids p line) as (λ r. second_line_at ids p line ≡ r → (r >>> λ initial. next line initial (rest ∷ more)) ≡ Err bad → Stops (initial_at ids p) p.number (line ∷ rest ∷ more) bad) [
+    let next = λ (t : List ℕ) (initial : List Id) (ps : List (List ℕ)). lines_at level ids (after_line p t) [] ps >>> λ lines. read (made initial lines) in
+    let goes = more_initial level ids p in
+    elim (second_line_at ids p line) as (λ r. second_line_at ids p line ≡ r → (r >>> λ initial. next line initial (rest ∷ more)) ≡ Err bad → Stops (initial_at level ids p) p.number (line ∷ rest ∷ more) bad) [
       | Ok initial ↦ λ is h.
-          let later = lines_stop ids (after_line p line) [] (rest ∷ more) bad (λ x. absurd cc) lack.1 (map_err (lines_at ids (after_line p line) [] (rest ∷ more)) (made initial) bad h) in
-          stops_later (initial_at ids p) (second_line_at ids p) next goes p.number line (rest ∷ more) bad initial (λ x. absurd cc) lack.0 is (stops_map (lines_at ids (after_line p line) []) (made initial) (p.number + 1) (rest ∷ more) bad later)
+          let later = lines_stop level ids (after_line p line) [] (rest ∷ more) bad (λ x. absurd cc) lack.1 (map_err (lines_at level ids (after_line p line) [] (rest ∷ more)) (made initial) bad h) in
+          stops_later (initial_at level ids p) (second_line_at ids p) next goes p.number line (rest ∷ more) bad initial (λ x. absurd cc) lack.0 is (stops_map (lines_at level ids (after_line p line) []) (made initial) (p.number + 1) (rest ∷ more) bad later)
       | Err d ↦ λ is h.
           let same = is ∙ ap (λ b. failed {A = List Id} b) (failed_is {A = Schedule} d bad h) in
-          stops_here (initial_at ids p) (second_line_at ids p) next goes p.number line (rest ∷ more) bad (second.text ∷ []) second.value (λ x. absurd cc) lack.0 same (in_line_err p _ bad same) (and_from _ _ second.lack refl) second.reads
+          stops_here (initial_at level ids p) (second_line_at ids p) next goes p.number line (rest ∷ more) bad (second.text ∷ []) second.value (λ x. absurd cc) lack.0 same (in_line_err p _ bad same) (and_from _ _ second.lack refl) second.reads
     ] refl e
 
-more_nodes : (line : List ℕ) (rest : List (List ℕ)) → rest ≢ [] → nodes_at first_place (line ∷ rest) ≡ (first_line_at first_place line >>> λ ids. initial_at ids (after_line first_place line) rest)
-more_nodes line [] h = absurd (h refl)
-more_nodes line (next ∷ more) h = refl
+more_nodes : (level : Level) (line : List ℕ) (rest : List (List ℕ)) → rest ≢ [] → nodes_at level first_place (line ∷ rest) ≡ (first_line_at first_place line >>> λ ids. initial_at level ids (after_line first_place line) rest)
+more_nodes level line [] h = absurd (h refl)
+more_nodes level line (next ∷ more) h = refl
 
-nodes_stop : (parts : List (List ℕ)) (bad : BadSchedule) → parts ≢ [] → list_all (lacks 10) parts ≡ true → nodes_at first_place parts ≡ Err bad → Stops (nodes_at first_place) 1 parts bad
-nodes_stop [] bad some k e = absurd (some refl)
-nodes_stop (line ∷ []) bad some k e = stops_cut (nodes_at first_place) 1 line bad [] empty (and_parts (lacks 10 line) _ k).0 e (end_err first_place line empty bad e) refl refl
-nodes_stop (line ∷ rest ∷ more) bad some k e =
+nodes_stop : (level : Level) (parts : List (List ℕ)) (bad : BadSchedule) → parts ≢ [] → list_all (lacks 10) parts ≡ true → nodes_at level first_place parts ≡ Err bad → Stops (nodes_at level first_place) 1 parts bad
+nodes_stop level [] bad some k e = absurd (some refl)
+nodes_stop level (line ∷ []) bad some k e = stops_cut (nodes_at level first_place) 1 line bad [] empty (and_parts (lacks 10 line) _ k).0 e (end_err first_place line empty bad e) refl refl
+nodes_stop level (line ∷ rest ∷ more) bad some k e =
     let lack = and_parts (lacks 10 line) _ k in
-    let next = λ (t : List ℕ) (ids : List Id) (ps : List (List ℕ)). initial_at ids (after_line first_place t) ps in
-    elim (first_line_at first_place line) as (λ r. first_line_at first_place line ≡ r → (r >>> λ ids. next line ids (rest ∷ more)) ≡ Err bad → Stops (nodes_at first_place) 1 (line ∷ rest ∷ more) bad) [
+    let next = λ (t : List ℕ) (ids : List Id) (ps : List (List ℕ)). initial_at level ids (after_line first_place t) ps in
+    elim (first_line_at first_place line) as (λ r. first_line_at first_place line ≡ r → (r >>> λ ids. next line ids (rest ∷ more)) ≡ Err bad → Stops (nodes_at level first_place) 1 (line ∷ rest ∷ more) bad) [
       | Ok ids ↦ λ is h.
           let sized = sized_takes first_place line (header_at (codes "nodes")) ids is in
           let header = header_takes (codes "nodes") line ids sized.1 in
-          let second = second_for ids line sized.0 header.ids header.some in
-          stops_later (nodes_at first_place) (first_line_at first_place) next more_nodes 1 line (rest ∷ more) bad ids (λ x. absurd cc) lack.0 is (initial_stop ids (after_line first_place line) (rest ∷ more) bad second (λ x. absurd cc) lack.1 h)
+          let second = second_for level ids line sized.0 header.ids header.some in
+          stops_later (nodes_at level first_place) (first_line_at first_place) next (more_nodes level) 1 line (rest ∷ more) bad ids (λ x. absurd cc) lack.0 is (initial_stop level ids (after_line first_place line) (rest ∷ more) bad second (λ x. absurd cc) lack.1 h)
       | Err d ↦ λ is h.
           let same = is ∙ ap (λ b. failed {A = List Id} b) (failed_is {A = Schedule} d bad h) in
-          stops_here (nodes_at first_place) (first_line_at first_place) next more_nodes 1 line (rest ∷ more) bad [] empty (λ x. absurd cc) lack.0 same (in_line_err first_place _ bad same) refl refl
+          stops_here (nodes_at level first_place) (first_line_at first_place) next (more_nodes level) 1 line (rest ∷ more) bad [] empty (λ x. absurd cc) lack.0 same (in_line_err first_place _ bad same) refl refl
     ] refl e
 
 -- ---- the whole
@@ -231,36 +232,36 @@ both_lack : (xs ys : List (List ℕ)) → list_all (lacks 10) xs ≡ true → li
 both_lack [] ys h k = k
 both_lack (x ∷ xs) ys h k = let parts = and_parts (lacks 10 x) _ h in and_from _ _ parts.0 (both_lack xs ys parts.1 k)
 
-first_bad : (bytes : List ℕ) (bad : BadSchedule) → schedule_at bytes ≡ Err bad → IsFirstBad bad.line bytes
-first_bad bytes bad e =
-    let stop = nodes_stop (pieces bytes) bad (parts_not_empty 10 bytes) (parts_lack 10 bytes) e in
+first_bad : (level : Level) (bytes : List ℕ) (bad : BadSchedule) → schedule_at level bytes ≡ Err bad → IsFirstBad level bad.line bytes
+first_bad level bytes bad e =
+    let stop = nodes_stop level (pieces bytes) bad (parts_not_empty 10 bytes) (parts_lack 10 bytes) e in
     let n = length stop.good in
     let text = with_feeds (stop.good ++ stop.more) in
-    let reads : schedule_at text ≡ Ok stop.value =
-    ap (nodes_at first_place) (feeds_split (stop.good ++ stop.more) (both_lack stop.good stop.more stop.lack stop.more_lack) ∙ append_assoc stop.good stop.more ([] ∷ [])) ∙ stop.again in
+    let reads : schedule_at level text ≡ Ok stop.value =
+    ap (nodes_at level first_place) (feeds_split (stop.good ++ stop.more) (both_lack stop.good stop.more stop.lack stop.more_lack) ∙ append_assoc stop.good stop.more ([] ∷ [])) ∙ stop.again in
     let same : first_lines n text ≡ first_lines n bytes =
     ap (first_lines n) (feeds_join stop.good stop.more) ∙ first_feeds stop.good (with_feeds stop.more) stop.lack ∙ sym stop.begin ∙ ap (first_lines n) (join_split 10 bytes) in
     let before_it : n ≡ bad.line - 1 = omega (arith, stop.number) in
     let with_it : bad.line ≡ suc n = omega (arith, stop.number) in
     record {
-      before = subst (λ (m : ℕ). BeginsSchedule m bytes) before_it (text, stop.value, schedule_takes text stop.value reads, same);
+      before = subst (λ (m : ℕ). BeginsSchedule level m bytes) before_it (text, stop.value, schedule_takes level text stop.value reads, same);
       here = λ begins.
           let agree = subst (λ (m : ℕ). first_lines m begins.0 ≡ first_lines m bytes) with_it begins.3 in
           stop.here (pieces begins.0) begins.1 (parts_lack 10 begins.0) (parts_not_empty 10 begins.0)
-          (ap (first_lines (suc n)) (join_split 10 begins.0) ∙ agree ∙ ap (first_lines (suc n)) (sym (join_split 10 bytes))) (schedule_again begins.0 begins.1 begins.2);
+          (ap (first_lines (suc n)) (join_split 10 begins.0) ∙ agree ∙ ap (first_lines (suc n)) (sym (join_split 10 bytes))) (schedule_again level begins.0 begins.1 begins.2);
     }
 
-begins_fewer : (n m : ℕ) (bytes : List ℕ) → n ≤ m → BeginsSchedule m bytes → BeginsSchedule n bytes
-begins_fewer n m bytes h begins = (begins.0, begins.1, begins.2, sym (fewer_lines n m begins.0 h) ∙ ap (first_lines n) begins.3 ∙ fewer_lines n m bytes h)
+begins_fewer : (level : Level) (n m : ℕ) (bytes : List ℕ) → n ≤ m → BeginsSchedule level m bytes → BeginsSchedule level n bytes
+begins_fewer level n m bytes h begins = (begins.0, begins.1, begins.2, sym (fewer_lines n m begins.0 h) ∙ ap (first_lines n) begins.3 ∙ fewer_lines n m bytes h)
 
-not_later : (bytes : List ℕ) (m n : ℕ) → IsFirstBad m bytes → IsFirstBad n bytes → n ≤ m
-not_later bytes m n a b = elim (cases_lt m n) [
-  | inl lt ↦ absurd (a.here (begins_fewer m (n - 1) bytes (omega (arith, lt)) b.before))
+not_later : (level : Level) (bytes : List ℕ) (m n : ℕ) → IsFirstBad level m bytes → IsFirstBad level n bytes → n ≤ m
+not_later level bytes m n a b = elim (cases_lt m n) [
+  | inl lt ↦ absurd (a.here (begins_fewer level m (n - 1) bytes (omega (arith, lt)) b.before))
   | inr le ↦ le
 ]
 
-one_first_bad : (bytes : List ℕ) (m n : ℕ) → IsFirstBad m bytes → IsFirstBad n bytes → m ≡ n
-one_first_bad bytes m n a b = omega (arith, not_later bytes m n a b, not_later bytes n m b a)
+one_first_bad : (level : Level) (bytes : List ℕ) (m n : ℕ) → IsFirstBad level m bytes → IsFirstBad level n bytes → m ≡ n
+one_first_bad level bytes m n a b = omega (arith, not_later level bytes m n a b, not_later level bytes n m b a)
 
 abbrev some_bad : BadSchedule → Option BadSchedule
 some_bad bad = Some bad
@@ -269,15 +270,15 @@ fault_err : {A : Type 0} (r : Result A BadSchedule) (bad : BadSchedule) → faul
 fault_err (Ok x) bad e = absurd cc
 fault_err {A} (Err d) bad e = let same : d ≡ bad = cc in ap (λ b. failed {A = A} b) same
 
-abbrev Named : ℕ → List ℕ → Type 0
-Named line bytes = (why : Why) × (fault_of bytes ≡ Some (record { line = line; why = why }))
+abbrev Named : Level → ℕ → List ℕ → Type 0
+Named level line bytes = (why : Why) × (fault_of level bytes ≡ Some (record { line = line; why = why }))
 
-named : (bytes : List ℕ) (line : ℕ) (r : Result Schedule BadSchedule) → schedule_at bytes ≡ r → IsFirstBad line bytes → Named line bytes
-named bytes line (Ok s) e is = absurd (is.here (bytes, s, schedule_takes bytes s e, refl))
-named bytes line (Err bad) e is =
-    let same = one_first_bad bytes bad.line line (first_bad bytes bad e) is in
+named : (level : Level) (bytes : List ℕ) (line : ℕ) (r : Result Schedule BadSchedule) → schedule_at level bytes ≡ r → IsFirstBad level line bytes → Named level line bytes
+named level bytes line (Ok s) e is = absurd (is.here (bytes, s, schedule_takes level bytes s e, refl))
+named level bytes line (Err bad) e is =
+    let same = one_first_bad level bytes bad.line line (first_bad level bytes bad e) is in
     (bad.why, ap fault_in e ∙ ap (λ n. some_bad (record { line = n; why = bad.why })) same)
 
 pub law_first_bad_line : LawFirstBadLine
-law_first_bad_line bytes line =
-    (λ fault. first_bad bytes (record { line = line; why = fault.0 }) (fault_err (schedule_at bytes) (record { line = line; why = fault.0 }) fault.1), λ is. named bytes line (schedule_at bytes) refl is)
+law_first_bad_line level bytes line =
+    (λ fault. first_bad level bytes (record { line = line; why = fault.0 }) (fault_err (schedule_at level bytes) (record { line = line; why = fault.0 }) fault.1), λ is. named level bytes line (schedule_at level bytes) refl is)

@@ -1,5 +1,5 @@
 -- A line that is read is the one that was spelled, and what is spelled is read again.
-use Rattle.std.proofs.Common.{◌≡◌, ℕ, ◌-◌, ◌^◌, ◌≤◌, true, false, cond, not, List, [], ◌∷◌, Result, Ok, refl, sym, ap, subst, ◌∙◌, arith}
+use Rattle.std.proofs.Common.{◌≡◌, ℕ, ◌-◌, ◌^◌, ◌≤◌, ◌≢◌, true, false, cond, not, List, [], ◌∷◌, ◌++◌, Result, Ok, refl, sym, ap, subst, ◌∙◌, arith}
 use Rattle.std.specs.Prelude.{nat_lt, ◌==◌, codes}
 use Rattle.std.specs.Str.{bytes_eq}
 use Rattle.std.specs.Cmp.Lexicographic.{same_text}
@@ -8,11 +8,13 @@ use Rattle.std.proofs.lemmas.Bool.{and_parts, and_from}
 use Rattle.std.proofs.lemmas.Bool.Decides.{nat_tests}
 use Rattle.voting_config.specs.Ids.{Id, is_id}
 use Rattle.schedule_text.specs.declared.fault.Why.{Why}
+use Rattle.schedule_text.specs.declared.level.Level.{Level}
+use Rattle.schedule_text.specs.declared.level.Level.TheVariants.{Core, Node}
 use Rattle.schedule_text.specs.declared.schedule.Line.{Line}
 use Rattle.schedule_text.specs.declared.schedule.Line.TheVariants as line
-use Rattle.schedule_text.specs.Words.{◌>>=◌, Word, listed, are_among}
-use Rattle.schedule_text.specs.Lines.{Args, one_word, two_words, three_words, four_words, one, two, three, four, any_number, ordinal, most_ordinal, boot, start_join, value, deliver, crash, restart, fuse, fail, words_of, line_words, line_text, FitsLine, any_verb_at, words_at, line_at}
-use Rattle.schedule_text.proofs.WordLaws.{is_plain, IsWord, bind_ok, ok_is, all_weaker, lacks, split_join, join_split, join_all, listed_law, text_law, number_law, list_law}
+use Rattle.schedule_text.specs.Words.{◌>>=◌, Word, listed, are_among, parts_of}
+use Rattle.schedule_text.specs.Lines.{Args, one_word, two_words, three_words, four_words, one, two, three, four, word_and_rest, any_number, ordinal, most_ordinal, moment, boot, start_join, value, deliver, crash, restart, fuse, fail, tick, client, words_of, line_words, line_text, FitsCore, FitsNode, FitsLine, client_at, shared_verb_at, core_line_at, node_line_at, words_at, line_at}
+use Rattle.schedule_text.proofs.WordLaws.{is_plain, IsWord, bind_ok, ok_is, all_weaker, lacks, parts_not_empty, split_first, split_join, join_split, join_all, listed_law, text_law, number_law, list_law}
 use Rattle.schedule_text.proofs.ModeLaws.{mode_law}
 
 pub record IsArgs {A : Type 0} (a : Args A) : Type 0 where
@@ -136,6 +138,9 @@ any_number_law = number_law 0 (2 ^ 64 - 1) (omega arith)
 ordinal_law : IsWord ordinal
 ordinal_law = number_law 1 most_ordinal (omega arith)
 
+moment_law : IsWord moment
+moment_law = number_law 0 (2 ^ 62) (omega arith)
+
 module _ {ids : List Id} (good : AreIds ids) where
   node_law : IsWord (listed ids)
   node_law = listed_law ids good.each
@@ -164,37 +169,82 @@ module _ {ids : List Id} (good : AreIds ids) where
   fail_law : IsArgs (fail ids)
   fail_law = two_law _ _ node_law ordinal_law
 
-abbrev IsLine : List Id → List (List ℕ) → Line → Type 0
-IsLine ids words l = (join_with_byte 32 words ≡ line_text l) × FitsLine ids l
+  tick_law : IsArgs (tick ids)
+  tick_law = three_law _ _ _ node_law moment_law any_number_law
+
+abbrev IsLine : Level → List Id → List (List ℕ) → Line → Type 0
+IsLine level ids words l = (join_with_byte 32 words ≡ line_text l) × FitsLine level ids l
 
 -- the line of a verb
-made : {A : Type 0} (args : Args A) (make : A → Line) (ids : List Id) (name : List ℕ) → IsArgs args → ((x : A) → name ∷ args.spelling x ≡ line_words (make x)) → ((x : A) → args.Fits x → FitsLine ids (make x))
-    → (ws : List (List ℕ)) (l : Line) → (args.at ws >>= λ x. done (make x)) ≡ Ok l → IsLine ids (name ∷ ws) l
-made args make ids name law words fits ws l e =
+made : {A : Type 0} (args : Args A) (make : A → Line) (level : Level) (ids : List Id) (name : List ℕ) → IsArgs args → ((x : A) → name ∷ args.spelling x ≡ line_words (make x)) → ((x : A) → args.Fits x → FitsLine level ids (make x))
+    → (ws : List (List ℕ)) (l : Line) → (args.at ws >>= λ x. done (make x)) ≡ Ok l → IsLine level ids (name ∷ ws) l
+made args make level ids name law words fits ws l e =
     let got = bind_ok (args.at ws) (λ x. done (make x)) l e in
     let taken = law.takes ws got.0 got.1 in
-    subst (IsLine ids (name ∷ ws)) (ok_is (make got.0) l got.2) (ap (λ t. join_with_byte 32 (name ∷ t)) taken.0 ∙ ap (join_with_byte 32) (words got.0), fits got.0 taken.1)
+    subst (IsLine level ids (name ∷ ws)) (ok_is (make got.0) l got.2) (ap (λ t. join_with_byte 32 (name ∷ t)) taken.0 ∙ ap (join_with_byte 32) (words got.0), fits got.0 taken.1)
 
 -- a verb is this one, or another
-chosen : (ids : List Id) (verb name : List ℕ) (ws : List (List ℕ)) (l : Line) (r other : Result Line Why) → (r ≡ Ok l → IsLine ids (name ∷ ws) l) → (other ≡ Ok l → IsLine ids (verb ∷ ws) l)
-    → cond (bytes_eq verb name) r other ≡ Ok l → IsLine ids (verb ∷ ws) l
-chosen ids verb name ws l r other this that =
-    elim (bytes_eq verb name) as (λ b. bytes_eq verb name ≡ b → cond b r other ≡ Ok l → IsLine ids (verb ∷ ws) l) [
-      | true ↦ λ e k. subst (λ (v : List ℕ). IsLine ids (v ∷ ws) l) (sym (same_text verb name (sym e))) (this k)
+chosen : (level : Level) (ids : List Id) (verb name : List ℕ) (ws : List (List ℕ)) (l : Line) (r other : Result Line Why) → (r ≡ Ok l → IsLine level ids (name ∷ ws) l) → (other ≡ Ok l → IsLine level ids (verb ∷ ws) l)
+    → cond (bytes_eq verb name) r other ≡ Ok l → IsLine level ids (verb ∷ ws) l
+chosen level ids verb name ws l r other this that =
+    elim (bytes_eq verb name) as (λ b. bytes_eq verb name ≡ b → cond b r other ≡ Ok l → IsLine level ids (verb ∷ ws) l) [
+      | true ↦ λ e k. subst (λ (v : List ℕ). IsLine level ids (v ∷ ws) l) (sym (same_text verb name (sym e))) (this k)
       | false ↦ λ e k. that k
     ] refl
 
-module _ {ids : List Id} (good : AreIds ids) (verb : List ℕ) (ws : List (List ℕ)) (l : Line) (lack : lacks 10 (join_with_byte 32 (verb ∷ ws)) ≡ true) where
-  verb_takes : any_verb_at ids verb ws ≡ Ok l → IsLine ids (verb ∷ ws) l
-  verb_takes e =
-      chosen ids verb (codes "value") ws l _ _ (made (value ids) (λ x. line.Value x.0 x.1 x.2 x.3) ids (codes "value") (value_law good) (λ x. refl) (λ x f. f) ws l) (λ e1.
-      chosen ids verb (codes "boot") ws l _ _ (made (boot ids) (λ x. line.Boot x) ids (codes "boot") (boot_law good) (λ x. refl) (λ x f. f) ws l) (λ e2.
-      chosen ids verb (codes "startjoin") ws l _ _ (made (start_join ids) (λ x. line.StartJoin x.0 x.1 x.2) ids (codes "startjoin") (start_join_law good) (λ x. refl) (λ x f. f) ws l) (λ e3.
-      chosen ids verb (codes "deliver") ws l _ _ (made (deliver ids) (λ x. line.Deliver x.0 x.1) ids (codes "deliver") (deliver_law good) (λ x. refl) (λ x f. f) ws l) (λ e4.
-      chosen ids verb (codes "crash") ws l _ _ (made (crash ids) (λ x. line.Crash x.0 x.1) ids (codes "crash") (crash_law good) (λ x. refl) (λ x f. f) ws l) (λ e5.
-      chosen ids verb (codes "restart") ws l _ _ (made (restart ids) (λ x. line.Restart x) ids (codes "restart") (restart_law good) (λ x. refl) (λ x f. f) ws l) (λ e6.
-      chosen ids verb (codes "fuse") ws l _ _ (made (fuse ids) (λ x. line.Fuse x.0 x.1 x.2) ids (codes "fuse") (fuse_law good) (λ x. refl) (λ x f. f) ws l) (λ e7.
-      chosen ids verb (codes "fail") ws l _ _ (made (fail ids) (λ x. line.Fail x.0 x.1) ids (codes "fail") (fail_law good) (λ x. refl) (λ x f. f) ws l) (λ e8. absurd cc) e7) e6) e5) e4) e3) e2) e1) e
+-- what fits at both levels fits at any
+at_any : (ids : List Id) (level : Level) (l : Line) → FitsCore ids l → FitsNode ids l → FitsLine level ids l
+at_any ids Core l f g = f
+at_any ids Node l f g = g
+
+-- ---- a client's line
+
+rest_by : (v : List ℕ) (parts : List (List ℕ)) → parts ≢ [] → word_and_rest (v ∷ parts) ≡ Ok (v, join_with_byte 32 parts)
+rest_by v [] some = absurd (some refl)
+rest_by v (w ∷ ws) some = refl
+
+-- all that stands behind the space after the first word
+pub rest_is : (v rest : List ℕ) → word_and_rest (v ∷ parts_of 32 rest) ≡ Ok (v, rest)
+rest_is v rest = rest_by v (parts_of 32 rest) (parts_not_empty 32 rest) ∙ ap (λ t. done {A = List ℕ × List ℕ} (v, t)) (join_split 32 rest)
+
+lacks_after : (c d : ℕ) (xs ys : List ℕ) → lacks c (xs ++ d ∷ ys) ≡ true → lacks c ys ≡ true
+lacks_after c d [] ys h = (and_parts (not (d == c)) _ h).1
+lacks_after c d (x ∷ xs) ys h = lacks_after c d xs ys (and_parts (not (x == c)) _ h).1
+
+client_takes : {ids : List Id} → AreIds ids → (verb : List ℕ) (ws : List (List ℕ)) (l : Line) → lacks 10 (join_with_byte 32 (verb ∷ ws)) ≡ true → client_at ids ws ≡ Ok l → IsLine Node ids (codes "client" ∷ ws) l
+client_takes good verb [] l k e = absurd cc
+client_takes good verb (v ∷ []) l k e = absurd cc
+client_takes {ids} good verb (v ∷ w ∷ ws) l k e =
+    let rest = join_with_byte 32 (w ∷ ws) in
+    let got = bind_ok ((client ids).at (v ∷ w ∷ ws)) (λ x. done (line.Client x.0 x.1)) l e in
+    let node = bind_ok ((listed ids).at v) (λ n. done {A = Id × List ℕ} (n, rest)) got.0 got.1 in
+    let word = (node_law good).takes v node.0 node.1 in
+    let one_line = lacks_after 10 32 v rest (lacks_after 10 32 verb (v ++ 32 ∷ rest) k) in
+    let P : Id × List ℕ → Type 0 = λ x. IsLine Node ids (codes "client" ∷ v ∷ w ∷ ws) (line.Client x.0 x.1) in
+    subst (IsLine Node ids (codes "client" ∷ v ∷ w ∷ ws)) (ok_is (line.Client got.0.0 got.0.1) l got.2)
+    (subst P (ok_is (node.0, rest) got.0 node.2) (ap (λ t. join_with_byte 32 (codes "client" ∷ t ∷ rest ∷ [])) word.0, (word.1, one_line)))
+
+-- ---- a line by its verb
+
+module _ {ids : List Id} (good : AreIds ids) (verb : List ℕ) (ws : List (List ℕ)) (l : Line) where
+  shared_takes : (level : Level) → shared_verb_at ids verb ws ≡ Ok l → IsLine level ids (verb ∷ ws) l
+  shared_takes level e =
+      chosen level ids verb (codes "deliver") ws l _ _ (made (deliver ids) (λ x. line.Deliver x.0 x.1) level ids (codes "deliver") (deliver_law good) (λ x. refl) (λ x f. at_any ids level (line.Deliver x.0 x.1) f f) ws l) (λ e1.
+      chosen level ids verb (codes "crash") ws l _ _ (made (crash ids) (λ x. line.Crash x.0 x.1) level ids (codes "crash") (crash_law good) (λ x. refl) (λ x f. at_any ids level (line.Crash x.0 x.1) f f) ws l) (λ e2.
+      chosen level ids verb (codes "restart") ws l _ _ (made (restart ids) (λ x. line.Restart x) level ids (codes "restart") (restart_law good) (λ x. refl) (λ x f. at_any ids level (line.Restart x) f f) ws l) (λ e3.
+      chosen level ids verb (codes "fuse") ws l _ _ (made (fuse ids) (λ x. line.Fuse x.0 x.1 x.2) level ids (codes "fuse") (fuse_law good) (λ x. refl) (λ x f. at_any ids level (line.Fuse x.0 x.1 x.2) f f) ws l) (λ e4.
+      chosen level ids verb (codes "fail") ws l _ _ (made (fail ids) (λ x. line.Fail x.0 x.1) level ids (codes "fail") (fail_law good) (λ x. refl) (λ x f. at_any ids level (line.Fail x.0 x.1) f f) ws l) (λ e5. absurd cc) e4) e3) e2) e1) e
+
+  core_takes : core_line_at ids verb ws ≡ Ok l → IsLine Core ids (verb ∷ ws) l
+  core_takes e =
+      chosen Core ids verb (codes "value") ws l _ _ (made (value ids) (λ x. line.Value x.0 x.1 x.2 x.3) Core ids (codes "value") (value_law good) (λ x. refl) (λ x f. f) ws l) (λ e1.
+      chosen Core ids verb (codes "boot") ws l _ _ (made (boot ids) (λ x. line.Boot x) Core ids (codes "boot") (boot_law good) (λ x. refl) (λ x f. f) ws l) (λ e2.
+      chosen Core ids verb (codes "startjoin") ws l _ _ (made (start_join ids) (λ x. line.StartJoin x.0 x.1 x.2) Core ids (codes "startjoin") (start_join_law good) (λ x. refl) (λ x f. f) ws l) (shared_takes Core) e2) e1) e
+
+  node_takes : lacks 10 (join_with_byte 32 (verb ∷ ws)) ≡ true → node_line_at ids verb ws ≡ Ok l → IsLine Node ids (verb ∷ ws) l
+  node_takes k e =
+      chosen Node ids verb (codes "client") ws l _ _ (client_takes good verb ws l k) (λ e1.
+      chosen Node ids verb (codes "tick") ws l _ _ (made (tick ids) (λ x. line.Tick x.0 x.1 x.2) Node ids (codes "tick") (tick_law good) (λ x. refl) (λ x f. f) ws l) (shared_takes Node) e1) e
 
 -- ---- a line
 
@@ -212,35 +262,72 @@ split_words w ws h = split_join 32 w ws (all_lack 32 (omega arith) (w ∷ ws) h)
 pub one_piece : (ws : List (List ℕ)) → list_all is_plain ws ≡ true → lacks 10 (join_with_byte 32 ws) ≡ true
 one_piece ws h = join_all (λ b. not (b == 10)) 32 refl ws (all_lack 10 (omega arith) ws h)
 
-words_take : {ids : List Id} → AreIds ids → (ws : List (List ℕ)) (l : Line) → lacks 10 (join_with_byte 32 ws) ≡ true → words_at ids ws ≡ Ok l → IsLine ids ws l
-words_take good [] l k e = absurd cc
-words_take good (verb ∷ ws) l k e = verb_takes good verb ws l k e
+words_take : (level : Level) {ids : List Id} → AreIds ids → (ws : List (List ℕ)) (l : Line) → lacks 10 (join_with_byte 32 ws) ≡ true → words_at level ids ws ≡ Ok l → IsLine level ids ws l
+words_take level good [] l k e = absurd cc
+words_take Core good (verb ∷ ws) l k e = core_takes good verb ws l e
+words_take Node good (verb ∷ ws) l k e = node_takes good verb ws l k e
 
-pub line_takes : {ids : List Id} → AreIds ids → (bytes : List ℕ) (l : Line) → lacks 10 bytes ≡ true → line_at ids bytes ≡ Ok l → (bytes ≡ line_text l) × FitsLine ids l
-line_takes good bytes l k e =
+pub line_takes : (level : Level) {ids : List Id} → AreIds ids → (bytes : List ℕ) (l : Line) → lacks 10 bytes ≡ true → line_at level ids bytes ≡ Ok l → (bytes ≡ line_text l) × FitsLine level ids l
+line_takes level good bytes l k e =
     let whole = join_split 32 bytes in
-    let taken = words_take good (words_of bytes) l (subst (λ (b : List ℕ). lacks 10 b ≡ true) (sym whole) k) e in
+    let taken = words_take level good (words_of bytes) l (subst (λ (b : List ℕ). lacks 10 b ≡ true) (sym whole) k) e in
     (sym whole ∙ taken.0, taken.1)
 
-by_words : (ids : List Id) (w : List ℕ) (ws : List (List ℕ)) (l : Line) → list_all is_plain (w ∷ ws) ≡ true → words_at ids (w ∷ ws) ≡ Ok l → line_at ids (join_with_byte 32 (w ∷ ws)) ≡ Ok l
-by_words ids w ws l h e = ap (words_at ids) (split_words w ws h) ∙ e
+by_words : (level : Level) (ids : List Id) (w : List ℕ) (ws : List (List ℕ)) (l : Line) → list_all is_plain (w ∷ ws) ≡ true → words_at level ids (w ∷ ws) ≡ Ok l → line_at level ids (join_with_byte 32 (w ∷ ws)) ≡ Ok l
+by_words level ids w ws l h e = ap (words_at level ids) (split_words w ws h) ∙ e
 
-pub line_again : {ids : List Id} → AreIds ids → (l : Line) → FitsLine ids l → line_at ids (line_text l) ≡ Ok l
-line_again {ids} good (line.Boot n) f = by_words ids (codes "boot") ((boot ids).spelling n) (line.Boot n) (and_from _ _ refl ((boot_law good).plain n f)) (rw ((boot_law good).again n f) refl)
-line_again {ids} good (line.StartJoin n c t) f = by_words ids (codes "startjoin") ((start_join ids).spelling (n, c, t)) (line.StartJoin n c t) (and_from _ _ refl ((start_join_law good).plain (n, c, t) f)) (rw ((start_join_law good).again (n, c, t) f) refl)
-line_again {ids} good (line.Value n v x cfg) f = by_words ids (codes "value") ((value ids).spelling (n, v, x, cfg)) (line.Value n v x cfg) (and_from _ _ refl ((value_law good).plain (n, v, x, cfg) f)) (rw ((value_law good).again (n, v, x, cfg) f) refl)
-line_again {ids} good (line.Deliver n k) f = by_words ids (codes "deliver") ((deliver ids).spelling (n, k)) (line.Deliver n k) (and_from _ _ refl ((deliver_law good).plain (n, k) f)) (rw ((deliver_law good).again (n, k) f) refl)
-line_again {ids} good (line.Crash n w) f = by_words ids (codes "crash") ((crash ids).spelling (n, w)) (line.Crash n w) (and_from _ _ refl ((crash_law good).plain (n, w) f)) (rw ((crash_law good).again (n, w) f) refl)
-line_again {ids} good (line.Restart n) f = by_words ids (codes "restart") ((restart ids).spelling n) (line.Restart n) (and_from _ _ refl ((restart_law good).plain n f)) (rw ((restart_law good).again n f) refl)
-line_again {ids} good (line.Fuse n k w) f = by_words ids (codes "fuse") ((fuse ids).spelling (n, k, w)) (line.Fuse n k w) (and_from _ _ refl ((fuse_law good).plain (n, k, w) f)) (rw ((fuse_law good).again (n, k, w) f) refl)
-line_again {ids} good (line.Fail n k) f = by_words ids (codes "fail") ((fail ids).spelling (n, k)) (line.Fail n k) (and_from _ _ refl ((fail_law good).plain (n, k) f)) (rw ((fail_law good).again (n, k) f) refl)
+client_again : {ids : List Id} → AreIds ids → (n : Id) (r : List ℕ) → (client ids).Fits (n, r) → line_at Node ids (line_text (line.Client n r)) ≡ Ok (line.Client n r)
+client_again {ids} good n r f =
+    let spaceless = plain_lacks 32 (omega arith) n ((node_law good).plain n f.0) in
+    let words : words_of (line_text (line.Client n r)) ≡ codes "client" ∷ n ∷ words_of r =
+    split_first 32 (codes "client") (n ++ 32 ∷ r) refl ∙ ap (λ t. codes "client" ∷ t) (split_first 32 n r spaceless) in
+    ap (words_at Node ids) words ∙ rw (rest_is n r, (node_law good).again n f.0) refl
 
-pub line_lacks : {ids : List Id} → AreIds ids → (l : Line) → FitsLine ids l → lacks 10 (line_text l) ≡ true
-line_lacks {ids} good (line.Boot n) f = one_piece (codes "boot" ∷ (boot ids).spelling n) (and_from _ _ refl ((boot_law good).plain n f))
-line_lacks {ids} good (line.StartJoin n c t) f = one_piece (codes "startjoin" ∷ (start_join ids).spelling (n, c, t)) (and_from _ _ refl ((start_join_law good).plain (n, c, t) f))
-line_lacks {ids} good (line.Value n v x cfg) f = one_piece (codes "value" ∷ (value ids).spelling (n, v, x, cfg)) (and_from _ _ refl ((value_law good).plain (n, v, x, cfg) f))
-line_lacks {ids} good (line.Deliver n k) f = one_piece (codes "deliver" ∷ (deliver ids).spelling (n, k)) (and_from _ _ refl ((deliver_law good).plain (n, k) f))
-line_lacks {ids} good (line.Crash n w) f = one_piece (codes "crash" ∷ (crash ids).spelling (n, w)) (and_from _ _ refl ((crash_law good).plain (n, w) f))
-line_lacks {ids} good (line.Restart n) f = one_piece (codes "restart" ∷ (restart ids).spelling n) (and_from _ _ refl ((restart_law good).plain n f))
-line_lacks {ids} good (line.Fuse n k w) f = one_piece (codes "fuse" ∷ (fuse ids).spelling (n, k, w)) (and_from _ _ refl ((fuse_law good).plain (n, k, w) f))
-line_lacks {ids} good (line.Fail n k) f = one_piece (codes "fail" ∷ (fail ids).spelling (n, k)) (and_from _ _ refl ((fail_law good).plain (n, k) f))
+client_lacks : {ids : List Id} → AreIds ids → (n : Id) (r : List ℕ) → (client ids).Fits (n, r) → lacks 10 (line_text (line.Client n r)) ≡ true
+client_lacks good n r f =
+    let feedless = plain_lacks 10 (omega arith) n ((node_law good).plain n f.0) in
+    join_all (λ b. not (b == 10)) 32 refl (codes "client" ∷ n ∷ r ∷ []) (and_from _ _ refl (and_from _ _ feedless (and_from _ _ f.1 refl)))
+
+pub line_again : (level : Level) {ids : List Id} → AreIds ids → (l : Line) → FitsLine level ids l → line_at level ids (line_text l) ≡ Ok l
+line_again Core {ids} good (line.Boot n) f = by_words Core ids (codes "boot") ((boot ids).spelling n) (line.Boot n) (and_from _ _ refl ((boot_law good).plain n f)) (rw ((boot_law good).again n f) refl)
+line_again Core {ids} good (line.StartJoin n c t) f = by_words Core ids (codes "startjoin") ((start_join ids).spelling (n, c, t)) (line.StartJoin n c t) (and_from _ _ refl ((start_join_law good).plain (n, c, t) f)) (rw ((start_join_law good).again (n, c, t) f) refl)
+line_again Core {ids} good (line.Value n v x cfg) f = by_words Core ids (codes "value") ((value ids).spelling (n, v, x, cfg)) (line.Value n v x cfg) (and_from _ _ refl ((value_law good).plain (n, v, x, cfg) f)) (rw ((value_law good).again (n, v, x, cfg) f) refl)
+line_again Core {ids} good (line.Deliver n k) f = by_words Core ids (codes "deliver") ((deliver ids).spelling (n, k)) (line.Deliver n k) (and_from _ _ refl ((deliver_law good).plain (n, k) f)) (rw ((deliver_law good).again (n, k) f) refl)
+line_again Core {ids} good (line.Crash n w) f = by_words Core ids (codes "crash") ((crash ids).spelling (n, w)) (line.Crash n w) (and_from _ _ refl ((crash_law good).plain (n, w) f)) (rw ((crash_law good).again (n, w) f) refl)
+line_again Core {ids} good (line.Restart n) f = by_words Core ids (codes "restart") ((restart ids).spelling n) (line.Restart n) (and_from _ _ refl ((restart_law good).plain n f)) (rw ((restart_law good).again n f) refl)
+line_again Core {ids} good (line.Fuse n k w) f = by_words Core ids (codes "fuse") ((fuse ids).spelling (n, k, w)) (line.Fuse n k w) (and_from _ _ refl ((fuse_law good).plain (n, k, w) f)) (rw ((fuse_law good).again (n, k, w) f) refl)
+line_again Core {ids} good (line.Fail n k) f = by_words Core ids (codes "fail") ((fail ids).spelling (n, k)) (line.Fail n k) (and_from _ _ refl ((fail_law good).plain (n, k) f)) (rw ((fail_law good).again (n, k) f) refl)
+line_again Core good (line.Tick n m w) f = absurd f
+line_again Core good (line.Client n r) f = absurd f
+line_again Node good (line.Boot n) f = absurd f
+line_again Node good (line.StartJoin n c t) f = absurd f
+line_again Node good (line.Value n v x cfg) f = absurd f
+line_again Node {ids} good (line.Deliver n k) f = by_words Node ids (codes "deliver") ((deliver ids).spelling (n, k)) (line.Deliver n k) (and_from _ _ refl ((deliver_law good).plain (n, k) f)) (rw ((deliver_law good).again (n, k) f) refl)
+line_again Node {ids} good (line.Crash n w) f = by_words Node ids (codes "crash") ((crash ids).spelling (n, w)) (line.Crash n w) (and_from _ _ refl ((crash_law good).plain (n, w) f)) (rw ((crash_law good).again (n, w) f) refl)
+line_again Node {ids} good (line.Restart n) f = by_words Node ids (codes "restart") ((restart ids).spelling n) (line.Restart n) (and_from _ _ refl ((restart_law good).plain n f)) (rw ((restart_law good).again n f) refl)
+line_again Node {ids} good (line.Fuse n k w) f = by_words Node ids (codes "fuse") ((fuse ids).spelling (n, k, w)) (line.Fuse n k w) (and_from _ _ refl ((fuse_law good).plain (n, k, w) f)) (rw ((fuse_law good).again (n, k, w) f) refl)
+line_again Node {ids} good (line.Fail n k) f = by_words Node ids (codes "fail") ((fail ids).spelling (n, k)) (line.Fail n k) (and_from _ _ refl ((fail_law good).plain (n, k) f)) (rw ((fail_law good).again (n, k) f) refl)
+line_again Node {ids} good (line.Tick n m w) f = by_words Node ids (codes "tick") ((tick ids).spelling (n, m, w)) (line.Tick n m w) (and_from _ _ refl ((tick_law good).plain (n, m, w) f)) (rw ((tick_law good).again (n, m, w) f) refl)
+line_again Node good (line.Client n r) f = client_again good n r f
+
+pub line_lacks : (level : Level) {ids : List Id} → AreIds ids → (l : Line) → FitsLine level ids l → lacks 10 (line_text l) ≡ true
+line_lacks Core {ids} good (line.Boot n) f = one_piece (codes "boot" ∷ (boot ids).spelling n) (and_from _ _ refl ((boot_law good).plain n f))
+line_lacks Core {ids} good (line.StartJoin n c t) f = one_piece (codes "startjoin" ∷ (start_join ids).spelling (n, c, t)) (and_from _ _ refl ((start_join_law good).plain (n, c, t) f))
+line_lacks Core {ids} good (line.Value n v x cfg) f = one_piece (codes "value" ∷ (value ids).spelling (n, v, x, cfg)) (and_from _ _ refl ((value_law good).plain (n, v, x, cfg) f))
+line_lacks Core {ids} good (line.Deliver n k) f = one_piece (codes "deliver" ∷ (deliver ids).spelling (n, k)) (and_from _ _ refl ((deliver_law good).plain (n, k) f))
+line_lacks Core {ids} good (line.Crash n w) f = one_piece (codes "crash" ∷ (crash ids).spelling (n, w)) (and_from _ _ refl ((crash_law good).plain (n, w) f))
+line_lacks Core {ids} good (line.Restart n) f = one_piece (codes "restart" ∷ (restart ids).spelling n) (and_from _ _ refl ((restart_law good).plain n f))
+line_lacks Core {ids} good (line.Fuse n k w) f = one_piece (codes "fuse" ∷ (fuse ids).spelling (n, k, w)) (and_from _ _ refl ((fuse_law good).plain (n, k, w) f))
+line_lacks Core {ids} good (line.Fail n k) f = one_piece (codes "fail" ∷ (fail ids).spelling (n, k)) (and_from _ _ refl ((fail_law good).plain (n, k) f))
+line_lacks Core good (line.Tick n m w) f = absurd f
+line_lacks Core good (line.Client n r) f = absurd f
+line_lacks Node good (line.Boot n) f = absurd f
+line_lacks Node good (line.StartJoin n c t) f = absurd f
+line_lacks Node good (line.Value n v x cfg) f = absurd f
+line_lacks Node {ids} good (line.Deliver n k) f = one_piece (codes "deliver" ∷ (deliver ids).spelling (n, k)) (and_from _ _ refl ((deliver_law good).plain (n, k) f))
+line_lacks Node {ids} good (line.Crash n w) f = one_piece (codes "crash" ∷ (crash ids).spelling (n, w)) (and_from _ _ refl ((crash_law good).plain (n, w) f))
+line_lacks Node {ids} good (line.Restart n) f = one_piece (codes "restart" ∷ (restart ids).spelling n) (and_from _ _ refl ((restart_law good).plain n f))
+line_lacks Node {ids} good (line.Fuse n k w) f = one_piece (codes "fuse" ∷ (fuse ids).spelling (n, k, w)) (and_from _ _ refl ((fuse_law good).plain (n, k, w) f))
+line_lacks Node {ids} good (line.Fail n k) f = one_piece (codes "fail" ∷ (fail ids).spelling (n, k)) (and_from _ _ refl ((fail_law good).plain (n, k) f))
+line_lacks Node {ids} good (line.Tick n m w) f = one_piece (codes "tick" ∷ (tick ids).spelling (n, m, w)) (and_from _ _ refl ((tick_law good).plain (n, m, w) f))
+line_lacks Node good (line.Client n r) f = client_lacks good n r f

@@ -13,6 +13,7 @@ use Rattle.schedule_text.specs.declared.fault.Why.TheVariants as why
 use Rattle.schedule_text.specs.declared.fault.BadSchedule.{BadSchedule}
 use Rattle.schedule_text.specs.declared.fault.ReadError.{ReadError}
 use Rattle.schedule_text.specs.Answers.{Answers}
+use Rattle.schedule_text.specs.declared.level.Level.{Level}
 use Rattle.schedule_text.specs.declared.place.Place.{Place}
 use Rattle.schedule_text.specs.declared.schedule.Line.{Line}
 use Rattle.schedule_text.specs.declared.schedule.Schedule.{Schedule}
@@ -119,11 +120,11 @@ are_ids xs h = record { each = ids_each is_id (λ x k. k) [] xs h }
 
 -- ---- the lines
 
-record LinesTaken (ids : List Id) (p : Place) (front : List Line) (parts : List (List ℕ)) (ls : List Line) : Type 0 where
+record LinesTaken (level : Level) (ids : List Id) (p : Place) (front : List Line) (parts : List (List ℕ)) (ls : List Line) : Type 0 where
   new : List Line
   whole : ls ≡ front ++ new
   spelled : parts ≡ map line_text new ++ [] ∷ []
-  fits : AllByRecursion (FitsLine ids) new
+  fits : AllByRecursion (FitsLine level ids) new
   bytes : p.before ≤ most_bytes → p.before + length (with_feeds (map line_text new)) ≤ most_bytes
   count : p.number ≤ (most_lines + 1) → p.number + length new ≤ (most_lines + 1)
   each : AllByRecursion (λ (l : List ℕ). length l ≤ most_line_bytes) (map line_text new)
@@ -131,8 +132,8 @@ record LinesTaken (ids : List Id) (p : Place) (front : List Line) (parts : List 
 feeds_length : (line : List ℕ) (lines : List (List ℕ)) → length (with_feeds (line ∷ lines)) ≡ length line + 1 + length (with_feeds lines)
 feeds_length line lines = omega (arith, length-append (line ++ 10 ∷ []) (with_feeds lines), length-append line (10 ∷ []))
 
-end_takes : (ids : List Id) (p : Place) (line : List ℕ) (front ls : List Line) → end_at p line front ≡ Ok ls → LinesTaken ids p front (line ∷ []) ls
-end_takes ids p [] front ls e = record {
+end_takes : (level : Level) (ids : List Id) (p : Place) (line : List ℕ) (front ls : List Line) → end_at p line front ≡ Ok ls → LinesTaken level ids p front (line ∷ []) ls
+end_takes level ids p [] front ls e = record {
   new = [];
   whole = sym (read_is front ls e) ∙ sym (append-nil front);
   spelled = refl;
@@ -141,18 +142,18 @@ end_takes ids p [] front ls e = record {
   count = λ h. omega (arith, h);
   each = tt;
 }
-end_takes ids p (b ∷ bs) front ls e = absurd cc
+end_takes level ids p (b ∷ bs) front ls e = absurd cc
 
-lines_take : (ids : List Id) → AreIds ids → (p : Place) (front : List Line) (parts : List (List ℕ)) (ls : List Line) → parts ≢ [] → list_all (lacks 10) parts ≡ true → lines_at ids p front parts ≡ Ok ls → LinesTaken ids p front parts ls
-lines_take ids good p front [] ls some k e = absurd (some refl)
-lines_take ids good p front (line ∷ []) ls some k e = end_takes ids p line front ls e
-lines_take ids good p front (line ∷ next ∷ more) ls some k e =
+lines_take : (level : Level) (ids : List Id) → AreIds ids → (p : Place) (front : List Line) (parts : List (List ℕ)) (ls : List Line) → parts ≢ [] → list_all (lacks 10) parts ≡ true → lines_at level ids p front parts ≡ Ok ls → LinesTaken level ids p front parts ls
+lines_take level ids good p front [] ls some k e = absurd (some refl)
+lines_take level ids good p front (line ∷ []) ls some k e = end_takes level ids p line front ls e
+lines_take level ids good p front (line ∷ next ∷ more) ls some k e =
     let lack = and_parts (lacks 10 line) _ k in
-    let go = λ (l : Line). lines_at ids (after_line p line) (front ++ l ∷ []) (next ∷ more) in
-    let got = then_ok (one_line_at ids p line) go ls e in
-    let sized = sized_takes p line (line_at ids) got.0 got.1 in
-    let taken = line_takes good line got.0 lack.0 sized.1 in
-    let rest = lines_take ids good (after_line p line) (front ++ got.0 ∷ []) (next ∷ more) ls (λ h. absurd cc) lack.1 got.2 in
+    let go = λ (l : Line). lines_at level ids (after_line p line) (front ++ l ∷ []) (next ∷ more) in
+    let got = then_ok (one_line_at level ids p line) go ls e in
+    let sized = sized_takes p line (line_at level ids) got.0 got.1 in
+    let taken = line_takes level good line got.0 lack.0 sized.1 in
+    let rest = lines_take level ids good (after_line p line) (front ++ got.0 ∷ []) (next ∷ more) ls (λ h. absurd cc) lack.1 got.2 in
     let long : length (line_text got.0) ≡ length line = ap length (sym taken.0) in
     record {
       new = got.0 ∷ rest.new;
@@ -164,24 +165,24 @@ lines_take ids good p front (line ∷ next ∷ more) ls some k e =
       each = (omega (arith, long, sized.0.long), rest.each);
     }
 
-pub more_lines : (ids : List Id) (p : Place) (front : List Line) (line : List ℕ) (rest : List (List ℕ)) → rest ≢ [] → lines_at ids p front (line ∷ rest) ≡ (one_line_at ids p line >>> λ l. lines_at ids (after_line p line) (front ++ l ∷ []) rest)
-more_lines ids p front line [] h = absurd (h refl)
-more_lines ids p front line (next ∷ more) h = refl
+pub more_lines : (level : Level) (ids : List Id) (p : Place) (front : List Line) (line : List ℕ) (rest : List (List ℕ)) → rest ≢ [] → lines_at level ids p front (line ∷ rest) ≡ (one_line_at level ids p line >>> λ l. lines_at level ids (after_line p line) (front ++ l ∷ []) rest)
+more_lines level ids p front line [] h = absurd (h refl)
+more_lines level ids p front line (next ∷ more) h = refl
 
 pub ended : (xs : List (List ℕ)) → xs ++ [] ∷ [] ≢ []
 ended [] e = absurd cc
 ended (x ∷ xs) e = absurd cc
 
-lines_again : (ids : List Id) → AreIds ids → (p : Place) (front new : List Line) → AllByRecursion (FitsLine ids) new → p.before + length (with_feeds (map line_text new)) ≤ most_bytes → p.number + length new ≤ (most_lines + 1)
-    → AllByRecursion (λ (l : List ℕ). length l ≤ most_line_bytes) (map line_text new) → lines_at ids p front (map line_text new ++ [] ∷ []) ≡ Ok (front ++ new)
-lines_again ids good p front [] fits bytes count each = ap read (sym (append-nil front))
-lines_again ids good p front (l ∷ ls) fits bytes count each =
+lines_again : (level : Level) (ids : List Id) → AreIds ids → (p : Place) (front new : List Line) → AllByRecursion (FitsLine level ids) new → p.before + length (with_feeds (map line_text new)) ≤ most_bytes → p.number + length new ≤ (most_lines + 1)
+    → AllByRecursion (λ (l : List ℕ). length l ≤ most_line_bytes) (map line_text new) → lines_at level ids p front (map line_text new ++ [] ∷ []) ≡ Ok (front ++ new)
+lines_again level ids good p front [] fits bytes count each = ap read (sym (append-nil front))
+lines_again level ids good p front (l ∷ ls) fits bytes count each =
     let long = feeds_length (line_text l) (map line_text ls) in
     let sized : IsSized p (line_text l) = record { bytes = omega (arith, long, bytes); count = omega (arith, count); long = each.0 } in
-    let one = sized_again p (line_text l) (line_at ids) l sized (line_again good l fits.0) in
-    let rest = lines_again ids good (after_line p (line_text l)) (front ++ l ∷ []) ls fits.1 (omega (arith, long, bytes)) (omega (arith, count)) each.1 in
-    more_lines ids p front (line_text l) (map line_text ls ++ [] ∷ []) (ended (map line_text ls))
-    ∙ ap (λ r. r >>> λ k. lines_at ids (after_line p (line_text l)) (front ++ k ∷ []) (map line_text ls ++ [] ∷ [])) one
+    let one = sized_again p (line_text l) (line_at level ids) l sized (line_again level good l fits.0) in
+    let rest = lines_again level ids good (after_line p (line_text l)) (front ++ l ∷ []) ls fits.1 (omega (arith, long, bytes)) (omega (arith, count)) each.1 in
+    more_lines level ids p front (line_text l) (map line_text ls ++ [] ∷ []) (ended (map line_text ls))
+    ∙ ap (λ r. r >>> λ k. lines_at level ids (after_line p (line_text l)) (front ++ k ∷ []) (map line_text ls ++ [] ∷ [])) one
     ∙ rest ∙ ap read (append_assoc front (l ∷ []) ls)
 
 -- ---- line feeds
@@ -206,9 +207,9 @@ lack_ended c (x ∷ xs) h = let parts = and_parts (lacks c x) _ h in and_from _ 
 pub feeds_split : (lines : List (List ℕ)) → list_all (lacks 10) lines ≡ true → pieces (with_feeds lines) ≡ lines ++ [] ∷ []
 feeds_split lines h = ap pieces (sym (join_feeds lines)) ∙ split_whole 10 (lines ++ [] ∷ []) (ended lines) (lack_ended 10 lines h)
 
-lines_lack : (ids : List Id) → AreIds ids → (ls : List Line) → AllByRecursion (FitsLine ids) ls → list_all (lacks 10) (map line_text ls) ≡ true
-lines_lack ids good [] h = refl
-lines_lack ids good (l ∷ ls) h = and_from _ _ (line_lacks good l h.0) (lines_lack ids good ls h.1)
+lines_lack : (level : Level) (ids : List Id) → AreIds ids → (ls : List Line) → AllByRecursion (FitsLine level ids) ls → list_all (lacks 10) (map line_text ls) ≡ true
+lines_lack level ids good [] h = refl
+lines_lack level ids good (l ∷ ls) h = and_from _ _ (line_lacks level good l h.0) (lines_lack level ids good ls h.1)
 
 length-map_text : (ls : List Line) → length (map line_text ls) ≡ length ls
 length-map_text [] = refl
@@ -222,12 +223,12 @@ spelled_by bytes lines e = sym (join_split 10 bytes) ∙ ap (join_with_byte 10) 
 abbrev pub empty : Schedule
 empty = record { nodes = []; initial = []; lines = [] }
 
-no_lines : (bytes line : List ℕ) (s : Schedule) → pieces bytes ≡ line ∷ [] → end_at first_place line empty ≡ Ok s → Spells bytes s
-no_lines bytes [] s e k =
+no_lines : (level : Level) (bytes line : List ℕ) (s : Schedule) → pieces bytes ≡ line ∷ [] → end_at first_place line empty ≡ Ok s → Spells level bytes s
+no_lines level bytes [] s e k =
     let none : bytes ≡ [] = spelled_by bytes [] e in
     let same : empty ≡ s = read_is empty s k in
-    subst (λ (t : Schedule). Spells bytes t) same (subst (λ (b : List ℕ). Spells b empty) (sym none) Nothing)
-no_lines bytes (b ∷ bs) s e k = absurd cc
+    subst (λ (t : Schedule). Spells level bytes t) same (subst (λ (b : List ℕ). Spells level b empty) (sym none) Nothing)
+no_lines level bytes (b ∷ bs) s e k = absurd cc
 
 sizes_join : (a b : List ℕ) (ts : List (List ℕ)) (x y : ℕ) → length a ≡ x → length b ≡ y → 0 + x + 1 + y + 1 + length (with_feeds ts) ≤ most_bytes → length (with_feeds (a ∷ b ∷ ts)) ≤ most_bytes
 sizes_join a b ts x y ea eb h = omega (arith, feeds_length a (b ∷ ts), feeds_length b ts, ea, eb, h)
@@ -243,7 +244,7 @@ sizes_part a b ts h =
     let two = feeds_length b ts in
     record { first = omega (arith, one, two, h); second = omega (arith, one, two, h); rest = omega (arith, one, two, h) }
 
-record RestTaken (ids : List Id) (p : Place) (parts : List (List ℕ)) (s : Schedule) : Type 0 where
+record RestTaken (level : Level) (ids : List Id) (p : Place) (parts : List (List ℕ)) (s : Schedule) : Type 0 where
   line : List ℕ
   nodes : s.nodes ≡ ids
   initial : IsHeader (codes "initial") line s.initial
@@ -251,21 +252,21 @@ record RestTaken (ids : List Id) (p : Place) (parts : List (List ℕ)) (s : Sche
   sized : IsSized p line
   rest : List (List ℕ)
   parts_are : parts ≡ line ∷ rest
-  lines : LinesTaken ids (after_line p line) [] rest s.lines
+  lines : LinesTaken level ids (after_line p line) [] rest s.lines
 
-rest_takes : (ids : List Id) → AreIds ids → (p : Place) (parts : List (List ℕ)) (s : Schedule) → list_all (lacks 10) parts ≡ true → initial_at ids p parts ≡ Ok s → RestTaken ids p parts s
-rest_takes ids good p [] s k e = absurd cc
-rest_takes ids good p ([] ∷ []) s k e = absurd cc
-rest_takes ids good p ((b ∷ bs) ∷ []) s k e = absurd cc
-rest_takes ids good p (line ∷ next ∷ more) s k e =
+rest_takes : (level : Level) (ids : List Id) → AreIds ids → (p : Place) (parts : List (List ℕ)) (s : Schedule) → list_all (lacks 10) parts ≡ true → initial_at level ids p parts ≡ Ok s → RestTaken level ids p parts s
+rest_takes level ids good p [] s k e = absurd cc
+rest_takes level ids good p ([] ∷ []) s k e = absurd cc
+rest_takes level ids good p ((b ∷ bs) ∷ []) s k e = absurd cc
+rest_takes level ids good p (line ∷ next ∷ more) s k e =
     let last = λ (initial : List Id) (lines : List Line). read {A = Schedule} (record { nodes = ids; initial = initial; lines = lines }) in
-    let go = λ (initial : List Id). lines_at ids (after_line p line) [] (next ∷ more) >>> last initial in
+    let go = λ (initial : List Id). lines_at level ids (after_line p line) [] (next ∷ more) >>> last initial in
     let first = then_ok (second_line_at ids p line) go s e in
-    let second = then_ok (lines_at ids (after_line p line) [] (next ∷ more)) (last first.0) s first.2 in
+    let second = then_ok (lines_at level ids (after_line p line) [] (next ∷ more)) (last first.0) s first.2 in
     let sized = sized_takes p line (initial_line_at ids) first.0 first.1 in
     let header = initial_takes ids line first.0 sized.1 in
     let made : Schedule = record { nodes = ids; initial = first.0; lines = second.0 } in
-    let taken : RestTaken ids p (line ∷ next ∷ more) made = record {
+    let taken : RestTaken level ids p (line ∷ next ∷ more) made = record {
       line = line;
       nodes = refl;
       initial = header.0;
@@ -273,12 +274,12 @@ rest_takes ids good p (line ∷ next ∷ more) s k e =
       sized = sized.0;
       rest = next ∷ more;
       parts_are = refl;
-      lines = lines_take ids good (after_line p line) [] (next ∷ more) second.0 (λ h. absurd cc) (and_parts (lacks 10 line) _ k).1 second.1;
+      lines = lines_take level ids good (after_line p line) [] (next ∷ more) second.0 (λ h. absurd cc) (and_parts (lacks 10 line) _ k).1 second.1;
     } in
-    subst (λ (t : Schedule). RestTaken ids p (line ∷ next ∷ more) t) (read_is made s second.2) taken
+    subst (λ (t : Schedule). RestTaken level ids p (line ∷ next ∷ more) t) (read_is made s second.2) taken
 
-text_taken : (bytes line : List ℕ) (parts : List (List ℕ)) (s : Schedule) → pieces bytes ≡ line ∷ parts → IsHeader (codes "nodes") line s.nodes → IsSized first_place line → RestTaken s.nodes (after_line first_place line) parts s → Spells bytes s
-text_taken bytes line parts s e header sized rest =
+text_taken : (level : Level) (bytes line : List ℕ) (parts : List (List ℕ)) (s : Schedule) → pieces bytes ≡ line ∷ parts → IsHeader (codes "nodes") line s.nodes → IsSized first_place line → RestTaken level s.nodes (after_line first_place line) parts s → Spells level bytes s
+text_taken level bytes line parts s e header sized rest =
     let new = rest.lines.new in
     let lines_are : s.lines ≡ new = rest.lines.whole in
     let text : pieces bytes ≡ text_lines s ++ [] ∷ [] =
@@ -289,13 +290,13 @@ text_taken bytes line parts s e header sized rest =
     let first_long : length (codes "nodes " ++ list_text s.nodes) ≡ length line = ap length (sym header.spelled) in
     let second_long : length (codes "initial " ++ list_text s.initial) ≡ length rest.line = ap length (sym rest.initial.spelled) in
     let texts_are : map line_text s.lines ≡ map line_text new = ap (map line_text) lines_are in
-    let is : IsSchedule s = record {
+    let is : IsSchedule level s = record {
       nodes = header.ids;
       some_node = header.some;
       initial = rest.initial.ids;
       some_initial = rest.initial.some;
       listed = rest.among;
-      lines = subst (λ (t : List Line). AllByRecursion (FitsLine s.nodes) t) (sym lines_are) rest.lines.fits;
+      lines = subst (λ (t : List Line). AllByRecursion (FitsLine level s.nodes) t) (sym lines_are) rest.lines.fits;
     } in
     let within : IsWithin (text_lines s) = record {
       bytes = sizes_join (codes "nodes " ++ list_text s.nodes) (codes "initial " ++ list_text s.initial) (map line_text s.lines) (length line) (length rest.line) first_long second_long
@@ -303,72 +304,69 @@ text_taken bytes line parts s e header sized rest =
       count = omega (arith, rest.lines.count (omega arith), length-map_text s.lines, ap (λ (t : List Line). length t) lines_are);
       each = (omega (arith, first_long, sized.long), (omega (arith, second_long, rest.sized.long), subst (λ (t : List (List ℕ)). AllByRecursion (λ (l : List ℕ). length l ≤ most_line_bytes) t) (sym texts_are) rest.lines.each));
     } in
-    subst (λ (b : List ℕ). Spells b s) (sym (spelled_by bytes (text_lines s) text)) (Text s is within)
+    subst (λ (b : List ℕ). Spells level b s) (sym (spelled_by bytes (text_lines s) text)) (Text s is within)
 
-nodes_take : (bytes : List ℕ) (parts : List (List ℕ)) (s : Schedule) → pieces bytes ≡ parts → nodes_at first_place parts ≡ Ok s → Spells bytes s
-nodes_take bytes [] s e k = absurd (parts_not_empty 10 bytes e)
-nodes_take bytes (line ∷ []) s e k = no_lines bytes line s e k
-nodes_take bytes (line ∷ next ∷ more) s e k =
-    let go = λ (ids : List Id). initial_at ids (after_line first_place line) (next ∷ more) in
+nodes_take : (level : Level) (bytes : List ℕ) (parts : List (List ℕ)) (s : Schedule) → pieces bytes ≡ parts → nodes_at level first_place parts ≡ Ok s → Spells level bytes s
+nodes_take level bytes [] s e k = absurd (parts_not_empty 10 bytes e)
+nodes_take level bytes (line ∷ []) s e k = no_lines level bytes line s e k
+nodes_take level bytes (line ∷ next ∷ more) s e k =
+    let go = λ (ids : List Id). initial_at level ids (after_line first_place line) (next ∷ more) in
     let got = then_ok (first_line_at first_place line) go s k in
     let sized = sized_takes first_place line (header_at (codes "nodes")) got.0 got.1 in
     let header = header_takes (codes "nodes") line got.0 sized.1 in
-    let rest = rest_takes got.0 (are_ids got.0 header.ids) (after_line first_place line) (next ∷ more) s (and_parts (lacks 10 line) _ (subst (λ (ps : List (List ℕ)). list_all (lacks 10) ps ≡ true) e (parts_lack 10 bytes))).1 got.2 in
+    let rest = rest_takes level got.0 (are_ids got.0 header.ids) (after_line first_place line) (next ∷ more) s (and_parts (lacks 10 line) _ (subst (λ (ps : List (List ℕ)). list_all (lacks 10) ps ≡ true) e (parts_lack 10 bytes))).1 got.2 in
     let nodes = sym rest.nodes in
-    text_taken bytes line (next ∷ more) s e (subst (λ (ids : List Id). IsHeader (codes "nodes") line ids) nodes header) sized.0
-    (subst (λ (ids : List Id). RestTaken ids (after_line first_place line) (next ∷ more) s) nodes rest)
+    text_taken level bytes line (next ∷ more) s e (subst (λ (ids : List Id). IsHeader (codes "nodes") line ids) nodes header) sized.0
+    (subst (λ (ids : List Id). RestTaken level ids (after_line first_place line) (next ∷ more) s) nodes rest)
 
-pub schedule_takes : (bytes : List ℕ) (s : Schedule) → schedule_at bytes ≡ Ok s → Spells bytes s
-schedule_takes bytes s e = nodes_take bytes (pieces bytes) s refl e
+pub schedule_takes : (level : Level) (bytes : List ℕ) (s : Schedule) → schedule_at level bytes ≡ Ok s → Spells level bytes s
+schedule_takes level bytes s e = nodes_take level bytes (pieces bytes) s refl e
 
-pub more_initial : (ids : List Id) (p : Place) (line : List ℕ) (rest : List (List ℕ)) → rest ≢ [] → initial_at ids p (line ∷ rest) ≡ (second_line_at ids p line >>> λ initial. lines_at ids (after_line p line) [] rest >>> λ lines. read {A = Schedule} (record { nodes = ids; initial = initial; lines = lines }))
-more_initial ids p line [] h = absurd (h refl)
-more_initial ids p line (next ∷ more) h = refl
+pub more_initial : (level : Level) (ids : List Id) (p : Place) (line : List ℕ) (rest : List (List ℕ)) → rest ≢ [] → initial_at level ids p (line ∷ rest) ≡ (second_line_at ids p line >>> λ initial. lines_at level ids (after_line p line) [] rest >>> λ lines. read {A = Schedule} (record { nodes = ids; initial = initial; lines = lines }))
+more_initial level ids p line [] h = absurd (h refl)
+more_initial level ids p line (next ∷ more) h = refl
 
-text_again : (s : Schedule) → IsSchedule s → IsWithin (text_lines s) → schedule_at (schedule_text s) ≡ Ok s
-text_again s is within =
+text_again : (level : Level) (s : Schedule) → IsSchedule level s → IsWithin (text_lines s) → schedule_at level (schedule_text s) ≡ Ok s
+text_again level s is within =
     let good = are_ids s.nodes is.nodes in
     let first = codes "nodes " ++ list_text s.nodes in
     let second = codes "initial " ++ list_text s.initial in
     let texts = map line_text s.lines in
     let lack : list_all (lacks 10) (text_lines s) ≡ true =
-    and_from _ _ (header_lacks (codes "nodes") s.nodes refl is.nodes is.some_node) (and_from _ _ (header_lacks (codes "initial") s.initial refl is.initial is.some_initial) (lines_lack s.nodes good s.lines is.lines)) in
+    and_from _ _ (header_lacks (codes "nodes") s.nodes refl is.nodes is.some_node) (and_from _ _ (header_lacks (codes "initial") s.initial refl is.initial is.some_initial) (lines_lack level s.nodes good s.lines is.lines)) in
     let sizes = sizes_part first second texts within.bytes in
     let count = length-map_text s.lines in
     let p = after_line first_place first in
     let one : first_line_at first_place first ≡ Ok s.nodes = sized_again first_place first (header_at (codes "nodes")) s.nodes (record { bytes = sizes.first; count = omega arith; long = within.each.0 }) (header_again (codes "nodes") s.nodes refl refl is.nodes is.some_node) in
     let two : second_line_at s.nodes p second ≡ Ok s.initial = sized_again p second (initial_line_at s.nodes) s.initial (record { bytes = sizes.second; count = omega arith; long = within.each.1.0 }) (initial_again s.nodes s.initial is.initial is.some_initial is.listed) in
-    let three = lines_again s.nodes good (after_line p second) [] s.lines is.lines sizes.rest (omega (arith, within.count, count)) within.each.1.1 in
-    ap (nodes_at first_place) (feeds_split (text_lines s) lack)
-    ∙ ap (λ r. r >>> λ ids. initial_at ids p (second ∷ (texts ++ [] ∷ []))) one
-    ∙ more_initial s.nodes p second (texts ++ [] ∷ []) (ended texts)
-    ∙ ap (λ r. r >>> λ initial. lines_at s.nodes (after_line p second) [] (texts ++ [] ∷ []) >>> λ lines. read {A = Schedule} (record { nodes = s.nodes; initial = initial; lines = lines })) two
+    let three = lines_again level s.nodes good (after_line p second) [] s.lines is.lines sizes.rest (omega (arith, within.count, count)) within.each.1.1 in
+    ap (nodes_at level first_place) (feeds_split (text_lines s) lack)
+    ∙ ap (λ r. r >>> λ ids. initial_at level ids p (second ∷ (texts ++ [] ∷ []))) one
+    ∙ more_initial level s.nodes p second (texts ++ [] ∷ []) (ended texts)
+    ∙ ap (λ r. r >>> λ initial. lines_at level s.nodes (after_line p second) [] (texts ++ [] ∷ []) >>> λ lines. read {A = Schedule} (record { nodes = s.nodes; initial = initial; lines = lines })) two
     ∙ ap (λ r. r >>> λ lines. read {A = Schedule} (record { nodes = s.nodes; initial = s.initial; lines = lines })) three
 
-pub schedule_again : (bytes : List ℕ) (s : Schedule) → Spells bytes s → schedule_at bytes ≡ Ok s
-schedule_again _ _ Nothing = refl
-schedule_again _ _ (Text s is within) = text_again s is within
+pub schedule_again : (level : Level) (bytes : List ℕ) (s : Schedule) → Spells level bytes s → schedule_at level bytes ≡ Ok s
+schedule_again level _ _ Nothing = refl
+schedule_again level _ _ (Text s is within) = text_again level s is within
 
 -- ---- for the contracts
 
-pub found : {bytes : List ℕ} {s : Schedule} → schedule_at bytes ≡ Ok s → Spells bytes s
-found e = schedule_takes _ _ e
+spelled_or_not : (level : Level) (bytes : List ℕ) (r : Result Schedule BadSchedule) → schedule_at level bytes ≡ r → fault_in r ≡ None → (s : Schedule) × Spells level bytes s
+spelled_or_not level bytes (Ok s) e h = (s, schedule_takes level bytes s e)
+spelled_or_not level bytes (Err bad) e h = absurd cc
 
-spelled_or_not : (bytes : List ℕ) (r : Result Schedule BadSchedule) → schedule_at bytes ≡ r → fault_in r ≡ None → (s : Schedule) × Spells bytes s
-spelled_or_not bytes (Ok s) e h = (s, schedule_takes bytes s e)
-spelled_or_not bytes (Err bad) e h = absurd cc
+pub no_fault : (level : Level) (bytes : List ℕ) → fault_of level bytes ≡ None → (s : Schedule) × Spells level bytes s
+no_fault level bytes h = spelled_or_not level bytes (schedule_at level bytes) refl h
 
-pub no_fault : (bytes : List ℕ) → fault_of bytes ≡ None → (s : Schedule) × Spells bytes s
-no_fault bytes h = spelled_or_not bytes (schedule_at bytes) refl h
+pub some_spelled : (level : Level) (bytes : List ℕ) → (s : Schedule) × Spells level bytes s → fault_of level bytes ≡ None
+some_spelled level bytes h = ap fault_in (schedule_again level bytes h.0 h.1)
 
-pub some_spelled : (bytes : List ℕ) → (s : Schedule) × Spells bytes s → fault_of bytes ≡ None
-some_spelled bytes h = ap fault_in (schedule_again bytes h.0 h.1)
+pub one_schedule : (level : Level) (bytes : List ℕ) (s t : Schedule) → Spells level bytes s → Spells level bytes t → s ≡ t
+one_schedule level bytes s t h k = read_is s t (sym (schedule_again level bytes s h) ∙ schedule_again level bytes t k)
 
-pub one_schedule : (bytes : List ℕ) (s t : Schedule) → Spells bytes s → Spells bytes t → s ≡ t
-one_schedule bytes s t h k = read_is s t (sym (schedule_again bytes s h) ∙ schedule_again bytes t k)
+pub only_ok : (level : Level) (bytes : List ℕ) (x s : Schedule) → schedule_at level bytes ≡ Ok x → Spells level bytes s → read s ≡ Ok x
+only_ok level bytes x s e spelled = sym (schedule_again level bytes s spelled) ∙ e
 
-pub only_ok : (bytes : List ℕ) (x s : Schedule) → schedule_at bytes ≡ Ok x → Spells bytes s → read s ≡ Ok x
-only_ok bytes x s e spelled = sym (schedule_again bytes s spelled) ∙ e
-
-pub only_err : (bytes : List ℕ) (f : ReadError BadSchedule) (s : Schedule) → Answers {A = Schedule} (Err f) (schedule_at bytes) → Spells bytes s → Answers {A = Schedule} (Err f) (read s)
-only_err bytes f s e spelled = subst (λ (r : Result Schedule BadSchedule). Answers {A = Schedule} (Err f) r) (schedule_again bytes s spelled) e
+pub only_err : (level : Level) (bytes : List ℕ) (f : ReadError BadSchedule) (s : Schedule) → Answers {A = Schedule} (Err f) (schedule_at level bytes) → Spells level bytes s → Answers {A = Schedule} (Err f) (read s)
+only_err level bytes f s e spelled = subst (λ (r : Result Schedule BadSchedule). Answers {A = Schedule} (Err f) r) (schedule_again level bytes s spelled) e

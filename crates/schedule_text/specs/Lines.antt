@@ -1,10 +1,12 @@
 -- The lines of a schedule by their words.
-use Rattle.std.specs.Prelude.{ℕ, ◌-◌, ◌^◌, Result, Ok, Err, List, [], ◌∷◌, codes, if◌then◌else◌}
-use Rattle.std.specs.List.{join_with_byte}
+use Rattle.std.specs.Prelude.{ℕ, ◌-◌, ◌^◌, ◌==◌, Bool, not, Result, Ok, Err, List, [], ◌∷◌, codes, IsTrue, if◌then◌else◌}
+use Rattle.std.specs.List.{join_with_byte, list_all}
 use Rattle.std.specs.Str.{bytes_eq}
 use Rattle.voting_config.specs.Ids.{Id}
 use Rattle.schedule_text.specs.declared.fault.Why.{Why}
 use Rattle.schedule_text.specs.declared.fault.Why.TheVariants as why
+use Rattle.schedule_text.specs.declared.level.Level.{Level}
+use Rattle.schedule_text.specs.declared.level.Level.TheVariants.{Core, Node}
 use Rattle.schedule_text.specs.declared.schedule.Line.{Line}
 use Rattle.schedule_text.specs.declared.schedule.Line.TheVariants as line
 use Rattle.zen_disk.specs.declared.orders.Way.{Way}
@@ -64,6 +66,24 @@ four {A} {B} {C} {D} a b c d = record {
   Fits = λ x. a.Fits x.0 × b.Fits x.1 × c.Fits x.2 × d.Fits x.3;
 }
 
+-- no line feed stands in the bytes
+abbrev pub is_one_line : List ℕ → Bool
+is_one_line bytes = list_all (λ b. not (b == 10)) bytes
+
+-- the first word, and what stands behind the space after it
+abbrev pub word_and_rest : List (List ℕ) → Result (List ℕ × List ℕ) Why
+word_and_rest [] = Err why.Arity
+word_and_rest (v ∷ []) = Err why.Arity
+word_and_rest (v ∷ w ∷ ws) = Ok (v, join_with_byte 32 (w ∷ ws))
+
+-- one word, one space, and any bytes of the line, further spaces included, which may be none
+abbrev pub with_rest : {A : Type 0} → Word A → Args (A × List ℕ)
+with_rest {A} a = record {
+  spelling = λ x. a.spelling x.0 ∷ x.1 ∷ [];
+  at = λ ws. word_and_rest ws >>= λ w. a.at w.0 >>= λ x. Ok (x, w.1);
+  Fits = λ x. a.Fits x.0 × IsTrue (is_one_line x.1);
+}
+
 -- ---- the verbs
 
 abbrev pub any_number : Word ℕ
@@ -75,6 +95,10 @@ most_ordinal = 4294967295
 
 abbrev pub ordinal : Word ℕ
 ordinal = number 1 most_ordinal
+
+-- a moment in milliseconds
+abbrev pub moment : Word ℕ
+moment = number 0 (2 ^ 62)
 
 abbrev pub boot : List Id → Args Id
 boot ids = one (listed ids)
@@ -100,12 +124,19 @@ fuse ids = three (listed ids) ordinal mode
 abbrev pub fail : List Id → Args (Id × ℕ)
 fail ids = two (listed ids) ordinal
 
+abbrev pub tick : List Id → Args (Id × ℕ × ℕ)
+tick ids = three (listed ids) moment any_number
+
+abbrev pub client : List Id → Args (Id × List ℕ)
+client ids = with_rest (listed ids)
+
 -- ---- a line
 
 -- the words of a line, which stand one space apart
 abbrev pub words_of : List ℕ → List (List ℕ)
 words_of bytes = parts_of 32 bytes
 
+-- the words of a line; the bytes behind the node of a client's line stand for one word
 abbrev pub line_words : Line → List (List ℕ)
 line_words (line.Boot n) = codes "boot" ∷ n ∷ []
 line_words (line.StartJoin n c t) = codes "startjoin" ∷ n ∷ c ∷ any_number.spelling t ∷ []
@@ -115,21 +146,41 @@ line_words (line.Crash n w) = codes "crash" ∷ n ∷ mode.spelling w ∷ []
 line_words (line.Restart n) = codes "restart" ∷ n ∷ []
 line_words (line.Fuse n k w) = codes "fuse" ∷ n ∷ ordinal.spelling k ∷ mode.spelling w ∷ []
 line_words (line.Fail n k) = codes "fail" ∷ n ∷ ordinal.spelling k ∷ []
+line_words (line.Tick n m w) = codes "tick" ∷ n ∷ moment.spelling m ∷ any_number.spelling w ∷ []
+line_words (line.Client n r) = codes "client" ∷ n ∷ r ∷ []
 
 -- a line as it is written
 abbrev pub line_text : Line → List ℕ
 line_text l = join_with_byte 32 (line_words l)
 
--- a line of these nodes
-abbrev pub FitsLine : List Id → Line → Type 0
-FitsLine ids (line.Boot n) = (boot ids).Fits n
-FitsLine ids (line.StartJoin n c t) = (start_join ids).Fits (n, c, t)
-FitsLine ids (line.Value n v x cfg) = (value ids).Fits (n, v, x, cfg)
-FitsLine ids (line.Deliver n k) = (deliver ids).Fits (n, k)
-FitsLine ids (line.Crash n w) = (crash ids).Fits (n, w)
-FitsLine ids (line.Restart n) = (restart ids).Fits n
-FitsLine ids (line.Fuse n k w) = (fuse ids).Fits (n, k, w)
-FitsLine ids (line.Fail n k) = (fail ids).Fits (n, k)
+-- a line of these nodes, at level core and at level node
+abbrev pub FitsCore : List Id → Line → Type 0
+FitsCore ids (line.Boot n) = (boot ids).Fits n
+FitsCore ids (line.StartJoin n c t) = (start_join ids).Fits (n, c, t)
+FitsCore ids (line.Value n v x cfg) = (value ids).Fits (n, v, x, cfg)
+FitsCore ids (line.Deliver n k) = (deliver ids).Fits (n, k)
+FitsCore ids (line.Crash n w) = (crash ids).Fits (n, w)
+FitsCore ids (line.Restart n) = (restart ids).Fits n
+FitsCore ids (line.Fuse n k w) = (fuse ids).Fits (n, k, w)
+FitsCore ids (line.Fail n k) = (fail ids).Fits (n, k)
+FitsCore ids (line.Tick n m w) = ⊥
+FitsCore ids (line.Client n r) = ⊥
+
+abbrev pub FitsNode : List Id → Line → Type 0
+FitsNode ids (line.Boot n) = ⊥
+FitsNode ids (line.StartJoin n c t) = ⊥
+FitsNode ids (line.Value n v x cfg) = ⊥
+FitsNode ids (line.Deliver n k) = (deliver ids).Fits (n, k)
+FitsNode ids (line.Crash n w) = (crash ids).Fits (n, w)
+FitsNode ids (line.Restart n) = (restart ids).Fits n
+FitsNode ids (line.Fuse n k w) = (fuse ids).Fits (n, k, w)
+FitsNode ids (line.Fail n k) = (fail ids).Fits (n, k)
+FitsNode ids (line.Tick n m w) = (tick ids).Fits (n, m, w)
+FitsNode ids (line.Client n r) = (client ids).Fits (n, r)
+
+abbrev pub FitsLine : Level → List Id → Line → Type 0
+FitsLine Core ids l = FitsCore ids l
+FitsLine Node ids l = FitsNode ids l
 
 -- what the words behind a verb are read as
 abbrev pub boot_at : List Id → List (List ℕ) → Result Line Why
@@ -156,6 +207,12 @@ fuse_at ids ws = (fuse ids).at ws >>= λ x. Ok (line.Fuse x.0 x.1 x.2)
 abbrev pub fail_at : List Id → List (List ℕ) → Result Line Why
 fail_at ids ws = (fail ids).at ws >>= λ x. Ok (line.Fail x.0 x.1)
 
+abbrev pub tick_at : List Id → List (List ℕ) → Result Line Why
+tick_at ids ws = (tick ids).at ws >>= λ x. Ok (line.Tick x.0 x.1 x.2)
+
+abbrev pub client_at : List Id → List (List ℕ) → Result Line Why
+client_at ids ws = (client ids).at ws >>= λ x. Ok (line.Client x.0 x.1)
+
 -- a line that stops a node, starts it again or lets its disk fail, by its verb
 abbrev pub stop_verb_at : List Id → List ℕ → List (List ℕ) → Result Line Why
 stop_verb_at ids verb ws =
@@ -165,20 +222,34 @@ stop_verb_at ids verb ws =
     else (if bytes_eq verb (codes "fail") then fail_at ids ws
     else Err why.Verb)))
 
--- a line by its verb; the line `value` has a list of its own, and stands first
-abbrev pub verb_at : List Id → List ℕ → List (List ℕ) → Result Line Why
-verb_at ids verb ws =
+-- a line of both levels, by its verb
+abbrev pub shared_verb_at : List Id → List ℕ → List (List ℕ) → Result Line Why
+shared_verb_at ids verb ws = if bytes_eq verb (codes "deliver") then deliver_at ids ws else stop_verb_at ids verb ws
+
+-- a line of level core by its verb; the line `value` has a list of its own, and stands first
+abbrev pub core_verb_at : List Id → List ℕ → List (List ℕ) → Result Line Why
+core_verb_at ids verb ws =
     if bytes_eq verb (codes "boot") then boot_at ids ws
     else (if bytes_eq verb (codes "startjoin") then start_join_at ids ws
-    else (if bytes_eq verb (codes "deliver") then deliver_at ids ws
-    else stop_verb_at ids verb ws))
+    else shared_verb_at ids verb ws)
 
-abbrev pub any_verb_at : List Id → List ℕ → List (List ℕ) → Result Line Why
-any_verb_at ids verb ws = if bytes_eq verb (codes "value") then value_at ids ws else verb_at ids verb ws
+abbrev pub core_line_at : List Id → List ℕ → List (List ℕ) → Result Line Why
+core_line_at ids verb ws = if bytes_eq verb (codes "value") then value_at ids ws else core_verb_at ids verb ws
 
-abbrev pub words_at : List Id → List (List ℕ) → Result Line Why
-words_at ids [] = Err why.Verb
-words_at ids (verb ∷ ws) = any_verb_at ids verb ws
+-- a line of level node by its verb; the line `client` has bytes of its own, and stands first
+abbrev pub node_verb_at : List Id → List ℕ → List (List ℕ) → Result Line Why
+node_verb_at ids verb ws = if bytes_eq verb (codes "tick") then tick_at ids ws else shared_verb_at ids verb ws
 
-abbrev pub line_at : List Id → List ℕ → Result Line Why
-line_at ids bytes = words_at ids (words_of bytes)
+abbrev pub node_line_at : List Id → List ℕ → List (List ℕ) → Result Line Why
+node_line_at ids verb ws = if bytes_eq verb (codes "client") then client_at ids ws else node_verb_at ids verb ws
+
+abbrev pub verb_at : Level → List Id → List ℕ → List (List ℕ) → Result Line Why
+verb_at Core ids verb ws = core_line_at ids verb ws
+verb_at Node ids verb ws = node_line_at ids verb ws
+
+abbrev pub words_at : Level → List Id → List (List ℕ) → Result Line Why
+words_at level ids [] = Err why.Verb
+words_at level ids (verb ∷ ws) = verb_at level ids verb ws
+
+abbrev pub line_at : Level → List Id → List ℕ → Result Line Why
+line_at level ids bytes = words_at level ids (words_of bytes)

@@ -5,6 +5,7 @@ use Rattle.voting_config.specs.Ids.{Id}
 use Rattle.schedule_text.specs.declared.fault.Why.{Why}
 use Rattle.schedule_text.specs.declared.fault.Why.TheVariants as why
 use Rattle.schedule_text.specs.declared.fault.BadSchedule.{BadSchedule}
+use Rattle.schedule_text.specs.declared.level.Level.{Level}
 use Rattle.schedule_text.specs.declared.place.Place.{Place}
 use Rattle.schedule_text.specs.declared.schedule.Line.{Line}
 use Rattle.schedule_text.specs.declared.schedule.Schedule.{Schedule}
@@ -73,8 +74,8 @@ abbrev pub second_line_at : List Id → Place → List ℕ → Result (List Id) 
 second_line_at ids p line = in_line p (sized_at p line >>= initial_line_at ids)
 
 -- one line that has its line feed
-abbrev pub one_line_at : List Id → Place → List ℕ → Result Line BadSchedule
-one_line_at ids p line = in_line p (sized_at p line >>= line_at ids)
+abbrev pub one_line_at : Level → List Id → Place → List ℕ → Result Line BadSchedule
+one_line_at level ids p line = in_line p (sized_at p line >>= line_at level ids)
 
 -- what the bytes after the last line feed are: nothing, or a line without one
 abbrev pub end_at : {A : Type 0} → Place → List ℕ → A → Result A BadSchedule
@@ -82,10 +83,10 @@ end_at p [] x = Ok x
 end_at p (b ∷ bs) x = Err (record { line = p.number; why = why_cut p (b ∷ bs) })
 
 -- the lines from this place on, after those in front, of what stands between line feeds
-abbrev pub lines_at : List Id → Place → List Line → List (List ℕ) → Result (List Line) BadSchedule
-lines_at ids p front [] = Ok front
-lines_at ids p front (line ∷ []) = end_at p line front
-lines_at ids p front (line ∷ next ∷ more) = one_line_at ids p line >>> λ l. lines_at ids (after_line p line) (front ++ l ∷ []) (next ∷ more)
+abbrev pub lines_at : Level → List Id → Place → List Line → List (List ℕ) → Result (List Line) BadSchedule
+lines_at level ids p front [] = Ok front
+lines_at level ids p front (line ∷ []) = end_at p line front
+lines_at level ids p front (line ∷ next ∷ more) = one_line_at level ids p line >>> λ l. lines_at level ids (after_line p line) (front ++ l ∷ []) (next ∷ more)
 
 abbrev pub pieces : List ℕ → List (List ℕ)
 pieces bytes = parts_of 10 bytes
@@ -96,28 +97,28 @@ no_initial p [] = Err (record { line = p.number; why = why.Header })
 no_initial p (b ∷ bs) = Err (record { line = p.number; why = why_cut p (b ∷ bs) })
 
 -- the second header line, which must be there, and the lines
-abbrev pub initial_at : List Id → Place → List (List ℕ) → Result Schedule BadSchedule
-initial_at ids p [] = Err (record { line = p.number; why = why.Header })
-initial_at ids p (line ∷ []) = no_initial p line
-initial_at ids p (line ∷ next ∷ more) =
+abbrev pub initial_at : Level → List Id → Place → List (List ℕ) → Result Schedule BadSchedule
+initial_at level ids p [] = Err (record { line = p.number; why = why.Header })
+initial_at level ids p (line ∷ []) = no_initial p line
+initial_at level ids p (line ∷ next ∷ more) =
     second_line_at ids p line >>> λ initial.
-    lines_at ids (after_line p line) [] (next ∷ more) >>> λ lines.
+    lines_at level ids (after_line p line) [] (next ∷ more) >>> λ lines.
     Ok (record { nodes = ids; initial = initial; lines = lines })
 
-abbrev pub nodes_at : Place → List (List ℕ) → Result Schedule BadSchedule
-nodes_at p [] = Ok (record { nodes = []; initial = []; lines = [] })
-nodes_at p (line ∷ []) = end_at p line (record { nodes = []; initial = []; lines = [] })
-nodes_at p (line ∷ next ∷ more) =
+abbrev pub nodes_at : Level → Place → List (List ℕ) → Result Schedule BadSchedule
+nodes_at level p [] = Ok (record { nodes = []; initial = []; lines = [] })
+nodes_at level p (line ∷ []) = end_at p line (record { nodes = []; initial = []; lines = [] })
+nodes_at level p (line ∷ next ∷ more) =
     first_line_at p line >>> λ ids.
-    initial_at ids (after_line p line) (next ∷ more)
+    initial_at level ids (after_line p line) (next ∷ more)
 
 -- the schedule that the bytes spell, or the first bad line and why it is bad
-abbrev pub schedule_at : List ℕ → Result Schedule BadSchedule
-schedule_at bytes = nodes_at first_place (pieces bytes)
+abbrev pub schedule_at : Level → List ℕ → Result Schedule BadSchedule
+schedule_at level bytes = nodes_at level first_place (pieces bytes)
 
 abbrev pub fault_in : {A : Type 0} → Result A BadSchedule → Option BadSchedule
 fault_in (Ok x) = None
 fault_in (Err bad) = Some bad
 
-abbrev pub fault_of : List ℕ → Option BadSchedule
-fault_of bytes = fault_in (schedule_at bytes)
+abbrev pub fault_of : Level → List ℕ → Option BadSchedule
+fault_of level bytes = fault_in (schedule_at level bytes)

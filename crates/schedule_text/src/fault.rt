@@ -23,10 +23,10 @@ pub enum Why {
     /// It is line 1 or 2, and no `nodes` or `initial` line that may stand there; or there is no line 2.
     #[error("the line is no header")]
     Header,
-    /// The first word is no verb.
+    /// The first word is no verb of the level.
     #[error("the first word is no verb")]
     Verb,
-    /// The verb has another number of words behind it.
+    /// The verb has another number of words behind it, or a `client` line no node with a space after it.
     #[error("the verb takes another number of words")]
     Arity,
     /// The word is no listed node.

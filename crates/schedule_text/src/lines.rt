@@ -1,10 +1,12 @@
 ghost use Rattle.std.specs.Prelude.{◌≡◌, Option};
 ghost use Rattle.schedule_text.specs.Words.{parts_in};
-ghost use Rattle.schedule_text.specs.Lines.{one_word as one_word_of, two_words as two_words_of, three_words as three_words_of, four_words as four_words_of, boot_at, start_join_at, value_at, deliver_at, crash_at, restart_at, fuse_at, fail_at, stop_verb_at, verb_at, line_at, Args};
+ghost use Rattle.schedule_text.specs.Lines.{one_word as one_word_of, two_words as two_words_of, three_words as three_words_of, four_words as four_words_of, word_and_rest as word_and_rest_of, boot_at, start_join_at, value_at, deliver_at, crash_at, restart_at, fuse_at, fail_at, tick_at, client_at, stop_verb_at, shared_verb_at, core_verb_at, core_line_at, node_verb_at, node_line_at, line_at, Args};
 ghost use Rattle.schedule_text.specs.Answers.{Gives, Answers};
 
 use crate::fault::{ReadError, Why};
 use crate::id_list::IdList;
+use crate::level::Level;
+use crate::line_bytes::LineBytes;
 use crate::modes::mode_at;
 use crate::schedule::Line;
 use crate::setting_text::SettingText;
@@ -14,6 +16,9 @@ use voting_config::{NodeId, NodeSet};
 
 /// The greatest number that a `deliver`, `fuse` or `fail` line has.
 pub const MAX_ORDINAL: u64 = 4294967295;
+
+/// The latest moment of a `tick` line, in milliseconds.
+pub const MAX_MOMENT: u64 = 4611686018427387904;
 
 /// The one word behind a verb, and `Arity` where there is another number of words.
 pub fn one_word(rest: Option<&[u8]>) -> Result<&[u8], Why>
@@ -164,6 +169,52 @@ fn fail(ids: &NodeSet, rest: Option<&[u8]>) -> Result<Line, Why>
     Ok(Line::Fail(node, call))
 }
 
+fn tick(ids: &NodeSet, rest: Option<&[u8]>) -> Result<Line, Why>
+    ensures { result ≡ tick_at ids.now (parts_in 32 rest.entry) }
+{
+    let (node, now, word) = three_words(rest)?;
+    let node = node_at(ids, node)?;
+    let now = number_at(now, 0, MAX_MOMENT)?;
+    let word = number_at(word, 0, u64::MAX)?;
+    Ok(Line::Tick(node, now, word))
+}
+
+// The first word behind a verb, and all that stands behind the space after it, further spaces included.
+fn word_and_rest(rest: Option<&[u8]>) -> Result<(&[u8], &[u8]), Why>
+    ensures { Gives (λ w. (w.0.now, w.1.now)) result (word_and_rest_of (parts_in 32 rest.entry)) }
+{
+    let Some(rest) = rest else {
+        return Err(Why::Arity);
+    };
+    let (word, rest) = cut(rest, b' ');
+    let Some(rest) = rest else {
+        return Err(Why::Arity);
+    };
+    Ok((word, rest))
+}
+
+// The line `client`, but for its bytes, which are not yet copied.
+fn client_parts<'a>(ids: &NodeSet, rest: Option<&'a [u8]>) -> Result<(NodeId, &'a [u8]), Why>
+    ensures { Gives (λ c. Line.Client c.0 c.1.now) result (client_at ids.now (parts_in 32 rest.entry)) }
+{
+    let (node, line) = word_and_rest(rest)?;
+    let node = node_at(ids, node)?;
+    Ok((node, line))
+}
+
+fn client(alloc: Global, ids: &NodeSet, rest: Option<&[u8]>) -> Result<Line, ReadError<Why>>
+    ensures { Answers result (client_at ids.now (parts_in 32 rest.entry)) }
+{
+    let (node, line) = match client_parts(ids, rest) {
+        Ok(parts) => parts,
+        Err(why) => return Err(ReadError::Bad(why)),
+    };
+    let Ok(line) = LineBytes::of(alloc, line) else {
+        return Err(ReadError::Memory);
+    };
+    Ok(Line::Client(node, line))
+}
+
 fn stop_verb_line(ids: &NodeSet, verb: &[u8], rest: Option<&[u8]>) -> Result<Line, Why>
     ensures { result ≡ stop_verb_at ids.now verb.now (parts_in 32 rest.entry) }
 {
@@ -182,8 +233,18 @@ fn stop_verb_line(ids: &NodeSet, verb: &[u8], rest: Option<&[u8]>) -> Result<Lin
     Err(Why::Verb)
 }
 
-fn verb_line(ids: &NodeSet, verb: &[u8], rest: Option<&[u8]>) -> Result<Line, Why>
-    ensures { result ≡ verb_at ids.now verb.now (parts_in 32 rest.entry) }
+// A line that stands at both levels.
+fn shared_line(ids: &NodeSet, verb: &[u8], rest: Option<&[u8]>) -> Result<Line, Why>
+    ensures { result ≡ shared_verb_at ids.now verb.now (parts_in 32 rest.entry) }
+{
+    if verb == b"deliver".as_slice() {
+        return deliver(ids, rest);
+    }
+    stop_verb_line(ids, verb, rest)
+}
+
+fn core_verb_line(ids: &NodeSet, verb: &[u8], rest: Option<&[u8]>) -> Result<Line, Why>
+    ensures { result ≡ core_verb_at ids.now verb.now (parts_in 32 rest.entry) }
 {
     if verb == b"boot".as_slice() {
         return boot(ids, rest);
@@ -191,22 +252,64 @@ fn verb_line(ids: &NodeSet, verb: &[u8], rest: Option<&[u8]>) -> Result<Line, Wh
     if verb == b"startjoin".as_slice() {
         return start_join(ids, rest);
     }
-    if verb == b"deliver".as_slice() {
-        return deliver(ids, rest);
-    }
-    stop_verb_line(ids, verb, rest)
+    shared_line(ids, verb, rest)
 }
 
-/// The line that these bytes are, which have no line feed, or why they are no line of these nodes.
-pub fn read_line(alloc: Global, ids: &NodeSet, bytes: &[u8]) -> Result<Line, ReadError<Why>>
-    ensures { Answers result (line_at ids.now bytes.now) }
+fn core_line(
+    alloc: Global,
+    ids: &NodeSet,
+    verb: &[u8],
+    rest: Option<&[u8]>,
+) -> Result<Line, ReadError<Why>>
+    ensures { Answers result (core_line_at ids.now verb.now (parts_in 32 rest.entry)) }
 {
-    let (verb, rest) = cut(bytes, b' ');
     if verb == b"value".as_slice() {
         return value(alloc, ids, rest);
     }
-    match verb_line(ids, verb, rest) {
+    match core_verb_line(ids, verb, rest) {
         Ok(line) => Ok(line),
         Err(why) => Err(ReadError::Bad(why)),
+    }
+}
+
+fn node_verb_line(ids: &NodeSet, verb: &[u8], rest: Option<&[u8]>) -> Result<Line, Why>
+    ensures { result ≡ node_verb_at ids.now verb.now (parts_in 32 rest.entry) }
+{
+    if verb == b"tick".as_slice() {
+        return tick(ids, rest);
+    }
+    shared_line(ids, verb, rest)
+}
+
+fn node_line(
+    alloc: Global,
+    ids: &NodeSet,
+    verb: &[u8],
+    rest: Option<&[u8]>,
+) -> Result<Line, ReadError<Why>>
+    ensures { Answers result (node_line_at ids.now verb.now (parts_in 32 rest.entry)) }
+{
+    if verb == b"client".as_slice() {
+        return client(alloc, ids, rest);
+    }
+    match node_verb_line(ids, verb, rest) {
+        Ok(line) => Ok(line),
+        Err(why) => Err(ReadError::Bad(why)),
+    }
+}
+
+/// The line that these bytes are, which have no line feed, or why they are no line of these nodes at this level.
+pub fn read_line(
+    alloc: Global,
+    level: Level,
+    ids: &NodeSet,
+    bytes: &[u8],
+) -> Result<Line, ReadError<Why>>
+    ensures { Answers result (line_at level ids.now bytes.now) }
+{
+    let (verb, rest) = cut(bytes, b' ');
+    match level {
+        Level::Core => core_line(alloc, ids, verb, rest),
+        Level::Node => node_line(alloc, ids, verb, rest),
     }
 }

@@ -7,6 +7,7 @@ ghost use Rattle.schedule_text.specs.Spelled.{Spells};
 ghost use Rattle.schedule_text.specs.declared.schedule.Schedule.{Schedule};
 
 use crate::fault::{BadSchedule, ReadError, Why};
+use crate::level::Level;
 use crate::lines::{one_word, read_line};
 use crate::place::Place;
 use crate::schedule::{Line, Lines, Schedule};
@@ -72,19 +73,20 @@ fn second_line(ids: &NodeSet, place: Place, line: &[u8]) -> Result<NodeSet, BadS
 // One line that has its line feed.
 fn one_line(
     alloc: Global,
+    level: Level,
     ids: &NodeSet,
     place: Place,
     line: &[u8],
 ) -> Result<Line, ReadError<BadSchedule>>
     requires { place.before + length line.now + 1 < 2 ^ 64 }
-    ensures read { Answers result (one_line_at ids.now place line.now) }
+    ensures read { Answers result (one_line_at level ids.now place line.now) }
     ensures counted { OnOk result (place.number ≤ most_lines) }
 {
     match place.check_size(line) {
         Ok(()) => (),
         Err(why) => return Err(ReadError::Bad(place.bad(why))),
     }
-    match read_line(alloc, ids, line) {
+    match read_line(alloc, level, ids, line) {
         Ok(line) => Ok(line),
         Err(ReadError::Memory) => Err(ReadError::Memory),
         Err(ReadError::Bad(why)) => Err(ReadError::Bad(place.bad(why))),
@@ -104,19 +106,20 @@ fn check_end(place: Place, line: &[u8]) -> Result<(), BadSchedule>
 
 fn read_lines(
     alloc: Global,
+    level: Level,
     ids: &NodeSet,
     start: Place,
     bytes: &[u8],
 ) -> Result<Lines, ReadError<BadSchedule>>
     requires bytes { start.before + length bytes.now < 2 ^ 64 }
-    ensures { Answers result (lines_at ids.now start [] (parts_of 10 bytes.now)) }
+    ensures { Answers result (lines_at level ids.now start [] (parts_of 10 bytes.now)) }
 {
     let mut lines = Vec::new(alloc);
     let mut place = start;
     let (mut line, mut rest) = cut(bytes, b'\n');
     while let Some(more) = rest {
         let next = cut(more, b'\n');
-        let read = match one_line(alloc, ids, place, line) {
+        let read = match one_line(alloc, level, ids, place, line) {
             Ok(read) => read,
             Err(fault) => return Err(fault),
         };
@@ -136,13 +139,14 @@ fn read_lines(
 // The lines behind the header's first one.
 fn read_rest(
     alloc: Global,
+    level: Level,
     nodes: NodeSet,
     place: Place,
     bytes: &[u8],
 ) -> Result<Schedule, ReadError<BadSchedule>>
     requires bytes { place.before + length bytes.now < 2 ^ 64 }
     requires number { place.number ≤ most_lines }
-    ensures { Answers result (initial_at nodes place (parts_of 10 bytes.now)) }
+    ensures { Answers result (initial_at level nodes place (parts_of 10 bytes.now)) }
 {
     let (line, rest) = cut(bytes, b'\n');
     let Some(rest) = rest else {
@@ -153,7 +157,7 @@ fn read_rest(
         Ok(initial) => initial,
         Err(bad) => return Err(ReadError::Bad(bad)),
     };
-    let lines = match read_lines(alloc, &nodes, place.after(line), rest) {
+    let lines = match read_lines(alloc, level, &nodes, place.after(line), rest) {
         Ok(lines) => lines,
         Err(fault) => return Err(fault),
     };
@@ -174,8 +178,8 @@ fn no_second(place: Place, line: &[u8]) -> BadSchedule
     place.bad(place.why_cut(line))
 }
 
-fn read_exact(alloc: Global, bytes: &[u8]) -> Result<Schedule, ReadError<BadSchedule>>
-    ensures { Answers result (schedule_at bytes.now) }
+fn read_exact(alloc: Global, level: Level, bytes: &[u8]) -> Result<Schedule, ReadError<BadSchedule>>
+    ensures { Answers result (schedule_at level bytes.now) }
 {
     let place = Place::first();
     let (line, rest) = cut(bytes, b'\n');
@@ -194,22 +198,27 @@ fn read_exact(alloc: Global, bytes: &[u8]) -> Result<Schedule, ReadError<BadSche
         Ok(nodes) => nodes,
         Err(bad) => return Err(ReadError::Bad(bad)),
     };
-    match read_rest(alloc, nodes, place.after(line), rest) {
+    match read_rest(alloc, level, nodes, place.after(line), rest) {
         Ok(schedule) => Ok(schedule),
         Err(fault) => Err(fault),
     }
 }
 
-/// The schedule that the bytes spell, or the first bad line and why it is bad. `Memory` may come for any bytes.
-pub fn read_schedule(alloc: Global, bytes: &[u8]) -> Result<Schedule, ReadError<BadSchedule>>
+/// The schedule of this level that the bytes spell, or the first bad line and why it is bad. `Memory` may come for any
+/// bytes.
+pub fn read_schedule(
+    alloc: Global,
+    bytes: &[u8],
+    level: Level,
+) -> Result<Schedule, ReadError<BadSchedule>>
     // What is read is spelled so.
-    ensures found { IfOk result (λ s. Spells bytes.now s) }
+    ensures found { IfOk result (λ s. Spells level bytes.now s) }
     // What is spelled so is read, unless memory runs out.
-    ensures only { (s : Schedule) → Spells bytes.now s → Answers result (Ok s) }
+    ensures only { (s : Schedule) → Spells level bytes.now s → Answers result (Ok s) }
     // Which fault it is, where there is one. `law_first_bad_line` says which line it names.
-    ensures fault { Faulted result (fault_of bytes.now) }
+    ensures fault { Faulted result (fault_of level bytes.now) }
 {
-    match read_exact(alloc, bytes) {
+    match read_exact(alloc, level, bytes) {
         Ok(read) => Ok(read),
         Err(fault) => Err(fault),
     }

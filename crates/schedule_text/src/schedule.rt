@@ -1,12 +1,14 @@
 ghost use Rattle.std.specs.Prelude.{◌≡◌};
 
 use crate::id_list::IdList;
+use crate::line_bytes::LineBytes;
 use crate::setting_text::SettingText;
 use std::marker::Model;
 use voting_config::{NodeId, NodeSet};
 use zen_disk::Way;
 
-/// A line of a schedule behind its header. The first id is the node that acts.
+/// A line of a schedule behind its header. The first id is the node that acts. `Boot`, `StartJoin` and `Value` stand at
+/// level core alone, `Tick` and `Client` at level node alone.
 #[derive(Drop)]
 pub enum Line {
     /// The node takes the initial configuration.
@@ -26,6 +28,10 @@ pub enum Line {
     Fuse(NodeId, u64, Way),
     /// The node's device call of this number fails, the next one being 1.
     Fail(NodeId, u64),
+    /// The node's clock stands at this moment, in milliseconds from 0 to 2^62, and the node is handed this random word.
+    Tick(NodeId, u64, u64),
+    /// A client's line reaches the node.
+    Client(NodeId, LineBytes),
 }
 
 /// The lines of a schedule, seen as a list.

@@ -1,4 +1,5 @@
 use crate::fault::{BadSchedule, ReadError, Why};
+use crate::level::Level;
 use crate::printing::write_schedule;
 use crate::reading::read_schedule;
 use crate::schedule::Line;
@@ -10,8 +11,8 @@ use zen_disk::Way;
 const HEADER: &[u8] = b"nodes a\ninitial a\n";
 
 // The line and the reason of a text's fault.
-fn fault(alloc: Global, text: &[u8]) -> Option<(usize, Why)> {
-    match read_schedule(alloc, text) {
+fn fault(alloc: Global, level: Level, text: &[u8]) -> Option<(usize, Why)> {
+    match read_schedule(alloc, text, level) {
         Err(ReadError::Bad(bad)) => Some((bad.line, bad.why)),
         _ => None,
     }
@@ -31,18 +32,19 @@ fn many(alloc: Global, count: usize, bytes: &[u8]) -> Option<Vec<u8>> {
 }
 
 // The fault of a text with so many times these bytes behind a header.
-fn fault_of_many(alloc: Global, count: usize, bytes: &[u8]) -> Option<(usize, Why)> {
+fn fault_of_many(alloc: Global, level: Level, count: usize, bytes: &[u8]) -> Option<(usize, Why)> {
     match many(alloc, count, bytes) {
-        Some(text) => fault(alloc, text.as_slice()),
+        Some(text) => fault(alloc, level, text.as_slice()),
         None => None,
     }
 }
 
 #[test]
-fn names_the_reason_of_a_third_line(rt: HostRuntime) {
+fn names_the_reason_of_a_third_line_at_level_core(rt: HostRuntime) {
     let a = rt.alloc();
     for (line, why) in [
         ("tick a 0 0\n", Why::Verb),
+        ("client a x\n", Why::Verb),
         ("deliver a\n", Why::Arity),
         ("deliver z x\n", Why::Id),
         ("deliver a 01\n", Why::Number),
@@ -80,7 +82,43 @@ fn names_the_reason_of_a_third_line(rt: HostRuntime) {
         ("fail a 0\n", Why::Number),
     ] {
         assert_eq!(rt;
-            fault_of_many(a, 1, line.as_bytes()),
+            fault_of_many(a, Level::Core, 1, line.as_bytes()),
+            Some((3, why)),
+            "at {line}"
+        );
+    }
+}
+
+#[test]
+fn names_the_reason_of_a_third_line_at_level_node(rt: HostRuntime) {
+    let a = rt.alloc();
+    for (line, why) in [
+        ("boot a\n", Why::Verb),
+        ("startjoin a a 1\n", Why::Verb),
+        ("value a 1 x a\n", Why::Verb),
+        ("clients a x\n", Why::Verb),
+        ("tick a 0\n", Why::Arity),
+        ("tick a 0 0 0\n", Why::Arity),
+        ("tick z x x\n", Why::Id),
+        ("tick a 00 0\n", Why::Number),
+        ("tick a 0 \n", Why::Number),
+        ("tick a 4611686018427387905 0\n", Why::Number),
+        ("tick a 0 18446744073709551616\n", Why::Number),
+        ("client\n", Why::Arity),
+        ("client \n", Why::Arity),
+        ("client a\n", Why::Arity),
+        ("client  a\n", Why::Id),
+        ("client z \n", Why::Id),
+        ("client a x", Why::NoNewline),
+        ("deliver a\n", Why::Arity),
+        ("deliver a 0\n", Why::Number),
+        ("crash a most\n", Why::Mode),
+        ("restart z\n", Why::Id),
+        ("fuse a 1\n", Why::Arity),
+        ("fail a 0\n", Why::Number),
+    ] {
+        assert_eq!(rt;
+            fault_of_many(a, Level::Node, 1, line.as_bytes()),
             Some((3, why)),
             "at {line}"
         );
@@ -99,15 +137,23 @@ fn names_the_reason_of_a_header(rt: HostRuntime) {
         ("nodes b,a\n", 1, Why::Header),
         ("\n", 1, Why::Header),
     ] {
-        assert_eq!(rt; fault(a, text.as_bytes()), Some((line, why)), "at {text}");
+        for level in [Level::Core, Level::Node] {
+            assert_eq!(rt;
+                fault(a, level, text.as_bytes()),
+                Some((line, why)),
+                "at {text}"
+            );
+        }
     }
-    assert!(rt; read_schedule(a, b"").is_ok());
-    assert!(rt; read_schedule(a, HEADER).is_ok());
+    for level in [Level::Core, Level::Node] {
+        assert!(rt; read_schedule(a, b"", level).is_ok());
+        assert!(rt; read_schedule(a, HEADER, level).is_ok());
+    }
 }
 
 // The text of the schedule that a text spells.
-fn printed(alloc: Global, text: &[u8]) -> Option<Text> {
-    let Ok(schedule) = read_schedule(alloc, text) else {
+fn printed(alloc: Global, level: Level, text: &[u8]) -> Option<Text> {
+    let Ok(schedule) = read_schedule(alloc, text, level) else {
         return None;
     };
     write_schedule(alloc, &schedule).ok()
@@ -117,7 +163,7 @@ fn printed(alloc: Global, text: &[u8]) -> Option<Text> {
 fn prints_what_it_has_read(rt: HostRuntime) {
     let text =
         b"nodes a,b\ninitial a\nboot a\nstartjoin a b 18446744073709551615\nvalue b 0 x-1 _\nvalue b 7 x a,b\ndeliver a 4294967295\n";
-    match printed(rt.alloc(), text) {
+    match printed(rt.alloc(), Level::Core, text) {
         Some(printed) => assert!(rt; printed.as_bytes() == text.as_slice()),
         None => assert!(rt; false),
     }
@@ -127,9 +173,43 @@ fn prints_what_it_has_read(rt: HostRuntime) {
 fn prints_each_stop_that_it_has_read(rt: HostRuntime) {
     let text =
         b"nodes a,b\ninitial a\ncrash b none\ncrash b all\ncrash b torn:09\nrestart b\nfuse a 1 torn:af\nfuse a 4294967295 none\nfail b 10\n";
-    match printed(rt.alloc(), text) {
+    match printed(rt.alloc(), Level::Core, text) {
         Some(printed) => assert!(rt; printed.as_bytes() == text.as_slice()),
         None => assert!(rt; false),
+    }
+}
+
+#[test]
+fn prints_what_it_has_read_at_level_node(rt: HostRuntime) {
+    let text =
+        b"nodes a,b\ninitial a\ntick a 0 0\ntick b 4611686018427387904 18446744073709551615\nclient a \nclient b  get  x \nclient a \xff\x00\x80\ndeliver a 1\ncrash a torn:09\nrestart a\nfuse b 1 all\nfail b 10\n";
+    match printed(rt.alloc(), Level::Node, text) {
+        Some(printed) => assert!(rt; printed.as_bytes() == text.as_slice()),
+        None => assert!(rt; false),
+    }
+}
+
+// The bytes of a first line `client`.
+fn client_of(line: &Line) -> &[u8] {
+    match line {
+        Line::Client(_, bytes) => bytes.as_slice(),
+        _ => b"none",
+    }
+}
+
+#[test]
+fn shows_a_clients_line_with_its_spaces(rt: HostRuntime) {
+    for (text, shown) in [
+        ("nodes a\ninitial a\nclient a put x  1 \n", "put x  1 "),
+        ("nodes a\ninitial a\nclient a \n", ""),
+    ] {
+        match read_schedule(rt.alloc(), text.as_bytes(), Level::Node) {
+            Ok(schedule) => match schedule.lines.as_slice().first() {
+                Some(line) => assert!(rt; client_of(line) == shown.as_bytes()),
+                None => assert!(rt; false),
+            },
+            Err(_) => assert!(rt; false),
+        }
     }
 }
 
@@ -144,7 +224,7 @@ fn torn_of(line: &Line) -> Option<u8> {
 #[test]
 fn shows_a_torn_byte(rt: HostRuntime) {
     let text = b"nodes a,b\ninitial a\ncrash b torn:a7\n";
-    match read_schedule(rt.alloc(), text) {
+    match read_schedule(rt.alloc(), text, Level::Core) {
         Ok(schedule) => match schedule.lines.as_slice().first() {
             Some(line) => assert_eq!(rt; torn_of(line), Some(167)),
             None => assert!(rt; false),
@@ -166,7 +246,7 @@ fn value_of(line: &Line) -> Option<(u64, usize, usize)> {
 #[test]
 fn shows_a_value(rt: HostRuntime) {
     let text = b"nodes a,b\ninitial a\nvalue b 7 x-1 a,b\n";
-    match read_schedule(rt.alloc(), text) {
+    match read_schedule(rt.alloc(), text, Level::Core) {
         Ok(schedule) => match schedule.lines.as_slice().first() {
             Some(line) => assert_eq!(rt; value_of(line), Some((7, 3, 2))),
             None => assert!(rt; false),
@@ -196,15 +276,18 @@ fn takes_a_million_lines(rt: HostRuntime) {
         assert!(rt; false);
         return;
     };
-    assert!(rt; read_schedule(a, text.as_slice()).is_ok());
+    assert!(rt; read_schedule(a, text.as_slice(), Level::Core).is_ok());
     assert!(rt; text.push(b'x').is_ok());
-    assert_eq!(rt; fault(a, text.as_slice()), Some((1000001, Why::TooMany)));
+    assert_eq!(rt;
+        fault(a, Level::Core, text.as_slice()),
+        Some((1000001, Why::TooMany))
+    );
 }
 
 #[test]
 fn names_a_text_that_is_too_big(rt: HostRuntime) {
     // The header has 18 bytes.
-    let too_big = fault_of_many(rt.alloc(), 16777199, b"x");
+    let too_big = fault_of_many(rt.alloc(), Level::Core, 16777199, b"x");
     assert_eq!(rt; too_big, Some((3, Why::TooBig)));
 }
 
@@ -217,6 +300,10 @@ fn names_a_line_that_is_too_long(rt: HostRuntime) {
             return;
         };
         assert!(rt; text.push(b'\n').is_ok());
-        assert_eq!(rt; fault(a, text.as_slice()), Some((3, why)), "at {bytes}");
+        assert_eq!(rt;
+            fault(a, Level::Core, text.as_slice()),
+            Some((3, why)),
+            "at {bytes}"
+        );
     }
 }

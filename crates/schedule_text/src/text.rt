@@ -158,6 +158,20 @@ impl Text {
                 self.word(" ")?;
                 self.number(*call)
             }
+            Line::Tick(node, now, word) => {
+                self.word("tick ")?;
+                self.id(*node)?;
+                self.word(" ")?;
+                self.number(*now)?;
+                self.word(" ")?;
+                self.number(*word)
+            }
+            Line::Client(node, line) => {
+                self.word("client ")?;
+                self.id(*node)?;
+                self.word(" ")?;
+                self.bytes(line.as_slice())
+            }
         }
     }
 
