@@ -1,0 +1,4 @@
+pub mod Published
+pub mod Frames
+pub mod Steps
+pub mod Events

@@ -1,0 +1,25 @@
+-- Part of the statement: the state that a node published last, step by step.
+use Rattle.std.specs.Prelude.{Option, Some, List, [], ◌∷◌}
+use Rattle.cluster_state.specs.declared.state.ClusterState.{ClusterState}
+use Rattle.world_model.specs.declared.acts.Outcome.{Outcome}
+use Rattle.world_model.specs.declared.acts.Outcome.TheVariants.{Answered}
+use Rattle.world_model.specs.declared.acts.Act.TheVariants.{Value}
+use Rattle.world_model.specs.declared.acts.Reply.TheVariants.{Taken}
+use Rattle.world_model.specs.declared.acts.Message.TheVariants.{Publish as PublishMessage}
+use Rattle.policy_model.specs.declared.events.Step.{Step}
+use Rattle.policy_model.specs.declared.events.Step.TheVariants as step
+
+abbrev pub published_by : Outcome → Option ClusterState → Option ClusterState
+published_by (Answered (Taken (Some (PublishMessage request)) wins)) before = Some request.state
+published_by other before = before
+
+-- the state that a node published last, behind a step
+abbrev pub published_in : Option ClusterState → Step → Option ClusterState
+published_in before (step.Act (Value version config value) o) = published_by o before
+published_in before (step.Act act o) = before
+published_in before (step.Mode mode term) = before
+
+-- the same, behind all of these
+abbrev pub published_after : Option ClusterState → List Step → Option ClusterState
+published_after before [] = before
+published_after before (s ∷ ss) = published_after (published_in before s) ss

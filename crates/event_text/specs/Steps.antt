@@ -1,0 +1,49 @@
+-- Part of the statement: the lines of a trace that tell of a node's acts and of its changes of mode.
+use Rattle.std.specs.Prelude.{ℕ, Bool, Option, List, [], ◌∷◌, ◌++◌, codes, decimal, if◌then◌else◌, map}
+use Rattle.voting_config.specs.Ids.{Id}
+use Rattle.cluster_state.specs.declared.state.ClusterState.{ClusterState}
+use Rattle.world_model.specs.declared.acts.Act.{Act}
+use Rattle.world_model.specs.declared.acts.Outcome.{Outcome}
+use Rattle.world_model.specs.declared.acts.Outcome.TheVariants.{Answered, Disk, Crashed}
+use Rattle.policy_model.specs.declared.events.Mode.{Mode}
+use Rattle.policy_model.specs.declared.events.Mode.TheVariants.{Candidate, Leader, Follower}
+use Rattle.policy_model.specs.declared.events.Step.{Step}
+use Rattle.policy_model.specs.declared.events.Step.TheVariants as step
+use Rattle.trace_text.specs.Trace.{committed_line, outcome_line, won_line}
+use Rattle.event_text.specs.Published.{published_in}
+
+abbrev pub mode_text : Mode → List ℕ
+mode_text Candidate = codes "candidate"
+mode_text Leader = codes "leader"
+mode_text (Follower leader) = codes "follower " ++ leader
+
+abbrev pub mode_line : Id → Mode → (term : ℕ) → List ℕ
+mode_line n mode term = codes "mode " ++ n ++ codes " " ++ mode_text mode ++ codes " " ++ decimal term ++ codes "\n"
+
+-- an act that ended so, of a node that had published this state last: the act, an election that it won, a state that is committed
+abbrev pub act_lines : Id → Option ClusterState → Act → Outcome → List ℕ
+act_lines n published act o = outcome_line n o act ++ won_line n act o ++ committed_line o published
+
+abbrev pub step_text : Id → Option ClusterState → Step → List ℕ
+step_text n published (step.Act act o) = act_lines n published act o
+step_text n published (step.Mode mode term) = mode_line n mode term
+
+-- steps in their order, of a node that had published this state last before them
+abbrev pub steps_text : Id → Option ClusterState → List Step → List ℕ
+steps_text n published [] = []
+steps_text n published (s ∷ ss) = step_text n published s ++ steps_text n (published_in published s) ss
+
+-- ---- where the node has stopped
+
+-- How an act is told to have ended: where the disk failed since the node stopped, the act crashed. No further act follows it in an event.
+abbrev pub outcome_told : (crashed : Bool) → Outcome → Outcome
+outcome_told crashed (Answered reply) = Answered reply
+outcome_told crashed (Disk kept) = if crashed then Crashed kept else Disk kept
+outcome_told crashed (Crashed kept) = Crashed kept
+
+abbrev pub step_told : (crashed : Bool) → Step → Step
+step_told crashed (step.Act act o) = step.Act act (outcome_told crashed o)
+step_told crashed (step.Mode mode term) = step.Mode mode term
+
+abbrev pub told_as : (crashed : Bool) → List Step → List Step
+told_as crashed steps = map (step_told crashed) steps

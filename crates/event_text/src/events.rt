@@ -1,0 +1,119 @@
+ghost use Rattle.std.specs.Prelude.{ℕ, ◌≡◌, ◌<◌, ◌^◌, [], ◌++◌, OnOk};
+ghost use Rattle.event_text.specs.Published.{published_after};
+ghost use Rattle.event_text.specs.Steps.{told_as};
+ghost use Rattle.event_text.specs.Events.{cause_text, drop_line, drops_text, event_results, replies_text, reply_line};
+
+use crate::frames::write_frames;
+use crate::steps::{write_steps, write_struck_steps};
+use client_lines::write_reply;
+use cluster_state::ClusterState;
+use master_tasks::Outgoing;
+use policy_model::{DropCause, MemberDrop, Step};
+use schedule_text::Text;
+use std::alloc::{AllocError, Global};
+use voting_config::NodeId;
+use wire_frames::Frame;
+
+fn write_cause(text: &mut Text, cause: DropCause) -> Result<(), AllocError>
+    ensures { OnOk result (text.new ≡ text.old ++ cause_text cause) }
+{
+    match cause {
+        DropCause::Checks => text.word("checks"),
+        DropCause::Lag => text.word("lag"),
+    }
+}
+
+fn write_drop(text: &mut Text, node: NodeId, dropped: MemberDrop) -> Result<(), AllocError>
+    ensures { OnOk result (text.new ≡ text.old ++ drop_line node dropped) }
+{
+    text.word("drop ")?;
+    text.id(node)?;
+    text.word(" ")?;
+    text.id(dropped.member)?;
+    text.word(" ")?;
+    write_cause(text, dropped.cause)?;
+    text.word("\n")
+}
+
+/// Writes which members a leader has removed, and why.
+pub fn write_drops(text: &mut Text, node: NodeId, drops: &[MemberDrop]) -> Result<(), AllocError>
+    ensures { OnOk result (text.new ≡ text.old ++ drops_text node drops.now) }
+{
+    for dropped in drops {
+        write_drop(text, node, *dropped)?;
+    }
+    Ok(())
+}
+
+fn write_reply_line(
+    text: &mut Text,
+    alloc: Global,
+    node: NodeId,
+    answer: &Outgoing,
+) -> Result<(), AllocError>
+    ensures { OnOk result (text.new ≡ text.old ++ reply_line node answer.now) }
+{
+    let json = write_reply(alloc, &answer.reply)?;
+    text.word("reply ")?;
+    text.id(node)?;
+    text.word(" ")?;
+    text.bytes(json.as_slice())?;
+    text.word("\n")
+}
+
+/// Writes what a node answers its clients, as JSON.
+pub fn write_replies(
+    text: &mut Text,
+    alloc: Global,
+    node: NodeId,
+    replies: &[Outgoing],
+) -> Result<(), AllocError>
+    ensures { OnOk result (text.new ≡ text.old ++ replies_text node replies.now) }
+{
+    for answer in replies {
+        write_reply_line(text, alloc, node, answer)?;
+    }
+    Ok(())
+}
+
+/// Writes an event of a node, after `count` frames: its acts and changes of mode, then drops, then frames, then replies.
+/// `published` is as for `write_steps`.
+pub fn write_event(
+    text: &mut Text,
+    alloc: Global,
+    count: usize,
+    node: NodeId,
+    published: &mut Option<ClusterState>,
+    steps: &[Step],
+    drops: &[MemberDrop],
+    frames: &[Frame],
+    replies: &[Outgoing],
+) -> Result<(), AllocError>
+    requires { count < 2 ^ 63 }
+    ensures text { OnOk result (text.new ≡ text.old ++ event_results count node published.old steps.now drops.now frames.now replies.now) }
+    ensures published { OnOk result (published.new ≡ published_after published.old steps.now) }
+{
+    write_steps(text, alloc, node, published, steps)?;
+    write_drops(text, node, drops)?;
+    write_frames(text, alloc, count, frames)?;
+    write_replies(text, alloc, node, replies)
+}
+
+/// Writes an event at which the disk failed in the last act: its acts and changes of mode, then drops. Nothing was sent and
+/// nobody was answered. Where `crashed`, the disk failed since the node stopped in that act. `published` is as for
+/// `write_steps`.
+pub fn write_struck_event(
+    text: &mut Text,
+    alloc: Global,
+    node: NodeId,
+    published: &mut Option<ClusterState>,
+    steps: &[Step],
+    drops: &[MemberDrop],
+    crashed: bool,
+) -> Result<(), AllocError>
+    ensures text { OnOk result ((count : ℕ) → text.new ≡ text.old ++ event_results count node published.old (told_as crashed steps.now) drops.now [] []) }
+    ensures published { OnOk result (published.new ≡ published_after published.old steps.now) }
+{
+    write_struck_steps(text, alloc, node, published, steps, crashed)?;
+    write_drops(text, node, drops)
+}

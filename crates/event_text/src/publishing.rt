@@ -1,0 +1,66 @@
+// Which state a node published last.
+ghost use Rattle.std.specs.Prelude.{◌≡◌, Bool, OnOk, Some};
+ghost use Rattle.world_model.specs.declared.acts.Outcome.TheVariants as outcome;
+ghost use Rattle.world_model.specs.declared.acts.Reply.TheVariants as reply;
+ghost use Rattle.policy_model.specs.declared.events.Step.TheVariants as step;
+ghost use Rattle.event_text.specs.Published.{published_by, published_in};
+
+use cluster_state::ClusterState;
+use std::alloc::AllocError;
+use world_model::{Act, Message, Outcome, Reply};
+
+fn keep_message(published: &mut Option<ClusterState>, message: &Message) -> Result<(), AllocError>
+    ensures { OnOk result ((wins : Bool) → published.new ≡ published_by (outcome.Answered (reply.Taken (Some message.now) wins)) published.old) }
+{
+    match message {
+        Message::Publish(request) => {
+            *published = Some(request.state.copy()?);
+            Ok(())
+        }
+        _ => Ok(()),
+    }
+}
+
+fn keep_sends(
+    published: &mut Option<ClusterState>,
+    sends: &Option<Message>,
+) -> Result<(), AllocError>
+    ensures { OnOk result ((wins : Bool) → published.new ≡ published_by (outcome.Answered (reply.Taken sends.now wins)) published.old) }
+{
+    match sends {
+        None => Ok(()),
+        Some(message) => keep_message(published, message),
+    }
+}
+
+fn keep_reply(published: &mut Option<ClusterState>, reply: &Reply) -> Result<(), AllocError>
+    ensures { OnOk result (published.new ≡ published_by (outcome.Answered reply.now) published.old) }
+{
+    match reply {
+        Reply::Taken(sends, _) => keep_sends(published, sends),
+        Reply::Refused(_) | Reply::Stopped => Ok(()),
+    }
+}
+
+fn keep_outcome(published: &mut Option<ClusterState>, outcome: &Outcome) -> Result<(), AllocError>
+    ensures { OnOk result (published.new ≡ published_by outcome.now published.old) }
+{
+    match outcome {
+        Outcome::Answered(reply) => keep_reply(published, reply),
+        Outcome::Disk(_) | Outcome::Crashed(_) => Ok(()),
+    }
+}
+
+// Keeps a copy of what was published, where the act publishes.
+pub(crate) fn keep_published(
+    published: &mut Option<ClusterState>,
+    act: &Act,
+    outcome: &Outcome,
+) -> Result<(), AllocError>
+    ensures { OnOk result (published.new ≡ published_in published.old (step.Act act.now outcome.now)) }
+{
+    match act {
+        Act::Value(_, _, _) => keep_outcome(published, outcome),
+        _ => Ok(()),
+    }
+}
