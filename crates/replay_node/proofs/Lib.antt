@@ -5,6 +5,7 @@ pub mod Carried
 pub mod Crashed
 pub mod FileLeft
 pub mod Found
+pub mod IdLists
 pub mod JournalLeft
 pub mod MayAct
 pub mod Moves

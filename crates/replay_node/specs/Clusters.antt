@@ -1,15 +1,20 @@
 -- Whole nodes, which do what the policy says: their one history, the life of each and the frames that they sent. Part of the statement.
-use Rattle.std.specs.Prelude.{◌-◌, ℕ, true, cond, Option, None, Some, List, ◌++◌, slice_get, if◌then◌else◌}
+use Rattle.std.specs.Prelude.{◌-◌, ℕ, true, cond, Option, None, Some, List, [], ◌∷◌, ◌++◌, slice_get, if◌then◌else◌}
 use Rattle.voting_config.specs.Ids.{Id, same, without_id}
 use Rattle.cluster_state.specs.declared.state.Kept.{Kept}
+use Rattle.zen_disk.specs.declared.orders.Order.TheVariants.{Stop, Fault}
 use Rattle.wire_frames.specs.declared.frame.Frame.{Frame}
+use Rattle.schedule_text.specs.declared.schedule.Line.{Line}
+use Rattle.schedule_text.specs.declared.schedule.Line.TheVariants as line
+use Rattle.schedule_text.specs.declared.schedule.Schedule.{Schedule}
+use Rattle.world_model.specs.Histories.{History}
 use Rattle.replay_node.specs.NodeDisk.{CallsEnd, Done, Failed, StoppedIn, opening}
 use Rattle.replay_node.specs.NodeWorld.{NodeWorld, found_at, needs_opening}
 use Rattle.replay_node.specs.Settled.{is_kept}
-use Rattle.replay_node.specs.Worlds.{World, node_world, opened}
+use Rattle.replay_node.specs.Worlds.{World, fresh_world, node_world, crashed, ordered, opened}
 use Rattle.policy_model.specs.declared.settings.Settings.{Settings}
 use Rattle.policy_model.specs.declared.events.Event.{Event}
-use Rattle.policy_model.specs.declared.events.Event.TheVariants.{Start, Frame as FrameCame}
+use Rattle.policy_model.specs.declared.events.Event.TheVariants.{Start, Tick, Frame as FrameCame, Client as LineCame}
 use Rattle.policy_model.specs.Entries.{Life, NotBegun, Opened, Lived, Did, log_of, frames_of}
 use Rattle.policy_model.specs.Follows.{items_of}
 use Rattle.replay_node.specs.Course.{Course, played, settled_life}
@@ -83,3 +88,36 @@ module _ (s : Settings) where
 -- the frame of this number, where it has been sent
 abbrev pub frame_at : Cluster → ℕ → Option Frame
 frame_at c number = slice_get c.frames (number - 1)
+
+-- ---- a schedule
+
+module _ (nodes initial : List Id) where
+  abbrev pub fresh_cluster : Cluster
+  fresh_cluster = record { world = fresh_world; lives = λ n. first_life (settings_of nodes initial n); frames = [] }
+
+  -- what a line makes of all nodes; the lines of level core alone make nothing of them
+  abbrev pub after : Cluster → Line → Cluster
+  after c (line.Tick n now word) = after_event_if_up (settings_of nodes initial n) c (Tick now word)
+  after c (line.Client n bytes) = after_event_if_up (settings_of nodes initial n) c (LineCame 0 bytes)
+  after c (line.Deliver n number) = after_frame (settings_of nodes initial n) c (frame_at c number)
+  after c (line.Crash n way) = record c { world = crashed c.world n way }
+  after c (line.Restart n) = after_restart (settings_of nodes initial n) c
+  after c (line.Fuse n count way) = record c { world = ordered c.world n (Stop count way) }
+  after c (line.Fail n count) = record c { world = ordered c.world n (Fault count) }
+  after c (line.Boot n) = c
+  after c (line.StartJoin n candidate term) = c
+  after c (line.Value n version text config) = c
+
+  abbrev pub replayed_from : Cluster → List Line → Cluster
+  replayed_from c [] = c
+  replayed_from c (l ∷ ls) = replayed_from (after c l) ls
+
+-- all nodes after the schedule
+abbrev pub replayed : Schedule → Cluster
+replayed s = replayed_from s.nodes s.initial (fresh_cluster s.nodes s.initial) s.lines
+
+abbrev pub replayed_history : Schedule → History
+replayed_history s = (replayed s).world.history
+
+abbrev pub replayed_life : Schedule → Id → Life
+replayed_life s n = (replayed s).lives n

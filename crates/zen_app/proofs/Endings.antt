@@ -19,7 +19,7 @@ use Rattle.schedule_text.proofs.FirstBadLaws.{law_first_bad_line}
 use Rattle.schedule_replay.specs.Legal.{IsWellFormed}
 use Rattle.schedule_replay.specs.Replayed.{replayed}
 use Rattle.schedule_replay.specs.Trace.{trace}
-use Rattle.schedule_replay.proofs.FitLines.{none_set, ids_set}
+use Rattle.replay_node.proofs.IdLists.{none_set, ids_set}
 use Rattle.schedule_replay.proofs.TraceLaws.{tells, shows, agrees}
 use Rattle.schedule_replay.proofs.WorldLegal.{replay_is_legal}
 use Rattle.zen_app.specs.Reading.{most_read, read_of, ReadsAtMost, IsInput}

@@ -1,0 +1,227 @@
+-- What each item of an event may be: a node takes the messages that it was handed, bootstraps with the initial names, sends what its acts
+-- send, and what it keeps fits into a body.
+use Rattle.std.proofs.Common.{◌≡◌, ℕ, Bool, true, false, cond, ◌||◌, Option, List, [], ◌∷◌, ◌++◌, refl, length}
+use Rattle.std.specs.Prelude.{nat_lt}
+use Rattle.std.specs.List.{list_all, flat_map, AllByRecursion, Contains}
+use Rattle.std.proofs.lemmas.Bool.{and_parts, and_from}
+use Rattle.std.proofs.lemmas.List.Elements.{Contains-append_left}
+use Rattle.voting_config.specs.Ids.{Id, is_id, has, with_id, most_ids, IsIdSet}
+use Rattle.cluster_state.specs.Fields.{ids}
+use Rattle.cluster_state.specs.States.{state as state_field, value as value_field}
+use Rattle.cluster_state.specs.Initial.{initial_state}
+use Rattle.wire_frames.specs.declared.frame.Frame.{Frame}
+use Rattle.wire_frames.specs.declared.frame.Message.{Message as FrameMessage}
+use Rattle.wire_frames.specs.declared.frame.Message.TheVariants as message
+use Rattle.master_tasks.specs.declared.waiting.Waiting.{Waiting}
+use Rattle.master_tasks.specs.declared.waiting.Outgoing.{Outgoing}
+use Rattle.master_tasks.specs.Queue.{Tasks, no_tasks, with_room}
+use Rattle.master_tasks.specs.Answering.{without_answered}
+use Rattle.world_model.specs.declared.acts.Act.{Act}
+use Rattle.world_model.specs.declared.acts.Act.TheVariants.{Bootstrap, StartJoin, TakeJoin, Value, Publish, Response, Commit, Open}
+use Rattle.world_model.specs.declared.acts.Message.{Message}
+use Rattle.world_model.specs.declared.acts.Message.TheVariants.{Join as JoinMessage, Publish as PublishMessage, Response as ResponseMessage, Commit as CommitMessage}
+use Rattle.world_model.specs.declared.acts.Outcome.{Outcome}
+use Rattle.world_model.specs.declared.acts.Outcome.TheVariants.{Answered}
+use Rattle.world_model.specs.Acts.{is_ok, is_effective}
+use Rattle.world_model.specs.NodeState.{NodeState}
+use Rattle.world_model.specs.Replies.{reply_at}
+use Rattle.world_model.specs.Histories.{IsSourced, sent_by}
+use Rattle.world_model.specs.Acts.{is_opening}
+use Rattle.world_model.specs.Steps.{node_state_after}
+use Rattle.policy_model.specs.declared.settings.Settings.{Settings}
+use Rattle.policy_model.specs.declared.events.Mode.{Mode}
+use Rattle.policy_model.specs.declared.events.Mode.TheVariants.{Candidate, Leader, Follower}
+use Rattle.policy_model.specs.declared.events.DropCause.{DropCause}
+use Rattle.policy_model.specs.Events.{Note, Met, Heard, PeersAsked, ElectionOff, ElectionSet, RoundBegun, RoundAnswered, RoundEnded, Joined, FollowersChecked, FollowerAnswered, LeaderChecked, LeaderAnswered, Queued, ExclusionsTimedOut, CommitAcked, ExclusionsAcked, StateMade, HandedOver, Item, Opens, Begins, Acts, Turns, Drops, Sends, Replies, Notes}
+use Rattle.policy_model.specs.Entries.{frames_in}
+use Rattle.policy_model.specs.Joins.{fits, join_from}
+use Rattle.policy_model.specs.Parts.{all_to_be_added, as_master}
+use Rattle.policy_model.specs.Views.{View}
+use Rattle.policy_model.specs.Moves.{moved, moved_all, acted, turned, noted}
+use Rattle.replay_node.proofs.IdLists.{none_set}
+use Rattle.cluster_replay.proofs.Fits.{set-with, set-with_known}
+use Rattle.cluster_replay.proofs.NextFits.{fit-either, fit-initial, fit-state, IsGoodRequest, FitTasks, FitAccepted, each-with, good-left, set-rooms, fit-after}
+
+-- ---- what fits
+
+-- of the acts, what is accepted and who voted
+pub record FitNode (p : NodeState) : Type 0 where
+  pub accepted : FitAccepted p.accepted
+  pub votes : IsIdSet p.votes
+
+pub record FitView (v : View) : Type 0 where
+  pub node : FitNode v.node
+  pub tasks : FitTasks v.tasks
+
+-- what an act keeps fits, and whom it counts
+abbrev pub FitAct : NodeState → Act → Type 0
+FitAct p (Bootstrap config) = (ids most_ids).Fits config
+FitAct p (TakeJoin join) = (is_id join.source ≡ true) × (fits p.votes join.source ≡ true)
+FitAct p (Value version config value) = (ids most_ids).Fits config × value_field.Fits value
+FitAct p (Publish request) = state_field.Fits request.state
+FitAct p other = Unit {0}
+
+abbrev pub FitNote : Note → Type 0
+FitNote (Joined ids) = list_all is_id ids ≡ true
+FitNote (Queued conn request) = IsGoodRequest request
+FitNote other = Unit {0}
+
+-- ---- what may be sent
+
+-- what a frame brings was sent by an act
+abbrev pub IsSentBy : List Message → Id → Id → FrameMessage → Type 0
+IsSentBy ms from to (message.Join term last) = Contains ms (JoinMessage (join_from from to term last))
+IsSentBy ms from to (message.Publish state) = Contains ms (PublishMessage (record { source = from; state = state }))
+IsSentBy ms from to (message.Response id) = Contains ms (ResponseMessage (record { source = from; target = to; term = id.term; version = id.version }))
+IsSentBy ms from to (message.Commit id) = Contains ms (CommitMessage (record { source = from; term = id.term; version = id.version }))
+IsSentBy ms from to other = Unit {0}
+
+pub record IsGoodFrame (ms : List Message) (f : Frame) : Type 0 where
+  pub from : is_id f.from ≡ true
+  pub sent : IsSentBy ms f.from f.to f.message
+
+-- all messages of the first list are in the second
+abbrev pub Covers : List Message → List Message → Type 0
+Covers ms ns = (m : Message) → Contains ms m → Contains ns m
+
+pub sent-covers : (ms ns : List Message) (from to : Id) (m : FrameMessage) → Covers ms ns → IsSentBy ms from to m → IsSentBy ns from to m
+sent-covers ms ns from to (message.Join term last) c s = c _ s
+sent-covers ms ns from to (message.Publish state) c s = c _ s
+sent-covers ms ns from to (message.Response id) c s = c _ s
+sent-covers ms ns from to (message.Commit id) c s = c _ s
+sent-covers ms ns from to m c s = tt
+
+-- ---- the items of an event of a node that is v, when these messages were sent
+
+pub data IsAllowed (s : Settings) : List Message → View → List Item → Type 0 where
+  Ended : (ms : List Message) (v : View) → IsAllowed s ms v []
+  ByAct : (ms : List Message) (v : View) (act : Act) (is : List Item) → is_opening act ≡ false → IsSourced s.initial ms act → FitAct v.node act
+      → IsAllowed s (ms ++ sent_by (Answered (reply_at s.me v.node act))) (moved s v (Acts act (Answered (reply_at s.me v.node act)))) is
+      → IsAllowed s ms v (Acts act (Answered (reply_at s.me v.node act)) ∷ is)
+  BySend : (ms : List Message) (v : View) (to : Id) (m : FrameMessage) (is : List Item) → IsSentBy ms s.me to m → IsAllowed s ms v is
+      → IsAllowed s ms v (Sends (record { from = s.me; to = to; message = m }) ∷ is)
+  ByReply : (ms : List Message) (v : View) (answer : Outgoing) (is : List Item) → IsAllowed s ms v is → IsAllowed s ms v (Replies answer ∷ is)
+  ByTurn : (ms : List Message) (v : View) (mode : Mode) (term : ℕ) (is : List Item) → IsAllowed s ms (turned v mode term) is → IsAllowed s ms v (Turns mode term ∷ is)
+  ByDrop : (ms : List Message) (v : View) (member : Id) (cause : DropCause) (is : List Item) → IsAllowed s ms (moved s v (Drops member cause)) is → IsAllowed s ms v (Drops member cause ∷ is)
+  ByNote : (ms : List Message) (v : View) (note : Note) (is : List Item) → FitNote note → IsAllowed s ms (noted s v note) is → IsAllowed s ms v (Notes note ∷ is)
+
+-- the messages that were sent behind them
+abbrev pub sent_after : List Message → List Item → List Message
+sent_after ms [] = ms
+sent_after ms (Acts act o ∷ is) = sent_after (ms ++ sent_by o) is
+sent_after ms (i ∷ is) = sent_after ms is
+
+pub covers-after : (ms : List Message) (is : List Item) → Covers ms (sent_after ms is)
+covers-after ms [] m c = c
+covers-after ms (Acts act o ∷ is) m c = covers-after (ms ++ sent_by o) is m (Contains-append_left ms (sent_by o) m c)
+covers-after ms (Opens found ∷ is) m c = covers-after ms is m c
+covers-after ms (Begins event ∷ is) m c = covers-after ms is m c
+covers-after ms (Turns mode term ∷ is) m c = covers-after ms is m c
+covers-after ms (Drops member cause ∷ is) m c = covers-after ms is m c
+covers-after ms (Sends frame ∷ is) m c = covers-after ms is m c
+covers-after ms (Replies answer ∷ is) m c = covers-after ms is m c
+covers-after ms (Notes note ∷ is) m c = covers-after ms is m c
+
+-- ---- the view stays within the limits
+
+set-either : (b : Bool) (xs ys : List Id) → IsIdSet xs → IsIdSet ys → IsIdSet (cond b xs ys)
+set-either true xs ys f g = f
+set-either false xs ys f g = g
+
+set-counted : (votes : List Id) (x : Id) → IsIdSet votes → is_id x ≡ true → fits votes x ≡ true → IsIdSet (with_id x votes)
+set-counted votes x s h f = from (has x votes) refl f
+  where
+    from : (b : Bool) → has x votes ≡ b → (b || nat_lt (length votes) most_ids) ≡ true → IsIdSet (with_id x votes)
+    from true e k = set-with_known x votes s e
+    from false e k = set-with x votes s h k
+
+fit-act : (p : NodeState) (act : Act) (o : Outcome) → FitNode p → FitAct p act → FitNode (node_state_after p act o)
+fit-act p (Bootstrap config) o f a = record { accepted = fit-either (is_effective o) (initial_state config) p.accepted (fit-initial config a) f.accepted; votes = f.votes }
+fit-act p (StartJoin candidate term) o f a = record { accepted = f.accepted; votes = set-either (is_ok o) [] p.votes none_set f.votes }
+fit-act p (TakeJoin join) o f a = record { accepted = f.accepted; votes = set-either (is_ok o) (with_id join.source p.votes) p.votes (set-counted p.votes join.source f.votes a.0 a.1) f.votes }
+fit-act p (Value version config value) o f a = record { accepted = f.accepted; votes = f.votes }
+fit-act p (Publish request) o f a =
+    record { accepted = fit-either (is_effective o) request.state p.accepted (fit-state request.state a) f.accepted; votes = f.votes }
+fit-act p (Response response) o f a = record { accepted = f.accepted; votes = f.votes }
+fit-act p (Commit commit) o f a = record { accepted = f.accepted; votes = f.votes }
+fit-act p (Open found) o f a = f
+
+pub fit-acted : (s : Settings) (v : View) (act : Act) (o : Outcome) → FitView v → FitAct v.node act → FitView (acted s v act o)
+fit-acted s v (Bootstrap config) o f a = record { node = fit-act v.node (Bootstrap config) o f.node a; tasks = f.tasks }
+fit-acted s v (StartJoin candidate term) o f a = record { node = fit-act v.node (StartJoin candidate term) o f.node a; tasks = f.tasks }
+fit-acted s v (TakeJoin join) o f a = record { node = fit-act v.node (TakeJoin join) o f.node a; tasks = f.tasks }
+fit-acted s v (Value version config value) o f a = record { node = fit-act v.node (Value version config value) o f.node a; tasks = f.tasks }
+fit-acted s v (Publish request) o f a = record { node = fit-act v.node (Publish request) o f.node a; tasks = f.tasks }
+fit-acted s v (Response response) o f a = record { node = fit-act v.node (Response response) o f.node a; tasks = f.tasks }
+fit-acted s v (Commit commit) o f a = record { node = fit-act v.node (Commit commit) o f.node a; tasks = f.tasks }
+fit-acted s v (Open found) o f a = record { node = fit-act v.node (Open found) o f.node a; tasks = f.tasks }
+
+pub fit-none : FitTasks no_tasks
+fit-none = record { additions = none_set; waiting = tt }
+
+pub fit-turned : (v : View) (mode : Mode) (term : ℕ) → FitView v → FitView (turned v mode term)
+fit-turned v Candidate term f = record { node = f.node; tasks = fit-none }
+fit-turned v Leader term f = record { node = f.node; tasks = f.tasks }
+fit-turned v (Follower leader) term f = record { node = f.node; tasks = f.tasks }
+
+additions-joined : (t : Tasks) (xs : List Id) → FitTasks t → list_all is_id xs ≡ true → FitTasks (all_to_be_added t xs)
+additions-joined t [] f h = f
+additions-joined t (x ∷ xs) f h =
+    let parts = and_parts (is_id x) (list_all is_id xs) h in
+    additions-joined (record t { additions = with_room t.additions x }) xs (record { additions = set-rooms t.additions (x ∷ []) f.additions (and_from (is_id x) true parts.0 refl); waiting = f.waiting }) parts.1
+
+fit-left : (decide : Waiting → Option _) (t : Tasks) → FitTasks t → FitTasks (without_answered decide t)
+fit-left decide t f = record { additions = f.additions; waiting = good-left _ t.waiting f.waiting }
+
+pub fit-noted : (s : Settings) (v : View) (note : Note) → FitView v → FitNote note → FitView (noted s v note)
+fit-noted s v (Met ids) f n = record { node = f.node; tasks = f.tasks }
+fit-noted s v (Heard peer master) f n = record { node = f.node; tasks = f.tasks }
+fit-noted s v PeersAsked f n = record { node = f.node; tasks = f.tasks }
+fit-noted s v ElectionOff f n = record { node = f.node; tasks = f.tasks }
+fit-noted s v (ElectionSet word) f n = record { node = f.node; tasks = f.tasks }
+fit-noted s v (RoundBegun word) f n = record { node = f.node; tasks = f.tasks }
+fit-noted s v (RoundAnswered source term last) f n = record { node = f.node; tasks = f.tasks }
+fit-noted s v RoundEnded f n = record { node = f.node; tasks = f.tasks }
+fit-noted s v (Joined ids) f n = record { node = f.node; tasks = additions-joined v.tasks ids f.tasks n }
+fit-noted s v FollowersChecked f n = record { node = f.node; tasks = f.tasks }
+fit-noted s v (FollowerAnswered from good applied) f n = record { node = f.node; tasks = f.tasks }
+fit-noted s v LeaderChecked f n = record { node = f.node; tasks = f.tasks }
+fit-noted s v (LeaderAnswered good) f n = record { node = f.node; tasks = f.tasks }
+fit-noted s v (Queued conn request) f n = record { node = f.node; tasks = record { additions = f.tasks.additions; waiting = each-with _ v.tasks.waiting _ f.tasks.waiting (n, tt) } }
+fit-noted s v ExclusionsTimedOut f n = record { node = f.node; tasks = fit-left _ v.tasks f.tasks }
+fit-noted s v CommitAcked f n = record { node = f.node; tasks = fit-left _ v.tasks f.tasks }
+fit-noted s v ExclusionsAcked f n = record { node = f.node; tasks = fit-left _ v.tasks f.tasks }
+fit-noted s v StateMade f n = record { node = f.node; tasks = fit-after (as_master s v.node) v.tasks f.tasks }
+fit-noted s v HandedOver f n = record { node = f.node; tasks = f.tasks }
+
+pub fit-moved : (s : Settings) (ms : List Message) (v : View) (is : List Item) → IsAllowed s ms v is → FitView v → FitView (moved_all s v is)
+fit-moved s ms v is (Ended ms' v') f = f
+fit-moved s ms v is (ByAct ms' v' act rest o sourced fit a) f = fit-moved s _ _ rest a (fit-acted s v' act _ f fit)
+fit-moved s ms v is (BySend ms' v' to m rest sent a) f = fit-moved s _ _ rest a f
+fit-moved s ms v is (ByReply ms' v' answer rest a) f = fit-moved s _ _ rest a f
+fit-moved s ms v is (ByTurn ms' v' mode term rest a) f = fit-moved s _ _ rest a (fit-turned v' mode term f)
+fit-moved s ms v is (ByDrop ms' v' member cause rest a) f = fit-moved s _ _ rest a (record { node = f.node; tasks = record { additions = f.tasks.additions; waiting = f.tasks.waiting } })
+fit-moved s ms v is (ByNote ms' v' note rest n a) f = fit-moved s _ _ rest a (fit-noted s v' note f n)
+
+-- ---- the frames behind them
+
+pub frames-sent : (s : Settings) (ms : List Message) (v : View) (is : List Item) → is_id s.me ≡ true → IsAllowed s ms v is → AllByRecursion (IsGoodFrame (sent_after ms is)) (flat_map frames_in is)
+frames-sent s ms v is me (Ended ms' v') = tt
+frames-sent s ms v is me (ByAct ms' v' act rest o sourced fit a) = frames-sent s _ _ rest me a
+frames-sent s ms v is me (BySend ms' v' to m rest sent a) =
+    (record { from = me; sent = sent-covers ms' (sent_after ms' rest) s.me to m (covers-after ms' rest) sent }, frames-sent s _ _ rest me a)
+frames-sent s ms v is me (ByReply ms' v' answer rest a) = frames-sent s _ _ rest me a
+frames-sent s ms v is me (ByTurn ms' v' mode term rest a) = frames-sent s _ _ rest me a
+frames-sent s ms v is me (ByDrop ms' v' member cause rest a) = frames-sent s _ _ rest me a
+frames-sent s ms v is me (ByNote ms' v' note rest n a) = frames-sent s _ _ rest me a
+
+-- ---- how allowed items are put together
+
+pub allowed-append : (s : Settings) (ms : List Message) (v : View) (xs ys : List Item) → IsAllowed s ms v xs → IsAllowed s (sent_after ms xs) (moved_all s v xs) ys → IsAllowed s ms v (xs ++ ys)
+allowed-append s ms v xs ys (Ended ms' v') b = b
+allowed-append s ms v xs ys (ByAct ms' v' act rest o sourced fit a) b = ByAct ms' v' act (rest ++ ys) o sourced fit (allowed-append s _ _ rest ys a b)
+allowed-append s ms v xs ys (BySend ms' v' to m rest sent a) b = BySend ms' v' to m (rest ++ ys) sent (allowed-append s _ _ rest ys a b)
+allowed-append s ms v xs ys (ByReply ms' v' answer rest a) b = ByReply ms' v' answer (rest ++ ys) (allowed-append s _ _ rest ys a b)
+allowed-append s ms v xs ys (ByTurn ms' v' mode term rest a) b = ByTurn ms' v' mode term (rest ++ ys) (allowed-append s _ _ rest ys a b)
+allowed-append s ms v xs ys (ByDrop ms' v' member cause rest a) b = ByDrop ms' v' member cause (rest ++ ys) (allowed-append s _ _ rest ys a b)
+allowed-append s ms v xs ys (ByNote ms' v' note rest n a) b = ByNote ms' v' note (rest ++ ys) n (allowed-append s _ _ rest ys a b)

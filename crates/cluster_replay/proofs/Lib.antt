@@ -1,0 +1,13 @@
+pub mod AllowedRules
+pub mod Allowing
+pub mod Asking
+pub mod Fits
+pub mod Invariants
+pub mod JsonStrings
+pub mod JsonTexts
+pub mod Lives
+pub mod NextFits
+pub mod Playing
+pub mod Schedules
+pub mod Somes
+pub mod Spelled

@@ -1,0 +1,20 @@
+//! What holds of each schedule of whole nodes. The calls do nothing: what they promise is proved.
+ghost use Rattle.cluster_replay.specs.Laws.{LawClusterRepliesAreTrue, LawClusterReplayIsLegal, LawLivesFollow};
+
+/// Wherever its nodes stop and their disks fail, each node of a schedule lives by the policy, and the history has just
+/// the acts of these lives.
+pub fn law_lives_follow()
+    ensures { LawLivesFollow }
+{}
+
+/// The history is legal for the initial names: no node takes a message that was not sent, none begins with another
+/// configuration, and each finds what it kept. So it is safe.
+pub fn law_cluster_replay_is_legal()
+    ensures { LawClusterReplayIsLegal }
+{}
+
+/// Each reply of each node is true by the end of its event. An ack names a committed state that has what the request
+/// asked for, and a state that is shown is committed.
+pub fn law_cluster_replies_are_true()
+    ensures { LawClusterRepliesAreTrue }
+{}

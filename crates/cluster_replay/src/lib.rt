@@ -1,0 +1,6 @@
+//! What holds of each schedule in which whole nodes run.
+#![tactic(auto)]
+
+pub mod laws;
+
+pub use laws::{law_cluster_replay_is_legal, law_cluster_replies_are_true, law_lives_follow};
