@@ -1,17 +1,10 @@
 -- Part of the statement: the state that a node published last, step by step.
-use Rattle.std.specs.Prelude.{Option, Some, List, [], ◌∷◌}
+use Rattle.std.specs.Prelude.{Option, List, [], ◌∷◌}
 use Rattle.cluster_state.specs.declared.state.ClusterState.{ClusterState}
-use Rattle.world_model.specs.declared.acts.Outcome.{Outcome}
-use Rattle.world_model.specs.declared.acts.Outcome.TheVariants.{Answered}
 use Rattle.world_model.specs.declared.acts.Act.TheVariants.{Value}
-use Rattle.world_model.specs.declared.acts.Reply.TheVariants.{Taken}
-use Rattle.world_model.specs.declared.acts.Message.TheVariants.{Publish as PublishMessage}
 use Rattle.policy_model.specs.declared.events.Step.{Step}
 use Rattle.policy_model.specs.declared.events.Step.TheVariants as step
-
-abbrev pub published_by : Outcome → Option ClusterState → Option ClusterState
-published_by (Answered (Taken (Some (PublishMessage request)) wins)) before = Some request.state
-published_by other before = before
+use Rattle.trace_text.specs.Published.{published_by}
 
 -- the state that a node published last, behind a step
 abbrev pub published_in : Option ClusterState → Step → Option ClusterState

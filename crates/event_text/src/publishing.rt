@@ -3,7 +3,8 @@ ghost use Rattle.std.specs.Prelude.{◌≡◌, Bool, OnOk, Some};
 ghost use Rattle.world_model.specs.declared.acts.Outcome.TheVariants as outcome;
 ghost use Rattle.world_model.specs.declared.acts.Reply.TheVariants as reply;
 ghost use Rattle.policy_model.specs.declared.events.Step.TheVariants as step;
-ghost use Rattle.event_text.specs.Published.{published_by, published_in};
+ghost use Rattle.trace_text.specs.Published.{published_by};
+ghost use Rattle.event_text.specs.Published.{published_in};
 
 use cluster_state::ClusterState;
 use std::alloc::AllocError;
