@@ -1,0 +1,5 @@
+pub mod Playing
+pub mod Bridge
+pub mod Events
+pub mod Openings
+pub mod Places

@@ -1,0 +1,6 @@
+//! Whole nodes of a schedule, replayed over the code of the node.
+#![tactic(auto)]
+
+pub mod node;
+pub mod nodes;
+pub mod stepping;
