@@ -1,10 +1,11 @@
 -- One node moves where its id stands, the others stay.
-use Rattle.std.proofs.Common.{◌≡◌, ℕ, zero, suc, ◌<◌, Bool, true, false, Some, List, [], ◌∷◌, length, ◌++◌, refl, sym, ◌∙◌, ap, subst, arith, slice_get, slice_set, get_or}
+use Rattle.std.proofs.Common.{◌≡◌, ℕ, zero, suc, ◌<◌, Bool, true, false, Some, List, [], ◌∷◌, length, ◌++◌, refl, sym, ◌∙◌, ap, subst, arith, slice_get, slice_set, get_or, take, ◌+◌}
 use Rattle.std.specs.Prelude.{Result, OnOk, not}
 use Rattle.std.specs.declared.alloc.AllocError.{AllocError}
 use Rattle.std.proofs.lemmas.Result.{on_ok_weaker}
 use Rattle.std.proofs.lemmas.Option.{slice_get-get_or, slice_get_within}
 use Rattle.std.proofs.lemmas.Bool.{and_parts}
+use Rattle.std.proofs.lemmas.List.{take_more}
 use Rattle.std.specs.Ordering.{is_lt, is_eq}
 use Rattle.std.specs.declared.cmp.Ordering.{Ordering}
 use Rattle.std.specs.declared.cmp.Ordering.TheVariants.{Less, Equal, Greater}
@@ -118,3 +119,17 @@ module _ (ids l : List Id) (old : List ClusterNode) (n : Id) (place : ℕ) (x : 
   pub does_here : (d : ClusterNode) (frames frames_now : List Frame) (was now : List ℕ) (after_it : Settings → Own → Own) (sent : Settings → Own → List Frame) (results : Settings → ℕ → Own → List ℕ)
       → OwnDoes (get_or old place x) d false frames frames_now was now after_it sent results → NodesDo ids initial n old (slice_set old place d) frames frames_now was now after_it sent results
   does_here d frames frames_now was now after_it sent results does = done_here d frames frames_now was now after_it sent results (λ own stands. does (settings_of ids initial n) own stands)
+
+-- ---- new nodes
+
+stand_more : (nodes initial ids : List Id) (xs : List ClusterNode) (i : Id) (x : ClusterNode) (c : Cluster) → AllFor nodes initial ids xs c → NodeFor (settings_of nodes initial i) x (own_in c i) false → AllFor nodes initial (ids ++ i ∷ []) (xs ++ x ∷ []) c
+stand_more nodes initial [] [] i x c s n = (n, tt)
+stand_more nodes initial [] (y ∷ ys) i x c s n = absurd s
+stand_more nodes initial (j ∷ js) [] i x c s n = absurd s
+stand_more nodes initial (j ∷ js) (y ∷ ys) i x c s n = (s.0, stand_more nodes initial js ys i x c s.1 n)
+
+pub one_more : (nodes initial ids : List Id) (place : ℕ) (i : Id) (xs more : List ClusterNode) (x : ClusterNode) (c : Cluster) → place < length ids → i ≡ get_or ids place i → AllFor nodes initial (take place ids) xs c → more ≡ xs ++ x ∷ []
+    → NodeFor (settings_of nodes initial i) x (own_in c i) false → AllFor nodes initial (take (place + 1) ids) more c
+one_more nodes initial ids place i xs more x c within at s is stands =
+    let longer : take (place + 1) ids ≡ take place ids ++ i ∷ [] = take_more ids place i within ∙ ap (λ (y : Id). take place ids ++ y ∷ []) (sym at) in
+    rw (longer, is) (stand_more nodes initial (take place ids) xs i x c s stands)

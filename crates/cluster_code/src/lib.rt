@@ -3,4 +3,5 @@
 
 pub mod node;
 pub mod nodes;
+pub mod replayer;
 pub mod stepping;
