@@ -1,5 +1,5 @@
 -- What the disk lets a node do of the items of an event: all of them, or those up to an act that it strikes.
-use Rattle.std.proofs.Common.{◌≡◌, Bool, true, false, not, ◌||◌, ◌⊎◌, inl, inr, cond, None, List, [], ◌∷◌, ◌++◌, refl, sym, ◌∙◌, ap, subst, if◌then◌else◌}
+use Rattle.std.proofs.Common.{◌≡◌, Bool, true, false, not, ◌||◌, ◌⊎◌, inl, inr, None, List, [], ◌∷◌, ◌++◌, refl, sym, ◌∙◌, ap, subst, if◌then◌else◌}
 use Rattle.std.specs.List.{flat_map}
 use Rattle.std.proofs.lemmas.List.Elements.{Contains-append_left}
 use Rattle.voting_config.specs.Ids.{Id, same}
@@ -12,13 +12,14 @@ use Rattle.world_model.specs.declared.acts.Outcome.{Outcome}
 use Rattle.world_model.specs.declared.acts.Outcome.TheVariants.{Answered, Disk, Crashed}
 use Rattle.world_model.specs.Acts.{NodeHistory, Then, is_opening}
 use Rattle.world_model.specs.NodeState.{NodeState, node_state, stopped_of}
-use Rattle.world_model.specs.Histories.{History, Next, node_history, sent, sent_by, IsSourced}
+use Rattle.world_model.specs.Histories.{node_history, sent, sent_by, IsSourced}
 use Rattle.world_model.specs.Replies.{reply_at, reply_of, is_taken, writes, IsOutcome}
 use Rattle.replay_node.specs.NodeDisk.{CallsEnd, Done, Failed, StoppedIn}
 use Rattle.replay_node.specs.NodeWorld.{act_called, after_act, is_stop, needs_opening, outcome_at, outcome_by}
 use Rattle.replay_node.specs.Worlds.{World, node_world, did}
 use Rattle.replay_node.proofs.MayAct.{may_act}
-use Rattle.replay_node.proofs.Moves.{NodeMoves, moves_did_unless_down, same_itself}
+use Rattle.replay_node.proofs.Moves.{NodeMoves, moves_did, node_history-own}
+use Rattle.replay_node.proofs.StateSteps.{stopped_then, stopped_disk}
 use Rattle.replay_node.proofs.NodeSound.{IsFitAct}
 use Rattle.policy_model.specs.declared.settings.Settings.{Settings}
 use Rattle.policy_model.specs.Events.{Item, Opens, Begins, Acts, Turns, Drops, Sends, Replies, Notes, Log, And, added, acts_of}
@@ -37,17 +38,6 @@ fit-act-of p (Bootstrap config) f = f
 fit-act-of p (Value version config value) f = f
 fit-act-of p (Publish request) f = f
 fit-act-of p act f = tt
-
-stopped-answered : (g : NodeHistory) (act : Act) (reply : Reply) → is_opening act ≡ false → stopped_of (Then g act (Answered reply)) ≡ stopped_of g
-stopped-answered g (Open found) reply o = absurd (cc)
-stopped-answered g act reply o = refl
-
-stopped-disk : (g : NodeHistory) (act : Act) (kept : Bool) → is_opening act ≡ false → stopped_of (Then g act (Disk kept)) ≡ true
-stopped-disk g (Open found) kept o = absurd (cc)
-stopped-disk g act kept o = refl
-
-own_history : (h : History) (n : Id) (act : Act) (o : Outcome) → node_history (Next h n act o) n ≡ Then (node_history h n) act o
-own_history h n act o = ap (λ (b : Bool). cond b (Then (node_history h n) act o) (node_history h n)) (same_itself n)
 
 or_false : (a b : Bool) → (a || b) ≡ false → (a ≡ false) × (b ≡ false)
 or_false true b e = absurd (cc)
@@ -173,8 +163,7 @@ module _ (s : Settings) (w : World) (act : Act) (sound : SoundWorld s.initial w)
   did_sound = subst (λ (b : Bool). SoundWorld s.initial (if b then w else did w s.me act)) up (acted s.initial w s.me act sound sourced o fit)
 
   did_moves : NodeMoves s.me w (after_act s.me (node_world w s.me) act) (did w s.me act)
-  did_moves =
-      subst (λ (b : Bool). NodeMoves s.me w (if b then node_world w s.me else after_act s.me (node_world w s.me) act) (if b then w else did w s.me act)) up (moves_did_unless_down s.me act w)
+  did_moves = moves_did s.me act w
 
   outcome_may : IsOutcome s.me g act (outcome_at s.me (node_world w s.me) act)
   outcome_may = (may_act s.initial w s.me act ((sound.nodes s.me).up up) sourced o).follows.follows
@@ -183,7 +172,7 @@ module _ (s : Settings) (w : World) (act : Act) (sound : SoundWorld s.initial w)
   needs_by end e = ap needs_opening did_moves.own ∙ ap (λ (x : CallsEnd). is_stop x || stopped_of (Then g act (outcome_by x reply))) e
 
   history_by : (end : CallsEnd) → end_is ≡ end → node_history (did w s.me act).history s.me ≡ Then g act (outcome_by end reply)
-  history_by end e = own_history w.history s.me act _ ∙ ap (λ (x : CallsEnd). Then g act (outcome_by x reply)) e
+  history_by end e = node_history-own w.history s.me act _ ∙ ap (λ (x : CallsEnd). Then g act (outcome_by x reply)) e
 
   sent_by_end : (end : CallsEnd) → end_is ≡ end → sent (did w s.me act).history ≡ sent w.history ++ sent_by (outcome_by end reply)
   sent_by_end end e = ap (λ (x : CallsEnd). sent w.history ++ sent_by (outcome_by x reply)) e
@@ -227,11 +216,11 @@ module _ (s : Settings) (w : World) (act : Act) (sound : SoundWorld s.initial w)
           (ap (λ (x : Reply). ms ++ sent_by (Answered x)) same_reply ∙ ap (λ (xs : List Message). xs ++ sent_by (Answered reply)) same_sent ∙ sym (sent_by_end Done e))
           did_sound
           (ap (λ (x : NodeHistory). Then x act (Answered r)) acts ∙ ap (λ (x : Reply). Then g act (Answered x)) same_reply ∙ sym (history_by Done e))
-          (needs_by Done e ∙ stopped-answered g act reply o ∙ going)
+          (needs_by Done e ∙ stopped_then g act reply o ∙ going)
           in
           in_front s w u l (Acts act (Answered reply)) rest (played s.me u rest) (ap (λ (xs : List Message). sent_after xs rest) (sent_by_end Done e)) did_moves.others did_covers
           (subst (λ (x : Reply). Played s u (And l (Acts act (Answered x))) rest (played s.me u rest)) same_reply there)
-      by_end Failed e = struck_act l rest Failed (Disk false) e refl refl (struck_outcome Failed e) (stopped-disk g act false o) acts
+      by_end Failed e = struck_act l rest Failed (Disk false) e refl refl (struck_outcome Failed e) (stopped_disk g act false o) acts
       by_end (StoppedIn way) e = struck_act l rest (StoppedIn way) (Crashed false) e refl refl (struck_outcome (StoppedIn way) e) refl acts
 
 -- ---- all items

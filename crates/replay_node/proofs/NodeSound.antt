@@ -43,6 +43,7 @@ use Rattle.replay_node.proofs.Found.{found_is}
 use Rattle.replay_node.proofs.Reopened.{IsFound}
 use Rattle.replay_node.proofs.SettledLocal.{stopped_reply}
 use Rattle.replay_node.proofs.Settling.{settled_then, unstruck, unstruck_then}
+use Rattle.replay_node.proofs.StateSteps.{stopped_then, stopped_disk}
 use Rattle.replay_node.proofs.Struck.{durable_kept, durable_lost, durable_lost_crash, durable_refused}
 use Rattle.replay_node.proofs.FileLeft.{Leaves, EndsIn, leaves_stop}
 use Rattle.replay_node.proofs.JournalLeft.{StandsWithEither, Runs, MayKeep, Opening, append_ends, empty_stands, opening_ends, runs_leaves}
@@ -174,14 +175,6 @@ leaves_acts w s = from (needs_opening w) refl
         subst (λ (a : Kept). Leaves w.disk.file (StandsWithEither a (durable_of (settled true w.acts)))) (own false) (runs_leaves w.disk.file (durable_of w.acts) (durable_of (settled true w.acts)) (s.runs runs))
 
 -- ---- an act
-
-stopped_then : (g : NodeHistory) (act : Act) (reply : Reply) → is_opening act ≡ false → stopped_of (Then g act (Answered reply)) ≡ stopped_of g
-stopped_then g (Open found) reply o = cc
-stopped_then g act reply o = refl
-
-stopped_disk : (g : NodeHistory) (act : Act) (kept : Bool) → is_opening act ≡ false → stopped_of (Then g act (Disk kept)) ≡ true
-stopped_disk g (Open found) kept o = cc
-stopped_disk g act kept o = refl
 
 -- one that changes nothing that is kept
 quiet_sound : (w : NodeWorld) (act : Act) (reply : Reply) → is_opening act ≡ false → ((g : NodeHistory) → durable_of (Then g act (Answered reply)) ≡ durable_of g) → Sound w → w.down ≡ false → Sound (record { acts = Then w.acts act (Answered reply); disk = w.disk; down = false })

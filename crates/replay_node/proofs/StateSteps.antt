@@ -96,11 +96,11 @@ answered_done old new act Stopped d stands running wrote = (refl, subst (λ (j :
 
 -- ---- the journal has stopped as the acts say
 
-stopped_then : (g : NodeHistory) (act : Act) (reply : Reply) → is_opening act ≡ false → stopped_of (Then g act (Answered reply)) ≡ stopped_of g
+pub stopped_then : (g : NodeHistory) (act : Act) (reply : Reply) → is_opening act ≡ false → stopped_of (Then g act (Answered reply)) ≡ stopped_of g
 stopped_then g (Open found) reply o = cc
 stopped_then g act reply o = refl
 
-stopped_disk : (g : NodeHistory) (act : Act) (kept : Bool) → is_opening act ≡ false → stopped_of (Then g act (Disk kept)) ≡ true
+pub stopped_disk : (g : NodeHistory) (act : Act) (kept : Bool) → is_opening act ≡ false → stopped_of (Then g act (Disk kept)) ≡ true
 stopped_disk g (Open found) kept o = cc
 stopped_disk g act kept o = refl
 

@@ -95,7 +95,7 @@ module _ (nodes initial : List Id) where
   abbrev pub fresh_cluster : Cluster
   fresh_cluster = record { world = fresh_world; lives = λ n. first_life (settings_of nodes initial n); frames = [] }
 
-  -- what a line makes of all nodes; the lines of level core alone make nothing of them
+  -- a line of level core, which no schedule of level node has, leaves all as it is
   abbrev pub after : Cluster → Line → Cluster
   after c (line.Tick n now word) = after_event_if_up (settings_of nodes initial n) c (Tick now word)
   after c (line.Client n bytes) = after_event_if_up (settings_of nodes initial n) c (LineCame 0 bytes)

@@ -126,6 +126,8 @@ line_shows initial w (line.Crash n way) down k = ap (λ (b : Bool). (if b then W
 line_shows initial w (line.Restart n) down k = restart_shows initial w n down k
 line_shows initial w (line.Fuse n count way) down k = refl
 line_shows initial w (line.Fail n count) down k = refl
+line_shows initial w (line.Tick n now word) down k = refl
+line_shows initial w (line.Client n bytes) down k = refl
 
 line_knows : (initial : List Id) (w : World) (l : Line) (down : Id → Bool) → Knows down w → Knows (down_from down (line_steps initial w l)) (after initial w l)
 line_knows initial w (line.Boot n) down k = act_knows w n (Bootstrap initial) down k
@@ -136,6 +138,8 @@ line_knows initial w (line.Crash n way) down k = crash_knows w n way down k
 line_knows initial w (line.Restart n) down k = restart_knows initial w n down k
 line_knows initial w (line.Fuse n count way) down k = order_knows w n (Stop count way) down k
 line_knows initial w (line.Fail n count) down k = order_knows w n (Fault count) down k
+line_knows initial w (line.Tick n now word) down k = k
+line_knows initial w (line.Client n bytes) down k = k
 
 pub lines_show : (initial : List Id) (w : World) (ls : List Line) (down : Id → Bool) → Knows down w → ShowsLines initial w.history down ls (steps_from initial w ls)
 lines_show initial w [] down k = refl

@@ -1,5 +1,5 @@
 -- A line that is done.
-use Rattle.std.proofs.Common.{append_assoc, codes, ◌≡◌, ◌∷◌, ◌-◌, zero, suc, arith, ◌≤◌, Result, Ok, Err, ℕ, true, Option, None, Some, List, [], ◌++◌, length, refl, sym, ◌∙◌, ap, subst, map, slice_get, take, drop}
+use Rattle.std.proofs.Common.{append-nil, append_assoc, codes, ◌≡◌, ◌∷◌, ◌-◌, zero, suc, arith, ◌≤◌, Result, Ok, Err, ℕ, true, Option, None, Some, List, [], ◌++◌, length, refl, sym, ◌∙◌, ap, subst, map, slice_get, take, drop}
 use Rattle.std.specs.Prelude.{OnOk}
 use Rattle.std.proofs.lemmas.List.{length-map, take_at}
 use Rattle.std.proofs.lemmas.Bool.{and_parts}
@@ -154,3 +154,14 @@ writes_line ids initial old new messages more t0 t1 t2 t3 now l lit is does a b 
     subst (λ (x : Line). LineDone ids new more (after initial w x) (line_results initial w x) t3 now) (sym is) (does w s)
     in
     record { stands = here.stands; written = here.written ∙ rw (c, b, a) (simp append_assoc refl) }
+
+-- a line that does nothing and writes no results
+pub writes_echo : (ids initial : List Id) (nodes : List ReplayNode) (messages : List SentMessage) (t0 t1 t2 t3 : List ℕ) (l lit : Line) → l ≡ lit
+    → ((w : World) → after initial w lit ≡ w) → ((w : World) → line_results initial w lit ≡ []) → t1 ≡ t0 ++ codes "> " → t2 ≡ t1 ++ line_text l → t3 ≡ t2 ++ codes "\n" → WritesLine ids initial nodes nodes messages messages t0 t3 l
+writes_echo ids initial nodes messages t0 t1 t2 t3 l lit is stays nothing a b c =
+    writes_line ids initial nodes nodes messages messages t0 t1 t2 t3 t3 l lit is
+    (λ w s. record {
+      stands = subst (λ (x : World). Stands ids nodes messages x) (sym (stays w)) s;
+      written = sym (append-nil t3) ∙ ap (λ (t : List ℕ). t3 ++ t) (sym (nothing w));
+    })
+    a b c

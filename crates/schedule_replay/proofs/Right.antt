@@ -10,6 +10,7 @@ use Rattle.world_model.specs.Histories.{History, node_history, sent, is_opening,
 use Rattle.schedule_text.specs.declared.schedule.Line.{Line}
 use Rattle.schedule_text.specs.declared.schedule.Line.TheVariants as line
 use Rattle.schedule_text.specs.declared.schedule.Schedule.{Schedule}
+use Rattle.schedule_text.specs.declared.level.Level.TheVariants.{Core}
 use Rattle.schedule_text.specs.Lines.{FitsLine}
 use Rattle.replay_node.specs.NodeDisk.{CallsEnd, Done, Failed, StoppedIn, opening}
 use Rattle.replay_node.specs.NodeWorld.{act_called, found_at, needs_opening, outcome_at}
@@ -65,6 +66,8 @@ line_one initial w (line.Crash n way) = OneStep _ (if_right w.history (w.down n)
 line_one initial w (line.Restart n) = OneStep _ (if_right w.history (needs_opening (node_world w n)) _ (WasUp n) (opening_right w.history n (opening (w.disks n)).ended (found_at (node_world w n))) tt)
 line_one initial w (line.Fuse n count way) = NoStep
 line_one initial w (line.Fail n count) = NoStep
+line_one initial w (line.Tick n now word) = NoStep
+line_one initial w (line.Client n bytes) = NoStep
 
 right_one : (h : History) (xs : List Step) → IsOne h xs → Along IsRight h xs
 right_one h _ NoStep = tt
@@ -104,7 +107,7 @@ steps_sound initial w (l ∷ ls) all = (
     next : IsLegal initial (after initial w l).history
     next = all (l ∷ []) ls refl
 
-front_fits : (nodes : List Id) (front back : List Line) → AllByRecursion (FitsLine nodes) (front ++ back) → AllByRecursion (FitsLine nodes) front
+front_fits : (nodes : List Id) (front back : List Line) → AllByRecursion (FitsLine Core nodes) (front ++ back) → AllByRecursion (FitsLine Core nodes) front
 front_fits nodes [] back f = tt
 front_fits nodes (l ∷ front) back f = (f.0, front_fits nodes front back f.1)
 
@@ -119,7 +122,7 @@ schedule_sound s i = steps_sound s.initial fresh_world s.lines all
     all front back e =
         replay_is_legal (record s { lines = front }) (record {
           initial = i.initial;
-          fit = front_fits s.nodes front back (subst (λ (ls : List Line). AllByRecursion (FitsLine s.nodes) ls) e i.fit);
+          fit = front_fits s.nodes front back (subst (λ (ls : List Line). AllByRecursion (FitsLine Core s.nodes) ls) e i.fit);
           named = λ none. front_none front back (sym e ∙ i.named none);
         })
 

@@ -70,6 +70,8 @@ line_told initial w (line.Crash n way) = quiet_told w.history (w.down n) (WasDow
 line_told initial w (line.Restart n) = restart_told initial w n
 line_told initial w (line.Fuse n count way) = refl
 line_told initial w (line.Fail n count) = refl
+line_told initial w (line.Tick n now word) = refl
+line_told initial w (line.Client n bytes) = refl
 
 -- ---- the history
 
@@ -126,6 +128,8 @@ line_text_is initial w (line.Crash n way) = if_text (w.down n) (WasDown n) (Went
 line_text_is initial w (line.Restart n) = restart_text_is initial w n
 line_text_is initial w (line.Fuse n count way) = refl
 line_text_is initial w (line.Fail n count) = refl
+line_text_is initial w (line.Tick n now word) = refl
+line_text_is initial w (line.Client n bytes) = refl
 
 pub steps_text : (initial : List Id) (w : World) (ls : List Line) → trace_from initial w ls ≡ text_of (steps_from initial w ls)
 steps_text initial w [] = refl
@@ -159,6 +163,8 @@ no_line initial w (line.Crash n way) = if_no_line (w.down n) _ _ refl refl
 no_line initial w (line.Restart n) = if_no_line (needs_opening (node_world w n)) _ _ (opening_no_line (opening (w.disks n)).ended n (found_at (node_world w n))) refl
 no_line initial w (line.Fuse n count way) = refl
 no_line initial w (line.Fail n count) = refl
+no_line initial w (line.Tick n now word) = refl
+no_line initial w (line.Client n bytes) = refl
 
 pub steps_lines : (initial : List Id) (w : World) (ls : List Line) → lines_of (steps_from initial w ls) ≡ ls
 steps_lines initial w [] = refl

@@ -10,6 +10,7 @@ use Rattle.world_model.specs.declared.acts.Message.{Message}
 use Rattle.world_model.specs.Histories.{sent, IsLegal}
 use Rattle.schedule_text.specs.declared.schedule.Line.{Line}
 use Rattle.schedule_text.specs.declared.schedule.Line.TheVariants as line
+use Rattle.schedule_text.specs.declared.level.Level.TheVariants.{Core}
 use Rattle.schedule_text.specs.Lines.{FitsLine}
 use Rattle.replay_node.specs.Sent.{taking}
 use Rattle.replay_node.specs.Worlds.{World, fresh_world}
@@ -25,7 +26,7 @@ taken initial w n k (Some m) s e =
     let known : Contains (sent w.history) m = (k, slice_get_within (sent w.history) k m e, get_or_from_slice_get (sent w.history) k m m e) in
     acted initial w n (taking m) s (sourced_taking initial (sent w.history) m known) (taking_shut m) (taking_fits m (message_fits (sent w.history) k m s.messages e))
 
-line_sound : (nodes initial : List Id) (w : World) (l : Line) → initial ≢ [] → (ids most_ids).Fits initial → FitsLine nodes l → SoundWorld initial w → SoundWorld initial (after initial w l)
+line_sound : (nodes initial : List Id) (w : World) (l : Line) → initial ≢ [] → (ids most_ids).Fits initial → FitsLine Core nodes l → SoundWorld initial w → SoundWorld initial (after initial w l)
 line_sound nodes initial w (line.Boot n) named fits f s = acted initial w n (Bootstrap initial) s (refl, named) refl fits
 line_sound nodes initial w (line.StartJoin n candidate term) named fits f s = acted initial w n (StartJoin candidate term) s tt refl tt
 line_sound nodes initial w (line.Value n version text config) named fits f s = acted initial w n (Value version config _) s tt refl (config_fits nodes config f.3, text_fits text f.2)
@@ -34,14 +35,16 @@ line_sound nodes initial w (line.Crash n way) named fits f s = stopped initial w
 line_sound nodes initial w (line.Restart n) named fits f s = reopened initial w n s
 line_sound nodes initial w (line.Fuse n count way) named fits f s = armed initial w n (Stop count way) s
 line_sound nodes initial w (line.Fail n count) named fits f s = armed initial w n (Fault count) s
+line_sound nodes initial w (line.Tick n now word) named fits f s = s
+line_sound nodes initial w (line.Client n bytes) named fits f s = s
 
-lines_sound : (nodes initial : List Id) (w : World) (ls : List Line) → initial ≢ [] → (ids most_ids).Fits initial → AllByRecursion (FitsLine nodes) ls → SoundWorld initial w → SoundWorld initial (replayed_from initial w ls)
+lines_sound : (nodes initial : List Id) (w : World) (ls : List Line) → initial ≢ [] → (ids most_ids).Fits initial → AllByRecursion (FitsLine Core nodes) ls → SoundWorld initial w → SoundWorld initial (replayed_from initial w ls)
 lines_sound nodes initial w [] named fits f s = s
 lines_sound nodes initial w (l ∷ ls) named fits f s = lines_sound nodes initial (after initial w l) ls named fits f.1 (line_sound nodes initial w l named fits f.0 s)
 
 pub replay_is_legal : LawReplayIsLegal
 replay_is_legal s well = from s.lines well.fit well.named
   where
-    from : (ls : List Line) → AllByRecursion (FitsLine s.nodes) ls → (s.initial ≡ [] → ls ≡ []) → IsLegal s.initial (replayed_from s.initial fresh_world ls).history
+    from : (ls : List Line) → AllByRecursion (FitsLine Core s.nodes) ls → (s.initial ≡ [] → ls ≡ []) → IsLegal s.initial (replayed_from s.initial fresh_world ls).history
     from [] f none = tt
     from (l ∷ ls) f none = (lines_sound s.nodes s.initial fresh_world (l ∷ ls) (λ e. let is = none e in cc) (set_fits s.initial well.initial) f (fresh s.initial)).legal

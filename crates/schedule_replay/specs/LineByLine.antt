@@ -64,6 +64,8 @@ ShowsLine initial h down (line.Crash n way) xs = xs ≡ (if down n then WasDown 
 ShowsLine initial h down (line.Restart n) xs = ShowsRestart (down n || stopped_of (node_history h n)) n xs
 ShowsLine initial h down (line.Fuse n count way) xs = xs ≡ []
 ShowsLine initial h down (line.Fail n count) xs = xs ≡ []
+ShowsLine initial h down (line.Tick n now word) xs = xs ≡ []
+ShowsLine initial h down (line.Client n bytes) xs = xs ≡ []
 
 -- the steps are the echo of the first line and what stands behind it, and then those of the lines that are left
 pub record Begins (ShowsFirst : List Step → Type 0) (ShowsRest : (first rest : List Step) → Type 0) (l : Line) (xs : List Step) : Type 0 where

@@ -25,6 +25,7 @@ abbrev pub took_some : World → Id → Option Message → World
 took_some w n None = w
 took_some w n (Some message) = did_unless_down w n (taking message)
 
+-- a line of level node, which no schedule of level core has, leaves all as it is
 abbrev pub after : List Id → World → Line → World
 after initial w (line.Boot n) = did_unless_down w n (Bootstrap initial)
 after initial w (line.StartJoin n candidate term) = did_unless_down w n (StartJoin candidate term)
@@ -34,6 +35,8 @@ after initial w (line.Crash n way) = crashed w n way
 after initial w (line.Restart n) = restarted w n
 after initial w (line.Fuse n count way) = ordered w n (Stop count way)
 after initial w (line.Fail n count) = ordered w n (Fault count)
+after initial w (line.Tick n now word) = w
+after initial w (line.Client n bytes) = w
 
 abbrev pub replayed_from : List Id → World → List Line → World
 replayed_from initial w [] = w

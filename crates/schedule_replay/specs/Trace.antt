@@ -25,7 +25,7 @@ abbrev pub delivery_results : World → Id → Option Message → List ℕ
 delivery_results w n None = if w.down n then down_line n else codes "unsent\n"
 delivery_results w n (Some message) = results_of w n (taking message)
 
--- what a line writes behind its echo
+-- what a line writes behind its echo; a line of level node, which no schedule of level core has, writes nothing
 abbrev pub line_results : List Id → World → Line → List ℕ
 line_results initial w (line.Boot n) = results_of w n (Bootstrap initial)
 line_results initial w (line.StartJoin n candidate term) = results_of w n (StartJoin candidate term)
@@ -35,6 +35,8 @@ line_results initial w (line.Crash n way) = stop_text n (node_world w n)
 line_results initial w (line.Restart n) = restart_text n (node_world w n)
 line_results initial w (line.Fuse n count way) = []
 line_results initial w (line.Fail n count) = []
+line_results initial w (line.Tick n now word) = []
+line_results initial w (line.Client n bytes) = []
 
 abbrev pub trace_line : List Id → World → Line → List ℕ
 trace_line initial w l = codes "> " ++ line_text l ++ codes "\n" ++ line_results initial w l

@@ -49,6 +49,8 @@ line_steps initial w (line.Crash n way) = (if w.down n then WasDown n else WentD
 line_steps initial w (line.Restart n) = restart_step w n ∷ []
 line_steps initial w (line.Fuse n count way) = []
 line_steps initial w (line.Fail n count) = []
+line_steps initial w (line.Tick n now word) = []
+line_steps initial w (line.Client n bytes) = []
 
 abbrev pub steps_from : List Id → World → List Line → List Step
 steps_from initial w [] = []

@@ -2,8 +2,8 @@
 ghost use Rattle.schedule_replay.specs.Legal.{LawReplayIsLegal};
 ghost use Rattle.schedule_replay.specs.TraceLaws.{LawStepsGoOn, LawTraceAgrees, LawTraceFollows, LawTraceShows, LawTraceTells};
 
-/// The history of a schedule is legal, wherever its nodes stop and their disks fail: of each schedule whose lines are of its
-/// nodes, and whose initial configuration is a set of ids, which is not empty unless there is no line.
+/// The history of a schedule is legal, wherever its nodes stop and their disks fail: of each schedule whose lines are of
+/// level core and of its nodes, and whose initial configuration is a set of ids, which is not empty unless there is no line.
 pub fn law_replay_is_legal()
     ensures { LawReplayIsLegal }
 {}

@@ -3,6 +3,7 @@ ghost use Rattle.voting_config.specs.Ids.{Id, has};
 ghost use Rattle.cluster_state.specs.States.{IsFitValue};
 ghost use Rattle.world_model.specs.declared.acts.Act.{Act};
 ghost use Rattle.world_model.specs.declared.acts.Act.TheVariants as act;
+ghost use Rattle.schedule_text.specs.declared.level.Level.TheVariants.{Core};
 ghost use Rattle.schedule_text.specs.Lines.{FitsLine};
 ghost use Rattle.replay_node.specs.Did.{did_text, outcome_of};
 ghost use Rattle.replay_node.specs.NodeLines.{restart_text, stop_text};
@@ -52,9 +53,9 @@ impl Replayer {
         })
     }
 
-    /// Does a line, and writes its part of the trace at the end of `text`.
+    /// Does a line of level core, and writes its part of the trace at the end of `text`.
     pub fn line(&mut self, alloc: Global, line: &Line, text: &mut Text) -> Result<(), AllocError>
-        requires fits { FitsLine self.old.ids line.now }
+        requires fits { FitsLine Core self.old.ids line.now }
         requires stands { (w : World) × Stands self.old.ids self.old.nodes.items self.old.sent.items w }
         ensures ids { self.new.ids ≡ self.old.ids }
         ensures initial { self.new.initial ≡ self.old.initial }
@@ -76,6 +77,9 @@ impl Replayer {
             Line::Restart(n) => self.restart(alloc, *n, text)?,
             Line::Fuse(n, count, way) => self.arm(*n, Order::Stop(*count, *way)),
             Line::Fail(n, count) => self.arm(*n, Order::Fault(*count)),
+            // No line of level core.
+            Line::Tick(_, _, _) => (),
+            Line::Client(_, _) => (),
         }
         Ok(())
     }

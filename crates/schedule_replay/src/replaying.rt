@@ -2,6 +2,7 @@ ghost use Rattle.std.specs.Prelude.{◌≡◌, ◌≤◌};
 ghost use Rattle.std.specs.List.{AllByRecursion};
 ghost use Rattle.zen_disk.specs.Faults.{Rose};
 ghost use Rattle.zen_link.specs.Streams.{AppendedFront, WritesAll};
+ghost use Rattle.schedule_text.specs.declared.level.Level.TheVariants.{Core};
 ghost use Rattle.schedule_text.specs.Lines.{FitsLine};
 ghost use Rattle.schedule_replay.specs.SoFar.{Holds};
 ghost use Rattle.schedule_replay.specs.Trace.{trace};
@@ -53,10 +54,10 @@ fn out_of_memory<S: Sink>(out: &mut S, held: &Text) -> ReplayError
     }
 }
 
-/// Replays a schedule, and writes the trace of its one history, of which the laws of this crate tell. `Write` only where the
-/// count of faults of the sink rose; a prefix of the trace is written then, and at `Memory` too.
+/// Replays a schedule of level core, and writes the trace of its one history, of which the laws of this crate tell. `Write`
+/// only where the count of faults of the sink rose; a prefix of the trace is written then, and at `Memory` too.
 pub fn replay<S: Sink>(alloc: Global, schedule: &Schedule, out: &mut S) -> Result<(), ReplayError>
-    requires fits { AllByRecursion (FitsLine schedule.now.nodes) schedule.now.lines }
+    requires fits { AllByRecursion (FitsLine Core schedule.now.nodes) schedule.now.lines }
     ensures written { WritesAll (S.written out.old) (S.written out.new) (trace schedule.now) result }
     ensures later { S.faults out.old ≤ S.faults out.new }
     ensures fault { result ≡ Err ReplayError.Write → Rose (S.faults out.old) (S.faults out.new) }

@@ -7,6 +7,7 @@ use Rattle.zen_disk.specs.Faults.{Rose}
 use Rattle.zen_link.specs.Streams.{Appended, AppendedFront}
 use Rattle.agreement.proofs.Laws.{safe_of_legal}
 use Rattle.schedule_text.specs.declared.fault.BadSchedule.{BadSchedule}
+use Rattle.schedule_text.specs.declared.level.Level.TheVariants.{Core}
 use Rattle.schedule_text.specs.declared.schedule.Schedule.{Schedule}
 use Rattle.schedule_text.specs.Limits.{most_bytes}
 use Rattle.schedule_text.specs.Lines.{FitsLine}
@@ -31,31 +32,31 @@ use Rattle.zen_app.proofs.Inputs.{none_unread}
 
 -- ---- of a schedule that is spelled
 
-pub spells_fits : (bytes : List ℕ) (s : Schedule) → Spells bytes s → AllByRecursion (FitsLine s.nodes) s.lines
+pub spells_fits : (bytes : List ℕ) (s : Schedule) → Spells Core bytes s → AllByRecursion (FitsLine Core s.nodes) s.lines
 spells_fits _ _ Nothing = tt
 spells_fits _ _ (Text s is within) = is.lines
 
-spells_named : (bytes : List ℕ) (s : Schedule) → Spells bytes s → s.initial ≡ [] → s.lines ≡ []
+spells_named : (bytes : List ℕ) (s : Schedule) → Spells Core bytes s → s.initial ≡ [] → s.lines ≡ []
 spells_named _ _ Nothing e = refl
 spells_named _ _ (Text s is within) e = absurd (none s.initial is.some_initial e)
   where
     none : (xs : List (List ℕ)) → 0 < length xs → xs ≡ [] → ⊥
     none xs some e = let zero_long : length xs ≡ 0 = ap (λ (l : List (List ℕ)). length l) e in omega (arith, some, zero_long)
 
-spells_set : (bytes : List ℕ) (s : Schedule) → Spells bytes s → IsIdSet s.initial
+spells_set : (bytes : List ℕ) (s : Schedule) → Spells Core bytes s → IsIdSet s.initial
 spells_set _ _ Nothing = none_set
 spells_set _ _ (Text s is within) = ids_set s.initial is.initial
 
-spells_well_formed : (bytes : List ℕ) (s : Schedule) → Spells bytes s → IsWellFormed s
+spells_well_formed : (bytes : List ℕ) (s : Schedule) → Spells Core bytes s → IsWellFormed s
 spells_well_formed bytes s spelled = record { initial = spells_set bytes s spelled; fit = spells_fits bytes s spelled; named = spells_named bytes s spelled }
 
-spells_safe_trace : (bytes : List ℕ) (s : Schedule) → Spells bytes s → IsSafeTrace s
+spells_safe_trace : (bytes : List ℕ) (s : Schedule) → Spells Core bytes s → IsSafeTrace s
 spells_safe_trace bytes s spelled =
     let well = spells_well_formed bytes s spelled in
     let legal = replay_is_legal s well in
     record { legal = legal; safe = (safe_of_legal s.initial (replayed s) legal).0; tells = tells s; shows = shows s well; agrees = agrees s well }
 
-spells_short : (bytes : List ℕ) (s : Schedule) → Spells bytes s → length bytes ≤ most_bytes
+spells_short : (bytes : List ℕ) (s : Schedule) → Spells Core bytes s → length bytes ≤ most_bytes
 spells_short _ _ Nothing = omega arith
 spells_short _ _ (Text s is within) = within.bytes
 
@@ -68,17 +69,17 @@ all_read left now bytes r short =
     let low : length left ≤ most_bytes = omega (arith, long, length-take most_read left) in
     (r.0 ∙ take_all most_read left (omega (arith, low)), r.1 ∙ ap (λ (x : List ℕ). Some x) (none_unread left low))
 
-spells_left : (left : List ℕ) (now : Option (List ℕ)) (bytes : List ℕ) (s : Schedule) → IsInput (Some left) now bytes → Spells bytes s → Spells left s × (now ≡ Some [])
+spells_left : (left : List ℕ) (now : Option (List ℕ)) (bytes : List ℕ) (s : Schedule) → IsInput (Some left) now bytes → Spells Core bytes s → Spells Core left s × (now ≡ Some [])
 spells_left left now bytes s r spelled =
     let all = all_read left now bytes r (spells_short bytes s spelled) in
-    (subst (λ (l : List ℕ). Spells l s) all.0 spelled, all.1)
+    (subst (λ (l : List ℕ). Spells Core l s) all.0 spelled, all.1)
 
 -- what the input spells is spelled by what was read
-spells_read : (left : List ℕ) (now : Option (List ℕ)) (bytes : List ℕ) (s : Schedule) → IsInput (Some left) now bytes → Spells left s → Spells bytes s
+spells_read : (left : List ℕ) (now : Option (List ℕ)) (bytes : List ℕ) (s : Schedule) → IsInput (Some left) now bytes → Spells Core left s → Spells Core bytes s
 spells_read left now bytes s r spelled =
     let short = spells_short left s spelled in
     let is : bytes ≡ left = r.0 ∙ take_all most_read left (omega (arith, short)) in
-    subst (λ (l : List ℕ). Spells l s) (sym is) spelled
+    subst (λ (l : List ℕ). Spells Core l s) (sym is) spelled
 
 -- ---- of what was written
 
@@ -94,10 +95,10 @@ no_front was now bytes written = record { front = []; rest = bytes; whole = refl
 
 -- a prefix of the trace of the schedule that the bytes spell, where they spell one
 abbrev IsTraced : List ℕ → (was now : Option (List ℕ)) → Type 0
-IsTraced bytes was now = (s : Schedule) → Spells bytes s → AppendedFront was now (trace s) × IsSafeTrace s
+IsTraced bytes was now = (s : Schedule) → Spells Core bytes s → AppendedFront was now (trace s) × IsSafeTrace s
 
-traced : (bytes : List ℕ) (was now : Option (List ℕ)) (s : Schedule) → Spells bytes s → AppendedFront was now (trace s) → IsTraced bytes was now
-traced bytes was now s spelled written t other = (subst (λ (x : Schedule). AppendedFront was now (trace x)) (one_schedule bytes s t spelled other) written, spells_safe_trace bytes t other)
+traced : (bytes : List ℕ) (was now : Option (List ℕ)) (s : Schedule) → Spells Core bytes s → AppendedFront was now (trace s) → IsTraced bytes was now
+traced bytes was now s spelled written t other = (subst (λ (x : Schedule). AppendedFront was now (trace x)) (one_schedule Core bytes s t spelled other) written, spells_safe_trace bytes t other)
 
 traced_nothing : (bytes : List ℕ) (was now : Option (List ℕ)) → Appended was now [] → IsTraced bytes was now
 traced_nothing bytes was now written s spelled = (no_front was now (trace s) written, spells_safe_trace bytes s spelled)
@@ -138,41 +139,41 @@ module _ (words : List (List ℕ)) (source source_now : SourceView) (sink sink_n
     told : (bs : List ℕ) → source.left ≡ Some bs → IsInput (Some bs) source_now.left bytes
     told bs e = subst (λ (l : Option (List ℕ)). IsInput l source_now.left bytes) e input
 
-    left_of : (bs : List ℕ) (s : Schedule) → source.left ≡ Some bs → Spells bytes s → Spells bs s × (source_now.left ≡ Some [])
+    left_of : (bs : List ℕ) (s : Schedule) → source.left ≡ Some bs → Spells Core bytes s → Spells Core bs s × (source_now.left ≡ Some [])
     left_of bs s e spelled = spells_left bs source_now.left bytes s (told bs e) spelled
 
-    pub succeeded : (s : Schedule) → Spells bytes s → Appended sink.written sink_now.written (trace s) → Ran words source source_now sink sink_now exit.Ok
+    pub succeeded : (s : Schedule) → Spells Core bytes s → Appended sink.written sink_now.written (trace s) → Ran words source source_now sink sink_now exit.Ok
     succeeded s spelled written = ran exit.Ok (λ e. absurd cc) (λ e. absurd cc) (λ e. absurd cc) (λ bs e. let l = left_of bs s e spelled in record {
       ended = (l.1, record { schedule = s; spelled = l.0; written = written; safe_trace = spells_safe_trace bs s l.0 });
       traced = traced bs sink.written sink_now.written s l.0 (whole_front sink.written sink_now.written (trace s) written);
       complete = λ t sp r w. inl refl;
     })
 
-    pub cut_short : (s : Schedule) → Spells bytes s → AppendedFront sink.written sink_now.written (trace s) → Rose sink.faults sink_now.faults → Ran words source source_now sink sink_now exit.WriteFault
+    pub cut_short : (s : Schedule) → Spells Core bytes s → AppendedFront sink.written sink_now.written (trace s) → Rose sink.faults sink_now.faults → Ran words source source_now sink sink_now exit.WriteFault
     cut_short s spelled written rose = ran exit.WriteFault (λ e. absurd cc) (λ e. absurd cc) (λ _. rose) (λ bs e. let l = left_of bs s e spelled in record {
       ended = ((told bs e).1, inl (record { schedule = s; spelled = l.0; written = written; safe_trace = spells_safe_trace bs s l.0 }));
       traced = traced bs sink.written sink_now.written s l.0 written;
       complete = λ t sp r w. absurd (w rose);
     })
 
-    pub out_of_memory : (s : Schedule) → Spells bytes s → AppendedFront sink.written sink_now.written (trace s) → Ran words source source_now sink sink_now exit.NoMemory
+    pub out_of_memory : (s : Schedule) → Spells Core bytes s → AppendedFront sink.written sink_now.written (trace s) → Ran words source source_now sink sink_now exit.NoMemory
     out_of_memory s spelled written = ran exit.NoMemory (λ e. absurd cc) (λ e. absurd cc) (λ e. absurd cc) (λ bs e. let l = left_of bs s e spelled in record {
       ended = inl (record { schedule = s; spelled = l.0; written = written; safe_trace = spells_safe_trace bs s l.0 });
       traced = traced bs sink.written sink_now.written s l.0 written;
       complete = λ t sp r w. inr refl;
     })
 
-    pub bad : (status : Status) (bad : BadSchedule) → fault_of bytes ≡ Some bad → ((s : Schedule) → Spells bytes s → ⊥) → Refusal sink.written sink_now.written sink.faults sink_now.faults (bad_line bad) status
+    pub bad : (status : Status) (bad : BadSchedule) → fault_of Core bytes ≡ Some bad → ((s : Schedule) → Spells Core bytes s → ⊥) → Refusal sink.written sink_now.written sink.faults sink_now.faults (bad_line bad) status
         → Ran words source source_now sink sink_now status
     bad status b fault none refusal = from refusal.refused
       where
-        told_fault : (bs : List ℕ) → source.left ≡ Some bs → fault_of (read_of bs) ≡ Some b
-        told_fault bs e = subst (λ (l : List ℕ). fault_of l ≡ Some b) (told bs e).0 fault
+        told_fault : (bs : List ℕ) → source.left ≡ Some bs → fault_of Core (read_of bs) ≡ Some b
+        told_fault bs e = subst (λ (l : List ℕ). fault_of Core l ≡ Some b) (told bs e).0 fault
 
-        first_bad : (bs : List ℕ) → source.left ≡ Some bs → IsFirstBad b.line (read_of bs)
-        first_bad bs e = (law_first_bad_line (read_of bs) b.line).0 (b.why, told_fault bs e)
+        first_bad : (bs : List ℕ) → source.left ≡ Some bs → IsFirstBad Core b.line (read_of bs)
+        first_bad bs e = (law_first_bad_line Core (read_of bs) b.line).0 (b.why, told_fault bs e)
 
-        no_schedule : {A : Type 0} (bs : List ℕ) (s : Schedule) → source.left ≡ Some bs → Spells bs s → A
+        no_schedule : {A : Type 0} (bs : List ℕ) (s : Schedule) → source.left ≡ Some bs → Spells Core bs s → A
         no_schedule bs s e spelled = absurd (none s (spells_read bs source_now.left bytes s (told bs e) spelled))
 
         from : (status ≡ exit.BadSchedule) ⊎ ((status ≡ exit.WriteFault) ⊎ (status ≡ exit.NoMemory)) → Ran words source source_now sink sink_now status

@@ -6,7 +6,7 @@ ghost use Rattle.zen_app.specs.Refusing.{Refusal};
 use crate::Status;
 use crate::input::{InputError, read_input};
 use schedule_replay::{ReplayError, replay};
-use schedule_text::{BadSchedule, ReadError, Text, read_schedule};
+use schedule_text::{BadSchedule, Level, ReadError, Text, read_schedule};
 use std::alloc::Global;
 use zen_link::{Host, Sink, write_all};
 
@@ -20,7 +20,7 @@ fn is_command(words: &[String]) -> bool
 }
 
 /// Runs the program: `words` are those after its name, and the one command is `replay --level core`, which reads a schedule
-/// and writes its trace. The clause of the status says what was written and of which history it tells.
+/// of level core and writes its trace. The clause of the status says what was written and of which history it tells.
 pub fn run<H: Host>(
     alloc: Global,
     words: &[String],
@@ -47,7 +47,7 @@ pub fn run<H: Host>(
         Err(InputError::Read) => return Status::ReadFault,
         Err(InputError::Memory) => return Status::NoMemory,
     };
-    let schedule = match read_schedule(alloc, bytes.as_slice()) {
+    let schedule = match read_schedule(alloc, bytes.as_slice(), Level::Core) {
         Ok(schedule) => schedule,
         Err(ReadError::Memory) => return Status::NoMemory,
         Err(ReadError::Bad(bad)) => return refuse(alloc, out, &bad),
