@@ -99,8 +99,8 @@ pub fn write_event(
     write_replies(text, alloc, node, replies)
 }
 
-/// Writes an event at which the disk failed in the last act: its acts and changes of mode, then drops. Nothing was sent and
-/// nobody was answered. Where `crashed`, the disk failed since the node stopped in that act. `published` is as for
+/// Writes an event at which the disk failed in the last act: its acts and changes of mode, then drops. Nothing was sent
+/// and nobody was answered. Where `crashed`, the disk failed since the node stopped in that act. `published` is as for
 /// `write_steps`.
 pub fn write_struck_event(
     text: &mut Text,
