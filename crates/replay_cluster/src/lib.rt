@@ -5,3 +5,7 @@ pub mod node;
 pub mod nodes;
 pub mod replayer;
 pub mod stepping;
+
+pub use node::{ClusterNode, Slot};
+pub use replayer::ClusterReplayer;
+pub use stepping::{Ended, OpenNode};

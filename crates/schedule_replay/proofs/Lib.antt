@@ -19,3 +19,4 @@ pub mod TraceLaws
 pub mod Winning
 pub mod WorldLegal
 pub mod WorldSteps
+pub mod ClusterProgress

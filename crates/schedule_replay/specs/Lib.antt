@@ -10,3 +10,5 @@ pub mod Trace
 pub mod TraceLaws
 pub mod TraceSteps
 pub mod WorldStands
+pub mod Levels
+pub mod ClusterSoFar
