@@ -11,3 +11,6 @@ pub use laws::{
     law_trace_tells,
 };
 pub use replaying::{ReplayError, replay};
+
+#[cfg(test)]
+mod tests;
