@@ -7,9 +7,9 @@ use Rattle.schedule_text.specs.declared.schedule.Line.{Line}
 use Rattle.zen_link.specs.Streams.{Appended, AppendedFront}
 use Rattle.zen_link.proofs.Appending.{appended_more, front_after, front_within}
 use Rattle.replay_node.specs.Clusters.{after}
-use Rattle.replay_cluster.specs.ClusterStands.{WritesLine}
-use Rattle.replay_cluster.specs.Trace.{trace_from}
-use Rattle.replay_cluster.specs.declared.node.ClusterNode.{ClusterNode}
+use Rattle.schedule_replay.specs.ClusterStands.{WritesLine}
+use Rattle.schedule_replay.specs.ClusterTrace.{trace_from}
+use Rattle.schedule_replay.specs.declared.cluster.node.ClusterNode.{ClusterNode}
 use Rattle.schedule_replay.specs.ClusterSoFar.{ClusterSoFar}
 use Rattle.schedule_replay.specs.SoFar.{HoldsBack}
 

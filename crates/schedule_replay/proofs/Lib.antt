@@ -20,3 +20,10 @@ pub mod Winning
 pub mod WorldLegal
 pub mod WorldSteps
 pub mod ClusterProgress
+pub mod Playing
+pub mod Bridge
+pub mod EventsDone
+pub mod Openings
+pub mod Places
+pub mod Going
+pub mod ClusterLines

@@ -12,3 +12,10 @@ pub mod TraceSteps
 pub mod WorldStands
 pub mod Levels
 pub mod ClusterSoFar
+pub mod ClusterTrace
+pub mod OpenNodes
+pub mod EventEnds
+pub mod Own
+pub mod OwnStands
+pub mod Openings
+pub mod ClusterStands

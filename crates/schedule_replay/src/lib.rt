@@ -1,6 +1,7 @@
 //! A schedule replayed over the rules of the core, and its trace.
 #![tactic(auto)]
 
+pub mod cluster;
 pub mod laws;
 pub mod nodes;
 pub mod replayer;

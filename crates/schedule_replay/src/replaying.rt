@@ -7,8 +7,8 @@ ghost use Rattle.schedule_text.specs.Lines.{FitsLine};
 ghost use Rattle.schedule_replay.specs.SoFar.{Holds};
 ghost use Rattle.schedule_replay.specs.Levels.{trace_at};
 
+use crate::cluster::replayer::ClusterReplayer;
 use crate::replayer::Replayer;
-use replay_cluster::ClusterReplayer;
 use schedule_text::{Level, Schedule, Text};
 use std::alloc::Global;
 use zen_link::{Sink, write_all};

@@ -52,7 +52,7 @@ pub fn run<H: Host>(
         Err(ReadError::Memory) => return Status::NoMemory,
         Err(ReadError::Bad(bad)) => return refuse(alloc, out, &bad),
     };
-    match replay(alloc, &schedule, out) {
+    match replay(alloc, &schedule, Level::Core, out) {
         Ok(()) => Status::Ok,
         Err(ReplayError::Write) => Status::WriteFault,
         Err(ReplayError::Memory) => Status::NoMemory,

@@ -240,9 +240,21 @@ const SECOND_ACT: [&str; 67] = [
 ];
 
 pub const ROWS: [Row; 5] = [
-    ("a node alone elects itself and takes a client's puts", &ONE_NODE),
+    (
+        "a node alone elects itself and takes a client's puts",
+        &ONE_NODE,
+    ),
     ("a second node joins and learns the state", &TWO_NODES),
-    ("a leader whose publication is not committed in time steps down", &TIMEOUT),
-    ("nodes stop, their disks fail, and they are opened again", &FAULTS),
-    ("the second act of an event is struck, and then an opening", &SECOND_ACT),
+    (
+        "a leader whose publication is not committed in time steps down",
+        &TIMEOUT,
+    ),
+    (
+        "nodes stop, their disks fail, and they are opened again",
+        &FAULTS,
+    ),
+    (
+        "the second act of an event is struck, and then an opening",
+        &SECOND_ACT,
+    ),
 ];

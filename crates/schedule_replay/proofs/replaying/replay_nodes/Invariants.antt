@@ -1,5 +1,5 @@
 use Rattle.std.proofs.Common.{◌≡◌, ◌≤◌, drop}
-use Rattle.replay_cluster.specs.Trace.{trace}
+use Rattle.schedule_replay.specs.ClusterTrace.{trace}
 use Rattle.schedule_replay.specs.ClusterSoFar.{ClusterSoFar}
 use Rattle.schedule_replay.proofs.replaying.replay_nodes.Given as goal
 
