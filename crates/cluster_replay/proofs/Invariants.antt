@@ -24,7 +24,7 @@ use Rattle.replay_node.specs.Course.{Course, played}
 use Rattle.replay_node.specs.Clusters.{Cluster, settings_of, with_life, event_course, after_event}
 use Rattle.cluster_replay.proofs.Allowing.{FitView, IsGoodFrame, Covers, sent-covers, IsAllowed, fit-moved, frames-sent}
 use Rattle.cluster_replay.proofs.AllowedRules.{MayCome, allowed-next}
-use Rattle.cluster_replay.proofs.Lives.{no_fault}
+use Rattle.replay_node.proofs.Lives.{no_fault}
 use Rattle.cluster_replay.proofs.Playing.{Played, Whole, Cut, plays}
 use Rattle.replay_node.proofs.WorldSound.{SoundWorld}
 

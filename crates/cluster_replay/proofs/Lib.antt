@@ -5,7 +5,6 @@ pub mod Fits
 pub mod Invariants
 pub mod JsonStrings
 pub mod JsonTexts
-pub mod Lives
 pub mod NextFits
 pub mod Playing
 pub mod Schedules

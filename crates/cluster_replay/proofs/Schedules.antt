@@ -49,7 +49,7 @@ use Rattle.cluster_replay.proofs.Asking.{good-asks}
 use Rattle.replay_node.proofs.IdLists.{none_set}
 use Rattle.cluster_replay.proofs.NextFits.{FitAccepted, empty_accepted}
 use Rattle.cluster_replay.proofs.Invariants.{SoundNode, SoundCluster, Waits, all-at, contained, listed-id, each-stays, event_sound}
-use Rattle.cluster_replay.proofs.Lives.{settled_acts, settled_follows}
+use Rattle.replay_node.proofs.Lives.{settled_acts, settled_follows}
 use Rattle.replay_node.proofs.WorldSound.{SoundWorld, IsFitMessage, armed, fresh, reopened, stopped}
 use Rattle.client_guarantees.proofs.Laws.{replies_are_true}
 

@@ -193,6 +193,7 @@ module _ {K : Type 0} (k : Ghosts K) where
         ∙ ap (λ (v : View). moved_all old.settings v items) (begun_of old life event stands)
         ∙ sym (view_of-added old.settings (And (log_of life) (Begins event)) items own)
         ∙ ap (λ (s : Settings). view_of s (added (And (log_of life) (Begins event)) items)) (sym passes.settings);
+    core = passes.core;
     wrote = did_wrote old.core new.core items passes.core;
     later = did_later old.core new.core items passes.core;
   }

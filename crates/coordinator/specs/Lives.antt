@@ -80,9 +80,10 @@ module _ {K : Type 0} (k : Ghosts K) where
       (life : Life) → StandsForLife old life → k.told → (found : Option Kept)
       → k.left_since new.core.keeper (k.moment new.core.keeper) found ↔ (found ≡ Some (durable_of (acts_of (log_of (Lived life (Did event (items_of old.settings (log_of life) event)))))))
 
-  -- the event's entry in the node's life, and what the keeper wrote for it
+  -- the event's entry in the node's life, the acts of the core in it, and what the keeper wrote for them
   pub record Enters (old new : Coordinator K) (event : Event) (items : List Item) : Type 0 where
     pub settings : new.settings ≡ old.settings
     pub stands : (life : Life) → StandsForLife old life → StandsForLife new (Lived life (Did event items))
+    pub core : CoreDid k old.core new.core items
     pub wrote : WroteAll old.core.keeper items new.core.keeper
     pub later : k.faults old.core.keeper ≤ k.faults new.core.keeper

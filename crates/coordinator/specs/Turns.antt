@@ -11,6 +11,7 @@ use Rattle.coord_state.specs.declared.coord.CoordState.{CoordState}
 use Rattle.coord_state.specs.StandsFor.{Acts as CoreActs, StandsFor}
 use Rattle.coord_state.specs.Writes.{WritesBy, IsDuring}
 use Rattle.policy_model.specs.Events.{Item, Opens, Begins, Acts, Turns, Drops, Sends, Replies, Notes}
+use Rattle.coordinator.specs.Verdicts.{IsTold}
 
 -- what a crash leaves at a moment of these items: what is kept of the acts so far, without the act in hand or with it
 abbrev pub IsAlong : NodeHistory → List Item → Option Kept → Type 0
@@ -30,6 +31,7 @@ module _ {K : Type 0} (k : Ghosts K) where
     pub acts : CoreActs k.record_of k.has_stopped k.faults old new act outcome
     pub wrote : WritesBy k.writes old.keeper act new.keeper outcome
     pub any_moment : k.told → (g : NodeHistory) → StandsFor k.record_of k.has_stopped k.faults old g → LeavesOnly k.moment k.left_since old.keeper new.keeper (IsDuring g act)
+    pub told : IsTold outcome
 
   -- the core did these acts and no others
   abbrev pub CoreDid : (old new : CoordState K) → List Item → Type 0

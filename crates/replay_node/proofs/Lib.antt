@@ -7,6 +7,7 @@ pub mod FileLeft
 pub mod Found
 pub mod IdLists
 pub mod JournalLeft
+pub mod Lives
 pub mod MayAct
 pub mod Moves
 pub mod NodeSound

@@ -24,3 +24,11 @@ pub mod TraceLaws
 pub mod Winning
 pub mod WorldLegal
 pub mod WorldSteps
+pub mod ClusterProgress
+pub mod Playing
+pub mod Bridge
+pub mod EventsDone
+pub mod Openings
+pub mod Places
+pub mod Going
+pub mod ClusterLines

@@ -15,3 +15,12 @@ pub mod Trace
 pub mod TraceLaws
 pub mod TraceSteps
 pub mod WorldStands
+pub mod Levels
+pub mod ClusterSoFar
+pub mod ClusterTrace
+pub mod OpenNodes
+pub mod EventEnds
+pub mod Own
+pub mod OwnStands
+pub mod Openings
+pub mod ClusterStands

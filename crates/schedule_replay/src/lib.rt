@@ -1,6 +1,7 @@
 //! A schedule replayed over the rules of the core, and its trace.
 #![tactic(auto)]
 
+pub mod cluster;
 pub mod laws;
 pub mod nodes;
 pub mod replayer;
@@ -12,3 +13,6 @@ pub use laws::{
     law_trace_follows, law_trace_shows, law_trace_tells,
 };
 pub use replaying::{ReplayError, replay};
+
+#[cfg(test)]
+mod tests;

@@ -2,13 +2,14 @@ ghost use Rattle.std.specs.Prelude.{◌≡◌, ◌≤◌};
 ghost use Rattle.std.specs.List.{AllByRecursion};
 ghost use Rattle.zen_disk.specs.Faults.{Rose};
 ghost use Rattle.zen_link.specs.Streams.{AppendedFront, WritesAll};
-ghost use Rattle.schedule_text.specs.declared.level.Level.TheVariants.{Core};
+ghost use Rattle.schedule_text.specs.declared.level.Level.TheVariants.{Core, Node};
 ghost use Rattle.schedule_text.specs.Lines.{FitsLine};
 ghost use Rattle.schedule_replay.specs.SoFar.{Holds};
-ghost use Rattle.schedule_replay.specs.Trace.{trace};
+ghost use Rattle.schedule_replay.specs.Levels.{trace_at};
 
+use crate::cluster::replayer::ClusterReplayer;
 use crate::replayer::Replayer;
-use schedule_text::{Schedule, Text};
+use schedule_text::{Level, Schedule, Text};
 use std::alloc::Global;
 use zen_link::{Sink, write_all};
 
@@ -54,11 +55,10 @@ fn out_of_memory<S: Sink>(out: &mut S, held: &Text) -> ReplayError
     }
 }
 
-/// Replays a schedule of level core, and writes the trace of its one history, of which the laws of this crate tell. `Write`
-/// only where the count of faults of the sink rose; a prefix of the trace is written then, and at `Memory` too.
-pub fn replay<S: Sink>(alloc: Global, schedule: &Schedule, out: &mut S) -> Result<(), ReplayError>
+// A schedule of level core: the nodes do single acts.
+fn replay_core<S: Sink>(alloc: Global, schedule: &Schedule, out: &mut S) -> Result<(), ReplayError>
     requires fits { AllByRecursion (FitsLine Core schedule.now.nodes) schedule.now.lines }
-    ensures written { WritesAll (S.written out.old) (S.written out.new) (trace schedule.now) result }
+    ensures written { WritesAll (S.written out.old) (S.written out.new) (trace_at Core schedule.now) result }
     ensures later { S.faults out.old ≤ S.faults out.new }
     ensures fault { result ≡ Err ReplayError.Write → Rose (S.faults out.old) (S.faults out.new) }
 {
@@ -79,4 +79,51 @@ pub fn replay<S: Sink>(alloc: Global, schedule: &Schedule, out: &mut S) -> Resul
         return Err(ReplayError::Write);
     };
     Ok(())
+}
+
+// A schedule of level node: whole nodes do what their policy says.
+fn replay_nodes<S: Sink>(alloc: Global, schedule: &Schedule, out: &mut S) -> Result<(), ReplayError>
+    requires fits { AllByRecursion (FitsLine Node schedule.now.nodes) schedule.now.lines }
+    ensures written { WritesAll (S.written out.old) (S.written out.new) (trace_at Node schedule.now) result }
+    ensures later { S.faults out.old ≤ S.faults out.new }
+    ensures fault { result ≡ Err ReplayError.Write → Rose (S.faults out.old) (S.faults out.new) }
+{
+    let Ok(mut replayer) = ClusterReplayer::new(alloc, &schedule.nodes, &schedule.initial) else {
+        return Err(ReplayError::Memory);
+    };
+    let mut held = Text::new(alloc);
+    let mut text = Text::new(alloc);
+    let lines = schedule.lines.as_slice();
+    for line in lines {
+        text.clear();
+        let Ok(()) = replayer.line(alloc, line, &mut text) else {
+            return Err(out_of_memory(out, &held));
+        };
+        hold(out, &mut held, &text)?;
+    }
+    let Ok(()) = write_all(out, held.as_bytes()) else {
+        return Err(ReplayError::Write);
+    };
+    Ok(())
+}
+
+/// Replays a schedule of this level, and writes the trace of its one history. `Write` only where the count of faults of the
+/// sink rose; a prefix of the trace is written then, and at `Memory` too.
+///
+/// At level core the laws of this crate tell of the history, at level node those of `cluster_replay`.
+pub fn replay<S: Sink>(
+    alloc: Global,
+    schedule: &Schedule,
+    level: Level,
+    out: &mut S,
+) -> Result<(), ReplayError>
+    requires fits { AllByRecursion (FitsLine level schedule.now.nodes) schedule.now.lines }
+    ensures written { WritesAll (S.written out.old) (S.written out.new) (trace_at level schedule.now) result }
+    ensures later { S.faults out.old ≤ S.faults out.new }
+    ensures fault { result ≡ Err ReplayError.Write → Rose (S.faults out.old) (S.faults out.new) }
+{
+    match level {
+        Level::Core => replay_core(alloc, schedule, out),
+        Level::Node => replay_nodes(alloc, schedule, out),
+    }
 }

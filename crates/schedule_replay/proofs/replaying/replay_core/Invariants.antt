@@ -2,7 +2,7 @@ use Rattle.std.proofs.Common.{◌≡◌, ◌≤◌, drop}
 use Rattle.schedule_replay.specs.SoFar.{SoFar}
 use Rattle.schedule_replay.specs.Trace.{trace}
 use Rattle.schedule_replay.proofs.Progress.{last_world}
-use Rattle.schedule_replay.proofs.replaying.replay.Given as goal
+use Rattle.schedule_replay.proofs.replaying.replay_core.Given as goal
 
 abbrev pub invariant-loop-line : goal.invariant-loop-line
 invariant-loop-line g l =

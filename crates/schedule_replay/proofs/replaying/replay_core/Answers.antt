@@ -1,6 +1,6 @@
 use Rattle.std.proofs.Common.{arith, ◌∙◌}
 use Rattle.schedule_replay.proofs.Progress.{front_at_err, goes_on, fails, stops, ends, same_ids, none_left}
-use Rattle.schedule_replay.proofs.replaying.replay.Goals as goal
+use Rattle.schedule_replay.proofs.replaying.replay_core.Goals as goal
 
 pub returns-in_default-line-clause-written : goal.returns-in_default-line-clause-written
 returns-in_default-line-clause-written g c =

@@ -1,0 +1,162 @@
+-- A line that is done.
+use Rattle.std.proofs.Common.{◌≡◌, ◌≤◌, ◌-◌, ◌∷◌, ℕ, zero, suc, arith, Bool, true, false, not, Option, None, Some, Result, Ok, Err, List, [], ◌++◌, append_assoc, codes, length, slice_get, take, drop, refl, sym, ◌∙◌, ap, subst, if◌then◌else◌}
+use Rattle.std.specs.List.{AllByRecursion}
+use Rattle.std.specs.Prelude.{OnOk}
+use Rattle.std.proofs.lemmas.List.{take_at}
+use Rattle.voting_config.specs.Ids.{Id, same}
+use Rattle.wire_frames.specs.declared.frame.Frame.{Frame}
+use Rattle.wire_frames.specs.Frames.{IsFitFrame}
+use Rattle.schedule_text.specs.declared.schedule.Line.{Line}
+use Rattle.schedule_text.specs.Lines.{line_text}
+use Rattle.trace_text.specs.Trace.{down_line}
+use Rattle.replay_node.specs.Clusters.{Cluster, after, after_event_if_up, after_frame, frame_at, own_world, settings_of}
+use Rattle.replay_node.specs.NodeWorld.{needs_opening}
+use Rattle.policy_model.specs.declared.settings.Settings.{Settings}
+use Rattle.policy_model.specs.declared.events.Event.TheVariants.{Frame as FrameCame}
+use Rattle.schedule_replay.specs.ClusterStands.{AllFor, ClusterFor, DoesLine, LineDone, NodesDo, WritesLine}
+use Rattle.schedule_replay.specs.Own.{Own, own_in}
+use Rattle.schedule_replay.specs.ClusterTrace.{event_shown, event_shown_if_up, frame_shown, line_shown}
+use Rattle.schedule_replay.specs.declared.cluster.node.ClusterNode.{ClusterNode}
+use Rattle.schedule_replay.proofs.Going.{GoesAs}
+use Rattle.schedule_replay.proofs.Places.{as_many}
+
+all-append : {A : Type 0} (P : A → Type 0) (xs ys : List A) → AllByRecursion P xs → AllByRecursion P ys → AllByRecursion P (xs ++ ys)
+all-append P [] ys h k = k
+all-append P (x ∷ xs) ys h k = (h.0, all-append P xs ys h.1 k)
+
+pub all-at : {A : Type 0} (P : A → Type 0) (xs : List A) (k : ℕ) (x : A) → AllByRecursion P xs → slice_get xs k ≡ Some x → P x
+all-at P [] k x h e = absurd (cc)
+all-at P (y ∷ ys) zero x h e = let is : y ≡ x = cc in subst P is h.0
+all-at P (y ∷ ys) (suc k) x h e = all-at P ys k x h.1 e
+
+pub past : {A : Type 0} (xs : List A) (k : ℕ) → length xs ≤ k → slice_get xs k ≡ None
+past [] k within = refl
+past (x ∷ xs) zero within = absurd (omega arith)
+past (x ∷ xs) (suc k) within = past xs k (omega arith)
+
+-- what the nodes did is what the line makes of the cluster
+pub does_line : (nodes initial : List Id) (n : Id) (old new : List ClusterNode) (frames more : List Frame) (was now : List ℕ) (after_it : Settings → Own → Own) (sent : Settings → Own → List Frame) (results : Settings → ℕ → Own → List ℕ)
+    (later : Cluster → Cluster) (shown : Cluster → List ℕ)
+    → NodesDo nodes initial n old new frames more was now after_it sent results
+    → ((c : Cluster) → GoesAs n c (later c) (after_it (settings_of nodes initial n) (own_in c n)) (sent (settings_of nodes initial n) (own_in c n)) (shown c) (results (settings_of nodes initial n) (length c.frames) (own_in c n)))
+    → DoesLine nodes initial old new frames more was now later shown
+does_line nodes initial n old new frames more was now after_it sent results later shown does goes c s =
+    let line = goes c in
+    let done = does c s.stand (later c) line.goes in
+    let count : results (settings_of nodes initial n) (length frames) (own_in c n) ≡ shown c = ap (λ (fs : List Frame). results (settings_of nodes initial n) (length fs) (own_in c n)) s.frames_sent ∙ line.shows in
+    record {
+      stands = record {
+        stand = done.stand;
+        frames_sent = done.sent_is ∙ ap (λ (fs : List Frame). fs ++ sent (settings_of nodes initial n) (own_in c n)) s.frames_sent ∙ line.frames;
+        fit = subst (λ (fs : List Frame). AllByRecursion IsFitFrame fs) (sym done.sent_is) (all-append IsFitFrame frames (sent (settings_of nodes initial n) (own_in c n)) s.fit done.fit);
+        ascending = s.ascending;
+      };
+      written = done.written ∙ ap (λ (t : List ℕ). was ++ t) count;
+    }
+
+-- what a vector holds after a write of its elements as a slice
+refilled : (new old : List ClusterNode) (len : ℕ) → length new ≡ length old → length old ≡ len → take len (new ++ drop (length new) old) ≡ new
+refilled new old len same_length is = rw (← is, ← same_length) (take_at new (drop (length new) old) (length new) refl)
+
+-- the same of a vector that was lent as a slice
+returned : (items lent new final : List ClusterNode) (len : ℕ) → lent ≡ items → length new ≡ length lent → length lent ≡ len → final ≡ take len (new ++ drop (length new) items) → final ≡ new
+returned items lent new final len is same_length long final_is =
+    final_is ∙ refilled new items len (same_length ∙ ap (λ (x : List ClusterNode). length x) is) (sym (ap (λ (x : List ClusterNode). length x) is) ∙ long)
+
+pub lent_line : (nodes initial : List Id) (n : Id) (items lent new final : List ClusterNode) (len : ℕ) (frames more : List Frame) (was now : List ℕ) (after_it : Settings → Own → Own) (sent : Settings → Own → List Frame) (results : Settings → ℕ → Own → List ℕ)
+    (later : Cluster → Cluster) (shown : Cluster → List ℕ)
+    → lent ≡ items → length new ≡ length lent → length lent ≡ len → final ≡ take len (new ++ drop (length new) items)
+    → NodesDo nodes initial n lent new frames more was now after_it sent results
+    → ((c : Cluster) → GoesAs n c (later c) (after_it (settings_of nodes initial n) (own_in c n)) (sent (settings_of nodes initial n) (own_in c n)) (shown c) (results (settings_of nodes initial n) (length c.frames) (own_in c n)))
+    → DoesLine nodes initial items final frames more was now later shown
+lent_line nodes initial n items lent new final len frames more was now after_it sent results later shown is same_length long final_is does goes =
+    subst (λ (x : List ClusterNode). DoesLine nodes initial items x frames more was now later shown) (sym (returned items lent new final len is same_length long final_is))
+    (does_line nodes initial n items new frames more was now after_it sent results later shown (subst (λ (x : List ClusterNode). NodesDo nodes initial n x new frames more was now after_it sent results) is does) goes)
+
+pub many_lent : (nodes initial : List Id) (items lent : List ClusterNode) (c : Cluster) → lent ≡ items → AllFor nodes initial nodes items c → length lent ≡ length nodes
+many_lent nodes initial items lent c is s = ap (λ (x : List ClusterNode). length x) is ∙ as_many nodes initial nodes items c s
+
+pub stand_lent : (nodes initial : List Id) (items lent : List ClusterNode) (c : Cluster) → lent ≡ items → AllFor nodes initial nodes items c → AllFor nodes initial nodes lent c
+stand_lent nodes initial items lent c is s = subst (λ (x : List ClusterNode). AllFor nodes initial nodes x c) (sym is) s
+
+-- ---- deliveries
+
+module _ (nodes initial : List Id) (n : Id) (all : List ClusterNode) (frames : List Frame) (number : ℕ) where
+  -- a line that hands nothing over leaves all as it is
+  quiet : (f : Option Frame) (was now : List ℕ) → slice_get frames (number - 1) ≡ f → ((c : Cluster) → AllFor nodes initial nodes all c → (after_frame (settings_of nodes initial n) c f ≡ c) × (now ≡ was ++ frame_shown (settings_of nodes initial n) c f))
+      → DoesLine nodes initial all all frames frames was now (λ c. after_frame (settings_of nodes initial n) c (frame_at c number)) (λ c. frame_shown (settings_of nodes initial n) c (frame_at c number))
+  quiet f was now at does c s =
+      let here : frame_at c number ≡ f = ap (λ (fs : List Frame). slice_get fs (number - 1)) (sym s.frames_sent) ∙ at in
+      let done = does c s.stand in
+      subst (λ (x : Option Frame). LineDone nodes initial all frames (after_frame (settings_of nodes initial n) c x) (frame_shown (settings_of nodes initial n) c x) was now) (sym here)
+      (record { stands = subst (λ (d : Cluster). ClusterFor nodes initial all frames d) (sym done.0) s; written = done.1 })
+
+  waits : (b : Bool) → false ≡ not b → b ≡ true
+  waits true e = refl
+  waits false e = absurd (cc)
+
+  runs : (b : Bool) → true ≡ not b → b ≡ false
+  runs true e = absurd (cc)
+  runs false e = refl
+
+  -- there is no such frame
+  pub unsent_up : (was now : List ℕ) → slice_get frames (number - 1) ≡ None → ((c : Cluster) → AllFor nodes initial nodes all c → true ≡ not (needs_opening (own_world (settings_of nodes initial n) c))) → now ≡ was ++ codes "unsent\n"
+      → DoesLine nodes initial all all frames frames was now (λ c. after_frame (settings_of nodes initial n) c (frame_at c number)) (λ c. frame_shown (settings_of nodes initial n) c (frame_at c number))
+  unsent_up was now none up written = quiet None was now none (λ c s.
+      (refl, written ∙ sym (ap (λ (b : Bool). was ++ (if b then down_line n else codes "unsent\n")) (runs _ (up c s)))))
+
+  pub unsent_down : (was now : List ℕ) → slice_get frames (number - 1) ≡ None → ((c : Cluster) → AllFor nodes initial nodes all c → false ≡ not (needs_opening (own_world (settings_of nodes initial n) c))) → now ≡ was ++ down_line n
+      → DoesLine nodes initial all all frames frames was now (λ c. after_frame (settings_of nodes initial n) c (frame_at c number)) (λ c. frame_shown (settings_of nodes initial n) c (frame_at c number))
+  unsent_down was now none down written = quiet None was now none (λ c s.
+      (refl, written ∙ sym (ap (λ (b : Bool). was ++ (if b then down_line n else codes "unsent\n")) (waits _ (down c s)))))
+
+  same_then : (b d : Bool) (c later : Cluster) → d ≡ true → (if b then (if d then c else later) else c) ≡ c
+  same_then true d c later e = ap (λ (x : Bool). if x then c else later) e
+  same_then false d c later e = refl
+
+  pub sent_down : (frame : Frame) (was now : List ℕ) → slice_get frames (number - 1) ≡ Some frame → ((c : Cluster) → AllFor nodes initial nodes all c → false ≡ not (needs_opening (own_world (settings_of nodes initial n) c))) → now ≡ was ++ down_line n
+      → DoesLine nodes initial all all frames frames was now (λ c. after_frame (settings_of nodes initial n) c (frame_at c number)) (λ c. frame_shown (settings_of nodes initial n) c (frame_at c number))
+  sent_down frame was now at down written = quiet (Some frame) was now at (λ c s.
+      let needs : needs_opening (own_world (settings_of nodes initial n) c) ≡ true = waits _ (down c s) in (
+        same_then (same frame.to n) (needs_opening (own_world (settings_of nodes initial n) c)) c _ needs,
+        written ∙ sym (ap (λ (b : Bool). was ++ (if b then down_line n else (if same frame.to n then event_shown (settings_of nodes initial n) c (FrameCame frame) else codes "misrouted\n"))) needs),
+      ))
+
+  pub misrouted : (frame : Frame) (was now : List ℕ) → slice_get frames (number - 1) ≡ Some frame → ((c : Cluster) → AllFor nodes initial nodes all c → true ≡ not (needs_opening (own_world (settings_of nodes initial n) c))) → same frame.to n ≡ false → now ≡ was ++ codes "misrouted\n"
+      → DoesLine nodes initial all all frames frames was now (λ c. after_frame (settings_of nodes initial n) c (frame_at c number)) (λ c. frame_shown (settings_of nodes initial n) c (frame_at c number))
+  misrouted frame was now at up other written = quiet (Some frame) was now at (λ c s. (
+    ap (λ (b : Bool). if b then after_event_if_up (settings_of nodes initial n) c (FrameCame frame) else c) other,
+    written ∙ sym (ap (λ (b : Bool). was ++ (if b then down_line n else (if same frame.to n then event_shown (settings_of nodes initial n) c (FrameCame frame) else codes "misrouted\n"))) (runs _ (up c s))
+        ∙ ap (λ (b : Bool). was ++ (if b then event_shown (settings_of nodes initial n) c (FrameCame frame) else codes "misrouted\n")) other),
+  ))
+
+  -- a frame that was sent to the node is handed over
+  pub handed_over : (frame : Frame) (new : List ClusterNode) (more : List Frame) (was now : List ℕ) → slice_get frames (number - 1) ≡ Some frame → ((c : Cluster) → AllFor nodes initial nodes all c → true ≡ not (needs_opening (own_world (settings_of nodes initial n) c)))
+      → same frame.to n ≡ true
+      → DoesLine nodes initial all new frames more was now (λ c. after_event_if_up (settings_of nodes initial n) c (FrameCame frame)) (λ c. event_shown_if_up (settings_of nodes initial n) c (FrameCame frame))
+      → DoesLine nodes initial all new frames more was now (λ c. after_frame (settings_of nodes initial n) c (frame_at c number)) (λ c. frame_shown (settings_of nodes initial n) c (frame_at c number))
+  handed_over frame new more was now at up mine does c s =
+      let here : frame_at c number ≡ Some frame = ap (λ (fs : List Frame). slice_get fs (number - 1)) (sym s.frames_sent) ∙ at in
+      let done = does c s in
+      let s' : Settings = settings_of nodes initial n in
+      let there : after_event_if_up s' c (FrameCame frame) ≡ after_frame s' c (Some frame) = ap (λ (b : Bool). if b then after_event_if_up s' c (FrameCame frame) else c) (sym mine) in
+      let shown : event_shown_if_up s' c (FrameCame frame) ≡ frame_shown s' c (Some frame) =
+      ap (λ (b : Bool). if needs_opening (own_world s' c) then down_line n else (if b then event_shown s' c (FrameCame frame) else codes "misrouted\n")) (sym mine) in
+      subst (λ (x : Option Frame). LineDone nodes initial new more (after_frame s' c x) (frame_shown s' c x) was now) (sym here)
+      (record {
+        stands = subst (λ (d : Cluster). ClusterFor nodes initial new more d) there done.stands;
+        written = done.written ∙ ap (λ (t : List ℕ). was ++ t) shown;
+      })
+
+pub on_ok : {T E : Type 0} (r : Result T E) (P Q : Type 0) → (P → Q) → OnOk r P → OnOk r Q
+on_ok (Ok x) P Q f h = f h
+on_ok (Err e) P Q f h = h
+
+-- the echo of a line, and then its results, are its part of the trace
+pub writes_line : (nodes initial : List Id) (old new : List ClusterNode) (frames more : List Frame) (t0 t1 t2 t3 now : List ℕ) (l lit : Line) → l ≡ lit
+    → DoesLine nodes initial old new frames more t3 now (λ c. after nodes initial c lit) (λ c. line_shown nodes initial c lit) → t1 ≡ t0 ++ codes "> " → t2 ≡ t1 ++ line_text l → t3 ≡ t2 ++ codes "\n" → WritesLine nodes initial old new frames more t0 now l
+writes_line nodes initial old new frames more t0 t1 t2 t3 now l lit is does a b d c s =
+    let here : LineDone nodes initial new more (after nodes initial c l) (line_shown nodes initial c l) t3 now =
+    subst (λ (x : Line). LineDone nodes initial new more (after nodes initial c x) (line_shown nodes initial c x) t3 now) (sym is) (does c s)
+    in
+    record { stands = here.stands; written = here.written ∙ rw (d, b, a) (simp append_assoc refl) }

@@ -1,0 +1,71 @@
+-- A replay of whole nodes, line by line.
+use Rattle.std.proofs.Common.{◌≡◌, ℕ, ◌+◌, ◌<◌, Option, List, [], ◌∷◌, ◌++◌, length, drop, get_or, sym, ◌∙◌, ap, subst, append_assoc, append-nil, add-one, suc}
+use Rattle.std.proofs.Math.Seq.{drop-cons}
+use Rattle.voting_config.specs.Ids.{Id}
+use Rattle.wire_frames.specs.declared.frame.Frame.{Frame}
+use Rattle.schedule_text.specs.declared.schedule.Line.{Line}
+use Rattle.zen_link.specs.Streams.{Appended, AppendedFront}
+use Rattle.zen_link.proofs.Appending.{appended_more, front_after, front_within}
+use Rattle.replay_node.specs.Clusters.{after}
+use Rattle.schedule_replay.specs.ClusterStands.{WritesLine}
+use Rattle.schedule_replay.specs.ClusterTrace.{trace_from}
+use Rattle.schedule_replay.specs.declared.cluster.node.ClusterNode.{ClusterNode}
+use Rattle.schedule_replay.specs.ClusterSoFar.{ClusterSoFar}
+use Rattle.schedule_replay.specs.SoFar.{HoldsBack}
+
+-- what is left begins with the line in hand
+left_is : (lines : List Line) (i : ℕ) (line : Line) → i < length lines → line ≡ get_or lines i line → drop i lines ≡ line ∷ drop (i + 1) lines
+left_is lines i line within is = rw add-one (drop-cons lines i line within ∙ ap (λ (x : Line). x ∷ drop (suc i) lines) (sym is))
+
+module _ (ids initial : List Id) (nodes more : List ClusterNode) (frames sent : List Frame) (was now later : Option (List ℕ)) (held after_held none text : List ℕ) (lines : List Line) (i : ℕ) (line : Line) (all : List ℕ) (within : i < length lines) (is : line ≡ get_or lines i line) (empty : none ≡ []) (m : ClusterSoFar ids initial nodes frames was now held (drop i lines) all) (writes : WritesLine ids initial nodes more frames sent none text line) where
+  abbrev tail : List ℕ
+  tail = trace_from ids initial (after ids initial m.cluster line) (drop (i + 1) lines)
+
+  -- the whole trace, with the text of the line in it
+  whole_is : m.front ++ (held ++ (text ++ tail)) ≡ all
+  whole_is =
+      let step = (subst (λ (x : List ℕ). WritesLine ids initial nodes more frames sent x text line) empty writes) m.cluster m.stands in
+      ap (λ (t : List ℕ). m.front ++ (held ++ (t ++ tail))) step.written
+      ∙ sym (ap (λ (l : List Line). m.front ++ (held ++ trace_from ids initial m.cluster l)) (left_is lines i line within is))
+      ∙ m.whole
+
+  pub goes_on : HoldsBack now later held after_held text → ClusterSoFar ids initial more sent was later after_held (drop (i + 1) lines) all
+  goes_on h =
+      let step = writes m.cluster m.stands in
+      record {
+        cluster = after ids initial m.cluster line;
+        stands = step.stands;
+        front = m.front ++ h.front;
+        written = appended_more was now later m.front h.front m.written h.written;
+        whole =
+            append_assoc m.front h.front (after_held ++ tail)
+            ∙ ap (λ (t : List ℕ). m.front ++ t) (sym (append_assoc h.front after_held tail) ∙ ap (λ (t : List ℕ). t ++ tail) h.whole ∙ append_assoc held text tail)
+            ∙ whole_is;
+      }
+
+  pub fails : AppendedFront now later (held ++ text) → AppendedFront was later all
+  fails h =
+      let front = front_within now later (held ++ text) tail (held ++ (text ++ tail)) (append_assoc held text tail) h in
+      subst (λ (t : List ℕ). AppendedFront was later t) whole_is (front_after was now later m.front (held ++ (text ++ tail)) m.written front)
+
+module _ (ids initial : List Id) (nodes : List ClusterNode) (frames : List Frame) (was now later : Option (List ℕ)) (held bytes : List ℕ) (left : List Line) (all : List ℕ) where
+  pub stops : bytes ≡ held → ClusterSoFar ids initial nodes frames was now held left all → AppendedFront now later bytes → AppendedFront was later all
+  stops e m h =
+      let tail : List ℕ = trace_from ids initial m.cluster left in
+      let front = front_within now later bytes tail (held ++ tail) (ap (λ (t : List ℕ). t ++ tail) e) h in
+      subst (λ (t : List ℕ). AppendedFront was later t) m.whole (front_after was now later m.front (held ++ tail) m.written front)
+
+  pub ends : left ≡ [] → bytes ≡ held → ClusterSoFar ids initial nodes frames was now held left all → Appended now later bytes → Appended was later all
+  ends none e m h =
+      let whole : m.front ++ bytes ≡ all =
+      ap (λ (t : List ℕ). m.front ++ t) (e ∙ sym (append-nil held))
+      ∙ sym (ap (λ (l : List Line). m.front ++ (held ++ trace_from ids initial m.cluster l)) none)
+      ∙ m.whole
+      in
+      subst (λ (t : List ℕ). Appended was later t) whole (appended_more was now later m.front bytes m.written h)
+
+-- a line leaves the ids as they are
+pub same_ids : (ids initial new_ids new_initial : List Id) (nodes : List ClusterNode) (frames : List Frame) (was now : Option (List ℕ)) (held : List ℕ) (left : List Line) (all : List ℕ) → new_ids ≡ ids → new_initial ≡ initial → ClusterSoFar ids initial nodes frames was now held left all → ClusterSoFar new_ids new_initial nodes frames was now held left all
+same_ids ids initial new_ids new_initial nodes frames was now held left all e f m =
+    subst (λ (x : List Id). ClusterSoFar x new_initial nodes frames was now held left all) (sym e)
+    (subst (λ (x : List Id). ClusterSoFar ids x nodes frames was now held left all) (sym f) m)

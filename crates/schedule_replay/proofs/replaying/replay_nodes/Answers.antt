@@ -1,0 +1,30 @@
+use Rattle.std.proofs.Common.{arith, ◌∙◌}
+use Rattle.schedule_replay.proofs.ClusterProgress.{goes_on, fails, stops, ends, same_ids}
+use Rattle.schedule_replay.proofs.Progress.{front_at_err, none_left}
+use Rattle.schedule_replay.proofs.replaying.replay_nodes.Goals as goal
+
+pub returns-in_default-line-clause-written : goal.returns-in_default-line-clause-written
+returns-in_default-line-clause-written g c =
+    stops c.loop-line.replayer.ids c.loop-line.replayer.initial _ _ _ (g.S.Sink.written c.loop-line.out) _ c.loop-line.held c.loop-line.held _ _ (λ i. c.loop-line.held) c.loop-line.invariant.3 c.out_of_memory.ensures.written
+
+pub returns-in_err-hold-clause-written : goal.returns-in_err-hold-clause-written
+returns-in_err-hold-clause-written g c =
+    front_at_err c.from_residual.result _ _ _ c.from_residual.ensures.0
+    (fails c.loop-line.replayer.ids c.loop-line.replayer.initial _ _ _ _ _ (g.S.Sink.written c.loop-line.out) _ c.loop-line.held c.hold.new.held c.clear.new.self c.line.new.text c.as_slice-lines.result.now c.loop-line.line-index c.line-item.result _ c.loop-line-test.true c.line-item.is c.clear.ensures c.loop-line.invariant.3 c.in-Ok-line.ensures.done c.in_err-hold.ensures.holds)
+
+pub loop-line-preserved : goal.loop-line-preserved
+loop-line-preserved g c = (
+  c.line.ensures.ids ∙ c.loop-line.invariant.0,
+  c.line.ensures.initial ∙ c.loop-line.invariant.1,
+  omega (arith, c.loop-line.invariant.2, c.hold.ensures.later),
+  same_ids _ _ _ _ _ _ _ _ _ _ _ c.line.ensures.ids c.line.ensures.initial
+      (goes_on c.loop-line.replayer.ids c.loop-line.replayer.initial _ _ _ _ _ (g.S.Sink.written c.loop-line.out) _ c.loop-line.held c.hold.new.held c.clear.new.self c.line.new.text c.as_slice-lines.result.now c.loop-line.line-index c.line-item.result _ c.loop-line-test.true c.line-item.is c.clear.ensures c.loop-line.invariant.3 c.in-Ok-line.ensures.done c.in_ok-hold.ensures.holds),
+)
+
+pub returns-in_default-write_all-clause-written : goal.returns-in_default-write_all-clause-written
+returns-in_default-write_all-clause-written g c =
+    stops c.loop-line.replayer.ids c.loop-line.replayer.initial _ _ _ (g.S.Sink.written c.loop-line.out) _ c.loop-line.held c.as_bytes.result.now _ _ c.as_bytes.ensures c.loop-line.invariant.3 c.in_default-write_all.ensures.writes
+
+pub returns-clause-written : goal.returns-clause-written
+returns-clause-written g c =
+    ends c.loop-line.replayer.ids c.loop-line.replayer.initial _ _ _ (g.S.Sink.written c.loop-line.out) _ c.loop-line.held c.as_bytes.result.now _ _ (none_left c.as_slice-lines.result.now c.loop-line.line-index (omega (arith, c.loop-line-test.false))) c.as_bytes.ensures c.loop-line.invariant.3 c.in-Ok-write_all.ensures.writes

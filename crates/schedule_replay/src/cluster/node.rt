@@ -1,0 +1,317 @@
+ghost use Rattle.std.specs.Prelude.{◌≡◌, ◌++◌, IfOk, OnOk, ℕ, List, [], false, not, length};
+ghost use Rattle.policy_model.specs.declared.settings.Settings.{Settings as SettingsOf};
+ghost use Rattle.policy_model.specs.Fitting.{IsFitEvent};
+ghost use Rattle.policy_model.specs.Follows.{is_start};
+ghost use Rattle.wire_frames.specs.declared.frame.Frame.{Frame as FrameOf};
+ghost use Rattle.replay_node.specs.NodeLines.{stop_text};
+ghost use Rattle.replay_node.specs.NodeWorld.{needs_opening};
+ghost use Rattle.event_text.specs.Events.{event_results};
+ghost use Rattle.event_text.specs.Published.{published_after};
+ghost use Rattle.event_text.specs.Steps.{told_as};
+ghost use Rattle.schedule_replay.specs.OwnStands.{ClosesTo, NodeFor, OwnDoes, OwnDone};
+ghost use Rattle.schedule_replay.specs.Own.{Own, own_crash, own_event_if_up, own_frames_if_up, own_order, own_restart, own_restart_frames, own_restart_results, own_results_if_up};
+ghost use Rattle.replay_node.specs.Clusters.{settings_of as settings_in};
+ghost use Rattle.schedule_replay.specs.Openings.{ClosedFor, OverJournal, Restarts, StaysDownAt, fresh_own};
+
+use crate::cluster::stepping::{Ended, OpenNode, step};
+use cluster_state::ClusterState;
+use coordinator::{Coordinator, Entries, Sealed};
+use event_text::{write_event, write_struck_event};
+use policy_model::{Event, NodeIds, Settings, law_opened_is_fit};
+use replay_node::disk::{empty_disk, restarted, stopped};
+use schedule_text::Text;
+use state_journal::{Keeper, OpenError, StateJournal};
+use std::alloc::{AllocError, Global};
+use std::mem;
+use trace_text::{write_crashed, write_disk, write_down, write_record, write_up};
+use voting_config::{NodeId, NodeSet};
+use wire_frames::Frame;
+use zen_disk::{Armable, Fuse, MemDisk, Order, Struck, Way};
+
+/// Whether a node's journal is open.
+#[derive(Drop)]
+pub enum Slot {
+    Open(OpenNode),
+    /// The node is down, and this is its disk.
+    Down(Fuse<MemDisk>),
+}
+
+/// A node of a cluster, and the state that it has published last.
+#[derive(Drop)]
+pub struct ClusterNode {
+    pub me: NodeId,
+    pub slot: Slot,
+    pub published: Option<ClusterState>,
+}
+
+// Takes a slot out, and leaves a node that is down on an empty disk.
+fn take_slot(slot: &mut Slot, alloc: Global) -> Slot
+    ensures { result ≡ slot.old }
+{
+    mem::replace(slot, Slot::Down(empty_disk(alloc)))
+}
+
+// Writes an event that came to its end, and adds its frames to those that were sent.
+fn show_whole(
+    alloc: Global,
+    me: NodeId,
+    published: &mut Option<ClusterState>,
+    sealed: Sealed,
+    frames: &mut Vec<Frame>,
+    text: &mut Text,
+) -> Result<(), AllocError>
+    ensures text { OnOk result (text.new ≡ text.old ++ event_results (length frames.old.items) me published.old sealed.entries.steps.list sealed.entries.drops.list sealed.sends.list sealed.replies.sent) }
+    ensures published { OnOk result (published.new ≡ published_after published.old sealed.entries.steps.list) }
+    ensures frames { OnOk result (frames.new.items ≡ frames.old.items ++ sealed.sends.list) }
+{
+    let (entries, sends, replies) = sealed.into_parts();
+    write_event(
+        text,
+        alloc,
+        frames.as_slice().len(),
+        me,
+        published,
+        entries.steps.as_slice(),
+        entries.drops.as_slice(),
+        sends.as_slice(),
+        replies.as_slice(),
+    )?;
+    let mut sends = sends.into_items();
+    frames.append(&mut sends)?;
+    Ok(())
+}
+
+// Writes an event up to the act that the disk struck.
+fn show_struck(
+    alloc: Global,
+    me: NodeId,
+    published: &mut Option<ClusterState>,
+    entries: &Entries,
+    crashed: bool,
+    text: &mut Text,
+) -> Result<(), AllocError>
+    ensures text { OnOk result ((count : ℕ) → text.new ≡ text.old ++ event_results count me published.old (told_as crashed entries.now.steps.list) entries.now.drops.list [] []) }
+    ensures published { OnOk result (published.new ≡ published_after published.old entries.now.steps.list) }
+{
+    write_struck_event(
+        text,
+        alloc,
+        me,
+        published,
+        entries.steps.as_slice(),
+        entries.drops.as_slice(),
+        crashed,
+    )
+}
+
+impl ClusterNode {
+    /// An event comes to the node. Writes what it shows, and adds the frames that it sends; or writes `down` where the node
+    /// is down or its disk has failed.
+    pub fn event(
+        &mut self,
+        alloc: Global,
+        event: Event,
+        frames: &mut Vec<Frame>,
+        text: &mut Text,
+    ) -> Result<(), AllocError>
+        requires fit { IsFitEvent event }
+        requires stands { (s : SettingsOf) × (own : Own) × NodeFor s self.old own (is_start event) }
+        ensures { OnOk result (OwnDoes self.old self.new (is_start event) frames.old.items frames.new.items text.old text.new (λ s own. own_event_if_up s event own) (λ s own. own_frames_if_up s event own) (λ s count own. own_results_if_up s event count own)) }
+    {
+        let Slot::Open(node) = &mut self.slot else {
+            return write_down(text, self.me);
+        };
+        match step(node, alloc, event)? {
+            Ended::Stopped => write_down(text, self.me),
+            Ended::Whole(sealed) => {
+                show_whole(alloc, self.me, &mut self.published, sealed, frames, text)
+            }
+            Ended::Failed(entries) => {
+                show_struck(alloc, self.me, &mut self.published, &entries, false, text)
+            }
+            Ended::Crashed(entries) => {
+                self.go_down(alloc);
+                show_struck(alloc, self.me, &mut self.published, &entries, true, text)
+            }
+        }
+    }
+
+    // A node whose disk has stopped goes down.
+    fn go_down(&mut self, alloc: Global)
+        ensures me { self.new.me ≡ self.old.me }
+        ensures published { self.new.published ≡ self.old.published }
+        ensures slot { ClosesTo self.old.slot self.new.slot }
+    {
+        match take_slot(&mut self.slot, alloc) {
+            Slot::Open(node) => {
+                self.slot = Slot::Down(restarted(node.into_keeper().into_disk()));
+            }
+            Slot::Down(fuse) => {
+                self.slot = Slot::Down(fuse);
+            }
+        }
+    }
+
+    /// A node whose journal was opened for the first time, on an empty disk. Its first event, the start, has come.
+    pub fn new(
+        alloc: Global,
+        me: NodeId,
+        ids: &NodeSet,
+        initial: &NodeSet,
+    ) -> Result<ClusterNode, AllocError>
+        ensures { IfOk result (λ c. NodeFor (settings_in ids.now initial.now me) c (fresh_own (settings_in ids.now initial.now me)) false) }
+    {
+        let Ok(journal) = StateJournal::open(alloc, empty_disk(alloc)) else {
+            return Err(AllocError);
+        };
+        let settings = settings_of(alloc, me, ids, initial)?;
+        let mut node = node_over(alloc, settings, journal);
+        let ended = step(&mut node, alloc, Event::Start)?;
+        match ended {
+            Ended::Whole(_) => Ok(ClusterNode {
+                me,
+                slot: Slot::Open(node),
+                published: None,
+            }),
+            Ended::Failed(_) | Ended::Crashed(_) | Ended::Stopped => Err(AllocError),
+        }
+    }
+
+    /// Whether the node runs: it is not down, and its disk has not failed since it was opened.
+    pub fn runs(&self) -> bool
+        ensures { (s : SettingsOf) (own : Own) → NodeFor s self.now own false → result ≡ not (needs_opening own.node) }
+    {
+        match &self.slot {
+            Slot::Open(node) => !node.keeper().stopped(),
+            Slot::Down(_) => false,
+        }
+    }
+
+    /// The node stops between two events, and so does its disk. Writes `crashed` and the node, or `down` where it was down.
+    pub fn crash(&mut self, alloc: Global, way: Way, text: &mut Text) -> Result<(), AllocError>
+        ensures { OnOk result ((frames : List FrameOf) → OwnDoes self.old self.new false frames frames text.old text.new (λ s own. own_crash way own) (λ s own. []) (λ s count own. stop_text s.me own.node)) }
+    {
+        match take_slot(&mut self.slot, alloc) {
+            Slot::Down(fuse) => {
+                self.slot = Slot::Down(fuse);
+                write_down(text, self.me)
+            }
+            Slot::Open(node) => {
+                self.slot = Slot::Down(stopped(node.into_keeper().into_disk(), way));
+                write_crashed(text, self.me)
+            }
+        }
+    }
+
+    /// Orders a stop or a fault of the node's disk.
+    pub fn arm(&mut self, order: Order)
+        ensures { (frames : List FrameOf) (text : List ℕ) → OwnDoes self.old self.new false frames frames text text (λ s own. own_order order own) (λ s own. []) (λ s count own. []) }
+    {
+        match &mut self.slot {
+            Slot::Open(node) => node.arm(order),
+            Slot::Down(fuse) => fuse.arm(order),
+        }
+    }
+
+    /// Opens the node's journal again, where the node is down or its disk has failed, and writes what came of it. The start
+    /// follows an opening that succeeds, as an event.
+    pub fn restart(
+        &mut self,
+        alloc: Global,
+        ids: &NodeSet,
+        initial: &NodeSet,
+        frames: &mut Vec<Frame>,
+        text: &mut Text,
+    ) -> Result<(), AllocError>
+        requires { (own : Own) × NodeFor (settings_in ids.now initial.now self.old.me) self.old own false }
+        ensures { OnOk result ((own : Own) → NodeFor (settings_in ids.now initial.now self.old.me) self.old own false → OwnDone (settings_in ids.now initial.now self.old.me) self.new (own_restart (settings_in ids.now initial.now self.old.me) own) frames.old.items frames.new.items (own_restart_frames (settings_in ids.now initial.now self.old.me) own) text.old text.new (own_restart_results (settings_in ids.now initial.now self.old.me) (length frames.old.items) own)) }
+    {
+        match take_slot(&mut self.slot, alloc) {
+            Slot::Down(fuse) => self.open(alloc, ids, initial, fuse, frames, text),
+            Slot::Open(node) => {
+                if !node.keeper().stopped() {
+                    self.slot = Slot::Open(node);
+                    return write_up(text, self.me);
+                }
+                let fuse = node.into_keeper().into_disk();
+                self.open(alloc, ids, initial, fuse, frames, text)
+            }
+        }
+    }
+
+    // Opens the journal on this disk, which the node has used before.
+    fn open(
+        &mut self,
+        alloc: Global,
+        ids: &NodeSet,
+        initial: &NodeSet,
+        fuse: Fuse<MemDisk>,
+        frames: &mut Vec<Frame>,
+        text: &mut Text,
+    ) -> Result<(), AllocError>
+        requires { (own : Own) × ClosedFor (settings_in ids.now initial.now self.old.me) self.old fuse own }
+        ensures { OnOk result (Restarts ids.now initial.now self.old self.new fuse frames.old.items frames.new.items text.old text.new) }
+    {
+        match StateJournal::open(alloc, fuse) {
+            Ok(journal) => {
+                write_record(text, self.me, journal.kept())?;
+                let settings = settings_of(alloc, self.me, ids, initial)?;
+                self.slot = Slot::Open(node_over(alloc, settings, journal));
+                self.event(alloc, Event::Start, frames, text)
+            }
+            Err(OpenError::NotAJournal(_, _)) => unreachable!(),
+            Err(OpenError::Memory(_)) => Err(AllocError),
+            Err(OpenError::Disk(fuse)) => self.stay_down(fuse, text),
+        }
+    }
+
+    // What the fuse tells of an opening that met a fault of the disk. A fault that no order has made is want of memory.
+    fn stay_down(&mut self, fuse: Fuse<MemDisk>, text: &mut Text) -> Result<(), AllocError>
+        ensures me { self.new.me ≡ self.old.me }
+        ensures published { self.new.published ≡ self.old.published }
+        ensures down { OnOk result (StaysDownAt fuse.struck self.old.me fuse self.new.slot text.old text.new) }
+    {
+        match fuse.struck() {
+            None => Err(AllocError),
+            Some(Struck::Fault) => {
+                self.slot = Slot::Down(fuse);
+                write_disk(text, self.me)
+            }
+            Some(Struck::Stop) => {
+                self.slot = Slot::Down(restarted(fuse));
+                write_crashed(text, self.me)
+            }
+        }
+    }
+}
+
+// What the node is told before its start.
+fn settings_of(
+    alloc: Global,
+    me: NodeId,
+    ids: &NodeSet,
+    initial: &NodeSet,
+) -> Result<Settings, AllocError>
+    ensures { IfOk result (λ settings. settings ≡ settings_in ids.now initial.now me) }
+{
+    let mut others = ids.copy();
+    others.remove(me);
+    let mut peers = Vec::new(alloc);
+    peers.extend_from_slice(others.as_slice())?;
+    Ok(Settings {
+        me,
+        peers: NodeIds::of(peers),
+        initial: initial.copy(),
+        shrink: true,
+    })
+}
+
+// A node over a journal that was just opened.
+fn node_over(alloc: Global, settings: Settings, journal: StateJournal<Fuse<MemDisk>>) -> OpenNode
+    requires { journal.log.stopped ≡ false }
+    ensures { OverJournal settings journal result }
+{
+    law_opened_is_fit();
+    let _ = journal.kept().accepted.value.settings.texts();
+    Coordinator::open(alloc, settings, journal)
+}

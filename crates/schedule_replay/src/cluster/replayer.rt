@@ -1,0 +1,239 @@
+ghost use Rattle.std.specs.Prelude.{◌≡◌, ◌<◌, OnOk, IfOk, ℕ, List, [], length, true, false, slice_get, Some};
+ghost use Rattle.voting_config.specs.Ids.{Id, has};
+ghost use Rattle.schedule_text.specs.Lines.{FitsLine};
+ghost use Rattle.schedule_text.specs.declared.level.Level.TheVariants.{Node};
+ghost use Rattle.policy_model.specs.declared.events.Event.TheVariants as event;
+ghost use Rattle.policy_model.specs.Fitting.{IsFitEvent};
+ghost use Rattle.policy_model.specs.Follows.{is_start};
+ghost use Rattle.replay_node.specs.Clusters.{Cluster, after_event_if_up, after_frame, after_restart, frame_at, fresh_cluster, settings_of};
+ghost use Rattle.replay_node.specs.NodeLines.{stop_text};
+ghost use Rattle.replay_node.specs.Worlds.{crashed, node_world, ordered};
+ghost use Rattle.schedule_replay.specs.ClusterStands.{AllFor, ClusterFor, DoesLine, WritesLine};
+ghost use Rattle.schedule_replay.specs.ClusterTrace.{event_shown_if_up, frame_shown, restart_shown};
+
+use crate::cluster::node::ClusterNode;
+use crate::cluster::nodes;
+use client_lines::Line as ClientLine;
+use policy_model::Event;
+use schedule_text::{Line, LineBytes, Text};
+use std::alloc::{AllocError, Global};
+use trace_text::write_down;
+use voting_config::{NodeId, NodeSet};
+use wire_frames::Frame;
+use zen_disk::{Order, Way};
+
+/// The nodes of a schedule of level node, and the frames that they have sent.
+#[derive(Drop)]
+pub struct ClusterReplayer {
+    pub ids: NodeSet,
+    pub initial: NodeSet,
+    pub nodes: Vec<ClusterNode>,
+    pub frames: Vec<Frame>,
+}
+
+impl ClusterReplayer {
+    /// Nodes whose first event alone has come.
+    pub fn new(
+        alloc: Global,
+        ids: &NodeSet,
+        initial: &NodeSet,
+    ) -> Result<ClusterReplayer, AllocError>
+        ensures ids { IfOk result (λ r. r.ids ≡ ids.now) }
+        ensures initial { IfOk result (λ r. r.initial ≡ initial.now) }
+        ensures stands { IfOk result (λ r. ClusterFor r.ids r.initial r.nodes.items r.frames.items (fresh_cluster r.ids r.initial)) }
+    {
+        let ids = ids.copy();
+        let initial = initial.copy();
+        let nodes = fresh_nodes(alloc, &ids, &initial)?;
+        let _ = ids.as_slice();
+        Ok(ClusterReplayer {
+            ids,
+            initial,
+            nodes,
+            frames: Vec::new(alloc),
+        })
+    }
+
+    /// Does a line, and writes its part of the trace at the end of `text`.
+    pub fn line(&mut self, alloc: Global, line: &Line, text: &mut Text) -> Result<(), AllocError>
+        requires fits { FitsLine Node self.old.ids line.now }
+        requires stands { (c : Cluster) × ClusterFor self.old.ids self.old.initial self.old.nodes.items self.old.frames.items c }
+        ensures ids { self.new.ids ≡ self.old.ids }
+        ensures initial { self.new.initial ≡ self.old.initial }
+        ensures done { OnOk result (WritesLine self.old.ids self.old.initial self.old.nodes.items self.new.nodes.items self.old.frames.items self.new.frames.items text.old text.new line.now) }
+    {
+        text.word("> ")?;
+        text.line(line)?;
+        text.word("\n")?;
+        match line {
+            Line::Tick(n, now, word) => self.tick(alloc, *n, *now, *word, text)?,
+            Line::Client(n, bytes) => self.client(alloc, *n, bytes, text)?,
+            Line::Deliver(n, ordinal) => self.deliver(alloc, *n, *ordinal, text)?,
+            Line::Crash(n, way) => self.crash(alloc, *n, *way, text)?,
+            Line::Restart(n) => self.restart(alloc, *n, text)?,
+            Line::Fuse(n, count, way) => self.arm(*n, Order::Stop(*count, *way)),
+            Line::Fail(n, count) => self.arm(*n, Order::Fault(*count)),
+            Line::Boot(_) | Line::StartJoin(_, _, _) | Line::Value(_, _, _, _) => unreachable!(),
+        }
+        Ok(())
+    }
+
+    fn tick(
+        &mut self,
+        alloc: Global,
+        n: NodeId,
+        now: u64,
+        word: u64,
+        text: &mut Text,
+    ) -> Result<(), AllocError>
+        requires listed { has n self.old.ids ≡ true }
+        requires stands { (c : Cluster) × ClusterFor self.old.ids self.old.initial self.old.nodes.items self.old.frames.items c }
+        ensures ids { self.new.ids ≡ self.old.ids }
+        ensures initial { self.new.initial ≡ self.old.initial }
+        ensures done { OnOk result (DoesLine self.old.ids self.old.initial self.old.nodes.items self.new.nodes.items self.old.frames.items self.new.frames.items text.old text.new (λ c. after_event_if_up (settings_of self.old.ids self.old.initial n) c (event.Tick now word)) (λ c. event_shown_if_up (settings_of self.old.ids self.old.initial n) c (event.Tick now word))) }
+    {
+        self.event(alloc, n, Event::Tick { now, word }, text)
+    }
+
+    // A client's line has the one connection of a replay.
+    fn client(
+        &mut self,
+        alloc: Global,
+        n: NodeId,
+        bytes: &LineBytes,
+        text: &mut Text,
+    ) -> Result<(), AllocError>
+        requires listed { has n self.old.ids ≡ true }
+        requires stands { (c : Cluster) × ClusterFor self.old.ids self.old.initial self.old.nodes.items self.old.frames.items c }
+        ensures ids { self.new.ids ≡ self.old.ids }
+        ensures initial { self.new.initial ≡ self.old.initial }
+        ensures done { OnOk result (DoesLine self.old.ids self.old.initial self.old.nodes.items self.new.nodes.items self.old.frames.items self.new.frames.items text.old text.new (λ c. after_event_if_up (settings_of self.old.ids self.old.initial n) c (event.Client 0 bytes.now)) (λ c. event_shown_if_up (settings_of self.old.ids self.old.initial n) c (event.Client 0 bytes.now))) }
+    {
+        let line = ClientLine::of(Vec::from_slice(alloc, bytes.as_slice())?);
+        self.event(alloc, n, Event::Client { conn: 0, line }, text)
+    }
+
+    // An event other than the first comes to the node.
+    fn event(
+        &mut self,
+        alloc: Global,
+        n: NodeId,
+        event: Event,
+        text: &mut Text,
+    ) -> Result<(), AllocError>
+        requires listed { has n self.old.ids ≡ true }
+        requires fit { IsFitEvent event }
+        requires later { is_start event ≡ false }
+        requires stands { (c : Cluster) × ClusterFor self.old.ids self.old.initial self.old.nodes.items self.old.frames.items c }
+        ensures ids { self.new.ids ≡ self.old.ids }
+        ensures initial { self.new.initial ≡ self.old.initial }
+        ensures done { OnOk result (DoesLine self.old.ids self.old.initial self.old.nodes.items self.new.nodes.items self.old.frames.items self.new.frames.items text.old text.new (λ c. after_event_if_up (settings_of self.old.ids self.old.initial n) c event) (λ c. event_shown_if_up (settings_of self.old.ids self.old.initial n) c event)) }
+    {
+        nodes::event(
+            &self.ids,
+            self.nodes.as_mut_slice(),
+            n,
+            alloc,
+            event,
+            &mut self.frames,
+            text,
+        )
+    }
+
+    fn deliver(
+        &mut self,
+        alloc: Global,
+        n: NodeId,
+        ordinal: u64,
+        text: &mut Text,
+    ) -> Result<(), AllocError>
+        requires listed { has n self.old.ids ≡ true }
+        requires stands { (c : Cluster) × ClusterFor self.old.ids self.old.initial self.old.nodes.items self.old.frames.items c }
+        requires positive { 0 < ordinal }
+        ensures ids { self.new.ids ≡ self.old.ids }
+        ensures initial { self.new.initial ≡ self.old.initial }
+        ensures done { OnOk result (DoesLine self.old.ids self.old.initial self.old.nodes.items self.new.nodes.items self.old.frames.items self.new.frames.items text.old text.new (λ c. after_frame (settings_of self.old.ids self.old.initial n) c (frame_at c ordinal)) (λ c. frame_shown (settings_of self.old.ids self.old.initial n) c (frame_at c ordinal))) }
+    {
+        let runs = nodes::runs(&self.ids, self.nodes.as_slice(), n);
+        match self.frames.as_slice().get((ordinal - 1) as usize) {
+            None => {
+                if runs {
+                    text.word("unsent\n")
+                } else {
+                    write_down(text, n)
+                }
+            }
+            Some(frame) => {
+                if !runs {
+                    return write_down(text, n);
+                }
+                if frame.to != n {
+                    return text.word("misrouted\n");
+                }
+                let frame = frame.copy()?;
+                self.event(alloc, n, Event::Frame(frame), text)
+            }
+        }
+    }
+
+    fn crash(
+        &mut self,
+        alloc: Global,
+        n: NodeId,
+        way: Way,
+        text: &mut Text,
+    ) -> Result<(), AllocError>
+        requires listed { has n self.old.ids ≡ true }
+        requires stands { (c : Cluster) × ClusterFor self.old.ids self.old.initial self.old.nodes.items self.old.frames.items c }
+        ensures ids { self.new.ids ≡ self.old.ids }
+        ensures initial { self.new.initial ≡ self.old.initial }
+        ensures done { OnOk result (DoesLine self.old.ids self.old.initial self.old.nodes.items self.new.nodes.items self.old.frames.items self.new.frames.items text.old text.new (λ c. record c { world = crashed c.world n way }) (λ c. stop_text n (node_world c.world n))) }
+    {
+        nodes::crash(&self.ids, self.nodes.as_mut_slice(), n, alloc, way, text)
+    }
+
+    fn restart(&mut self, alloc: Global, n: NodeId, text: &mut Text) -> Result<(), AllocError>
+        requires listed { has n self.old.ids ≡ true }
+        requires stands { (c : Cluster) × ClusterFor self.old.ids self.old.initial self.old.nodes.items self.old.frames.items c }
+        ensures ids { self.new.ids ≡ self.old.ids }
+        ensures initial { self.new.initial ≡ self.old.initial }
+        ensures done { OnOk result (DoesLine self.old.ids self.old.initial self.old.nodes.items self.new.nodes.items self.old.frames.items self.new.frames.items text.old text.new (λ c. after_restart (settings_of self.old.ids self.old.initial n) c) (λ c. restart_shown (settings_of self.old.ids self.old.initial n) c)) }
+    {
+        nodes::restart(
+            &self.ids,
+            &self.initial,
+            self.nodes.as_mut_slice(),
+            n,
+            alloc,
+            &mut self.frames,
+            text,
+        )
+    }
+
+    fn arm(&mut self, n: NodeId, order: Order)
+        requires listed { has n self.old.ids ≡ true }
+        requires stands { (c : Cluster) × ClusterFor self.old.ids self.old.initial self.old.nodes.items self.old.frames.items c }
+        ensures ids { self.new.ids ≡ self.old.ids }
+        ensures initial { self.new.initial ≡ self.old.initial }
+        ensures done { (text : List ℕ) → DoesLine self.old.ids self.old.initial self.old.nodes.items self.new.nodes.items self.old.frames.items self.new.frames.items text text (λ c. record c { world = ordered c.world n order }) (λ c. []) }
+    {
+        nodes::arm(&self.ids, self.nodes.as_mut_slice(), n, order);
+    }
+}
+
+// Nodes that have opened their journals on empty disks, with these names to begin a new cluster.
+fn fresh_nodes(
+    alloc: Global,
+    ids: &NodeSet,
+    names: &NodeSet,
+) -> Result<Vec<ClusterNode>, AllocError>
+    ensures { IfOk result (λ nodes. AllFor ids.now names.now ids.now nodes.items (fresh_cluster ids.now names.now)) }
+{
+    let mut nodes = Vec::new(alloc);
+    let listed = ids.as_slice();
+    for id in listed {
+        let node = ClusterNode::new(alloc, *id, ids, names)?;
+        nodes.push(node)?;
+    }
+    Ok(nodes)
+}
