@@ -17,7 +17,6 @@ pub mod TraceSteps
 pub mod WorldStands
 pub mod Levels
 pub mod ClusterSoFar
-pub mod ClusterTrace
 pub mod OpenNodes
 pub mod EventEnds
 pub mod Own
