@@ -3,6 +3,7 @@ pub mod Along
 pub mod ClusterLaws
 pub mod ClusterPieces
 pub mod ClusterPlays
+pub mod ClusterReplies
 pub mod ClusterTelling
 pub mod Committing
 pub mod Examples
