@@ -2,7 +2,6 @@
 use Rattle.std.proofs.Common.{◌≡◌, ℕ, Bool, true, false, cond, Option, None, Some, List, [], ◌∷◌, ◌++◌, length, map, refl, sym, ap, ◌∙◌, append-nil, append_assoc, if◌then◌else◌}
 use Rattle.std.proofs.lemmas.Grind.{flat_map-append}
 use Rattle.voting_config.specs.Ids.{Id, same}
-use Rattle.cluster_state.specs.declared.state.Kept.{Kept}
 use Rattle.master_tasks.specs.declared.waiting.Outgoing.{Outgoing}
 use Rattle.wire_frames.specs.declared.frame.Frame.{Frame}
 use Rattle.world_model.specs.declared.acts.Outcome.TheVariants.{Answered, Disk, Crashed}
@@ -22,7 +21,6 @@ use Rattle.replay_node.specs.Course.{settled_item, settled_life}
 use Rattle.replay_node.specs.NodeDisk.{CallsEnd, Done, Failed, StoppedIn, opening}
 use Rattle.replay_node.specs.NodeWorld.{found_at, needs_opening}
 use Rattle.replay_node.specs.Settled.{is_kept}
-use Rattle.replay_node.specs.Worlds.{opened}
 use Rattle.replay_node.specs.Clusters.{Cluster, after, after_event, after_event_if_up, after_frame, after_restart, event_course, fresh_cluster, frame_at, life_opened, opened_by, own_world, replayed_from, settings_of, with_life, with_opened}
 use Rattle.schedule_replay.specs.Steps.{WasDown, WentDown, Unsent}
 use Rattle.schedule_replay.specs.TraceSteps.{restart_step}

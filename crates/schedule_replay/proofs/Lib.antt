@@ -1,5 +1,6 @@
 pub mod ActShown
 pub mod Along
+pub mod ClusterExamples
 pub mod ClusterLaws
 pub mod ClusterPieces
 pub mod ClusterPlays

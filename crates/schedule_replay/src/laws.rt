@@ -57,3 +57,6 @@ pub fn law_cluster_trace_shows()
 pub fn law_cluster_trace_agrees()
     ensures { LawClusterTraceAgrees }
 {}
+
+#[cfg(test)]
+mod tests;
