@@ -14,6 +14,7 @@ use Rattle.schedule_replay.proofs.Along.{numbers}
 use Rattle.schedule_replay.proofs.Showing.{sound_shows, shown_agrees}
 use Rattle.schedule_replay.proofs.Sound.{sound_along}
 use Rattle.schedule_replay.proofs.ClusterPieces.{Piece}
+use Rattle.schedule_replay.proofs.ClusterReplies.{all_replies}
 use Rattle.schedule_replay.proofs.ClusterTelling.{lines_piece, go_on}
 
 whole : (s : Schedule) → Piece NoEntries [] (replayed_history s) (replayed s).frames (trace s) s.lines (cluster_steps s)
@@ -28,6 +29,7 @@ tells s =
       history = p.history;
       messages = numbers NoEntries (core_of (cluster_steps s)) p.right ∙ ap (λ (h : History). numbered 0 (sent h)) p.history;
       frames = p.frames;
+      replies = λ n. all_replies n s.nodes s.initial s.lines;
     }
 
 pub goes_on : LawClusterStepsGoOn

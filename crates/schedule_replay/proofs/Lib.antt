@@ -1,8 +1,10 @@
 pub mod ActShown
 pub mod Along
+pub mod ClusterExamples
 pub mod ClusterLaws
 pub mod ClusterPieces
 pub mod ClusterPlays
+pub mod ClusterReplies
 pub mod ClusterTelling
 pub mod Committing
 pub mod Examples

@@ -1,24 +1,26 @@
 -- What the trace of a schedule of whole nodes tells of its history, as statements. Part of the statement.
 use Rattle.std.specs.Prelude.{◌≡◌, List, ◌++◌}
+use Rattle.voting_config.specs.Ids.{Id}
 use Rattle.world_model.specs.Histories.{IsLegal, sent}
 use Rattle.schedule_text.specs.declared.schedule.Line.{Line}
 use Rattle.schedule_text.specs.declared.schedule.Schedule.{Schedule}
-use Rattle.replay_node.specs.Clusters.{replayed, replayed_history}
+use Rattle.replay_node.specs.Clusters.{replayed, replayed_history, replayed_life}
 use Rattle.schedule_replay.specs.Showing.{Shows, Agrees}
 use Rattle.schedule_replay.specs.Told.{told, lines_of, messages_of, numbered}
 use Rattle.schedule_replay.specs.ClusterTrace.{trace}
 use Rattle.schedule_replay.specs.ClusterSteps.{ClusterStep, cluster_text}
-use Rattle.schedule_replay.specs.ClusterTold.{core_of, frames_in, numbered_frames}
+use Rattle.schedule_replay.specs.ClusterTold.{core_of, frames_in, numbered_frames, replies_shown, life_replies}
 use Rattle.schedule_replay.specs.ClusterTraceSteps.{cluster_steps}
 
--- the trace is the text of these steps, which echo the lines in order; the history is read off them; and they show just the frames that were
--- sent, in order and numbered from 1
+-- The trace is the text of these steps, which echo the lines in order. The history is read off them. They show just the frames that were sent,
+-- in order and numbered from 1, and of each node just the replies of its life, in order.
 pub record ClusterTells (s : Schedule) (xs : List ClusterStep) : Type 0 where
   pub text : trace s ≡ cluster_text xs
   pub lines : lines_of (core_of xs) ≡ s.lines
   pub history : told (core_of xs) ≡ replayed_history s
   pub messages : messages_of (core_of xs) ≡ numbered 0 (sent (replayed_history s))
   pub frames : frames_in xs ≡ numbered_frames 0 (replayed s).frames
+  pub replies : (n : Id) → replies_shown n xs ≡ life_replies (replayed_life s n)
 
 -- so it is for each schedule
 abbrev pub LawClusterTraceTells : Type 0

@@ -36,7 +36,8 @@ pub fn law_trace_agrees()
 {}
 
 /// The trace of each schedule of whole nodes is the text of its steps, and the history of the schedule is read off these steps.
-/// The steps echo the lines, and show just the frames that were sent, in order and numbered from 1.
+/// The steps echo the lines. They show just the frames that were sent, in order and numbered from 1, and of each node just the
+/// replies of its life, in order.
 pub fn law_cluster_trace_tells()
     ensures { LawClusterTraceTells }
 {}
@@ -56,3 +57,6 @@ pub fn law_cluster_trace_shows()
 pub fn law_cluster_trace_agrees()
     ensures { LawClusterTraceAgrees }
 {}
+
+#[cfg(test)]
+mod tests;
