@@ -1,13 +1,13 @@
 -- Lines that are written out: the definition computes.
 use Rattle.std.proofs.Common.{◌≡◌, refl, [], ◌∷◌, Some, None, codes}
 use Rattle.command_line.specs.Commands.{command_of}
-use Rattle.schedule_text.specs.declared.level.Level.TheVariants.{Core}
+use Rattle.schedule_text.specs.declared.level.Level.TheVariants.{Core, Node}
 use Rattle.command_line.specs.declared.command.ProgramCommand.TheVariants.{Replay, Inspect}
 
 core_level : command_of (codes "replay" ∷ codes "--level" ∷ codes "core" ∷ []) ≡ Some (Replay Core)
 core_level = refl
 
-attached_level : command_of (codes "replay" ∷ codes "--level=core" ∷ []) ≡ Some (Replay Core)
+attached_level : command_of (codes "replay" ∷ codes "--level=node" ∷ []) ≡ Some (Replay Node)
 attached_level = refl
 
 no_level : command_of (codes "replay" ∷ codes "--level" ∷ codes "none" ∷ []) ≡ None

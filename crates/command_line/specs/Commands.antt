@@ -17,7 +17,10 @@ abbrev pub plain_text : Text → Option Text
 plain_text t = if is_hyphened t || length t == 0 then None else Some t
 
 abbrev pub level_of : Text → Option Level
-level_of t = if bytes_eq t (codes "core") then Some level.Core else None
+level_of t =
+    if bytes_eq t (codes "core") then Some level.Core
+    else (if bytes_eq t (codes "node") then Some level.Node
+    else None)
 
 abbrev pub replay_of : Option Text → Option ProgramCommand
 replay_of l = option_map (λ level. command.Replay level) (option_and_then level_of l)

@@ -37,7 +37,7 @@ impl Text {
 /// What the program is to do.
 #[derive(Drop)]
 pub enum ProgramCommand {
-    /// Replay a schedule of this level. Level core is the only one that there are words for.
+    /// Replay a schedule of this level.
     Replay(Level),
     /// Show what the journal in this folder keeps.
     Inspect(Text),

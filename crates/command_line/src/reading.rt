@@ -37,6 +37,8 @@ fn level(text: &str) -> Option<Level>
 {
     if text == "core" {
         Some(Level::Core)
+    } else if text == "node" {
+        Some(Level::Node)
     } else {
         None
     }

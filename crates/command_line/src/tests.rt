@@ -16,12 +16,13 @@ fn is_usage(rt: &HostRuntime, line: &str) -> Result<bool, Fail> {
     Ok(matches!(read_words(rt.alloc(), &words), Err(WordsError::Usage)))
 }
 
-fn is_replay(rt: &HostRuntime, line: &str) -> Result<bool, Fail> {
+fn is_replay(rt: &HostRuntime, line: &str, level: Level) -> Result<bool, Fail> {
     let words = words_of(rt, line)?;
-    Ok(matches!(
-        read_words(rt.alloc(), &words),
-        Ok(ProgramCommand::Replay(Level::Core))
-    ))
+    let command = read_words(rt.alloc(), &words)?;
+    Ok(match &command {
+        ProgramCommand::Replay(given) => *given == level,
+        ProgramCommand::Inspect(_) => false,
+    })
 }
 
 fn is_inspect(rt: &HostRuntime, line: &str, folder: &str) -> Result<bool, Fail> {
@@ -35,8 +36,8 @@ fn is_inspect(rt: &HostRuntime, line: &str, folder: &str) -> Result<bool, Fail> 
 
 #[test]
 fn an_option_stands_before_its_value_or_with_it(rt: HostRuntime) -> Result<(), Fail> {
-    assert!(rt; is_replay(&rt, "replay --level core")?);
-    assert!(rt; is_replay(&rt, "replay --level=core")?);
+    assert!(rt; is_replay(&rt, "replay --level core", Level::Core)?);
+    assert!(rt; is_replay(&rt, "replay --level=node", Level::Node)?);
     assert!(rt; is_inspect(&rt, "inspect --dir a/b", "a/b")?);
     assert!(rt; is_inspect(&rt, "inspect --dir=a=b", "a=b")?);
     assert!(rt; is_inspect(&rt, "inspect --dir inspect", "inspect")?);

@@ -15,7 +15,8 @@ use Rattle.schedule_text.proofs.ScheduleLaws.{one_schedule}
 use Rattle.schedule_text.proofs.FirstBadLaws.{law_first_bad_line}
 use Rattle.zen_app.specs.Reading.{most_read, read_of, ReadsAtMost, IsInput}
 use Rattle.zen_app.specs.Ran.{SourceView, SinkView, MayEndReplay, Replays}
-use Rattle.zen_app.specs.SafeTrace.{trace_of, IsSafeTraceAt}
+use Rattle.schedule_replay.specs.Levels.{trace_at}
+use Rattle.zen_app.specs.SafeTrace.{IsSafeTraceAt}
 use Rattle.zen_app.specs.Runs.{ReplayEnded}
 use Rattle.zen_app.specs.Refusing.{Refusal}
 use Rattle.zen_app.specs.declared.status.Status.{Status}
@@ -60,13 +61,13 @@ no_front was now bytes written = record { front = []; rest = bytes; whole = refl
 module _ (level : Level) where
   -- a prefix of the trace of the schedule that the bytes spell, where they spell one
   abbrev IsTraced : List ℕ → (was now : Option (List ℕ)) → Type 0
-  IsTraced bytes was now = (s : Schedule) → Spells level bytes s → AppendedFront was now (trace_of level s) × IsSafeTraceAt level s
+  IsTraced bytes was now = (s : Schedule) → Spells level bytes s → AppendedFront was now (trace_at level s) × IsSafeTraceAt level s
 
-  traced : (bytes : List ℕ) (was now : Option (List ℕ)) (s : Schedule) → Spells level bytes s → AppendedFront was now (trace_of level s) → IsTraced bytes was now
-  traced bytes was now s spelled written t other = (subst (λ (x : Schedule). AppendedFront was now (trace_of level x)) (one_schedule level bytes s t spelled other) written, spells_safe_trace level bytes t other)
+  traced : (bytes : List ℕ) (was now : Option (List ℕ)) (s : Schedule) → Spells level bytes s → AppendedFront was now (trace_at level s) → IsTraced bytes was now
+  traced bytes was now s spelled written t other = (subst (λ (x : Schedule). AppendedFront was now (trace_at level x)) (one_schedule level bytes s t spelled other) written, spells_safe_trace level bytes t other)
 
   traced_nothing : (bytes : List ℕ) (was now : Option (List ℕ)) → Appended was now [] → IsTraced bytes was now
-  traced_nothing bytes was now written s spelled = (no_front was now (trace_of level s) written, spells_safe_trace level bytes s spelled)
+  traced_nothing bytes was now written s spelled = (no_front was now (trace_at level s) written, spells_safe_trace level bytes s spelled)
 
 -- ---- how a replay ends
 
@@ -105,21 +106,21 @@ module _ (level : Level) (source source_now : SourceView) (sink sink_now : SinkV
     left_of : (bs : List ℕ) (s : Schedule) → source.left ≡ Some bs → Spells level bytes s → Spells level bs s × (source_now.left ≡ Some [])
     left_of bs s e spelled = spells_left level bs source_now.left bytes s (told bs e) spelled
 
-    pub succeeded : (s : Schedule) → Spells level bytes s → Appended sink.written sink_now.written (trace_of level s) → ReplayEnded level source source_now sink sink_now exit.Ok
+    pub succeeded : (s : Schedule) → Spells level bytes s → Appended sink.written sink_now.written (trace_at level s) → ReplayEnded level source source_now sink sink_now exit.Ok
     succeeded s spelled written = ended exit.Ok tt (λ e. absurd cc) (λ e. absurd cc) (λ bs e. let l = left_of bs s e spelled in record {
       ended = (l.1, record { schedule = s; spelled = l.0; written = written; safe_trace = spells_safe_trace level bs s l.0 });
-      traced = traced level bs sink.written sink_now.written s l.0 (whole_front sink.written sink_now.written (trace_of level s) written);
+      traced = traced level bs sink.written sink_now.written s l.0 (whole_front sink.written sink_now.written (trace_at level s) written);
       complete = λ t sp r w. inl refl;
     })
 
-    pub cut_short : (s : Schedule) → Spells level bytes s → AppendedFront sink.written sink_now.written (trace_of level s) → Rose sink.faults sink_now.faults → ReplayEnded level source source_now sink sink_now exit.WriteFault
+    pub cut_short : (s : Schedule) → Spells level bytes s → AppendedFront sink.written sink_now.written (trace_at level s) → Rose sink.faults sink_now.faults → ReplayEnded level source source_now sink sink_now exit.WriteFault
     cut_short s spelled written rose = ended exit.WriteFault tt (λ e. absurd cc) (λ _. rose) (λ bs e. let l = left_of bs s e spelled in record {
       ended = ((told bs e).1, inl (record { schedule = s; spelled = l.0; written = written; safe_trace = spells_safe_trace level bs s l.0 }));
       traced = traced level bs sink.written sink_now.written s l.0 written;
       complete = λ t sp r w. absurd (w rose);
     })
 
-    pub out_of_memory : (s : Schedule) → Spells level bytes s → AppendedFront sink.written sink_now.written (trace_of level s) → ReplayEnded level source source_now sink sink_now exit.NoMemory
+    pub out_of_memory : (s : Schedule) → Spells level bytes s → AppendedFront sink.written sink_now.written (trace_at level s) → ReplayEnded level source source_now sink sink_now exit.NoMemory
     out_of_memory s spelled written = ended exit.NoMemory tt (λ e. absurd cc) (λ e. absurd cc) (λ bs e. let l = left_of bs s e spelled in record {
       ended = inl (record { schedule = s; spelled = l.0; written = written; safe_trace = spells_safe_trace level bs s l.0 });
       traced = traced level bs sink.written sink_now.written s l.0 written;

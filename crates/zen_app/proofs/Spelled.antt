@@ -15,6 +15,7 @@ use Rattle.replay_node.specs.Clusters.{replayed_history}
 use Rattle.replay_node.proofs.IdLists.{none_set, ids_set}
 use Rattle.schedule_replay.proofs.TraceLaws.{tells, shows, agrees}
 use Rattle.schedule_replay.proofs.WorldLegal.{replay_is_legal}
+use Rattle.schedule_replay.proofs.ClusterLaws.{tells as cluster_tells, shows as cluster_shows, agrees as cluster_agrees}
 use Rattle.cluster_replay.proofs.Schedules.{lives_follow, cluster_replay_is_legal, cluster_replies_are_true}
 use Rattle.cluster_replay.proofs.Spelled.{well_formed}
 use Rattle.zen_app.specs.SafeTrace.{IsSafeTrace, IsSafeClusterTrace, IsSafeTraceAt}
@@ -59,6 +60,9 @@ spells_safe_cluster bytes s spelled =
       legal = legal;
       safe = (safe_of_legal s.initial (replayed_history s) legal).0;
       nodes = λ n listed. record { life = lives_follow s well n listed; replies = cluster_replies_are_true s well n listed };
+      tells = cluster_tells s;
+      shows = cluster_shows s legal;
+      agrees = cluster_agrees s legal;
     }
 
 -- ---- each level

@@ -1,4 +1,3 @@
-pub mod ClusterTrace
 pub mod Codes
 pub mod Ran
 pub mod Reading

@@ -9,6 +9,7 @@ use Rattle.schedule_text.specs.Spelled.{Spells}
 use Rattle.schedule_text.specs.Reading.{fault_of}
 use Rattle.schedule_text.specs.FirstBad.{IsFirstBad}
 use Rattle.schedule_text.specs.Printed.{bad_line}
+use Rattle.schedule_replay.specs.Levels.{trace_at}
 use Rattle.command_line.specs.declared.command.ProgramCommand.{ProgramCommand}
 use Rattle.command_line.specs.declared.command.ProgramCommand.TheVariants.{Replay, Inspect}
 use Rattle.command_line.specs.Commands.{command_of}
@@ -16,7 +17,7 @@ use Rattle.journal_inspection.specs.declared.inspecting.Inspection.{Inspection}
 use Rattle.journal_inspection.specs.Inspects.{HostView, Asked, EndsWith, IsComplete}
 use Rattle.zen_app.specs.Codes.{status_of}
 use Rattle.zen_app.specs.Reading.{most_read, read_of, unread_of, ReadsAtMost}
-use Rattle.zen_app.specs.SafeTrace.{trace_of, IsSafeTraceAt}
+use Rattle.zen_app.specs.SafeTrace.{IsSafeTraceAt}
 use Rattle.zen_app.specs.declared.status.Status.{Status}
 use Rattle.zen_app.specs.declared.status.Status.TheVariants as exit
 
@@ -39,18 +40,18 @@ usage_line = codes "zen: usage\n"
 pub record Replayed (level : Level) (bytes : List ℕ) (was now : Option (List ℕ)) : Type 0 where
   pub schedule : Schedule
   pub spelled : Spells level bytes schedule
-  pub written : Appended was now (trace_of level schedule)
+  pub written : Appended was now (trace_at level schedule)
   pub safe_trace : IsSafeTraceAt level schedule
 
 -- the same, but only a prefix of the trace was written
 pub record ReplayedPrefix (level : Level) (bytes : List ℕ) (was now : Option (List ℕ)) : Type 0 where
   pub schedule : Schedule
   pub spelled : Spells level bytes schedule
-  pub written : AppendedFront was now (trace_of level schedule)
+  pub written : AppendedFront was now (trace_at level schedule)
   pub safe_trace : IsSafeTraceAt level schedule
 
--- What was read of the bytes is no schedule of this level, and which line is bad and why was written: some schedule has the same lines before it, and none has
--- the same lines up to it.
+-- What was read of the bytes is no schedule of this level, and which line is bad and why was written: some schedule has the same lines before
+-- it, and none has the same lines up to it.
 pub record Refused (level : Level) (bytes : List ℕ) (was now : Option (List ℕ)) : Type 0 where
   pub bad : BadSchedule
   pub fault : fault_of level (read_of bytes) ≡ Some bad
@@ -80,7 +81,7 @@ ReplayEnds level bytes left_now was now other = ⊥
 pub record Replays (level : Level) (bytes : List ℕ) (source source_now : SourceView) (sink sink_now : SinkView) (status : Status) : Type 0 where
   pub ended : ReplayEnds level bytes source_now.left sink.written sink_now.written status
   -- whatever the status: of a schedule a prefix of its trace was written, and the history that the trace tells is legal and safe
-  pub traced : (s : Schedule) → Spells level bytes s → AppendedFront sink.written sink_now.written (trace_of level s) × IsSafeTraceAt level s
+  pub traced : (s : Schedule) → Spells level bytes s → AppendedFront sink.written sink_now.written (trace_at level s) × IsSafeTraceAt level s
   -- a schedule, with no fault counted, is replayed to the end, unless memory runs out
   pub complete : (s : Schedule) → Spells level bytes s → (Rose source.faults source_now.faults → ⊥) → (Rose sink.faults sink_now.faults → ⊥)
       → (status ≡ exit.Ok) ⊎ (status ≡ exit.NoMemory)

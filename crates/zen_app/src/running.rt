@@ -34,8 +34,9 @@ fn refuse_words<S: Sink>(out: &mut S) -> Status
     Status::Usage
 }
 
-/// Runs the program: `words` are those after its name. `replay --level core` reads a schedule and writes its trace.
-/// `inspect --dir D` opens the journal in a folder and writes what it keeps. The clause says what each status tells.
+/// Runs the program: `words` are those after its name. `replay --level core` reads a schedule of single acts and writes its
+/// trace, `replay --level node` a schedule of whole nodes. `inspect --dir D` opens the journal in a folder and writes what
+/// it keeps. The clause says what each status tells.
 pub fn run<H: Host>(
     alloc: Global,
     words: &[String],

@@ -2,7 +2,7 @@ mod random;
 mod rows;
 
 use crate::{Status, run};
-use rows::{RULES, Row, SAFE_COMMITS, SAFE_JOINS, SAFE_VALUES, STOPS};
+use rows::{RULES, Row, SAFE_COMMITS, SAFE_JOINS, SAFE_VALUES, STOPS, WHOLE_NODES};
 use schedule_text::{Level, Text, read_schedule, write_schedule};
 use std::alloc::{AllocError, Global};
 use std::process::Abort;
@@ -31,6 +31,11 @@ const REPLAY: Case<'static> = Case {
     writes: &[],
     openings: &[],
     device_calls: &[],
+};
+
+const REPLAY_NODES: Case<'static> = Case {
+    words: &["replay", "--level", "node"],
+    ..REPLAY
 };
 
 // Each read would fail.
@@ -66,8 +71,8 @@ fn ran(alloc: Global, case: Case<'_>) -> Result<Ended, AllocError> {
     Ok(Ended { status, sink, host })
 }
 
-fn replayed(alloc: Global, input: &[u8]) -> Result<Ended, AllocError> {
-    ran(alloc, Case { input, ..REPLAY })
+fn replayed<'a>(alloc: Global, replay: Case<'a>, input: &'a [u8]) -> Result<Ended, AllocError> {
+    ran(alloc, Case { input, ..replay })
 }
 
 // The schedule of a row and its trace.
@@ -90,11 +95,11 @@ fn texts(alloc: Global, lines: &[&str]) -> Result<(Text, Text), AllocError> {
     Ok((schedule, trace))
 }
 
-// Each row's schedule is replayed, and must give its trace.
-fn replays_all(rt: &impl Abort, alloc: Global, rows: &[Row]) -> Result<(), Fail> {
+// Each row's schedule is replayed by these words, and must give its trace.
+fn replays_all(rt: &impl Abort, alloc: Global, replay: Case<'_>, rows: &[Row]) -> Result<(), Fail> {
     for (name, lines) in rows {
         let (schedule, trace) = texts(alloc, lines)?;
-        let ended = replayed(alloc, schedule.as_bytes())?;
+        let ended = replayed(alloc, replay, schedule.as_bytes())?;
         assert!(rt; ended.status == Status::Ok, "{name}");
         assert!(rt; ended.sink.as_bytes() == trace.as_bytes(), "{name}");
         assert!(rt; ended.host.asked().is_empty(), "{name}");
@@ -104,29 +109,61 @@ fn replays_all(rt: &impl Abort, alloc: Global, rows: &[Row]) -> Result<(), Fail>
 
 #[test]
 fn elections_and_publications_have_these_traces(rt: HostRuntime) -> Result<(), Fail> {
-    replays_all(&rt, rt.alloc(), &RULES)
+    replays_all(&rt, rt.alloc(), REPLAY, &RULES)
 }
 
 #[test]
 fn stops_faults_and_restarts_have_these_traces(rt: HostRuntime) -> Result<(), Fail> {
-    replays_all(&rt, rt.alloc(), &STOPS)
+    replays_all(&rt, rt.alloc(), REPLAY, &STOPS)
 }
 
 #[test]
 fn elections_that_would_be_unsafe_without_one_guard_are_refused(
     rt: HostRuntime,
 ) -> Result<(), Fail> {
-    replays_all(&rt, rt.alloc(), &SAFE_JOINS)
+    replays_all(&rt, rt.alloc(), REPLAY, &SAFE_JOINS)
 }
 
 #[test]
 fn values_that_would_be_unsafe_without_one_guard_are_refused(rt: HostRuntime) -> Result<(), Fail> {
-    replays_all(&rt, rt.alloc(), &SAFE_VALUES)
+    replays_all(&rt, rt.alloc(), REPLAY, &SAFE_VALUES)
 }
 
 #[test]
 fn commits_that_would_be_unsafe_without_one_guard_are_refused(rt: HostRuntime) -> Result<(), Fail> {
-    replays_all(&rt, rt.alloc(), &SAFE_COMMITS)
+    replays_all(&rt, rt.alloc(), REPLAY, &SAFE_COMMITS)
+}
+
+#[test]
+fn whole_nodes_have_these_traces(rt: HostRuntime) -> Result<(), Fail> {
+    replays_all(&rt, rt.alloc(), REPLAY_NODES, &WHOLE_NODES)
+}
+
+// A node that has elected itself is handed so many puts of different keys, while it publishes the first of them.
+fn puts(alloc: Global, count: u64) -> Result<Text, AllocError> {
+    let mut text = Text::new(alloc);
+    text.word(
+        "nodes a\ninitial a\ntick a 0 7\ntick a 8 7\ndeliver a 1\ndeliver a 2\ndeliver a 3\n",
+    )?;
+    text.word("deliver a 4\ndeliver a 5\n")?;
+    for put in 1..=count {
+        text.word("client a {\"id\":")?;
+        text.number(put)?;
+        text.word(",\"put\":{\"key\":\"k")?;
+        text.number(put)?;
+        text.word("\",\"value\":\"v\"}}\n")?;
+    }
+    Ok(text)
+}
+
+#[test]
+fn a_leader_holds_64_requests_and_refuses_the_next_one(rt: HostRuntime) -> Result<(), Fail> {
+    let schedule = puts(rt.alloc(), 65)?;
+    let ended = replayed(rt.alloc(), REPLAY_NODES, schedule.as_bytes())?;
+    assert!(rt; ended.status == Status::Ok);
+    let last = "\"v\"}}\nreply a {\"id\":65,\"queue_full\":64}\n";
+    assert!(rt; ended.sink.as_bytes().ends_with(last.as_bytes()));
+    Ok(())
 }
 
 // What strikes one of the first twelve device calls of node a.
@@ -220,10 +257,24 @@ fn what_a_struck_device_call_leaves_is_found_again(rt: HostRuntime) -> Result<()
         for call in 1..=12 {
             let schedule = struck_schedule(rt.alloc(), strike, call)?;
             let end = struck_end(rt.alloc(), strike, call)?;
-            let ended = replayed(rt.alloc(), schedule.as_bytes())?;
+            let ended = replayed(rt.alloc(), REPLAY, schedule.as_bytes())?;
             assert!(rt; ended.status == Status::Ok, "{call}");
             assert!(rt; ended.sink.as_bytes().ends_with(end.as_bytes()), "{call}");
         }
+    }
+    Ok(())
+}
+
+#[test]
+fn the_first_bad_line_of_whole_nodes_is_written(rt: HostRuntime) -> Result<(), Fail> {
+    for (line, end) in [
+        ("boot a", "zen: bad schedule at line 3: Verb\n"),
+        ("tick a 0", "zen: bad schedule at line 3: Arity\n"),
+    ] {
+        let schedule = format!(in rt.alloc(); "nodes a\ninitial a\n{line}\n")?;
+        let ended = replayed(rt.alloc(), REPLAY_NODES, schedule.as_bytes())?;
+        assert!(rt; ended.status == Status::BadSchedule, "{line}");
+        assert!(rt; ended.sink.as_bytes() == end.as_bytes(), "{line}");
     }
     Ok(())
 }
@@ -265,15 +316,16 @@ fn the_first_bad_line_and_its_reason_are_written(rt: HostRuntime) -> Result<(), 
             "zen: bad schedule at line 3: List\n",
         ),
     ] {
-        let ended = replayed(rt.alloc(), schedule.as_bytes())?;
+        let ended = replayed(rt.alloc(), REPLAY, schedule.as_bytes())?;
         assert!(rt; ended.status == Status::BadSchedule, "{schedule}");
         assert!(rt; ended.sink.as_bytes() == line.as_bytes(), "{schedule}");
     }
     Ok(())
 }
 
-const OTHERS: [&[&str]; 7] = [
+const OTHERS: [&[&str]; 8] = [
     &["replay", "--level", "none"],
+    &["replay", "--level", "node", "core"],
     &["replay", "--level"],
     &["replay", "--level", "core", "core"],
     &["replay", "--level", "core", "--level=core"],
@@ -365,7 +417,7 @@ fn random_schedules_replay_as_by_the_second_replay(rt: HostRuntime) -> Result<()
             let again = write_schedule(rt.alloc(), &read)?;
             assert!(rt; again.as_bytes() == text.as_bytes(), "{seed}");
         }
-        let ended = replayed(rt.alloc(), text.as_bytes())?;
+        let ended = replayed(rt.alloc(), REPLAY, text.as_bytes())?;
         assert!(rt; ended.status == Status::Ok, "{seed}");
         assert_eq!(rt; ended.sink.as_bytes().len(), length, "{seed}");
         assert_eq!(rt; fnv(ended.sink.as_bytes()), digest, "{seed}");
