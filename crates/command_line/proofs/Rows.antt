@@ -1,7 +1,7 @@
 -- Lines that are written out: the definition computes.
 use Rattle.std.proofs.Common.{◌≡◌, refl, [], ◌∷◌, Some, None, codes}
 use Rattle.command_line.specs.Commands.{command_of}
-use Rattle.command_line.specs.declared.command.Level.TheVariants.{Core}
+use Rattle.schedule_text.specs.declared.level.Level.TheVariants.{Core}
 use Rattle.command_line.specs.declared.command.ProgramCommand.TheVariants.{Replay, Inspect}
 
 core_level : command_of (codes "replay" ∷ codes "--level" ∷ codes "core" ∷ []) ≡ Some (Replay Core)

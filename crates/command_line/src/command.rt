@@ -1,3 +1,4 @@
+use schedule_text::Level;
 use std::marker::Model;
 use thiserror::Error;
 
@@ -33,17 +34,10 @@ impl Text {
     }
 }
 
-/// Whose acts the lines of a schedule are.
-#[derive(Clone, Copy, Debug, PartialEq, Eq)]
-pub enum Level {
-    /// Those of the core.
-    Core,
-}
-
 /// What the program is to do.
 #[derive(Drop)]
 pub enum ProgramCommand {
-    /// Replay a schedule.
+    /// Replay a schedule of this level. Level core is the only one that there are words for.
     Replay(Level),
     /// Show what the journal in this folder keeps.
     Inspect(Text),

@@ -7,5 +7,5 @@ pub mod reading;
 #[cfg(test)]
 mod tests;
 
-pub use command::{Level, ProgramCommand, Text, WordsError};
+pub use command::{ProgramCommand, Text, WordsError};
 pub use reading::read_words;

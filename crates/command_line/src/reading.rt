@@ -4,9 +4,10 @@ ghost use Rattle.clap.specs.Words.{first_value, found_of, kind_of, subcommand_ro
 ghost use Rattle.command_line.specs.Commands.{Gives, plain_text, level_of, replay_of, inspect_of, command_by, command_of, entered_command, Parses, is_fair as fair};
 
 use crate::program::program;
-use crate::{Level, ProgramCommand, Text, WordsError};
+use crate::{ProgramCommand, Text, WordsError};
 use clap::error::ErrorKind;
 use clap::{ArgMatches, Error};
+use schedule_text::Level;
 use std::alloc::Global;
 
 // A text that is not empty and does not begin with a hyphen.

@@ -1,4 +1,5 @@
-use crate::{Level, ProgramCommand, WordsError, read_words};
+use crate::{ProgramCommand, WordsError, read_words};
+use schedule_text::Level;
 use std::test::Fail;
 
 fn words_of(rt: &HostRuntime, line: &str) -> Result<Vec<String>, Fail> {

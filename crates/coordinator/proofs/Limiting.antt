@@ -1,4 +1,4 @@
--- What is sealed is short, and within the limits.
+-- What is sealed is short, and within the limits, and its frames are few.
 use Rattle.std.proofs.Common.{◌≡◌, ℕ, ◌≤◌, List, length, refl, sym, ap, subst}
 use Rattle.std.specs.Prelude.{Result, Ok, Err, IfOk}
 use Rattle.std.specs.List.{AllByRecursion}
@@ -10,15 +10,17 @@ use Rattle.master_tasks.specs.Queue.{most_open}
 use Rattle.policy_model.specs.declared.events.Event.{Event}
 use Rattle.policy_model.specs.declared.events.Event.TheVariants.{Start, Tick, Frame as FrameCame, Client as LineCame}
 use Rattle.policy_model.specs.declared.events.Step.{Step}
+use Rattle.policy_model.specs.Bounds.{IsSmallView, EventHoldsSet, most_frames}
 use Rattle.policy_model.specs.Fitting.{IsFitView, IsFitEvent, EventHoldsSettings}
 use Rattle.policy_model.specs.Moves.{begun}
 use Rattle.policy_model.specs.Rules.{next_of}
 use Rattle.policy_model.specs.Views.{View}
 use Rattle.policy_model.proofs.Fits.{stays_fit}
+use Rattle.policy_model.proofs.Frames.{sends_few}
 use Rattle.policy_model.proofs.Shortness.{event_short}
 use Rattle.policy_model.proofs.Spending.{answers_few}
 use Rattle.coordinator.specs.Lives.{EventEnds}
-use Rattle.coordinator.specs.Limits.{IsWithin}
+use Rattle.coordinator.specs.Limits.{IsWithin, IsFew}
 use Rattle.coordinator.specs.Showing.{Shown, showing_all, nothing_shown}
 use Rattle.coordinator.specs.Steps.{Seals}
 use Rattle.coordinator.specs.Views.{view_in}
@@ -41,6 +43,12 @@ waiting_begun v Start = refl
 waiting_begun v (Tick now word) = refl
 waiting_begun v (FrameCame frame) = refl
 waiting_begun v (LineCame conn line) = refl
+
+small_begun : (v : View) (event : Event) → IsSmallView v → IsSmallView (begun v event)
+small_begun v Start small = small
+small_begun v (Tick now word) small = small
+small_begun v (FrameCame frame) small = small
+small_begun v (LineCame conn line) small = small
 
 module _ {K : Type 0} (k : Ghosts K) where
   -- what is sealed
@@ -65,3 +73,22 @@ module _ {K : Type 0} (k : Ghosts K) where
   within (Err error.Struck) (Err e) old new event sent shown none breaks seals fit holds few = tt
   within (Err error.Memory) (Ok sealed) old new event sent shown none same seals fit holds few = cc
   within (Err error.Memory) (Err e) old new event sent shown none same seals fit holds few = tt
+
+  -- how many frames
+  pub few : (ended : Result (Unit {0}) EventError) (r : Result Sealed StepError) (old new : Coordinator K) (event : Event) (sent shown : Shown) → sent ≡ nothing_shown
+      → EventEnds k ended old new event sent shown (next_of old.settings (begun (view_in k old) event) event) → Seals ended event shown r
+      → EventHoldsSet event → IfOk r (λ (sealed : Sealed). IsFew k old new event sealed)
+  few (Ok u) (Ok sealed) old new event sent shown none brings seals holds =
+      let s = old.settings in
+      let v = begun (view_in k old) event in
+      let items = next_of s v event in
+      let is = sealed_so event items shown sealed (subst (λ (o : Shown). shown ≡ showing_all o items) none brings.shown) seals in
+      record {
+        sends = λ small. subst (λ (l : List Frame). length l ≤ most_frames event) (sym is.sends) (sends_few s v event (small_begun (view_in k old) event small) holds).frames;
+        after = λ small. subst (λ (u : View). IsSmallView u) (sym brings.passes.view) (sends_few s v event (small_begun (view_in k old) event small) holds).after;
+      }
+  few (Ok u) (Err e) old new event sent shown none brings seals holds = tt
+  few (Err error.Struck) (Ok sealed) old new event sent shown none breaks seals holds = absurd seals
+  few (Err error.Struck) (Err e) old new event sent shown none breaks seals holds = tt
+  few (Err error.Memory) (Ok sealed) old new event sent shown none same seals holds = cc
+  few (Err error.Memory) (Err e) old new event sent shown none same seals holds = tt

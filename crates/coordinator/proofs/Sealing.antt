@@ -1,20 +1,23 @@
 -- An event whose output is sealed.
-use Rattle.std.proofs.Common.{◌≡◌, false, List, [], ◌∷◌, ◌++◌, sym, ap, subst, ◌∙◌}
-use Rattle.std.specs.Prelude.{Result, Ok, Err}
+use Rattle.std.proofs.Common.{◌≡◌, true, false, List, [], ◌∷◌, ◌++◌, refl, sym, ap, subst, ◌∙◌}
+use Rattle.std.specs.Prelude.{◌↔◌, Option, Some, Result, Ok, Err, IfOk, is_ok}
+use Rattle.cluster_state.specs.declared.state.Kept.{Kept}
+use Rattle.world_model.specs.NodeState.{durable_of}
 use Rattle.std.specs.List.{flat_map}
 use Rattle.std.proofs.lemmas.List.{append_assoc, append-nil}
 use Rattle.state_journal.specs.declared.keeper.Keeper.{Ghosts}
 use Rattle.wire_frames.specs.declared.frame.Frame.{Frame}
 use Rattle.policy_model.specs.declared.events.Event.{Event}
 use Rattle.policy_model.specs.declared.events.MemberDrop.{MemberDrop}
-use Rattle.policy_model.specs.Events.{Item, Opens, Begins, Acts, Turns, Drops, Sends, Replies, Notes}
-use Rattle.policy_model.specs.Entries.{Life, log_of, frames_in, replies_in, by_member, by_receiver}
+use Rattle.policy_model.specs.Events.{Item, Opens, Begins, Acts, Turns, Drops, Sends, Replies, Notes, acts_of}
+use Rattle.policy_model.specs.Views.{View}
+use Rattle.policy_model.specs.Entries.{Life, Lived, Did, log_of, frames_in, replies_in, by_member, by_receiver}
 use Rattle.policy_model.specs.Follows.{items_of}
 use Rattle.policy_model.specs.Moves.{begun}
 use Rattle.policy_model.specs.Rules.{next_of}
 use Rattle.coordinator.specs.Showing.{Shown, showing, showing_all, nothing_shown}
-use Rattle.coordinator.specs.Lives.{StandsForLife, EventEnds}
-use Rattle.coordinator.specs.Steps.{IsSealed, IsOrdered, Seals, Steps}
+use Rattle.coordinator.specs.Lives.{StandsForLife, EventEnds, Lasts}
+use Rattle.coordinator.specs.Steps.{Done, IsSealed, IsOrdered, Seals, Steps}
 use Rattle.coordinator.specs.Views.{view_in}
 use Rattle.coordinator.specs.declared.coordinator.Coordinator.{Coordinator}
 use Rattle.coordinator.specs.declared.coordinator.EventError.{EventError}
@@ -102,3 +105,28 @@ module _ {K : Type 0} (k : Ghosts K) where
       subst (λ (items : List Item). Steps k old new event items r) (items_now k old life event stands)
       (steps_by ended r old new event shown
       (subst (λ (o : Shown). EventEnds k ended old new event o shown (next_of old.settings (begun (view_in k old) event) event)) none does) seals up)
+
+  -- what a crash between two calls leaves
+  abbrev LeavesRecord : Coordinator K → Type 0
+  LeavesRecord c = k.told → k.has_stopped c.core.keeper ≡ false → (found : Option Kept) → k.left_since c.core.keeper (k.moment c.core.keeper) found ↔ (found ≡ Some (k.record_of c.core.keeper))
+
+  -- once an event came to its end, that is the record of the acts with it
+  lasts : (old new : Coordinator K) (event : Event) (items : List Item) (sealed : Sealed) → LeavesRecord new → (life : Life) → StandsForLife k old life → Done k old new event items sealed → k.told → (found : Option Kept)
+      → k.left_since new.core.keeper (k.moment new.core.keeper) found ↔ (found ≡ Some (durable_of (acts_of (log_of (Lived life (Did event items))))))
+  lasts old new event items sealed leaves life stands done told found =
+      subst (λ (r : Kept). k.left_since new.core.keeper (k.moment new.core.keeper) found ↔ (found ≡ Some r))
+      (ap (λ (v : View). let r : Kept = record { term = v.node.term; accepted = v.node.accepted; committed = v.node.committed } in r) (done.enters.stands life stands))
+      (leaves told done.runs found)
+
+  pub lasting : (ended : Result (Unit {0}) EventError) (r : Result Sealed StepError) (old new : Coordinator K) (event : Event) (sent shown : Shown) → sent ≡ nothing_shown
+      → EventEnds k ended old new event sent shown (next_of old.settings (begun (view_in k old) event) event) → Seals ended event shown r → k.has_stopped old.core.keeper ≡ false
+      → LeavesRecord new → IfOk r (λ (sealed : Sealed). Lasts k old new event)
+  lasting ended (Ok sealed) old new event sent shown none does seals up leaves = λ life stands told found.
+      lasts old new event (items_of old.settings (log_of life) event) sealed leaves life stands (steps ended (Ok sealed) old new event sent shown none does seals up life stands) told found
+  lasting ended (Err e) old new event sent shown none does seals up leaves = tt
+
+-- an event that came to its end is sealed
+pub sealed_fine : (ended : Result (Unit {0}) EventError) (event : Event) (shown : Shown) (r : Result Sealed StepError) → Seals ended event shown r → is_ok ended ≡ true → is_ok r ≡ true
+sealed_fine (Ok u) event shown (Ok sealed) seals e = refl
+sealed_fine (Ok u) event shown (Err x) seals e = absurd seals
+sealed_fine (Err x) event shown r seals e = cc

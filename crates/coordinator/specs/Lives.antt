@@ -1,8 +1,10 @@
 -- When a node stands for a life, and what an event adds to it.
-use Rattle.std.specs.Prelude.{◌≡◌, ◌≤◌, Result, Ok, Err, List, [], ◌∷◌, ◌++◌}
+use Rattle.std.specs.Prelude.{◌≡◌, ◌≤◌, ◌↔◌, Option, Some, Result, Ok, Err, List, [], ◌∷◌, ◌++◌}
 use Rattle.std.specs.List.{flat_map}
 use Rattle.zen_disk.specs.Moments.{LeavesOnly}
 use Rattle.state_journal.specs.declared.keeper.Keeper.{Ghosts}
+use Rattle.cluster_state.specs.declared.state.Kept.{Kept}
+use Rattle.world_model.specs.NodeState.{durable_of}
 use Rattle.coord_state.specs.Writes.{WritesBy}
 use Rattle.policy_model.specs.declared.events.Event.{Event}
 use Rattle.policy_model.specs.Events.{Item, Opens, Begins, Acts, Turns, Drops, Sends, Replies, Notes, acts_of}
@@ -71,6 +73,12 @@ module _ {K : Type 0} (k : Ghosts K) where
   Survives old new event =
       (life : Life) → StandsForLife old life → k.told
       → LeavesOnly k.moment k.left_since old.core.keeper new.core.keeper (IsAlong (acts_of (log_of life)) (items_of old.settings (log_of life) event))
+
+  -- a crash now leaves the record of the acts in the node's life with this event, and nothing else
+  abbrev pub Lasts : (old new : Coordinator K) → Event → Type 0
+  Lasts old new event =
+      (life : Life) → StandsForLife old life → k.told → (found : Option Kept)
+      → k.left_since new.core.keeper (k.moment new.core.keeper) found ↔ (found ≡ Some (durable_of (acts_of (log_of (Lived life (Did event (items_of old.settings (log_of life) event)))))))
 
   -- the event's entry in the node's life, and what the keeper wrote for it
   pub record Enters (old new : Coordinator K) (event : Event) (items : List Item) : Type 0 where

@@ -1,16 +1,17 @@
 //! Events, by their kind.
-ghost use Rattle.std.specs.Prelude.{◌≡◌, ◌≤◌, ◌↔◌, max, min, true, length, is_ok, Err, IfOk};
+ghost use Rattle.std.specs.Prelude.{◌≡◌, ◌≤◌, ◌↔◌, max, min, true, false, length, is_ok, Err, IfOk};
 ghost use Rattle.wire_frames.specs.Messages.{IsFitMessage};
 ghost use Rattle.policy_model.specs.declared.events.Event.TheVariants as event;
+ghost use Rattle.policy_model.specs.declared.events.Event.TheVariants.{Start};
 ghost use Rattle.policy_model.specs.Entries.{Life, log_of};
 ghost use Rattle.policy_model.specs.Fitting.{IsFitEvent};
 ghost use Rattle.policy_model.specs.Follows.{items_of};
 ghost use Rattle.policy_model.specs.Parts.{last_moment};
 ghost use Rattle.policy_model.specs.Rules.{takes_frame, takes_message};
 ghost use Rattle.coordinator.specs.Does.{Does, DoesAll};
-ghost use Rattle.coordinator.specs.Limits.{IsWithin};
+ghost use Rattle.coordinator.specs.Limits.{IsFew, IsWithin};
 ghost use Rattle.coordinator.specs.Kinds.{group_of as group_by, is_other};
-ghost use Rattle.coordinator.specs.Lives.{DoesEvent, StandsForLife, Survives};
+ghost use Rattle.coordinator.specs.Lives.{DoesEvent, Lasts, StandsForLife, Survives};
 ghost use Rattle.coordinator.specs.Steps.{Steps, steps_for, drops_for, frames_for};
 ghost use Rattle.coordinator.specs.declared.step.StepError.TheVariants as step_error;
 ghost use Rattle.coordinator.specs.Views.{IsReady};
@@ -19,7 +20,7 @@ use crate::coordinator::{Coordinator, EventError, Struck};
 use crate::output::Output;
 use crate::step::{Sealed, StepError, new_output, seal};
 use client_lines::Line;
-use policy_model::{Event, law_event_holds_settings};
+use policy_model::{Event, law_event_holds_set, law_event_holds_settings};
 use state_journal::Keeper;
 use std::alloc::Global;
 use voting_config::NodeId;
@@ -282,7 +283,8 @@ impl<K: Keeper> Coordinator<K> {
 
     // The first event after the opening.
     fn on_start(&mut self) -> Result<(), EventError>
-        ensures { (out : _) → DoesEvent K.Keeper self.old self.new event.Start out out result }
+        ensures does { (out : _) → DoesEvent K.Keeper self.old self.new event.Start out out result }
+        ensures fine { is_ok result ≡ true }
     {
         self.meet_first();
         Ok(())
@@ -335,6 +337,7 @@ impl<K: Keeper> Coordinator<K> {
         requires drops { drops_for event.now ≤ out.old.drops.room }
         requires frames { frames_for event.now ≤ out.old.frames.room }
         ensures does { DoesEvent K.Keeper self.old self.new event.now out.old out.new result }
+        ensures start { event.now ≡ Start → is_ok result ≡ true }
     {
         match event {
             Event::Start => self.on_start(),
@@ -363,6 +366,16 @@ impl<K: Keeper> Coordinator<K> {
         // Few steps and replies; and where the node was within the limits, so are its frames, and the node after it.
         ensures within { IfOk result (λ sealed. IsWithin K.Keeper self.old self.new sealed) }
 
+        // At most 94 frames, and fewer but at a tick, where the node's sets were as small as sets in memory are; so they stay.
+        ensures few { IfOk result (λ sealed. IsFew K.Keeper self.old self.new event sealed) }
+
+        // After Ok, where the keeper tells, a crash leaves the record of the acts with this event and nothing else.
+        ensures durable { IfOk result (λ sealed. Lasts K.Keeper self.old self.new event) }
+
+        // The start never lacks memory: it is done, unless the node met a fault before.
+        ensures start { event ≡ Start → K.has_stopped self.old.core.keeper ≡ false → is_ok result ≡ true }
+        ensures start_memory { event ≡ Start → result ≡ Err step_error.Memory → ⊥ }
+
         // A node that met a fault does nothing.
         ensures stopped { (result ≡ Err step_error.Stopped) ↔ (K.has_stopped self.old.core.keeper ≡ true) }
         ensures ready { IsReady self.new }
@@ -374,6 +387,7 @@ impl<K: Keeper> Coordinator<K> {
             return Err(StepError::Memory);
         };
         law_event_holds_settings(&event);
+        law_event_holds_set(&event);
         let _ = self.tasks.open_count();
         let ended = self.take_event(&mut output, &event);
         seal(ended, event, output)

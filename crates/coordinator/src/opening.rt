@@ -4,7 +4,9 @@ ghost use Rattle.zen_disk.specs.Moments.{Same};
 ghost use Rattle.world_model.specs.declared.acts.Act.TheVariants.{Open};
 ghost use Rattle.world_model.specs.Histories.{ContinuesUnlessFirst};
 ghost use Rattle.policy_model.specs.Entries.{Life, Opened, log_of};
+ghost use Rattle.policy_model.specs.Bounds.{IsSmallView};
 ghost use Rattle.policy_model.specs.Events.{acts_of};
+ghost use Rattle.policy_model.specs.Fitting.{IsFitView};
 ghost use Rattle.policy_model.specs.Moves.{opened};
 ghost use Rattle.coordinator.specs.Lives.{StandsForLife};
 ghost use Rattle.coordinator.specs.Views.{view_in, IsReady};
@@ -29,9 +31,18 @@ impl<K: Keeper> Coordinator<K> {
         ensures view { view_in K.Keeper result ≡ opened settings (K.record_of keeper) }
         ensures ready { IsReady result }
 
+        // A keeper holds nothing but what is within the limits, so the node is within them, whatever its life.
+        ensures fit { IsFitView (view_in K.Keeper result) }
+
+        // Its sets are as small as sets in memory are.
+        ensures small { IsSmallView (view_in K.Keeper result) }
+
         // Whatever its life before, it stands for that life with this opening, where the record is what was kept.
         ensures stands { (life : Life) → ContinuesUnlessFirst (acts_of (log_of life)) (Open (K.record_of keeper)) → StandsForLife K.Keeper result (Opened life (K.record_of keeper)) }
     {
+        let value = &keeper.kept().accepted.value;
+        let _ = value.settings.texts();
+        let _ = value.members.len();
         let me = settings.me;
         Coordinator {
             core: CoordState::new(me, keeper),

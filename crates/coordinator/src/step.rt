@@ -1,5 +1,6 @@
 //! A whole event: what it shows is given out only sealed, once its last write was synced.
-ghost use Rattle.std.specs.Prelude.{◌≡◌, ◌≤◌, IfOk, true};
+ghost use Rattle.std.specs.Prelude.{◌≡◌, ◌≤◌, IfOk, is_ok, true};
+ghost use Rattle.policy_model.specs.declared.events.Event.TheVariants.{Start};
 ghost use Rattle.coordinator.specs.Showing.{shown_in, nothing_shown};
 ghost use Rattle.coordinator.specs.Steps.{Seals, drops_for, frames_for, steps_for};
 
@@ -55,6 +56,18 @@ impl Sealed {
     {
         &self.replies
     }
+
+    /// What the event came to, the frames by ascending receiver, and the replies in order: given up without a copy.
+    pub fn into_parts(self) -> (Entries, Listed<Frame>, Replies)
+        ensures { result ≡ (self.entries, self.sends, self.replies) }
+    {
+        let Sealed {
+            entries,
+            sends,
+            replies,
+        } = self;
+        (entries, sends, replies)
+    }
 }
 
 /// Why an event gave nothing to send.
@@ -68,15 +81,29 @@ pub enum StepError {
     Disk(Entries),
 }
 
+// Nothing shown, and no room.
+fn no_output(alloc: Global) -> Output
+    ensures { shown_in result ≡ nothing_shown }
+{
+    Output {
+        alloc,
+        steps: Listed::new(alloc),
+        drops: Listed::new(alloc),
+        frames: Listed::new(alloc),
+        replies: Replies::new(alloc),
+    }
+}
+
 // Nothing shown yet, with room for what the event shows at most, but for its replies. At the start no memory is taken.
 pub(crate) fn new_output(alloc: Global, event: &Event) -> Result<Output, AllocError>
     ensures shown { IfOk result (λ o. shown_in o ≡ nothing_shown) }
     ensures steps { IfOk result (λ o. steps_for event.now ≤ o.steps.room) }
     ensures drops { IfOk result (λ o. drops_for event.now ≤ o.drops.room) }
     ensures frames { IfOk result (λ o. frames_for event.now ≤ o.frames.room) }
+    ensures start { event.now ≡ Start → is_ok result ≡ true }
 {
     let (steps, drops, frames) = match event {
-        Event::Start => (0, 0, 0),
+        Event::Start => return Ok(no_output(alloc)),
         Event::Tick { .. } => (MOST_STEPS, 64, 96),
         Event::Frame(_) | Event::Client { .. } => (MOST_STEPS, 0, 33),
     };

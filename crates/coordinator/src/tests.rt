@@ -7,20 +7,22 @@ ghost use Rattle.std.specs.Prelude.{IfOk};
 ghost use Rattle.std.specs.List.{AllByRecursion};
 ghost use Rattle.wire_frames.specs.Frames.{IsFitFrame};
 ghost use Rattle.policy_model.specs.Fitting.{IsFitEvent};
+ghost use Rattle.coordinator.specs.Views.{IsReady};
 
-use crate::{Coordinator, Sealed, StepError};
+use crate::{Coordinator, Entries, Sealed, StepError};
 use client_lines::{Line, write_reply};
 use cluster_state::value_to_json;
 use policy_model::{
     DropCause, Event, MemberDrop, Mode, NodeIds, Settings, Step, law_opened_is_fit,
 };
-use state_journal::PlainKeeper;
+use state_journal::{PlainKeeper, StateJournal};
 use std::alloc::{AllocError, Global};
 use std::marker::Model;
 use std::test::*;
 use voting_config::{NodeId, NodeSet};
 use wire_frames::{Frame, Message};
 use world_model::{Act, Outcome, Reply};
+use zen_disk::{Fuse, MemDisk, Order, Way};
 
 // ---- nodes and frames within the limits, as `step` requires them
 
@@ -647,4 +649,71 @@ fn a_leader_whose_publication_fails_stands_again_and_publishes_the_same_value(
         "act a ok value 2 a {\"exclusions\":[],\"master\":\"a\",\"members\":[\"a\"],\"settings\":{}}",
         "m7 a->a publish 2/2",
     ])
+}
+
+// ---- a disk that fails
+
+// A node alone over a journal on a new disk.
+fn over_journal(alloc: Global) -> Result<Coordinator<StateJournal<Fuse<MemDisk>>>, Fail>
+    ensures { IfOk result IsReady }
+{
+    let disk = MemDisk::new(alloc, Vec::new(alloc), Vec::new(alloc));
+    let Ok(journal) = StateJournal::open(alloc, Fuse::new(disk)) else {
+        return Err(Fail::new("no journal"));
+    };
+    let settings = settings_of(alloc, NodeId::parse("a")?, &["a"])?;
+    Ok(Coordinator::open(alloc, settings, journal))
+}
+
+// The steps of these entries are one, which shows this line.
+fn show_only(alloc: Global, entries: &Entries, wanted: &str) -> Result<(), Fail> {
+    let mut lines = Vec::new(alloc);
+    for step in entries.steps.as_slice() {
+        show_step(alloc, &mut lines, NodeId::parse("a")?, step)?;
+    }
+    let mut shown = Shown::of(lines);
+    shown.continues(wanted)?;
+    shown.ends()
+}
+
+// The disk fails or stops at the first write. The entries end with that act, and the node does nothing more.
+fn fails_at_the_bootstrap(alloc: Global, order: Order) -> Result<(), Fail> {
+    let mut node = over_journal(alloc)?;
+    let _ = node.step(alloc, Event::Start);
+    node.arm(order);
+    let Err(StepError::Disk(entries)) = node.step(alloc, Event::Tick { now: 0, word: 7 }) else {
+        return Err(Fail::new("the disk did not fail"));
+    };
+    show_only(alloc, &entries, "act a disk boot a")?;
+    match node.step(alloc, Event::Tick { now: 8, word: 7 }) {
+        Err(StepError::Stopped) => Ok(()),
+        _ => Err(Fail::new("the node is not stopped")),
+    }
+}
+
+#[test]
+fn a_disk_that_fails_ends_the_entries_with_its_act_and_stops_the_node(
+    rt: HostRuntime,
+) -> Result<(), Fail> {
+    fails_at_the_bootstrap(rt.alloc(), Order::Fault(1))
+}
+
+#[test]
+fn so_does_a_disk_that_stops(rt: HostRuntime) -> Result<(), Fail> {
+    fails_at_the_bootstrap(rt.alloc(), Order::Stop(1, Way::Lost))
+}
+
+#[test]
+fn what_is_sealed_is_given_up_as_it_is(rt: HostRuntime) -> Result<(), Fail> {
+    let alloc = rt.alloc();
+    let mut node = over_journal(alloc)?;
+    let _ = node.step(alloc, Event::Start);
+    let Ok(sealed) = node.step(alloc, Event::Tick { now: 0, word: 7 }) else {
+        return Err(Fail::new("the tick failed"));
+    };
+    let (entries, sends, replies) = sealed.into_parts();
+    show_only(alloc, &entries, "act a ok boot a")?;
+    assert!(rt; sends.into_items().is_empty());
+    assert!(rt; replies.as_slice().is_empty());
+    Ok(())
 }

@@ -5,6 +5,7 @@ pub mod Standing
 pub mod Fits
 pub mod Shortness
 pub mod Spending
+pub mod Frames
 pub mod Examples
 pub mod PartLookBacks
 pub mod Determined

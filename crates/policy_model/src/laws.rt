@@ -1,6 +1,6 @@
 //! What holds of each life that follows the policy. The calls do nothing: what they promise is proved.
 ghost use Rattle.policy_model.specs.Laws.{LawEventMoves, LawLifeIsLocal, LawOpeningMoves};
-ghost use Rattle.policy_model.specs.Bounds.{LawAnswersFew, LawEventIsShort, LawStruckIsShort};
+ghost use Rattle.policy_model.specs.Bounds.{EventHoldsSet, LawAnswersFew, LawEventIsShort, LawOpenedIsSmall, LawSendsFew, LawStruckIsShort};
 ghost use Rattle.policy_model.specs.Fitting.{EventHoldsSettings, LawOpenedIsFit, LawStaysFit};
 
 use crate::events::Event;
@@ -58,3 +58,25 @@ pub fn law_struck_is_short()
 pub fn law_answers_few()
     ensures { LawAnswersFew }
 {}
+
+/// At an event a node sends 94 frames at most: at a tick, one that is a quorum alone, asks 31 peers for peers and for a
+/// pre-vote and starts 32 joins; at a frame 33, at a line 32, and at the start none. Its sets are as small afterwards.
+pub fn law_sends_few()
+    ensures { LawSendsFew }
+{}
+
+/// A node that was just opened has sets of these sizes where its record has.
+pub fn law_opened_is_small()
+    ensures { LawOpenedIsSmall }
+{}
+
+/// The members of a state in memory are 32 at most, also those of a state that is published.
+pub fn law_event_holds_set(event: &Event)
+    ensures { EventHoldsSet event.now }
+{
+    if let Event::Frame(frame) = event {
+        if let Message::Publish(state) = &frame.message {
+            let _ = state.value.members.len();
+        }
+    }
+}

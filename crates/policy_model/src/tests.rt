@@ -36,4 +36,7 @@ fn the_laws_can_be_called() {
     law_event_is_short();
     law_struck_is_short();
     law_answers_few();
+    law_sends_few();
+    law_opened_is_small();
+    law_event_holds_set(&Event::Start);
 }

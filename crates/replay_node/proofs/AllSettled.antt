@@ -11,7 +11,7 @@ use Rattle.world_model.specs.Local.{BeginsEmpty, IsSourcedAll}
 use Rattle.world_model.proofs.Guards.{same_is}
 use Rattle.world_model.proofs.Assemble.{legal_is}
 use Rattle.replay_node.specs.Settled.{settled, IsUnstruck, settled_entry, settled_for}
-use Rattle.replay_node.proofs.SettledLocal.{settled_local, settled_begins}
+use Rattle.replay_node.proofs.SettledLocal.{settled_local, settled_begins, unsettled_local, unsettled_begins}
 
 own_entry : (h : History) (node : Id) (act : Act) (o : Outcome) (n : Id) → same node n ≡ true → node_history (Next h node act o) n ≡ Then (node_history h n) act o
 own_entry h node act o n e = ap (λ (b : Bool). cond b (Then (node_history h n) act o) (node_history h n)) e
@@ -133,3 +133,38 @@ settled_legal initial h n k l =
     from m true e f =
         let own = subst (λ (x : Id). node_history (settled_for n k h) x ≡ settled k (node_history h x)) (same_is n m e) (settled_own n k h) in
         subst (λ (g : NodeHistory). IsLocal m g × BeginsEmpty g) (sym own) (settled_local m k (node_history h m) f.0, settled_begins k (node_history h m) f.1)
+
+-- and one that is legal then was legal before
+
+sourced_before : (initial : List Id) (h s : History) (node : Id) (act : Act) (o p : Outcome) → sent s ≡ sent h → IsSourcedAll initial h → IsSourcedAll initial (Next s node act p) → IsSourcedAll initial (Next h node act o)
+sourced_before initial h s node act o p e r f = sourced_next initial s h node act p o (sym e) r f
+
+unsourced_entry : (initial : List Id) (k : Bool) (h s : History) (node : Id) (act : Act) (o : Outcome) → sent s ≡ sent h → (IsSourcedAll initial s → IsSourcedAll initial h) → IsSourcedAll initial (settled_entry k h s node act o) → IsSourcedAll initial (Next h node act o)
+unsourced_entry initial k h s node act (Disk was) e r f = f
+unsourced_entry initial k h s node act (Crashed was) e r f = f
+unsourced_entry initial k h s node act (Answered reply) e r f = from (is_opening act) f
+  where
+    from : (b : Bool) → IsSourcedAll initial (Next (if b then h else s) node act (Answered reply)) → IsSourcedAll initial (Next h node act (Answered reply))
+    from true f = f
+    from false f = sourced_before initial h s node act (Answered reply) (Answered reply) e (r f.0) f
+
+unsettled_sourced : (initial : List Id) (n : Id) (k : Bool) (h : History) → IsSourcedAll initial (settled_for n k h) → IsSourcedAll initial h
+unsettled_sourced initial n k NoEntries f = tt
+unsettled_sourced initial n k (Next h node act o) f = from (same node n) (λ g. unsettled_sourced initial n k h g) f
+  where
+    from : (b : Bool) → (IsSourcedAll initial (settled_for n k h) → IsSourcedAll initial h)
+        → IsSourcedAll initial (if b then settled_entry k h (settled_for n k h) node act o else Next (settled_for n k h) node act o) → IsSourcedAll initial (Next h node act o)
+    from true r f = unsourced_entry initial k h (settled_for n k h) node act o (settled_sent n k h) r f
+    from false r f = sourced_before initial h (settled_for n k h) node act o o (settled_sent n k h) (r f.0) f
+
+pub unsettled_legal : (initial : List Id) (h : History) (n : Id) (k : Bool) → IsLegal initial (settled_for n k h) → IsLegal initial h
+unsettled_legal initial h n k l =
+    let parts = (legal_is initial (settled_for n k h)).0 l in
+    (legal_is initial h).1 ((λ m. from m (same n m) refl (parts.0 m)), unsettled_sourced initial n k h parts.1)
+  where
+    from : (m : Id) (b : Bool) → same n m ≡ b → IsLocal m (node_history (settled_for n k h) m) × BeginsEmpty (node_history (settled_for n k h) m) → IsLocal m (node_history h m) × BeginsEmpty (node_history h m)
+    from m false e f = subst (λ (g : NodeHistory). IsLocal m g × BeginsEmpty g) (settled_other n m k h e) f
+    from m true e f =
+        let own = subst (λ (x : Id). node_history (settled_for n k h) x ≡ settled k (node_history h x)) (same_is n m e) (settled_own n k h) in
+        let there : IsLocal m (settled k (node_history h m)) × BeginsEmpty (settled k (node_history h m)) = subst (λ (g : NodeHistory). IsLocal m g × BeginsEmpty g) own f in
+        (unsettled_local m k (node_history h m) there.0, unsettled_begins k (node_history h m) there.1)

@@ -74,6 +74,19 @@ settled_local me k (Then g act (Crashed was)) l = (l.0, record { follows = l.1.f
 settled_local me k (Then g (Open found) (Answered reply)) l = l
 settled_local me k (Then g act (Answered reply)) l = local_then me k g act reply refl l (settled_local me k g l.0)
 
+-- and the other way round
+local_before : (me : Id) (k : Bool) (g : NodeHistory) (act : Act) (reply : Reply) → is_opening act ≡ false → IsLocal me g → MayFollow me (settled k g) act (Answered reply) → IsLocal me (Then g act (Answered reply))
+local_before me k g act reply o l f =
+    let up : is_down g ≡ false = sym (settled_down k g) ∙ up_before me (settled k g) act (Answered reply) f o in
+    (l, record { follows = f.follows ∙ settled_reply me k g act l o up; up = λ d. f.up (settled_down k g ∙ d) }, continues_any g act o)
+
+pub unsettled_local : (me : Id) (k : Bool) (g : NodeHistory) → IsLocal me (settled k g) → IsLocal me g
+unsettled_local me k NoActs l = l
+unsettled_local me k (Then g act (Disk was)) l = (l.0, record { follows = l.1.follows; up = l.1.up }, l.2)
+unsettled_local me k (Then g act (Crashed was)) l = (l.0, record { follows = l.1.follows; up = l.1.up }, l.2)
+unsettled_local me k (Then g (Open found) (Answered reply)) l = l
+unsettled_local me k (Then g act (Answered reply)) l = local_before me k g act reply refl (unsettled_local me k g l.0) l.1
+
 -- a first opening still finds that nothing is kept
 
 begins_less : (g : NodeHistory) (act : Act) (o : Outcome) → BeginsEmpty (Then g act o) → BeginsEmpty g
@@ -96,3 +109,10 @@ settled_begins k (Then g act (Disk was)) b = begins_by g act (Disk was) (Disk k)
 settled_begins k (Then g act (Crashed was)) b = begins_by g act (Crashed was) (Crashed k) b
 settled_begins k (Then g (Open found) (Answered reply)) b = b
 settled_begins k (Then g act (Answered reply)) b = begins_then (settled k g) act (Answered reply) refl (settled_begins k g (begins_less g act (Answered reply) b))
+
+pub unsettled_begins : (k : Bool) (g : NodeHistory) → BeginsEmpty (settled k g) → BeginsEmpty g
+unsettled_begins k NoActs b = b
+unsettled_begins k (Then g act (Disk was)) b = begins_by g act (Disk k) (Disk was) b
+unsettled_begins k (Then g act (Crashed was)) b = begins_by g act (Crashed k) (Crashed was) b
+unsettled_begins k (Then g (Open found) (Answered reply)) b = b
+unsettled_begins k (Then g act (Answered reply)) b = begins_then g act (Answered reply) refl (unsettled_begins k g (begins_less (settled k g) act (Answered reply) b))

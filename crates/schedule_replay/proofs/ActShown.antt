@@ -15,6 +15,7 @@ use Rattle.world_model.specs.Replies.{reply_of}
 use Rattle.world_model.specs.Histories.{is_opening}
 use Rattle.world_model.proofs.Guards.{boot_guard, start_guard, value_guard, publish_guard, response_guard, commit_guard}
 use Rattle.trace_text.specs.Endings.{ending_of}
+use Rattle.event_text.specs.Steps.{act_lines}
 use Rattle.trace_text.specs.Trace.{act_line, outcome_line, won_line, won_text, committed_line, committed_text, sent_line, results}
 use Rattle.replay_node.specs.Did.{is_won, won_by}
 use Rattle.replay_node.specs.NodeDisk.{CallsEnd, Done, Failed, StoppedIn}
@@ -22,6 +23,7 @@ use Rattle.replay_node.specs.NodeWorld.{outcome_by}
 use Rattle.schedule_replay.specs.Steps.{sends_text, shown_text}
 use Rattle.schedule_replay.specs.Told.{message_in, outcome_shown}
 use Rattle.schedule_replay.specs.ActShown.{won_term, state_committed, message_sent, act_shown}
+use Rattle.schedule_replay.specs.ClusterSteps.{act_text}
 
 -- ---- the text of an act
 
@@ -81,3 +83,8 @@ pub outcome_shows : (me : Id) (g : NodeHistory) (act : Act) (end : CallsEnd) →
 outcome_shows me g act Done shut = reply_shown me g act (reply_of me g act) shut refl
 outcome_shows me g act Failed shut = λ number. refl
 outcome_shows me g act (StoppedIn way) shut = λ number. refl
+
+-- ---- of whole nodes, where frames are shown in place of the message
+
+pub cluster_act_shown : (count : ℕ) (published : Option ClusterState) (n : Id) (act : Act) (o : Outcome) → is_opening act ≡ false → act_lines n published act o ≡ act_text (act_shown count published n act o)
+cluster_act_shown count published n act o shut = λ i. outcome_text n o act shut i ++ won_text_is n act o i ++ committed_text_is o published i

@@ -1,5 +1,9 @@
 pub mod ActShown
 pub mod Along
+pub mod ClusterLaws
+pub mod ClusterPieces
+pub mod ClusterPlays
+pub mod ClusterTelling
 pub mod Committing
 pub mod Examples
 pub mod FitLines
@@ -13,6 +17,7 @@ pub mod Right
 pub mod Room
 pub mod Settled
 pub mod Showing
+pub mod Sound
 pub mod Sources
 pub mod Telling
 pub mod TraceLaws

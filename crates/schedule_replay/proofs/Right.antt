@@ -39,7 +39,7 @@ act_right w n act shut = from (w.down n)
       shut = shut;
     }
 
-opening_right : (h : History) (n : Id) (end : CallsEnd) (found : Kept) → IsRight h (opening_step end n found)
+pub opening_right : (h : History) (n : Id) (end : CallsEnd) (found : Kept) → IsRight h (opening_step end n found)
 opening_right h n Done found = tt
 opening_right h n Failed found = tt
 opening_right h n (StoppedIn way) found = tt

@@ -45,7 +45,7 @@ taken_told : (w : World) (n : Id) (m : Option Message) → told_from w.history (
 taken_told w n None = quiet_told w.history (w.down n) (WasDown n) Unsent refl refl
 taken_told w n (Some m) = act_told w n (taking m) (taking_shut m)
 
-opening_told : (h : History) (n : Id) (end : CallsEnd) (found : Kept) → told_by h (opening_step end n found) ≡ history_opened end h n found
+pub opening_told : (h : History) (n : Id) (end : CallsEnd) (found : Kept) → told_by h (opening_step end n found) ≡ history_opened end h n found
 opening_told h n Done found = refl
 opening_told h n Failed found = refl
 opening_told h n (StoppedIn way) found = refl
@@ -145,7 +145,7 @@ if_no_line : (b : Bool) (x y : Step) → line_in x ≡ [] → line_in y ≡ [] �
 if_no_line true x y p q = append-nil (line_in x) ∙ p
 if_no_line false x y p q = append-nil (line_in y) ∙ q
 
-opening_no_line : (end : CallsEnd) (n : Id) (found : Kept) → line_in (opening_step end n found) ≡ []
+pub opening_no_line : (end : CallsEnd) (n : Id) (found : Kept) → line_in (opening_step end n found) ≡ []
 opening_no_line Done n found = refl
 opening_no_line Failed n found = refl
 opening_no_line (StoppedIn way) n found = refl

@@ -1,4 +1,9 @@
 pub mod ActShown
+pub mod ClusterLaws
+pub mod ClusterSteps
+pub mod ClusterTold
+pub mod ClusterTrace
+pub mod ClusterTraceSteps
 pub mod Legal
 pub mod LineByLine
 pub mod Replayed

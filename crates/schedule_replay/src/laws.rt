@@ -1,4 +1,5 @@
 //! What holds of the history and the trace of every schedule. The calls do nothing: what they promise is proved.
+ghost use Rattle.schedule_replay.specs.ClusterLaws.{LawClusterStepsGoOn, LawClusterTraceAgrees, LawClusterTraceShows, LawClusterTraceTells};
 ghost use Rattle.schedule_replay.specs.Legal.{LawReplayIsLegal};
 ghost use Rattle.schedule_replay.specs.TraceLaws.{LawStepsGoOn, LawTraceAgrees, LawTraceFollows, LawTraceShows, LawTraceTells};
 
@@ -32,4 +33,26 @@ pub fn law_trace_shows()
 /// No two `won` lines of one term name two nodes, and no two `committed` lines of one version differ.
 pub fn law_trace_agrees()
     ensures { LawTraceAgrees }
+{}
+
+/// The trace of each schedule of whole nodes is the text of its steps, and the history of the schedule is read off these steps.
+/// The steps echo the lines, and show just the frames that were sent, in order and numbered from 1.
+pub fn law_cluster_trace_tells()
+    ensures { LawClusterTraceTells }
+{}
+
+/// More lines leave the steps of the lines before as they are, also of whole nodes.
+pub fn law_cluster_steps_go_on()
+    ensures { LawClusterStepsGoOn }
+{}
+
+/// Where the history of a schedule of whole nodes is legal, the `won` lines of its trace are the wins of the history, and its
+/// `committed` lines show just the states committed in it.
+pub fn law_cluster_trace_shows()
+    ensures { LawClusterTraceShows }
+{}
+
+/// Then no two `won` lines of one term name two nodes, and no two `committed` lines of one version differ.
+pub fn law_cluster_trace_agrees()
+    ensures { LawClusterTraceAgrees }
 {}

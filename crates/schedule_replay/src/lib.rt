@@ -7,7 +7,8 @@ pub mod replayer;
 pub mod replaying;
 
 pub use laws::{
-    law_replay_is_legal, law_steps_go_on, law_trace_agrees, law_trace_follows, law_trace_shows,
-    law_trace_tells,
+    law_cluster_steps_go_on, law_cluster_trace_agrees, law_cluster_trace_shows,
+    law_cluster_trace_tells, law_replay_is_legal, law_steps_go_on, law_trace_agrees,
+    law_trace_follows, law_trace_shows, law_trace_tells,
 };
 pub use replaying::{ReplayError, replay};

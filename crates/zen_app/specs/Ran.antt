@@ -5,6 +5,7 @@ use Rattle.zen_link.specs.Streams.{Appended, AppendedFront}
 use Rattle.world_model.specs.Histories.{IsLegal}
 use Rattle.world_model.specs.Safety.{IsSafe}
 use Rattle.schedule_text.specs.declared.fault.BadSchedule.{BadSchedule}
+use Rattle.schedule_text.specs.declared.level.Level.TheVariants.{Core}
 use Rattle.schedule_text.specs.declared.schedule.Schedule.{Schedule}
 use Rattle.schedule_text.specs.Spelled.{Spells}
 use Rattle.schedule_text.specs.Reading.{fault_of}
@@ -54,33 +55,33 @@ pub record IsSafeTrace (s : Schedule) : Type 0 where
   -- no two `won` lines of one term name two nodes, and no two `committed` lines of one version differ
   pub agrees : Agrees (steps s)
 
--- the bytes are a schedule, and its whole trace was written and nothing else
+-- the bytes are a schedule of level core, and its whole trace was written and nothing else
 pub record Replayed (bytes : List ℕ) (was now : Option (List ℕ)) : Type 0 where
   pub schedule : Schedule
-  pub spelled : Spells bytes schedule
+  pub spelled : Spells Core bytes schedule
   pub written : Appended was now (trace schedule)
   pub safe_trace : IsSafeTrace schedule
 
 -- the same, but only a prefix of the trace was written
 pub record ReplayedPrefix (bytes : List ℕ) (was now : Option (List ℕ)) : Type 0 where
   pub schedule : Schedule
-  pub spelled : Spells bytes schedule
+  pub spelled : Spells Core bytes schedule
   pub written : AppendedFront was now (trace schedule)
   pub safe_trace : IsSafeTrace schedule
 
--- What was read of the bytes is no schedule, and which line is bad and why was written: some schedule has the same lines before it, and none has
--- the same lines up to it.
+-- What was read of the bytes is no schedule of level core, and which line is bad and why was written: some schedule has the same lines before
+-- it, and none has the same lines up to it.
 pub record Refused (bytes : List ℕ) (was now : Option (List ℕ)) : Type 0 where
   pub bad : BadSchedule
-  pub fault : fault_of (read_of bytes) ≡ Some bad
-  pub first : IsFirstBad bad.line (read_of bytes)
+  pub fault : fault_of Core (read_of bytes) ≡ Some bad
+  pub first : IsFirstBad Core bad.line (read_of bytes)
   pub written : Appended was now (bad_line bad)
 
 -- the same, but only a prefix of that line was written
 pub record RefusedPrefix (bytes : List ℕ) (was now : Option (List ℕ)) : Type 0 where
   pub bad : BadSchedule
-  pub fault : fault_of (read_of bytes) ≡ Some bad
-  pub first : IsFirstBad bad.line (read_of bytes)
+  pub fault : fault_of Core (read_of bytes) ≡ Some bad
+  pub first : IsFirstBad Core bad.line (read_of bytes)
   pub written : AppendedFront was now (bad_line bad)
 
 -- ---- how a run ends
@@ -99,9 +100,9 @@ ReplayEnds bytes left_now was now other = ⊥
 pub record Replays (bytes : List ℕ) (source source_now : SourceView) (sink sink_now : SinkView) (status : Status) : Type 0 where
   pub ended : ReplayEnds bytes source_now.left sink.written sink_now.written status
   -- whatever the status: of a schedule a prefix of its trace was written, and the history that the trace tells is legal and safe
-  pub traced : (s : Schedule) → Spells bytes s → AppendedFront sink.written sink_now.written (trace s) × IsSafeTrace s
+  pub traced : (s : Schedule) → Spells Core bytes s → AppendedFront sink.written sink_now.written (trace s) × IsSafeTrace s
   -- a schedule, with no fault counted, is replayed to the end, unless memory runs out
-  pub complete : (s : Schedule) → Spells bytes s → (Rose source.faults source_now.faults → ⊥) → (Rose sink.faults sink_now.faults → ⊥)
+  pub complete : (s : Schedule) → Spells Core bytes s → (Rose source.faults source_now.faults → ⊥) → (Rose sink.faults sink_now.faults → ⊥)
       → (status ≡ exit.Ok) ⊎ (status ≡ exit.NoMemory)
 
 -- the statuses with which no replay ends

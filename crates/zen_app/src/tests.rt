@@ -3,7 +3,7 @@ mod rows;
 
 use crate::{Status, run};
 use rows::{RULES, Row, SAFE_COMMITS, SAFE_JOINS, SAFE_VALUES, STOPS};
-use schedule_text::{Text, read_schedule, write_schedule};
+use schedule_text::{Level, Text, read_schedule, write_schedule};
 use std::alloc::{AllocError, Global};
 use std::process::Abort;
 use std::test::Fail;
@@ -359,7 +359,7 @@ fn random_schedules_replay_as_by_the_second_replay(rt: HostRuntime) -> Result<()
         let drawn = random::schedule(rt.alloc(), seed)?;
         assert!(rt; drawn.lines.as_slice().len() == 200, "{seed}");
         let text = write_schedule(rt.alloc(), &drawn)?;
-        let read = read_schedule(rt.alloc(), text.as_bytes());
+        let read = read_schedule(rt.alloc(), text.as_bytes(), Level::Core);
         assert!(rt; read.is_ok(), "{seed}");
         if let Ok(read) = read {
             let again = write_schedule(rt.alloc(), &read)?;
@@ -466,7 +466,7 @@ fn a_fault_of_the_disk_the_host_or_the_output_ends_an_inspection(
             assert!(rt; ended.sink.as_bytes().is_empty(), "{call}");
         }
         let later = Case {
-            device_calls: &[calls + 1],
+            device_calls: &[calls.saturating_add(1)],
             ..inspection(file)
         };
         assert!(rt; ran(rt.alloc(), later)?.status == Status::Ok, "{calls}");

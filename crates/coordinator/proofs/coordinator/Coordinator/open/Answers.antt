@@ -1,4 +1,12 @@
-use Rattle.std.proofs.Common.{sym, ap, ◌∙◌}
+use Rattle.std.proofs.Common.{◌≤◌, length, sym, ap, subst, ◌∙◌}
+use Rattle.cluster_state.specs.declared.state.Kept.{Kept}
+use Rattle.cluster_state.specs.Settings.{IsSettings}
+use Rattle.policy_model.specs.Fitting.{IsFitView}
+use Rattle.policy_model.specs.Views.{View}
+use Rattle.policy_model.proofs.Fits.{opened_fit}
+use Rattle.policy_model.proofs.Frames.{opened_small}
+use Rattle.policy_model.specs.Bounds.{IsSmallView}
+use Rattle.voting_config.specs.Ids.{most_ids}
 use Rattle.world_model.specs.NodeState.{NodeState}
 use Rattle.peer_finder.specs.Peers.{PeerFinder}
 use Rattle.fault_checks.specs.Followers.{Followers}
@@ -21,3 +29,14 @@ returns-clause-stands g c = λ life continues.
     ∙ ap (λ (f : Followers). record (opened c.args.settings (g.K.Keeper.record_of c.args.keeper)) { followers = f; tasks = c.new-4.result }) c.new-3.ensures
     ∙ ap (λ (t : Tasks). record (opened c.args.settings (g.K.Keeper.record_of c.args.keeper)) { tasks = t }) c.new-4.ensures
     ∙ sym (opening_moves c.args.settings life (g.K.Keeper.record_of c.args.keeper) continues)
+
+pub returns-clause-fit : goal.returns-clause-fit
+returns-clause-fit g c =
+    let settings = subst (λ (r : Kept). IsSettings r.accepted.value.settings) c.kept.ensures.kept c.texts.ensures.settings in
+    subst (λ (v : View). IsFitView v) (sym (returns-clause-view g c))
+    (opened_fit c.args.settings (g.K.Keeper.record_of c.args.keeper) (record { term = c.kept.ensures.bounded; accepted = c.kept.ensures.fit; settings = settings }))
+
+pub returns-clause-small : goal.returns-clause-small
+returns-clause-small g c =
+    subst (λ (v : View). IsSmallView v) (sym (returns-clause-view g c))
+    (opened_small c.args.settings (g.K.Keeper.record_of c.args.keeper) (subst (λ (r : Kept). length r.accepted.value.members ≤ most_ids) c.kept.ensures.kept c.len.ensures.fits))

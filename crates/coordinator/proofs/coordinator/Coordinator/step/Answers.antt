@@ -1,7 +1,9 @@
-use Rattle.std.proofs.Common.{true≢false, sym, ap, ◌∙◌}
+use Rattle.std.proofs.Common.{true≢false, sym, ap, subst, ◌∙◌, arith}
+use Rattle.std.specs.Prelude.{Option}
+use Rattle.cluster_state.specs.declared.state.Kept.{Kept}
 use Rattle.coordinator.proofs.Entering.{event_ready, event_leaves, life_leaves}
-use Rattle.coordinator.proofs.Limiting.{within}
-use Rattle.coordinator.proofs.Sealing.{steps, sealed_not_stopped}
+use Rattle.coordinator.proofs.Limiting.{within, few}
+use Rattle.coordinator.proofs.Sealing.{steps, lasting, sealed_fine, sealed_not_stopped}
 use Rattle.coordinator.proofs.coordinator.Coordinator.step.Goals as goal
 
 pub returns-clause-steps : goal.returns-clause-steps
@@ -23,3 +25,20 @@ returns-clause-within g c =
 pub returns-clause-stopped : goal.returns-clause-stopped
 returns-clause-stopped g c =
     (λ e. absurd (sealed_not_stopped c.take_event-ended.result c.args.event _ c.seal.result c.seal.ensures e), λ stopped. absurd (true≢false (sym stopped ∙ ap (λ x. g.K.Keeper.has_stopped x) (sym c.keeper.ensures) ∙ sym c.stopped.ensures ∙ c.if-stopped.false)))
+
+pub returns-clause-durable : goal.returns-clause-durable
+returns-clause-durable g c =
+    let keeper = c.take_event-ended.new.self.core.keeper in
+    let now = g.K.Keeper.moment keeper in
+    lasting g.K.Keeper c.take_event-ended.result c.seal.result c.args.self.now c.take_event-ended.new.self c.args.event _ _ c.in-Ok.ensures.shown c.take_event-ended.ensures.does c.seal.ensures (ap (λ x. g.K.Keeper.has_stopped x) (sym c.keeper.ensures) ∙ sym c.stopped.ensures ∙ c.if-stopped.false)
+    (λ told running found. (
+      λ left. g.met.K.Keeper.only_kept keeper found told running left,
+      λ is. subst (λ (f : Option Kept). g.K.Keeper.left_since keeper now f) (sym is) (g.met.K.Keeper.may_stay keeper now told (omega arith) running),
+    ))
+
+pub returns-clause-start : goal.returns-clause-start
+returns-clause-start g c = λ start up. sealed_fine c.take_event-ended.result c.args.event _ c.seal.result c.seal.ensures (c.take_event-ended.ensures.start start)
+
+pub returns-clause-few : goal.returns-clause-few
+returns-clause-few g c =
+    few g.K.Keeper c.take_event-ended.result c.seal.result c.args.self.now c.take_event-ended.new.self c.args.event _ _ c.in-Ok.ensures.shown c.take_event-ended.ensures.does c.seal.ensures c.law_event_holds_set.ensures

@@ -1,0 +1,44 @@
+-- The laws of a schedule of whole nodes.
+use Rattle.std.proofs.Common.{List, [], sym, ◌∙◌, ap, subst}
+use Rattle.world_model.specs.Histories.{History, NoEntries, sent, IsLegal}
+use Rattle.schedule_text.specs.declared.schedule.Schedule.{Schedule}
+use Rattle.replay_node.specs.Clusters.{fresh_cluster, replayed, replayed_history}
+use Rattle.schedule_replay.specs.Showing.{Shows}
+use Rattle.schedule_replay.specs.Steps.{Step}
+use Rattle.schedule_replay.specs.Told.{numbered, told}
+use Rattle.schedule_replay.specs.ClusterLaws.{LawClusterTraceTells, LawClusterStepsGoOn, LawClusterTraceShows, LawClusterTraceAgrees}
+use Rattle.schedule_replay.specs.ClusterTrace.{trace}
+use Rattle.schedule_replay.specs.ClusterTold.{core_of}
+use Rattle.schedule_replay.specs.ClusterTraceSteps.{cluster_steps}
+use Rattle.schedule_replay.proofs.Along.{numbers}
+use Rattle.schedule_replay.proofs.Showing.{sound_shows, shown_agrees}
+use Rattle.schedule_replay.proofs.Sound.{sound_along}
+use Rattle.schedule_replay.proofs.ClusterPieces.{Piece}
+use Rattle.schedule_replay.proofs.ClusterTelling.{lines_piece, go_on}
+
+whole : (s : Schedule) → Piece NoEntries [] (replayed_history s) (replayed s).frames (trace s) s.lines (cluster_steps s)
+whole s = lines_piece s.nodes s.initial (fresh_cluster s.nodes s.initial) s.lines
+
+pub tells : LawClusterTraceTells
+tells s =
+    let p = whole s in
+    record {
+      text = p.text_is;
+      lines = p.lines;
+      history = p.history;
+      messages = numbers NoEntries (core_of (cluster_steps s)) p.right ∙ ap (λ (h : History). numbered 0 (sent h)) p.history;
+      frames = p.frames;
+    }
+
+pub goes_on : LawClusterStepsGoOn
+goes_on s more = go_on s.nodes s.initial (fresh_cluster s.nodes s.initial) s.lines more
+
+pub shows : LawClusterTraceShows
+shows s l =
+    let p = whole s in
+    let xs : List Step = core_of (cluster_steps s) in
+    let legal : IsLegal s.initial (told xs) = subst (λ (h : History). IsLegal s.initial h) (sym p.history) l in
+    subst (λ (h : History). Shows h xs) p.history (sound_shows s.initial xs (sound_along s.initial NoEntries xs p.right legal) legal)
+
+pub agrees : LawClusterTraceAgrees
+agrees s l = shown_agrees s.initial (replayed_history s) (core_of (cluster_steps s)) l (shows s l)

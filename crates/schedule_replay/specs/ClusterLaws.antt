@@ -1,0 +1,37 @@
+-- What the trace of a schedule of whole nodes tells of its history, as statements. Part of the statement.
+use Rattle.std.specs.Prelude.{◌≡◌, List, ◌++◌}
+use Rattle.world_model.specs.Histories.{IsLegal, sent}
+use Rattle.schedule_text.specs.declared.schedule.Line.{Line}
+use Rattle.schedule_text.specs.declared.schedule.Schedule.{Schedule}
+use Rattle.replay_node.specs.Clusters.{replayed, replayed_history}
+use Rattle.schedule_replay.specs.Showing.{Shows, Agrees}
+use Rattle.schedule_replay.specs.Told.{told, lines_of, messages_of, numbered}
+use Rattle.schedule_replay.specs.ClusterTrace.{trace}
+use Rattle.schedule_replay.specs.ClusterSteps.{ClusterStep, cluster_text}
+use Rattle.schedule_replay.specs.ClusterTold.{core_of, frames_in, numbered_frames}
+use Rattle.schedule_replay.specs.ClusterTraceSteps.{cluster_steps}
+
+-- the trace is the text of these steps, which echo the lines in order; the history is read off them; and they show just the frames that were
+-- sent, in order and numbered from 1
+pub record ClusterTells (s : Schedule) (xs : List ClusterStep) : Type 0 where
+  pub text : trace s ≡ cluster_text xs
+  pub lines : lines_of (core_of xs) ≡ s.lines
+  pub history : told (core_of xs) ≡ replayed_history s
+  pub messages : messages_of (core_of xs) ≡ numbered 0 (sent (replayed_history s))
+  pub frames : frames_in xs ≡ numbered_frames 0 (replayed s).frames
+
+-- so it is for each schedule
+abbrev pub LawClusterTraceTells : Type 0
+LawClusterTraceTells = (s : Schedule) → ClusterTells s (cluster_steps s)
+
+-- more lines leave the steps of the lines before as they are
+abbrev pub LawClusterStepsGoOn : Type 0
+LawClusterStepsGoOn = (s : Schedule) (more : List Line) → (rest : List ClusterStep) × (cluster_steps (record s { lines = s.lines ++ more }) ≡ cluster_steps s ++ rest)
+
+-- where the history is legal, the `won` lines are its wins, and the `committed` lines show just the states committed in it
+abbrev pub LawClusterTraceShows : Type 0
+LawClusterTraceShows = (s : Schedule) → IsLegal s.initial (replayed_history s) → Shows (replayed_history s) (core_of (cluster_steps s))
+
+-- then two `won` lines of one term name one node, and two `committed` lines of one version show one state
+abbrev pub LawClusterTraceAgrees : Type 0
+LawClusterTraceAgrees = (s : Schedule) → IsLegal s.initial (replayed_history s) → Agrees (core_of (cluster_steps s))
