@@ -21,7 +21,7 @@ use Rattle.policy_model.specs.Fitting.{IsFitView}
 use Rattle.coordinator.specs.Lives.{StandsForLife}
 use Rattle.coordinator.specs.Views.{IsReady, view_in}
 use Rattle.replay_node.specs.Clusters.{first_life, settings_of}
-use Rattle.schedule_replay.specs.OwnStands.{LifeFor, OwnDone}
+use Rattle.schedule_replay.specs.OwnStands.{LifeFor, NodeFor, OwnDone}
 use Rattle.schedule_replay.specs.Own.{Own, own_restart, own_restart_frames, own_restart_results}
 use Rattle.schedule_replay.specs.OpenNodes.{Node, keeper}
 use Rattle.schedule_replay.specs.declared.cluster.node.ClusterNode.{ClusterNode}
@@ -58,5 +58,12 @@ Restarts nodes initial old new fuse frames frames_now was now =
     let s : Settings = settings_of nodes initial old.me in
     (own : Own) → ClosedFor s old fuse own → OwnDone s new (own_restart s own) frames frames_now (own_restart_frames s own) was now (own_restart_results s (length frames) own)
 
+-- the same of a node that was opened only where its journal was closed
+abbrev pub Reopens : List Id → List Id → (old new : ClusterNode) → (frames frames_now : List Frame) → (was now : List ℕ) → Type 0
+Reopens nodes initial old new frames frames_now was now =
+    let s : Settings = settings_of nodes initial old.me in
+    (own : Own) → NodeFor s old own false → OwnDone s new (own_restart s own) frames frames_now (own_restart_frames s own) was now (own_restart_results s (length frames) own)
+
+-- what a node is before the first line
 abbrev pub fresh_own : Settings → Own
 fresh_own s = record { life = first_life s; node = fresh_node }

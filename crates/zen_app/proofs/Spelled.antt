@@ -1,10 +1,11 @@
 -- The trace of a schedule that is spelled is safe, at each level.
-use Rattle.std.proofs.Common.{◌≡◌, ℕ, ◌≤◌, ◌<◌, List, [], length, refl, ap, arith}
+use Rattle.std.proofs.Common.{◌≡◌, ℕ, ◌≤◌, ◌<◌, List, [], ◌∷◌, ◌++◌, true, length, refl, ap, subst, arith}
 use Rattle.std.specs.List.{AllByRecursion}
-use Rattle.voting_config.specs.Ids.{IsIdSet}
+use Rattle.voting_config.specs.Ids.{IsIdSet, has}
 use Rattle.agreement.proofs.Laws.{safe_of_legal}
 use Rattle.schedule_text.specs.declared.level.Level.{Level}
 use Rattle.schedule_text.specs.declared.level.Level.TheVariants.{Core, Node}
+use Rattle.schedule_text.specs.declared.schedule.Line.{Line}
 use Rattle.schedule_text.specs.declared.schedule.Schedule.{Schedule}
 use Rattle.schedule_text.specs.Limits.{most_bytes}
 use Rattle.schedule_text.specs.Lines.{FitsLine}
@@ -18,7 +19,8 @@ use Rattle.schedule_replay.proofs.WorldLegal.{replay_is_legal}
 use Rattle.schedule_replay.proofs.ClusterLaws.{tells as cluster_tells, shows as cluster_shows, agrees as cluster_agrees}
 use Rattle.cluster_replay.proofs.Schedules.{lives_follow, cluster_replay_is_legal, cluster_replies_are_true}
 use Rattle.cluster_replay.proofs.Spelled.{well_formed}
-use Rattle.zen_app.specs.SafeTrace.{IsSafeTrace, IsSafeClusterTrace, IsSafeTraceAt}
+use Rattle.cluster_replay.specs.Laws.{IsWellFormed as IsClusterSchedule, node_of}
+use Rattle.zen_app.specs.SafeTrace.{IsSafeTrace, IsSafeClusterTrace, IsSafeTraceAt, up_to}
 
 pub spells_fits : (level : Level) (bytes : List ℕ) (s : Schedule) → Spells level bytes s → AllByRecursion (FitsLine level s.nodes) s.lines
 spells_fits level _ _ Nothing = tt
@@ -52,6 +54,17 @@ spells_safe_core bytes s spelled =
 
 -- ---- level node
 
+all_first : {A : Type 0} (P : A → Type 0) (xs ys : List A) → AllByRecursion P (xs ++ ys) → AllByRecursion P xs
+all_first P [] ys all = tt
+all_first P (x ∷ xs) ys all = (all.0, all_first P xs ys all.1)
+
+well_up_to : (s : Schedule) → IsClusterSchedule s → (first rest : List Line) → s.lines ≡ first ++ rest → IsClusterSchedule (up_to s first)
+well_up_to s well first rest e = record {
+  nodes = well.nodes;
+  initial = well.initial;
+  lines = all_first _ first rest (subst (λ (ls : List Line). AllByRecursion (λ (l : Line). has (node_of l) s.nodes ≡ true) ls) e well.lines);
+}
+
 spells_safe_cluster : (bytes : List ℕ) (s : Schedule) → Spells Node bytes s → IsSafeClusterTrace s
 spells_safe_cluster bytes s spelled =
     let well = well_formed bytes s spelled in
@@ -59,7 +72,8 @@ spells_safe_cluster bytes s spelled =
     record {
       legal = legal;
       safe = (safe_of_legal s.initial (replayed_history s) legal).0;
-      nodes = λ n listed. record { life = lives_follow s well n listed; replies = cluster_replies_are_true s well n listed };
+      nodes = λ first rest e n listed. let by_then = well_up_to s well first rest e in
+          record { life = lives_follow (up_to s first) by_then n listed; replies = cluster_replies_are_true (up_to s first) by_then n listed };
       tells = cluster_tells s;
       shows = cluster_shows s legal;
       agrees = cluster_agrees s legal;

@@ -1,10 +1,11 @@
 -- What is said of the trace of a schedule, at each level. Part of the statement of `run`.
-use Rattle.std.specs.Prelude.{◌≡◌, true}
+use Rattle.std.specs.Prelude.{◌≡◌, true, List, ◌++◌}
 use Rattle.voting_config.specs.Ids.{Id, has}
 use Rattle.world_model.specs.Histories.{IsLegal}
 use Rattle.world_model.specs.Safety.{IsSafe}
 use Rattle.schedule_text.specs.declared.level.Level.{Level}
 use Rattle.schedule_text.specs.declared.level.Level.TheVariants.{Core, Node}
+use Rattle.schedule_text.specs.declared.schedule.Line.{Line}
 use Rattle.schedule_text.specs.declared.schedule.Schedule.{Schedule}
 use Rattle.schedule_replay.specs.Replayed.{replayed}
 use Rattle.schedule_replay.specs.Showing.{Shows, Agrees}
@@ -41,12 +42,17 @@ pub record LivesByPolicy (s : Schedule) (n : Id) : Type 0 where
   -- request that was processed later may have undone it. A `state` shows a committed state.
   pub replies : RepliesTruly (replayed_history s) (settings_of s.nodes s.initial n) (replayed_life s n)
 
+-- the schedule as it stands at the end of one of its lines
+abbrev pub up_to : Schedule → List Line → Schedule
+up_to s first = record s { lines = first }
+
 -- What the nodes did by the policy is a legal history, so they keep the rules of the core and take no message that was not sent. That very history
 -- is safe, as at level core, and the trace tells it.
 pub record IsSafeClusterTrace (s : Schedule) : Type 0 where
   pub legal : IsLegal s.initial (replayed_history s)
   pub safe : IsSafe s.initial (replayed_history s)
-  pub nodes : (n : Id) → has n s.nodes ≡ true → LivesByPolicy s n
+  -- at the end of each line, so each reply is true of the history up to the end of its event
+  pub nodes : (first rest : List Line) → s.lines ≡ first ++ rest → (n : Id) → has n s.nodes ≡ true → LivesByPolicy (up_to s first) n
   -- the trace is the text of its steps; this history, the frames that were sent and the replies of each node are read off these steps
   pub tells : ClusterTells s (cluster_steps s)
   -- the `won` lines are the wins of this history, and the `committed` lines show the states committed in it

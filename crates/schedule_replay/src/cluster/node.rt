@@ -8,16 +8,16 @@ ghost use Rattle.replay_node.specs.NodeWorld.{needs_opening};
 ghost use Rattle.event_text.specs.Events.{event_results};
 ghost use Rattle.event_text.specs.Published.{published_after};
 ghost use Rattle.event_text.specs.Steps.{told_as};
-ghost use Rattle.schedule_replay.specs.OwnStands.{ClosesTo, NodeFor, OwnDoes, OwnDone};
-ghost use Rattle.schedule_replay.specs.Own.{Own, own_crash, own_event_if_up, own_frames_if_up, own_order, own_restart, own_restart_frames, own_restart_results, own_results_if_up};
+ghost use Rattle.schedule_replay.specs.OwnStands.{ClosesTo, NodeFor, OwnDoes};
+ghost use Rattle.schedule_replay.specs.Own.{Own, own_crash, own_event_if_up, own_frames_if_up, own_order, own_results_if_up};
 ghost use Rattle.replay_node.specs.Clusters.{settings_of as settings_in};
-ghost use Rattle.schedule_replay.specs.Openings.{ClosedFor, OverJournal, Restarts, StaysDownAt, fresh_own};
+ghost use Rattle.schedule_replay.specs.Openings.{ClosedFor, OverJournal, Reopens, Restarts, StaysDownAt, fresh_own};
 
 use crate::cluster::stepping::{Ended, OpenNode, step};
 use cluster_state::ClusterState;
 use coordinator::{Coordinator, Entries, Sealed};
 use event_text::{write_event, write_struck_event};
-use policy_model::{Event, NodeIds, Settings, law_opened_is_fit};
+use policy_model::{Event, NodeIds, Settings};
 use replay_node::disk::{empty_disk, restarted, stopped};
 use schedule_text::Text;
 use state_journal::{Keeper, OpenError, StateJournal};
@@ -224,7 +224,7 @@ impl ClusterNode {
         text: &mut Text,
     ) -> Result<(), AllocError>
         requires { (own : Own) × NodeFor (settings_in ids.now initial.now self.old.me) self.old own false }
-        ensures { OnOk result ((own : Own) → NodeFor (settings_in ids.now initial.now self.old.me) self.old own false → OwnDone (settings_in ids.now initial.now self.old.me) self.new (own_restart (settings_in ids.now initial.now self.old.me) own) frames.old.items frames.new.items (own_restart_frames (settings_in ids.now initial.now self.old.me) own) text.old text.new (own_restart_results (settings_in ids.now initial.now self.old.me) (length frames.old.items) own)) }
+        ensures { OnOk result (Reopens ids.now initial.now self.old self.new frames.old.items frames.new.items text.old text.new) }
     {
         match take_slot(&mut self.slot, alloc) {
             Slot::Down(fuse) => self.open(alloc, ids, initial, fuse, frames, text),
@@ -311,7 +311,5 @@ fn node_over(alloc: Global, settings: Settings, journal: StateJournal<Fuse<MemDi
     requires { journal.log.stopped ≡ false }
     ensures { OverJournal settings journal result }
 {
-    law_opened_is_fit();
-    let _ = journal.kept().accepted.value.settings.texts();
     Coordinator::open(alloc, settings, journal)
 }
