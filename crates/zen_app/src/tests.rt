@@ -71,8 +71,17 @@ fn ran(alloc: Global, case: Case<'_>) -> Result<Ended, AllocError> {
     Ok(Ended { status, sink, host })
 }
 
-fn replayed<'a>(alloc: Global, replay: Case<'a>, input: &'a [u8]) -> Result<Ended, AllocError> {
-    ran(alloc, Case { input, ..replay })
+fn replayed(alloc: Global, level: Level, input: &[u8]) -> Result<Ended, AllocError> {
+    match level {
+        Level::Core => ran(alloc, Case { input, ..REPLAY }),
+        Level::Node => ran(
+            alloc,
+            Case {
+                input,
+                ..REPLAY_NODES
+            },
+        ),
+    }
 }
 
 // The schedule of a row and its trace.
@@ -95,11 +104,11 @@ fn texts(alloc: Global, lines: &[&str]) -> Result<(Text, Text), AllocError> {
     Ok((schedule, trace))
 }
 
-// Each row's schedule is replayed by these words, and must give its trace.
-fn replays_all(rt: &impl Abort, alloc: Global, replay: Case<'_>, rows: &[Row]) -> Result<(), Fail> {
+// Each row's schedule is replayed at this level, and must give its trace.
+fn replays_all(rt: &impl Abort, alloc: Global, level: Level, rows: &[Row]) -> Result<(), Fail> {
     for (name, lines) in rows {
         let (schedule, trace) = texts(alloc, lines)?;
-        let ended = replayed(alloc, replay, schedule.as_bytes())?;
+        let ended = replayed(alloc, level, schedule.as_bytes())?;
         assert!(rt; ended.status == Status::Ok, "{name}");
         assert!(rt; ended.sink.as_bytes() == trace.as_bytes(), "{name}");
         assert!(rt; ended.host.asked().is_empty(), "{name}");
@@ -109,34 +118,34 @@ fn replays_all(rt: &impl Abort, alloc: Global, replay: Case<'_>, rows: &[Row]) -
 
 #[test]
 fn elections_and_publications_have_these_traces(rt: HostRuntime) -> Result<(), Fail> {
-    replays_all(&rt, rt.alloc(), REPLAY, &RULES)
+    replays_all(&rt, rt.alloc(), Level::Core, &RULES)
 }
 
 #[test]
 fn stops_faults_and_restarts_have_these_traces(rt: HostRuntime) -> Result<(), Fail> {
-    replays_all(&rt, rt.alloc(), REPLAY, &STOPS)
+    replays_all(&rt, rt.alloc(), Level::Core, &STOPS)
 }
 
 #[test]
 fn elections_that_would_be_unsafe_without_one_guard_are_refused(
     rt: HostRuntime,
 ) -> Result<(), Fail> {
-    replays_all(&rt, rt.alloc(), REPLAY, &SAFE_JOINS)
+    replays_all(&rt, rt.alloc(), Level::Core, &SAFE_JOINS)
 }
 
 #[test]
 fn values_that_would_be_unsafe_without_one_guard_are_refused(rt: HostRuntime) -> Result<(), Fail> {
-    replays_all(&rt, rt.alloc(), REPLAY, &SAFE_VALUES)
+    replays_all(&rt, rt.alloc(), Level::Core, &SAFE_VALUES)
 }
 
 #[test]
 fn commits_that_would_be_unsafe_without_one_guard_are_refused(rt: HostRuntime) -> Result<(), Fail> {
-    replays_all(&rt, rt.alloc(), REPLAY, &SAFE_COMMITS)
+    replays_all(&rt, rt.alloc(), Level::Core, &SAFE_COMMITS)
 }
 
 #[test]
 fn whole_nodes_have_these_traces(rt: HostRuntime) -> Result<(), Fail> {
-    replays_all(&rt, rt.alloc(), REPLAY_NODES, &WHOLE_NODES)
+    replays_all(&rt, rt.alloc(), Level::Node, &WHOLE_NODES)
 }
 
 // A node that has elected itself is handed so many puts of different keys, while it publishes the first of them.
@@ -159,7 +168,7 @@ fn puts(alloc: Global, count: u64) -> Result<Text, AllocError> {
 #[test]
 fn a_leader_holds_64_requests_and_refuses_the_next_one(rt: HostRuntime) -> Result<(), Fail> {
     let schedule = puts(rt.alloc(), 65)?;
-    let ended = replayed(rt.alloc(), REPLAY_NODES, schedule.as_bytes())?;
+    let ended = replayed(rt.alloc(), Level::Node, schedule.as_bytes())?;
     assert!(rt; ended.status == Status::Ok);
     let last = "\"v\"}}\nreply a {\"id\":65,\"queue_full\":64}\n";
     assert!(rt; ended.sink.as_bytes().ends_with(last.as_bytes()));
@@ -257,7 +266,7 @@ fn what_a_struck_device_call_leaves_is_found_again(rt: HostRuntime) -> Result<()
         for call in 1..=12 {
             let schedule = struck_schedule(rt.alloc(), strike, call)?;
             let end = struck_end(rt.alloc(), strike, call)?;
-            let ended = replayed(rt.alloc(), REPLAY, schedule.as_bytes())?;
+            let ended = replayed(rt.alloc(), Level::Core, schedule.as_bytes())?;
             assert!(rt; ended.status == Status::Ok, "{call}");
             assert!(rt; ended.sink.as_bytes().ends_with(end.as_bytes()), "{call}");
         }
@@ -272,7 +281,7 @@ fn the_first_bad_line_of_whole_nodes_is_written(rt: HostRuntime) -> Result<(), F
         ("tick a 0", "zen: bad schedule at line 3: Arity\n"),
     ] {
         let schedule = format!(in rt.alloc(); "nodes a\ninitial a\n{line}\n")?;
-        let ended = replayed(rt.alloc(), REPLAY_NODES, schedule.as_bytes())?;
+        let ended = replayed(rt.alloc(), Level::Node, schedule.as_bytes())?;
         assert!(rt; ended.status == Status::BadSchedule, "{line}");
         assert!(rt; ended.sink.as_bytes() == end.as_bytes(), "{line}");
     }
@@ -316,7 +325,7 @@ fn the_first_bad_line_and_its_reason_are_written(rt: HostRuntime) -> Result<(), 
             "zen: bad schedule at line 3: List\n",
         ),
     ] {
-        let ended = replayed(rt.alloc(), REPLAY, schedule.as_bytes())?;
+        let ended = replayed(rt.alloc(), Level::Core, schedule.as_bytes())?;
         assert!(rt; ended.status == Status::BadSchedule, "{schedule}");
         assert!(rt; ended.sink.as_bytes() == line.as_bytes(), "{schedule}");
     }
@@ -417,7 +426,7 @@ fn random_schedules_replay_as_by_the_second_replay(rt: HostRuntime) -> Result<()
             let again = write_schedule(rt.alloc(), &read)?;
             assert!(rt; again.as_bytes() == text.as_bytes(), "{seed}");
         }
-        let ended = replayed(rt.alloc(), REPLAY, text.as_bytes())?;
+        let ended = replayed(rt.alloc(), Level::Core, text.as_bytes())?;
         assert!(rt; ended.status == Status::Ok, "{seed}");
         assert_eq!(rt; ended.sink.as_bytes().len(), length, "{seed}");
         assert_eq!(rt; fnv(ended.sink.as_bytes()), digest, "{seed}");
