@@ -16,8 +16,8 @@ use Rattle.policy_model.specs.Follows.{items_of}
 use Rattle.policy_model.specs.Moves.{begun}
 use Rattle.policy_model.specs.Rules.{next_of}
 use Rattle.coordinator.specs.Showing.{Shown, showing, showing_all, nothing_shown}
-use Rattle.coordinator.specs.Lives.{StandsForLife, EventEnds, Lasts}
-use Rattle.coordinator.specs.Steps.{Done, IsSealed, IsOrdered, Seals, Steps}
+use Rattle.coordinator.specs.Lives.{StandsForLife, Passes, EventEnds, Lasts}
+use Rattle.coordinator.specs.Steps.{Done, IsSealed, IsOrdered, Seals, GoesOn, Stays, Steps}
 use Rattle.coordinator.specs.Views.{view_in}
 use Rattle.coordinator.specs.declared.coordinator.Coordinator.{Coordinator}
 use Rattle.coordinator.specs.declared.coordinator.EventError.{EventError}
@@ -26,7 +26,7 @@ use Rattle.coordinator.specs.declared.step.Sealed.{Sealed}
 use Rattle.coordinator.specs.declared.step.StepError.{StepError}
 use Rattle.coordinator.specs.declared.step.StepError.TheVariants as step_error
 use Rattle.coordinator.proofs.Appending.{steps-shown, drops-shown}
-use Rattle.coordinator.proofs.Entering.{own_next, own_struck, faultless_next, items_now, enters, did_rise, did_run, did_stops}
+use Rattle.coordinator.proofs.Entering.{own_next, own_struck, faultless_next, items_now, enters, did_later, did_rise, did_run, did_stops}
 
 frames-shown : (o : Shown) (is : List Item) → (showing_all o is).frames ≡ o.frames ++ flat_map frames_in is
 frames-shown o [] = sym (append-nil o.frames)
@@ -96,6 +96,25 @@ module _ {K : Type 0} (k : Ghosts K) where
   steps_by (Err error.Struck) (Err step_error.Memory) old new event shown breaks seals up = absurd seals
   steps_by (Err error.Memory) r old new event shown same seals up =
       subst (λ (x : Result Sealed StepError). Steps k old new event (next_of old.settings (begun (view_in k old) event) event) x) (sym seals) same
+
+  goes_on : (old new : Coordinator K) (event : Event) (items : List Item) → Passes k old new event items → GoesOn k old new
+  goes_on old new event items passes = record { settings = passes.settings; later = did_later k old.core new.core items passes.core }
+
+  -- what holds whatever the node stood for
+  pub stays : (ended : Result (Unit {0}) EventError) (r : Result Sealed StepError) (old new : Coordinator K) (event : Event) (sent shown : Shown) (items : List Item)
+      → EventEnds k ended old new event sent shown items → Seals ended event shown r → Stays k old new r
+  stays (Ok u) (Ok sealed) old new event sent shown items brings seals = goes_on old new event items brings.passes
+  stays (Ok u) (Err e) old new event sent shown items brings seals = absurd seals
+  stays (Err error.Struck) (Ok sealed) old new event sent shown items breaks seals = absurd seals
+  stays (Err error.Struck) (Err (step_error.Disk entries)) old new event sent shown items breaks seals =
+      record {
+        goes_on = goes_on old new event breaks.left breaks.passes;
+        rose = did_rise k old.core new.core items breaks.left breaks.struck breaks.passes.core;
+        stopped = did_stops k old.core new.core items breaks.left breaks.struck breaks.passes.core;
+      }
+  stays (Err error.Struck) (Err step_error.Stopped) old new event sent shown items breaks seals = absurd seals
+  stays (Err error.Struck) (Err step_error.Memory) old new event sent shown items breaks seals = absurd seals
+  stays (Err error.Memory) r old new event sent shown items same seals = subst (λ (x : Result Sealed StepError). Stays k old new x) (sym seals) same
 
   -- whatever life the node stood for, the event is the one of that life
   pub steps : (ended : Result (Unit {0}) EventError) (r : Result Sealed StepError) (old new : Coordinator K) (event : Event) (sent shown : Shown) → sent ≡ nothing_shown

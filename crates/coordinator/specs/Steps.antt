@@ -1,5 +1,5 @@
 -- What a whole event comes to.
-use Rattle.std.specs.Prelude.{◌≡◌, ℕ, true, false, Result, Ok, Err, List}
+use Rattle.std.specs.Prelude.{◌≡◌, ◌≤◌, ℕ, true, false, Result, Ok, Err, List}
 use Rattle.state_journal.specs.declared.keeper.Keeper.{Ghosts}
 use Rattle.zen_disk.specs.Faults.{Rose}
 use Rattle.policy_model.specs.declared.events.Event.{Event}
@@ -83,6 +83,24 @@ module _ {K : Type 0} (k : Ghosts K) where
     pub entries : AreEntries event left told
     pub rose : Rose (k.faults old.core.keeper) (k.faults new.core.keeper)
     pub stopped : k.has_stopped new.core.keeper ≡ true
+
+  -- the settings stay, and the disk's count of faults never falls
+  pub record GoesOn (old new : Coordinator K) : Type 0 where
+    pub settings : new.settings ≡ old.settings
+    pub later : k.faults old.core.keeper ≤ k.faults new.core.keeper
+
+  -- the disk failed: its count of faults rose, and the node writes no more
+  pub record Halts (old new : Coordinator K) : Type 0 where
+    pub goes_on : GoesOn old new
+    pub rose : Rose (k.faults old.core.keeper) (k.faults new.core.keeper)
+    pub stopped : k.has_stopped new.core.keeper ≡ true
+
+  -- of any node, whatever it stood for; where nothing was done, nothing changed
+  abbrev pub Stays : (old new : Coordinator K) → Result Sealed StepError → Type 0
+  Stays old new (Ok sealed) = GoesOn old new
+  Stays old new (Err (step_error.Disk entries)) = Halts old new
+  Stays old new (Err step_error.Stopped) = new ≡ old
+  Stays old new (Err step_error.Memory) = new ≡ old
 
   -- at an event for which the rules give these items
   abbrev pub Steps : (old new : Coordinator K) → Event → List Item → Result Sealed StepError → Type 0

@@ -12,7 +12,7 @@ ghost use Rattle.coordinator.specs.Does.{Does, DoesAll};
 ghost use Rattle.coordinator.specs.Limits.{IsFew, IsWithin};
 ghost use Rattle.coordinator.specs.Kinds.{group_of as group_by, is_other};
 ghost use Rattle.coordinator.specs.Lives.{DoesEvent, Lasts, StandsForLife, Survives};
-ghost use Rattle.coordinator.specs.Steps.{Steps, steps_for, drops_for, frames_for};
+ghost use Rattle.coordinator.specs.Steps.{Stays, Steps, steps_for, drops_for, frames_for};
 ghost use Rattle.coordinator.specs.declared.step.StepError.TheVariants as step_error;
 ghost use Rattle.coordinator.specs.Views.{IsReady};
 
@@ -359,6 +359,10 @@ impl<K: Keeper> Coordinator<K> {
         // The steps, drops, frames and replies are those of the policy, for each life that the node stood for; and it stands
         // for the life with this entry.
         ensures steps { (life : Life) → StandsForLife K.Keeper self.old life → Steps K.Keeper self.old self.new event (items_of self.old.settings (log_of life) event) result }
+
+        // Whatever it stood for: its settings stay, and the disk's count of faults never falls. At Disk that count rose, and
+        // the node has stopped; at Memory and Stopped nothing changed.
+        ensures stays { Stays K.Keeper self.old self.new result }
 
         // A crash at any moment of it leaves the record of the acts so far, without the act in hand or with it.
         ensures crash { Survives K.Keeper self.old self.new event }

@@ -6,22 +6,21 @@ ghost use Rattle.client_lines.specs.Reading.{line_request};
 ghost use Rattle.cluster_state.specs.Puts.{bad_setting_of};
 ghost use Rattle.master_tasks.specs.Queue.{is_full_of};
 ghost use Rattle.master_tasks.specs.NextState.{leader_of as master_of};
-ghost use Rattle.policy_model.specs.Doing.{is_leader, leader_of};
+ghost use Rattle.policy_model.specs.Doing.{is_leader};
 ghost use Rattle.policy_model.specs.Requests.{replies, takes_line};
 ghost use Rattle.coordinator.specs.Ahead.{HasPlan, queues_one};
 ghost use Rattle.coordinator.specs.Does.{Does, DoesAll};
 ghost use Rattle.coordinator.specs.Views.{view_in, IsReady};
 
 use crate::coordinator::{Coordinator, EventError};
+use crate::discovery::leader_of;
 use crate::output::Output;
 use crate::plan::Plan;
 use client_lines::{Line, LineError, read_line};
 use cluster_state::{Answer, Reply, Request};
 use master_tasks::{MAX_OPEN, MasterTasks, Outgoing};
-use policy_model::Mode;
 use state_journal::Keeper;
 use std::alloc::{AllocError, Global};
-use voting_config::NodeId;
 
 impl<K: Keeper> Coordinator<K> {
     // What going on will take with these tasks.
@@ -61,18 +60,6 @@ impl<K: Keeper> Coordinator<K> {
         Ok(())
     }
 
-    // The leader that it knows.
-    fn leader(&self) -> Option<NodeId>
-        ensures { result ≡ leader_of self.now.settings.me self.now.mode }
-    {
-        let mode = self.mode;
-        match mode {
-            Mode::Candidate => None,
-            Mode::Leader => Some(self.settings.me),
-            Mode::Follower(leader) => Some(leader),
-        }
-    }
-
     // One reply, and nothing else.
     fn reply(&self, out: &mut Output, conn: u64, reply: Reply) -> Result<(), EventError>
         ensures does { DoesAll K.Keeper self.now self.now out.old out.new (λ s v. replies conn reply) result }
@@ -98,7 +85,7 @@ impl<K: Keeper> Coordinator<K> {
     {
         let id = request.id;
         if !self.is_leader() {
-            let answer = Answer::NotMaster(self.leader());
+            let answer = Answer::NotMaster(leader_of(self.settings.me, self.mode));
             return self.reply(out, conn, Reply::To { id, answer });
         }
         if let Some(length) = request.ask.bad_setting() {
