@@ -43,7 +43,7 @@ module _ {D : Type 0} (told : Type 0) (seen : D → List ℕ) (may_leave : D →
   disk_rose : (ready back : Option D) → Opened told seen may_leave count ready back shown.Disk → ((d : D) → back ≡ Some d → Rose 0 (count d) → ⊥) → ⊥
   disk_rose ready back opened quiet = quiet opened.back opened.is_back (subst (λ (n : ℕ). Rose n (count opened.back)) opened.fresh opened.shows)
 
-  pub completes : (host host_now : HostView D) (was now : Option (List ℕ)) (wrote wrote_now : ℕ) (e : Inspection) → EndsWith told seen may_leave count host host_now was now wrote wrote_now e
+  pub completes : {L : Type 0} (host host_now : HostView D L) (was now : Option (List ℕ)) (wrote wrote_now : ℕ) (e : Inspection) → EndsWith told seen may_leave count host host_now was now wrote wrote_now e
       → IsComplete told seen may_leave count host host_now wrote wrote_now e
   completes host host_now was now wrote wrote_now end.Done ended disk is t kept found no_host no_write no_disk = inl refl
   completes host host_now was now wrote wrote_now end.NotAJournal ended disk is t kept found no_host no_write no_disk =

@@ -11,12 +11,19 @@ use Rattle.journal_inspection.specs.declared.showing.Shown.TheVariants as shown
 use Rattle.journal_inspection.specs.declared.inspecting.Inspection.{Inspection}
 use Rattle.journal_inspection.specs.declared.inspecting.Inspection.TheVariants as end
 
--- What a host tells: the calls made, the disk that it has ready and the one that was given back last; and how many faults there were.
-pub record HostView (D : Type 0) : Type 0 where
+-- What a host tells: the calls made, the disk and the link that it has ready and those that were given back last; and how many faults there were.
+pub record HostView (D L : Type 0) : Type 0 where
   pub calls : Option (List HostCall)
   pub disk_ready : Option D
   pub disk_back : Option D
+  pub link_ready : Option L
+  pub link_back : Option L
   pub faults : ℕ
+
+-- the host gave no link, and was given none back
+pub record LeavesLinks {D L : Type 0} (host host_now : HostView D L) : Type 0 where
+  pub ready : host_now.link_ready ≡ host.link_ready
+  pub back : host_now.link_back ≡ host.link_back
 
 -- the host was asked once for the disk of this folder, and for nothing else; a call that found no memory is not told
 abbrev pub Asked : (dir : List ℕ) → (was now : Option (List HostCall)) → Inspection → Type 0
@@ -33,9 +40,9 @@ pub record Opened {D : Type 0} (told : Type 0) (seen : D → List ℕ) (may_leav
   pub is_back : back_now ≡ Some back
   pub shows : Shows told (seen given) (may_leave back) (count given) (count back) s
 
-module _ {D : Type 0} (told : Type 0) (seen : D → List ℕ) (may_leave : D → List ℕ → Type 0) (count : D → ℕ) where
+module _ {D L : Type 0} (told : Type 0) (seen : D → List ℕ) (may_leave : D → List ℕ → Type 0) (count : D → ℕ) where
   -- what was written at each end; a disk that was given is given back, also where memory ran out
-  abbrev pub EndsWith : (host host_now : HostView D) → (was now : Option (List ℕ)) → (wrote wrote_now : ℕ) → Inspection → Type 0
+  abbrev pub EndsWith : (host host_now : HostView D L) → (was now : Option (List ℕ)) → (wrote wrote_now : ℕ) → Inspection → Type 0
   EndsWith host host_now was now wrote wrote_now end.Done =
       (text : List ℕ) × Opened told seen may_leave count host.disk_ready host_now.disk_back (shown.Report text) × Appended was now text
   EndsWith host host_now was now wrote wrote_now end.NotAJournal =
@@ -50,7 +57,7 @@ module _ {D : Type 0} (told : Type 0) (seen : D → List ℕ) (may_leave : D →
       ((host_now.calls ≡ host.calls) ⊎ Opened told seen may_leave count host.disk_ready host_now.disk_back shown.Memory) × Appended was now []
 
   -- a disk that stands for a record is shown, unless memory runs out, where nothing fails
-  abbrev pub IsComplete : (host host_now : HostView D) → (wrote wrote_now : ℕ) → Inspection → Type 0
+  abbrev pub IsComplete : (host host_now : HostView D L) → (wrote wrote_now : ℕ) → Inspection → Type 0
   IsComplete host host_now wrote wrote_now e =
       (disk : D) → host.disk_ready ≡ Some disk → told → (kept : Kept) → found_of (seen disk) ≡ Ok kept → (Rose host.faults host_now.faults → ⊥) → (Rose wrote wrote_now → ⊥)
       → ((back : D) → host_now.disk_back ≡ Some back → Rose 0 (count back) → ⊥) → (e ≡ end.Done) ⊎ (e ≡ end.NoMemory)

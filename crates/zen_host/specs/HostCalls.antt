@@ -1,11 +1,32 @@
 -- The calls of a host that may be refused, with their arguments and answers.
-use Rattle.std.specs.Prelude.{◌≡◌, ℕ, Bool, true, false, Option, None, Some, Result, Ok, Err, List, [], ◌∷◌, ◌++◌}
+use Rattle.std.specs.Prelude.{◌≡◌, ℕ, Bool, true, false, Option, None, Some, Result, Ok, Err, List, [], ◌∷◌, ◌++◌, map, string_bytes}
+use Rattle.voting_config.specs.Ids.{Id}
+use Rattle.zen_link.specs.declared.link.Peer.{Peer}
+use Rattle.zen_link.specs.declared.link.LinkSettings.{LinkSettings}
 use Rattle.zen_host.specs.declared.host.HostError.{HostError}
 use Rattle.zen_host.specs.declared.host.HostError.TheVariants.{Failed, Memory}
+
+-- a peer, and the text of its address
+pub record ToldPeer : Type 0 where
+  pub id : Id
+  pub address : List ℕ
+
+-- with what a link is opened: the node, the text of the address at which it listens, and its peers
+pub record ToldSettings : Type 0 where
+  pub me : Id
+  pub listen : List ℕ
+  pub peers : List ToldPeer
+
+abbrev pub told_peer : Peer → ToldPeer
+told_peer peer = record { id = peer.id; address = string_bytes peer.address }
+
+abbrev pub told_settings : LinkSettings → ToldSettings
+told_settings settings = record { me = settings.me; listen = string_bytes settings.listen; peers = map told_peer settings.peers.items }
 
 -- a call, and whether it was refused as Failed
 pub data HostCall : Type 0 where
   OpensDisk : (dir : List ℕ) → (refused : Bool) → HostCall
+  OpensLink : (settings : ToldSettings) → (refused : Bool) → HostCall
 
 -- with one more call, where the host tells its calls
 abbrev pub and_call : Option (List HostCall) → HostCall → Option (List HostCall)

@@ -1,4 +1,4 @@
-//! What opens the disk of a program, and names the types of its input and output.
+//! What opens the disk and the link of a program, and names the types of its input and output.
 #![tactic(auto)]
 
 pub mod host;

@@ -1,4 +1,10 @@
-use crate::{MemSink, MemSource, Source, write_all};
+ghost use Rattle.std.specs.Prelude.{IfOk, IsTrue};
+ghost use Rattle.std.specs.List.{list_all};
+ghost use Rattle.zen_link.specs.Told.{has_low_conn};
+
+use crate::{Input, Link, LinkError, MemLink, MemSink, MemSource, Source, Traffic, write_all};
+use bytes::Bytes;
+use std::alloc::{AllocError, Global};
 use std::test::Fail;
 
 #[test]
@@ -23,5 +29,48 @@ fn a_sink_takes_all_bytes_piece_by_piece(rt: HostRuntime) -> Result<(), Fail> {
     assert!(rt; write_all(&mut sink, b"f").is_err());
     assert!(rt; write_all(&mut sink, b"g").is_ok());
     assert!(rt; sink.as_bytes() == b"abcdeg".as_slice());
+    Ok(())
+}
+
+// Bytes of a connection, and its end.
+fn script(alloc: Global) -> Result<Vec<Input>, AllocError>
+    ensures { IfOk result (λ inputs. IsTrue (list_all has_low_conn inputs.items)) }
+{
+    let bytes = Bytes::from_static(b"x\n");
+    Ok(vec![in alloc; Input::Bytes { conn: 3, bytes }, Input::Closed { conn: 3 }]?)
+}
+
+// A letter for what went over a link.
+fn letter(traffic: &Traffic<u8>) -> u8 {
+    match traffic {
+        Traffic::Took(Input::Bytes { .. }) => b'b',
+        Traffic::Took(Input::Closed { .. }) => b'c',
+        Traffic::Took(Input::Tick { .. }) => b't',
+        Traffic::Took(Input::Stop) => b's',
+        Traffic::Gave(value) => *value,
+        Traffic::Dropped(_) => b'd',
+    }
+}
+
+fn letters(alloc: Global, link: &MemLink<u8>) -> Result<Vec<u8>, AllocError> {
+    let mut letters = Vec::new(alloc);
+    for traffic in link.traffic().unwrap_or(&[]) {
+        letters.push(letter(traffic))?;
+    }
+    Ok(letters)
+}
+
+#[test]
+fn a_link_in_memory_tells_what_went_over_it(rt: HostRuntime) -> Result<(), Fail> {
+    let alloc = rt.alloc();
+    let mut link = MemLink::new(alloc, script(alloc)?, vec![in alloc; 2u64]?);
+    assert!(rt; matches!(link.next(), Ok(Input::Bytes { .. })));
+    assert!(rt; matches!(link.next(), Err(LinkError::Failed)));
+    link.send(b'7');
+    link.drop_conn(3);
+    let _ = link.next();
+    let _ = link.next();
+    assert!(rt; letters(alloc, &link)?.as_slice() == b"b7dcs".as_slice());
+    assert!(rt; link.fault_count() == 1);
     Ok(())
 }

@@ -1,0 +1,33 @@
+-- What a link tells: what was taken, given and dropped, in order.
+use Rattle.std.specs.Prelude.{◌≡◌, ℕ, Bool, true, nat_lt, ◌⊎◌, Option, None, Some, Result, Ok, Err, List, [], ◌∷◌, ◌++◌, unwrap_or, slice_get}
+use Rattle.zen_disk.specs.Faults.{Rose}
+use Rattle.zen_link.specs.declared.link.Input.{Input}
+use Rattle.zen_link.specs.declared.link.Input.TheVariants.{Bytes, Closed, Tick, Stop}
+use Rattle.zen_link.specs.declared.link.LinkError.{LinkError}
+use Rattle.zen_link.specs.declared.link.Traffic.{Traffic}
+use Rattle.zen_link.specs.declared.link.Traffic.TheVariants.{Took}
+
+-- what is told with one more at its end, where anything is told
+abbrev pub with_last : {A : Type 0} → Option (List A) → A → Option (List A)
+with_last None x = None
+with_last (Some xs) x = Some (xs ++ x ∷ [])
+
+-- an input that is given was taken, and a refused call took none
+abbrev pub Takes : {O : Type 0} → Option (List (Traffic O)) → Option (List (Traffic O)) → Result Input LinkError → Type 0
+Takes was now (Ok input) = now ≡ with_last was (Took input)
+Takes was now (Err e) = now ≡ was
+
+-- one more is told, or at a fault nothing is told from then on
+abbrev pub Adds : {A : Type 0} → Option (List A) → Option (List A) → A → ℕ → ℕ → Type 0
+Adds was now x before after = (now ≡ with_last was x) ⊎ ((now ≡ None) × Rose before after)
+
+-- the number of its connection is below 64
+abbrev pub has_low_conn : Input → Bool
+has_low_conn (Bytes conn bytes) = nat_lt conn 64
+has_low_conn (Closed conn) = nat_lt conn 64
+has_low_conn (Tick now word) = true
+has_low_conn Stop = true
+
+-- the input at a place of a script, and Stop after its end
+abbrev pub scripted_at : List Input → ℕ → Input
+scripted_at inputs at = unwrap_or (slice_get inputs at) Stop
