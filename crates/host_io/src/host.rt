@@ -1,36 +1,56 @@
-ghost use Rattle.std.specs.Prelude.{◌≡◌, None, ⊤};
+ghost use Rattle.std.specs.Prelude.{◌≡◌, ◌≤◌, None, ⊤};
+ghost use Rattle.zen_disk.specs.Faults.{Rose};
 
 use crate::folder::open_in_folder;
-use crate::{FileDisk, StandardInput, StandardOutput};
+use crate::{FileDisk, Framing, SocketLink, StandardInput, StandardOutput};
 use zen_host::{Host, HostError};
+use zen_link::LinkSettings;
 
-/// The host that is the system. A folder's disk is the file `journal.0` in it.
+/// The host that is the system. A folder's disk is the file `journal.0` in it, and a link's frames are those of a framing.
 #[derive(Drop)]
-pub struct SystemHost<'a> {
+pub struct SystemHost<'a, F: Framing + Copy + Drop> {
     rt: &'a HostRuntime,
+    framing: F,
     disk_back: Option<FileDisk>,
+    link_back: Option<SocketLink<HostRuntime, F>>,
     faults: u64,
 }
 
-impl<'a> SystemHost<'a> {
+impl<'a, F: Framing + Copy + Drop> SystemHost<'a, F> {
     /// This system, with no fault yet.
-    pub fn new(rt: &'a HostRuntime) -> SystemHost<'a>
+    pub fn new(rt: &'a HostRuntime, framing: F) -> SystemHost<'a, F>
         ensures { result.faults ≡ 0 }
     {
         SystemHost {
             rt,
+            framing,
             disk_back: None,
+            link_back: None,
             faults: 0,
         }
     }
+
+    // Counts a fault.
+    fn failed(&mut self) -> HostError
+        ensures failed { result ≡ HostError.Failed }
+        ensures rose { Rose self.old.faults self.new.faults }
+        ensures later { self.old.faults ≤ self.new.faults }
+        ensures back { self.new.disk_back ≡ self.old.disk_back }
+        ensures link_back { self.new.link_back ≡ self.old.link_back }
+    {
+        self.faults = self.faults.saturating_add(1);
+        HostError::Failed
+    }
 }
 
-impl Host for SystemHost<'_> {
+impl<F: Framing + Copy + Drop> Host for SystemHost<'_, F> {
     type In = StandardInput;
 
     type Out = StandardOutput;
 
     type Disk = FileDisk;
+
+    type Link = SocketLink<HostRuntime, F>;
 
     ghost calls = { λ _. None };
 
@@ -38,22 +58,42 @@ impl Host for SystemHost<'_> {
 
     ghost disk_back = { λ host. host.disk_back };
 
+    ghost link_ready = { λ _. None };
+
+    ghost link_back = { λ host. host.link_back };
+
     ghost faults = { λ host. host.faults };
 
     ghost steps = { λ _ _ _. ⊤ };
+
+    ghost link_steps = { λ _ _ _. ⊤ };
 
     fn open_disk(&mut self, dir: &str) -> Result<FileDisk, HostError> {
         let Ok(path) = format!(in self.rt.alloc(); "{dir}/journal.0") else {
             return Err(HostError::Memory);
         };
         let Ok(file) = open_in_folder(self.rt, dir, path.as_str()) else {
-            self.faults = self.faults.saturating_add(1);
-            return Err(HostError::Failed);
+            return Err(self.failed());
         };
         Ok(FileDisk::new(file))
     }
 
+    fn open_link(
+        &mut self,
+        settings: &LinkSettings,
+    ) -> Result<SocketLink<HostRuntime, F>, HostError> {
+        match SocketLink::open(*self.rt, self.rt.alloc(), self.framing, settings) {
+            Ok(link) => Ok(link),
+            Err(HostError::Memory) => Err(HostError::Memory),
+            Err(HostError::Failed) => Err(self.failed()),
+        }
+    }
+
     fn close_disk(&mut self, disk: FileDisk) {
         self.disk_back = Some(disk);
+    }
+
+    fn close_link(&mut self, link: SocketLink<HostRuntime, F>) {
+        self.link_back = Some(link);
     }
 }

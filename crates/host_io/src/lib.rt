@@ -1,14 +1,24 @@
-//! The outside of the program as the system has it: a file, the standard streams, and the host that opens a folder's
-//! journal. What they hold is not told, so no clause speaks of it: that they keep and carry bytes is tested.
+//! The outside of the program as the system has it: a file, the standard streams, a node's link over sockets, and the host
+//! that opens a folder's journal and a link. What they hold is not told, so no clause speaks of it: that they keep and
+//! carry bytes is tested.
 #![tactic(auto)]
 
+mod connection;
 pub mod disk;
 pub mod folder;
+pub mod framing;
 pub mod host;
+pub mod link;
+#[cfg(test)]
+mod link_tests;
+mod queue;
+mod sockets;
 pub mod streams;
 #[cfg(test)]
 mod tests;
 
 pub use disk::FileDisk;
+pub use framing::{Framing, Piece, Target};
 pub use host::SystemHost;
+pub use link::SocketLink;
 pub use streams::{StandardInput, StandardOutput};

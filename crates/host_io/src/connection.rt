@@ -1,0 +1,323 @@
+use crate::framing::Framing;
+use crate::queue::FrameQueue;
+use arrayvec::ArrayVec;
+use bytes::{Bytes, BytesMut};
+use mio::net::TcpStream;
+use mio::{Interest, Registry, Token};
+use std::alloc::{AllocError, Global};
+use std::io;
+use std::io::{ErrorKind, Read};
+use std::net::Shutdown;
+use voting_config::NodeId;
+
+// The most bytes of one read.
+const READ: usize = 4096;
+
+// What the first bytes of a connection are that stops the node.
+const STOP: &[u8; 5] = b"stop\n";
+
+// As many first bytes as a frame needs to show its sender: a length, a kind and an id.
+const FRONT: usize = 38;
+
+// The bytes of a frame's length.
+const LENGTH: u64 = 4;
+
+// Under which a socket is registered. Each wait is followed by a look at all sockets, so nothing asks which one woke it.
+pub(crate) const ANY: Token = Token(0);
+
+// What a look at a connection finds.
+#[derive(Drop)]
+pub(crate) enum Heard {
+    Nothing,
+    Bytes(Bytes),
+    Stop,
+    End,
+}
+
+// What the first bytes of a connection show, none of which was read.
+#[derive(Clone, Copy, PartialEq, Eq)]
+pub(crate) enum Front {
+    // Too little to tell.
+    Unclear,
+    Stop,
+    // A frame that this node sends.
+    Frame(NodeId),
+    // The end, or what is neither a frame nor a stop.
+    Other,
+}
+
+// What these first bytes show. A frame's length begins with a zero byte.
+fn front_of<F: Framing>(framing: &F, bytes: &[u8]) -> Front {
+    let stop = &STOP[..];
+    if let Some(id) = framing.sender(bytes) {
+        Front::Frame(id)
+    } else if bytes.starts_with(stop) {
+        Front::Stop
+    } else if !bytes.is_empty() && stop.starts_with(bytes) {
+        Front::Unclear
+    } else if bytes.len() < FRONT && bytes.starts_with(&[0]) {
+        Front::Unclear
+    } else {
+        Front::Other
+    }
+}
+
+/// An open connection.
+#[derive(Drop)]
+pub(crate) struct Connection {
+    stream: TcpStream,
+    // The listed peer that it was opened to.
+    peer: Option<NodeId>,
+    // Whose frames it carries, by its first bytes.
+    sender: Option<NodeId>,
+    // The higher, the later it came.
+    age: u64,
+    // The higher, the later bytes of it were given.
+    heard: u64,
+    // Whether the end of the one that had this number before is still to be told.
+    owes_end: bool,
+    // The first bytes that were given.
+    front: ArrayVec<u8, FRONT>,
+    // How many bytes were given.
+    given: u64,
+    // Whether a line feed was given.
+    has_line: bool,
+    // How many bytes of `stop` came first, and were not given.
+    held: usize,
+    // Whether it is known to be no stop.
+    goes_on: bool,
+    // What waits to be written.
+    outgoing: FrameQueue,
+    // Whether it is reported when it can be written to.
+    is_watched: bool,
+    // Whether it was ended here.
+    over: bool,
+}
+
+// Whether the call may be made again later.
+pub(crate) fn is_later(error: &io::Error) -> bool {
+    matches!(error.kind(), ErrorKind::WouldBlock | ErrorKind::Interrupted)
+}
+
+impl Connection {
+    pub(crate) fn new(
+        alloc: Global,
+        stream: TcpStream,
+        peer: Option<NodeId>,
+        age: u64,
+    ) -> Connection {
+        Connection {
+            stream,
+            peer,
+            sender: None,
+            age,
+            heard: age,
+            owes_end: false,
+            front: ArrayVec::new(),
+            given: 0,
+            has_line: false,
+            held: 0,
+            goes_on: false,
+            outgoing: FrameQueue::new(alloc),
+            is_watched: false,
+            over: false,
+        }
+    }
+
+    // The listed peer that it was opened to.
+    pub(crate) fn peer(&self) -> Option<NodeId> {
+        self.peer
+    }
+
+    // Whose frames it carries, by the first bytes that were given.
+    pub(crate) fn sender(&self) -> Option<NodeId> {
+        self.sender
+    }
+
+    // What its first bytes show, where none was read.
+    pub(crate) fn front<F: Framing>(&self, framing: &F) -> Front {
+        let mut buffer = [0u8; FRONT];
+        match self.stream.peek(&mut buffer) {
+            Ok(count) => front_of(framing, &buffer[..count]),
+            Err(error) if is_later(&error) => Front::Unclear,
+            Err(_) => Front::Other,
+        }
+    }
+
+    // The higher, the later it came.
+    pub(crate) fn age(&self) -> u64 {
+        self.age
+    }
+
+    // The higher, the later bytes of it were given.
+    pub(crate) fn heard(&self) -> u64 {
+        self.heard
+    }
+
+    // Whether its number's end is to be told: bytes of it were given, or of the one before it.
+    pub(crate) fn was_heard(&self) -> bool {
+        self.owes_end || !self.front.is_empty()
+    }
+
+    // Whether the end of the one that had this number before is still to be told.
+    pub(crate) fn owes_end(&self) -> bool {
+        self.owes_end
+    }
+
+    // It takes the number of one whose end is to be told, or was told.
+    pub(crate) fn set_owes_end(&mut self, owes_end: bool) {
+        self.owes_end = owes_end;
+    }
+
+    pub(crate) fn is_over(&self) -> bool {
+        self.over
+    }
+
+    // Whether another may take its place: it came from outside, and has given neither a whole line nor a whole frame.
+    pub(crate) fn is_idle(&self) -> bool {
+        self.over || self.peer.is_none() && !self.has_whole()
+    }
+
+    // Whether a whole line or a whole frame was given. A frame's length begins with a zero byte, and no line does.
+    fn has_whole(&self) -> bool {
+        match self.front.as_slice() {
+            [0, second, third, fourth, ..] => {
+                let length = u32::from_be_bytes([0, *second, *third, *fourth]);
+                self.given >= LENGTH + length as u64
+            }
+            [0, ..] => false,
+            _ => self.has_line,
+        }
+    }
+
+    // What has come by now, in the order of this count. Where memory is short, nothing is taken.
+    pub(crate) fn hear<F: Framing>(
+        &mut self,
+        alloc: Global,
+        framing: &F,
+        order: u64,
+    ) -> Result<Heard, AllocError> {
+        if self.over {
+            return Ok(Heard::End);
+        }
+        let mut buffer = [0u8; READ];
+        match self.stream.peek(&mut buffer) {
+            Ok(0) if self.held == 0 => Ok(Heard::End),
+            Ok(count) => {
+                self.heard = order;
+                self.take(alloc, framing, &buffer[..count])
+            }
+            Err(error) if is_later(&error) => Ok(Heard::Nothing),
+            Err(_) => Ok(Heard::End),
+        }
+    }
+
+    // Takes the bytes that a look has shown. None is the end.
+    fn take<F: Framing>(
+        &mut self,
+        alloc: Global,
+        framing: &F,
+        bytes: &[u8],
+    ) -> Result<Heard, AllocError> {
+        let held = self.held.min(STOP.len() - 1);
+        let stop = &STOP[..];
+        let rest = &stop[held..];
+        if !self.goes_on && bytes.starts_with(rest) {
+            self.skip(rest.len());
+            return Ok(Heard::Stop);
+        }
+        if !self.goes_on && !bytes.is_empty() && rest.starts_with(bytes) {
+            self.skip(bytes.len());
+            self.held = held.saturating_add(bytes.len());
+            return Ok(Heard::Nothing);
+        }
+        let mut all = BytesMut::new(alloc);
+        all.extend_from_slice(&stop[..held])?;
+        all.extend_from_slice(bytes)?;
+        let all = all.freeze()?;
+        self.skip(bytes.len());
+        self.held = 0;
+        self.goes_on = true;
+        self.note(all.as_slice());
+        if self.sender.is_none() {
+            self.sender = framing.sender(self.front.as_slice());
+        }
+        Ok(Heard::Bytes(all))
+    }
+
+    // Notes bytes that are given.
+    fn note(&mut self, bytes: &[u8]) {
+        self.given = self.given.saturating_add(bytes.len() as u64);
+        self.has_line = self.has_line || bytes.contains(&b'\n');
+        for byte in bytes {
+            if self.front.is_full() {
+                break;
+            }
+            self.front.push(*byte);
+        }
+    }
+
+    // Takes so many bytes that a look has shown, or ends the connection.
+    fn skip(&mut self, count: usize) {
+        let mut buffer = [0u8; READ];
+        let part = &mut buffer[..count.min(READ)];
+        let taken = self.stream.read(part);
+        if !matches!(taken, Ok(n) if n == count) {
+            self.end();
+        }
+    }
+
+    // Has a frame wait to be written, whole or not at all.
+    pub(crate) fn put(&mut self, frame: Bytes) -> Result<(), AllocError> {
+        if !self.over {
+            self.outgoing.put(frame)?;
+        }
+        Ok(())
+    }
+
+    // Writes what waits, as far as the system takes it. One that is broken is over.
+    pub(crate) fn flush(&mut self, registry: &Registry) {
+        if self.over || self.outgoing.is_empty() && !self.is_watched {
+            return;
+        }
+        if self.write_out().is_err() || self.watch(registry).is_err() {
+            self.end();
+        }
+    }
+
+    // Writes until nothing waits or the system takes no more.
+    fn write_out(&mut self) -> io::Result<()> {
+        for _ in 0..u32::MAX {
+            if self.outgoing.is_empty() {
+                break;
+            }
+            match self.outgoing.write_to(&mut self.stream) {
+                Ok(0) => break,
+                Ok(_) => {}
+                Err(error) if is_later(&error) => break,
+                Err(error) => return Err(error),
+            }
+        }
+        Ok(())
+    }
+
+    // While something waits, it is reported when it can be written to.
+    fn watch(&mut self, registry: &Registry) -> io::Result<()> {
+        let waits = !self.outgoing.is_empty();
+        if waits == self.is_watched {
+            return Ok(());
+        }
+        let mut interest = Interest::READABLE;
+        if waits {
+            interest = Interest::READABLE | Interest::WRITABLE;
+        }
+        self.is_watched = waits;
+        registry.reregister(&mut self.stream, ANY, interest)
+    }
+
+    // What waits is dropped with the connection.
+    fn end(&mut self) {
+        self.over = true;
+        let _ = self.stream.shutdown(Shutdown::Both);
+    }
+}

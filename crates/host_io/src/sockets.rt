@@ -1,0 +1,584 @@
+ghost use Rattle.std.specs.Prelude.{◌<◌, IsTrue, IfOk, IfSome};
+ghost use Rattle.zen_link.specs.Told.{has_low_conn};
+
+use crate::connection::{ANY, Connection, Front, Heard, is_later};
+use crate::framing::{Framing, Piece, Target};
+use crate::link::passed;
+use crate::queue::FrameQueue;
+use bytes::Bytes;
+use indexmap::IndexMap;
+use mio::net::{TcpListener, TcpStream};
+use mio::{Events, Interest, Poll};
+use std::alloc::{AllocError, Global};
+use std::collections::VecDeque;
+use std::io;
+use std::net::{Net, SocketAddr};
+use std::rt::Clock;
+use std::time::{Duration, Instant};
+use voting_config::NodeId;
+use zen_host::HostError;
+use zen_link::{CONNECTIONS, Input, LinkError, LinkSettings};
+
+// The shortest time between two dials of a peer, in milliseconds.
+const DIAL: u64 = 500;
+
+// The number under which a node's frames to itself come.
+const OWN: u64 = 0;
+
+// How many connections wait for a number at most.
+const LOBBY: usize = 8;
+
+// The longest wait for a number, in milliseconds: as long as a peer that has just connected may take to show its first frame.
+const ADMISSION: u64 = 1000;
+
+// A listed peer.
+#[derive(Clone, Copy)]
+pub(crate) struct Listed {
+    address: SocketAddr,
+    // Before this moment it is not dialled.
+    dial_from: u64,
+}
+
+// A connection that found no number. Nothing of it was read.
+#[derive(Drop)]
+struct Guest {
+    connection: Connection,
+    // At this moment it has waited long enough.
+    until: u64,
+}
+
+// What becomes of a connection that waits for a number.
+#[derive(Clone, Copy)]
+enum Verdict {
+    Enters(u64),
+    Waits,
+    Leaves,
+}
+
+// The sockets of a link.
+#[derive(Drop)]
+pub(crate) struct Sockets {
+    alloc: Global,
+    poll: Poll,
+    events: Events,
+    listener: TcpListener,
+    me: NodeId,
+    peers: IndexMap<NodeId, Listed>,
+    // The connection with a number lies at its place.
+    connections: Vec<Option<Connection>>,
+    // Those that found no number, the oldest first.
+    lobby: VecDeque<Guest>,
+    // The node's frames to itself.
+    own: FrameQueue,
+    // The number that was looked at last.
+    last: u64,
+    // Counts connections that came and looks that found something, so that what was first has the lower count.
+    order: u64,
+    // Whether more may wait to be accepted.
+    has_more: bool,
+    // How often the system has failed and no answer has told it.
+    errors: u64,
+}
+
+impl Sockets {
+    pub(crate) fn open(
+        rt: &impl Net,
+        alloc: Global,
+        settings: &LinkSettings,
+    ) -> Result<Sockets, HostError> {
+        let mut peers = IndexMap::new(alloc);
+        for peer in &settings.peers {
+            let Ok(address) = peer.address.as_str().parse::<SocketAddr>() else {
+                return Err(HostError::Failed);
+            };
+            let listed = Listed {
+                address,
+                dial_from: 0,
+            };
+            if peers.insert(peer.id, listed).is_err() {
+                return Err(HostError::Memory);
+            }
+        }
+        let mut connections = Vec::new(alloc);
+        for _ in 0..CONNECTIONS {
+            if connections.push(None).is_err() {
+                return Err(HostError::Memory);
+            }
+        }
+        let Ok(events) = Events::with_capacity(alloc, 64) else {
+            return Err(HostError::Memory);
+        };
+        let Ok((poll, listener)) = listen(rt, settings.listen.as_str()) else {
+            return Err(HostError::Failed);
+        };
+        Ok(Sockets {
+            alloc,
+            poll,
+            events,
+            listener,
+            me: settings.me,
+            peers,
+            connections,
+            lobby: VecDeque::new(alloc),
+            own: FrameQueue::new(alloc),
+            last: OWN,
+            order: 0,
+            has_more: false,
+            errors: 0,
+        })
+    }
+
+    // How often the system has failed since this was asked last.
+    pub(crate) fn take_errors(&mut self) -> u64 {
+        let errors = self.errors;
+        self.errors = 0;
+        errors
+    }
+
+    pub(crate) fn note_error(&mut self) {
+        self.errors = self.errors.saturating_add(1);
+    }
+
+    // What comes before a moment, if anything does.
+    pub(crate) fn find<R: Clock, F: Framing>(
+        &mut self,
+        rt: &R,
+        framing: &F,
+        opened: &Instant,
+        until: u64,
+    ) -> Result<Option<Input>, LinkError>
+        ensures { IfOk result (λ found. IfSome found (λ input. IsTrue (has_low_conn input))) }
+    {
+        for _ in 0..u32::MAX {
+            let Ok(now) = passed(rt, opened) else {
+                return Err(LinkError::Failed);
+            };
+            match self.look(framing, now) {
+                Ok(Some(input)) => return Ok(Some(input)),
+                Ok(None) => {}
+                Err(_) => return Err(LinkError::Memory),
+            }
+            if now >= until {
+                break;
+            }
+            if self.wait(until - now).is_err() {
+                return Err(LinkError::Failed);
+            }
+        }
+        Ok(None)
+    }
+
+    // Waits until something may have come, so many milliseconds at most.
+    fn wait(&mut self, time: u64) -> io::Result<()> {
+        let time = if self.has_more { 0 } else { time };
+        match self
+            .poll
+            .poll(&mut self.events, Some(Duration::from_millis(time)))
+        {
+            Err(error) if !is_later(&error) => Err(error),
+            _ => Ok(()),
+        }
+    }
+
+    // What has come by now, if anything has.
+    fn look<F: Framing>(&mut self, framing: &F, now: u64) -> Result<Option<Input>, AllocError>
+        ensures { IfOk result (λ found. IfSome found (λ input. IsTrue (has_low_conn input))) }
+    {
+        if let Some(bytes) = self.own.take() {
+            return Ok(Some(Input::Bytes { conn: OWN, bytes }));
+        }
+        self.serve(framing, now);
+        if self.is_stopped(framing) {
+            return Ok(Some(Input::Stop));
+        }
+        for _ in 1..CONNECTIONS {
+            let number = self.last % (CONNECTIONS - 1) + 1;
+            self.last = number;
+            let input = self.hear(framing, number)?;
+            if input.is_some() {
+                return Ok(input);
+            }
+        }
+        Ok(None)
+    }
+
+    // Takes the connections that wait, and writes what waits.
+    pub(crate) fn serve<F: Framing>(&mut self, framing: &F, now: u64) {
+        self.accept(now);
+        self.admit(framing, now);
+        self.flush_all();
+    }
+
+    // Takes the connections that wait, up to the first that takes the place of another: so each is looked at before it can
+    // lose its own.
+    fn accept(&mut self, now: u64) {
+        self.has_more = true;
+        for _ in 1..CONNECTIONS {
+            match self.listener.accept() {
+                Ok((stream, _)) => {
+                    if self.take_in(stream, now) {
+                        return;
+                    }
+                }
+                Err(error) => {
+                    self.has_more = false;
+                    if !is_later(&error) {
+                        self.note_error();
+                    }
+                    return;
+                }
+            }
+        }
+    }
+
+    // Keeps a connection that came from outside. Says whether it took the place of another.
+    fn take_in(&mut self, stream: TcpStream, now: u64) -> bool {
+        let Some(connection) = self.registered(stream, None) else {
+            return false;
+        };
+        let is_full = self.free_number().is_none();
+        match self.place() {
+            Some(number) => self.put(number, connection),
+            None => {
+                let until = now.saturating_add(ADMISSION);
+                return self.put_in_lobby(Guest { connection, until });
+            }
+        }
+        is_full
+    }
+
+    // Has a connection wait for a number. Says whether it took the place of another.
+    fn put_in_lobby(&mut self, guest: Guest) -> bool {
+        let is_full = self.lobby.len() >= LOBBY;
+        if is_full {
+            drop(self.lobby.pop_front());
+        }
+        if self.lobby.push_back(guest).is_err() {
+            self.note_error();
+        }
+        is_full
+    }
+
+    // Gives a number to those that wait for one and may have it, and closes those that may not.
+    fn admit<F: Framing>(&mut self, framing: &F, now: u64) {
+        for _ in 0..self.lobby.len() {
+            let Some(guest) = self.lobby.pop_front() else {
+                return;
+            };
+            match self.verdict(framing, &guest, now) {
+                Verdict::Enters(number) => self.put(number, guest.connection),
+                Verdict::Waits => drop(self.put_in_lobby(guest)),
+                Verdict::Leaves => drop(guest),
+            }
+        }
+    }
+
+    // A number is given where there is a free one again, and to the frames of a listed peer. One whose first bytes show
+    // something else leaves at once.
+    fn verdict<F: Framing>(&self, framing: &F, guest: &Guest, now: u64) -> Verdict {
+        if let Some(number) = self.free_number() {
+            return Verdict::Enters(number);
+        }
+        match guest.connection.front(framing) {
+            Front::Frame(id) => self.verdict_on_frame(id),
+            Front::Unclear if now < guest.until => Verdict::Waits,
+            Front::Stop => Verdict::Waits,
+            _ => Verdict::Leaves,
+        }
+    }
+
+    fn verdict_on_frame(&self, id: NodeId) -> Verdict {
+        if !self.peers.contains_key(&id) {
+            return Verdict::Leaves;
+        }
+        match self.place_for_peer() {
+            Some(number) => Verdict::Enters(number),
+            None => Verdict::Leaves,
+        }
+    }
+
+    // Whether one that waits for a number says that the node is to end.
+    fn is_stopped<F: Framing>(&self, framing: &F) -> bool {
+        self.lobby
+            .iter()
+            .any(|guest| guest.connection.front(framing) == Front::Stop)
+    }
+
+    // A number that is free, or else that of the oldest idle connection.
+    fn place(&self) -> Option<u64> {
+        let free = self.free_number();
+        if free.is_some() {
+            return free;
+        }
+        self.least_by(|connection| connection.is_idle().then_some(connection.age()))
+    }
+
+    // The same, or else the number of the client that was silent longest: clients must not lock peers out.
+    fn place_for_peer(&self) -> Option<u64> {
+        let place = self.place();
+        if place.is_some() {
+            return place;
+        }
+        self.least_by(|connection| Some(connection.heard()))
+    }
+
+    // Of the connections that lead to no listed peer and have a value, the number of the one with the least.
+    fn least_by<P: Fn(&Connection) -> Option<u64> + Drop>(&self, value: P) -> Option<u64>
+        requires { P.IsAlwaysCallable value }
+    {
+        let mut found = None;
+        let mut least = u64::MAX;
+        for number in 1..CONNECTIONS {
+            if let Some(Some(connection)) = self.connections.get(number as usize) {
+                let own = value(connection).unwrap_or(u64::MAX);
+                if own < least && !self.leads_to_peer(number, connection) {
+                    least = own;
+                    found = Some(number);
+                }
+            }
+        }
+        found
+    }
+
+    // Whether it was opened to a listed peer, or is the newest one that brings a listed peer's frames.
+    fn leads_to_peer(&self, number: u64, connection: &Connection) -> bool {
+        if connection.is_over() {
+            return false;
+        }
+        if connection.peer().is_some() {
+            return true;
+        }
+        let Some(id) = connection.sender() else {
+            return false;
+        };
+        self.peers.contains_key(&id) && self.heard_from(id) == Some(number)
+    }
+
+    // The newest connection that brings the frames of a node.
+    fn heard_from(&self, id: NodeId) -> Option<u64> {
+        self.newest_where(|connection| connection.sender() == Some(id))
+    }
+
+    fn is_free(&self, number: u64) -> bool {
+        matches!(self.connections.get(number as usize), Some(None))
+    }
+
+    // A new connection, which is reported when something comes.
+    fn registered(&mut self, mut stream: TcpStream, peer: Option<NodeId>) -> Option<Connection> {
+        let _ = stream.set_nodelay(true);
+        let registry = self.poll.registry();
+        if registry
+            .register(&mut stream, ANY, Interest::READABLE)
+            .is_err()
+        {
+            self.note_error();
+            return None;
+        }
+        let age = self.next_order();
+        Some(Connection::new(self.alloc, stream, peer, age))
+    }
+
+    fn next_order(&mut self) -> u64 {
+        self.order = self.order.saturating_add(1);
+        self.order
+    }
+
+    // Puts a connection under a number, in place of the one that has it.
+    fn put(&mut self, number: u64, mut connection: Connection) {
+        if let Some(slot) = self.connections.get_mut(number as usize) {
+            connection.set_owes_end(matches!(slot, Some(old) if old.was_heard()));
+            *slot = Some(connection);
+        }
+    }
+
+    // What has come over the connection with this number.
+    fn hear<F: Framing>(&mut self, framing: &F, number: u64) -> Result<Option<Input>, AllocError>
+        requires { number < 64 }
+        ensures { IfOk result (λ found. IfSome found (λ input. IsTrue (has_low_conn input))) }
+    {
+        let order = self.next_order();
+        let Some(Some(connection)) = self.connections.get_mut(number as usize) else {
+            return Ok(None);
+        };
+        if connection.owes_end() {
+            connection.set_owes_end(false);
+            return Ok(Some(Input::Closed { conn: number }));
+        }
+        let was_heard = connection.was_heard();
+        match connection.hear(self.alloc, framing, order)? {
+            Heard::Nothing => return Ok(None),
+            Heard::Bytes(bytes) => {
+                return Ok(Some(Input::Bytes {
+                    conn: number,
+                    bytes,
+                }));
+            }
+            Heard::Stop => return Ok(Some(Input::Stop)),
+            Heard::End => {}
+        }
+        self.close(number);
+        if was_heard {
+            Ok(Some(Input::Closed { conn: number }))
+        } else {
+            Ok(None)
+        }
+    }
+
+    // Forgets the connection with this number, if there is one.
+    fn close(&mut self, number: u64) {
+        if let Some(slot) = self.connections.get_mut(number as usize) {
+            *slot = None;
+        }
+    }
+
+    // Ends the connection that is known by this number, if there is one.
+    pub(crate) fn drop_known(&mut self, number: u64) {
+        let Some(Some(connection)) = self.connections.get_mut(number as usize) else {
+            return;
+        };
+        if connection.owes_end() {
+            connection.set_owes_end(false);
+        } else {
+            self.close(number);
+        }
+    }
+
+    fn flush_all(&mut self) {
+        for number in 1..CONNECTIONS {
+            self.flush(number);
+        }
+    }
+
+    // Writes what waits of the connection with this number.
+    fn flush(&mut self, number: u64) {
+        let Some(Some(connection)) = self.connections.get_mut(number as usize) else {
+            return;
+        };
+        connection.flush(self.poll.registry());
+    }
+
+    // Sends each piece, or loses it.
+    pub(crate) fn send<F: Framing>(&mut self, rt: &impl Net, now: u64, framing: &F, out: &F::Out) {
+        for place in 0..framing.count(out) {
+            match framing.piece(self.alloc, out, place) {
+                Ok(Some(piece)) => self.send_piece(rt, now, piece),
+                Ok(None) => {}
+                Err(_) => self.note_error(),
+            }
+        }
+    }
+
+    // Sends a piece, or loses it.
+    fn send_piece(&mut self, rt: &impl Net, now: u64, piece: Piece) {
+        let Piece { to, bytes } = piece;
+        match to {
+            Target::Connection(number) => self.answer(number, bytes),
+            Target::Node(id) => self.send_to(rt, now, id, bytes),
+        }
+    }
+
+    // Sends bytes to a node, or loses them.
+    fn send_to(&mut self, rt: &impl Net, now: u64, id: NodeId, bytes: Bytes) {
+        if id == self.me {
+            self.send_own(bytes);
+        } else if let Some(number) = self.number_of(rt, now, id) {
+            self.send_over(number, bytes);
+        }
+    }
+
+    // Sends bytes over the connection that is known by this number, or loses them.
+    fn answer(&mut self, number: u64, bytes: Bytes) {
+        if let Some(Some(connection)) = self.connections.get(number as usize) {
+            if !connection.owes_end() {
+                self.send_over(number, bytes);
+            }
+        }
+    }
+
+    // Has bytes wait at the connection with this number, or loses them, and writes what it can.
+    fn send_over(&mut self, number: u64, bytes: Bytes) {
+        self.flush(number);
+        if let Some(Some(connection)) = self.connections.get_mut(number as usize) {
+            if connection.put(bytes).is_err() {
+                self.note_error();
+            }
+        }
+        self.flush(number);
+    }
+
+    // Passes bytes to the node itself, or loses them.
+    fn send_own(&mut self, bytes: Bytes) {
+        if self.own.put(bytes).is_err() {
+            self.note_error();
+        }
+    }
+
+    // The connection that leads to a node: the newest one that its frames came on, or that was opened to it. A listed one is
+    // dialled where there is none. The newest, since a peer that came back after a crash may leave an old one that tells
+    // nothing of its end.
+    fn number_of(&mut self, rt: &impl Net, now: u64, id: NodeId) -> Option<u64> {
+        let heard = self.heard_from(id);
+        if heard.is_some() {
+            return heard;
+        }
+        let dialled = self.newest_where(|connection| connection.peer() == Some(id));
+        if dialled.is_some() {
+            return dialled;
+        }
+        self.dial(rt, now, id)
+    }
+
+    // Opens a connection to a listed peer, if it is time. One that is refused is no fault.
+    fn dial(&mut self, rt: &impl Net, now: u64, id: NodeId) -> Option<u64> {
+        let address = self.address_to_dial(now, id)?;
+        let number = self.place_for_peer()?;
+        let stream = TcpStream::connect(rt, address).ok()?;
+        let connection = self.registered(stream, Some(id))?;
+        self.put(number, connection);
+        Some(number)
+    }
+
+    // Where a listed peer listens, if it is time to dial it. It is not given again too soon.
+    fn address_to_dial(&mut self, now: u64, id: NodeId) -> Option<SocketAddr> {
+        let listed = self.peers.get_mut(&id)?;
+        if now < listed.dial_from {
+            return None;
+        }
+        listed.dial_from = now.saturating_add(DIAL);
+        Some(listed.address)
+    }
+
+    // The number of the newest connection that passes the test.
+    fn newest_where<P: Fn(&Connection) -> bool + Drop>(&self, test: P) -> Option<u64>
+        requires { P.IsAlwaysCallable test }
+    {
+        let mut found = None;
+        let mut newest = 0;
+        for number in 1..CONNECTIONS {
+            if let Some(Some(connection)) = self.connections.get(number as usize) {
+                let is_newer = !connection.is_over() && connection.age() >= newest;
+                if is_newer && test(connection) {
+                    newest = connection.age();
+                    found = Some(number);
+                }
+            }
+        }
+        found
+    }
+
+    fn free_number(&self) -> Option<u64> {
+        (1..CONNECTIONS).find(|number| self.is_free(*number))
+    }
+}
+
+// A listener at this address, and what waits for it.
+fn listen(rt: &impl Net, address: &str) -> io::Result<(Poll, TcpListener)> {
+    let Ok(address) = address.parse::<SocketAddr>() else {
+        return Err(io::Error::from(io::ErrorKind::InvalidInput));
+    };
+    let poll = Poll::new(rt)?;
+    let mut listener = TcpListener::bind(rt, address)?;
+    poll.registry()
+        .register(&mut listener, ANY, Interest::READABLE)?;
+    Ok((poll, listener))
+}
