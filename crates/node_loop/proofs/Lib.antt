@@ -1,0 +1,11 @@
+pub mod Appending
+pub mod Feeding
+pub mod Telling
+pub mod Doing
+pub mod Turning
+pub mod Leaving
+pub mod Examples
+pub mod Lasting
+pub mod Stepping
+pub mod Holding
+pub mod Running

@@ -1,0 +1,177 @@
+-- What a step of the coordinator is for the node's life.
+use Rattle.std.proofs.Common.{◌≡◌, ℕ, Bool, true, false, ◌||◌, ◌⊎◌, inl, inr, Option, Some, List, [], ◌∷◌, refl, sym, ap, subst, ◌∙◌}
+use Rattle.std.specs.List.{flat_map}
+use Rattle.zen_disk.specs.Moments.{LeavesOnly}
+use Rattle.cluster_state.specs.declared.state.Kept.{Kept}
+use Rattle.state_journal.specs.declared.keeper.Keeper.{Ghosts}
+use Rattle.coord_state.specs.StandsFor.{StandsFor}
+use Rattle.coordinator.specs.declared.coordinator.Coordinator.{Coordinator}
+use Rattle.coordinator.specs.declared.step.Entries.{Entries}
+use Rattle.coordinator.specs.declared.step.Sealed.{Sealed}
+use Rattle.coordinator.specs.Lives.{StandsForLife, Survives}
+use Rattle.coordinator.specs.Steps.{Done as DoneBy, Failed}
+use Rattle.coordinator.specs.Turns.{IsAlong}
+use Rattle.coordinator.proofs.Entering.{faultless_next}
+use Rattle.policy_model.specs.declared.settings.Settings.{Settings}
+use Rattle.policy_model.specs.declared.events.Event.{Event}
+use Rattle.policy_model.specs.Events.{Item, Opens, Begins, Acts, Turns, Drops, Sends, Replies, Notes, And, acts_of}
+use Rattle.policy_model.specs.Entries.{Life, Lived, Did, log_of, frames_of, frames_in, replies_of, by_receiver}
+use Rattle.policy_model.specs.Follows.{IsStruck, Here, Later, is_fault, has_fault, is_start, starts_next, items_of}
+use Rattle.policy_model.specs.Views.{View, view_of}
+use Rattle.node_loop.specs.declared.lines.Told.{Told}
+use Rattle.node_loop.specs.Crashes.{Holds, IsLeftAlong}
+use Rattle.node_loop.specs.Reporting.{Reports, AreLined, sent_of}
+use Rattle.node_loop.specs.Steps.{Does, IsStopped}
+use Rattle.node_loop.specs.Texts.{entry_text}
+use Rattle.node_loop.proofs.Lasting.{leaves_now, leaves_struck}
+
+-- an event that is struck has a fault, and sends nothing
+struck_fault : (is left : List Item) → IsStruck is left → has_fault left ≡ true
+struck_fault is left (Here act sends wins rest fault w f) = rw f refl
+struck_fault is left (Later (Opens found) rest left' q) = struck_fault rest left' q
+struck_fault is left (Later (Begins event) rest left' q) = struck_fault rest left' q
+struck_fault is left (Later (Acts act o) rest left' q) = either (is_fault o) (struck_fault rest left' q)
+  where
+    either : (b : Bool) → has_fault left' ≡ true → (b || has_fault left') ≡ true
+    either true e = refl
+    either false e = e
+struck_fault is left (Later (Turns mode term) rest left' q) = struck_fault rest left' q
+struck_fault is left (Later (Drops member cause) rest left' q) = struck_fault rest left' q
+struck_fault is left (Later (Sends frame) rest left' q) = struck_fault rest left' q
+struck_fault is left (Later (Replies answer) rest left' q) = struck_fault rest left' q
+struck_fault is left (Later (Notes note) rest left' q) = struck_fault rest left' q
+
+struck_frames : (is left : List Item) → IsStruck is left → flat_map frames_in left ≡ []
+struck_frames is left (Here act sends wins rest fault w f) = refl
+struck_frames is left (Later (Opens found) rest left' q) = struck_frames rest left' q
+struck_frames is left (Later (Begins event) rest left' q) = struck_frames rest left' q
+struck_frames is left (Later (Acts act o) rest left' q) = struck_frames rest left' q
+struck_frames is left (Later (Turns mode term) rest left' q) = struck_frames rest left' q
+struck_frames is left (Later (Drops member cause) rest left' q) = struck_frames rest left' q
+struck_frames is left (Later (Sends frame) rest left' q) = struck_frames rest left' q
+struck_frames is left (Later (Replies answer) rest left' q) = struck_frames rest left' q
+struck_frames is left (Later (Notes note) rest left' q) = struck_frames rest left' q
+
+struck_replies : (is left : List Item) → IsStruck is left → replies_of left ≡ []
+struck_replies is left (Here act sends wins rest fault w f) = refl
+struck_replies is left (Later (Opens found) rest left' q) = struck_replies rest left' q
+struck_replies is left (Later (Begins event) rest left' q) = struck_replies rest left' q
+struck_replies is left (Later (Acts act o) rest left' q) = struck_replies rest left' q
+struck_replies is left (Later (Turns mode term) rest left' q) = struck_replies rest left' q
+struck_replies is left (Later (Drops member cause) rest left' q) = struck_replies rest left' q
+struck_replies is left (Later (Sends frame) rest left' q) = struck_replies rest left' q
+struck_replies is left (Later (Replies answer) rest left' q) = struck_replies rest left' q
+struck_replies is left (Later (Notes note) rest left' q) = struck_replies rest left' q
+
+pub runs_on : (stopped : Bool) → (stopped ≡ true → ⊥) → stopped ≡ false
+runs_on true never = absurd (never refl)
+runs_on false never = refl
+
+module _ {C K : Type 0} (k : Ghosts K)
+    (only_kept : (keeper : K) (found : Option Kept) → k.told → k.has_stopped keeper ≡ false → k.left_since keeper (k.moment keeper) found → found ≡ Some (k.record_of keeper))
+    (node_in : C → Coordinator K) (told_in : C → Option Told) where
+  -- the acts that the node's core stands for
+  abbrev core_stands : (c : C) (life : Life) → StandsForLife k (node_in c) life → StandsFor k.record_of k.has_stopped k.faults (node_in c).core (acts_of (log_of life))
+  core_stands c life stands = ap (λ (v : View). v.node) stands
+
+  abbrev stands_in : C → Settings → Life → Type 0
+  stands_in c s life = Reports k (node_in c) (told_in c) s life
+
+  abbrev moment_in : C → ℕ
+  moment_in c = k.moment (node_in c).core.keeper
+
+  abbrev left_in : C → ℕ → Option Kept → Type 0
+  left_in c = k.left_since (node_in c).core.keeper
+
+  abbrev holds_in : C → Life → C → Settings → Life → Type 0
+  holds_in old life now s new = Holds stands_in k.told moment_in left_in old now s life new
+
+  -- a crash within the event
+  left_within : (old new : C) (s : Settings) (life : Life) (event : Event) (items : List Item)
+      → (node_in old).settings ≡ s → StandsForLife k (node_in old) life → Survives k (node_in old) (node_in new) event → k.told
+      → LeavesOnly moment_in left_in old new (IsLeftAlong s life (Did event items ∷ []))
+  left_within old new s life event items same stands survives told =
+      let only = survives life stands told in
+      record {
+        later = only.later;
+        since = λ t found le left. either t found (only.since t found le left);
+      }
+    where
+      either : (t : ℕ) (found : Option Kept)
+          → left_in old t found ⊎ IsAlong (acts_of (log_of life)) (items_of (node_in old).settings (log_of life) event) found
+          → left_in old t found ⊎ IsLeftAlong s life (Did event items ∷ []) found
+      either t found (inl l) = inl l
+      either t found (inr p) = inr (inl (subst (λ x. IsAlong (acts_of (log_of life)) (items_of x (log_of life) event) found) same p))
+
+  pub did : (old new : C) (s : Settings) (life : Life) (event : Event) (sealed : Sealed) (lines : Option (List ℕ))
+      → stands_in old s life → is_start event ≡ starts_next life → k.has_stopped (node_in old).core.keeper ≡ false
+      → DoneBy k (node_in old) (node_in new) event (items_of (node_in old).settings (log_of life) event) sealed
+      → Survives k (node_in old) (node_in new) event
+      → AreLined s.me (told_in old) sealed.entries sealed.sends.list sealed.replies.sent lines (told_in new)
+      → Does (holds_in old life) (entry_text s) s life event new sent_of (record { sealed = sealed; lines = lines })
+  did old new s life event sealed lines r start runs done survives lined =
+      let items = items_of (node_in old).settings (log_of life) event in
+      let whole : has_fault items ≡ false = faultless_next (node_in old).settings (view_of (node_in old).settings (And (log_of life) (Begins event))) event in
+      let written = lined s life event items refl r.lines done.seals.entries done.seals.sends done.seals.replies in
+      record {
+        items = items;
+        next = record {
+          up = sym r.stopped ∙ runs;
+          start = start;
+          does = inl (ap (λ x. items_of x (log_of life) event) r.settings);
+        };
+        whole = whole;
+        stands = record {
+          stands = record {
+            settings = done.enters.settings ∙ r.settings;
+            stands = done.enters.stands life r.stands;
+            stopped = done.runs ∙ sym whole;
+            leaves = λ told.
+                let after = Lived life (Did event items) in
+                leaves_now k only_kept (node_in new).core after told done.runs whole (core_stands new after (done.enters.stands life r.stands));
+            lines = written.1;
+          };
+          entries = Did event items ∷ [];
+          reached = refl;
+          any_moment = left_within old new s life event items r.settings r.stands survives;
+        };
+        said = written.0;
+        sends = ap (λ l. record { frames = l; replies = sealed.replies.sent }) done.seals.sends ∙ ap (λ l. record { frames = frames_of items; replies = l }) done.seals.replies;
+      }
+
+  pub broke : (old new : C) (s : Settings) (life : Life) (event : Event) (told : Entries) (lines : Option (List ℕ))
+      → stands_in old s life → is_start event ≡ starts_next life → k.has_stopped (node_in old).core.keeper ≡ false
+      → Failed k (node_in old) (node_in new) event (items_of (node_in old).settings (log_of life) event) told
+      → Survives k (node_in old) (node_in new) event
+      → AreLined s.me (told_in old) told [] [] lines (told_in new)
+      → IsStopped (holds_in old life) (entry_text s) s life event new lines
+  broke old new s life event told lines r start runs failed survives lined =
+      let items = items_of (node_in old).settings (log_of life) event in
+      let whole : has_fault items ≡ false = faultless_next (node_in old).settings (view_of (node_in old).settings (And (log_of life) (Begins event))) event in
+      let fault : has_fault failed.left ≡ true = struck_fault items failed.left failed.struck in
+      let unsent = sym (ap by_receiver (struck_frames items failed.left failed.struck)) in
+      let written = lined s life event failed.left refl r.lines failed.entries unsent (sym (struck_replies items failed.left failed.struck)) in
+      record {
+        items = failed.left;
+        next = record {
+          up = sym r.stopped ∙ runs;
+          start = start;
+          does = inr (subst (λ x. IsStruck (items_of x (log_of life) event) failed.left) r.settings failed.struck);
+        };
+        fault = fault;
+        stands = record {
+          stands = record {
+            settings = failed.enters.settings ∙ r.settings;
+            stands = failed.enters.stands life r.stands;
+            stopped = failed.stopped ∙ sym fault;
+            leaves = λ told.
+                leaves_struck k only_kept (node_in old).core (node_in new).core life event items failed.left
+                failed.struck whole fault failed.enters.core told runs (core_stands old life r.stands);
+            lines = written.1;
+          };
+          entries = Did event failed.left ∷ [];
+          reached = refl;
+          any_moment = left_within old new s life event failed.left r.settings r.stands survives;
+        };
+        said = written.0;
+      }

@@ -1,0 +1,28 @@
+use Rattle.std.proofs.Common.{refl, subst}
+use Rattle.zen_link.specs.declared.link.Input.TheVariants.{Bytes}
+use Rattle.node_loop.specs.Intakes.{Read, Unread}
+use Rattle.node_loop.specs.Connections.{makes}
+use Rattle.node_loop.specs.Tells.{Tells}
+use Rattle.node_loop.proofs.Turning.{fed_reads, unread_reads}
+use Rattle.node_loop.specs.Nodes.{HoldsBy}
+use Rattle.node_loop.proofs.node.take_bytes.Goals as goal
+
+pub returns-in-Ok-clause-takes : goal.returns-in-Ok-clause-takes
+returns-in-Ok-clause-takes g c s life intakes stands up reads =
+    let fed = fed_reads c.args.connections.now c.feed_at.new.connections c.args.conn c.args.bytes.now c.in-Ok.came intakes c.requires.all c.requires.low reads c.in-Ok.ensures.ok in
+    record {
+      intake = Read (Bytes c.args.conn c.args.bytes.now);
+      is = refl;
+      tells = subst
+          (λ h. Tells g.S.Steps.output (g.S.Steps.text s) s life (makes h) c.tell_came.result (g.O.Sink.written c.args.out.now) (g.O.Sink.written c.tell_came.new.out) (g.L.Link.told c.args.link.now) (g.L.Link.told c.tell_came.new.link) (HoldsBy g.S.Steps c.args.steps.now c.tell_came.new.steps s life))
+          fed.0 (c.tell_came.ensures.tells s life stands up);
+      reads = fed.1;
+    }
+
+pub returns-in-Err-clause-takes : goal.returns-in-Err-clause-takes
+returns-in-Err-clause-takes g c s life intakes stands up reads = record {
+  intake = Unread c.args.conn c.args.bytes.now;
+  is = refl;
+  tells = c.tell_unread.ensures.tells s life stands up;
+  reads = unread_reads c.args.connections.now c.feed_at.new.connections c.args.conn c.args.bytes.now intakes c.requires.all reads c.in-Err.ensures.err;
+}

@@ -1,0 +1,24 @@
+use Rattle.std.proofs.Common.{refl, Some}
+use Rattle.zen_link.specs.declared.link.Input.TheVariants.{Tick, Stop}
+use Rattle.node_loop.specs.declared.node.End.TheVariants as ends
+use Rattle.node_loop.specs.Intakes.{Read}
+use Rattle.node_loop.proofs.Telling.{rests}
+use Rattle.node_loop.specs.Nodes.{HoldsBy}
+use Rattle.node_loop.proofs.Leaving.{holds_still}
+use Rattle.node_loop.proofs.node.take_input.Goals as goal
+
+pub returns-in-Tick-clause-takes : goal.returns-in-Tick-clause-takes
+returns-in-Tick-clause-takes g c s life intakes stands up reads = rw c.in-Tick.is (record {
+  intake = Read (Tick c.in-Tick.now c.in-Tick.word);
+  is = refl;
+  tells = c.tell_event.ensures.tells refl s life stands up;
+  reads = λ conn low. reads conn low;
+})
+
+pub returns-in-Stop-clause-takes : goal.returns-in-Stop-clause-takes
+returns-in-Stop-clause-takes g c s life intakes stands up reads = rw c.in-Stop.is (record {
+  intake = Read Stop;
+  is = refl;
+  tells = rests g.S.Steps.output (g.S.Steps.text s) s life (Some ends.Stop) (g.O.Sink.written c.args.out.now) (g.L.Link.told c.args.link.now) (g.L.Link.told c.args.link.now) (HoldsBy g.S.Steps c.args.steps.now c.args.steps.now s life) (λ is. absurd cc) (holds_still g.S.Steps s c.args.steps.now life stands) up refl;
+  reads = λ conn low. reads conn low;
+})

@@ -1,0 +1,50 @@
+use Rattle.std.proofs.Common.{sym, ap, subst, ◌∙◌}
+use Rattle.coordinator.specs.Steps.{AreEntries}
+use Rattle.node_loop.proofs.Stepping.{did, broke, runs_on}
+use Rattle.node_loop.proofs.reporter.ReporterSteps.step.Goals as goal
+
+pub invariant_of-self : goal.invariant_of-self
+invariant_of-self g c = record {
+  ready = c.step.ensures.ready;
+  own = c.args.self.now.own ∙ ap (λ s. s.me) (sym c.in-Ok.ensures.stays.settings);
+}
+
+pub invariant_of-self-in-Err-Disk : goal.invariant_of-self-in-Err-Disk
+invariant_of-self-in-Err-Disk g c =
+    let stays = rw c.in-Err-Disk.field-0-is at c.in-Err-Disk.ensures.stays in
+    record {
+      ready = c.step.ensures.ready;
+      own = c.args.self.now.own ∙ ap (λ s. s.me) (sym stays.goes_on.settings);
+    }
+
+pub invariant_of-self-in-Err-Memory : goal.invariant_of-self-in-Err-Memory
+invariant_of-self-in-Err-Memory g c =
+    let same = rw c.in-Err-Memory.field-0-is at c.in-Err-Memory.ensures.stays in
+    record {
+      ready = c.step.ensures.ready;
+      own = c.args.self.now.own ∙ ap (λ n. n.settings.me) (sym same);
+    }
+
+pub invariant_of-self-in-Err-Stopped : goal.invariant_of-self-in-Err-Stopped
+invariant_of-self-in-Err-Stopped g c =
+    let same = rw c.in-Err-Stopped.field-0-is at c.in-Err-Stopped.ensures.stays in
+    record {
+      ready = c.step.ensures.ready;
+      own = c.args.self.now.own ∙ ap (λ n. n.settings.me) (sym same);
+    }
+
+pub returns-in-Ok-clause-steps : goal.returns-in-Ok-clause-steps
+returns-in-Ok-clause-steps g c s life stands start =
+    did g.K.Keeper g.met.K.Keeper.only_kept (λ r. r.node) (λ r. r.told) c.args.self.now _ s life c.args.event c.in-Ok.sealed c.report-lines.result stands start
+    (runs_on _ (λ stopped. absurd (let never = c.in-Ok.ensures.stopped.1 stopped in cc)))
+    (c.in-Ok.ensures.steps life stands.stands) c.step.ensures.crash
+    (λ s2 life2 event items me right are sent answered. c.report-lines.ensures s2 life2 event items (c.args.self.now.own ∙ ap (λ x. x.me) stands.settings ∙ me) right
+    (subst (λ e. AreEntries event items e) (sym c.entries.ensures) are)
+    (c.as_slice.ensures ∙ ap (λ l. l.list) c.sends.ensures ∙ sent) (c.as_slice-in-Ok.ensures ∙ ap (λ l. l.sent) c.replies.ensures ∙ answered))
+
+pub returns-in-Err-Disk-clause-steps : goal.returns-in-Err-Disk-clause-steps
+returns-in-Err-Disk-clause-steps g c s life stands start =
+    broke g.K.Keeper g.met.K.Keeper.only_kept (λ r. r.node) (λ r. r.told) c.args.self.now _ s life c.args.event c.in-Err-Disk.entries c.report.result stands start
+    (runs_on _ (λ stopped. absurd (let never = c.in-Err-Disk.ensures.stopped.1 stopped in let is = c.in-Err-Disk.field-0-is in cc)))
+    (rw c.in-Err-Disk.field-0-is at (c.in-Err-Disk.ensures.steps life stands.stands)) c.step.ensures.crash
+    (λ s2 life2 event items me. c.report.ensures s2 life2 event items (c.args.self.now.own ∙ ap (λ x. x.me) stands.settings ∙ me))

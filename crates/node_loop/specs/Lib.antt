@@ -1,0 +1,15 @@
+pub mod Intakes
+pub mod Connections
+pub mod Happenings
+pub mod Feeds
+pub mod Feeding
+pub mod Reports
+pub mod Crashes
+pub mod Tells
+pub mod Steps
+pub mod Turns
+pub mod Texts
+pub mod Reporting
+pub mod Limits
+pub mod Running
+pub mod Nodes

@@ -1,0 +1,19 @@
+-- How much a node holds of what comes over a connection.
+use Rattle.std.specs.Prelude.{ℕ, ◌+◌, ◌<◌, ◌≤◌, List, length, get_or}
+use Rattle.wire_frames.specs.Frames.{most_body}
+use Rattle.wire_frames.specs.Streams.{Rest, Fault}
+use Rattle.node_loop.specs.declared.connection.Connection.{Connection}
+use Rattle.node_loop.specs.declared.connection.Connection.TheVariants.{Fresh, Frames, Lines}
+use Rattle.node_loop.specs.Intakes.{Intakes}
+use Rattle.node_loop.specs.Turns.{Reads}
+
+-- less than a frame with its length may have, or no more than shows that a line is too long
+abbrev pub HoldsLittle : Connection → Type 0
+HoldsLittle Fresh = Unit {0}
+HoldsLittle (Frames (Rest bytes)) = length bytes < 4 + most_body
+HoldsLittle (Frames (Fault fault)) = Unit {0}
+HoldsLittle (Lines bytes) = length bytes ≤ 8193
+
+-- whatever came, of each connection
+abbrev pub LawHoldsLittle : Type 0
+LawHoldsLittle = (readings : List Connection) (intakes : Intakes) → Reads readings intakes → (conn : ℕ) → conn < 64 → HoldsLittle (get_or readings conn Fresh)

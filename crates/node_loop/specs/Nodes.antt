@@ -1,0 +1,9 @@
+-- The words for what a node comes to, by its ghost members.
+use Rattle.policy_model.specs.declared.settings.Settings.{Settings}
+use Rattle.policy_model.specs.Entries.{Life}
+use Rattle.node_loop.specs.declared.steps.Steps.{Ghosts}
+use Rattle.node_loop.specs.Crashes.{Holds}
+
+-- a node that stood for one life stands for another, and a crash at any moment between leaves the record of what was done so far
+abbrev pub HoldsBy : {S X : Type 0} (k : Ghosts S X) (old now : S) (s : Settings) (life new : Life) → Type 0
+HoldsBy k old now s life new = Holds k.stands_for k.told k.moment k.left_since old now s life new

@@ -1,0 +1,108 @@
+-- Part of the statement: the lines that a node writes of its life, one entry after the other.
+use Rattle.std.specs.Prelude.{◌≡◌, ℕ, ◌+◌, ◌^◌, min, Option, None, Some, List, [], ◌∷◌, ◌++◌, codes, decimal}
+use Rattle.cluster_state.specs.declared.fault.FieldError.{FieldError}
+use Rattle.cluster_state.specs.declared.fault.FieldError.TheVariants as field
+use Rattle.cluster_state.specs.declared.state.ClusterState.{ClusterState}
+use Rattle.wire_frames.specs.declared.fault.FrameFault.{FrameFault}
+use Rattle.wire_frames.specs.declared.fault.FrameFault.TheVariants.{TooLong, UnknownKind, Field, Trailing}
+use Rattle.wire_frames.specs.declared.frame.Frame.{Frame}
+use Rattle.master_tasks.specs.declared.waiting.Outgoing.{Outgoing}
+use Rattle.voting_config.specs.Ids.{Id}
+use Rattle.world_model.specs.NodeState.{term_of, accepted_of, committed_of}
+use Rattle.trace_text.specs.Trace.{record_line}
+use Rattle.event_text.specs.Events.{drops_text, replies_text}
+use Rattle.event_text.specs.Frames.{frame_line, message_text}
+use Rattle.event_text.specs.Published.{published_after}
+use Rattle.event_text.specs.Steps.{steps_text}
+use Rattle.policy_model.specs.declared.events.Event.{Event}
+use Rattle.policy_model.specs.declared.events.Event.TheVariants.{Start, Tick, Frame as FrameCame, Client as LineCame}
+use Rattle.policy_model.specs.declared.events.MemberDrop.{MemberDrop}
+use Rattle.policy_model.specs.declared.events.Step.{Step}
+use Rattle.policy_model.specs.declared.settings.Settings.{Settings}
+use Rattle.policy_model.specs.Events.{acts_of}
+use Rattle.policy_model.specs.Entries.{Entry, Did, Gone, Bad, NoMemory, Unread, Life, NotBegun, Opened, Lived, log_of, steps_of, drops_of, frames_of, replies_of}
+use Rattle.node_loop.specs.declared.lines.Told.{Told}
+
+-- a node numbers its frames from 1 on since its journal was opened; at 2^62 the number stays
+abbrev pub next_number : ℕ → ℕ
+next_number count = min (count + 1) (2 ^ 62)
+
+-- the lines of frames that are sent after the one of this number
+abbrev pub numbered : ℕ → List Frame → List ℕ
+numbered count [] = []
+numbered count (f ∷ fs) = frame_line (next_number count) f ++ numbered (next_number count) fs
+
+-- the number of the last of them
+abbrev pub number_after : ℕ → List Frame → ℕ
+number_after count [] = count
+number_after count (f ∷ fs) = number_after (next_number count) fs
+
+-- the number of the last frame that was sent
+abbrev pub last_number : Life → ℕ
+last_number NotBegun = 0
+last_number (Opened life found) = 0
+last_number (Lived life (Did event items)) = number_after (last_number life) (frames_of items)
+last_number (Lived life e) = last_number life
+
+-- the state that the node published last since its journal was opened
+abbrev pub published_of : Life → Option ClusterState
+published_of NotBegun = None
+published_of (Opened life found) = None
+published_of (Lived life (Did event items)) = published_after (published_of life) (steps_of items)
+published_of (Lived life e) = published_of life
+
+-- what is kept of a life for later lines is right, or it is lost
+abbrev pub IsTold : Option Told → Life → Type 0
+IsTold None life = Unit {0}
+IsTold (Some told) life = (told.published ≡ published_of life) × (told.number ≡ last_number life)
+
+-- what came to the node
+abbrev pub event_line : Event → List ℕ
+event_line Start = codes "> start\n"
+event_line (Tick now word) = codes "> tick " ++ decimal now ++ codes " " ++ decimal word ++ codes "\n"
+event_line (FrameCame frame) = codes "> frame " ++ frame.from ++ codes " " ++ message_text frame.message ++ codes "\n"
+event_line (LineCame conn line) = codes "> client " ++ line ++ codes "\n"
+
+-- what is wrong with a field, by its name
+abbrev pub field_text : FieldError → List ℕ
+field_text field.Short = codes "Short"
+field_text field.TermTooLarge = codes "TermTooLarge"
+field_text field.VersionTooLarge = codes "VersionTooLarge"
+field_text field.BadFlag = codes "BadFlag"
+field_text field.TooMany = codes "TooMany"
+field_text field.BadId = codes "BadId"
+field_text field.BadText = codes "BadText"
+field_text field.NotOrdered = codes "NotOrdered"
+
+-- what is wrong with the bytes of a frame
+abbrev pub fault_text : FrameFault → List ℕ
+fault_text TooLong = codes "TooLong"
+fault_text (UnknownKind kind) = codes "UnknownKind(" ++ decimal kind ++ codes ")"
+fault_text (Field fault) = codes "Field(" ++ field_text fault ++ codes ")"
+fault_text Trailing = codes "Trailing"
+
+-- a connection ended
+abbrev pub gone_line : ℕ → List ℕ
+gone_line conn = codes "> gone " ++ decimal conn ++ codes "\n"
+
+-- the bytes of a connection are faulty
+abbrev pub bad_line : ℕ → FrameFault → List ℕ
+bad_line conn fault = codes "> bad " ++ decimal conn ++ codes " " ++ fault_text fault ++ codes "\n"
+
+-- what came, and what the node shows of it: acts and changes of mode, then drops, frames and replies. Before it the node had published
+-- this state last and sent a frame of this number.
+abbrev pub event_lines : Id → Option ClusterState → ℕ → Event → List Step → List MemberDrop → List Frame → List Outgoing → List ℕ
+event_lines node published number event steps drops frames replies =
+    event_line event ++ steps_text node published steps ++ drops_text node drops ++ numbered number frames ++ replies_text node replies
+
+-- the lines of an entry; where memory was lacking, they say that alone
+abbrev pub entry_text : Settings → Life → Entry → List ℕ
+entry_text s life (Did event items) = event_lines s.me (published_of life) (last_number life) event (steps_of items) (drops_of items) (frames_of items) (replies_of items)
+entry_text s life (Gone conn) = gone_line conn
+entry_text s life (Bad conn fault) = bad_line conn fault
+entry_text s life NoMemory = codes "> nomemory\n"
+entry_text s life (Unread conn) = codes "> nomemory\n"
+
+-- the record that a node's journal gave
+abbrev pub opening_text : Settings → Life → List ℕ
+opening_text s life = record_line s.me (term_of (acts_of (log_of life))) (accepted_of (acts_of (log_of life))) (committed_of (acts_of (log_of life)))

@@ -1,0 +1,179 @@
+ghost use Rattle.std.specs.Prelude.{◌≡◌, ◌++◌, OnOk};
+ghost use Rattle.wire_frames.specs.declared.fault.FrameFault.TheVariants.{UnknownKind, Field};
+ghost use Rattle.policy_model.specs.declared.events.Event.TheVariants.{Tick as TickCame, Frame as FrameCame, Client as LineCame};
+ghost use Rattle.node_loop.specs.Texts.{event_line, event_lines, fault_text, field_text, next_number, numbered, number_after, bad_line, gone_line};
+ghost use Rattle.event_text.specs.Published.{published_after};
+
+use cluster_state::{ClusterState, FieldError};
+use event_text::{write_drops, write_frame_line, write_message, write_replies, write_steps};
+use master_tasks::Outgoing;
+use policy_model::{Event, MemberDrop, Step};
+use schedule_text::Text;
+use std::alloc::{AllocError, Global};
+use voting_config::NodeId;
+use wire_frames::{Frame, FrameFault};
+
+// Where the numbers of frames stay.
+const LAST_NUMBER: u64 = 1 << 62;
+
+/// What the lines of an event need of those before it.
+#[derive(Drop)]
+pub struct Told {
+    /// The state that the node published last.
+    pub published: Option<ClusterState>,
+    /// The number of its last frame.
+    pub number: u64,
+}
+
+fn write_tick(text: &mut Text, now: u64, word: u64) -> Result<(), AllocError>
+    ensures { OnOk result (text.new ≡ text.old ++ event_line (TickCame now word)) }
+{
+    text.word("> tick ")?;
+    text.number(now)?;
+    text.word(" ")?;
+    text.number(word)?;
+    text.word("\n")
+}
+
+fn write_frame(text: &mut Text, alloc: Global, frame: &Frame) -> Result<(), AllocError>
+    ensures { OnOk result (text.new ≡ text.old ++ event_line (FrameCame frame.now)) }
+{
+    text.word("> frame ")?;
+    text.id(frame.from)?;
+    text.word(" ")?;
+    write_message(text, alloc, &frame.message)?;
+    text.word("\n")
+}
+
+fn write_client(text: &mut Text, line: &[u8]) -> Result<(), AllocError>
+    ensures { OnOk result (text.new ≡ text.old ++ event_line (LineCame 0 line.now)) }
+{
+    text.word("> client ")?;
+    text.bytes(line)?;
+    text.word("\n")
+}
+
+/// Writes what came to the node.
+pub fn write_event_line(text: &mut Text, alloc: Global, event: &Event) -> Result<(), AllocError>
+    ensures { OnOk result (text.new ≡ text.old ++ event_line event.now) }
+{
+    match event {
+        Event::Start => text.word("> start\n"),
+        Event::Tick { now, word } => write_tick(text, *now, *word),
+        Event::Frame(frame) => write_frame(text, alloc, frame),
+        Event::Client { conn: _, line } => write_client(text, line.as_bytes()),
+    }
+}
+
+fn number_behind(number: u64) -> u64
+    ensures { result ≡ next_number number }
+{
+    if number < LAST_NUMBER {
+        number + 1
+    } else {
+        LAST_NUMBER
+    }
+}
+
+/// Writes the lines of frames that are sent after the one of this number, and gives the number of the last.
+pub fn write_numbered(
+    text: &mut Text,
+    alloc: Global,
+    number: &mut u64,
+    frames: &[Frame],
+) -> Result<(), AllocError>
+    ensures text { OnOk result (text.new ≡ text.old ++ numbered number.old frames.now) }
+    ensures number { OnOk result (number.new ≡ number_after number.old frames.now) }
+{
+    for frame in frames {
+        *number = number_behind(*number);
+        write_frame_line(text, alloc, *number, frame)?;
+    }
+    Ok(())
+}
+
+/// Writes an event of a node: what came, its acts and changes of mode, then drops, frames and replies. Where it answers an
+/// error, what is kept for later lines is lost.
+pub fn write_entry(
+    text: &mut Text,
+    alloc: Global,
+    node: NodeId,
+    told: &mut Told,
+    event: &Event,
+    steps: &[Step],
+    drops: &[MemberDrop],
+    frames: &[Frame],
+    replies: &[Outgoing],
+) -> Result<(), AllocError>
+    ensures text { OnOk result (text.new ≡ text.old ++ event_lines node told.old.published told.old.number event.now steps.now drops.now frames.now replies.now) }
+    ensures published { OnOk result (told.new.published ≡ published_after told.old.published steps.now) }
+    ensures number { OnOk result (told.new.number ≡ number_after told.old.number frames.now) }
+{
+    write_event_line(text, alloc, event)?;
+    write_steps(text, alloc, node, &mut told.published, steps)?;
+    write_drops(text, node, drops)?;
+    write_numbered(text, alloc, &mut told.number, frames)?;
+    write_replies(text, alloc, node, replies)
+}
+
+fn name_of_field(fault: FieldError) -> &'static str
+    ensures { result.now ≡ field_text fault }
+{
+    match fault {
+        FieldError::Short => "Short",
+        FieldError::TermTooLarge => "TermTooLarge",
+        FieldError::VersionTooLarge => "VersionTooLarge",
+        FieldError::BadFlag => "BadFlag",
+        FieldError::TooMany => "TooMany",
+        FieldError::BadId => "BadId",
+        FieldError::BadText => "BadText",
+        FieldError::NotOrdered => "NotOrdered",
+    }
+}
+
+fn write_kind(text: &mut Text, kind: u8) -> Result<(), AllocError>
+    ensures { OnOk result (text.new ≡ text.old ++ fault_text (UnknownKind kind)) }
+{
+    text.word("UnknownKind(")?;
+    text.number(kind as u64)?;
+    text.word(")")
+}
+
+fn write_field(text: &mut Text, fault: FieldError) -> Result<(), AllocError>
+    ensures { OnOk result (text.new ≡ text.old ++ fault_text (Field fault)) }
+{
+    text.word("Field(")?;
+    text.word(name_of_field(fault))?;
+    text.word(")")
+}
+
+fn write_fault(text: &mut Text, fault: FrameFault) -> Result<(), AllocError>
+    ensures { OnOk result (text.new ≡ text.old ++ fault_text fault) }
+{
+    match fault {
+        FrameFault::TooLong => text.word("TooLong"),
+        FrameFault::UnknownKind(kind) => write_kind(text, kind),
+        FrameFault::Field(fault) => write_field(text, fault),
+        FrameFault::Trailing => text.word("Trailing"),
+    }
+}
+
+/// Writes that the bytes of a connection are faulty.
+pub fn write_bad(text: &mut Text, conn: u64, fault: FrameFault) -> Result<(), AllocError>
+    ensures { OnOk result (text.new ≡ text.old ++ bad_line conn fault) }
+{
+    text.word("> bad ")?;
+    text.number(conn)?;
+    text.word(" ")?;
+    write_fault(text, fault)?;
+    text.word("\n")
+}
+
+/// Writes that a connection ended.
+pub fn write_gone(text: &mut Text, conn: u64) -> Result<(), AllocError>
+    ensures { OnOk result (text.new ≡ text.old ++ gone_line conn) }
+{
+    text.word("> gone ")?;
+    text.number(conn)?;
+    text.word("\n")
+}

@@ -1,0 +1,631 @@
+ghost use Rattle.node_loop.specs.Intakes.{Intakes, NoIntakes};
+ghost use Rattle.node_loop.specs.Limits.{LawHoldsLittle};
+ghost use Rattle.node_loop.specs.Turns.{Reads, TakesIn, Turns, Says, ServesOn, Serves, is_stop, is_stop_input};
+ghost use Rattle.zen_link.specs.Told.{has_low_conn};
+ghost use Rattle.zen_link.specs.declared.link.Input.TheVariants.{Bytes as BytesCame, Closed as ConnectionClosed};
+ghost use Rattle.std.specs.Prelude.{All, IfOk, IfErr, length, ◌<◌, ◌≡◌, ℕ, ◌≤◌, IsTrue, false, Option, Some, None, List, [], ◌∷◌, ◌++◌};
+ghost use Rattle.zen_disk.specs.Faults.{Rose};
+ghost use Rattle.zen_link.specs.declared.link.Traffic.{Traffic};
+ghost use Rattle.policy_model.specs.declared.settings.Settings.{Settings};
+ghost use Rattle.policy_model.specs.declared.events.Event.TheVariants.{Start};
+ghost use Rattle.policy_model.specs.Entries.{Life};
+ghost use Rattle.policy_model.specs.Follows.{is_start};
+ghost use Rattle.policy_model.specs.Fitting.{IsFitEvent};
+ghost use Rattle.wire_frames.specs.Frames.{IsFitFrame};
+ghost use Rattle.node_loop.specs.Connections.{of_frames, of_lines, of_fault, makes};
+ghost use Rattle.node_loop.specs.Feeds.{HasFitFrames, happenings_of};
+ghost use Rattle.node_loop.specs.Happenings.{Comes, Faulty, Ends, Unread, Refused, Makes};
+ghost use Rattle.policy_model.specs.Entries.{Entry, Did, NoMemory, Unread as UnreadEntry};
+ghost use Rattle.node_loop.specs.Nodes.{HoldsBy};
+ghost use Rattle.node_loop.specs.Steps.{Does, IsStopped, FailsTo, IsDiskError};
+ghost use Rattle.node_loop.specs.Tells.{Tells, HasCauses, IsUp, IsOpened, does_all, goes_on};
+
+use crate::connection::{Came, Connection, close_at, feed_at};
+use crate::steps::{Done, StepError, Steps};
+use client_lines::Line;
+use policy_model::Event;
+use schedule_text::Text;
+use std::alloc::{AllocError, Global};
+use wire_frames::{Fed, Frame, FrameFault};
+use zen_link::{Input, Link, LinkError, Sink, write_all};
+
+/// Why a run of a node ended.
+#[derive(Clone, Copy, Debug, PartialEq, Eq)]
+pub enum End {
+    /// The link gave Stop.
+    Stop,
+    /// All turns were taken.
+    Turns,
+    /// The sink failed.
+    Write,
+    /// The disk failed.
+    Disk,
+    /// The link failed.
+    Link,
+    /// A line found no memory.
+    Memory,
+}
+
+// Writes the lines of an event that was done, and then sends what it has to.
+fn tell_done<S: Steps, L: Link<Out = S::Sealed>, O: Sink>(
+    steps: &S,
+    link: &mut L,
+    out: &mut O,
+    done: Done<S::Sealed>,
+) -> Option<End>
+    ensures tells { (old : S) (s : Settings) (life : Life) (event : _) → Does (λ now s2 new. HoldsBy S.Steps old now s2 life new) (S.text s) s life event steps.now S.output done
+        → Tells S.output (S.text s) s life (Makes (Comes event) ∷ []) result (O.written out.old) (O.written out.new) (L.told link.old) (L.told link.new) (HoldsBy S.Steps old steps.now s life) }
+    ensures within { does_all result ≡ goes_on result }
+    ensures stop { is_stop result ≡ false }
+    ensures causes { HasCauses result (S.faults steps.now) (S.faults steps.now) (O.faults out.old) (O.faults out.new) (L.faults link.old) (L.faults link.new) }
+{
+    let Done { sealed, lines } = done;
+    let Some(lines) = lines else {
+        return Some(End::Memory);
+    };
+    let Ok(()) = write_all(out, lines.as_bytes()) else {
+        return Some(End::Write);
+    };
+    link.send(sealed);
+    None
+}
+
+// Writes the lines of an event that the disk stopped.
+fn tell_struck<S: Steps, O: Sink>(steps: &S, out: &mut O, lines: Option<Text>) -> Option<End>
+    ensures tells { (old : S) (s : Settings) (life : Life) (event : _) (told : Option (List (Traffic S.Sealed))) → IsStopped (λ now s2 new. HoldsBy S.Steps old now s2 life new) (S.text s) s life event steps.now lines
+        → Tells S.output (S.text s) s life (Makes (Comes event) ∷ []) result (O.written out.old) (O.written out.new) told told (HoldsBy S.Steps old steps.now s life) }
+    ensures within { does_all result ≡ goes_on result }
+    ensures stop { is_stop result ≡ false }
+    ensures write { result ≡ Some End.Write → Rose (O.faults out.old) (O.faults out.new) }
+    ensures link { ¬ (result ≡ Some End.Link) }
+    ensures later { O.faults out.old ≤ O.faults out.new }
+{
+    let Some(lines) = lines else {
+        return Some(End::Memory);
+    };
+    let Ok(()) = write_all(out, lines.as_bytes()) else {
+        return Some(End::Write);
+    };
+    Some(End::Disk)
+}
+
+// Writes that no memory was found.
+fn tell_no_memory<S: Steps, O: Sink>(steps: &S, out: &mut O) -> Option<End>
+    ensures tells { (s : Settings) (life : Life) (event : _) (told : Option (List (Traffic S.Sealed))) → IsUp life → S.stands_for steps.now s life
+        → Tells S.output (S.text s) s life (Makes (Comes event) ∷ []) result (O.written out.old) (O.written out.new) told told (HoldsBy S.Steps steps.now steps.now s life) }
+    ensures refused { (s : Settings) (life : Life) (told : Option (List (Traffic S.Sealed))) → IsUp life → S.stands_for steps.now s life
+        → Tells S.output (S.text s) s life (Makes Refused ∷ []) result (O.written out.old) (O.written out.new) told told (HoldsBy S.Steps steps.now steps.now s life) }
+    ensures within { does_all result ≡ goes_on result }
+    ensures stop { is_stop result ≡ false }
+    ensures write { result ≡ Some End.Write → Rose (O.faults out.old) (O.faults out.new) }
+    ensures others { (¬ (result ≡ Some End.Link)) × (¬ (result ≡ Some End.Disk)) }
+    ensures later { O.faults out.old ≤ O.faults out.new }
+{
+    let Ok(()) = write_all(out, steps.no_memory_line()) else {
+        return Some(End::Write);
+    };
+    None
+}
+
+// Does an event, and tells it.
+fn tell_event<S: Steps, L: Link<Out = S::Sealed>, O: Sink>(
+    steps: &mut S,
+    alloc: Global,
+    link: &mut L,
+    out: &mut O,
+    event: Event,
+) -> Option<End>
+    requires fit { IsFitEvent event }
+    ensures tells { is_start event ≡ false → (s : Settings) (life : Life) → S.stands_for steps.old s life → IsUp life
+        → Tells S.output (S.text s) s life (Makes (Comes event) ∷ []) result (O.written out.old) (O.written out.new) (L.told link.old) (L.told link.new) (HoldsBy S.Steps steps.old steps.new s life) }
+    ensures within { does_all result ≡ goes_on result }
+    ensures stop { is_stop result ≡ false }
+    ensures causes { HasCauses result (S.faults steps.old) (S.faults steps.new) (O.faults out.old) (O.faults out.new) (L.faults link.old) (L.faults link.new) }
+{
+    match steps.step(alloc, event) {
+        Ok(done) => tell_done(steps, link, out, done),
+        Err(error) => tell_error(steps, out, error),
+    }
+}
+
+// Writes what there is to say of an event that was not done to its end.
+fn tell_error<S: Steps, O: Sink>(steps: &S, out: &mut O, error: StepError) -> Option<End>
+    ensures tells { (old : S) (s : Settings) (life : Life) (event : _) (told : Option (List (Traffic S.Sealed))) → IsUp life
+        → FailsTo (λ now s2 new. HoldsBy S.Steps old now s2 life new) (S.text s) s life event steps.now error
+        → Tells S.output (S.text s) s life (Makes (Comes event) ∷ []) result (O.written out.old) (O.written out.new) told told (HoldsBy S.Steps old steps.now s life) }
+    ensures within { does_all result ≡ goes_on result }
+    ensures stop { is_stop result ≡ false }
+    ensures write { result ≡ Some End.Write → Rose (O.faults out.old) (O.faults out.new) }
+    ensures link { ¬ (result ≡ Some End.Link) }
+    ensures disk { result ≡ Some End.Disk → IsDiskError error }
+    ensures later { O.faults out.old ≤ O.faults out.new }
+{
+    match error {
+        StepError::Disk(lines) => tell_struck(steps, out, lines),
+        StepError::Memory => tell_no_memory(steps, out),
+        // A node that met a fault of its disk takes no more turns.
+        StepError::Stopped => Some(End::Memory),
+    }
+}
+
+// Writes that a connection ended.
+fn tell_gone<S: Steps, L: Link<Out = S::Sealed>, O: Sink>(
+    steps: &S,
+    alloc: Global,
+    link: &mut L,
+    out: &mut O,
+    conn: u64,
+) -> Option<End>
+    ensures tells { (s : Settings) (life : Life) → S.stands_for steps.now s life → IsUp life
+        → Tells S.output (S.text s) s life (Makes (Ends conn) ∷ []) result (O.written out.old) (O.written out.new) (L.told link.old) (L.told link.new) (HoldsBy S.Steps steps.now steps.now s life) }
+    ensures within { does_all result ≡ goes_on result }
+    ensures stop { is_stop result ≡ false }
+    ensures causes { HasCauses result (S.faults steps.now) (S.faults steps.now) (O.faults out.old) (O.faults out.new) (L.faults link.old) (L.faults link.new) }
+{
+    let Ok(line) = steps.gone_line(alloc, conn) else {
+        return Some(End::Memory);
+    };
+    let Ok(()) = write_all(out, line.as_bytes()) else {
+        return Some(End::Write);
+    };
+    None
+}
+
+// Writes that the bytes of a connection are faulty, and drops it.
+fn tell_bad<S: Steps, L: Link<Out = S::Sealed>, O: Sink>(
+    steps: &S,
+    alloc: Global,
+    link: &mut L,
+    out: &mut O,
+    conn: u64,
+    fault: FrameFault,
+) -> Option<End>
+    ensures tells { (s : Settings) (life : Life) → S.stands_for steps.now s life → IsUp life
+        → Tells S.output (S.text s) s life (Makes (Faulty conn fault) ∷ []) result (O.written out.old) (O.written out.new) (L.told link.old) (L.told link.new) (HoldsBy S.Steps steps.now steps.now s life) }
+    ensures within { does_all result ≡ goes_on result }
+    ensures stop { is_stop result ≡ false }
+    ensures causes { HasCauses result (S.faults steps.now) (S.faults steps.now) (O.faults out.old) (O.faults out.new) (L.faults link.old) (L.faults link.new) }
+{
+    let Ok(line) = steps.bad_line(alloc, conn, fault) else {
+        return Some(End::Memory);
+    };
+    let Ok(()) = write_all(out, line.as_bytes()) else {
+        return Some(End::Write);
+    };
+    link.drop_conn(conn);
+    None
+}
+
+// Writes that no memory was found for the bytes of a connection, and drops it.
+fn tell_unread<S: Steps, L: Link<Out = S::Sealed>, O: Sink>(
+    steps: &S,
+    link: &mut L,
+    out: &mut O,
+    conn: u64,
+) -> Option<End>
+    ensures tells { (s : Settings) (life : Life) → S.stands_for steps.now s life → IsUp life
+        → Tells S.output (S.text s) s life (Makes (Unread conn) ∷ []) result (O.written out.old) (O.written out.new) (L.told link.old) (L.told link.new) (HoldsBy S.Steps steps.now steps.now s life) }
+    ensures within { does_all result ≡ goes_on result }
+    ensures stop { is_stop result ≡ false }
+    ensures causes { HasCauses result (S.faults steps.now) (S.faults steps.now) (O.faults out.old) (O.faults out.new) (L.faults link.old) (L.faults link.new) }
+{
+    let Ok(()) = write_all(out, steps.no_memory_line()) else {
+        return Some(End::Write);
+    };
+    link.drop_conn(conn);
+    None
+}
+
+// Does the frames that came, in order.
+fn tell_frames<S: Steps, L: Link<Out = S::Sealed>, O: Sink>(
+    steps: &mut S,
+    alloc: Global,
+    link: &mut L,
+    out: &mut O,
+    frames: Vec<Frame>,
+) -> Option<End>
+    requires fit { All IsFitFrame frames.items }
+    ensures tells { (s : Settings) (life : Life) → S.stands_for steps.old s life → IsUp life
+        → Tells S.output (S.text s) s life (makes (of_frames frames.items)) result (O.written out.old) (O.written out.new) (L.told link.old) (L.told link.new) (HoldsBy S.Steps steps.old steps.new s life) }
+    ensures within { does_all result ≡ goes_on result }
+    ensures stop { is_stop result ≡ false }
+    ensures causes { HasCauses result (S.faults steps.old) (S.faults steps.new) (O.faults out.old) (O.faults out.new) (L.faults link.old) (L.faults link.new) }
+{
+    for frame in frames {
+        if let Some(end) = tell_event(steps, alloc, link, out, Event::Frame(frame)) {
+            return Some(end);
+        }
+    }
+    None
+}
+
+// Does the lines that came, in order.
+fn tell_lines<S: Steps, L: Link<Out = S::Sealed>, O: Sink>(
+    steps: &mut S,
+    alloc: Global,
+    link: &mut L,
+    out: &mut O,
+    conn: u64,
+    lines: Vec<Line>,
+) -> Option<End>
+    ensures tells { (s : Settings) (life : Life) → S.stands_for steps.old s life → IsUp life
+        → Tells S.output (S.text s) s life (makes (of_lines conn lines.items)) result (O.written out.old) (O.written out.new) (L.told link.old) (L.told link.new) (HoldsBy S.Steps steps.old steps.new s life) }
+    ensures within { does_all result ≡ goes_on result }
+    ensures stop { is_stop result ≡ false }
+    ensures causes { HasCauses result (S.faults steps.old) (S.faults steps.new) (O.faults out.old) (O.faults out.new) (L.faults link.old) (L.faults link.new) }
+{
+    for line in lines {
+        if let Some(end) = tell_event(steps, alloc, link, out, Event::Client { conn, line }) {
+            return Some(end);
+        }
+    }
+    None
+}
+
+// Does the frames that came, and then tells the fault that stands next.
+fn tell_fed<S: Steps, L: Link<Out = S::Sealed>, O: Sink>(
+    steps: &mut S,
+    alloc: Global,
+    link: &mut L,
+    out: &mut O,
+    conn: u64,
+    fed: Fed,
+) -> Option<End>
+    requires fit { All IsFitFrame fed.frames.items }
+    ensures tells { (s : Settings) (life : Life) → S.stands_for steps.old s life → IsUp life
+        → Tells S.output (S.text s) s life (makes (of_frames fed.frames.items ++ of_fault conn fed.fault)) result (O.written out.old) (O.written out.new) (L.told link.old) (L.told link.new) (HoldsBy S.Steps steps.old steps.new s life) }
+    ensures within { does_all result ≡ goes_on result }
+    ensures stop { is_stop result ≡ false }
+    ensures causes { HasCauses result (S.faults steps.old) (S.faults steps.new) (O.faults out.old) (O.faults out.new) (L.faults link.old) (L.faults link.new) }
+{
+    let Fed { frames, fault } = fed;
+    if let Some(end) = tell_frames(steps, alloc, link, out, frames) {
+        return Some(end);
+    }
+    tell_fault(steps, alloc, link, out, conn, fault)
+}
+
+// Tells the fault, if there is one.
+fn tell_fault<S: Steps, L: Link<Out = S::Sealed>, O: Sink>(
+    steps: &S,
+    alloc: Global,
+    link: &mut L,
+    out: &mut O,
+    conn: u64,
+    fault: Option<FrameFault>,
+) -> Option<End>
+    ensures tells { (s : Settings) (life : Life) → S.stands_for steps.now s life → IsUp life
+        → Tells S.output (S.text s) s life (makes (of_fault conn fault)) result (O.written out.old) (O.written out.new) (L.told link.old) (L.told link.new) (HoldsBy S.Steps steps.now steps.now s life) }
+    ensures within { does_all result ≡ goes_on result }
+    ensures stop { is_stop result ≡ false }
+    ensures causes { HasCauses result (S.faults steps.now) (S.faults steps.now) (O.faults out.old) (O.faults out.new) (L.faults link.old) (L.faults link.new) }
+{
+    match fault {
+        Some(fault) => tell_bad(steps, alloc, link, out, conn, fault),
+        None => None,
+    }
+}
+
+// Does what bytes of a connection brought.
+fn tell_came<S: Steps, L: Link<Out = S::Sealed>, O: Sink>(
+    steps: &mut S,
+    alloc: Global,
+    link: &mut L,
+    out: &mut O,
+    conn: u64,
+    came: Came,
+) -> Option<End>
+    requires fit { HasFitFrames came }
+    ensures tells { (s : Settings) (life : Life) → S.stands_for steps.old s life → IsUp life
+        → Tells S.output (S.text s) s life (makes (happenings_of conn came)) result (O.written out.old) (O.written out.new) (L.told link.old) (L.told link.new) (HoldsBy S.Steps steps.old steps.new s life) }
+    ensures within { does_all result ≡ goes_on result }
+    ensures stop { is_stop result ≡ false }
+    ensures causes { HasCauses result (S.faults steps.old) (S.faults steps.new) (O.faults out.old) (O.faults out.new) (L.faults link.old) (L.faults link.new) }
+{
+    match came {
+        Came::Nothing => None,
+        Came::Frames(fed) => tell_fed(steps, alloc, link, out, conn, fed),
+        Came::Lines(lines) => tell_lines(steps, alloc, link, out, conn, lines.into_lines()),
+    }
+}
+
+// Does what more bytes of a connection bring.
+fn take_bytes<S: Steps, L: Link<Out = S::Sealed>, O: Sink>(
+    steps: &mut S,
+    connections: &mut [Connection],
+    alloc: Global,
+    link: &mut L,
+    out: &mut O,
+    conn: u64,
+    bytes: &[u8],
+) -> Option<End>
+    requires all { length connections.old ≡ 64 }
+    requires low { conn < 64 }
+    ensures takes { (s : Settings) (life : Life) (intakes : Intakes) → S.stands_for steps.old s life → IsUp life → Reads connections.old intakes
+        → TakesIn S.output (S.text s) s life intakes result (O.written out.old) (O.written out.new) (L.told link.old) (L.told link.new) (HoldsBy S.Steps steps.old steps.new s life) connections.new (BytesCame conn bytes.now) }
+    ensures causes { HasCauses result (S.faults steps.old) (S.faults steps.new) (O.faults out.old) (O.faults out.new) (L.faults link.old) (L.faults link.new) }
+    ensures within { does_all result ≡ goes_on result }
+    ensures stop { is_stop result ≡ false }
+{
+    match feed_at(connections, alloc, conn, bytes) {
+        Ok(came) => tell_came(steps, alloc, link, out, conn, came),
+        Err(_) => tell_unread(steps, link, out, conn),
+    }
+}
+
+// Tells that a connection ended, of which no byte is kept.
+fn take_closed<S: Steps, L: Link<Out = S::Sealed>, O: Sink>(
+    steps: &mut S,
+    connections: &mut [Connection],
+    alloc: Global,
+    link: &mut L,
+    out: &mut O,
+    conn: u64,
+) -> Option<End>
+    requires all { length connections.old ≡ 64 }
+    requires low { conn < 64 }
+    ensures takes { (s : Settings) (life : Life) (intakes : Intakes) → S.stands_for steps.old s life → IsUp life → Reads connections.old intakes
+        → TakesIn S.output (S.text s) s life intakes result (O.written out.old) (O.written out.new) (L.told link.old) (L.told link.new) (HoldsBy S.Steps steps.old steps.new s life) connections.new (ConnectionClosed conn) }
+    ensures causes { HasCauses result (S.faults steps.old) (S.faults steps.new) (O.faults out.old) (O.faults out.new) (L.faults link.old) (L.faults link.new) }
+    ensures within { does_all result ≡ goes_on result }
+    ensures stop { is_stop result ≡ false }
+{
+    close_at(connections, conn);
+    tell_gone(steps, alloc, link, out, conn)
+}
+
+// Does what an input brings.
+fn take_input<S: Steps, L: Link<Out = S::Sealed>, O: Sink>(
+    steps: &mut S,
+    connections: &mut [Connection],
+    alloc: Global,
+    link: &mut L,
+    out: &mut O,
+    input: Input,
+) -> Option<End>
+    requires all { length connections.old ≡ 64 }
+    requires low { IsTrue (has_low_conn input) }
+    ensures takes { (s : Settings) (life : Life) (intakes : Intakes) → S.stands_for steps.old s life → IsUp life → Reads connections.old intakes
+        → TakesIn S.output (S.text s) s life intakes result (O.written out.old) (O.written out.new) (L.told link.old) (L.told link.new) (HoldsBy S.Steps steps.old steps.new s life) connections.new (input) }
+    ensures stop { is_stop result ≡ is_stop_input input }
+    ensures never { ¬ (result ≡ Some End.Turns) }
+    ensures causes { HasCauses result (S.faults steps.old) (S.faults steps.new) (O.faults out.old) (O.faults out.new) (L.faults link.old) (L.faults link.new) }
+{
+    match input {
+        Input::Bytes { conn, bytes } => take_bytes(
+            steps,
+            connections,
+            alloc,
+            link,
+            out,
+            conn,
+            &bytes,
+        ),
+        Input::Closed { conn } => take_closed(steps, connections, alloc, link, out, conn),
+        Input::Tick { now, word } => tell_event(steps, alloc, link, out, Event::Tick { now, word }),
+        Input::Stop => Some(End::Stop),
+    }
+}
+
+// Takes an input and does what it brings.
+fn take_turn<S: Steps, L: Link<Out = S::Sealed>, O: Sink>(
+    steps: &mut S,
+    connections: &mut [Connection],
+    alloc: Global,
+    link: &mut L,
+    out: &mut O,
+) -> Option<End>
+    requires all { length connections.old ≡ 64 }
+    ensures turns { (s : Settings) (life : Life) (intakes : Intakes) → S.stands_for steps.old s life → IsUp life → Reads connections.old intakes
+        → Turns S.output (S.text s) s life intakes result (O.written out.old) (O.written out.new) (L.told link.old) (L.told link.new) (HoldsBy S.Steps steps.old steps.new s life) connections.new 1 }
+    ensures never { ¬ (result ≡ Some End.Turns) }
+    ensures causes { HasCauses result (S.faults steps.old) (S.faults steps.new) (O.faults out.old) (O.faults out.new) (L.faults link.old) (L.faults link.new) }
+{
+    match link.next() {
+        Ok(input) => take_input(steps, connections, alloc, link, out, input),
+        Err(LinkError::Failed) => Some(End::Link),
+        Err(LinkError::Memory) => tell_no_memory(steps, out),
+    }
+}
+
+// Takes so many turns, unless one of them ends the run.
+fn take_turns<S: Steps, L: Link<Out = S::Sealed>, O: Sink>(
+    steps: &mut S,
+    connections: &mut [Connection],
+    alloc: Global,
+    link: &mut L,
+    out: &mut O,
+    turns: u64,
+) -> Option<End>
+    requires all { length connections.old ≡ 64 }
+    ensures turns { (s : Settings) (life : Life) (intakes : Intakes) → S.stands_for steps.old s life → IsUp life → Reads connections.old intakes
+        → Turns S.output (S.text s) s life intakes result (O.written out.old) (O.written out.new) (L.told link.old) (L.told link.new) (HoldsBy S.Steps steps.old steps.new s life) connections.new turns }
+    ensures never { ¬ (result ≡ Some End.Turns) }
+    ensures causes { HasCauses result (S.faults steps.old) (S.faults steps.new) (O.faults out.old) (O.faults out.new) (L.faults link.old) (L.faults link.new) }
+{
+    for turn in 0..turns {
+        if let Some(end) = take_turn(steps, connections, alloc, link, out) {
+            return Some(end);
+        }
+    }
+    None
+}
+
+// Does Start, as the first event.
+fn start<S: Steps, L: Link<Out = S::Sealed>, O: Sink>(
+    steps: &mut S,
+    alloc: Global,
+    link: &mut L,
+    out: &mut O,
+) -> Option<End>
+    ensures tells { (s : Settings) (life : Life) → S.stands_for steps.old s life → IsOpened life
+        → Tells S.output (S.text s) s life (Makes (Comes Start) ∷ []) result (O.written out.old) (O.written out.new) (L.told link.old) (L.told link.new) (HoldsBy S.Steps steps.old steps.new s life) }
+    ensures within { does_all result ≡ goes_on result }
+    ensures stop { is_stop result ≡ false }
+    ensures causes { HasCauses result (S.faults steps.old) (S.faults steps.new) (O.faults out.old) (O.faults out.new) (L.faults link.old) (L.faults link.new) }
+{
+    match steps.step(alloc, Event::Start) {
+        Ok(done) => tell_done(steps, link, out, done),
+        Err(error) => tell_unstarted(steps, out, error),
+    }
+}
+
+// Writes what there is to say of a start that was not done to its end.
+fn tell_unstarted<S: Steps, O: Sink>(steps: &S, out: &mut O, error: StepError) -> Option<End>
+    ensures tells { (old : S) (s : Settings) (life : Life) (told : Option (List (Traffic S.Sealed))) → IsOpened life
+        → FailsTo (λ now s2 new. HoldsBy S.Steps old now s2 life new) (S.text s) s life Start steps.now error
+        → Tells S.output (S.text s) s life (Makes (Comes Start) ∷ []) result (O.written out.old) (O.written out.new) told told (HoldsBy S.Steps old steps.now s life) }
+    ensures within { does_all result ≡ goes_on result }
+    ensures stop { is_stop result ≡ false }
+    ensures write { result ≡ Some End.Write → Rose (O.faults out.old) (O.faults out.new) }
+    ensures link { ¬ (result ≡ Some End.Link) }
+    ensures disk { result ≡ Some End.Disk → IsDiskError error }
+    ensures later { O.faults out.old ≤ O.faults out.new }
+{
+    match error {
+        StepError::Disk(lines) => tell_struck(steps, out, lines),
+        StepError::Memory => Some(End::Memory),
+        StepError::Stopped => Some(End::Memory),
+    }
+}
+
+// Writes the line of the opening.
+fn tell_opening<S: Steps, O: Sink>(steps: &S, alloc: Global, out: &mut O) -> Option<End>
+    ensures says { (s : Settings) (life : Life) → S.stands_for steps.now s life → IsOpened life → Says result (O.written out.old) (O.written out.new) (S.opening s life) }
+    ensures write { result ≡ Some End.Write → Rose (O.faults out.old) (O.faults out.new) }
+    ensures others { (¬ (result ≡ Some End.Link)) × (¬ (result ≡ Some End.Disk)) }
+    ensures later { O.faults out.old ≤ O.faults out.new }
+{
+    let Ok(line) = steps.opening_line(alloc) else {
+        return Some(End::Memory);
+    };
+    let Ok(()) = write_all(out, line.as_bytes()) else {
+        return Some(End::Write);
+    };
+    None
+}
+
+// Does Start and takes the turns.
+fn serve_on<S: Steps, L: Link<Out = S::Sealed>, O: Sink>(
+    steps: &mut S,
+    connections: &mut [Connection],
+    alloc: Global,
+    link: &mut L,
+    out: &mut O,
+    turns: u64,
+) -> End
+    requires all { length connections.old ≡ 64 }
+    ensures serves { (s : Settings) (life : Life) → S.stands_for steps.old s life → IsOpened life → Reads connections.old NoIntakes
+        → ServesOn S.output (S.text s) s life result (O.written out.old) (O.written out.new) (L.told link.old) (L.told link.new) (HoldsBy S.Steps steps.old steps.new s life) turns }
+    ensures causes { HasCauses (Some result) (S.faults steps.old) (S.faults steps.new) (O.faults out.old) (O.faults out.new) (L.faults link.old) (L.faults link.new) }
+{
+    if let Some(end) = start(steps, alloc, link, out) {
+        return end;
+    }
+    match take_turns(steps, connections, alloc, link, out, turns) {
+        Some(end) => end,
+        None => End::Turns,
+    }
+}
+
+fn fresh_connections(alloc: Global) -> Result<Vec<Connection>, AllocError>
+    ensures all { IfOk result (λ connections. length connections.items ≡ 64) }
+    ensures reads { IfOk result (λ connections. Reads connections.items NoIntakes) }
+{
+    let mut connections = Vec::new(alloc);
+    for count in 0..64u64 {
+        connections.push(Connection::Fresh)?;
+    }
+    Ok(connections)
+}
+
+/// A node over a link.
+///
+/// Of each of its 64 connections it holds what has come of one frame or of one line that is not whole: less than the length
+/// and the body that a frame may have, or one byte more than a line may have (`law_holds_little`). It takes the next input
+/// only when it has done all frames and lines of the last one.
+#[derive(Drop)]
+pub struct Node<S: Steps> {
+    steps: S,
+    connections: Vec<Connection>,
+    alloc: Global,
+    ghost all: { length connections.items ≡ 64 },
+}
+
+impl<S: Steps> Node<S> {
+    /// A node whose journal was just opened, and to which nothing has come.
+    pub fn new(alloc: Global, steps: S) -> Result<Node<S>, S>
+        ensures ok { IfOk result (λ node. (node.steps ≡ steps) × Reads node.connections.items NoIntakes) }
+        ensures err { IfErr result (λ back. back ≡ steps) }
+    {
+        match fresh_connections(alloc) {
+            Ok(connections) => Ok(Node {
+                steps,
+                connections,
+                alloc,
+            }),
+            Err(_) => Err(steps),
+        }
+    }
+
+    /// What does its events, given up by the node.
+    pub fn into_steps(self) -> S
+        ensures { result ≡ self.steps }
+    {
+        let Node {
+            steps,
+            connections: _,
+            alloc: _,
+        } = self;
+        steps
+    }
+
+    /// Takes an input and does what it brings. None where the node goes on.
+    pub fn turn<L: Link<Out = S::Sealed>, O: Sink>(
+        &mut self,
+        link: &mut L,
+        out: &mut O,
+    ) -> Option<End>
+        ensures turns { (s : Settings) (life : Life) (intakes : Intakes) → S.stands_for self.old.steps s life → IsUp life → Reads self.old.connections.items intakes
+            → Turns S.output (S.text s) s life intakes result (O.written out.old) (O.written out.new) (L.told link.old) (L.told link.new) (HoldsBy S.Steps self.old.steps self.new.steps s life) self.new.connections.items 1 }
+        ensures never { ¬ (result ≡ Some End.Turns) }
+        ensures causes { HasCauses result (S.faults self.old.steps) (S.faults self.new.steps) (O.faults out.old) (O.faults out.new) (L.faults link.old) (L.faults link.new) }
+    {
+        take_turn(
+            &mut self.steps,
+            &mut self.connections,
+            self.alloc,
+            link,
+            out,
+        )
+    }
+
+    /// Writes the line of its opening, does Start and then takes so many turns, unless one of them ends the run.
+    pub fn serve<L: Link<Out = S::Sealed>, O: Sink>(
+        &mut self,
+        link: &mut L,
+        out: &mut O,
+        turns: u64,
+    ) -> End
+        ensures serves { (s : Settings) (life : Life) → S.stands_for self.old.steps s life → IsOpened life → Reads self.old.connections.items NoIntakes
+            → Serves S.output (S.text s) s life result (O.written out.old) (O.written out.new) (L.told link.old) (L.told link.new) (HoldsBy S.Steps self.old.steps self.new.steps s life) turns (S.opening s life) }
+        ensures causes { HasCauses (Some result) (S.faults self.old.steps) (S.faults self.new.steps) (O.faults out.old) (O.faults out.new) (L.faults link.old) (L.faults link.new) }
+    {
+        match tell_opening(&self.steps, self.alloc, out) {
+            Some(end) => end,
+            None => serve_on(
+                &mut self.steps,
+                &mut self.connections,
+                self.alloc,
+                link,
+                out,
+                turns,
+            ),
+        }
+    }
+}
+
+/// Of whatever came over a connection, its reader holds little.
+pub fn law_holds_little()
+    ensures { LawHoldsLittle }
+{}

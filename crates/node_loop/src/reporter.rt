@@ -1,0 +1,167 @@
+ghost use Rattle.std.specs.Prelude.{◌≡◌, ◌≤◌, ℕ, Option, Some, None, false, IfSome};
+ghost use Rattle.world_model.specs.declared.acts.Act.TheVariants.{Open};
+ghost use Rattle.world_model.specs.Histories.{ContinuesUnlessFirst};
+ghost use Rattle.coordinator.specs.Views.{IsReady};
+ghost use Rattle.policy_model.specs.Entries.{Life, Opened, log_of};
+ghost use Rattle.policy_model.specs.Events.{acts_of};
+ghost use Rattle.node_loop.specs.Reporting.{AreLined, Reports};
+
+use crate::lines::{Told, write_bad, write_entry, write_gone};
+use crate::steps::{Done, StepError, Steps};
+use coordinator::{Coordinator, Entries, Sealed};
+use master_tasks::Outgoing;
+use policy_model::{Event, Settings};
+use schedule_text::Text;
+use state_journal::Keeper;
+use std::alloc::{AllocError, Global};
+use std::mem;
+use trace_text::write_record;
+use voting_config::NodeId;
+use wire_frames::{Frame, FrameFault};
+
+/// The coordinator of a node, with what the lines need that tell what it does.
+#[derive(Drop)]
+pub struct Reporter<K: Keeper> {
+    me: NodeId,
+    node: Coordinator<K>,
+    // None once memory was lacking for the lines of an event: then there are none for later ones.
+    told: Option<Told>,
+    ghost ready: { IsReady node },
+    ghost own: { me ≡ node.settings.me },
+}
+
+impl<K: Keeper> Reporter<K> {
+    /// A node over what keeps its record and has not met a fault. Its first event is the start, which comes once.
+    pub fn open(alloc: Global, settings: Settings, keeper: K) -> Reporter<K>
+        requires { K.has_stopped keeper ≡ false }
+        ensures keeper { result.node.core.keeper ≡ keeper }
+        ensures stands { (life : Life) → ContinuesUnlessFirst (acts_of (log_of life)) (Open (K.record_of keeper)) → Reports K.Keeper result.node result.told settings (Opened life (K.record_of keeper)) }
+    {
+        Reporter {
+            me: settings.me,
+            node: Coordinator::open(alloc, settings, keeper),
+            told: Some(Told {
+                published: None,
+                number: 0,
+            }),
+        }
+    }
+
+    /// What kept the node's record, given up by the node.
+    pub fn into_keeper(self) -> K
+        ensures { result ≡ self.node.core.keeper }
+    {
+        let Reporter {
+            me: _,
+            node,
+            told: _,
+        } = self;
+        node.into_keeper()
+    }
+}
+
+// The lines of an event; what later ones need is kept.
+fn report(
+    told: &mut Option<Told>,
+    alloc: Global,
+    node: NodeId,
+    entries: &Entries,
+    frames: &[Frame],
+    replies: &[Outgoing],
+) -> Option<Text>
+    ensures { AreLined node told.old entries.now frames.now replies.now result told.new }
+{
+    let Some(kept) = mem::replace(told, None) else {
+        return None;
+    };
+    let mut kept = kept;
+    let mut text = Text::new(alloc);
+    let Ok(()) = write_entry(
+        &mut text,
+        alloc,
+        node,
+        &mut kept,
+        &entries.event,
+        entries.steps.as_slice(),
+        entries.drops.as_slice(),
+        frames,
+        replies,
+    ) else {
+        return None;
+    };
+    *told = Some(kept);
+    Some(text)
+}
+
+impl<K: Keeper> Steps for Reporter<K> {
+    ghost use Rattle.node_loop.specs.Reporting.{Reports, reports_idle, sent_of};
+    ghost use Rattle.node_loop.specs.Texts.{entry_text, opening_text};
+
+    type Sealed = Sealed;
+
+    ghost stands_for = { λ r s life. Reports K.Keeper r.node r.told s life };
+
+    ghost faults = { λ r. K.faults r.node.core.keeper };
+
+    ghost told = { K.told };
+
+    ghost moment = { λ r. K.moment r.node.core.keeper };
+
+    ghost left_since = { λ r. K.left_since r.node.core.keeper };
+
+    ghost output = { sent_of };
+
+    ghost text = { entry_text };
+
+    ghost opening = { opening_text };
+
+    ghost idle = { λ r s life entry is stands. reports_idle _ r.node r.told s life entry is stands };
+
+    fn step(&mut self, alloc: Global, event: Event) -> Result<Done<Sealed>, StepError> {
+        match self.node.step(alloc, event) {
+            Ok(sealed) => {
+                let lines = report(
+                    &mut self.told,
+                    alloc,
+                    self.me,
+                    sealed.entries(),
+                    sealed.sends().as_slice(),
+                    sealed.replies().as_slice(),
+                );
+                Ok(Done { sealed, lines })
+            }
+            Err(coordinator::StepError::Disk(entries)) => Err(StepError::Disk(report(
+                &mut self.told,
+                alloc,
+                self.me,
+                &entries,
+                &[],
+                &[],
+            ))),
+            Err(coordinator::StepError::Memory) => Err(StepError::Memory),
+            Err(coordinator::StepError::Stopped) => Err(StepError::Stopped),
+        }
+    }
+
+    fn opening_line(&self, alloc: Global) -> Result<Text, AllocError> {
+        let mut text = Text::new(alloc);
+        write_record(&mut text, self.me, self.node.keeper().kept())?;
+        Ok(text)
+    }
+
+    fn bad_line(&self, alloc: Global, conn: u64, fault: FrameFault) -> Result<Text, AllocError> {
+        let mut text = Text::new(alloc);
+        write_bad(&mut text, conn, fault)?;
+        Ok(text)
+    }
+
+    fn gone_line(&self, alloc: Global, conn: u64) -> Result<Text, AllocError> {
+        let mut text = Text::new(alloc);
+        write_gone(&mut text, conn)?;
+        Ok(text)
+    }
+
+    fn no_memory_line(&self) -> &[u8] {
+        "> nomemory\n".as_bytes()
+    }
+}
