@@ -10,7 +10,8 @@ use Rattle.std.specs.Box.{box_value}
 use Rattle.std.proofs.Math.Path.{fun_ext}
 use Rattle.command_line.specs.Given.{Text}
 use Rattle.command_line.specs.Program.{program_app}
-use Rattle.command_line.specs.Commands.{Gives, command_by, entered_command}
+use Rattle.command_line.specs.Commands.{command_by, entered_command}
+use Rattle.command_line.specs.Answers.{Gives}
 use Rattle.command_line.specs.declared.command.ProgramCommand.{ProgramCommand}
 use Rattle.command_line.specs.declared.command.WordsError.{WordsError}
 use Rattle.command_line.proofs.Built.{is_simple_program}

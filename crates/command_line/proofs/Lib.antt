@@ -2,6 +2,8 @@ pub mod Adding
 pub mod Answering
 pub mod Built
 pub mod Levels
+pub mod Listing
+pub mod Numbers
 pub mod Rows
 pub mod Walks
 pub mod Whole

@@ -17,7 +17,8 @@ use Rattle.clap.specs.declared.parser.matches.ValueSource.TheVariants.{DefaultVa
 use Rattle.clap.specs.Faults.{built_fault}
 use Rattle.command_line.specs.Given.{Text, Named, option, flag, Given, value, set, is_hyphened, long_given, word_given, given_from, given, value_in, Entry, chosen, words_given, unless_given, look}
 use Rattle.command_line.specs.Program.{program_app, commands}
-use Rattle.command_line.specs.Commands.{command_by, command_of, entered_command, is_fair, Fails, FailsToParse}
+use Rattle.command_line.specs.Commands.{command_by, command_of, entered_command, is_fair, FailsToParse}
+use Rattle.command_line.specs.Answers.{Fails}
 use Rattle.command_line.specs.declared.command.WordsError.{WordsError}
 use Rattle.command_line.specs.declared.command.WordsError.TheVariants.{Usage, Memory}
 use Rattle.command_line.proofs.Walks.{IsFair, AreFair, fair_empty, fair_plain, fair_long, rules_of, row, rows, at_none}

@@ -1,20 +1,19 @@
 -- Which command the words are.
-use Rattle.std.specs.Prelude.{◌≡◌, ◌==◌, ◌&&◌, ◌||◌, Bool, not, if◌then◌else◌, List, [], length, slice_index, codes, nat_lt, Option, Some, None, option_map, option_and_then, Result, Ok, Err}
+use Rattle.std.specs.Prelude.{◌≡◌, ◌==◌, ◌&&◌, ◌||◌, Bool, not, if◌then◌else◌, List, [], length, slice_index, codes, nat_lt, Option, Some, None, option_and_then, Result, Ok, Err}
 use Rattle.std.specs.Str.{bytes_eq}
 use Rattle.clap.specs.Words.{Row, fault_of, first_of, subcommand_of, subcommand_rows_of}
 use Rattle.clap.specs.declared.parser.matches.ArgMatches.{ArgMatches}
 use Rattle.schedule_text.specs.declared.level.Level.{Level}
 use Rattle.schedule_text.specs.declared.level.Level.TheVariants as level
+use Rattle.zen_host.specs.HostCalls.{ToldSettings}
 use Rattle.command_line.specs.declared.command.ProgramCommand.{ProgramCommand}
 use Rattle.command_line.specs.declared.command.ProgramCommand.TheVariants as command
 use Rattle.command_line.specs.declared.command.WordsError.{WordsError}
 use Rattle.command_line.specs.declared.command.WordsError.TheVariants.{Usage, Memory}
-use Rattle.command_line.specs.Given.{Text, is_hyphened, look, words_given}
+use Rattle.command_line.specs.Given.{Text, look, words_given}
+use Rattle.command_line.specs.Lists.{initial_of, peers_of}
 use Rattle.command_line.specs.Program.{commands, program_app}
-
--- any text that is not empty and does not begin with a hyphen
-abbrev pub plain_text : Text → Option Text
-plain_text t = if is_hyphened t || length t == 0 then None else Some t
+use Rattle.command_line.specs.Values.{Look, ◌>>=◌, text_at, is_set, id_of, address_of, number_of}
 
 abbrev pub level_of : Text → Option Level
 level_of t =
@@ -22,31 +21,39 @@ level_of t =
     else (if bytes_eq t (codes "node") then Some level.Node
     else None)
 
-abbrev pub replay_of : Option Text → Option ProgramCommand
-replay_of l = option_map (λ level. command.Replay level) (option_and_then level_of l)
+abbrev pub replay_of : Look → Option ProgramCommand
+replay_of look = text_at (codes "level") look >>= level_of >>= λ level. Some (command.Replay level)
 
-abbrev pub inspect_of : Option Text → Option ProgramCommand
-inspect_of d = option_map (λ dir. command.Inspect dir) (option_and_then plain_text d)
+abbrev pub inspect_of : Look → Option ProgramCommand
+inspect_of look = text_at (codes "dir") look >>= λ dir. Some (command.Inspect dir)
+
+-- the node, the address at which it listens, and its peers
+abbrev pub link_of : Look → Option ToldSettings
+link_of look =
+    text_at (codes "id") look >>= id_of >>= λ id.
+    text_at (codes "listen") look >>= address_of >>= λ listen.
+    text_at (codes "peers") look >>= peers_of >>= λ peers.
+    Some (record { me = id; listen = listen; peers = peers })
+
+abbrev pub node_of : Look → Option ProgramCommand
+node_of look =
+    link_of look >>= λ link.
+    text_at (codes "dir") look >>= λ dir.
+    text_at (codes "initial") look >>= initial_of >>= λ initial.
+    text_at (codes "turns") look >>= number_of >>= λ turns.
+    Some (command.Node (record { link = link; dir = dir; initial = initial; shrink = not (is_set (codes "no-shrink") look); turns = turns }))
 
 -- the command of this name, where these values stand with the names of its options
-abbrev pub command_by : Text → (Text → Option Text) → Option ProgramCommand
+abbrev pub command_by : Text → Look → Option ProgramCommand
 command_by name look =
-    if bytes_eq name (codes "replay") then replay_of (look (codes "level"))
-    else (if bytes_eq name (codes "inspect") then inspect_of (look (codes "dir"))
-    else None)
+    if bytes_eq name (codes "replay") then replay_of look
+    else (if bytes_eq name (codes "inspect") then inspect_of look
+    else (if bytes_eq name (codes "node") then node_of look
+    else None))
 
 -- the command that the words are
 abbrev pub command_of : List Text → Option ProgramCommand
 command_of words = option_and_then (λ p. command_by p.0.0 (look p.0.1 p.1)) (words_given commands words)
-
--- What was answered is the command, unless memory ran out.
-abbrev pub Fails : {X : Type 0} → WordsError → Option X → Type 0
-Fails Usage o = o ≡ None
-Fails Memory o = Unit {0}
-
-abbrev pub Gives : {X : Type 0} → Result X WordsError → Option X → Type 0
-Gives (Ok x) o = o ≡ Some x
-Gives (Err e) o = Fails e o
 
 -- ---- for private clauses
 

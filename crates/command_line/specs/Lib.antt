@@ -1,3 +1,6 @@
+pub mod Answers
 pub mod Commands
 pub mod Given
+pub mod Lists
 pub mod Program
+pub mod Values

@@ -14,8 +14,13 @@ replay_takes = option (codes "level") ∷ []
 abbrev pub inspect_takes : List Named
 inspect_takes = option (codes "dir") ∷ []
 
+abbrev pub node_takes : List Named
+node_takes =
+    option (codes "id") ∷ option (codes "dir") ∷ option (codes "listen") ∷ option (codes "peers") ∷ option (codes "initial") ∷ option (codes "turns")
+    ∷ flag (codes "no-shrink") ∷ []
+
 abbrev pub commands : List Entry
-commands = (codes "replay", replay_takes) ∷ (codes "inspect", inspect_takes) ∷ []
+commands = (codes "replay", replay_takes) ∷ (codes "inspect", inspect_takes) ∷ (codes "node", node_takes) ∷ []
 
 -- ---- as clap is told
 

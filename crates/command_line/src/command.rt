@@ -1,6 +1,12 @@
+ghost use Rattle.std.specs.Prelude.{◌≡◌};
+ghost use Rattle.command_line.specs.declared.command.WordsError.TheVariants as error;
+
 use schedule_text::Level;
+use std::alloc::AllocError;
 use std::marker::Model;
 use thiserror::Error;
+use voting_config::NodeSet;
+use zen_link::LinkSettings;
 
 /// A text, seen as its bytes.
 #[derive(Drop)]
@@ -34,6 +40,54 @@ impl Text {
     }
 }
 
+/// With what a node's link is to be opened, seen as what a host is told of it.
+#[derive(Drop)]
+pub struct LinkWords {
+    settings: LinkSettings,
+}
+
+impl Model for LinkWords {
+    ghost use Rattle.zen_host.specs.HostCalls.{ToldSettings, told_settings};
+
+    ghost Value = { ToldSettings };
+
+    ghost view = { λ w. told_settings w.settings };
+}
+
+impl LinkWords {
+    ghost use Rattle.std.specs.Prelude.{◌≡◌};
+    ghost use Rattle.zen_host.specs.HostCalls.{told_settings};
+
+    /// The words that say these settings.
+    pub fn of(settings: LinkSettings) -> LinkWords
+        ensures { result ≡ told_settings settings }
+    {
+        LinkWords { settings }
+    }
+
+    /// The settings.
+    pub fn settings(&self) -> &LinkSettings
+        ensures { told_settings result.now ≡ self.now }
+    {
+        &self.settings
+    }
+}
+
+/// How a node is to run.
+#[derive(Drop)]
+pub struct NodeWords {
+    /// The node, the address at which it listens, and its peers, in the order of the words.
+    pub link: LinkWords,
+    /// The folder of its journal.
+    pub dir: Text,
+    /// The initial configuration, which may be empty.
+    pub initial: NodeSet,
+    /// Whether configurations may become smaller.
+    pub shrink: bool,
+    /// After how many inputs the node ends.
+    pub turns: u64,
+}
+
 /// What the program is to do.
 #[derive(Drop)]
 pub enum ProgramCommand {
@@ -41,6 +95,8 @@ pub enum ProgramCommand {
     Replay(Level),
     /// Show what the journal in this folder keeps.
     Inspect(Text),
+    /// Run a node.
+    Node(NodeWords),
 }
 
 /// Why the words give no command.
@@ -50,4 +106,12 @@ pub enum WordsError {
     Usage,
     #[error("memory ran out")]
     Memory,
+}
+
+impl From<AllocError> for WordsError {
+    ghost from_gives = { λ _ e. e ≡ error.Memory };
+
+    fn from(_e: AllocError) -> WordsError {
+        WordsError::Memory
+    }
 }

@@ -2,10 +2,12 @@
 #![tactic(auto)]
 
 pub mod command;
+pub mod lists;
 pub mod program;
 pub mod reading;
 #[cfg(test)]
 mod tests;
+pub mod values;
 
-pub use command::{ProgramCommand, Text, WordsError};
+pub use command::{LinkWords, NodeWords, ProgramCommand, Text, WordsError};
 pub use reading::read_words;

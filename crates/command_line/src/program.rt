@@ -1,9 +1,9 @@
 ghost use Rattle.std.specs.Prelude.{◌≡◌, IfOk, codes};
 ghost use Rattle.clap.specs.Words.{app_of};
-ghost use Rattle.command_line.specs.Given.{option};
-ghost use Rattle.command_line.specs.Program.{raw, HasOneMore, IsLeaf, replay_takes, inspect_takes, program_app};
+ghost use Rattle.command_line.specs.Given.{option, flag};
+ghost use Rattle.command_line.specs.Program.{raw, HasOneMore, IsLeaf, replay_takes, inspect_takes, node_takes, program_app};
 
-use clap::{Arg, Command};
+use clap::{Arg, ArgAction, Command};
 use std::alloc::{AllocError, Global};
 
 fn with_option<'a>(
@@ -14,6 +14,16 @@ fn with_option<'a>(
     ensures { IfOk result (λ c. HasOneMore command.entry (raw (option name.entry.now)) c) }
 {
     command.arg(Arg::new(alloc, name).long(name))
+}
+
+fn with_flag<'a>(
+    alloc: Global,
+    command: Command<'a>,
+    name: &'a str,
+) -> Result<Command<'a>, AllocError>
+    ensures { IfOk result (λ c. HasOneMore command.entry (raw (flag name.entry.now)) c) }
+{
+    command.arg(Arg::new(alloc, name).long(name).action(ArgAction::SetTrue))
 }
 
 fn replay<'a>(alloc: Global) -> Result<Command<'a>, AllocError>
@@ -28,6 +38,18 @@ fn inspect<'a>(alloc: Global) -> Result<Command<'a>, AllocError>
     with_option(alloc, Command::new(alloc, "inspect"), "dir")
 }
 
+fn node<'a>(alloc: Global) -> Result<Command<'a>, AllocError>
+    ensures { IfOk result (IsLeaf (codes "node") node_takes) }
+{
+    let command = with_option(alloc, Command::new(alloc, "node"), "id")?;
+    let command = with_option(alloc, command, "dir")?;
+    let command = with_option(alloc, command, "listen")?;
+    let command = with_option(alloc, command, "peers")?;
+    let command = with_option(alloc, command, "initial")?;
+    let command = with_option(alloc, command, "turns")?;
+    with_flag(alloc, command, "no-shrink")
+}
+
 /// The commands and what they take, as clap is told of them.
 pub fn program<'a>(alloc: Global) -> Result<Command<'a>, AllocError>
     ensures { IfOk result (λ c. app_of c ≡ program_app) }
@@ -38,5 +60,6 @@ pub fn program<'a>(alloc: Global) -> Result<Command<'a>, AllocError>
         .disable_help_subcommand(true)
         .disable_version_flag(true)
         .subcommand(replay(alloc)?)?
-        .subcommand(inspect(alloc)?)
+        .subcommand(inspect(alloc)?)?
+        .subcommand(node(alloc)?)
 }

@@ -1,36 +1,18 @@
-ghost use Rattle.std.specs.Prelude.{◌≡◌, ◌↔◌, IsTrue, codes, map, option_and_then, string_bytes};
+ghost use Rattle.std.specs.Prelude.{◌≡◌, ◌↔◌, IsTrue, codes, map, string_bytes};
 ghost use Rattle.std.specs.List.{list_all};
 ghost use Rattle.clap.specs.Words.{first_value, found_of, kind_of, subcommand_rows_of};
-ghost use Rattle.command_line.specs.Commands.{Gives, plain_text, level_of, replay_of, inspect_of, command_by, command_of, entered_command, Parses, is_fair as fair};
+ghost use Rattle.command_line.specs.Answers.{Gives};
+ghost use Rattle.command_line.specs.Commands.{level_of, replay_of, inspect_of, link_of, node_of, command_by, command_of, entered_command, Parses, is_fair as fair};
 
+use crate::lists::{initial, peers};
 use crate::program::program;
-use crate::{ProgramCommand, Text, WordsError};
+use crate::values::{address, id, is_set, number, text, value};
+use crate::{LinkWords, NodeWords, ProgramCommand, WordsError};
 use clap::error::ErrorKind;
 use clap::{ArgMatches, Error};
 use schedule_text::Level;
 use std::alloc::Global;
-
-// A text that is not empty and does not begin with a hyphen.
-fn plain(alloc: Global, text: &str) -> Result<Text, WordsError>
-    ensures { Gives result (plain_text text.now) }
-{
-    if text.starts_with('-') || text.is_empty() {
-        return Err(WordsError::Usage);
-    }
-    match String::from_str(alloc, text) {
-        Ok(text) => Ok(Text::of(text)),
-        Err(_) => Err(WordsError::Memory),
-    }
-}
-
-fn text_in(alloc: Global, matches: &ArgMatches<'_>, name: &str) -> Result<Text, WordsError>
-    ensures { Gives result (option_and_then plain_text (first_value (found_of matches.now) name.now)) }
-{
-    match matches.get_str(name) {
-        Some(text) => plain(alloc, text),
-        None => Err(WordsError::Usage),
-    }
-}
+use zen_link::LinkSettings;
 
 fn level(text: &str) -> Option<Level>
     ensures { result ≡ level_of text.now }
@@ -45,19 +27,49 @@ fn level(text: &str) -> Option<Level>
 }
 
 fn read_replay(matches: &ArgMatches<'_>) -> Result<ProgramCommand, WordsError>
-    ensures { Gives result (replay_of (first_value (found_of matches.now) (codes "level"))) }
+    ensures { Gives result (replay_of (first_value (found_of matches.now))) }
 {
-    match matches.get_str("level").and_then(level) {
+    match value(matches, "level").and_then(level) {
         Some(level) => Ok(ProgramCommand::Replay(level)),
         None => Err(WordsError::Usage),
     }
 }
 
 fn read_inspect(alloc: Global, matches: &ArgMatches<'_>) -> Result<ProgramCommand, WordsError>
-    ensures { Gives result (inspect_of (first_value (found_of matches.now) (codes "dir"))) }
+    ensures { Gives result (inspect_of (first_value (found_of matches.now))) }
 {
-    let dir = text_in(alloc, matches, "dir")?;
+    let dir = text(alloc, matches, "dir")?;
     Ok(ProgramCommand::Inspect(dir))
+}
+
+fn read_link(alloc: Global, matches: &ArgMatches<'_>) -> Result<LinkWords, WordsError>
+    ensures { Gives result (link_of (first_value (found_of matches.now))) }
+{
+    let me = value(matches, "id").and_then(id).ok_or(WordsError::Usage)?;
+    let listen = value(matches, "listen")
+        .and_then(address)
+        .ok_or(WordsError::Usage)?;
+    let listen = String::from_str(alloc, listen)?;
+    let peers = peers(alloc, value(matches, "peers").ok_or(WordsError::Usage)?)?;
+    Ok(LinkWords::of(LinkSettings { me, listen, peers }))
+}
+
+fn read_node(alloc: Global, matches: &ArgMatches<'_>) -> Result<ProgramCommand, WordsError>
+    ensures { Gives result (node_of (first_value (found_of matches.now))) }
+{
+    let link = read_link(alloc, matches)?;
+    let dir = text(alloc, matches, "dir")?;
+    let initial = initial(alloc, value(matches, "initial").ok_or(WordsError::Usage)?)?;
+    let turns = value(matches, "turns")
+        .and_then(number)
+        .ok_or(WordsError::Usage)?;
+    Ok(ProgramCommand::Node(NodeWords {
+        link,
+        dir,
+        initial,
+        shrink: !is_set(matches, "no-shrink"),
+        turns,
+    }))
 }
 
 fn by_name(
@@ -71,6 +83,8 @@ fn by_name(
         read_replay(matches)
     } else if name == "inspect" {
         read_inspect(alloc, matches)
+    } else if name == "node" {
+        read_node(alloc, matches)
     } else {
         Err(WordsError::Usage)
     }

@@ -1,77 +1,198 @@
-use crate::{ProgramCommand, WordsError, read_words};
+use crate::{NodeWords, ProgramCommand, WordsError, read_words};
 use schedule_text::Level;
+use std::alloc::{AllocError, Global};
 use std::test::Fail;
+use voting_config::NodeId;
+use zen_link::Peer;
 
-fn words_of(rt: &HostRuntime, line: &str) -> Result<Vec<String>, Fail> {
-    let alloc = rt.alloc();
+fn level_name(level: Level) -> &'static str {
+    match level {
+        Level::Core => "core",
+        Level::Node => "node",
+    }
+}
+
+fn peer_list(alloc: Global, peers: &[Peer]) -> Result<String, AllocError> {
+    let mut text = String::new(alloc);
+    for peer in peers {
+        let item = format!(in alloc; " {}={}", peer.id, peer.address)?;
+        text.push_str(&item)?;
+    }
+    Ok(text)
+}
+
+fn id_list(alloc: Global, ids: &[NodeId]) -> Result<String, AllocError> {
+    let mut text = String::new(alloc);
+    for id in ids {
+        text.push_str(" ")?;
+        text.push_str(id.as_str())?;
+    }
+    Ok(text)
+}
+
+fn node_text(alloc: Global, node: &NodeWords) -> Result<String, AllocError> {
+    let link = node.link.settings();
+    let peers = peer_list(alloc, &link.peers)?;
+    let initial = id_list(alloc, node.initial.as_slice())?;
+    format!(in alloc;
+        "node {} at {} in {}, peers{peers}, initial{initial}, turns {}, shrink {}",
+        link.me,
+        link.listen,
+        node.dir.as_str(),
+        node.turns,
+        node.shrink
+    )
+}
+
+fn command_text(alloc: Global, command: &ProgramCommand) -> Result<String, AllocError> {
+    match command {
+        ProgramCommand::Replay(level) => format!(in alloc; "replay {}", level_name(*level)),
+        ProgramCommand::Inspect(dir) => format!(in alloc; "inspect {}", dir.as_str()),
+        ProgramCommand::Node(node) => node_text(alloc, node),
+    }
+}
+
+// The command that the words of a line are, in words of the test's own.
+fn told(alloc: Global, line: &str) -> Result<String, Fail> {
     let mut words = Vec::new(alloc);
     for word in line.split(' ') {
         words.push(String::from_str(alloc, word)?)?;
     }
-    Ok(words)
+    match read_words(alloc, &words) {
+        Ok(command) => Ok(command_text(alloc, &command)?),
+        Err(WordsError::Usage) => Ok(String::from_str(alloc, "usage")?),
+        Err(WordsError::Memory) => Err("out of memory".into()),
+    }
 }
 
-fn is_usage(rt: &HostRuntime, line: &str) -> Result<bool, Fail> {
-    let words = words_of(rt, line)?;
-    Ok(matches!(read_words(rt.alloc(), &words), Err(WordsError::Usage)))
-}
-
-fn is_replay(rt: &HostRuntime, line: &str, level: Level) -> Result<bool, Fail> {
-    let words = words_of(rt, line)?;
-    let command = read_words(rt.alloc(), &words)?;
-    Ok(match &command {
-        ProgramCommand::Replay(given) => *given == level,
-        ProgramCommand::Inspect(_) => false,
-    })
-}
-
-fn is_inspect(rt: &HostRuntime, line: &str, folder: &str) -> Result<bool, Fail> {
-    let words = words_of(rt, line)?;
-    let command = read_words(rt.alloc(), &words)?;
-    Ok(match &command {
-        ProgramCommand::Inspect(dir) => dir.as_str() == folder,
-        ProgramCommand::Replay(_) => false,
-    })
-}
-
-#[test]
-fn an_option_stands_before_its_value_or_with_it(rt: HostRuntime) -> Result<(), Fail> {
-    assert!(rt; is_replay(&rt, "replay --level core", Level::Core)?);
-    assert!(rt; is_replay(&rt, "replay --level=node", Level::Node)?);
-    assert!(rt; is_inspect(&rt, "inspect --dir a/b", "a/b")?);
-    assert!(rt; is_inspect(&rt, "inspect --dir=a=b", "a=b")?);
-    assert!(rt; is_inspect(&rt, "inspect --dir inspect", "inspect")?);
-    Ok(())
-}
-
-const OTHERS: [&str; 21] = [
-    "",
-    "replay",
-    "replay --level",
-    "replay --level=",
-    "replay --level none",
-    "replay --level core --",
-    "replay -- --level core",
-    "replay --level core --level core",
-    "replay --level=core --level=core",
-    "replay --level core core",
-    "replay -l core",
-    "replay --leve core",
-    "replay --dir core",
-    "--level core replay",
-    "help replay",
-    "replay --help",
-    "replay --version",
-    "inspect",
-    "inspect --dir -",
-    "inspect --dir=-x",
-    "inspect --dir=",
+const COMMANDS: [(&str, &str); 8] = [
+    ("replay --level core", "replay core"),
+    ("replay --level=node", "replay node"),
+    ("inspect --dir a/b", "inspect a/b"),
+    ("inspect --dir=a=b", "inspect a=b"),
+    ("inspect --dir inspect", "inspect inspect"),
+    (
+        "node --id a --dir d --listen h:1 --peers b=h:2,c=h:3 --initial a,b --turns 5",
+        "node a at h:1 in d, peers b=h:2 c=h:3, initial a b, turns 5, shrink true",
+    ),
+    (
+        "node --no-shrink --turns=0 --initial=_ --peers=_ --listen=h --dir=d/e --id=a-1",
+        "node a-1 at h in d/e, peers, initial, turns 0, shrink false",
+    ),
+    (
+        "node --initial c,a,b --id 0 --turns 0018446744073709551615 --dir _ --peers c=-,b=x=y --listen _",
+        "node 0 at _ in _, peers c=- b=x=y, initial a b c, turns 18446744073709551615, shrink true",
+    ),
 ];
 
 #[test]
-fn other_words_are_a_usage(rt: HostRuntime) -> Result<(), Fail> {
-    for line in OTHERS {
-        assert!(rt; is_usage(&rt, line)?, "{line}");
+fn words_are_the_command_that_they_say(rt: HostRuntime) -> Result<(), Fail> {
+    for (line, command) in COMMANDS {
+        let told = told(rt.alloc(), line)?;
+        assert_eq!(rt; told.as_str(), command, "{line}");
     }
+    Ok(())
+}
+
+// The lines that are a command, one after another.
+fn commands_among(alloc: Global, lines: &[&str]) -> Result<String, Fail> {
+    let mut found = String::new(alloc);
+    for line in lines {
+        if told(alloc, line)?.as_str() != "usage" {
+            found.push_str(line)?;
+            found.push_str("; ")?;
+        }
+    }
+    Ok(found)
+}
+
+#[test]
+fn other_words_are_a_usage(rt: HostRuntime) -> Result<(), Fail> {
+    let found = commands_among(
+        rt.alloc(),
+        &[
+            "",
+            "replay",
+            "replay --level",
+            "replay --level=",
+            "replay --level none",
+            "replay --level core --",
+            "replay -- --level core",
+            "replay --level core --level core",
+            "replay --level=core --level=core",
+            "replay --level core core",
+            "replay -l core",
+            "replay --leve core",
+            "replay --dir core",
+            "--level core replay",
+            "help replay",
+            "replay --help",
+            "replay --version",
+            "inspect",
+            "inspect --dir -",
+            "inspect --dir=-x",
+            "inspect --dir=",
+        ],
+    )?;
+    assert_eq!(rt; found.as_str(), "");
+    Ok(())
+}
+
+#[test]
+fn a_node_needs_each_option_once(rt: HostRuntime) -> Result<(), Fail> {
+    let found = commands_among(
+        rt.alloc(),
+        &[
+            "node --dir d --listen h --peers _ --initial _ --turns 5",
+            "node --id a --listen h --peers _ --initial _ --turns 5",
+            "node --id a --dir d --peers _ --initial _ --turns 5",
+            "node --id a --dir d --listen h --initial _ --turns 5",
+            "node --id a --dir d --listen h --peers _ --turns 5",
+            "node --id a --dir d --listen h --peers _ --initial _",
+            "node --id a --dir d --listen h --peers _ --initial _ --turns 5 --turns 5",
+            "node --id a --dir d --listen h --peers _ --initial _ --turns 5 --no-shrink --no-shrink",
+            "node --id a --dir d --listen h --peers _ --initial _ --turns 5 --no-shrink=true",
+            "node --id a --dir d --listen h --peers _ --initial _ --turns 5 --level core",
+            "node --id a --dir d --listen h --peers _ --initial _ --turns 5 --",
+            "node --id a --dir d --listen h --peers _ --initial _ --turns 5 a",
+            "node --id a --dir d --listen h --peers --initial _ --turns 5",
+        ],
+    )?;
+    assert_eq!(rt; found.as_str(), "");
+    Ok(())
+}
+
+#[test]
+fn a_node_needs_values_of_their_kinds(rt: HostRuntime) -> Result<(), Fail> {
+    let found = commands_among(
+        rt.alloc(),
+        &[
+            "node --id A --dir d --listen h --peers _ --initial _ --turns 5",
+            "node --id=-a --dir d --listen h --peers _ --initial _ --turns 5",
+            "node --id= --dir d --listen h --peers _ --initial _ --turns 5",
+            "node --id aaaaaaaaaaaaaaaaaaaaaaaaaaaaaaaaa --dir d --listen h --peers _ --initial _ --turns 5",
+            "node --id a --dir= --listen h --peers _ --initial _ --turns 5",
+            "node --id a --dir d --listen= --peers _ --initial _ --turns 5",
+            "node --id a --dir d --listen h,i --peers _ --initial _ --turns 5",
+            "node --id a --dir d --listen h --peers b --initial _ --turns 5",
+            "node --id a --dir d --listen h --peers b= --initial _ --turns 5",
+            "node --id a --dir d --listen h --peers =h --initial _ --turns 5",
+            "node --id a --dir d --listen h --peers b=h, --initial _ --turns 5",
+            "node --id a --dir d --listen h --peers b=h,b=i --initial _ --turns 5",
+            "node --id a --dir d --listen h --peers _,b=h --initial _ --turns 5",
+            "node --id a --dir d --listen h --peers=-=h --initial _ --turns 5",
+            "node --id a --dir d --listen h --peers _ --initial a,a --turns 5",
+            "node --id a --dir d --listen h --peers _ --initial a,,b --turns 5",
+            "node --id a --dir d --listen h --peers _ --initial a,_ --turns 5",
+            "node --id a --dir d --listen h --peers _ --initial=-a --turns 5",
+            "node --id a --dir d --listen h --peers _ --initial= --turns 5",
+            "node --id a --dir d --listen h --peers _ --initial _ --turns +5",
+            "node --id a --dir d --listen h --peers _ --initial _ --turns=-5",
+            "node --id a --dir d --listen h --peers _ --initial _ --turns 0x5",
+            "node --id a --dir d --listen h --peers _ --initial _ --turns=",
+            "node --id a --dir d --listen h --peers _ --initial _ --turns 18446744073709551616",
+        ],
+    )?;
+    assert_eq!(rt; found.as_str(), "");
     Ok(())
 }

@@ -1,7 +1,8 @@
 use Rattle.std.proofs.Common.{◌≡◌, ◌∙◌, sym, ap, subst, true, Option, map, string_bytes}
 use Rattle.std.specs.List.{list_all}
 use Rattle.std.proofs.lemmas.Result.{err_from_is_err_and}
-use Rattle.command_line.specs.Commands.{Gives, entered_command, is_fair}
+use Rattle.command_line.specs.Commands.{entered_command, is_fair}
+use Rattle.command_line.specs.Answers.{Gives}
 use Rattle.command_line.specs.declared.command.ProgramCommand.{ProgramCommand}
 use Rattle.command_line.proofs.Whole.{fair_map, unfair_none, err_is, taken_is}
 use Rattle.command_line.proofs.reading.read_words.Goals as goal

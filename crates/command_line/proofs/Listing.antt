@@ -1,0 +1,164 @@
+-- Lists of ids and of peers, one item after another.
+use Rattle.std.proofs.Common.{◌≡◌, ◌∙◌, refl, sym, ap, ℕ, suc, ◌+◌, ◌<◌, ◌≤◌, Bool, true, false, cond, not, ◌||◌, ◌&&◌, List, [], ◌∷◌, ◌++◌, length, map, fold, append_assoc, get_or, drop, Bor, Option, Some, None, option_and_then, arith}
+use Rattle.std.specs.Prelude.{◌==◌, nat_le}
+use Rattle.std.specs.List.{list_all, list_any}
+use Rattle.std.proofs.Math.Seq.{drop-cons}
+use Rattle.std.proofs.Math.Bool.{or_comm, or-false}
+use Rattle.std.proofs.lemmas.Bool.Decides.{nat_tests}
+use Rattle.std.proofs.lemmas.List.{append-nil, length-append}
+use Rattle.std.proofs.lemmas.List.Folds.{list_any-append}
+use Rattle.voting_config.specs.Ids.{Id, same, before, has, put, with_id, is_id}
+use Rattle.voting_config.proofs.Sorted.{has-with_id}
+use Rattle.zen_link.specs.declared.link.Peer.{Peer}
+use Rattle.zen_host.specs.HostCalls.{ToldPeer, told_peer}
+use Rattle.command_line.specs.declared.command.WordsError.{WordsError}
+use Rattle.command_line.specs.declared.command.WordsError.TheVariants.{Usage, Memory}
+use Rattle.command_line.specs.Answers.{Fails}
+use Rattle.command_line.specs.Given.{Text}
+use Rattle.command_line.specs.Lists.{are_new, set_in, id_in, is_peer, peer_in, peer_of, peers_in, with_new_id, with_new_peer, ids_of}
+
+-- the list that is put together from these items, one after another, onto what was found
+abbrev pub all_put : {X : Type 0} → (Text → List X → Option (List X)) → List Text → List X → Option (List X)
+all_put put [] found = Some found
+all_put put (t ∷ ts) found = option_and_then (λ more. all_put put ts more) (put t found)
+
+abbrev texts : List (Bor Text) → List Text
+texts = map (λ t. t.now)
+
+-- one item on
+pub item_step : {X : Type 0} (put : Text → List X → Option (List X)) (items : List (Bor Text)) (i : ℕ) (d : Bor Text) (found : List X) (o total : Option (List X)) → i < length items → o ≡ put (get_or items i d).now found
+    → all_put put (texts (drop i items)) found ≡ total → option_and_then (λ more. all_put put (texts (drop (i + 1) items)) more) o ≡ total
+item_step put items i d found o total within is so_far =
+    let next : i + 1 ≡ suc i = omega arith in
+    let step : all_put put (texts (drop i items)) found ≡ option_and_then (λ more. all_put put (texts (drop (i + 1) items)) more) o = rw (drop-cons items i d within, is, next) refl in
+    sym step ∙ so_far
+
+-- a failure at an item is one of the whole
+pub item_fails : {X : Type 0} (put : Text → List X → Option (List X)) (items : List (Bor Text)) (i : ℕ) (d : Bor Text) (found : List X) (total : Option (List X)) (e : WordsError) → i < length items → Fails e (put (get_or items i d).now found)
+    → all_put put (texts (drop i items)) found ≡ total → Fails e total
+item_fails put items i d found total Usage within h so_far = sym (item_step put items i d found None total within (sym h) so_far)
+item_fails put items i d found total Memory within h so_far = tt
+
+-- ---- ids
+
+-- what was found has the ids at the front
+record HasFront (found front : List Id) : Type 0 where
+  members : (q : Id) → has q found ≡ has q front
+  size : length found ≡ length front
+  few : length front ≤ 32
+
+length-put : (x : Id) (ys : List Id) → length (put x ys) ≡ suc (length ys)
+length-put x [] = refl
+length-put x (y ∷ ys) =
+    elim (before y x) as (λ b. length (cond b (y ∷ put x ys) (x ∷ y ∷ ys)) ≡ suc (suc (length ys))) [
+      | true ↦ ap suc (length-put x ys)
+      | false ↦ refl
+    ]
+
+length-with_id : (x : Id) (ys : List Id) → has x ys ≡ false → length (with_id x ys) ≡ suc (length ys)
+length-with_id x ys h = rw h (length-put x ys)
+
+HasFront-with_id : (x : Id) (found front : List Id) → HasFront found front → has x found ≡ false → length found < 32 → HasFront (with_id x found) (front ++ x ∷ [])
+HasFront-with_id x found front s new room = record {
+  members = λ q. has-with_id q x found ∙ or_comm (same x q) (has q found) ∙ ap (λ (b : Bool). b || same x q) (s.members q) ∙ sym (list_any-append (λ y. same y q) front (x ∷ []) ∙ ap (λ (b : Bool). has q front || b) (or-false (same x q)));
+  size = let longer = length-with_id x found new in rw (longer, length-append, s.size) (omega arith);
+  few = rw length-append (omega (arith, s.size));
+}
+
+abbrev onto : List Id → List Text → List Id
+onto found ts = fold (λ set id. with_id id set) found ts
+
+abbrev those : Bool → List Id → Option (List Id)
+those b ids = cond b (Some ids) None
+
+abbrev tried : List Text → List Id → Option Id → Option (List Id)
+tried ts found o = option_and_then (λ more. all_put with_new_id ts more) (option_and_then (λ id. cond (has id found || length found == 32) None (Some (with_id id found))) o)
+
+not_last : (a b : Bool) (ids : List Id) → None ≡ those (a && b && false) ids
+not_last true true ids = refl
+not_last true false ids = refl
+not_last false b ids = refl
+
+not_middle : (a c : Bool) (ids : List Id) → None ≡ those (a && false && c) ids
+not_middle true c ids = refl
+not_middle false c ids = refl
+
+abbrev IsTold : List Text → List Id → List Id → Type 0
+IsTold ts found front = HasFront found front → all_put with_new_id ts found ≡ those (list_all is_id ts && are_new front ts && nat_le (length front + length ts) 32) (onto found ts)
+
+ids_told : (ts : List Text) (found front : List Id) → IsTold ts found front
+ids_told [] found front s =
+    let few : nat_le (length front + 0) 32 ≡ true = grind (arith, nat_tests, s.few) in
+    rw few refl
+ids_told (t ∷ ts) found front s =
+    elim (is_id t) as (λ b. tried ts found (cond b (Some t) None) ≡ those ((b && list_all is_id ts) && (not (has t front) && are_new (front ++ t ∷ []) ts) && nat_le (length front + suc (length ts)) 32) (onto (with_id t found) ts)) [
+      | false ↦ refl
+      | true ↦ rw (← s.members t) (one (has t found) refl (λ h. ids_told ts (with_id t found) (front ++ t ∷ []) h))
+    ]
+  where
+    room : (b : Bool) → has t found ≡ false → (length found == 32) ≡ b → IsTold ts (with_id t found) (front ++ t ∷ [])
+        → option_and_then (λ more. all_put with_new_id ts more) (cond b None (Some (with_id t found))) ≡ those (list_all is_id ts && are_new (front ++ t ∷ []) ts && nat_le (length front + suc (length ts)) 32) (onto (with_id t found) ts)
+    room true e f later =
+        let full : length found ≡ 32 = grind (arith, nat_tests) in
+        let many : nat_le (length front + suc (length ts)) 32 ≡ false = grind (arith, nat_tests, full, s.size) in
+        rw many (not_last (list_all is_id ts) _ _)
+    room false e f later =
+        let fits : length found < 32 = grind (arith, nat_tests, s.size, s.few) in
+        let longer : length (front ++ t ∷ []) + length ts ≡ length front + suc (length ts) = rw length-append (omega arith) in
+        later (HasFront-with_id t found front s e fits) ∙ rw longer refl
+
+    one : (b : Bool) → has t found ≡ b → IsTold ts (with_id t found) (front ++ t ∷ [])
+        → option_and_then (λ more. all_put with_new_id ts more) (cond (b || length found == 32) None (Some (with_id t found))) ≡ those (list_all is_id ts && (not b && are_new (front ++ t ∷ []) ts) && nat_le (length front + suc (length ts)) 32) (onto (with_id t found) ts)
+    one true e later = not_middle (list_all is_id ts) _ _
+    one false e later = room (length found == 32) e refl later
+
+pub all_ids : (ts : List Text) → all_put with_new_id ts [] ≡ set_in ts
+all_ids ts =
+    let none : 0 + length ts ≡ length ts = omega arith in
+    ids_told ts [] [] (record { members = λ q. refl; size = refl; few = omega arith }) ∙ ap (λ (n : ℕ). those (list_all is_id ts && are_new [] ts && nat_le n 32) (onto [] ts)) none
+
+-- ---- peers
+
+ids_of-push : (found : List ToldPeer) (p : ToldPeer) → ids_of (found ++ p ∷ []) ≡ ids_of found ++ p.id ∷ []
+ids_of-push [] p = refl
+ids_of-push (q ∷ qs) p = ap (λ (ids : List Id). q.id ∷ ids) (ids_of-push qs p)
+
+abbrev those_peers : Bool → List ToldPeer → Option (List ToldPeer)
+those_peers b peers = cond b (Some peers) None
+
+abbrev tried_peer : List Text → List ToldPeer → Option ToldPeer → Option (List ToldPeer)
+tried_peer ts found o = option_and_then (λ more. all_put with_new_peer ts more) (option_and_then (λ peer. cond (has peer.id (ids_of found)) None (Some (found ++ peer ∷ []))) o)
+
+not_right : (a : Bool) (peers : List ToldPeer) → None ≡ those_peers (a && false) peers
+not_right true peers = refl
+not_right false peers = refl
+
+peers_told : (ts : List Text) (found : List ToldPeer) → all_put with_new_peer ts found ≡ those_peers (list_all is_peer ts && are_new (ids_of found) (map id_in ts)) (found ++ map peer_in ts)
+peers_told [] found = ap (λ (l : List ToldPeer). let o : Option (List ToldPeer) = Some l in o) (sym (append-nil found))
+peers_told (t ∷ ts) found =
+    elim (is_peer t) as (λ b. tried_peer ts found (cond b (Some (peer_in t)) None) ≡ those_peers ((b && list_all is_peer ts) && (not (has (id_in t) (ids_of found)) && are_new (ids_of found ++ id_in t ∷ []) (map id_in ts))) (found ++ peer_in t ∷ map peer_in ts)) [
+      | false ↦ refl
+      | true ↦ one (has (id_in t) (ids_of found)) (peers_told ts (found ++ peer_in t ∷ []))
+    ]
+  where
+    one : (b : Bool) → all_put with_new_peer ts (found ++ peer_in t ∷ []) ≡ those_peers (list_all is_peer ts && are_new (ids_of (found ++ peer_in t ∷ [])) (map id_in ts)) ((found ++ peer_in t ∷ []) ++ map peer_in ts)
+        → option_and_then (λ more. all_put with_new_peer ts more) (cond b None (Some (found ++ peer_in t ∷ []))) ≡ those_peers (list_all is_peer ts && (not b && are_new (ids_of found ++ id_in t ∷ []) (map id_in ts))) (found ++ peer_in t ∷ map peer_in ts)
+    one true later = not_right (list_all is_peer ts) _
+    one false later = later ∙ rw (ids_of-push found (peer_in t), append_assoc found (peer_in t ∷ []) (map peer_in ts)) refl
+
+pub all_peers : (ts : List Text) → all_put with_new_peer ts [] ≡ peers_in ts
+all_peers ts = peers_told ts []
+
+has_told : (id : Id) (peers : List Peer) → list_any (λ p. same p.id id) peers ≡ has id (ids_of (map told_peer peers))
+has_told id [] = refl
+has_told id (p ∷ ps) = ap (λ (b : Bool). same p.id id || b) (has_told id ps)
+
+told_push : (peers : List Peer) (p : Peer) → map told_peer (peers ++ p ∷ []) ≡ map told_peer peers ++ told_peer p ∷ []
+told_push [] p = refl
+told_push (q ∷ qs) p = ap (λ (ps : List ToldPeer). told_peer q ∷ ps) (told_push qs p)
+
+-- an item that is this peer, onto peers that have its id or don't
+pub with_told : (item : Text) (peers : List Peer) (p : Peer) (b : Bool) → peer_of item ≡ Some (told_peer p) → list_any (λ q. same q.id p.id) peers ≡ b → with_new_peer item (map told_peer peers) ≡ cond b None (Some (map told_peer (peers ++ p ∷ [])))
+with_told item peers p b is has_id =
+    ap (λ (o : Option ToldPeer). option_and_then (λ peer. cond (has peer.id (ids_of (map told_peer peers))) None (Some (map told_peer peers ++ peer ∷ []))) o) is
+    ∙ rw (← has_told p.id peers, has_id, told_push peers p) refl

@@ -1,0 +1,13 @@
+use Rattle.std.proofs.Common.{◌≡◌, false, rules}
+use Rattle.std.proofs.lemmas.Result.{IfOk-weaker}
+use Rattle.clap.specs.Words.{rule_of}
+use Rattle.command_line.specs.Given.{flag}
+use Rattle.command_line.specs.Program.{raw}
+use Rattle.command_line.proofs.Adding.{one_more}
+use Rattle.command_line.proofs.program.with_flag.Goals as goal
+
+pub returns : goal.returns
+returns c =
+    let is : rule_of c.action.result ≡ raw (flag c.args.name.now) = search rules in
+    let local : c.action.result.global ≡ false = search rules in
+    IfOk-weaker c.arg.result _ _ (λ r h. one_more c.args.command r c.action.result (raw (flag c.args.name.now)) local is h) c.arg.ensures

@@ -1,0 +1,85 @@
+ghost use Rattle.std.specs.Prelude.{◌≡◌, ◌==◌, not, is_some, option_map};
+ghost use Rattle.std.specs.Char.{is_ascii_digit};
+ghost use Rattle.std.specs.List.{list_all, list_any};
+ghost use Rattle.clap.specs.Words.{first_value, found_of};
+ghost use Rattle.command_line.specs.Answers.{Gives};
+ghost use Rattle.command_line.specs.Values.{plain_text, text_at, is_set as is_set_at, id_of, address_of, number_of};
+
+use crate::{Text, WordsError};
+use clap::ArgMatches;
+use std::alloc::Global;
+use voting_config::NodeId;
+
+// The text, where it is not empty and does not begin with a hyphen.
+fn plain(text: &str) -> Option<&str>
+    ensures { option_map (λ t. t.now) result ≡ plain_text text.now }
+{
+    if text.starts_with('-') || text.is_empty() {
+        return None;
+    }
+    Some(text)
+}
+
+/// The value of an option, where it is not empty and does not begin with a hyphen.
+pub fn value<'a>(matches: &ArgMatches<'a>, name: &str) -> Option<&'a str>
+    ensures { option_map (λ t. t.now) result ≡ text_at name.now (first_value (found_of matches.now)) }
+{
+    matches.get_str(name).and_then(plain)
+}
+
+/// The value of an option as a text.
+pub fn text(alloc: Global, matches: &ArgMatches<'_>, name: &str) -> Result<Text, WordsError>
+    ensures { Gives result (text_at name.now (first_value (found_of matches.now))) }
+{
+    let text = value(matches, name).ok_or(WordsError::Usage)?;
+    Ok(Text::of(String::from_str(alloc, text)?))
+}
+
+/// Whether a flag is set.
+pub fn is_set(matches: &ArgMatches<'_>, name: &str) -> bool
+    ensures { result ≡ is_set_at name.now (first_value (found_of matches.now)) }
+{
+    match matches.get_str(name) {
+        Some(text) => text == "true",
+        None => false,
+    }
+}
+
+/// The id that the text is.
+pub fn id(text: &str) -> Option<NodeId>
+    ensures { result ≡ id_of text.now }
+{
+    NodeId::from_bytes(text.as_bytes())
+}
+
+fn has_comma(text: &str) -> bool
+    ensures { result ≡ list_any (λ b. b == 44) text.now }
+{
+    text.as_bytes().iter().any(|b| *b == b',')
+}
+
+/// The address that the text is: it has no comma.
+pub fn address(text: &str) -> Option<&str>
+    ensures { option_map (λ t. t.now) result ≡ address_of text.now }
+{
+    if has_comma(text) {
+        return None;
+    }
+    Some(text)
+}
+
+fn are_digits(text: &str) -> bool
+    ensures { result ≡ list_all is_ascii_digit text.now }
+{
+    text.as_bytes().iter().all(|b| b.is_ascii_digit())
+}
+
+/// The number of 64 bits that decimal digits alone say.
+pub fn number(text: &str) -> Option<u64>
+    ensures { result ≡ number_of text.now }
+{
+    if !are_digits(text) {
+        return None;
+    }
+    text.parse().ok()
+}
