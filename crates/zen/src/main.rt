@@ -2,6 +2,7 @@
 #![tactic(auto)]
 
 use host_io::{StandardInput, StandardOutput, SystemHost};
+use node_bytes::SealedFrames;
 use std::alloc::AllocError;
 use std::process::ExitCode;
 use std::{env, io};
@@ -27,7 +28,7 @@ fn main(rt: HostRuntime) -> ExitCode {
     };
     let mut input = StandardInput::new(rt.stdin());
     let mut output = StandardOutput::new(rt.stdout());
-    let mut host = SystemHost::new(&rt);
+    let mut host = SystemHost::new(&rt, SealedFrames);
     let status: Status = run(
         rt.alloc(),
         words.as_slice(),

@@ -14,7 +14,8 @@ use Rattle.schedule_text.specs.Spelled.{Spells}
 use Rattle.schedule_text.proofs.ScheduleLaws.{one_schedule}
 use Rattle.schedule_text.proofs.FirstBadLaws.{law_first_bad_line}
 use Rattle.zen_app.specs.Reading.{most_read, read_of, ReadsAtMost, IsInput}
-use Rattle.zen_app.specs.Ran.{SourceView, SinkView, MayEndReplay, Replays}
+use Rattle.zen_app.specs.Ran.{MayEndReplay, Replays}
+use Rattle.zen_app.specs.Views.{SourceView, SinkView}
 use Rattle.schedule_replay.specs.Levels.{trace_at}
 use Rattle.zen_app.specs.SafeTrace.{IsSafeTraceAt}
 use Rattle.zen_app.specs.Runs.{ReplayEnded}

@@ -1,4 +1,7 @@
 pub mod Endings
 pub mod Inputs
+pub mod NodeLives
+pub mod NodeSettings
+pub mod NodeStages
 pub mod RunEnds
 pub mod Spelled

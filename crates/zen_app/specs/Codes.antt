@@ -13,8 +13,10 @@ code_of exit.NoMemory = 4
 code_of exit.ReadFault = 5
 code_of exit.WriteFault = 6
 code_of exit.DiskFault = 7
+code_of exit.LinkFault = 8
 code_of exit.HostFault = 9
 code_of exit.NotAJournal = 10
+code_of exit.Turns = 11
 
 -- the status with which a run of `inspect` ends
 abbrev pub status_of : Inspection → Status

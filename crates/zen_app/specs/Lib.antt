@@ -1,6 +1,9 @@
 pub mod Codes
+pub mod NodeFaults
+pub mod NodeRuns
 pub mod Ran
 pub mod Reading
 pub mod Refusing
 pub mod Runs
 pub mod SafeTrace
+pub mod Views

@@ -1,6 +1,8 @@
 -- How a run of the program ends. This is the statement of `run`.
 use Rattle.std.specs.Prelude.{◌≡◌, ℕ, ◌≤◌, ◌⊎◌, Option, None, Some, List, [], codes}
 use Rattle.zen_disk.specs.Faults.{Rose}
+use Rattle.zen_disk.specs.declared.disk.Disk.{Ghosts as Disks}
+use Rattle.zen_link.specs.declared.link.Link.{Ghosts as Links}
 use Rattle.zen_link.specs.Streams.{Appended, AppendedFront}
 use Rattle.schedule_text.specs.declared.fault.BadSchedule.{BadSchedule}
 use Rattle.schedule_text.specs.declared.level.Level.{Level}
@@ -11,25 +13,19 @@ use Rattle.schedule_text.specs.FirstBad.{IsFirstBad}
 use Rattle.schedule_text.specs.Printed.{bad_line}
 use Rattle.schedule_replay.specs.Levels.{trace_at}
 use Rattle.command_line.specs.declared.command.ProgramCommand.{ProgramCommand}
-use Rattle.command_line.specs.declared.command.ProgramCommand.TheVariants.{Replay, Inspect}
+use Rattle.command_line.specs.declared.command.ProgramCommand.TheVariants.{Replay, Inspect, Node}
 use Rattle.command_line.specs.Commands.{command_of}
 use Rattle.journal_inspection.specs.declared.inspecting.Inspection.{Inspection}
-use Rattle.journal_inspection.specs.Inspects.{HostView, Asked, EndsWith, IsComplete}
+use Rattle.journal_inspection.specs.Inspects.{HostView, LeavesLinks, Asked, EndsWith, IsComplete}
+use Rattle.coordinator.specs.declared.step.Sealed.{Sealed}
 use Rattle.zen_app.specs.Codes.{status_of}
 use Rattle.zen_app.specs.Reading.{most_read, read_of, unread_of, ReadsAtMost}
+use Rattle.zen_app.specs.NodeFaults.{Failed}
+use Rattle.zen_app.specs.NodeRuns.{NodeRun}
 use Rattle.zen_app.specs.SafeTrace.{IsSafeTraceAt}
+use Rattle.zen_app.specs.Views.{SourceView, SinkView}
 use Rattle.zen_app.specs.declared.status.Status.{Status}
 use Rattle.zen_app.specs.declared.status.Status.TheVariants as exit
-
--- what a source tells: the bytes left, where it tells them, and how many faults there were
-pub record SourceView : Type 0 where
-  pub left : Option (List ℕ)
-  pub faults : ℕ
-
--- what a sink tells: the bytes written, where it tells them, and how many faults there were
-pub record SinkView : Type 0 where
-  pub written : Option (List ℕ)
-  pub faults : ℕ
 
 abbrev pub usage_line : List ℕ
 usage_line = codes "zen: usage\n"
@@ -90,8 +86,10 @@ pub record Replays (level : Level) (bytes : List ℕ) (source source_now : Sourc
 abbrev pub MayEndReplay : Status → Type 0
 MayEndReplay exit.Usage = ⊥
 MayEndReplay exit.DiskFault = ⊥
+MayEndReplay exit.LinkFault = ⊥
 MayEndReplay exit.HostFault = ⊥
 MayEndReplay exit.NotAJournal = ⊥
+MayEndReplay exit.Turns = ⊥
 MayEndReplay other = Unit {0}
 
 -- a run of `replay --level`
@@ -101,12 +99,13 @@ pub record ReplayRun (level : Level) (source source_now : SourceView) (sink sink
   pub replays : (bytes : List ℕ) → source.left ≡ Some bytes → Replays level bytes source source_now sink sink_now status
 
 -- a run of `inspect --dir`: what the host was asked, what was written of the disk that it gave, and that a journal is shown where nothing fails
-pub record InspectRun {D : Type 0} (told : Type 0) (seen : D → List ℕ) (may_leave : D → List ℕ → Type 0) (count : D → ℕ) (dir : List ℕ) (host host_now : HostView D) (sink sink_now : SinkView) (status : Status) : Type 0 where
+pub record InspectRun {D L : Type 0} (d : Disks D) (dir : List ℕ) (host host_now : HostView D L) (sink sink_now : SinkView) (status : Status) : Type 0 where
   pub end : Inspection
   pub is_status : status ≡ status_of end
   pub asked : Asked dir host.calls host_now.calls end
-  pub ended : EndsWith told seen may_leave count host host_now sink.written sink_now.written sink.faults sink_now.faults end
-  pub complete : IsComplete told seen may_leave count host host_now sink.faults sink_now.faults end
+  pub ended : EndsWith d.told d.seen d.may_leave d.faults host host_now sink.written sink_now.written sink.faults sink_now.faults end
+  pub complete : IsComplete d.told d.seen d.may_leave d.faults host host_now sink.faults sink_now.faults end
+  pub links : LeavesLinks host host_now
 
 -- how a run ends whose words are no command
 abbrev pub RefusesWords : (was now : Option (List ℕ)) → Status → Type 0
@@ -116,31 +115,26 @@ RefusesWords was now exit.NoMemory = Appended was now []
 RefusesWords was now other = ⊥
 
 -- What a run does, by the command that its words are. A command that does not read leaves the source as it was, and one that opens nothing the host.
-abbrev pub Does : {D : Type 0} (told : Type 0) (seen : D → List ℕ) (may_leave : D → List ℕ → Type 0) (count : D → ℕ) (source source_now : SourceView) (sink sink_now : SinkView) (host host_now : HostView D) → Status
-    → Option ProgramCommand → Type 0
-Does told seen may_leave count source source_now sink sink_now host host_now status None =
+abbrev pub Does : {D L : Type 0} (d : Disks D) (l : Links L Sealed) (source source_now : SourceView) (sink sink_now : SinkView) (host host_now : HostView D L) → Status → Option ProgramCommand → Type 0
+Does d l source source_now sink sink_now host host_now status None =
     RefusesWords sink.written sink_now.written status × (source_now ≡ source) × (host_now ≡ host)
-Does told seen may_leave count source source_now sink sink_now host host_now status (Some (Replay level)) =
+Does d l source source_now sink sink_now host host_now status (Some (Replay level)) =
     ReplayRun level source source_now sink sink_now status × (host_now ≡ host)
-Does told seen may_leave count source source_now sink sink_now host host_now status (Some (Inspect dir)) =
-    InspectRun told seen may_leave count dir host host_now sink sink_now status × (source_now ≡ source)
+Does d l source source_now sink sink_now host host_now status (Some (Inspect dir)) =
+    InspectRun d dir host host_now sink sink_now status × (source_now ≡ source)
+Does d l source source_now sink sink_now host host_now status (Some (Node words)) =
+    NodeRun d l words host host_now sink sink_now status × (source_now ≡ source)
 
--- the disk that was given back has counted a fault; a host gives one that has counted none
-pub record DiskFailed {D : Type 0} (count : D → ℕ) (back : Option D) : Type 0 where
-  pub disk : D
-  pub is_back : back ≡ Some disk
-  pub rose : Rose 0 (count disk)
-
--- The whole clause: of the words, of what the source, the sink and the host told before the run and after it, and of the status. Of a disk, it is said
--- by whether it tells, by the bytes that a read gives, by what a crash may leave, and by its count of faults.
-pub record Ran {D : Type 0} (told : Type 0) (seen : D → List ℕ) (may_leave : D → List ℕ → Type 0) (count : D → ℕ) (words : List (List ℕ)) (source source_now : SourceView) (sink sink_now : SinkView) (host host_now : HostView D)
-    (status : Status) : Type 0 where
-  pub does : Does told seen may_leave count source source_now sink sink_now host host_now status (command_of words)
+-- The whole clause: of the words, of what the source, the sink and the host told before the run and after it, and of the status. `d` and `l` are what
+-- disks and links of this host tell.
+pub record Ran {D L : Type 0} (d : Disks D) (l : Links L Sealed) (words : List (List ℕ)) (source source_now : SourceView) (sink sink_now : SinkView) (host host_now : HostView D L) (status : Status) : Type 0 where
+  pub does : Does d l source source_now sink sink_now host host_now status (command_of words)
   -- at most one byte more is read than a schedule has
   pub read_at_most : ReadsAtMost most_read source.left source_now.left
   pub read_fault : status ≡ exit.ReadFault → Rose source.faults source_now.faults
   pub write_fault : status ≡ exit.WriteFault → Rose sink.faults sink_now.faults
-  pub disk_fault : status ≡ exit.DiskFault → DiskFailed count host_now.disk_back
+  pub disk_fault : status ≡ exit.DiskFault → Failed d.faults host_now.disk_back
+  pub link_fault : status ≡ exit.LinkFault → Failed l.faults host_now.link_back
   pub host_fault : status ≡ exit.HostFault → Rose host.faults host_now.faults
   pub read_later : source.faults ≤ source_now.faults
   pub wrote_later : sink.faults ≤ sink_now.faults

@@ -4,6 +4,7 @@
 pub mod input;
 pub mod replaying;
 pub mod running;
+pub mod serving;
 pub mod status;
 #[cfg(test)]
 mod tests;

@@ -6,11 +6,13 @@ ghost use Rattle.zen_app.specs.Runs.{UsageRun};
 
 use crate::Status;
 use crate::replaying::run_replay;
+use crate::serving::run_node;
 use command_line::{ProgramCommand, WordsError, read_words};
+use coordinator::Sealed;
 use journal_inspection::{Inspection, inspect};
 use std::alloc::Global;
 use zen_host::Host;
-use zen_link::{Sink, write_all};
+use zen_link::{Link, Sink, write_all};
 
 fn status_after(end: Inspection) -> Status
     ensures { result ≡ status_of end }
@@ -36,22 +38,23 @@ fn refuse_words<S: Sink>(out: &mut S) -> Status
 
 /// Runs the program: `words` are those after its name. `replay --level core` reads a schedule of single acts and writes its
 /// trace, `replay --level node` a schedule of whole nodes. `inspect --dir D` opens the journal in a folder and writes what
-/// it keeps. The clause says what each status tells.
-pub fn run<H: Host>(
+/// it keeps. `node` runs one node over the journal in a folder and a link, and writes its history. The clause says what
+/// each status tells.
+pub fn run<L: Link<Out = Sealed> + Drop, H: Host<Link = L>>(
     alloc: Global,
     words: &[String],
     input: &mut H::In,
     out: &mut H::Out,
     host: &mut H,
 ) -> Status
-    ensures { Ran H.Disk.told H.Disk.seen H.Disk.may_leave H.Disk.faults
+    ensures { Ran H.Disk.Disk L.Link
         (map (λ w. string_bytes w) words.now)
         (record { left = H.In.left input.old; faults = H.In.faults input.old })
         (record { left = H.In.left input.new; faults = H.In.faults input.new })
         (record { written = H.Out.written out.old; faults = H.Out.faults out.old })
         (record { written = H.Out.written out.new; faults = H.Out.faults out.new })
-        (record { calls = H.calls host.old; disk_ready = H.disk_ready host.old; disk_back = H.disk_back host.old; faults = H.faults host.old })
-        (record { calls = H.calls host.new; disk_ready = H.disk_ready host.new; disk_back = H.disk_back host.new; faults = H.faults host.new })
+        (record { calls = H.calls host.old; disk_ready = H.disk_ready host.old; disk_back = H.disk_back host.old; link_ready = H.link_ready host.old; link_back = H.link_back host.old; faults = H.faults host.old })
+        (record { calls = H.calls host.new; disk_ready = H.disk_ready host.new; disk_back = H.disk_back host.new; link_ready = H.link_ready host.new; link_back = H.link_back host.new; faults = H.faults host.new })
         result }
 {
     let command = match read_words(alloc, words) {
@@ -62,5 +65,6 @@ pub fn run<H: Host>(
     match &command {
         ProgramCommand::Replay(level) => run_replay(alloc, *level, input, out),
         ProgramCommand::Inspect(dir) => status_after(inspect(alloc, dir.as_str(), out, host)),
+        ProgramCommand::Node(words) => run_node(alloc, words, out, host),
     }
 }

@@ -15,10 +15,14 @@ pub enum Status {
     WriteFault,
     /// The disk that the host gave failed: its count of faults rose.
     DiskFault,
+    /// The link that the host gave failed: its count of faults rose.
+    LinkFault,
     /// The host failed: its count of faults rose.
     HostFault,
     /// The file in the folder is no journal.
     NotAJournal,
+    /// A node has taken all its turns.
+    Turns,
 }
 
 impl Status {
@@ -37,8 +41,10 @@ impl Status {
             Status::ReadFault => 5,
             Status::WriteFault => 6,
             Status::DiskFault => 7,
+            Status::LinkFault => 8,
             Status::HostFault => 9,
             Status::NotAJournal => 10,
+            Status::Turns => 11,
         }
     }
 }

@@ -1,7 +1,9 @@
+mod nodes;
 mod random;
 mod rows;
 
 use crate::{Status, run};
+use coordinator::Sealed;
 use rows::{RULES, Row, SAFE_COMMITS, SAFE_JOINS, SAFE_VALUES, STOPS, WHOLE_NODES};
 use schedule_text::{Level, Text, read_schedule, write_schedule};
 use std::alloc::{AllocError, Global};
@@ -9,7 +11,7 @@ use std::process::Abort;
 use std::test::Fail;
 use zen_disk::{Disk, MemDisk};
 use zen_host::MemHost;
-use zen_link::{MemSink, MemSource};
+use zen_link::{MemLink, MemSink, MemSource};
 
 // A run: its words, what the input and the file of the journal hold, and the numbers of the calls that fail.
 #[derive(Clone, Copy)]
@@ -52,7 +54,7 @@ fn inspection<'a>(file: &'a [u8]) -> Case<'a> {
 struct Ended {
     status: Status,
     sink: MemSink,
-    host: MemHost<MemDisk>,
+    host: MemHost<MemDisk, MemLink<Sealed>>,
 }
 
 fn ran(alloc: Global, case: Case<'_>) -> Result<Ended, AllocError> {
@@ -66,7 +68,8 @@ fn ran(alloc: Global, case: Case<'_>) -> Result<Ended, AllocError> {
     let mut sink = MemSink::new(alloc, 100, Vec::from_slice(alloc, case.writes)?);
     let file = Vec::from_slice(alloc, case.file)?;
     let disk = MemDisk::new(alloc, file, Vec::from_slice(alloc, case.device_calls)?);
-    let mut host = MemHost::new(alloc, disk, Vec::from_slice(alloc, case.openings)?);
+    let link = MemLink::new(alloc, Vec::new(alloc), Vec::new(alloc));
+    let mut host = MemHost::with_link(alloc, disk, link, Vec::from_slice(alloc, case.openings)?);
     let status = run(alloc, words.as_slice(), &mut source, &mut sink, &mut host);
     Ok(Ended { status, sink, host })
 }

@@ -1,3 +1,0 @@
-pub mod OneAct
-pub mod Chain
-pub mod Running

@@ -1,4 +1,0 @@
-pub mod Requests
-pub mod Did
-pub mod Entries
-pub mod Turns

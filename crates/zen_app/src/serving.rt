@@ -1,0 +1,169 @@
+//! A run of one node: the journal in its folder, its link, and how it ends.
+ghost use Rattle.std.specs.Prelude.{◌≡◌, ◌≤◌, IfOk, Some, map};
+ghost use Rattle.zen_disk.specs.Faults.{Rose};
+ghost use Rattle.state_journal.specs.Opening.{handed_back};
+ghost use Rattle.journal_inspection.specs.Inspects.{HostView};
+ghost use Rattle.journal_inspection.specs.Report.{not_a_journal};
+ghost use Rattle.zen_app.specs.NodeFaults.{NodeFaults, status_by};
+ghost use Rattle.zen_app.specs.NodeRuns.{EndsBy, NodeRun, RefusedBy, SaysLine, settings_by};
+ghost use Rattle.zen_app.specs.declared.status.Status.TheVariants as exit;
+
+use crate::Status;
+use command_line::NodeWords;
+use coordinator::Sealed;
+use journal_inspection::write_not_a_journal;
+use node_loop::{End, JournalNode, Node};
+use policy_model::{NodeIds, Settings};
+use schedule_text::Text;
+use state_journal::{OpenError, Why};
+use std::alloc::{AllocError, Global};
+use voting_config::NodeId;
+use zen_host::{Host, HostError};
+use zen_link::{Link, Peer, Sink, write_all};
+
+fn ids(alloc: Global, peers: &[Peer]) -> Result<Vec<NodeId>, AllocError>
+    ensures { IfOk result (λ ids. ids.items ≡ map (λ p. p.id) peers.now) }
+{
+    let mut ids = Vec::new(alloc);
+    for peer in peers {
+        ids.push(peer.id)?;
+    }
+    Ok(ids)
+}
+
+// What a node is told by the words.
+fn settings(alloc: Global, words: &NodeWords) -> Result<Settings, AllocError>
+    ensures { IfOk result (λ s. s ≡ settings_by words.now) }
+{
+    let link = words.link.settings();
+    Ok(Settings {
+        me: link.me,
+        peers: NodeIds::of(ids(alloc, &link.peers)?),
+        initial: words.initial.copy(),
+        shrink: words.shrink,
+    })
+}
+
+fn refusal(error: HostError) -> Status
+    ensures { result ≡ status_by error }
+{
+    match error {
+        HostError::Failed => Status::HostFault,
+        HostError::Memory => Status::NoMemory,
+    }
+}
+
+// Writes why a file is no journal.
+fn write_why<S: Sink>(alloc: Global, out: &mut S, why: Why) -> Status
+    ensures refused { SaysLine (not_a_journal why) exit.NotAJournal (S.written out.old) (S.written out.new) result }
+    ensures write { result ≡ exit.WriteFault → Rose (S.faults out.old) (S.faults out.new) }
+    ensures later { S.faults out.old ≤ S.faults out.new }
+{
+    let mut text = Text::new(alloc);
+    let Ok(()) = write_not_a_journal(&mut text, why) else {
+        return Status::NoMemory;
+    };
+    let Ok(()) = write_all(out, text.as_bytes()) else {
+        return Status::WriteFault;
+    };
+    Status::NotAJournal
+}
+
+// Gives the disk back whose journal was not opened, and says why where its file is no journal.
+fn refuse_journal<H: Host>(
+    alloc: Global,
+    out: &mut H::Out,
+    host: &mut H,
+    error: OpenError<H::Disk>,
+) -> Status
+    ensures refused { RefusedBy error (H.Out.written out.old) (H.Out.written out.new) result }
+    ensures back { H.disk_back host.new ≡ Some (handed_back error) }
+    ensures link_ready { H.link_ready host.new ≡ H.link_ready host.old }
+    ensures link_back { H.link_back host.new ≡ H.link_back host.old }
+    ensures calls { H.calls host.new ≡ H.calls host.old }
+    ensures faults { H.faults host.new ≡ H.faults host.old }
+    ensures write { result ≡ exit.WriteFault → Rose (H.Out.faults out.old) (H.Out.faults out.new) }
+    ensures later { H.Out.faults out.old ≤ H.Out.faults out.new }
+{
+    match error {
+        OpenError::NotAJournal(why, disk) => {
+            host.close_disk(disk);
+            write_why(alloc, out, why)
+        }
+        OpenError::Disk(disk) => {
+            host.close_disk(disk);
+            Status::DiskFault
+        }
+        OpenError::Memory(disk) => {
+            host.close_disk(disk);
+            Status::NoMemory
+        }
+    }
+}
+
+fn write_turns<S: Sink>(out: &mut S) -> Status
+    ensures ends { EndsBy End.Turns (S.written out.old) (S.written out.new) result }
+    ensures write { result ≡ exit.WriteFault → Rose (S.faults out.old) (S.faults out.new) }
+    ensures later { S.faults out.old ≤ S.faults out.new }
+{
+    let Ok(()) = write_all(out, "zen: turns\n".as_bytes()) else {
+        return Status::WriteFault;
+    };
+    Status::Turns
+}
+
+// The status of a run that served, and its line where it has one.
+fn write_end<S: Sink>(out: &mut S, end: End) -> Status
+    ensures ends { EndsBy end (S.written out.old) (S.written out.new) result }
+    ensures write { end ≡ End.Turns → result ≡ exit.WriteFault → Rose (S.faults out.old) (S.faults out.new) }
+    ensures later { S.faults out.old ≤ S.faults out.new }
+{
+    match end {
+        End::Stop => Status::Ok,
+        End::Turns => write_turns(out),
+        End::Write => Status::WriteFault,
+        End::Disk => Status::DiskFault,
+        End::Link => Status::LinkFault,
+        End::Memory => Status::NoMemory,
+    }
+}
+
+/// Runs one node: opens the journal in its folder, then its link, serves the link from the opening on, and gives both back.
+/// It writes the node's history, which follows the policy.
+pub fn run_node<L: Link<Out = Sealed> + Drop, H: Host<Link = L>>(
+    alloc: Global,
+    words: &NodeWords,
+    out: &mut H::Out,
+    host: &mut H,
+) -> Status
+    ensures run { NodeRun H.Disk.Disk L.Link words.now
+        (record { calls = H.calls host.old; disk_ready = H.disk_ready host.old; disk_back = H.disk_back host.old; link_ready = H.link_ready host.old; link_back = H.link_back host.old; faults = H.faults host.old })
+        (record { calls = H.calls host.new; disk_ready = H.disk_ready host.new; disk_back = H.disk_back host.new; link_ready = H.link_ready host.new; link_back = H.link_back host.new; faults = H.faults host.new })
+        (record { written = H.Out.written out.old; faults = H.Out.faults out.old })
+        (record { written = H.Out.written out.new; faults = H.Out.faults out.new })
+        result }
+    ensures faults { NodeFaults H.Disk.faults L.faults (H.disk_back host.new) (H.link_back host.new) (H.faults host.old) (H.faults host.new) (H.Out.faults out.old) (H.Out.faults out.new) result }
+{
+    let Ok(settings) = settings(alloc, words) else {
+        return Status::NoMemory;
+    };
+    let disk = match host.open_disk(words.dir.as_str()) {
+        Ok(disk) => disk,
+        Err(error) => return refusal(error),
+    };
+    let node: JournalNode<H::Disk> = match Node::open(alloc, settings, disk) {
+        Ok(node) => node,
+        Err(error) => return refuse_journal(alloc, out, host, error),
+    };
+    let mut link = match host.open_link(words.link.settings()) {
+        Ok(link) => link,
+        Err(error) => {
+            host.close_disk(node.into_disk());
+            return refusal(error);
+        }
+    };
+    let (disk, end) = node.run(&mut link, out, words.turns);
+    host.close_link(link);
+    host.close_disk(disk);
+    write_end(out, end)
+}
