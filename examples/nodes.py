@@ -1,0 +1,188 @@
+"""Nodes on this machine, each a process of its own over loopback sockets and a folder, and clients of them. For examples/cluster and bench/node."""
+import json
+import os
+import random
+import signal
+import socket
+import subprocess
+import threading
+import time
+
+HOST = '127.0.0.1'
+
+# So many inputs a run takes at most: one that nobody ends any more ends by itself within a day.
+TURNS = 1000000
+
+
+class Broken(Exception):
+    """Something that cannot go on, with the words that say why."""
+
+
+class Node:
+    """A node that may be started again and again over one folder. What each of its runs writes lies in a file of its own, since a pipe that nobody
+    empties would hold the node up."""
+
+    def __init__(self, program, name, top):
+        self.program, self.name = program, name
+        self.folder = os.path.join(top, name)
+        self.outputs, self.process, self.words = [], None, []
+        # Once it is over it is not started any more, not by another thread either.
+        self.lock, self.is_over = threading.Lock(), False
+
+    def settle(self, ports):
+        """Says where it and the others listen."""
+        self.port = ports[self.name]
+        peers = ','.join('%s=%s:%d' % (name, HOST, port) for name, port in sorted(ports.items()) if name != self.name)
+        self.words = ['node', '--id', self.name, '--dir', self.folder, '--listen', '%s:%d' % (HOST, self.port), '--peers', peers,
+                      '--initial', ','.join(sorted(ports)), '--turns', str(TURNS)]
+
+    def start(self):
+        """Starts a run. It is up once it has begun to write. Gives whether it is: where its port was taken meanwhile it has ended."""
+        self.outputs.append('%s.%d' % (self.folder, len(self.outputs) + 1))
+        with self.lock:
+            if self.is_over:
+                raise Broken('%s is over' % self.name)
+            self.open(self.outputs[-1])
+        end = time.monotonic() + 30
+        while time.monotonic() < end and self.process.poll() is None:
+            if b'> start\n' in self.read(len(self.outputs) - 1):
+                return True
+            time.sleep(0.01)
+        if self.process.poll() is None:
+            raise Broken('%s runs and writes nothing' % self.name)
+        self.outputs.pop()
+        return False
+
+    def open(self, output):
+        with open(output, 'wb') as out, open(output + '.error', 'wb') as error:
+            self.process = subprocess.Popen([self.program] + self.words, stdin=subprocess.DEVNULL, stdout=out, stderr=error)
+
+    def start_again(self):
+        """Starts a run on the port that it had."""
+        for _ in range(20):
+            if self.start():
+                return
+            time.sleep(0.5)
+        raise Broken('%s does not start again: its last status was %d' % (self.name, self.process.returncode))
+
+    def read(self, run):
+        """The bytes that a run has written by now."""
+        with open(self.outputs[run], 'rb') as output:
+            return output.read()
+
+    def is_up(self):
+        return self.process is not None and self.process.poll() is None
+
+    def kill(self):
+        """Ends the run at once."""
+        if self.process is not None:
+            if self.process.poll() is None:
+                self.process.send_signal(signal.SIGKILL)
+            self.process.wait()
+
+    def close(self):
+        """Ends the run, and has no other one begin."""
+        with self.lock:
+            self.is_over = True
+            self.kill()
+
+    def stop(self, seconds=10):
+        """Ends the run as a node is to be ended, and gives its status."""
+        with socket.create_connection((HOST, self.port), timeout=seconds) as connection:
+            connection.sendall(b'stop\n')
+            try:
+                return self.process.wait(seconds)
+            except subprocess.TimeoutExpired:
+                raise Broken('%s goes on %d seconds behind a stop' % (self.name, seconds))
+
+    def ask(self, request, seconds=15):
+        """The reply to a request over a connection of its own, or None where that ends before it. OSError where there is no connection, or no reply in
+        time."""
+        with Client(self.port, seconds) as client:
+            return client.ask(request)
+
+
+class Client:
+    """A connection to a node."""
+
+    def __init__(self, port, seconds=15):
+        self.socket = socket.create_connection((HOST, port), timeout=seconds)
+        self.socket.setsockopt(socket.IPPROTO_TCP, socket.TCP_NODELAY, 1)
+        self.rest = b''
+
+    def __enter__(self):
+        return self
+
+    def __exit__(self, *_):
+        self.socket.close()
+
+    def send(self, request):
+        self.socket.sendall(json.dumps(request).encode() + b'\n')
+
+    def reply(self):
+        """The next reply, or None where the connection has ended."""
+        while b'\n' not in self.rest:
+            more = self.socket.recv(65536)
+            if not more:
+                return None
+            self.rest += more
+        line, self.rest = self.rest.split(b'\n', 1)
+        return json.loads(line)
+
+    def ask(self, request):
+        self.send(request)
+        return self.reply()
+
+
+def free_ports(names):
+    """A port for each name that nobody listens at now. They lie below those that the system gives to outgoing connections."""
+    ports = {}
+    while len(ports) < len(names):
+        port = random.randrange(10000, 32000)
+        with socket.socket() as probe:
+            try:
+                probe.bind((HOST, port))
+            except OSError:
+                continue
+        if port not in ports.values():
+            ports[names[len(ports)]] = port
+    return ports
+
+
+def started(program, names, top):
+    """New nodes, all of them up. Where one finds its port taken, all begin anew."""
+    for attempt in range(10):
+        here = os.path.join(top, str(attempt))
+        os.mkdir(here)
+        nodes = {name: Node(program, name, here) for name in names}
+        ports = free_ports(names)
+        for node in nodes.values():
+            node.settle(ports)
+        try:
+            if all(node.start() for node in nodes.values()):
+                return nodes
+        except BaseException:
+            end(nodes)
+            raise
+        end(nodes)
+    raise Broken('no node starts: the last status was %s' % [node.process.returncode for node in nodes.values() if node.process])
+
+
+def end(nodes):
+    """Ends all runs for good, whatever they do."""
+    for node in nodes.values():
+        node.close()
+
+
+def leader_of(nodes, end):
+    """The node that leads: the first that takes a request for the state as one."""
+    while time.monotonic() < end:
+        for node in nodes.values():
+            try:
+                reply = node.ask({'id': 0, 'state': {}}, 5)
+            except OSError:
+                continue
+            if reply and 'state' in reply:
+                return node.name
+        time.sleep(0.1)
+    raise Broken('no node leads')
