@@ -178,6 +178,11 @@ impl Connection {
         self.over || self.peer.is_none() && !self.has_whole()
     }
 
+    // Whether it was given as lines of a client: it came from outside, and no frame's length begins it.
+    pub(crate) fn brings_lines(&self) -> bool {
+        self.peer.is_none() && matches!(self.front.as_slice(), [first, ..] if *first != 0)
+    }
+
     // Whether a whole line or a whole frame was given. A frame's length begins with a zero byte, and no line does.
     fn has_whole(&self) -> bool {
         match self.front.as_slice() {
@@ -231,6 +236,7 @@ impl Connection {
             self.held = held.saturating_add(bytes.len());
             return Ok(Heard::Nothing);
         }
+        let bytes = self.part(bytes);
         let mut all = BytesMut::new(alloc);
         all.extend_from_slice(&stop[..held])?;
         all.extend_from_slice(bytes)?;
@@ -243,6 +249,25 @@ impl Connection {
             self.sender = framing.sender(self.front.as_slice());
         }
         Ok(Heard::Bytes(all))
+    }
+
+    // As much as is given at once: of lines up to the first line feed, so that no input is more than one event.
+    fn part<'b>(&self, bytes: &'b [u8]) -> &'b [u8] {
+        if self.carries_frames(bytes) {
+            return bytes;
+        }
+        match bytes.iter().position(|byte| *byte == b'\n') {
+            Some(place) => &bytes[..place + 1],
+            None => bytes,
+        }
+    }
+
+    // Whether its first byte is a frame's, where these bytes come next.
+    fn carries_frames(&self, bytes: &[u8]) -> bool {
+        match self.front.as_slice() {
+            [first, ..] => *first == 0,
+            [] => self.held == 0 && bytes.starts_with(&[0]),
+        }
     }
 
     // Notes bytes that are given.

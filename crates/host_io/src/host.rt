@@ -1,18 +1,23 @@
 ghost use Rattle.std.specs.Prelude.{◌≡◌, ◌≤◌, None, ⊤};
 ghost use Rattle.zen_disk.specs.Faults.{Rose};
 
+use crate::children::{Children, SystemChild};
 use crate::folder::open_in_folder;
 use crate::{FileDisk, Framing, SocketLink, StandardInput, StandardOutput};
-use zen_host::{Host, HostError};
+use zen_host::{Ended, Host, HostError};
 use zen_link::LinkSettings;
 
-/// The host that is the system. A folder's disk is the file `journal.0` in it, and a link's frames are those of a framing.
+/// The host that is the system. A folder's disk is the file `journal.0` in it, a link's frames are those of a framing,
+/// and its children are those of this process.
 #[derive(Drop)]
 pub struct SystemHost<'a, F: Framing + Copy + Drop> {
     rt: &'a HostRuntime,
     framing: F,
     disk_back: Option<FileDisk>,
     link_back: Option<SocketLink<HostRuntime, F>>,
+    children: Children,
+    // how many children were spawned, and neither waited for nor killed
+    running: u64,
     faults: u64,
 }
 
@@ -26,6 +31,8 @@ impl<'a, F: Framing + Copy + Drop> SystemHost<'a, F> {
             framing,
             disk_back: None,
             link_back: None,
+            children: Children::new(rt.alloc()),
+            running: 0,
             faults: 0,
         }
     }
@@ -37,6 +44,7 @@ impl<'a, F: Framing + Copy + Drop> SystemHost<'a, F> {
         ensures later { self.old.faults ≤ self.new.faults }
         ensures back { self.new.disk_back ≡ self.old.disk_back }
         ensures link_back { self.new.link_back ≡ self.old.link_back }
+        ensures running { self.new.running ≡ self.old.running }
     {
         self.faults = self.faults.saturating_add(1);
         HostError::Failed
@@ -52,6 +60,8 @@ impl<F: Framing + Copy + Drop> Host for SystemHost<'_, F> {
 
     type Link = SocketLink<HostRuntime, F>;
 
+    type Child = SystemChild;
+
     ghost calls = { λ _. None };
 
     ghost disk_ready = { λ _. None };
@@ -62,11 +72,21 @@ impl<F: Framing + Copy + Drop> Host for SystemHost<'_, F> {
 
     ghost link_back = { λ host. host.link_back };
 
+    ghost running = { λ host. host.running };
+
+    ghost child_number = { λ _. 0 };
+
     ghost faults = { λ host. host.faults };
 
     ghost steps = { λ _ _ _. ⊤ };
 
     ghost link_steps = { λ _ _ _. ⊤ };
+
+    ghost spawn_steps = { λ _ _ _. ⊤ };
+
+    ghost wait_steps = { λ _ _ _ _. ⊤ };
+
+    ghost kill_steps = { λ _ _ _. ⊤ };
 
     fn open_disk(&mut self, dir: &str) -> Result<FileDisk, HostError> {
         let Ok(path) = format!(in self.rt.alloc(); "{dir}/journal.0") else {
@@ -95,5 +115,37 @@ impl<F: Framing + Copy + Drop> Host for SystemHost<'_, F> {
 
     fn close_link(&mut self, link: SocketLink<HostRuntime, F>) {
         self.link_back = Some(link);
+    }
+
+    fn spawn(&mut self, program: &str, words: &[String]) -> Result<SystemChild, HostError> {
+        let Some(running) = self.running.checked_add(1) else {
+            return Err(self.failed());
+        };
+        match self.children.spawn(self.rt, program, words) {
+            Ok(child) => {
+                self.running = running;
+                Ok(child)
+            }
+            Err(HostError::Memory) => Err(HostError::Memory),
+            Err(HostError::Failed) => Err(self.failed()),
+        }
+    }
+
+    fn wait(&mut self, child: SystemChild) -> Result<Ended, HostError> {
+        self.running = self.running.saturating_sub(1);
+        match self.children.wait(child) {
+            Ok(ended) => Ok(ended),
+            Err(HostError::Memory) => Err(HostError::Memory),
+            Err(HostError::Failed) => Err(self.failed()),
+        }
+    }
+
+    fn kill(&mut self, child: SystemChild) -> Result<(), HostError> {
+        self.running = self.running.saturating_sub(1);
+        match self.children.kill(child) {
+            Ok(()) => Ok(()),
+            Err(HostError::Memory) => Err(HostError::Memory),
+            Err(HostError::Failed) => Err(self.failed()),
+        }
     }
 }

@@ -1,8 +1,11 @@
-//! The outside of the program as the system has it: a file, the standard streams, a node's link over sockets, and the host
-//! that opens a folder's journal and a link. What they hold is not told, so no clause speaks of it: that they keep and
-//! carry bytes is tested.
+//! The outside of the program as the system has it: a file, the standard streams, a node's link over sockets, the children
+//! of the process, and the host that opens a folder's journal and a link and runs the children. What they hold is not told,
+//! so no clause speaks of it: that they keep and carry bytes is tested.
 #![tactic(auto)]
 
+#[cfg(test)]
+mod child_tests;
+pub mod children;
 mod connection;
 pub mod disk;
 pub mod folder;
@@ -17,6 +20,7 @@ pub mod streams;
 #[cfg(test)]
 mod tests;
 
+pub use children::{Children, SystemChild};
 pub use disk::FileDisk;
 pub use framing::{Framing, Piece, Target};
 pub use host::SystemHost;

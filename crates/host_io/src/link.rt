@@ -16,7 +16,7 @@ use zen_link::{Input, Link, LinkError, LinkSettings};
 // The longest wait for something to come, in milliseconds.
 const WAIT: u64 = 50;
 
-// The longest time without a tick while inputs come, in milliseconds.
+// The longest time without a tick while inputs come, in milliseconds; where an event takes longer, each second input is one.
 const LATE: u64 = 100;
 
 /// A link over sockets. It tells nothing.
@@ -28,6 +28,8 @@ pub struct SocketLink<R: Net + Clock + RandomSource + Drop, F: Framing + Drop> {
     opened: Instant,
     // The moment of the last tick.
     ticked: u64,
+    // Whether a tick was given last.
+    ticked_last: bool,
     faults: u64,
 }
 
@@ -51,6 +53,7 @@ impl<R: Net + Clock + RandomSource + Drop, F: Framing + Drop> SocketLink<R, F> {
             sockets,
             opened,
             ticked: 0,
+            ticked_last: false,
             faults: 0,
         })
     }
@@ -71,10 +74,11 @@ impl<R: Net + Clock + RandomSource + Drop, F: Framing + Drop> SocketLink<R, F> {
             return Err(LinkError::Failed);
         };
         let late = self.ticked.saturating_add(LATE);
-        if now >= late {
+        if now >= late && !self.ticked_last {
             self.sockets.serve(&self.framing, now);
             return Ok(None);
         }
+        // where a tick is due again at once, what has come by now goes first
         let until = now.saturating_add(WAIT).min(late);
         self.sockets
             .find(&self.rt, &self.framing, &self.opened, until)
@@ -88,6 +92,7 @@ impl<R: Net + Clock + RandomSource + Drop, F: Framing + Drop> SocketLink<R, F> {
         match moment(&self.rt, &self.opened) {
             Ok((now, word)) => {
                 self.ticked = now;
+                self.ticked_last = true;
                 Ok(Input::Tick { now, word })
             }
             Err(_) => {
@@ -124,7 +129,10 @@ impl<R: Net + Clock + RandomSource + Drop, F: Framing + Drop> Link for SocketLin
         let found = self.found();
         self.faults = self.faults.saturating_add(self.sockets.take_errors());
         match found {
-            Ok(Some(input)) => Ok(input),
+            Ok(Some(input)) => {
+                self.ticked_last = false;
+                Ok(input)
+            }
             Ok(None) => self.tick(),
             Err(LinkError::Memory) => Err(LinkError::Memory),
             Err(LinkError::Failed) => {

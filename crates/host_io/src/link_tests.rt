@@ -1,11 +1,12 @@
 use crate::{Framing, Piece, SocketLink, SystemHost, Target};
 use bytes::Bytes;
 use std::alloc::{AllocError, Global};
-use std::io;
 use std::io::{Read, Write};
 use std::net::{TcpListener, TcpStream};
 use std::process::Abort;
 use std::test::Fail;
+use std::time::Duration;
+use std::{io, thread};
 use voting_config::NodeId;
 use zen_host::Host;
 use zen_link::{CONNECTIONS, Input, Link, LinkSettings, Peer};
@@ -406,7 +407,7 @@ fn next_number(link: &mut RealLink) -> io::Result<u64> {
     Err(io::Error::from(io::ErrorKind::TimedOut))
 }
 
-// As many clients as there are numbers, each of which has said a line.
+// As many clients as there are numbers, each of which has said a line and was answered.
 fn connect_all(
     rt: &HostRuntime,
     link: &mut RealLink,
@@ -416,7 +417,8 @@ fn connect_all(
     for _ in 1..CONNECTIONS {
         let client = connect(rt, address)?;
         say(&client, b"x\n")?;
-        next_number(link)?;
+        let conn = next_number(link)?;
+        send(rt.alloc(), link, Target::Connection(conn), b"z\n")?;
         clients.push(client)?;
     }
     Ok(clients)
@@ -444,7 +446,7 @@ fn clients_lock_no_peer_out(rt: HostRuntime) -> Result<(), Fail> {
     Ok(())
 }
 
-// Whether the other side ends the connection within so many looks.
+// Whether the other side, which has said nothing, ends the connection within so many looks.
 fn is_ended(link: &mut RealLink, mut client: &TcpStream, looks: u64) -> io::Result<bool> {
     client.set_nonblocking(true)?;
     for _ in 0..looks {
@@ -456,6 +458,52 @@ fn is_ended(link: &mut RealLink, mut client: &TcpStream, looks: u64) -> io::Resu
         }
     }
     Ok(false)
+}
+
+// Connects a client that says a line, and gives its number.
+fn connect_one(
+    rt: &HostRuntime,
+    link: &mut RealLink,
+    address: &String,
+) -> Result<(TcpStream, u64), Fail> {
+    let client = connect(rt, address)?;
+    say(&client, b"x\n")?;
+    let conn = next_number(link)?;
+    Ok((client, conn))
+}
+
+#[test]
+fn a_late_reply_reaches_no_other_client(rt: HostRuntime) -> Result<(), Fail> {
+    let (mut link, address) = open_alone(&rt, id(&rt, "a"))?;
+    let (gone, first) = connect_one(&rt, &mut link, &address)?;
+    drop(gone);
+    expect_closed(&rt, &mut link, first);
+    let (client, second) = connect_one(&rt, &mut link, &address)?;
+    assert!(rt; second != first);
+    send(rt.alloc(), &mut link, Target::Connection(first), b"late\n")?;
+    send(rt.alloc(), &mut link, Target::Connection(second), b"y\n")?;
+    let mut reply = [0u8; 2];
+    (&client).read_exact(&mut reply)?;
+    assert!(rt; reply == *b"y\n");
+    let (_, third) = connect_one(&rt, &mut link, &address)?;
+    assert!(rt; third == first);
+    Ok(())
+}
+
+#[test]
+fn lines_come_one_by_one_and_each_second_input_is_one(rt: HostRuntime) -> Result<(), Fail> {
+    let (mut link, address) = open_alone(&rt, id(&rt, "a"))?;
+    let client = connect(&rt, &address)?;
+    say(&client, b"1\n2\n3\n")?;
+    expect_bytes(&rt, &mut link, b"1\n");
+    thread::sleep(&rt, Duration::from_millis(150));
+    expect_tick(&rt, &mut link);
+    thread::sleep(&rt, Duration::from_millis(150));
+    assert!(rt; matches!(link.next(), Ok(Input::Bytes { .. })));
+    thread::sleep(&rt, Duration::from_millis(150));
+    expect_tick(&rt, &mut link);
+    expect_bytes(&rt, &mut link, b"3\n");
+    Ok(())
 }
 
 #[test]

@@ -66,6 +66,9 @@ pub(crate) struct Sockets {
     peers: IndexMap<NodeId, Listed>,
     // The connection with a number lies at its place.
     connections: Vec<Option<Connection>>,
+    // How many replies each number owes: lines that were given under it, less replies to it. One whose client is gone goes to
+    // no other client before it owes none, so that a late reply reaches nobody else.
+    owed: Vec<u64>,
     // Those that found no number, the oldest first.
     lobby: VecDeque<Guest>,
     // The node's frames to itself.
@@ -100,8 +103,9 @@ impl Sockets {
             }
         }
         let mut connections = Vec::new(alloc);
+        let mut owed = Vec::new(alloc);
         for _ in 0..CONNECTIONS {
-            if connections.push(None).is_err() {
+            if connections.push(None).is_err() || owed.push(0).is_err() {
                 return Err(HostError::Memory);
             }
         }
@@ -119,6 +123,7 @@ impl Sockets {
             me: settings.me,
             peers,
             connections,
+            owed,
             lobby: VecDeque::new(alloc),
             own: FrameQueue::new(alloc),
             last: OWN,
@@ -304,33 +309,40 @@ impl Sockets {
             .any(|guest| guest.connection.front(framing) == Front::Stop)
     }
 
-    // A number that is free, or else that of the oldest idle connection.
+    // A number that is free, or else that of the oldest idle connection. It owes no reply.
     fn place(&self) -> Option<u64> {
         let free = self.free_number();
         if free.is_some() {
             return free;
         }
-        self.least_by(|connection| connection.is_idle().then_some(connection.age()))
+        self.least_by(|number, connection| {
+            (connection.is_idle() && self.owed_by(number) == 0).then_some(connection.age())
+        })
     }
 
-    // The same, or else the number of the client that was silent longest: clients must not lock peers out.
+    // The same, or else one without a connection that owes replies, since a peer gets none; or else the number of the
+    // client that was silent longest: clients must not lock peers out.
     fn place_for_peer(&self) -> Option<u64> {
         let place = self.place();
         if place.is_some() {
             return place;
         }
-        self.least_by(|connection| Some(connection.heard()))
+        let owing = (1..CONNECTIONS).find(|number| self.is_unused(*number));
+        if owing.is_some() {
+            return owing;
+        }
+        self.least_by(|_, connection| Some(connection.heard()))
     }
 
     // Of the connections that lead to no listed peer and have a value, the number of the one with the least.
-    fn least_by<P: Fn(&Connection) -> Option<u64> + Drop>(&self, value: P) -> Option<u64>
+    fn least_by<P: Fn(u64, &Connection) -> Option<u64> + Drop>(&self, value: P) -> Option<u64>
         requires { P.IsAlwaysCallable value }
     {
         let mut found = None;
         let mut least = u64::MAX;
         for number in 1..CONNECTIONS {
             if let Some(Some(connection)) = self.connections.get(number as usize) {
-                let own = value(connection).unwrap_or(u64::MAX);
+                let own = value(number, connection).unwrap_or(u64::MAX);
                 if own < least && !self.leads_to_peer(number, connection) {
                     least = own;
                     found = Some(number);
@@ -359,8 +371,20 @@ impl Sockets {
         self.newest_where(|connection| connection.sender() == Some(id))
     }
 
-    fn is_free(&self, number: u64) -> bool {
+    fn is_unused(&self, number: u64) -> bool {
         matches!(self.connections.get(number as usize), Some(None))
+    }
+
+    fn owed_by(&self, number: u64) -> u64 {
+        self.owed.get(number as usize).copied().unwrap_or(0)
+    }
+
+    // Whether a client has the number, and the node knows it.
+    fn is_client(&self, number: u64) -> bool {
+        match self.connections.get(number as usize) {
+            Some(Some(connection)) => connection.brings_lines() && !connection.owes_end(),
+            _ => false,
+        }
     }
 
     // A new connection, which is reported when something comes.
@@ -408,6 +432,9 @@ impl Sockets {
         match connection.hear(self.alloc, framing, order)? {
             Heard::Nothing => return Ok(None),
             Heard::Bytes(bytes) => {
+                if connection.brings_lines() && bytes.as_slice().ends_with(b"\n") {
+                    self.note_line(number);
+                }
                 return Ok(Some(Input::Bytes {
                     conn: number,
                     bytes,
@@ -421,6 +448,20 @@ impl Sockets {
             Ok(Some(Input::Closed { conn: number }))
         } else {
             Ok(None)
+        }
+    }
+
+    // A line was given under this number.
+    fn note_line(&mut self, number: u64) {
+        if let Some(owed) = self.owed.get_mut(number as usize) {
+            *owed = owed.saturating_add(1);
+        }
+    }
+
+    // A reply to this number was sent.
+    fn note_reply(&mut self, number: u64) {
+        if let Some(owed) = self.owed.get_mut(number as usize) {
+            *owed = owed.saturating_sub(1);
         }
     }
 
@@ -486,12 +527,11 @@ impl Sockets {
         }
     }
 
-    // Sends bytes over the connection that is known by this number, or loses them.
+    // Sends a reply to the client that is known by this number, or loses it. A peer that has the number now gets none.
     fn answer(&mut self, number: u64, bytes: Bytes) {
-        if let Some(Some(connection)) = self.connections.get(number as usize) {
-            if !connection.owes_end() {
-                self.send_over(number, bytes);
-            }
+        self.note_reply(number);
+        if self.is_client(number) {
+            self.send_over(number, bytes);
         }
     }
 
@@ -566,8 +606,9 @@ impl Sockets {
         found
     }
 
+    // A number without a connection that owes no reply.
     fn free_number(&self) -> Option<u64> {
-        (1..CONNECTIONS).find(|number| self.is_free(*number))
+        (1..CONNECTIONS).find(|number| self.is_unused(*number) && self.owed_by(*number) == 0)
     }
 }
 

@@ -1,6 +1,6 @@
-ghost use Rattle.std.specs.Prelude.{◌≡◌, ℕ, ◌≤◌, Option, Some, Result, List, IfOk, IsErrOf};
+ghost use Rattle.std.specs.Prelude.{◌≡◌, ℕ, ◌+◌, ◌-◌, ◌≤◌, Option, Some, Result, List, IfOk, OnErr, IsErrOf, map, string_bytes};
 ghost use Rattle.zen_disk.specs.Faults.{Rose};
-ghost use Rattle.zen_host.specs.HostCalls.{HostCall, OpensDisk, OpensLink, Notes, told_settings};
+ghost use Rattle.zen_host.specs.HostCalls.{HostCall, OpensDisk, OpensLink, Spawns, Kills, Notes, NotesWait, IsNumber, told_settings};
 
 use thiserror::Error;
 use zen_disk::Disk;
@@ -17,9 +17,20 @@ pub enum HostError {
     Memory,
 }
 
-/// The outside of a program: the types of its input and output, and what opens a disk and a link.
+/// How a child ended.
+#[derive(Debug, Drop)]
+pub struct Ended {
+    /// Its exit status, or 128 and the signal's number where a signal ended it.
+    pub status: u8,
+    /// What it wrote to its standard output.
+    pub output: Vec<u8>,
+}
+
+/// The outside of a program: the types of its input and output, what opens a disk and a link, and what runs other
+/// programs as its children.
 pub trait Host {
     ghost use Rattle.zen_host.specs.declared.host.HostError.{HostError};
+    ghost use Rattle.zen_host.specs.declared.host.Ended.{Ended};
 
     type In: Source + Drop;
 
@@ -28,6 +39,9 @@ pub trait Host {
     type Disk: Disk + Drop;
 
     type Link: Link + Drop;
+
+    /// A program that was spawned. To drop it neither ends it nor waits for it.
+    type Child: Drop;
 
     /// The calls that may be refused, in the order in which they were made, where the host tells.
     ghost calls: { Self → Option (List HostCall) };
@@ -44,6 +58,12 @@ pub trait Host {
     /// The link that was given back last.
     ghost link_back: { Self → Option Self.Link };
 
+    /// How many children were spawned, and neither waited for nor killed.
+    ghost running: { Self → ℕ };
+
+    /// The number of the call that spawned a child, the first call being 1, where the host tells its calls.
+    ghost child_number: { Self.Child → ℕ };
+
     /// How many faults there were.
     ghost faults: { Self → ℕ };
 
@@ -53,6 +73,15 @@ pub trait Host {
     /// Whether opening a link with this result leads from one to the other, as far as the host tells.
     ghost link_steps: { Self → Self → Result Self.Link HostError → Type 0 };
 
+    /// Whether spawning with this result leads from one to the other, as far as the host tells.
+    ghost spawn_steps: { Self → Self → Result Self.Child HostError → Type 0 };
+
+    /// Whether waiting for this child with this result leads from one to the other, as far as the host tells.
+    ghost wait_steps: { Self → Self → Self.Child → Result Ended HostError → Type 0 };
+
+    /// Whether a killing with this result leads from one to the other, as far as the host tells.
+    ghost kill_steps: { Self → Self → Result (Unit {0}) HostError → Type 0 };
+
     /// Opens the disk in a folder, whose count of faults is 0. `Failed` only where the host's count of faults rose.
     fn open_disk(&mut self, dir: &str) -> Result<Self::Disk, HostError>
         ensures call { Notes (calls self.old) (calls self.new) (OpensDisk dir.now) result }
@@ -61,6 +90,7 @@ pub trait Host {
         ensures back { disk_back self.new ≡ disk_back self.old }
         ensures link_ready { link_ready self.new ≡ link_ready self.old }
         ensures link_back { link_back self.new ≡ link_back self.old }
+        ensures running { running self.new ≡ running self.old }
         ensures later { faults self.old ≤ faults self.new }
         ensures failed { IsErrOf result HostError.Failed → Rose (faults self.old) (faults self.new) }
         ensures steps { steps self.old self.new result };
@@ -73,6 +103,7 @@ pub trait Host {
         ensures back { link_back self.new ≡ link_back self.old }
         ensures disk_ready { disk_ready self.new ≡ disk_ready self.old }
         ensures disk_back { disk_back self.new ≡ disk_back self.old }
+        ensures running { running self.new ≡ running self.old }
         ensures later { faults self.old ≤ faults self.new }
         ensures failed { IsErrOf result HostError.Failed → Rose (faults self.old) (faults self.new) }
         ensures steps { link_steps self.old self.new result };
@@ -83,6 +114,7 @@ pub trait Host {
         ensures link_ready { link_ready self.new ≡ link_ready self.old }
         ensures link_back { link_back self.new ≡ link_back self.old }
         ensures calls { calls self.new ≡ calls self.old }
+        ensures running { running self.new ≡ running self.old }
         ensures faults { faults self.new ≡ faults self.old };
 
     /// Takes a link back.
@@ -91,5 +123,46 @@ pub trait Host {
         ensures disk_ready { disk_ready self.new ≡ disk_ready self.old }
         ensures disk_back { disk_back self.new ≡ disk_back self.old }
         ensures calls { calls self.new ≡ calls self.old }
+        ensures running { running self.new ≡ running self.old }
         ensures faults { faults self.new ≡ faults self.old };
+
+    /// Runs a program with these words as a child: with an empty input, and with the same standard error. `Failed` only where
+    /// the host's count of faults rose; no child runs then, nor where memory ran out.
+    fn spawn(&mut self, program: &str, words: &[String]) -> Result<Self::Child, HostError>
+        ensures call { Notes (calls self.old) (calls self.new) (Spawns program.now (map string_bytes words.now)) result }
+        ensures number { IfOk result (λ child. IsNumber (calls self.new) (child_number child)) }
+        ensures running { IfOk result (λ child. running self.new ≡ running self.old + 1) }
+        ensures refused { OnErr result (running self.new ≡ running self.old) }
+        ensures disk_ready { disk_ready self.new ≡ disk_ready self.old }
+        ensures disk_back { disk_back self.new ≡ disk_back self.old }
+        ensures link_ready { link_ready self.new ≡ link_ready self.old }
+        ensures link_back { link_back self.new ≡ link_back self.old }
+        ensures later { faults self.old ≤ faults self.new }
+        ensures failed { IsErrOf result HostError.Failed → Rose (faults self.old) (faults self.new) }
+        ensures steps { spawn_steps self.old self.new result };
+
+    /// Waits until a child has ended. The other children go on meanwhile, however much they write. `Failed` only where the
+    /// host's count of faults rose; the child is killed then, and where memory ran out.
+    fn wait(&mut self, child: Self::Child) -> Result<Ended, HostError>
+        ensures call { NotesWait (calls self.old) (calls self.new) (child_number child) result }
+        ensures running { running self.new ≡ running self.old - 1 }
+        ensures disk_ready { disk_ready self.new ≡ disk_ready self.old }
+        ensures disk_back { disk_back self.new ≡ disk_back self.old }
+        ensures link_ready { link_ready self.new ≡ link_ready self.old }
+        ensures link_back { link_back self.new ≡ link_back self.old }
+        ensures later { faults self.old ≤ faults self.new }
+        ensures failed { IsErrOf result HostError.Failed → Rose (faults self.old) (faults self.new) }
+        ensures steps { wait_steps self.old self.new child result };
+
+    /// Ends a child at once. `Failed` only where the host's count of faults rose.
+    fn kill(&mut self, child: Self::Child) -> Result<(), HostError>
+        ensures call { Notes (calls self.old) (calls self.new) (Kills (child_number child)) result }
+        ensures running { running self.new ≡ running self.old - 1 }
+        ensures disk_ready { disk_ready self.new ≡ disk_ready self.old }
+        ensures disk_back { disk_back self.new ≡ disk_back self.old }
+        ensures link_ready { link_ready self.new ≡ link_ready self.old }
+        ensures link_back { link_back self.new ≡ link_back self.old }
+        ensures later { faults self.old ≤ faults self.new }
+        ensures failed { IsErrOf result HostError.Failed → Rose (faults self.old) (faults self.new) }
+        ensures steps { kill_steps self.old self.new result };
 }

@@ -1,4 +1,4 @@
-//! What opens the disk and the link of a program, and names the types of its input and output.
+//! What opens the disk and the link of a program and runs its children, and names the types of its input and output.
 #![tactic(auto)]
 
 pub mod host;
@@ -6,5 +6,5 @@ pub mod mem_host;
 #[cfg(test)]
 mod tests;
 
-pub use host::{Host, HostError};
-pub use mem_host::{Asked, MemHost};
+pub use host::{Ended, Host, HostError};
+pub use mem_host::{Asked, MemChild, MemHost};

@@ -1,11 +1,11 @@
-ghost use Rattle.std.specs.Prelude.{◌≡◌, ◌≤◌, true, [], ◌∷◌, ◌++◌, Some, None, map, IfOk, OnOk, OnErr};
+ghost use Rattle.std.specs.Prelude.{◌≡◌, ◌≤◌, true, [], ◌∷◌, ◌++◌, Some, None, map, string_bytes, IfOk, OnOk, OnErr};
 ghost use Rattle.std.specs.Option.{ForSome};
 ghost use Rattle.zen_disk.specs.Faults.{Rose};
 ghost use Rattle.zen_disk.specs.Numbered.{is_listed};
 ghost use Rattle.zen_host.specs.AskedCalls.{call_of};
-ghost use Rattle.zen_host.specs.HostCalls.{OpensDisk, OpensLink, told_peer, told_settings};
+ghost use Rattle.zen_host.specs.HostCalls.{OpensDisk, OpensLink, Spawns, WaitsFor, told_end, told_peer, told_settings};
 
-use crate::{Host, HostError};
+use crate::{Ended, Host, HostError};
 use std::alloc::{AllocError, Global};
 use zen_disk::Disk;
 use zen_link::{Link, LinkSettings, MemLink, MemSink, MemSource, Peer};
@@ -23,11 +23,36 @@ pub enum Asked {
         settings: LinkSettings,
         refused: bool,
     },
+    /// To run this program with these words, and whether that was refused as `Failed`.
+    Spawn {
+        program: String,
+        words: Vec<String>,
+        refused: bool,
+    },
+    /// To wait for the child that this call spawned, the first call being 1, and how it ended, unless that was refused as
+    /// `Failed`.
+    Wait {
+        child: usize,
+        ended: Option<Ended>,
+    },
+    /// To kill the child that this call spawned, and whether that was refused as `Failed`.
+    Kill {
+        child: usize,
+        refused: bool,
+    },
 }
 
-/// A host whose parts are in memory. It gives its disk and its link once. A call that may be refused is so where its number
-/// is in the list that the host was made with, and where there is nothing to give; and a call that finds no memory in
-/// which to be told answers `Memory`.
+/// A child of a host in memory. It ends as the host was told.
+#[derive(Drop)]
+pub struct MemChild {
+    number: usize,
+    ended: Ended,
+}
+
+/// A host whose parts are in memory. It gives its disk and its link once, and its children end as it was told when it was
+/// made, in the order in which they are spawned. A call that may be refused is so where its number is in the list that the
+/// host was made with, and where there is nothing to give or 2^64 - 1 children run; and a call that finds no memory in which
+/// to be told answers `Memory`.
 #[derive(Drop)]
 pub struct MemHost<D: Disk + Drop, L: Link + Drop = MemLink<()>> {
     alloc: Global,
@@ -35,6 +60,8 @@ pub struct MemHost<D: Disk + Drop, L: Link + Drop = MemLink<()>> {
     link: Option<L>,
     disk_back: Option<D>,
     link_back: Option<L>,
+    ends: Vec<Ended>,
+    running: u64,
     asked: Vec<Asked>,
     fails: Vec<u64>,
     number: u64,
@@ -53,6 +80,8 @@ impl<D: Disk + Drop> MemHost<D, MemLink<()>> {
         ensures back { ⟦<MemHost<D, MemLink<()>> as Host>⟧.disk_back result ≡ None }
         ensures link_back { ⟦<MemHost<D, MemLink<()>> as Host>⟧.link_back result ≡ None }
         ensures faults { ⟦<MemHost<D, MemLink<()>> as Host>⟧.faults result ≡ 0 }
+        ensures running { ⟦<MemHost<D, MemLink<()>> as Host>⟧.running result ≡ 0 }
+        ensures ends { result.ends.items ≡ [] }
         ensures number { result.number ≡ 0 }
         ensures fails { result.fails ≡ fails }
     {
@@ -62,11 +91,38 @@ impl<D: Disk + Drop> MemHost<D, MemLink<()>> {
             link: None,
             disk_back: None,
             link_back: None,
+            ends: Vec::new(alloc),
+            running: 0,
             asked: Vec::new(alloc),
             fails,
             number: 0,
             faults: 0,
         }
+    }
+
+    /// A host that gives this disk, and children that end so, one after the other. The calls fail whose numbers are listed,
+    /// the first being 1.
+    pub fn with_children(
+        alloc: Global,
+        disk: D,
+        ends: Vec<Ended>,
+        fails: Vec<u64>,
+    ) -> MemHost<D, MemLink<()>>
+        requires { D.faults disk ≡ 0 }
+        ensures calls { ⟦<MemHost<D, MemLink<()>> as Host>⟧.calls result ≡ Some [] }
+        ensures ready { ⟦<MemHost<D, MemLink<()>> as Host>⟧.disk_ready result ≡ Some disk }
+        ensures link_ready { ⟦<MemHost<D, MemLink<()>> as Host>⟧.link_ready result ≡ None }
+        ensures back { ⟦<MemHost<D, MemLink<()>> as Host>⟧.disk_back result ≡ None }
+        ensures link_back { ⟦<MemHost<D, MemLink<()>> as Host>⟧.link_back result ≡ None }
+        ensures faults { ⟦<MemHost<D, MemLink<()>> as Host>⟧.faults result ≡ 0 }
+        ensures running { ⟦<MemHost<D, MemLink<()>> as Host>⟧.running result ≡ 0 }
+        ensures ends { result.ends ≡ ends }
+        ensures number { result.number ≡ 0 }
+        ensures fails { result.fails ≡ fails }
+    {
+        let mut host = MemHost::new(alloc, disk, fails);
+        host.ends = ends;
+        host
     }
 }
 
@@ -81,6 +137,8 @@ impl<D: Disk + Drop, L: Link + Drop> MemHost<D, L> {
         ensures back { ⟦<MemHost<D, L> as Host>⟧.disk_back result ≡ None }
         ensures link_back { ⟦<MemHost<D, L> as Host>⟧.link_back result ≡ None }
         ensures faults { ⟦<MemHost<D, L> as Host>⟧.faults result ≡ 0 }
+        ensures running { ⟦<MemHost<D, L> as Host>⟧.running result ≡ 0 }
+        ensures ends { result.ends.items ≡ [] }
         ensures number { result.number ≡ 0 }
         ensures fails { result.fails ≡ fails }
     {
@@ -90,6 +148,8 @@ impl<D: Disk + Drop, L: Link + Drop> MemHost<D, L> {
             link: Some(link),
             disk_back: None,
             link_back: None,
+            ends: Vec::new(alloc),
+            running: 0,
             asked: Vec::new(alloc),
             fails,
             number: 0,
@@ -135,14 +195,21 @@ fn count_refusal(faults: &mut u64) -> HostError
     HostError::Failed
 }
 
+fn note(asked: &mut Vec<Asked>, call: Asked) -> Result<(), AllocError>
+    ensures told { OnOk result (map call_of asked.new.items ≡ map call_of asked.old.items ++ call_of call ∷ []) }
+    ensures kept { OnErr result (asked.new.items ≡ asked.old.items) }
+{
+    asked.push(call)?;
+    Ok(())
+}
+
 // Tells of a call to open the disk in a folder.
 fn tell(alloc: Global, asked: &mut Vec<Asked>, dir: &str, refused: bool) -> Result<(), AllocError>
     ensures told { OnOk result (map call_of asked.new.items ≡ map call_of asked.old.items ++ OpensDisk dir.now refused ∷ []) }
     ensures kept { OnErr result (asked.new.items ≡ asked.old.items) }
 {
     let dir = String::from_str(alloc, dir)?;
-    asked.push(Asked::OpenDisk { dir, refused })?;
-    Ok(())
+    note(asked, Asked::OpenDisk { dir, refused })
 }
 
 // Refuses a call to open the disk in a folder, and counts a fault.
@@ -196,8 +263,7 @@ fn tell_link(
     ensures kept { OnErr result (asked.new.items ≡ asked.old.items) }
 {
     let settings = copy_settings(alloc, settings)?;
-    asked.push(Asked::OpenLink { settings, refused })?;
-    Ok(())
+    note(asked, Asked::OpenLink { settings, refused })
 }
 
 // Refuses a call to open a link with these settings, and counts a fault.
@@ -219,8 +285,105 @@ fn refuse_link(
     count_refusal(faults)
 }
 
+fn copy_words(alloc: Global, words: &[String]) -> Result<Vec<String>, AllocError>
+    ensures { IfOk result (λ copies. map string_bytes copies.items ≡ map string_bytes words.now) }
+{
+    let mut copies = Vec::new(alloc);
+    for word in words {
+        copies.push(word.clone()?)?;
+    }
+    Ok(copies)
+}
+
+// Tells of a call to run a program with these words.
+fn tell_spawn(
+    alloc: Global,
+    asked: &mut Vec<Asked>,
+    program: &str,
+    words: &[String],
+    refused: bool,
+) -> Result<(), AllocError>
+    ensures told { OnOk result (map call_of asked.new.items ≡ map call_of asked.old.items ++ Spawns program.now (map string_bytes words.now) refused ∷ []) }
+    ensures kept { OnErr result (asked.new.items ≡ asked.old.items) }
+{
+    let program = String::from_str(alloc, program)?;
+    let words = copy_words(alloc, words)?;
+    note(
+        asked,
+        Asked::Spawn {
+            program,
+            words,
+            refused,
+        },
+    )
+}
+
+// Refuses a call to run a program with these words, and counts a fault.
+fn refuse_spawn(
+    alloc: Global,
+    asked: &mut Vec<Asked>,
+    faults: &mut u64,
+    program: &str,
+    words: &[String],
+) -> HostError
+    ensures told { result ≡ HostError.Failed → map call_of asked.new.items ≡ map call_of asked.old.items ++ Spawns program.now (map string_bytes words.now) true ∷ [] }
+    ensures kept { result ≡ HostError.Memory → asked.new.items ≡ asked.old.items }
+    ensures rose { result ≡ HostError.Failed → Rose faults.old faults.new }
+    ensures same { result ≡ HostError.Memory → faults.new ≡ faults.old }
+    ensures later { faults.old ≤ faults.new }
+{
+    let Ok(()) = tell_spawn(alloc, asked, program, words, true) else {
+        return HostError::Memory;
+    };
+    count_refusal(faults)
+}
+
+fn copy_end(alloc: Global, ended: &Ended) -> Result<Ended, AllocError>
+    ensures { IfOk result (λ copy. told_end copy ≡ told_end ended.now) }
+{
+    let output = Vec::from_slice(alloc, ended.output.as_slice())?;
+    Ok(Ended {
+        status: ended.status,
+        output,
+    })
+}
+
+// Tells of a wait for the child that this call spawned, which ended so.
+fn tell_end(
+    alloc: Global,
+    asked: &mut Vec<Asked>,
+    child: usize,
+    ended: &Ended,
+) -> Result<(), AllocError>
+    ensures told { OnOk result (map call_of asked.new.items ≡ map call_of asked.old.items ++ WaitsFor child (Some (told_end ended.now)) ∷ []) }
+    ensures kept { OnErr result (asked.new.items ≡ asked.old.items) }
+{
+    let ended = copy_end(alloc, ended)?;
+    note(
+        asked,
+        Asked::Wait {
+            child,
+            ended: Some(ended),
+        },
+    )
+}
+
+// Refuses a call that is told so, and counts a fault.
+fn refuse_told(asked: &mut Vec<Asked>, faults: &mut u64, call: Asked) -> HostError
+    ensures told { result ≡ HostError.Failed → map call_of asked.new.items ≡ map call_of asked.old.items ++ call_of call ∷ [] }
+    ensures kept { result ≡ HostError.Memory → asked.new.items ≡ asked.old.items }
+    ensures rose { result ≡ HostError.Failed → Rose faults.old faults.new }
+    ensures same { result ≡ HostError.Memory → faults.new ≡ faults.old }
+    ensures later { faults.old ≤ faults.new }
+{
+    let Ok(()) = note(asked, call) else {
+        return HostError::Memory;
+    };
+    count_refusal(faults)
+}
+
 impl<D: Disk + Drop, L: Link + Drop> Host for MemHost<D, L> {
-    ghost use Rattle.zen_host.specs.MemHost.{MemOpens};
+    ghost use Rattle.zen_host.specs.MemHost.{MemOpens, MemSpawns, MemWaits, MemKills};
 
     type In = MemSource;
 
@@ -229,6 +392,8 @@ impl<D: Disk + Drop, L: Link + Drop> Host for MemHost<D, L> {
     type Disk = D;
 
     type Link = L;
+
+    type Child = MemChild;
 
     ghost calls = { λ host. Some (map call_of host.asked.items) };
 
@@ -240,11 +405,21 @@ impl<D: Disk + Drop, L: Link + Drop> Host for MemHost<D, L> {
 
     ghost link_back = { λ host. host.link_back };
 
+    ghost running = { λ host. host.running };
+
+    ghost child_number = { λ child. child.number };
+
     ghost faults = { λ host. host.faults };
 
     ghost steps = { λ old new result. MemOpens old.fails.items new.fails.items old.number new.number old.disk new.disk old.faults new.faults result };
 
     ghost link_steps = { λ old new result. MemOpens old.fails.items new.fails.items old.number new.number old.link new.link old.faults new.faults result };
+
+    ghost spawn_steps = { λ old new result. MemSpawns old.fails.items new.fails.items old.number new.number old.ends.items new.ends.items old.running old.faults new.faults result };
+
+    ghost wait_steps = { λ old new child result. MemWaits old.fails.items new.fails.items old.number new.number old.ends new.ends child old.faults new.faults result };
+
+    ghost kill_steps = { λ old new result. MemKills old.fails.items new.fails.items old.number new.number old.ends new.ends old.faults new.faults result };
 
     fn open_disk(&mut self, dir: &str) -> Result<D, HostError> {
         self.number = self.number.saturating_add(1);
@@ -282,5 +457,64 @@ impl<D: Disk + Drop, L: Link + Drop> Host for MemHost<D, L> {
 
     fn close_link(&mut self, link: L) {
         self.link_back = Some(link);
+    }
+
+    fn spawn(&mut self, program: &str, words: &[String]) -> Result<MemChild, HostError> {
+        self.number = self.number.saturating_add(1);
+        if is_to_fail(&self.fails, self.number)
+            || self.ends.is_empty()
+            || self.running == u64::MAX
+        {
+            return Err(refuse_spawn(
+                self.alloc,
+                &mut self.asked,
+                &mut self.faults,
+                program,
+                words,
+            ));
+        }
+        let Ok(()) = tell_spawn(self.alloc, &mut self.asked, program, words, false) else {
+            return Err(HostError::Memory);
+        };
+        self.running += 1;
+        let ended = self.ends.remove(0);
+        Ok(MemChild {
+            number: self.asked.len(),
+            ended,
+        })
+    }
+
+    fn wait(&mut self, child: MemChild) -> Result<Ended, HostError> {
+        self.running = self.running.saturating_sub(1);
+        self.number = self.number.saturating_add(1);
+        let MemChild { number, ended } = child;
+        if is_to_fail(&self.fails, self.number) {
+            let call = Asked::Wait {
+                child: number,
+                ended: None,
+            };
+            return Err(refuse_told(&mut self.asked, &mut self.faults, call));
+        }
+        let Ok(()) = tell_end(self.alloc, &mut self.asked, number, &ended) else {
+            return Err(HostError::Memory);
+        };
+        Ok(ended)
+    }
+
+    fn kill(&mut self, child: MemChild) -> Result<(), HostError> {
+        self.running = self.running.saturating_sub(1);
+        self.number = self.number.saturating_add(1);
+        let refused = is_to_fail(&self.fails, self.number);
+        let call = Asked::Kill {
+            child: child.number,
+            refused,
+        };
+        if refused {
+            return Err(refuse_told(&mut self.asked, &mut self.faults, call));
+        }
+        let Ok(()) = note(&mut self.asked, call) else {
+            return Err(HostError::Memory);
+        };
+        Ok(())
     }
 }
