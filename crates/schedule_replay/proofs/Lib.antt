@@ -34,3 +34,7 @@ pub mod Openings
 pub mod Places
 pub mod Going
 pub mod ClusterLines
+pub mod Ending
+pub mod DrawnLines
+pub mod Sending
+pub mod Tallying

@@ -6,7 +6,7 @@ use Rattle.std.proofs.Math.Seq.{drop-cons}
 use Rattle.voting_config.specs.Ids.{Id}
 use Rattle.schedule_text.specs.declared.schedule.Line.{Line}
 use Rattle.schedule_text.specs.declared.schedule.Schedule.{Schedule}
-use Rattle.zen_link.specs.Streams.{Appended, AppendedFront, WritesAll}
+use Rattle.zen_link.specs.Streams.{Appended, AppendedFront}
 use Rattle.zen_link.proofs.Appending.{appended_more, front_after, front_within}
 use Rattle.replay_node.specs.declared.message.SentMessage.{SentMessage}
 use Rattle.replay_node.specs.declared.node.ReplayNode.{ReplayNode}
@@ -15,6 +15,7 @@ use Rattle.schedule_replay.specs.Replayed.{after, replayed_from}
 use Rattle.schedule_replay.specs.Trace.{trace_from}
 use Rattle.schedule_replay.specs.WorldStands.{WritesLine}
 use Rattle.schedule_replay.specs.SoFar.{SoFar, HoldsBack}
+use Rattle.schedule_replay.specs.Written.{WritesTrace}
 
 abbrev pub last_world : Schedule → World
 last_world s = replayed_from s.initial fresh_world s.lines
@@ -72,8 +73,8 @@ module _ (ids initial : List Id) (nodes : List ReplayNode) (messages : List Sent
       subst (λ (t : List ℕ). Appended was later t) whole (appended_more was now later m.front bytes m.written h)
 
 -- an error tells no more than that a prefix was written
-pub front_at_err : {E : Type 0} (r : Result (Unit {0}) E) (was now : Option (List ℕ)) (all : List ℕ) → IsErr r → AppendedFront was now all → WritesAll was now all r
-front_at_err (Ok u) was now all is f = absurd (cc)
+pub front_at_err : {A E : Type 0} (r : Result A E) (was now : Option (List ℕ)) (all : List ℕ) → IsErr r → AppendedFront was now all → WritesTrace was now all r
+front_at_err (Ok x) was now all is f = absurd (cc)
 front_at_err (Err e) was now all is f = f
 
 -- a line leaves the ids as they are

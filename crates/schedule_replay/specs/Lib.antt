@@ -23,3 +23,6 @@ pub mod Own
 pub mod OwnStands
 pub mod Openings
 pub mod ClusterStands
+pub mod Generated
+pub mod Tallied
+pub mod Written

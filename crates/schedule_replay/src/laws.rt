@@ -1,5 +1,6 @@
 //! What holds of the history and the trace of every schedule. The calls do nothing: what they promise is proved.
 ghost use Rattle.schedule_replay.specs.ClusterLaws.{LawClusterStepsGoOn, LawClusterTraceAgrees, LawClusterTraceShows, LawClusterTraceTells};
+ghost use Rattle.schedule_replay.specs.Generated.{LawGenerated};
 ghost use Rattle.schedule_replay.specs.Legal.{LawReplayIsLegal};
 ghost use Rattle.schedule_replay.specs.TraceLaws.{LawStepsGoOn, LawTraceAgrees, LawTraceFollows, LawTraceShows, LawTraceTells};
 
@@ -56,6 +57,11 @@ pub fn law_cluster_trace_shows()
 /// Then no two `won` lines of one term name two nodes, and no two `committed` lines of one version differ.
 pub fn law_cluster_trace_agrees()
     ensures { LawClusterTraceAgrees }
+{}
+
+/// The text of each generated schedule spells that schedule at level core, so it is read back from its text.
+pub fn law_generated()
+    ensures { LawGenerated }
 {}
 
 #[cfg(test)]

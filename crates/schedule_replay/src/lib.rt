@@ -2,14 +2,16 @@
 #![tactic(auto)]
 
 pub mod cluster;
+pub mod generating;
 pub mod laws;
 pub mod nodes;
 pub mod replayer;
 pub mod replaying;
 
+pub use generating::generate;
 pub use laws::{
     law_cluster_steps_go_on, law_cluster_trace_agrees, law_cluster_trace_shows,
-    law_cluster_trace_tells, law_replay_is_legal, law_steps_go_on, law_trace_agrees,
+    law_cluster_trace_tells, law_generated, law_replay_is_legal, law_steps_go_on, law_trace_agrees,
     law_trace_follows, law_trace_shows, law_trace_tells,
 };
 pub use replaying::{ReplayError, replay};

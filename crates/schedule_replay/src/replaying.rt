@@ -1,16 +1,19 @@
-ghost use Rattle.std.specs.Prelude.{◌≡◌, ◌≤◌};
+ghost use Rattle.std.specs.Prelude.{◌≡◌, ◌≤◌, IfOk};
 ghost use Rattle.std.specs.List.{AllByRecursion};
 ghost use Rattle.zen_disk.specs.Faults.{Rose};
-ghost use Rattle.zen_link.specs.Streams.{AppendedFront, WritesAll};
+ghost use Rattle.zen_link.specs.Streams.{AppendedFront};
 ghost use Rattle.schedule_text.specs.declared.level.Level.TheVariants.{Core, Node};
 ghost use Rattle.schedule_text.specs.Lines.{FitsLine};
 ghost use Rattle.schedule_replay.specs.SoFar.{Holds};
 ghost use Rattle.schedule_replay.specs.Levels.{trace_at};
+ghost use Rattle.schedule_replay.specs.Written.{WritesTrace};
+ghost use Rattle.trace_summary.specs.Summaries.{summary_of};
 
 use crate::cluster::replayer::ClusterReplayer;
 use crate::replayer::Replayer;
 use schedule_text::{Level, Schedule, Text};
 use std::alloc::Global;
+use trace_summary::{Summary, Tally};
 use zen_link::{Sink, write_all};
 
 /// Why a replay ended before its end.
@@ -56,15 +59,21 @@ fn out_of_memory<S: Sink>(out: &mut S, held: &Text) -> ReplayError
 }
 
 // A schedule of level core: the nodes do single acts.
-fn replay_core<S: Sink>(alloc: Global, schedule: &Schedule, out: &mut S) -> Result<(), ReplayError>
+fn replay_core<S: Sink>(
+    alloc: Global,
+    schedule: &Schedule,
+    out: &mut S,
+) -> Result<Summary, ReplayError>
     requires fits { AllByRecursion (FitsLine Core schedule.now.nodes) schedule.now.lines }
-    ensures written { WritesAll (S.written out.old) (S.written out.new) (trace_at Core schedule.now) result }
+    ensures written { WritesTrace (S.written out.old) (S.written out.new) (trace_at Core schedule.now) result }
+    ensures summary { IfOk result (λ s. s ≡ summary_of (trace_at Core schedule.now)) }
     ensures later { S.faults out.old ≤ S.faults out.new }
     ensures fault { result ≡ Err ReplayError.Write → Rose (S.faults out.old) (S.faults out.new) }
 {
     let Ok(mut replayer) = Replayer::new(alloc, &schedule.nodes, &schedule.initial) else {
         return Err(ReplayError::Memory);
     };
+    let mut tally = Tally::new();
     let mut held = Text::new(alloc);
     let mut text = Text::new(alloc);
     let lines = schedule.lines.as_slice();
@@ -73,24 +82,34 @@ fn replay_core<S: Sink>(alloc: Global, schedule: &Schedule, out: &mut S) -> Resu
         let Ok(()) = replayer.line(alloc, line, &mut text) else {
             return Err(out_of_memory(out, &held));
         };
+        let piece = text.as_bytes();
+        let Ok(()) = tally.add(piece) else {
+            return Err(out_of_memory(out, &held));
+        };
         hold(out, &mut held, &text)?;
     }
     let Ok(()) = write_all(out, held.as_bytes()) else {
         return Err(ReplayError::Write);
     };
-    Ok(())
+    Ok(tally.finish())
 }
 
 // A schedule of level node: whole nodes do what their policy says.
-fn replay_nodes<S: Sink>(alloc: Global, schedule: &Schedule, out: &mut S) -> Result<(), ReplayError>
+fn replay_nodes<S: Sink>(
+    alloc: Global,
+    schedule: &Schedule,
+    out: &mut S,
+) -> Result<Summary, ReplayError>
     requires fits { AllByRecursion (FitsLine Node schedule.now.nodes) schedule.now.lines }
-    ensures written { WritesAll (S.written out.old) (S.written out.new) (trace_at Node schedule.now) result }
+    ensures written { WritesTrace (S.written out.old) (S.written out.new) (trace_at Node schedule.now) result }
+    ensures summary { IfOk result (λ s. s ≡ summary_of (trace_at Node schedule.now)) }
     ensures later { S.faults out.old ≤ S.faults out.new }
     ensures fault { result ≡ Err ReplayError.Write → Rose (S.faults out.old) (S.faults out.new) }
 {
     let Ok(mut replayer) = ClusterReplayer::new(alloc, &schedule.nodes, &schedule.initial) else {
         return Err(ReplayError::Memory);
     };
+    let mut tally = Tally::new();
     let mut held = Text::new(alloc);
     let mut text = Text::new(alloc);
     let lines = schedule.lines.as_slice();
@@ -99,15 +118,19 @@ fn replay_nodes<S: Sink>(alloc: Global, schedule: &Schedule, out: &mut S) -> Res
         let Ok(()) = replayer.line(alloc, line, &mut text) else {
             return Err(out_of_memory(out, &held));
         };
+        let piece = text.as_bytes();
+        let Ok(()) = tally.add(piece) else {
+            return Err(out_of_memory(out, &held));
+        };
         hold(out, &mut held, &text)?;
     }
     let Ok(()) = write_all(out, held.as_bytes()) else {
         return Err(ReplayError::Write);
     };
-    Ok(())
+    Ok(tally.finish())
 }
 
-/// Replays a schedule of this level, and writes the trace of its one history. `Write` only where the count of faults of the
+/// Replays a schedule of this level, writes the trace of its one history, and sums it up. `Write` only where the count of faults of the
 /// sink rose; a prefix of the trace is written then, and at `Memory` too.
 ///
 /// At level core the laws of this crate tell of the history, at level node those of `cluster_replay`.
@@ -116,9 +139,10 @@ pub fn replay<S: Sink>(
     schedule: &Schedule,
     level: Level,
     out: &mut S,
-) -> Result<(), ReplayError>
+) -> Result<Summary, ReplayError>
     requires fits { AllByRecursion (FitsLine level schedule.now.nodes) schedule.now.lines }
-    ensures written { WritesAll (S.written out.old) (S.written out.new) (trace_at level schedule.now) result }
+    ensures written { WritesTrace (S.written out.old) (S.written out.new) (trace_at level schedule.now) result }
+    ensures summary { IfOk result (λ s. s ≡ summary_of (trace_at level schedule.now)) }
     ensures later { S.faults out.old ≤ S.faults out.new }
     ensures fault { result ≡ Err ReplayError.Write → Rose (S.faults out.old) (S.faults out.new) }
 {

@@ -1,0 +1,4 @@
+pub mod Fitting
+pub mod Spelling
+pub mod StepTexts
+pub mod Words

@@ -1,0 +1,5 @@
+pub mod Draws
+pub mod Drawn
+pub mod Generated
+pub mod Laws
+pub mod Standing

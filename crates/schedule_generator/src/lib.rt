@@ -1,0 +1,12 @@
+//! Schedules drawn from a number: the same number gives the same schedule.
+#![tactic(auto)]
+
+mod drawing;
+pub mod generator;
+pub mod laws;
+
+pub use generator::{Generator, MAX_STEPS, empty_schedule};
+pub use laws::law_generated_is_spelled;
+
+#[cfg(test)]
+mod tests;

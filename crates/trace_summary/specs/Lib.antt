@@ -1,0 +1,4 @@
+pub mod Counted
+pub mod Summaries
+pub mod Tallies
+pub mod Printed
