@@ -1,5 +1,6 @@
 -- Lists of ids and of peers, one item after another.
-use Rattle.std.proofs.Common.{◌≡◌, ◌∙◌, refl, sym, ap, ℕ, suc, ◌+◌, ◌<◌, ◌≤◌, Bool, true, false, cond, not, ◌||◌, ◌&&◌, List, [], ◌∷◌, ◌++◌, length, map, fold, append_assoc, get_or, drop, Bor, Option, Some, None, option_and_then, arith}
+use Rattle.std.proofs.Common.{◌≡◌, ◌∙◌, refl, sym, ap, ℕ, suc, ◌+◌, ◌<◌, ◌≤◌, Bool, true, false, cond, not, ◌||◌, ◌&&◌, arith}
+use Rattle.std.proofs.Common.{List, [], ◌∷◌, ◌++◌, length, map, fold, append_assoc, get_or, drop, Bor, Option, Some, None, option_and_then}
 use Rattle.std.specs.Prelude.{◌==◌, nat_le}
 use Rattle.std.specs.List.{list_all, list_any}
 use Rattle.std.proofs.Math.Seq.{drop-cons}
@@ -26,7 +27,8 @@ abbrev texts : List (Bor Text) → List Text
 texts = map (λ t. t.now)
 
 -- one item on
-pub item_step : {X : Type 0} (put : Text → List X → Option (List X)) (items : List (Bor Text)) (i : ℕ) (d : Bor Text) (found : List X) (o total : Option (List X)) → i < length items → o ≡ put (get_or items i d).now found
+pub item_step : {X : Type 0} (put : Text → List X → Option (List X)) (items : List (Bor Text)) (i : ℕ) (d : Bor Text) (found : List X) (o total : Option (List X))
+    → i < length items → o ≡ put (get_or items i d).now found
     → all_put put (texts (drop i items)) found ≡ total → option_and_then (λ more. all_put put (texts (drop (i + 1) items)) more) o ≡ total
 item_step put items i d found o total within is so_far =
     let next : i + 1 ≡ suc i = omega arith in
@@ -34,7 +36,8 @@ item_step put items i d found o total within is so_far =
     sym step ∙ so_far
 
 -- a failure at an item is one of the whole
-pub item_fails : {X : Type 0} (put : Text → List X → Option (List X)) (items : List (Bor Text)) (i : ℕ) (d : Bor Text) (found : List X) (total : Option (List X)) (e : WordsError) → i < length items → Fails e (put (get_or items i d).now found)
+pub item_fails : {X : Type 0} (put : Text → List X → Option (List X)) (items : List (Bor Text)) (i : ℕ) (d : Bor Text) (found : List X) (total : Option (List X)) (e : WordsError)
+    → i < length items → Fails e (put (get_or items i d).now found)
     → all_put put (texts (drop i items)) found ≡ total → Fails e total
 item_fails put items i d found total Usage within h so_far = sym (item_step put items i d found None total within (sym h) so_far)
 item_fails put items i d found total Memory within h so_far = tt
@@ -58,9 +61,12 @@ length-put x (y ∷ ys) =
 length-with_id : (x : Id) (ys : List Id) → has x ys ≡ false → length (with_id x ys) ≡ suc (length ys)
 length-with_id x ys h = rw h (length-put x ys)
 
+has_push : (q x : Id) (front : List Id) → has q (front ++ x ∷ []) ≡ (has q front || same x q)
+has_push q x front = list_any-append (λ y. same y q) front (x ∷ []) ∙ ap (λ (b : Bool). has q front || b) (or-false (same x q))
+
 HasFront-with_id : (x : Id) (found front : List Id) → HasFront found front → has x found ≡ false → length found < 32 → HasFront (with_id x found) (front ++ x ∷ [])
 HasFront-with_id x found front s new room = record {
-  members = λ q. has-with_id q x found ∙ or_comm (same x q) (has q found) ∙ ap (λ (b : Bool). b || same x q) (s.members q) ∙ sym (list_any-append (λ y. same y q) front (x ∷ []) ∙ ap (λ (b : Bool). has q front || b) (or-false (same x q)));
+  members = λ q. has-with_id q x found ∙ or_comm (same x q) (has q found) ∙ ap (λ (b : Bool). b || same x q) (s.members q) ∙ sym (has_push q x front);
   size = let longer = length-with_id x found new in rw (longer, length-append, s.size) (omega arith);
   few = rw length-append (omega (arith, s.size));
 }
@@ -71,8 +77,12 @@ onto found ts = fold (λ set id. with_id id set) found ts
 abbrev those : Bool → List Id → Option (List Id)
 those b ids = cond b (Some ids) None
 
+-- those that follow onto what was found, where there is something
+abbrev followed : List Text → Option (List Id) → Option (List Id)
+followed ts o = option_and_then (λ more. all_put with_new_id ts more) o
+
 abbrev tried : List Text → List Id → Option Id → Option (List Id)
-tried ts found o = option_and_then (λ more. all_put with_new_id ts more) (option_and_then (λ id. cond (has id found || length found == 32) None (Some (with_id id found))) o)
+tried ts found o = followed ts (option_and_then (λ id. cond (has id found || length found == 32) None (Some (with_id id found))) o)
 
 not_last : (a b : Bool) (ids : List Id) → None ≡ those (a && b && false) ids
 not_last true true ids = refl
@@ -91,13 +101,15 @@ ids_told [] found front s =
     let few : nat_le (length front + 0) 32 ≡ true = grind (arith, nat_tests, s.few) in
     rw few refl
 ids_told (t ∷ ts) found front s =
-    elim (is_id t) as (λ b. tried ts found (cond b (Some t) None) ≡ those ((b && list_all is_id ts) && (not (has t front) && are_new (front ++ t ∷ []) ts) && nat_le (length front + suc (length ts)) 32) (onto (with_id t found) ts)) [
+    elim (is_id t) as (λ b. tried ts found (cond b (Some t) None)
+    ≡ those ((b && list_all is_id ts) && (not (has t front) && are_new (front ++ t ∷ []) ts) && nat_le (length front + suc (length ts)) 32) (onto (with_id t found) ts)) [
       | false ↦ refl
       | true ↦ rw (← s.members t) (one (has t found) refl (λ h. ids_told ts (with_id t found) (front ++ t ∷ []) h))
     ]
   where
     room : (b : Bool) → has t found ≡ false → (length found == 32) ≡ b → IsTold ts (with_id t found) (front ++ t ∷ [])
-        → option_and_then (λ more. all_put with_new_id ts more) (cond b None (Some (with_id t found))) ≡ those (list_all is_id ts && are_new (front ++ t ∷ []) ts && nat_le (length front + suc (length ts)) 32) (onto (with_id t found) ts)
+        → followed ts (cond b None (Some (with_id t found)))
+        ≡ those (list_all is_id ts && are_new (front ++ t ∷ []) ts && nat_le (length front + suc (length ts)) 32) (onto (with_id t found) ts)
     room true e f later =
         let full : length found ≡ 32 = grind (arith, nat_tests) in
         let many : nat_le (length front + suc (length ts)) 32 ≡ false = grind (arith, nat_tests, full, s.size) in
@@ -108,7 +120,8 @@ ids_told (t ∷ ts) found front s =
         later (HasFront-with_id t found front s e fits) ∙ rw longer refl
 
     one : (b : Bool) → has t found ≡ b → IsTold ts (with_id t found) (front ++ t ∷ [])
-        → option_and_then (λ more. all_put with_new_id ts more) (cond (b || length found == 32) None (Some (with_id t found))) ≡ those (list_all is_id ts && (not b && are_new (front ++ t ∷ []) ts) && nat_le (length front + suc (length ts)) 32) (onto (with_id t found) ts)
+        → followed ts (cond (b || length found == 32) None (Some (with_id t found)))
+        ≡ those (list_all is_id ts && (not b && are_new (front ++ t ∷ []) ts) && nat_le (length front + suc (length ts)) 32) (onto (with_id t found) ts)
     one true e later = not_middle (list_all is_id ts) _ _
     one false e later = room (length found == 32) e refl later
 
@@ -126,8 +139,11 @@ ids_of-push (q ∷ qs) p = ap (λ (ids : List Id). q.id ∷ ids) (ids_of-push qs
 abbrev those_peers : Bool → List ToldPeer → Option (List ToldPeer)
 those_peers b peers = cond b (Some peers) None
 
+abbrev followed_peers : List Text → Option (List ToldPeer) → Option (List ToldPeer)
+followed_peers ts o = option_and_then (λ more. all_put with_new_peer ts more) o
+
 abbrev tried_peer : List Text → List ToldPeer → Option ToldPeer → Option (List ToldPeer)
-tried_peer ts found o = option_and_then (λ more. all_put with_new_peer ts more) (option_and_then (λ peer. cond (has peer.id (ids_of found)) None (Some (found ++ peer ∷ []))) o)
+tried_peer ts found o = followed_peers ts (option_and_then (λ peer. cond (has peer.id (ids_of found)) None (Some (found ++ peer ∷ []))) o)
 
 not_right : (a : Bool) (peers : List ToldPeer) → None ≡ those_peers (a && false) peers
 not_right true peers = refl
@@ -136,13 +152,16 @@ not_right false peers = refl
 peers_told : (ts : List Text) (found : List ToldPeer) → all_put with_new_peer ts found ≡ those_peers (list_all is_peer ts && are_new (ids_of found) (map id_in ts)) (found ++ map peer_in ts)
 peers_told [] found = ap (λ (l : List ToldPeer). let o : Option (List ToldPeer) = Some l in o) (sym (append-nil found))
 peers_told (t ∷ ts) found =
-    elim (is_peer t) as (λ b. tried_peer ts found (cond b (Some (peer_in t)) None) ≡ those_peers ((b && list_all is_peer ts) && (not (has (id_in t) (ids_of found)) && are_new (ids_of found ++ id_in t ∷ []) (map id_in ts))) (found ++ peer_in t ∷ map peer_in ts)) [
+    elim (is_peer t) as (λ b. tried_peer ts found (cond b (Some (peer_in t)) None)
+    ≡ those_peers ((b && list_all is_peer ts) && (not (has (id_in t) (ids_of found)) && are_new (ids_of found ++ id_in t ∷ []) (map id_in ts))) (found ++ peer_in t ∷ map peer_in ts)) [
       | false ↦ refl
       | true ↦ one (has (id_in t) (ids_of found)) (peers_told ts (found ++ peer_in t ∷ []))
     ]
   where
-    one : (b : Bool) → all_put with_new_peer ts (found ++ peer_in t ∷ []) ≡ those_peers (list_all is_peer ts && are_new (ids_of (found ++ peer_in t ∷ [])) (map id_in ts)) ((found ++ peer_in t ∷ []) ++ map peer_in ts)
-        → option_and_then (λ more. all_put with_new_peer ts more) (cond b None (Some (found ++ peer_in t ∷ []))) ≡ those_peers (list_all is_peer ts && (not b && are_new (ids_of found ++ id_in t ∷ []) (map id_in ts))) (found ++ peer_in t ∷ map peer_in ts)
+    one : (b : Bool)
+        → all_put with_new_peer ts (found ++ peer_in t ∷ []) ≡ those_peers (list_all is_peer ts && are_new (ids_of (found ++ peer_in t ∷ [])) (map id_in ts)) ((found ++ peer_in t ∷ []) ++ map peer_in ts)
+        → followed_peers ts (cond b None (Some (found ++ peer_in t ∷ [])))
+        ≡ those_peers (list_all is_peer ts && (not b && are_new (ids_of found ++ id_in t ∷ []) (map id_in ts))) (found ++ peer_in t ∷ map peer_in ts)
     one true later = not_right (list_all is_peer ts) _
     one false later = later ∙ rw (ids_of-push found (peer_in t), append_assoc found (peer_in t ∷ []) (map peer_in ts)) refl
 
@@ -158,7 +177,8 @@ told_push [] p = refl
 told_push (q ∷ qs) p = ap (λ (ps : List ToldPeer). told_peer q ∷ ps) (told_push qs p)
 
 -- an item that is this peer, onto peers that have its id or don't
-pub with_told : (item : Text) (peers : List Peer) (p : Peer) (b : Bool) → peer_of item ≡ Some (told_peer p) → list_any (λ q. same q.id p.id) peers ≡ b → with_new_peer item (map told_peer peers) ≡ cond b None (Some (map told_peer (peers ++ p ∷ [])))
+pub with_told : (item : Text) (peers : List Peer) (p : Peer) (b : Bool)
+    → peer_of item ≡ Some (told_peer p) → list_any (λ q. same q.id p.id) peers ≡ b → with_new_peer item (map told_peer peers) ≡ cond b None (Some (map told_peer (peers ++ p ∷ [])))
 with_told item peers p b is has_id =
     ap (λ (o : Option ToldPeer). option_and_then (λ peer. cond (has peer.id (ids_of (map told_peer peers))) None (Some (map told_peer peers ++ peer ∷ []))) o) is
     ∙ rw (← has_told p.id peers, has_id, told_push peers p) refl

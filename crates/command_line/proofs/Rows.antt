@@ -1,8 +1,9 @@
 -- Lines that are written out: the definition computes.
-use Rattle.std.proofs.Common.{◌≡◌, refl, [], ◌∷◌, Some, None, codes}
+use Rattle.std.proofs.Common.{◌≡◌, refl, [], ◌∷◌, Some, None, codes, false}
 use Rattle.command_line.specs.Commands.{command_of}
+use Rattle.command_line.specs.Lists.{initial_of, peers_of}
 use Rattle.schedule_text.specs.declared.level.Level.TheVariants.{Core, Node}
-use Rattle.command_line.specs.declared.command.ProgramCommand.TheVariants.{Replay, Inspect}
+use Rattle.command_line.specs.declared.command.ProgramCommand.TheVariants.{Replay, Inspect, Node}
 
 core_level : command_of (codes "replay" ∷ codes "--level" ∷ codes "core" ∷ []) ≡ Some (Replay Core)
 core_level = refl
@@ -24,3 +25,25 @@ folder = refl
 
 no_folder : command_of (codes "inspect" ∷ codes "--dir=" ∷ []) ≡ None
 no_folder = refl
+
+node : command_of (codes "node" ∷ codes "--no-shrink" ∷ codes "--id" ∷ codes "a" ∷ codes "--dir=d" ∷ codes "--listen=h" ∷ codes "--peers" ∷ codes "c=x,b=y" ∷ codes "--initial=c,a" ∷ codes "--turns=07" ∷ [])
+    ≡ Some (Node (record {
+      link = record { me = codes "a"; listen = codes "h"; peers = record { id = codes "c"; address = codes "x" } ∷ record { id = codes "b"; address = codes "y" } ∷ [] };
+      dir = codes "d";
+      initial = codes "a" ∷ codes "c" ∷ [];
+      shrink = false;
+      turns = 7;
+    }))
+node = refl
+
+one_id_twice : initial_of (codes "a,b,a") ≡ None
+one_id_twice = refl
+
+no_ids : initial_of (codes "_") ≡ Some []
+no_ids = refl
+
+one_peer_twice : peers_of (codes "a=h,a=i") ≡ None
+one_peer_twice = refl
+
+too_many_steps : command_of (codes "generate" ∷ codes "--number=7" ∷ codes "--steps=100001" ∷ []) ≡ None
+too_many_steps = refl

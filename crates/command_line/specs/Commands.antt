@@ -1,5 +1,6 @@
 -- Which command the words are.
-use Rattle.std.specs.Prelude.{◌≡◌, ◌==◌, ◌&&◌, ◌||◌, Bool, not, if◌then◌else◌, List, [], length, slice_index, codes, nat_lt, Option, Some, None, option_and_then, Result, Ok, Err}
+use Rattle.std.specs.Prelude.{◌≡◌, ℕ, ◌==◌, ◌&&◌, ◌||◌, Bool, not, if◌then◌else◌, List, [], length, slice_index, codes, nat_lt}
+use Rattle.std.specs.Prelude.{Option, Some, None, option_and_then, Result, Ok, Err}
 use Rattle.std.specs.Str.{bytes_eq}
 use Rattle.clap.specs.Words.{Row, fault_of, first_of, subcommand_of, subcommand_rows_of}
 use Rattle.clap.specs.declared.parser.matches.ArgMatches.{ArgMatches}
@@ -13,7 +14,7 @@ use Rattle.command_line.specs.declared.command.WordsError.TheVariants.{Usage, Me
 use Rattle.command_line.specs.Given.{Text, look, words_given}
 use Rattle.command_line.specs.Lists.{initial_of, peers_of}
 use Rattle.command_line.specs.Program.{commands, program_app}
-use Rattle.command_line.specs.Values.{Look, ◌>>=◌, text_at, is_set, id_of, address_of, number_of}
+use Rattle.command_line.specs.Values.{Look, ◌>>=◌, text_at, is_set, id_of, address_of, number_of, number_within}
 
 abbrev pub level_of : Text → Option Level
 level_of t =
@@ -43,13 +44,40 @@ node_of look =
     text_at (codes "turns") look >>= number_of >>= λ turns.
     Some (command.Node (record { link = link; dir = dir; initial = initial; shrink = not (is_set (codes "no-shrink") look); turns = turns }))
 
+-- how many steps a generated schedule has at most
+abbrev pub most_steps : ℕ
+most_steps = 100000
+
+abbrev pub steps_of : Text → Option ℕ
+steps_of t = number_within 0 most_steps t
+
+abbrev pub generate_of : Look → Option ProgramCommand
+generate_of look =
+    text_at (codes "number") look >>= number_of >>= λ number.
+    text_at (codes "steps") look >>= steps_of >>= λ steps.
+    Some (command.Generate number steps)
+
+-- of a trial's ports the first one: two more follow
+abbrev pub port_of : Text → Option ℕ
+port_of t = number_within 1 65533 t
+
+abbrev pub trial_of : Look → Option ProgramCommand
+trial_of look =
+    text_at (codes "program") look >>= λ program.
+    text_at (codes "dir") look >>= λ dir.
+    text_at (codes "port") look >>= port_of >>= λ port.
+    text_at (codes "turns") look >>= number_of >>= λ turns.
+    Some (command.Trial (record { program = program; dir = dir; port = port; turns = turns }))
+
 -- the command of this name, where these values stand with the names of its options
 abbrev pub command_by : Text → Look → Option ProgramCommand
 command_by name look =
     if bytes_eq name (codes "replay") then replay_of look
     else (if bytes_eq name (codes "inspect") then inspect_of look
     else (if bytes_eq name (codes "node") then node_of look
-    else None))
+    else (if bytes_eq name (codes "generate") then generate_of look
+    else (if bytes_eq name (codes "trial") then trial_of look
+    else None))))
 
 -- the command that the words are
 abbrev pub command_of : List Text → Option ProgramCommand

@@ -19,8 +19,16 @@ node_takes =
     option (codes "id") ∷ option (codes "dir") ∷ option (codes "listen") ∷ option (codes "peers") ∷ option (codes "initial") ∷ option (codes "turns")
     ∷ flag (codes "no-shrink") ∷ []
 
+abbrev pub generate_takes : List Named
+generate_takes = option (codes "number") ∷ option (codes "steps") ∷ []
+
+abbrev pub trial_takes : List Named
+trial_takes = option (codes "program") ∷ option (codes "dir") ∷ option (codes "port") ∷ option (codes "turns") ∷ []
+
 abbrev pub commands : List Entry
-commands = (codes "replay", replay_takes) ∷ (codes "inspect", inspect_takes) ∷ (codes "node", node_takes) ∷ []
+commands =
+    (codes "replay", replay_takes) ∷ (codes "inspect", inspect_takes) ∷ (codes "node", node_takes)
+    ∷ (codes "generate", generate_takes) ∷ (codes "trial", trial_takes) ∷ []
 
 -- ---- as clap is told
 

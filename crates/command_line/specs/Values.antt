@@ -1,5 +1,5 @@
 -- The values of options, by their kinds.
-use Rattle.std.specs.Prelude.{ℕ, ◌^◌, ◌==◌, ◌&&◌, ◌||◌, Bool, false, if◌then◌else◌, length, codes, nat_lt, Option, Some, None, option_and_then}
+use Rattle.std.specs.Prelude.{ℕ, ◌^◌, ◌==◌, ◌&&◌, ◌||◌, Bool, false, if◌then◌else◌, length, codes, nat_le, nat_lt, Option, Some, None, option_and_then}
 use Rattle.std.specs.Char.{is_ascii_digit}
 use Rattle.std.specs.List.{list_all, list_any}
 use Rattle.std.specs.Option.{option_map_or}
@@ -41,3 +41,7 @@ is_number t = list_all is_ascii_digit t && (nat_lt 0 (length t) && nat_lt (digit
 
 abbrev pub number_of : Text → Option ℕ
 number_of t = if is_number t then Some (digits_value 10 t) else None
+
+-- such a number within bounds
+abbrev pub number_within : ℕ → ℕ → Text → Option ℕ
+number_within least most t = number_of t >>= λ n. if nat_le least n && nat_le n most then Some n else None

@@ -73,6 +73,12 @@ impl LinkWords {
     }
 }
 
+/// How many lines a generated schedule has at most.
+pub const MAX_STEPS: u64 = 100_000;
+
+/// The greatest first port of a trial.
+pub const MAX_PORT: u64 = 65_533;
+
 /// How a node is to run.
 #[derive(Drop)]
 pub struct NodeWords {
@@ -88,6 +94,19 @@ pub struct NodeWords {
     pub turns: u64,
 }
 
+/// How a trial is to run.
+#[derive(Drop)]
+pub struct TrialWords {
+    /// The program that runs a node.
+    pub program: Text,
+    /// The folder of its journals.
+    pub dir: Text,
+    /// The first of three ports, from 1 to [`MAX_PORT`].
+    pub port: u64,
+    /// After how many inputs a node ends.
+    pub turns: u64,
+}
+
 /// What the program is to do.
 #[derive(Drop)]
 pub enum ProgramCommand {
@@ -97,6 +116,15 @@ pub enum ProgramCommand {
     Inspect(Text),
     /// Run a node.
     Node(NodeWords),
+    /// Replay a generated schedule.
+    Generate {
+        /// From which number it is generated.
+        number: u64,
+        /// How many lines it has, at most [`MAX_STEPS`].
+        steps: u64,
+    },
+    /// Run the trial of three nodes.
+    Trial(TrialWords),
 }
 
 /// Why the words give no command.

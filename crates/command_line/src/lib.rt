@@ -9,5 +9,7 @@ pub mod reading;
 mod tests;
 pub mod values;
 
-pub use command::{LinkWords, NodeWords, ProgramCommand, Text, WordsError};
+pub use command::{
+    LinkWords, MAX_PORT, MAX_STEPS, NodeWords, ProgramCommand, Text, TrialWords, WordsError,
+};
 pub use reading::read_words;

@@ -1,7 +1,7 @@
 ghost use Rattle.std.specs.Prelude.{◌≡◌, IfOk, codes};
 ghost use Rattle.clap.specs.Words.{app_of};
 ghost use Rattle.command_line.specs.Given.{option, flag};
-ghost use Rattle.command_line.specs.Program.{raw, HasOneMore, IsLeaf, replay_takes, inspect_takes, node_takes, program_app};
+ghost use Rattle.command_line.specs.Program.{raw, HasOneMore, IsLeaf, replay_takes, inspect_takes, node_takes, generate_takes, trial_takes, program_app};
 
 use clap::{Arg, ArgAction, Command};
 use std::alloc::{AllocError, Global};
@@ -50,6 +50,22 @@ fn node<'a>(alloc: Global) -> Result<Command<'a>, AllocError>
     with_flag(alloc, command, "no-shrink")
 }
 
+fn generate<'a>(alloc: Global) -> Result<Command<'a>, AllocError>
+    ensures { IfOk result (IsLeaf (codes "generate") generate_takes) }
+{
+    let command = with_option(alloc, Command::new(alloc, "generate"), "number")?;
+    with_option(alloc, command, "steps")
+}
+
+fn trial<'a>(alloc: Global) -> Result<Command<'a>, AllocError>
+    ensures { IfOk result (IsLeaf (codes "trial") trial_takes) }
+{
+    let command = with_option(alloc, Command::new(alloc, "trial"), "program")?;
+    let command = with_option(alloc, command, "dir")?;
+    let command = with_option(alloc, command, "port")?;
+    with_option(alloc, command, "turns")
+}
+
 /// The commands and what they take, as clap is told of them.
 pub fn program<'a>(alloc: Global) -> Result<Command<'a>, AllocError>
     ensures { IfOk result (λ c. app_of c ≡ program_app) }
@@ -61,5 +77,7 @@ pub fn program<'a>(alloc: Global) -> Result<Command<'a>, AllocError>
         .disable_version_flag(true)
         .subcommand(replay(alloc)?)?
         .subcommand(inspect(alloc)?)?
-        .subcommand(node(alloc)?)
+        .subcommand(node(alloc)?)?
+        .subcommand(generate(alloc)?)?
+        .subcommand(trial(alloc)?)
 }

@@ -2,12 +2,12 @@ ghost use Rattle.std.specs.Prelude.{◌≡◌, ◌↔◌, IsTrue, codes, map, st
 ghost use Rattle.std.specs.List.{list_all};
 ghost use Rattle.clap.specs.Words.{first_value, found_of, kind_of, subcommand_rows_of};
 ghost use Rattle.command_line.specs.Answers.{Gives};
-ghost use Rattle.command_line.specs.Commands.{level_of, replay_of, inspect_of, link_of, node_of, command_by, command_of, entered_command, Parses, is_fair as fair};
+ghost use Rattle.command_line.specs.Commands.{level_of, replay_of, inspect_of, link_of, node_of, steps_of, generate_of, port_of, trial_of, command_by, command_of, entered_command, Parses, is_fair as fair};
 
 use crate::lists::{initial, peers};
 use crate::program::program;
-use crate::values::{address, id, is_set, number, text, value};
-use crate::{LinkWords, NodeWords, ProgramCommand, WordsError};
+use crate::values::{address, id, is_set, number, number_within, text, value};
+use crate::{LinkWords, MAX_PORT, MAX_STEPS, NodeWords, ProgramCommand, TrialWords, WordsError};
 use clap::error::ErrorKind;
 use clap::{ArgMatches, Error};
 use schedule_text::Level;
@@ -72,6 +72,49 @@ fn read_node(alloc: Global, matches: &ArgMatches<'_>) -> Result<ProgramCommand, 
     }))
 }
 
+fn steps(text: &str) -> Option<u64>
+    ensures { result ≡ steps_of text.now }
+{
+    number_within(text, 0, MAX_STEPS)
+}
+
+fn read_generate(matches: &ArgMatches<'_>) -> Result<ProgramCommand, WordsError>
+    ensures { Gives result (generate_of (first_value (found_of matches.now))) }
+{
+    let number = value(matches, "number")
+        .and_then(number)
+        .ok_or(WordsError::Usage)?;
+    let steps = value(matches, "steps")
+        .and_then(steps)
+        .ok_or(WordsError::Usage)?;
+    Ok(ProgramCommand::Generate { number, steps })
+}
+
+fn port(text: &str) -> Option<u64>
+    ensures { result ≡ port_of text.now }
+{
+    number_within(text, 1, MAX_PORT)
+}
+
+fn read_trial(alloc: Global, matches: &ArgMatches<'_>) -> Result<ProgramCommand, WordsError>
+    ensures { Gives result (trial_of (first_value (found_of matches.now))) }
+{
+    let program = text(alloc, matches, "program")?;
+    let dir = text(alloc, matches, "dir")?;
+    let port = value(matches, "port")
+        .and_then(port)
+        .ok_or(WordsError::Usage)?;
+    let turns = value(matches, "turns")
+        .and_then(number)
+        .ok_or(WordsError::Usage)?;
+    Ok(ProgramCommand::Trial(TrialWords {
+        program,
+        dir,
+        port,
+        turns,
+    }))
+}
+
 fn by_name(
     alloc: Global,
     name: &str,
@@ -85,6 +128,10 @@ fn by_name(
         read_inspect(alloc, matches)
     } else if name == "node" {
         read_node(alloc, matches)
+    } else if name == "generate" {
+        read_generate(matches)
+    } else if name == "trial" {
+        read_trial(alloc, matches)
     } else {
         Err(WordsError::Usage)
     }

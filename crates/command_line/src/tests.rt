@@ -49,6 +49,16 @@ fn command_text(alloc: Global, command: &ProgramCommand) -> Result<String, Alloc
         ProgramCommand::Replay(level) => format!(in alloc; "replay {}", level_name(*level)),
         ProgramCommand::Inspect(dir) => format!(in alloc; "inspect {}", dir.as_str()),
         ProgramCommand::Node(node) => node_text(alloc, node),
+        ProgramCommand::Generate { number, steps } => {
+            format!(in alloc; "generate {number} of {steps}")
+        }
+        ProgramCommand::Trial(trial) => format!(in alloc;
+            "trial of {} in {}, port {}, turns {}",
+            trial.program.as_str(),
+            trial.dir.as_str(),
+            trial.port,
+            trial.turns
+        ),
     }
 }
 
@@ -65,7 +75,7 @@ fn told(alloc: Global, line: &str) -> Result<String, Fail> {
     }
 }
 
-const COMMANDS: [(&str, &str); 8] = [
+const COMMANDS: [(&str, &str); 13] = [
     ("replay --level core", "replay core"),
     ("replay --level=node", "replay node"),
     ("inspect --dir a/b", "inspect a/b"),
@@ -82,6 +92,20 @@ const COMMANDS: [(&str, &str); 8] = [
     (
         "node --initial c,a,b --id 0 --turns 0018446744073709551615 --dir _ --peers c=-,b=x=y --listen _",
         "node 0 at _ in _, peers c=- b=x=y, initial a b c, turns 18446744073709551615, shrink true",
+    ),
+    ("generate --number 7 --steps 0", "generate 7 of 0"),
+    (
+        "generate --steps=100000 --number=18446744073709551615",
+        "generate 18446744073709551615 of 100000",
+    ),
+    ("generate --steps 08 --number 0", "generate 0 of 8"),
+    (
+        "trial --program ./zen --dir /tmp/x --port 65533 --turns 18446744073709551615",
+        "trial of ./zen in /tmp/x, port 65533, turns 18446744073709551615",
+    ),
+    (
+        "trial --turns=0 --port=1 --dir=d --program=p=q",
+        "trial of p=q in d, port 1, turns 0",
     ),
 ];
 
@@ -191,6 +215,57 @@ fn a_node_needs_values_of_their_kinds(rt: HostRuntime) -> Result<(), Fail> {
             "node --id a --dir d --listen h --peers _ --initial _ --turns 0x5",
             "node --id a --dir d --listen h --peers _ --initial _ --turns=",
             "node --id a --dir d --listen h --peers _ --initial _ --turns 18446744073709551616",
+        ],
+    )?;
+    assert_eq!(rt; found.as_str(), "");
+    Ok(())
+}
+
+#[test]
+fn a_generated_schedule_has_a_number_and_few_steps(rt: HostRuntime) -> Result<(), Fail> {
+    let found = commands_among(
+        rt.alloc(),
+        &[
+            "generate",
+            "generate --number 7",
+            "generate --steps 7",
+            "generate --number 7 --steps 100001",
+            "generate --number 18446744073709551616 --steps 7",
+            "generate --number 7 --steps 18446744073709551616",
+            "generate --number +7 --steps 7",
+            "generate --number 7 --steps=-7",
+            "generate --number= --steps 7",
+            "generate --number 7 --steps 7 --steps 7",
+            "generate --number 7 --steps 7 --level core",
+            "generate 7 7",
+        ],
+    )?;
+    assert_eq!(rt; found.as_str(), "");
+    Ok(())
+}
+
+#[test]
+fn a_trial_needs_two_ports_above_its_first(rt: HostRuntime) -> Result<(), Fail> {
+    let found = commands_among(
+        rt.alloc(),
+        &[
+            "trial",
+            "trial --dir d --port 1 --turns 1",
+            "trial --program p --port 1 --turns 1",
+            "trial --program p --dir d --turns 1",
+            "trial --program p --dir d --port 1",
+            "trial --program p --dir d --port 0 --turns 1",
+            "trial --program p --dir d --port 65534 --turns 1",
+            "trial --program p --dir d --port 18446744073709551616 --turns 1",
+            "trial --program p --dir d --port +1 --turns 1",
+            "trial --program p --dir d --port 1 --turns=-1",
+            "trial --program p --dir d --port 1 --turns 18446744073709551616",
+            "trial --program= --dir d --port 1 --turns 1",
+            "trial --program=-p --dir d --port 1 --turns 1",
+            "trial --program p --dir=-d --port 1 --turns 1",
+            "trial --program p --dir d --port 1 --port 1 --turns 1",
+            "trial --program p --dir d --port 1 --turns 1 --no-shrink",
+            "trial --program p --dir d --port 1 --turns 1 --",
         ],
     )?;
     assert_eq!(rt; found.as_str(), "");

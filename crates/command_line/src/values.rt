@@ -3,7 +3,7 @@ ghost use Rattle.std.specs.Char.{is_ascii_digit};
 ghost use Rattle.std.specs.List.{list_all, list_any};
 ghost use Rattle.clap.specs.Words.{first_value, found_of};
 ghost use Rattle.command_line.specs.Answers.{Gives};
-ghost use Rattle.command_line.specs.Values.{plain_text, text_at, is_set as is_set_at, id_of, address_of, number_of};
+ghost use Rattle.command_line.specs.Values.{plain_text, text_at, is_set as is_set_at, id_of, address_of, number_of, number_within as within};
 
 use crate::{Text, WordsError};
 use clap::ArgMatches;
@@ -82,4 +82,11 @@ pub fn number(text: &str) -> Option<u64>
         return None;
     }
     text.parse().ok()
+}
+
+/// The number from `least` to `most` that decimal digits alone say.
+pub fn number_within(text: &str, least: u64, most: u64) -> Option<u64>
+    ensures { result ≡ within least most text.now }
+{
+    number(text).filter(|n| least <= *n && *n <= most)
 }

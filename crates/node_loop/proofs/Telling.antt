@@ -17,7 +17,7 @@ use Rattle.node_loop.specs.Happenings.{Happening, Mark, Takes, Makes}
 use Rattle.node_loop.specs.Connections.{makes}
 use Rattle.node_loop.specs.Reports.{Output, lived, EntriesFollow, happened_in, Reported, StandsFor, text_of, moves_in, moves_of}
 use Rattle.policy_model.specs.Entries.{Entry}
-use Rattle.node_loop.specs.Tells.{Tells, HasCauses, IsUp, goes_on, says_all, does_all, Grows, seen}
+use Rattle.node_loop.specs.Tells.{Tells, HasCauses, IsUp, says_all, does_all, Grows, seen}
 use Rattle.node_loop.proofs.Appending.{appended_more, appended_none}
 
 some_same : {A : Type 0} (x y : A) → Some x ≡ Some y → x ≡ y
@@ -119,6 +119,14 @@ moves_left (Makes x ∷ c) h (r ∷ said) unsaid left f = ap (λ l. moves_in r +
 not_disk : (end : End) → says_all (Some end) ≡ false → Some end ≡ Some ends.Disk → ⊥
 not_disk end unsaid is = let e : says_all (Some ends.Disk) ≡ false = subst (λ (x : Option End). says_all x ≡ false) is unsaid in cc
 
+not_whole : (end : End) → says_all (Some end) ≡ false → does_all (Some end) ≡ false
+not_whole ends.Stop unsaid = absurd cc
+not_whole ends.Turns unsaid = absurd cc
+not_whole ends.Write unsaid = refl
+not_whole ends.Disk unsaid = refl
+not_whole ends.Link unsaid = absurd cc
+not_whole ends.Memory unsaid = refl
+
 left_all : (h : List Happening) → Reported h [] h
 left_all [] = refl
 left_all (x ∷ h) = refl
@@ -219,7 +227,7 @@ module _ {X : Type 0} (output : X → Output) (text : Life → Entry → List �
 
   -- one thing happens, and is said
   pub says : (life : Life) (h : Happening) (r : Entry) (end : Option End) (o0 o1 : Option (List ℕ)) (w0 w1 : Option (List (Traffic X))) (stands : Life → Type 0)
-      → StandsFor r h → EntryFollows s life r → stands (Lived life r) → (IsTrue (goes_on end) → IsUp (Lived life r))
+      → StandsFor r h → EntryFollows s life r → stands (Lived life r) → (IsTrue (does_all end) → IsUp (Lived life r))
       → Appended o0 o1 (text life r) → Grows output w0 w1 (moves_in r) → (end ≡ Some ends.Disk → is_struck (Lived life r) ≡ true)
       → Tells output text s life (Makes h ∷ []) end o0 o1 w0 w1 stands
   says life h r end o0 o1 w0 w1 stands st follows lives up written told struck = record {
@@ -254,7 +262,7 @@ module _ {X : Type 0} (output : X → Output) (text : Life → Entry → List �
     reports = (st, refl);
     follows = (follows, tt);
     lives = lives;
-    up = λ on. absurd cc;
+    up = λ on. absurd (let none = not_whole end ends in cc);
     all_done = λ e. refl;
     all_said = λ e. absurd cc;
     at_most_one = omega arith;
@@ -398,7 +406,7 @@ module _ {X : Type 0} (output : X → Output) (text : Life → Entry → List �
     reports = tells.reports;
     follows = tells.follows;
     lives = tells.lives;
-    up = λ on. absurd cc;
+    up = λ on. tells.up refl;
     all_done = λ e. tells.all_done refl;
     all_said = λ e. tells.all_said refl;
     at_most_one = tells.at_most_one;

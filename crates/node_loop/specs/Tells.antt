@@ -24,7 +24,7 @@ pub record IsOpened (life : Life) : Type 0 where
   pub unstarted : starts_next life ≡ true
   pub unstruck : is_struck life ≡ false
 
--- a run with this end reports all that happened: it did not end within an input
+-- a run with this end reports all that happened, since it did not end within an input, and leaves its node up
 abbrev pub does_all : Option End → Bool
 does_all None = true
 does_all (Some ends.Stop) = true
@@ -78,7 +78,7 @@ pub record Tells {X : Type 0} (output : X → Output) (text : Life → Entry →
   pub reports : Reported (flat_map happened_in course) (said ++ unsaid) left
   pub follows : EntriesFollow s life (said ++ unsaid)
   pub lives : stands (lived life (said ++ unsaid))
-  pub up : IsTrue (goes_on end) → IsUp (lived life (said ++ unsaid))
+  pub up : IsTrue (does_all end) → IsUp (lived life (said ++ unsaid))
   pub all_done : IsTrue (does_all end) → left ≡ []
   pub all_said : IsTrue (says_all end) → unsaid ≡ []
   pub at_most_one : length unsaid ≤ 1

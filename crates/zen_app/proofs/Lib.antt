@@ -5,3 +5,4 @@ pub mod NodeSettings
 pub mod NodeStages
 pub mod RunEnds
 pub mod Spelled
+pub mod WordBounds

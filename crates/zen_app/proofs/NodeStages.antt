@@ -39,9 +39,9 @@ causes_since end start disk_was disk_now out_was out_now link_was link_now later
 }
 
 -- what a host tells, member by member
-abbrev pub view_by : {H D L : Type 0} → (calls : H → Option (List HostCall)) → (disk_ready disk_back : H → Option D) → (link_ready link_back : H → Option L) → (faults : H → ℕ) → H → HostView D L
-view_by calls disk_ready disk_back link_ready link_back faults h =
-    record { calls = calls h; disk_ready = disk_ready h; disk_back = disk_back h; link_ready = link_ready h; link_back = link_back h; faults = faults h }
+abbrev pub view_by : {H D L : Type 0} → (calls : H → Option (List HostCall)) → (disk_ready disk_back : H → Option D) → (link_ready link_back : H → Option L) → (running faults : H → ℕ) → H → HostView D L
+view_by calls disk_ready disk_back link_ready link_back running faults h =
+    record { calls = calls h; disk_ready = disk_ready h; disk_back = disk_back h; link_ready = link_ready h; link_back = link_back h; running = running h; faults = faults h }
 
 -- a fault in a call is one in a run round it
 pub rose_within : (before start end after : ℕ) → before ≤ start → Rose start end → after ≡ end → Rose before after
@@ -68,6 +68,7 @@ line_status line whole was now exit.LinkFault says = inl says.0
 line_status line whole was now exit.HostFault says = inl says.0
 line_status line whole was now exit.NotAJournal says = inl says.0
 line_status line whole was now exit.Turns says = inl says.0
+line_status line whole was now exit.TrialFailed says = inl says.0
 
 -- so it ends with no other
 line_no : (line : List ℕ) (whole other : Status) (was now : Option (List ℕ)) (status : Status) → SaysLine line whole was now status → (whole ≡ other → ⊥) → (exit.WriteFault ≡ other → ⊥) → (exit.NoMemory ≡ other → ⊥) → status ≡ other → ⊥
@@ -222,7 +223,7 @@ module _ {D L : Type 0} (disk_faults : D → ℕ) (link_faults : L → ℕ) (dis
     host_later = host_later;
   }
 
-  said_line : (line : List ℕ) (whole : Status) (was now : Option (List ℕ)) (status : Status) → SaysLine line whole was now status
+  pub said_line : (line : List ℕ) (whole : Status) (was now : Option (List ℕ)) (status : Status) → SaysLine line whole was now status
       → Other whole exit.ReadFault → Other whole exit.DiskFault → Other whole exit.LinkFault → Other whole exit.HostFault → (status ≡ exit.WriteFault → Rose sink sink_now)
       → NodeFaults disk_faults link_faults disk_back link_back host host_now sink sink_now status
   said_line line whole was now status says no_read no_disk no_link no_host write = record {

@@ -1,5 +1,5 @@
 -- How a run of the program ends, by its command.
-use Rattle.std.proofs.Common.{◌≡◌, ℕ, ◌≤◌, Option, None, Some, List, refl, sym, ◌∙◌, subst, arith, inl, inr}
+use Rattle.std.proofs.Common.{◌≡◌, ℕ, ◌≤◌, Option, None, Some, List, [], ◌∷◌, refl, sym, ◌∙◌, subst, arith, inl, inr}
 use Rattle.zen_disk.specs.Faults.{Rose}
 use Rattle.zen_disk.specs.declared.disk.Disk.{Ghosts as Disks}
 use Rattle.zen_link.specs.declared.link.Link.{Ghosts as Links}
@@ -7,7 +7,7 @@ use Rattle.command_line.specs.declared.command.NodeWords.{NodeWords}
 use Rattle.coordinator.specs.declared.step.Sealed.{Sealed}
 use Rattle.schedule_text.specs.declared.level.Level.{Level}
 use Rattle.command_line.specs.declared.command.ProgramCommand.{ProgramCommand}
-use Rattle.command_line.specs.declared.command.ProgramCommand.TheVariants.{Replay, Inspect, Node}
+use Rattle.command_line.specs.declared.command.ProgramCommand.TheVariants.{Replay, Inspect, Node, Generate, Trial}
 use Rattle.command_line.specs.Commands.{command_of}
 use Rattle.journal_inspection.specs.declared.inspecting.Inspection.{Inspection}
 use Rattle.journal_inspection.specs.declared.inspecting.Inspection.TheVariants as end
@@ -16,13 +16,33 @@ use Rattle.journal_inspection.specs.Inspects.{HostView, LeavesLinks, Asked, Open
 use Rattle.zen_app.specs.Codes.{status_of}
 use Rattle.zen_app.specs.Reading.{most_read, ReadsAtMost}
 use Rattle.zen_app.specs.NodeFaults.{Failed, NodeFaults}
-use Rattle.zen_app.specs.NodeRuns.{NodeRun, Undisked}
+use Rattle.command_line.specs.declared.command.TrialWords.{TrialWords}
+use Rattle.schedule_text.specs.declared.level.Level.TheVariants.{Core}
+use Rattle.schedule_text.specs.Spelled.{schedule_text}
+use Rattle.schedule_generator.specs.Laws.{most_steps}
+use Rattle.schedule_replay.specs.Generated.{generated}
+use Rattle.schedule_replay.specs.Levels.{trace_at}
+use Rattle.trace_summary.specs.Printed.{summary_text}
+use Rattle.trace_summary.specs.Summaries.{summary_of}
+use Rattle.zen_host.specs.HostCalls.{HostCall}
+use Rattle.zen_host.specs.declared.host.HostError.TheVariants as host_error
+use Rattle.node_trial.specs.declared.node.TrialNode.TheVariants as node
+use Rattle.node_trial.specs.declared.running.TrialEnd.{TrialEnd}
+use Rattle.node_trial.specs.declared.running.TrialEnd.TheVariants as trial
+use Rattle.node_trial.specs.Trials.{Tried}
+use Rattle.zen_app.specs.Codes.{status_of_trial}
+use Rattle.zen_app.specs.NodeRuns.{NodeRun, Undisked, SaysLine}
+use Rattle.zen_app.specs.SafeTrace.{IsSafeTraceAt}
+use Rattle.zen_app.specs.TrialRuns.{TrialRun, trial_by}
 use Rattle.zen_app.specs.Ran.{RefusesWords, MayEndReplay, ReplayRun, Does, Ran}
 use Rattle.zen_app.specs.Runs.{UsageRun, ReplayEnded}
 use Rattle.zen_app.specs.Views.{SourceView, SinkView}
 use Rattle.zen_app.specs.declared.status.Status.{Status}
 use Rattle.zen_app.specs.declared.status.Status.TheVariants as exit
 use Rattle.zen_app.proofs.Endings.{wrote_nothing, no_memory}
+use Rattle.zen_app.proofs.NodeStages.{said_line}
+use Rattle.schedule_replay.proofs.Sending.{generated_spelled}
+use Rattle.zen_app.proofs.Spelled.{spells_safe_trace}
 
 none_taken : (left : Option (List ℕ)) → ReadsAtMost most_read left left
 none_taken None = refl
@@ -43,6 +63,38 @@ no_link_fault end.NoMemory h = absurd cc
 no_link_fault end.WriteFault h = absurd cc
 no_link_fault end.DiskFault h = absurd cc
 no_link_fault end.HostFault h = absurd cc
+
+-- no trial ends with any other status
+trial_no : (other : Status) (e : TrialEnd) → status_of_trial e ≡ other → (exit.Ok ≡ other → ⊥) → (exit.TrialFailed ≡ other → ⊥) → (exit.NoMemory ≡ other → ⊥) → (exit.WriteFault ≡ other → ⊥) → (exit.HostFault ≡ other → ⊥) → ⊥
+trial_no other trial.Done is ok failed memory write host = ok is
+trial_no other trial.TrialFailed is ok failed memory write host = failed is
+trial_no other trial.NoMemory is ok failed memory write host = memory is
+trial_no other trial.WriteFault is ok failed memory write host = write is
+trial_no other trial.HostFault is ok failed memory write host = host is
+
+-- each generated schedule is spelled by its text, so its trace is safe
+generated_safe : (number steps : ℕ) → steps ≤ most_steps → IsSafeTraceAt Core (generated number steps)
+generated_safe number steps few = spells_safe_trace Core (schedule_text (generated number steps)) (generated number steps) (generated_spelled number steps few)
+
+-- no memory was found before the first child was started
+nothing_tried : (w : TrialWords) (calls : Option (List HostCall)) (written : Option (List ℕ)) → Tried (trial_by w) calls calls written written trial.NoMemory
+nothing_tried w calls written = inl (record {
+  error = host_error.Memory;
+  is_end = refl;
+  unstarted = record {
+    started = [];
+    next = node.A;
+    later = node.B ∷ node.C ∷ [];
+    are_nodes = refl;
+    children = [];
+    begun = calls;
+    starts = refl;
+    refused = calls;
+    refuses = refl;
+    killed = refl;
+  };
+  nothing = wrote_nothing written;
+})
 
 no_replay : (level : Level) (source : SourceView) (sink : SinkView) → ReplayRun level source source sink sink exit.NoMemory
 no_replay level source sink = (no_memory level source source sink sink (none_taken source.left) (omega arith) (omega arith) (wrote_nothing sink.written)).run
@@ -90,6 +142,18 @@ module _ {D L : Type 0} (d : Disks D) (l : Links L Sealed) where
     },
     refl,
   )
+  nothing_done source sink host (Some (Generate number steps)) = (record { says = wrote_nothing sink.written; safe_trace = generated_safe number steps }, refl, refl)
+  nothing_done source sink host (Some (Trial words)) = (
+    record {
+      end = trial.NoMemory;
+      is_status = refl;
+      tried = nothing_tried words host.calls sink.written;
+      disk_ready = refl;
+      disk_back = refl;
+      links = record { ready = refl; back = refl };
+    },
+    refl,
+  )
   nothing_done source sink host (Some (Node words)) = (
     record {
       came = Undisked (record { asked = inl (refl, refl); written = wrote_nothing sink.written; back = refl; links = record { ready = refl; back = refl } });
@@ -110,6 +174,7 @@ module _ {D L : Type 0} (d : Disks D) (l : Links L Sealed) where
     read_later = omega arith;
     wrote_later = omega arith;
     host_later = omega arith;
+    children = refl;
   }
 
   pub ran_refused : (words : List (List ℕ)) (source : SourceView) (sink sink_now : SinkView) (host : HostView D L) (status : Status) → command_of words ≡ None → UsageRun sink.written sink_now.written sink.faults sink_now.faults status
@@ -125,6 +190,7 @@ module _ {D L : Type 0} (d : Disks D) (l : Links L Sealed) where
     read_later = omega arith;
     wrote_later = usage.later;
     host_later = omega arith;
+    children = refl;
   }
 
   pub ran_replay : (words : List (List ℕ)) (source source_now : SourceView) (sink sink_now : SinkView) (host : HostView D L) (status : Status) (level : Level) → command_of words ≡ Some (Replay level) → ReplayEnded level source source_now sink sink_now status
@@ -140,13 +206,14 @@ module _ {D L : Type 0} (d : Disks D) (l : Links L Sealed) where
     read_later = ended.read_later;
     wrote_later = ended.wrote_later;
     host_later = omega arith;
+    children = refl;
   }
 
   pub ran_inspect : (words : List (List ℕ)) (source : SourceView) (sink sink_now : SinkView) (host host_now : HostView D L) (status : Status) (dir : List ℕ) (e : Inspection) → command_of words ≡ Some (Inspect dir) → status ≡ status_of e
       → Asked dir host.calls host_now.calls e → EndsWith d.told d.seen d.may_leave d.faults host host_now sink.written sink_now.written sink.faults sink_now.faults e
-      → IsComplete d.told d.seen d.may_leave d.faults host host_now sink.faults sink_now.faults e → LeavesLinks host host_now → sink.faults ≤ sink_now.faults → host.faults ≤ host_now.faults
+      → IsComplete d.told d.seen d.may_leave d.faults host host_now sink.faults sink_now.faults e → LeavesLinks host host_now → host_now.running ≡ host.running → sink.faults ≤ sink_now.faults → host.faults ≤ host_now.faults
       → Ran d l words source source sink sink_now host host_now status
-  ran_inspect words source sink sink_now host host_now status dir e is is_status asked ended complete links wrote_later host_later = record {
+  ran_inspect words source sink sink_now host host_now status dir e is is_status asked ended complete links children wrote_later host_later = record {
     does = subst (λ (o : Option ProgramCommand). Does d l source source sink sink_now host host_now status o) (sym is)
         (record { end = e; is_status = is_status; asked = asked; ended = ended; complete = complete; links = links }, refl);
     read_at_most = none_taken source.left;
@@ -158,12 +225,13 @@ module _ {D L : Type 0} (d : Disks D) (l : Links L Sealed) where
     read_later = omega arith;
     wrote_later = wrote_later;
     host_later = host_later;
+    children = children;
   }
 
   pub ran_node : (words : List (List ℕ)) (source : SourceView) (sink sink_now : SinkView) (host host_now : HostView D L) (status : Status) (w : NodeWords) → command_of words ≡ Some (Node w)
       → NodeRun d l w host host_now sink sink_now status → NodeFaults d.faults l.faults host_now.disk_back host_now.link_back host.faults host_now.faults sink.faults sink_now.faults status
-      → Ran d l words source source sink sink_now host host_now status
-  ran_node words source sink sink_now host host_now status w is run faults = record {
+      → host_now.running ≡ host.running → Ran d l words source source sink sink_now host host_now status
+  ran_node words source sink sink_now host host_now status w is run faults children = record {
     does = subst (λ (o : Option ProgramCommand). Does d l source source sink sink_now host host_now status o) (sym is) (run, refl);
     read_at_most = none_taken source.left;
     read_fault = λ e. absurd (faults.read_fault e);
@@ -174,4 +242,41 @@ module _ {D L : Type 0} (d : Disks D) (l : Links L Sealed) where
     read_later = omega arith;
     wrote_later = faults.wrote_later;
     host_later = faults.host_later;
+    children = children;
+  }
+
+  pub ran_generate : (words : List (List ℕ)) (source : SourceView) (sink sink_now : SinkView) (host : HostView D L) (status : Status) (number steps : ℕ) → command_of words ≡ Some (Generate number steps)
+      → SaysLine (summary_text (summary_of (trace_at Core (generated number steps)))) exit.Ok sink.written sink_now.written status → (status ≡ exit.WriteFault → Rose sink.faults sink_now.faults) → sink.faults ≤ sink_now.faults
+      → Ran d l words source source sink sink_now host host status
+  ran_generate words source sink sink_now host status number steps is says write later =
+      let faults = said_line d.faults l.faults host.disk_back host.link_back host.faults host.faults sink.faults sink_now.faults later (omega arith) _ exit.Ok sink.written sink_now.written status says (λ e. absurd cc) (λ e. absurd cc) (λ e. absurd cc) (λ e. absurd cc) write in
+      record {
+        does = subst (λ (o : Option ProgramCommand). Does d l source source sink sink_now host host status o) (sym is) (record { says = says; safe_trace = generated_safe number steps }, refl, refl);
+        read_at_most = none_taken source.left;
+        read_fault = λ e. absurd (faults.read_fault e);
+        write_fault = faults.write_fault;
+        disk_fault = faults.disk_fault;
+        link_fault = faults.link_fault;
+        host_fault = faults.host_fault;
+        read_later = omega arith;
+        wrote_later = later;
+        host_later = omega arith;
+        children = refl;
+      }
+
+  pub ran_trial : (words : List (List ℕ)) (source : SourceView) (sink sink_now : SinkView) (host host_now : HostView D L) (status : Status) (w : TrialWords) → command_of words ≡ Some (Trial w) → TrialRun w host host_now sink sink_now status
+      → host_now.running ≡ host.running → (status ≡ exit.HostFault → Rose host.faults host_now.faults) → (status ≡ exit.WriteFault → Rose sink.faults sink_now.faults) → host.faults ≤ host_now.faults → sink.faults ≤ sink_now.faults
+      → Ran d l words source source sink sink_now host host_now status
+  ran_trial words source sink sink_now host host_now status w is run children host_fault write_fault host_later wrote_later = record {
+    does = subst (λ (o : Option ProgramCommand). Does d l source source sink sink_now host host_now status o) (sym is) (run, refl);
+    read_at_most = none_taken source.left;
+    read_fault = λ e. absurd (trial_no exit.ReadFault run.end (sym run.is_status ∙ e) (λ h. absurd cc) (λ h. absurd cc) (λ h. absurd cc) (λ h. absurd cc) (λ h. absurd cc));
+    write_fault = write_fault;
+    disk_fault = λ e. absurd (trial_no exit.DiskFault run.end (sym run.is_status ∙ e) (λ h. absurd cc) (λ h. absurd cc) (λ h. absurd cc) (λ h. absurd cc) (λ h. absurd cc));
+    link_fault = λ e. absurd (trial_no exit.LinkFault run.end (sym run.is_status ∙ e) (λ h. absurd cc) (λ h. absurd cc) (λ h. absurd cc) (λ h. absurd cc) (λ h. absurd cc));
+    host_fault = host_fault;
+    read_later = omega arith;
+    wrote_later = wrote_later;
+    host_later = host_later;
+    children = children;
   }

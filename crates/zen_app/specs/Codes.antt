@@ -1,5 +1,7 @@
 -- The exit status that stands for each end of a run. This is the statement of `Status::code`.
 use Rattle.std.specs.Prelude.{ℕ}
+use Rattle.node_trial.specs.declared.running.TrialEnd.{TrialEnd}
+use Rattle.node_trial.specs.declared.running.TrialEnd.TheVariants as trial
 use Rattle.zen_app.specs.declared.status.Status.{Status}
 use Rattle.zen_app.specs.declared.status.Status.TheVariants as exit
 use Rattle.journal_inspection.specs.declared.inspecting.Inspection.{Inspection}
@@ -17,6 +19,7 @@ code_of exit.LinkFault = 8
 code_of exit.HostFault = 9
 code_of exit.NotAJournal = 10
 code_of exit.Turns = 11
+code_of exit.TrialFailed = 12
 
 -- the status with which a run of `inspect` ends
 abbrev pub status_of : Inspection → Status
@@ -26,3 +29,11 @@ status_of end.NoMemory = exit.NoMemory
 status_of end.WriteFault = exit.WriteFault
 status_of end.DiskFault = exit.DiskFault
 status_of end.HostFault = exit.HostFault
+
+-- the status with which a run of `trial` ends
+abbrev pub status_of_trial : TrialEnd → Status
+status_of_trial trial.Done = exit.Ok
+status_of_trial trial.TrialFailed = exit.TrialFailed
+status_of_trial trial.NoMemory = exit.NoMemory
+status_of_trial trial.WriteFault = exit.WriteFault
+status_of_trial trial.HostFault = exit.HostFault

@@ -6,4 +6,5 @@ pub mod Reading
 pub mod Refusing
 pub mod Runs
 pub mod SafeTrace
+pub mod TrialRuns
 pub mod Views

@@ -11,9 +11,14 @@ use Rattle.schedule_text.specs.Spelled.{Spells}
 use Rattle.schedule_text.specs.Reading.{fault_of}
 use Rattle.schedule_text.specs.FirstBad.{IsFirstBad}
 use Rattle.schedule_text.specs.Printed.{bad_line}
+use Rattle.schedule_text.specs.declared.level.Level.TheVariants.{Core}
+use Rattle.schedule_generator.specs.Laws.{most_steps}
+use Rattle.schedule_replay.specs.Generated.{generated}
 use Rattle.schedule_replay.specs.Levels.{trace_at}
+use Rattle.trace_summary.specs.Printed.{summary_text}
+use Rattle.trace_summary.specs.Summaries.{summary_of}
 use Rattle.command_line.specs.declared.command.ProgramCommand.{ProgramCommand}
-use Rattle.command_line.specs.declared.command.ProgramCommand.TheVariants.{Replay, Inspect, Node}
+use Rattle.command_line.specs.declared.command.ProgramCommand.TheVariants.{Replay, Inspect, Node, Generate, Trial}
 use Rattle.command_line.specs.Commands.{command_of}
 use Rattle.journal_inspection.specs.declared.inspecting.Inspection.{Inspection}
 use Rattle.journal_inspection.specs.Inspects.{HostView, LeavesLinks, Asked, EndsWith, IsComplete}
@@ -21,8 +26,9 @@ use Rattle.coordinator.specs.declared.step.Sealed.{Sealed}
 use Rattle.zen_app.specs.Codes.{status_of}
 use Rattle.zen_app.specs.Reading.{most_read, read_of, unread_of, ReadsAtMost}
 use Rattle.zen_app.specs.NodeFaults.{Failed}
-use Rattle.zen_app.specs.NodeRuns.{NodeRun}
+use Rattle.zen_app.specs.NodeRuns.{NodeRun, SaysLine}
 use Rattle.zen_app.specs.SafeTrace.{IsSafeTraceAt}
+use Rattle.zen_app.specs.TrialRuns.{TrialRun}
 use Rattle.zen_app.specs.Views.{SourceView, SinkView}
 use Rattle.zen_app.specs.declared.status.Status.{Status}
 use Rattle.zen_app.specs.declared.status.Status.TheVariants as exit
@@ -90,6 +96,7 @@ MayEndReplay exit.LinkFault = ⊥
 MayEndReplay exit.HostFault = ⊥
 MayEndReplay exit.NotAJournal = ⊥
 MayEndReplay exit.Turns = ⊥
+MayEndReplay exit.TrialFailed = ⊥
 MayEndReplay other = Unit {0}
 
 -- a run of `replay --level`
@@ -107,6 +114,11 @@ pub record InspectRun {D L : Type 0} (d : Disks D) (dir : List ℕ) (host host_n
   pub complete : IsComplete d.told d.seen d.may_leave d.faults host host_now sink.faults sink_now.faults end
   pub links : LeavesLinks host host_now
 
+-- a run of `generate`: the summary of the trace of the one schedule that the number and the steps give, whose history is legal and safe
+pub record GenerateRun (number steps : ℕ) (was now : Option (List ℕ)) (status : Status) : Type 0 where
+  pub says : SaysLine (summary_text (summary_of (trace_at Core (generated number steps)))) exit.Ok was now status
+  pub safe_trace : steps ≤ most_steps → IsSafeTraceAt Core (generated number steps)
+
 -- how a run ends whose words are no command
 abbrev pub RefusesWords : (was now : Option (List ℕ)) → Status → Type 0
 RefusesWords was now exit.Usage = Appended was now usage_line
@@ -122,6 +134,10 @@ Does d l source source_now sink sink_now host host_now status (Some (Replay leve
     ReplayRun level source source_now sink sink_now status × (host_now ≡ host)
 Does d l source source_now sink sink_now host host_now status (Some (Inspect dir)) =
     InspectRun d dir host host_now sink sink_now status × (source_now ≡ source)
+Does d l source source_now sink sink_now host host_now status (Some (Generate number steps)) =
+    GenerateRun number steps sink.written sink_now.written status × (source_now ≡ source) × (host_now ≡ host)
+Does d l source source_now sink sink_now host host_now status (Some (Trial words)) =
+    TrialRun words host host_now sink sink_now status × (source_now ≡ source)
 Does d l source source_now sink sink_now host host_now status (Some (Node words)) =
     NodeRun d l words host host_now sink sink_now status × (source_now ≡ source)
 
@@ -139,3 +155,5 @@ pub record Ran {D L : Type 0} (d : Disks D) (l : Links L Sealed) (words : List (
   pub read_later : source.faults ≤ source_now.faults
   pub wrote_later : sink.faults ≤ sink_now.faults
   pub host_later : host.faults ≤ host_now.faults
+  -- no child runs on
+  pub children : host_now.running ≡ host.running

@@ -1,6 +1,7 @@
 //! The program: its words, its commands, and how it ends.
 #![tactic(auto)]
 
+pub mod generating;
 pub mod input;
 pub mod replaying;
 pub mod running;
@@ -8,6 +9,7 @@ pub mod serving;
 pub mod status;
 #[cfg(test)]
 mod tests;
+pub mod trying;
 
 pub use running::run;
 pub use status::Status;

@@ -35,7 +35,7 @@ pub fn run_replay<I: Source, S: Sink>(
         Err(ReadError::Bad(bad)) => return refuse(alloc, out, bad),
     };
     match replay(alloc, &schedule, level, out) {
-        Ok(()) => Status::Ok,
+        Ok(_) => Status::Ok,
         Err(ReplayError::Write) => Status::WriteFault,
         Err(ReplayError::Memory) => Status::NoMemory,
     }

@@ -5,8 +5,10 @@ ghost use Rattle.zen_app.specs.Ran.{Ran};
 ghost use Rattle.zen_app.specs.Runs.{UsageRun};
 
 use crate::Status;
+use crate::generating::run_generate;
 use crate::replaying::run_replay;
 use crate::serving::run_node;
+use crate::trying::try_nodes;
 use command_line::{ProgramCommand, WordsError, read_words};
 use coordinator::Sealed;
 use journal_inspection::{Inspection, inspect};
@@ -53,8 +55,8 @@ pub fn run<L: Link<Out = Sealed> + Drop, H: Host<Link = L>>(
         (record { left = H.In.left input.new; faults = H.In.faults input.new })
         (record { written = H.Out.written out.old; faults = H.Out.faults out.old })
         (record { written = H.Out.written out.new; faults = H.Out.faults out.new })
-        (record { calls = H.calls host.old; disk_ready = H.disk_ready host.old; disk_back = H.disk_back host.old; link_ready = H.link_ready host.old; link_back = H.link_back host.old; faults = H.faults host.old })
-        (record { calls = H.calls host.new; disk_ready = H.disk_ready host.new; disk_back = H.disk_back host.new; link_ready = H.link_ready host.new; link_back = H.link_back host.new; faults = H.faults host.new })
+        (record { calls = H.calls host.old; disk_ready = H.disk_ready host.old; disk_back = H.disk_back host.old; link_ready = H.link_ready host.old; link_back = H.link_back host.old; running = H.running host.old; faults = H.faults host.old })
+        (record { calls = H.calls host.new; disk_ready = H.disk_ready host.new; disk_back = H.disk_back host.new; link_ready = H.link_ready host.new; link_back = H.link_back host.new; running = H.running host.new; faults = H.faults host.new })
         result }
 {
     let command = match read_words(alloc, words) {
@@ -66,5 +68,7 @@ pub fn run<L: Link<Out = Sealed> + Drop, H: Host<Link = L>>(
         ProgramCommand::Replay(level) => run_replay(alloc, *level, input, out),
         ProgramCommand::Inspect(dir) => status_after(inspect(alloc, dir.as_str(), out, host)),
         ProgramCommand::Node(words) => run_node(alloc, words, out, host),
+        ProgramCommand::Generate { number, steps } => run_generate(alloc, *number, *steps, out),
+        ProgramCommand::Trial(words) => try_nodes(alloc, words, out, host),
     }
 }

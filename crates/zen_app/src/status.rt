@@ -23,6 +23,8 @@ pub enum Status {
     NotAJournal,
     /// A node has taken all its turns.
     Turns,
+    /// A node of a trial ended with another status than 0 and 11.
+    TrialFailed,
 }
 
 impl Status {
@@ -45,6 +47,7 @@ impl Status {
             Status::HostFault => 9,
             Status::NotAJournal => 10,
             Status::Turns => 11,
+            Status::TrialFailed => 12,
         }
     }
 }

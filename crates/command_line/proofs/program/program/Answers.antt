@@ -2,7 +2,7 @@ use Rattle.std.proofs.Common.{◌≡◌, ◌∙◌, ap, true, [], codes}
 use Rattle.std.proofs.lemmas.Result.{IfOk-weaker}
 use Rattle.clap.specs.Words.{App, app_of, with_subcommand}
 use Rattle.clap.specs.Simple.{app_of_fields, new_shape, on_top}
-use Rattle.command_line.specs.Program.{replay_takes, inspect_takes, node_takes, raw_of}
+use Rattle.command_line.specs.Program.{replay_takes, inspect_takes, node_takes, generate_takes, trial_takes, raw_of}
 use Rattle.command_line.proofs.Adding.{added}
 use Rattle.command_line.proofs.program.program.Goals as goal
 
@@ -18,6 +18,12 @@ zen_1 = with_subcommand zen (raw_of (codes "replay", replay_takes))
 abbrev zen_2 : App
 zen_2 = with_subcommand zen_1 (raw_of (codes "inspect", inspect_takes))
 
+abbrev zen_3 : App
+zen_3 = with_subcommand zen_2 (raw_of (codes "node", node_takes))
+
+abbrev zen_4 : App
+zen_4 = with_subcommand zen_3 (raw_of (codes "generate", generate_takes))
+
 pub returns : goal.returns
 returns c =
     let first : app_of c.no_binary_name.result ≡ on_top (λ s. record s { no_binary_name = true }) (app_of c.new.result) = ap app_of_fields c.no_binary_name.ensures in
@@ -28,4 +34,6 @@ returns c =
     fourth ∙ ap (on_top (λ s. record s { disable_version_flag = true })) (third ∙ ap (on_top (λ s. record s { disable_help_subcommand = true })) (second ∙ ap (on_top (λ s. record s { disable_help_flag = true })) (first ∙ ap (on_top (λ s. record s { no_binary_name = true })) c.new.ensures.app))) in
     let one = added c.disable_version_flag.result c.in_ok-replay.field-0 c.in_ok-subcommand.field-0 zen (codes "replay", replay_takes) base c.in_ok-replay.ensures c.in_ok-subcommand.ensures in
     let two = added c.in_ok-subcommand.field-0 c.in_ok-inspect.field-0 c.in_ok-subcommand-2.field-0 zen_1 (codes "inspect", inspect_takes) one c.in_ok-inspect.ensures c.in_ok-subcommand-2.ensures in
-    IfOk-weaker c.subcommand-3.result _ _ (λ r h. added c.in_ok-subcommand-2.field-0 c.in_ok-node.field-0 r zen_2 (codes "node", node_takes) two c.in_ok-node.ensures h) c.subcommand-3.ensures
+    let three = added c.in_ok-subcommand-2.field-0 c.in_ok-node.field-0 c.in_ok-subcommand-3.field-0 zen_2 (codes "node", node_takes) two c.in_ok-node.ensures c.in_ok-subcommand-3.ensures in
+    let four = added c.in_ok-subcommand-3.field-0 c.in_ok-generate.field-0 c.in_ok-subcommand-4.field-0 zen_3 (codes "generate", generate_takes) three c.in_ok-generate.ensures c.in_ok-subcommand-4.ensures in
+    IfOk-weaker c.subcommand-5.result _ _ (λ r h. added c.in_ok-subcommand-4.field-0 c.in_ok-trial.field-0 r zen_4 (codes "trial", trial_takes) four c.in_ok-trial.ensures h) c.subcommand-5.ensures

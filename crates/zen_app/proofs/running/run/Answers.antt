@@ -1,18 +1,36 @@
-use Rattle.std.proofs.Common.{◌∙◌, ap, Some}
+use Rattle.std.proofs.Common.{◌∙◌, ap, Some, map, string_bytes}
 use Rattle.command_line.specs.declared.command.ProgramCommand.{ProgramCommand}
-use Rattle.zen_app.proofs.RunEnds.{ran_without_memory, ran_inspect, ran_node}
+use Rattle.command_line.specs.declared.command.ProgramCommand.TheVariants.{Generate, Trial}
+use Rattle.zen_app.proofs.WordBounds.{words_within}
+use Rattle.zen_app.proofs.RunEnds.{ran_without_memory, ran_inspect, ran_node, ran_generate, ran_trial}
 use Rattle.zen_app.proofs.running.run.Goals as goal
 
 pub returns-in-Err-Memory : goal.returns-in-Err-Memory
 returns-in-Err-Memory g c = ran_without_memory _ _ _ _ _ _
 
+pub run_generate-requires : goal.run_generate-requires
+run_generate-requires g c = words_within (map (λ w. string_bytes w) c.args.words.now) (Generate c.in-Generate.number c.in-Generate.steps) (c.in-Ok.ensures ∙ ap (λ (x : ProgramCommand). Some x) c.in-Generate.is)
+
+pub try_nodes-requires : goal.try_nodes-requires
+try_nodes-requires g c = (words_within (map (λ w. string_bytes w) c.args.words.now) (Trial c.in-Trial.words) (c.in-Ok.ensures ∙ ap (λ (x : ProgramCommand). Some x) c.in-Trial.is)).1
+
+pub returns-in-Node : goal.returns-in-Node
+returns-in-Node g c =
+    let is = c.in-Ok.ensures ∙ ap (λ (x : ProgramCommand). Some x) c.in-Node.is in
+    ran_node _ _ _ _ _ _ _ _ _ _ is c.run_node.ensures.run c.run_node.ensures.faults c.run_node.ensures.running
+
+pub returns-in-Generate : goal.returns-in-Generate
+returns-in-Generate g c =
+    let is = c.in-Ok.ensures ∙ ap (λ (x : ProgramCommand). Some x) c.in-Generate.is in
+    ran_generate _ _ _ _ _ _ _ _ _ _ is c.run_generate.ensures.says c.run_generate.ensures.write c.run_generate.ensures.later
+
 pub returns : goal.returns
 returns g c =
-    let is = c.in-Ok.ensures ∙ ap (λ (x : ProgramCommand). Some x) c.in-Node.is in
-    ran_node _ _ _ _ _ _ _ _ _ _ is c.run_node.ensures.run c.run_node.ensures.faults
+    let is = c.in-Ok.ensures ∙ ap (λ (x : ProgramCommand). Some x) c.in-Trial.is in
+    ran_trial _ _ _ _ _ _ _ _ _ _ is c.try_nodes.ensures.run c.try_nodes.ensures.running c.try_nodes.ensures.host_fault c.try_nodes.ensures.write_fault c.try_nodes.ensures.later c.try_nodes.ensures.wrote_later
 
 pub returns-in-Inspect : goal.returns-in-Inspect
 returns-in-Inspect g c =
     let is = c.in-Ok.ensures ∙ ap (λ (x : ProgramCommand). Some x) c.in-Inspect.is in
     ran_inspect _ _ _ _ _ _ _ _ _ c.in-Inspect.dir c.inspect.result is c.status_after.ensures
-    ((rw c.as_str.ensures at c.inspect.ensures.asked)) c.inspect.ensures.ended c.inspect.ensures.complete c.inspect.ensures.links c.inspect.ensures.wrote_later c.inspect.ensures.later
+    ((rw c.as_str.ensures at c.inspect.ensures.asked)) c.inspect.ensures.ended c.inspect.ensures.complete c.inspect.ensures.links c.inspect.ensures.running c.inspect.ensures.wrote_later c.inspect.ensures.later
