@@ -11,9 +11,10 @@ sys.path.insert(0, os.path.join(os.path.dirname(os.path.abspath(__file__)), '..'
 sys.dont_write_bytecode = True
 import nodes as running
 
-# Rounds of the node, each followed by the same device calls alone: what else the machine does changes both alike.
-ROUNDS = 5
-PUTS = 200
+# Rounds of the node, each followed by the same device calls alone: what else the machine does changes both alike, and the middle one of
+# the ratios counts.
+ROUNDS = 15
+PUTS = 100
 # The most requests that a leader keeps unanswered.
 FLIGHT = 64
 HEADER = b'ZENJRNL1'
@@ -66,18 +67,18 @@ def measure_acts(program, top):
     try:
         running.leader_of(nodes, time.monotonic() + 60)
         journal = os.path.join(nodes['a'].folder, 'journal.0')
-        count, of_node, alone, end, place = 0, 0, 0, appends(journal, 0)[1], len(HEADER)
+        rounds, end, place = [], appends(journal, 0)[1], len(HEADER)
         with running.Client(nodes['a'].port) as client:
             for number in range(ROUNDS):
                 # One waits while the other is published, so that the node never waits for its client.
-                of_node += puts(client, number * PUTS, PUTS, 2)[1]
+                of_node = puts(client, number * PUTS, PUTS, 2)[1]
                 bodies, end = appends(journal, end)
-                seconds, place = append_all(bare, place, bodies)
-                alone += seconds
-                count += len(bodies)
+                alone, place = append_all(bare, place, bodies)
+                rounds.append((len(bodies), of_node, alone))
+        count, of_node, alone = (sum(column) for column in zip(*rounds))
         print('acts that write, of one node over a file: %d in %.2f s, %.0f acts/s' % (count, of_node, count / of_node))
         print('the same device calls alone: %.2f s, %.0f acts/s' % (alone, count / alone))
-        print('ratio of the times: %.2f' % (of_node / alone))
+        print('ratio of the times: %.2f' % sorted(one / other for _, one, other in rounds)[ROUNDS // 2])
     finally:
         os.close(bare)
         running.end(nodes)

@@ -33,7 +33,7 @@ class Node:
         """Says where it and the others listen."""
         self.port = ports[self.name]
         peers = ','.join('%s=%s:%d' % (name, HOST, port) for name, port in sorted(ports.items()) if name != self.name)
-        self.words = ['node', '--id', self.name, '--dir', self.folder, '--listen', '%s:%d' % (HOST, self.port), '--peers', peers,
+        self.words = ['node', '--id', self.name, '--dir', self.folder, '--listen', '%s:%d' % (HOST, self.port), '--peers', peers or '_',
                       '--initial', ','.join(sorted(ports)), '--turns', str(TURNS)]
 
     def start(self):
