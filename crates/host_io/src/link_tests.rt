@@ -198,7 +198,7 @@ fn ticks_come_while_inputs_come(rt: HostRuntime) -> Result<(), Fail> {
     for _ in 0..10_000_000 {
         send(rt.alloc(), &mut link, Target::Node(a), ASKED)?;
         if let Ok(Input::Tick { now, .. }) = link.next() {
-            assert!(rt; first + 100 <= now);
+            assert!(rt; first.saturating_add(100) <= now);
             return Ok(());
         }
     }
