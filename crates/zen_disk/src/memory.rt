@@ -1,33 +1,43 @@
 ghost use Rattle.std.specs.Prelude.{◌≡◌, ◌+◌, ◌^◌, ◌≤◌, [], ◌∷◌, ◌++◌, length, reverse, OnOk, OnErr, ⊤, vec_len};
 ghost use Rattle.zen_disk.specs.Disk.{written, part};
 ghost use Rattle.zen_disk.specs.Faults.{Rose};
-ghost use Rattle.zen_disk.specs.FileState.{left_by, settled};
-ghost use Rattle.zen_disk.specs.Moments.{Only};
+ghost use Rattle.zen_disk.specs.FileState.{state_of, left_by, both_left_by, settled};
+ghost use Rattle.zen_disk.specs.Moments.{Only, Same};
 ghost use Rattle.zen_disk.specs.Numbered.{next_number, is_listed};
-ghost use Rattle.zen_disk.specs.UndoLog.{IsProper, IsProper-prop, IsImage, WasImage, image-read, was-is, only-last};
+ghost use Rattle.zen_disk.specs.UndoLog.{IsProper, IsProper-prop, IsImage};
+ghost use Rattle.zen_disk.specs.UndoOrder.{AreImages, WereImages, images-read, were-are, only-last};
 ghost use Rattle.zen_disk.specs.declared.undo_log.Overwrite.{Overwrite};
-ghost use Rattle.zen_disk.specs.declared.undo_log.UndoRecord.TheVariants.{Overwrote};
+ghost use Rattle.zen_disk.specs.declared.undo_log.UndoRecord.TheVariants.{Overwrote, Synced};
 
 use crate::undo_log::{Overwrite, UndoRecord, crash_file};
-use crate::{Crash, Disk, Failed, Way};
+use crate::{Crash, Disks, Failed, Side, Way};
 use std::alloc::{AllocError, Global};
 
 const END: usize = 1 << 62;
 
-/// A file in memory that tells what it holds.
-///
-/// It logs its writes and syncs, each write with the bytes that it replaced, and so tells what a crash at an earlier
-/// moment might have left. A call fails where its number is in the list that the disk was made with, a write also
-/// where it would end past byte 2^62, and a write or a sync also where the log or the file finds no memory.
+/// One file in memory.
 #[derive(Drop)]
-pub struct MemDisk {
+pub struct MemFile {
+    pub(crate) bytes: Vec<u8>,
+    pub(crate) log: Vec<UndoRecord>,
+    ghost proper: { IsProper (reverse log.items) bytes.items } by { IsProper-prop (reverse log.items) bytes.items },
+}
+
+/// Two files in memory that tell what they hold.
+///
+/// Each logs its writes and syncs, each write with the bytes that it replaced, and the order of all of them is kept too. So it
+/// tells what a crash at an earlier moment might have left. A call fails where its number is in the list that the disk
+/// was made with, a write also where it would end past byte 2^62, and a write or a sync also where a log or a file finds
+/// no memory.
+#[derive(Drop)]
+pub struct MemDisks {
     alloc: Global,
-    bytes: Vec<u8>,
-    log: Vec<UndoRecord>,
+    pub(crate) zero: MemFile,
+    pub(crate) one: MemFile,
+    pub(crate) order: Vec<Side>,
     made: u64,
     failing: Vec<u64>,
     faults: u64,
-    ghost proper: { IsProper (reverse log.items) bytes.items } by { IsProper-prop (reverse log.items) bytes.items },
 }
 
 // Counts a call, and tells whether it is one of those that fail.
@@ -45,6 +55,52 @@ fn count_fault(faults: &mut u64) -> Failed
 {
     *faults = faults.saturating_add(1);
     Failed
+}
+
+impl MemFile {
+    // Writes the bytes over what is there, and notes the write.
+    fn place(
+        &mut self,
+        alloc: Global,
+        order: &mut Vec<Side>,
+        side: Side,
+        at: usize,
+        bytes: &[u8],
+    ) -> Result<(), AllocError>
+        requires { at ≤ length self.old.bytes.items }
+        ensures ok { OnOk result (self.new.bytes.items ≡ written self.old.bytes.items at bytes.now) }
+        ensures noted { OnOk result ((w : Overwrite) × (w.at ≡ at) × (w.len ≡ length bytes.now)
+            × (w.replaced.items ≡ part at (length bytes.now) self.old.bytes.items) × (self.new.log.items ≡ self.old.log.items ++ Overwrote w ∷ [])) }
+        ensures order { OnOk result (order.new.items ≡ order.old.items ++ side ∷ []) }
+        ensures err { OnErr result (self.new.bytes.items ≡ self.old.bytes.items) }
+        ensures err_log { OnErr result (self.new.log.items ≡ self.old.log.items) }
+        ensures err_order { OnErr result (order.new.items ≡ order.old.items) }
+    {
+        let turn = order.len();
+        order.push(side)?;
+        let Ok(()) = write_over(alloc, &mut self.bytes, &mut self.log, at, bytes) else {
+            order.truncate(turn);
+            return Err(AllocError);
+        };
+        Ok(())
+    }
+
+    // Notes a sync.
+    fn settle(&mut self, order: &mut Vec<Side>, side: Side) -> Result<(), AllocError>
+        ensures bytes { self.new.bytes ≡ self.old.bytes }
+        ensures noted { OnOk result (self.new.log.items ≡ self.old.log.items ++ Synced ∷ []) }
+        ensures order { OnOk result (order.new.items ≡ order.old.items ++ side ∷ []) }
+        ensures err_log { OnErr result (self.new.log.items ≡ self.old.log.items) }
+        ensures err_order { OnErr result (order.new.items ≡ order.old.items) }
+    {
+        let turn = order.len();
+        order.push(side)?;
+        let Ok(()) = self.log.push(UndoRecord::Synced) else {
+            order.truncate(turn);
+            return Err(AllocError);
+        };
+        Ok(())
+    }
 }
 
 // Writes the bytes over what is there, and logs the write.
@@ -79,46 +135,57 @@ fn write_over(
     Ok(())
 }
 
-impl Disk for MemDisk {
-    ghost use Rattle.zen_disk.specs.MemDisk.{MemSteps};
+impl Disks for MemDisks {
+    ghost use Rattle.zen_disk.specs.MemDisks.{MemSteps, past_of, read_of};
 
     ghost told = { ⊤ };
 
-    ghost seen = { λ m. m.bytes.items };
+    ghost seen = { read_of };
 
-    ghost may_leave = { λ m. IsImage (reverse m.log.items) m.bytes.items };
+    ghost may_leave = { λ m. AreImages (past_of m) (read_of m) };
 
-    ghost moment = { λ m. length (reverse m.log.items) };
+    ghost moment = { λ m. length (reverse m.order.items) };
 
-    ghost left_since = { λ m. WasImage (reverse m.log.items) m.bytes.items };
+    ghost left_since = { λ m. WereImages (reverse m.order.items) (past_of m) (read_of m) };
 
     ghost faults = { λ m. m.faults };
 
     ghost steps = { MemSteps };
 
-    ghost seen_may_stay = { λ m told. image-read (reverse m.log.items) m.bytes.items };
+    ghost seen_may_stay = { λ m told. images-read (past_of m) (read_of m) };
 
-    ghost counts_now = { λ m t c le is. was-is (reverse m.log.items) m.bytes.items t c is };
+    ghost counts_now = { λ m t c le are. were-are (reverse m.order.items) (past_of m) (read_of m) t c are };
 
-    ghost only_now = { λ m c was. only-last (reverse m.log.items) m.bytes.items c was };
+    ghost only_now = { λ m c were. only-last (reverse m.order.items) (past_of m) (read_of m) c were };
 
-    fn len(&mut self) -> Result<u64, Failed> {
+    fn len(&mut self, side: Side) -> Result<u64, Failed> {
         if count_call(&mut self.made, &self.failing) {
             return Err(count_fault(&mut self.faults));
         }
-        Ok(self.bytes.len() as u64)
+        match side {
+            Side::Zero => Ok(self.zero.bytes.len() as u64),
+            Side::One => Ok(self.one.bytes.len() as u64),
+        }
     }
 
-    fn read(&mut self, at: u64, into: &mut [u8]) -> Result<(), Failed> {
+    fn read(&mut self, side: Side, at: u64, into: &mut [u8]) -> Result<(), Failed> {
         if count_call(&mut self.made, &self.failing) {
             return Err(count_fault(&mut self.faults));
         }
         let at = at as usize;
-        into.copy_from_slice(&self.bytes[at..at + into.len()]);
-        Ok(())
+        match side {
+            Side::Zero => {
+                into.copy_from_slice(&self.zero.bytes[at..at + into.len()]);
+                Ok(())
+            }
+            Side::One => {
+                into.copy_from_slice(&self.one.bytes[at..at + into.len()]);
+                Ok(())
+            }
+        }
     }
 
-    fn write_at(&mut self, at: u64, bytes: &[u8]) -> Result<(), Failed> {
+    fn write_at(&mut self, side: Side, at: u64, bytes: &[u8]) -> Result<(), Failed> {
         if count_call(&mut self.made, &self.failing) {
             return Err(count_fault(&mut self.faults));
         }
@@ -126,36 +193,59 @@ impl Disk for MemDisk {
         if at > END || bytes.len() > END - at {
             return Err(count_fault(&mut self.faults));
         }
-        match write_over(self.alloc, &mut self.bytes, &mut self.log, at, bytes) {
-            Ok(()) => Ok(()),
-            Err(_) => Err(count_fault(&mut self.faults)),
+        match side {
+            Side::Zero => {
+                let Ok(()) = self
+                    .zero
+                    .place(self.alloc, &mut self.order, side, at, bytes)
+                else {
+                    return Err(count_fault(&mut self.faults));
+                };
+                Ok(())
+            }
+            Side::One => {
+                let Ok(()) = self.one.place(self.alloc, &mut self.order, side, at, bytes) else {
+                    return Err(count_fault(&mut self.faults));
+                };
+                Ok(())
+            }
         }
     }
 
-    fn sync(&mut self) -> Result<(), Failed> {
+    fn sync(&mut self, side: Side) -> Result<(), Failed> {
         if count_call(&mut self.made, &self.failing) {
             return Err(count_fault(&mut self.faults));
         }
-        if self.log.push(UndoRecord::Synced).is_err() {
-            return Err(count_fault(&mut self.faults));
+        match side {
+            Side::Zero => {
+                let Ok(()) = self.zero.settle(&mut self.order, side) else {
+                    return Err(count_fault(&mut self.faults));
+                };
+                Ok(())
+            }
+            Side::One => {
+                let Ok(()) = self.one.settle(&mut self.order, side) else {
+                    return Err(count_fault(&mut self.faults));
+                };
+                Ok(())
+            }
         }
-        Ok(())
     }
 }
 
-impl Crash for MemDisk {
-    ghost use Rattle.zen_disk.specs.MemDisk.{file_of};
+impl Crash for MemDisks {
+    ghost use Rattle.zen_disk.specs.MemDisks.{files_of};
 
-    ghost crashes = { λ m way n. file_of n ≡ left_by way (file_of m) };
+    ghost crashes = { λ m way n. files_of n ≡ both_left_by way (files_of m) };
 
     fn crash(self, way: Way) -> Self {
-        let mut bytes = self.bytes;
-        let mut log = self.log;
-        crash_file(&mut bytes, &mut log, way);
-        MemDisk {
+        let zero = crashed(self.zero, way);
+        let one = crashed(self.one, way);
+        MemDisks {
             alloc: self.alloc,
-            bytes,
-            log,
+            zero,
+            one,
+            order: Vec::new(self.alloc),
             made: self.made,
             failing: self.failing,
             faults: self.faults,
@@ -163,22 +253,43 @@ impl Crash for MemDisk {
     }
 }
 
-impl MemDisk {
-    ghost use Rattle.zen_disk.specs.MemDisk.{file_of};
+// What a crash makes of one file.
+fn crashed(file: MemFile, way: Way) -> MemFile
+    ensures state { state_of (reverse result.log.items) result.bytes.items ≡ left_by way (state_of (reverse file.log.items) file.bytes.items) }
+    ensures image { IsImage (reverse file.log.items) file.bytes.items result.bytes.items }
+    ensures stable { (way ≡ Way.Kept → ⊥) → Only result.bytes.items (IsImage (reverse result.log.items) result.bytes.items) }
+    ensures kept { way ≡ Way.Kept
+        → Same (IsImage (reverse file.log.items) file.bytes.items) (IsImage (reverse result.log.items) result.bytes.items) }
+{
+    let mut bytes = file.bytes;
+    let mut log = file.log;
+    crash_file(&mut bytes, &mut log, way);
+    MemFile { bytes, log }
+}
 
-    /// A file with these bytes, all of them stable. The calls of these numbers fail, the first call being 1.
-    pub fn new(alloc: Global, bytes: Vec<u8>, failing: Vec<u64>) -> Self
-        ensures file { file_of result ≡ settled bytes.items }
-        ensures seen { result.bytes.items ≡ bytes.items }
-        ensures durable { Only bytes.items (IsImage (reverse result.log.items) result.bytes.items) }
+impl MemDisks {
+    ghost use Rattle.zen_disk.specs.MemDisks.{files_of, past_of, read_of};
+
+    /// Two files with these bytes, all of them stable. The calls of these numbers fail, the first call being 1.
+    pub fn new(alloc: Global, zero: Vec<u8>, one: Vec<u8>, failing: Vec<u64>) -> Self
+        ensures files { files_of result ≡ record { zero = settled zero.items; one = settled one.items } }
+        ensures seen { read_of result ≡ record { zero = zero.items; one = one.items } }
+        ensures durable { Only (read_of result) (AreImages (past_of result) (read_of result)) }
         ensures made { result.made ≡ 0 }
         ensures failing { result.failing ≡ failing }
         ensures faults { result.faults ≡ 0 }
     {
-        MemDisk {
+        MemDisks {
             alloc,
-            bytes,
-            log: Vec::new(alloc),
+            zero: MemFile {
+                bytes: zero,
+                log: Vec::new(alloc),
+            },
+            one: MemFile {
+                bytes: one,
+                log: Vec::new(alloc),
+            },
+            order: Vec::new(alloc),
             made: 0,
             failing,
             faults: 0,
