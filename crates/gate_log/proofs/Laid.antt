@@ -1,6 +1,6 @@
 -- What a file that is laid out stands for.
-use Rattle.std.proofs.Common.{◌≡◌, ◌≢◌, ℕ, zero, suc, ◌+◌, ◌<◌, ◌≤◌, List, [], ◌∷◌, ◌++◌, length, take, drop, get_or, refl, sym, ◌∙◌, ap, subst, inl, inr, arith, append_assoc, length-append, length-drop, take-append-drop, Ok, lit<}
-use Rattle.std.specs.Prelude.{All, nat_lt, nat_le, nat_eq, ◌==◌, Result}
+use Rattle.std.proofs.Common.{◌≡◌, ◌≢◌, ℕ, zero, suc, ◌+◌, ◌<◌, ◌≤◌, List, [], ◌∷◌, ◌++◌, length, take, drop, get_or, refl, sym, ◌∙◌, ap, inl, inr, arith, append_assoc, length-append, length-drop, take-append-drop, Ok, lit<}
+use Rattle.std.specs.Prelude.{All, nat_lt, nat_le, nat_eq, ◌==◌}
 use Rattle.std.specs.List.{starts_with}
 use lib.Pointwise.{pointwise}
 use Rattle.std.specs.Int.{w32, to_be_bytes}
@@ -8,11 +8,8 @@ use Rattle.std.proofs.lemmas.Nat.{from_be_bytes-to_be_bytes_4}
 use Rattle.std.proofs.lemmas.Bool.{cases_lt, ne_eqb, le-ltb, lt-leb, le-leb, cond-true, cond-false}
 use Rattle.std.proofs.lemmas.List.{get_or_at, take_at, drop_at, drop-drop, drop_more, length-take-le, append-nil}
 use Rattle.std.proofs.lemmas.List.Elements.{All-nil, All-head, All-tail}
-use Rattle.gate_log.specs.declared.why.Why.{Why}
-use Rattle.gate_log.specs.Journal.{header, sized, framed, laid, size_at, before_all, bodies_from, bodies_of, standing, IsLaid, IsSettled, StandsAsSome}
-use Rattle.gate_log.specs.Calls.{TornFrom}
-use Rattle.zen_disk.specs.Moments.{Only}
-use Rattle.std.specs.Result.{result_unwrap_or}
+use Rattle.gate_log.specs.Journal.{header, sized, framed, laid, size_at, before_all, bodies_from, bodies_of, IsLaid}
+use Rattle.zen_disk.specs.Disk.{Torn}
 
 pub length-sized : (body : List ℕ) → length (sized body) ≡ 4 + length body
 unfolding sized
@@ -41,19 +38,23 @@ pub from_closed : (k p gate : ℕ) (rest : List ℕ) → gate ≢ 1 → bodies_f
 unfolding bodies_from
 from_closed k p gate rest shut = cond-false (gate == 1) _ _ (ne_eqb gate 1 shut)
 
-pub from_open : (k p : ℕ) (rest body tail : List ℕ) → size_at rest ≡ length body → drop 4 rest ≡ body ++ tail → 4 ≤ length rest → length body ≤ 8388608 → 0 < length tail
+pub from_open : (k p : ℕ) (rest body tail : List ℕ) → size_at rest ≡ length body → drop 4 rest ≡ body ++ tail → 4 ≤ length rest
+    → length body ≤ 8388608 → 0 < length tail
     → bodies_from (suc k) p (1 ∷ rest) ≡ before_all body (bodies_from k (p + 5 + length body) tail)
 unfolding bodies_from
 from_open k p rest body tail size split four short some =
     let long : length rest ≡ 4 + length body + length tail = omega (arith, length-drop 4 rest, ap length split, length-append body tail) in
-    let rest_is : drop (4 + size_at rest) rest ≡ tail = sym (drop-drop (size_at rest) 4 rest) ∙ ap (λ (l : List ℕ). drop (size_at rest) l) split ∙ drop_at body tail (size_at rest) (sym size) in
-    let body_is : take (size_at rest) (drop 4 rest) ≡ body = ap (λ (l : List ℕ). take (size_at rest) l) split ∙ take_at body tail (size_at rest) (sym size) in
+    let rest_is : drop (4 + size_at rest) rest ≡ tail =
+    sym (drop-drop (size_at rest) 4 rest) ∙ ap (λ (l : List ℕ). drop (size_at rest) l) split ∙ drop_at body tail (size_at rest) (sym size) in
+    let body_is : take (size_at rest) (drop 4 rest) ≡ body =
+    ap (λ (l : List ℕ). take (size_at rest) l) split ∙ take_at body tail (size_at rest) (sym size) in
     cond-false (nat_lt (length rest) 4) _ _ (le-ltb (length rest) 4 four)
     ∙ cond-false (nat_lt 8388608 (size_at rest)) _ _ (le-ltb 8388608 (size_at rest) (omega (arith, size)))
     ∙ cond-false (nat_le (length rest) (4 + size_at rest)) _ _ (lt-leb (length rest) (4 + size_at rest) (omega (arith, size, long)))
     ∙ (λ i. before_all (body_is i) (bodies_from k (p + 5 + size i) (rest_is i)))
 
-pub from_laid : (bodies : List (List ℕ)) (k p gate : ℕ) (rest : List ℕ) → All (λ (body : List ℕ). length body ≤ 8388608) bodies → gate ≢ 1 → length bodies < k → bodies_from k p (laid bodies ++ gate ∷ rest) ≡ Ok bodies
+pub from_laid : (bodies : List (List ℕ)) (k p gate : ℕ) (rest : List ℕ) → All (λ (body : List ℕ). length body ≤ 8388608) bodies → gate ≢ 1
+    → length bodies < k → bodies_from k p (laid bodies ++ gate ∷ rest) ≡ Ok bodies
 unfolding laid
 from_laid bodies zero p gate rest short shut fuel = absurd (omega arith)
 from_laid [] (suc k) p gate rest short shut fuel = from_closed k p gate rest shut
@@ -62,15 +63,17 @@ from_laid (body ∷ bodies) (suc k) p gate rest short shut fuel =
     let tail = laid bodies ++ gate ∷ rest in
     let regroup : (sized body ++ laid bodies) ++ gate ∷ rest ≡ sized body ++ tail = append_assoc (sized body) (laid bodies) (gate ∷ rest) in
     ap (λ (l : List ℕ). bodies_from (suc k) p (1 ∷ l)) regroup
-    ∙ from_open k p (sized body ++ tail) body tail (size_at-sized body tail here) (drop-sized body tail) (omega (arith, length-append (sized body) tail, length-sized body)) here (omega (arith, length-append (laid bodies) (gate ∷ rest)))
-    ∙ ap (before_all body) (from_laid bodies k (p + 5 + length body) gate rest (All-tail (λ (b : List ℕ). length b ≤ 8388608) body bodies short) shut (omega arith))
+    ∙ from_open k p (sized body ++ tail) body tail (size_at-sized body tail here) (drop-sized body tail)
+    (omega (arith, length-append (sized body) tail, length-sized body)) here (omega (arith, length-append (laid bodies) (gate ∷ rest)))
+    ∙ ap (before_all body)
+    (from_laid bodies k (p + 5 + length body) gate rest (All-tail (λ (b : List ℕ). length b ≤ 8388608) body bodies short) shut (omega arith))
 
 pub fewer : (bodies : List (List ℕ)) → length bodies ≤ length (laid bodies)
 unfolding laid
 fewer [] = omega arith
 fewer (body ∷ bodies) = omega (arith, fewer bodies, length-append (sized body) (laid bodies))
 
-nothing_laid : (bodies : List (List ℕ)) → length (laid bodies) ≤ 0 → bodies ≡ []
+pub nothing_laid : (bodies : List (List ℕ)) → length (laid bodies) ≤ 0 → bodies ≡ []
 unfolding laid
 nothing_laid [] none = refl
 nothing_laid (body ∷ bodies) none = absurd (omega arith)
@@ -78,7 +81,9 @@ nothing_laid (body ∷ bodies) none = absurd (omega arith)
 -- what a file that is laid out is
 module _ (bodies : List (List ℕ)) (file : List ℕ) (gate : ℕ) (is : IsLaid bodies file gate) where
   pub split : file ≡ header ++ laid bodies ++ get_or file gate 0 ∷ drop (gate + 1) file
-  split = sym (take-append-drop gate file) ∙ ap (λ (l : List ℕ). l ++ drop gate file) is.front ∙ ap (λ (l : List ℕ). header ++ laid bodies ++ l) (drop_more file gate 0 is.inside)
+  split =
+      sym (take-append-drop gate file) ∙ ap (λ (l : List ℕ). l ++ drop gate file) is.front
+      ∙ ap (λ (l : List ℕ). header ++ laid bodies ++ l) (drop_more file gate 0 is.inside)
 
   pub gate_is : gate ≡ 8 + length (laid bodies)
   gate_is = omega (arith, length-take-le gate file (omega (arith, is.inside)), ap length is.front, length-append header (laid bodies))
@@ -103,7 +108,8 @@ module _ (bodies : List (List ℕ)) (file : List ℕ) (gate : ℕ) (is : IsLaid 
       ]
 
 -- a file of these parts is laid out
-pub laid_from : (bodies : List (List ℕ)) (file : List ℕ) (gate shut : ℕ) (rest : List ℕ) → All (λ (body : List ℕ). length body ≤ 8388608) bodies → gate ≡ 8 + length (laid bodies) → file ≡ header ++ laid bodies ++ shut ∷ rest → shut ≢ 1 → IsLaid bodies file gate
+pub laid_from : (bodies : List (List ℕ)) (file : List ℕ) (gate shut : ℕ) (rest : List ℕ) → All (λ (body : List ℕ). length body ≤ 8388608) bodies
+    → gate ≡ 8 + length (laid bodies) → file ≡ header ++ laid bodies ++ shut ∷ rest → shut ≢ 1 → IsLaid bodies file gate
 laid_from bodies file gate shut rest short at whole closed =
     let size : length (header ++ laid bodies) ≡ gate = omega (arith, length-append header (laid bodies)) in
     let there : get_or file gate 0 ≡ shut = ap (λ (l : List ℕ). get_or l gate 0) whole ∙ get_or_at (header ++ laid bodies) shut rest 0 gate size in
@@ -114,22 +120,13 @@ laid_from bodies file gate shut rest short at whole closed =
       closed = λ one. closed (sym there ∙ one);
     }
 
-pub standing_is : (bodies : List (List ℕ)) (file : List ℕ) (gate : ℕ) → IsLaid bodies file gate → standing file ≡ bodies
-standing_is bodies file gate is = ap (λ (r : Result (List (List ℕ)) Why). result_unwrap_or r []) (stands_for bodies file gate is)
-
-pub settled_from : (bodies : List (List ℕ)) (file : List ℕ) (gate : ℕ) (outcomes : List ℕ → Type 0) → IsLaid bodies file gate → Only file outcomes → IsSettled file outcomes gate
-settled_from bodies file gate outcomes is only = record { laid = subst (λ (bs : List (List ℕ)). IsLaid bs file gate) (sym (standing_is bodies file gate is)) is; stands = stands_for bodies file gate is ∙ ap (λ (bs : List (List ℕ)). Ok bs) (sym (standing_is bodies file gate is)); durable = only }
-
 pub brief : (file : List ℕ) → length file ≤ 9 → bodies_of file ≡ Ok []
 unfolding bodies_of
 brief file short = cond-true (nat_le (length file) 9) _ _ (le-leb (length file) 9 short)
 
 -- whatever a write of a header leaves, there are no bodies, as before
-pub torn_fresh : (old seen : List ℕ) (before outcomes : List ℕ → Type 0) → length old ≤ 9 → seen ≡ old → before old → Only seen outcomes → (c : List ℕ) → TornFrom outcomes 0 9 c → StandsAsSome before c
-torn_fresh old seen before outcomes short same stays only c from =
-    let torn = from.torn in
-    let size : length from.file ≤ 9 = omega (arith, ap length (only from.file from.was ∙ same)) in
-    (old, stays, brief c (omega (arith, torn.no_longer, size)) ∙ sym (brief old short))
+pub torn_fresh : (old c : List ℕ) → length old ≤ 9 → Torn 0 9 old c → bodies_of c ≡ bodies_of old
+torn_fresh old c short torn = brief c (omega (arith, torn.no_longer, short)) ∙ sym (brief old short)
 
 pub fresh_laid : IsLaid [] (header ++ 0 ∷ []) 8
 unfolding laid

@@ -1,4 +1,10 @@
 pub mod Laid
 pub mod Added
-mod Fronts
+mod Answered
+mod Both
 mod Opening
+mod Ordered
+pub mod Settled
+pub mod Folded
+pub mod Places
+mod Fronts

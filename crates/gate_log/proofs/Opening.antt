@@ -1,51 +1,114 @@
 -- The device calls of an opening.
-use Rattle.std.proofs.Common.{◌≡◌, ℕ, ◌<◌, ◌≤◌, List, [], ◌∷◌, ◌++◌, length, refl, sym, subst, Bool, true, false, inl, inr}
-use Rattle.std.specs.Prelude.{nat_le}
+use Rattle.std.proofs.Common.{◌≡◌, ℕ, ◌<◌, ◌≤◌, List, [], ◌∷◌, ◌++◌, length, refl, sym, subst, Bool, true, false, inl, inr, append_assoc, Option, Some, None, Ok, Err}
+use Rattle.std.specs.Prelude.{nat_le, nat_eq, nat_lt, if◌then◌else◌}
 use Rattle.std.proofs.lemmas.Bool.{lt-leb, le-leb, cond-true, cond-false}
 use Rattle.zen_disk.specs.DeviceCall.{DeviceCall, Len, Read, Write, Sync}
 use Rattle.zen_disk.specs.Runs.{Ran, ran_on, ran_failed}
-use Rattle.gate_log.specs.declared.error.LogError.{LogError}
-use Rattle.gate_log.specs.declared.error.LogError.TheVariants.{NotAJournal, Disk, Memory}
-use Rattle.gate_log.specs.Errors.{handed_back, IsNotDisk, RanUntil}
-use Rattle.gate_log.specs.Calls.{preparing_calls, reading_calls, opening_calls}
+use Rattle.zen_disk.specs.declared.side.Side.{Side}
+use Rattle.gate_log.specs.declared.open.SideError.{SideError}
+use Rattle.gate_log.specs.declared.open.SideError.TheVariants as error
+use Rattle.gate_log.specs.Opening.{DidNotFail, SideRan, RanUntil, refusal_of}
+use Rattle.gate_log.specs.declared.error.LogError.TheVariants.{NotAJournal}
+use Rattle.gate_log.specs.declared.why.Why.{Why}
+use Rattle.gate_log.specs.declared.why.Why.TheVariants.{Twin}
+use Rattle.gate_log.specs.Generations.{chosen_by}
+use Rattle.zen_disk.specs.Sides.{Files}
+use Rattle.zen_disk.specs.declared.side.Side.TheVariants.{Zero, One}
+use Rattle.std.proofs.lemmas.List.{append-nil}
+use Rattle.gate_log.specs.Calls.{preparing_calls, reading_calls, opening_calls, both_opening_calls}
 use Rattle.gate_log.specs.Journal.{header}
 
-module _ {D : Type 0} (steps : D → DeviceCall → D → Bool → Type 0) (file : List ℕ) where
+module _ {D : Type 0} (steps : D → DeviceCall → D → Bool → Type 0) (side : Side) (file : List ℕ) where
   abbrev fresh : List DeviceCall
-  fresh = Write 0 (header ++ 0 ∷ []) ∷ Sync ∷ []
+  fresh = Write side 0 (header ++ 0 ∷ []) ∷ Sync side ∷ []
 
   -- a file of at most nine bytes gets a header
-  pub fresh_ran : (old mid new : D) (ok : Bool) → length file ≤ 9 → Ran steps (Sync ∷ Len ∷ []) old mid true → Ran steps fresh mid new ok → Ran steps (preparing_calls file) old new ok
-  fresh_ran old mid new ok short first then =
-      subst (λ (calls : List DeviceCall). Ran steps (Sync ∷ Len ∷ calls) old new ok) (sym (cond-true (nat_le (length file) 9) fresh [] (le-leb (length file) 9 short)))
-      (ran_on steps (Sync ∷ Len ∷ []) fresh old mid new ok first then)
+  pub fresh_ran : (old mid new : D) (ok : Bool) → length file ≤ 9 → Ran steps (Sync side ∷ Len side ∷ []) old mid true → Ran steps fresh mid new ok
+      → Ran steps (preparing_calls side file) old new ok
+  fresh_ran old mid new ok short first more =
+      subst (λ (calls : List DeviceCall). Ran steps (Sync side ∷ Len side ∷ calls) old new ok)
+      (sym (cond-true (nat_le (length file) 9) fresh [] (le-leb (length file) 9 short)))
+      (ran_on steps (Sync side ∷ Len side ∷ []) fresh old mid new ok first more)
 
   -- a longer one doesn't
-  pub same_ran : (old new : D) → 9 < length file → Ran steps (Sync ∷ Len ∷ []) old new true → Ran steps (preparing_calls file) old new true
-  same_ran old new long first = subst (λ (calls : List DeviceCall). Ran steps (Sync ∷ Len ∷ calls) old new true) (sym (cond-false (nat_le (length file) 9) fresh [] (lt-leb (length file) 9 long))) first
+  pub same_ran : (old new : D) → 9 < length file → Ran steps (Sync side ∷ Len side ∷ []) old new true
+      → Ran steps (preparing_calls side file) old new true
+  same_ran old new long first =
+      subst (λ (calls : List DeviceCall). Ran steps (Sync side ∷ Len side ∷ calls) old new true)
+      (sym (cond-false (nat_le (length file) 9) fresh [] (lt-leb (length file) 9 long))) first
 
-  pub synced_failed : (old new : D) → Ran steps (Sync ∷ Len ∷ []) old new false → Ran steps (preparing_calls file) old new false
-  synced_failed old new failed = ran_failed steps (Sync ∷ Len ∷ []) _ old new failed
+  pub synced_failed : (old new : D) → Ran steps (Sync side ∷ Len side ∷ []) old new false → Ran steps (preparing_calls side file) old new false
+  synced_failed old new failed = ran_failed steps (Sync side ∷ Len side ∷ []) _ old new failed
 
-  pub prepared_failed : (old new : D) → Ran steps (preparing_calls file) old new false → Ran steps (opening_calls file) old new false
-  prepared_failed old new failed = ran_failed steps (preparing_calls file) (reading_calls file) old new failed
+  pub prepared_failed : (old new : D) → Ran steps (preparing_calls side file) old new false → Ran steps (opening_calls side file) old new false
+  prepared_failed old new failed = ran_failed steps (preparing_calls side file) (reading_calls side file) old new failed
 
-  pub brief_ran : (old new : D) → length file ≤ 9 → Ran steps (preparing_calls file) old new true → Ran steps (opening_calls file) old new true
+  pub brief_ran : (old new : D) → length file ≤ 9 → Ran steps (preparing_calls side file) old new true
+      → Ran steps (opening_calls side file) old new true
   brief_ran old new short ran =
-      ran_on steps (preparing_calls file) (reading_calls file) old new new true ran
-      (subst (λ (calls : List DeviceCall). Ran steps calls new new true) (sym (cond-true (nat_le (length file) 9) [] (Read 0 (length file) ∷ []) (le-leb (length file) 9 short))) (refl, refl))
+      ran_on steps (preparing_calls side file) (reading_calls side file) old new new true ran
+      (subst (λ (calls : List DeviceCall). Ran steps calls new new true)
+      (sym (cond-true (nat_le (length file) 9) [] (Read side 0 (length file) ∷ []) (le-leb (length file) 9 short))) (refl, refl))
 
   one_ran : (mid new : D) (call : DeviceCall) (ok : Bool) → steps mid call new ok → Ran steps (call ∷ []) mid new ok
   one_ran mid new call true step = inl (new, step, (refl, refl))
   one_ran mid new call false step = inr (step, refl)
 
-  pub read_ran : (old mid new : D) (ok : Bool) → 9 < length file → Ran steps (preparing_calls file) old mid true → steps mid (Read 0 (length file)) new ok → Ran steps (opening_calls file) old new ok
+  pub read_ran : (old mid new : D) (ok : Bool) → 9 < length file → Ran steps (preparing_calls side file) old mid true
+      → steps mid (Read side 0 (length file)) new ok → Ran steps (opening_calls side file) old new ok
   read_ran old mid new ok long ran step =
-      ran_on steps (preparing_calls file) (reading_calls file) old mid new ok ran
-      (subst (λ (calls : List DeviceCall). Ran steps calls mid new ok) (sym (cond-false (nat_le (length file) 9) [] (Read 0 (length file) ∷ []) (lt-leb (length file) 9 long))) (one_ran mid new (Read 0 (length file)) ok step))
+      ran_on steps (preparing_calls side file) (reading_calls side file) old mid new ok ran
+      (subst (λ (calls : List DeviceCall). Ran steps calls mid new ok)
+      (sym (cond-false (nat_le (length file) 9) [] (Read side 0 (length file) ∷ []) (lt-leb (length file) 9 long)))
+      (one_ran mid new (Read side 0 (length file)) ok step))
 
   -- all calls were made, and then the bytes were refused
-  pub refused_ran : (old new : D) (e : LogError D) → handed_back e ≡ new → IsNotDisk e → Ran steps (opening_calls file) old new true → RanUntil steps file old e
-  refused_ran old new (NotAJournal why d) back not_disk ran = subst (λ (x : D). Ran steps (opening_calls file) old x true) (sym back) ran
-  refused_ran old new (Disk d) back not_disk ran = absurd not_disk
-  refused_ran old new (Memory d) back not_disk ran = inr (subst (λ (x : D). Ran steps (opening_calls file) old x true) (sym back) ran)
+  pub refused_ran : (old new : D) (e : SideError) → DidNotFail e → Ran steps (opening_calls side file) old new true
+      → SideRan steps side file old new e
+  refused_ran old new (error.Fault fault) calm ran = ran
+  refused_ran old new error.Memory calm ran = inr ran
+  refused_ran old new error.Failed calm ran = absurd calm
+
+-- a refused opening of both sides
+module _ {D : Type 0} (steps : D → DeviceCall → D → Bool → Type 0) (files : Files) where
+  pub side_zero_ran : (old new : D) (e : SideError) → SideRan steps Zero files.zero old new e → RanUntil steps files old (refusal_of Zero e new)
+  side_zero_ran old new (error.Fault fault) ran = ran
+  side_zero_ran old new error.Memory (inl ran) = (Sync Zero ∷ Len Zero ∷ [], _, refl, ran)
+  side_zero_ran old new error.Memory (inr ran) = (opening_calls Zero files.zero, opening_calls One files.one, refl, ran)
+  side_zero_ran old new error.Failed ran = ran_failed steps (opening_calls Zero files.zero) (opening_calls One files.one) old new ran
+
+  pub side_one_ran : (old mid new : D) (e : SideError) → Ran steps (opening_calls Zero files.zero) old mid true
+      → SideRan steps One files.one mid new e → RanUntil steps files old (refusal_of One e new)
+  side_one_ran old mid new (error.Fault fault) first ran =
+      ran_on steps (opening_calls Zero files.zero) (opening_calls One files.one) old mid new true first ran
+  side_one_ran old mid new error.Memory first (inl ran) = (
+    opening_calls Zero files.zero ++ Sync One ∷ Len One ∷ [],
+    (if nat_le (length files.one) 9 then Write One 0 (header ++ 0 ∷ []) ∷ Sync One ∷ [] else []) ++ reading_calls One files.one,
+    append_assoc (opening_calls Zero files.zero) (Sync One ∷ Len One ∷ []) _,
+    ran_on steps (opening_calls Zero files.zero) (Sync One ∷ Len One ∷ []) old mid new true first ran,
+  )
+  side_one_ran old mid new error.Memory first (inr ran) = (
+    both_opening_calls files,
+    [],
+    append-nil (both_opening_calls files),
+    ran_on steps (opening_calls Zero files.zero)
+        (opening_calls One files.one) old mid new true first ran,
+  )
+  side_one_ran old mid new error.Failed first ran =
+      ran_on steps (opening_calls Zero files.zero) (opening_calls One files.one) old mid new false first ran
+
+  pub twin_ran : (old new : D) (why : Why) → Ran steps (both_opening_calls files) old new true → (why ≡ Twin)
+      → RanUntil steps files old (NotAJournal why new)
+  twin_ran old new why ran is = subst (λ (w : Why). RanUntil steps files old (NotAJournal w new)) (sym is) ran
+
+-- two sides have no other fault together
+pub why_is_twin : (zero one : Option ℕ) (why : Why) → chosen_by zero one ≡ Err why → why ≡ Twin
+why_is_twin (Some a) (Some b) why is = by (nat_eq a b) (nat_lt a b) is
+  where
+    by : (same less : Bool) → (if same then Err Twin else if less then Ok One else Ok Zero) ≡ Err why → why ≡ Twin
+    by true less is = sym (let e : Err Twin ≡ Err why = is in cc e)
+    by false true is = absurd (cc is)
+    by false false is = absurd (cc is)
+why_is_twin None (Some b) why is = absurd (cc is)
+why_is_twin None None why is = absurd (cc is)
+why_is_twin (Some a) None why is = absurd (cc is)

@@ -1,5 +1,10 @@
+pub mod Appends
 pub mod Calls
 pub mod Errors
+pub mod Folded
+pub mod Generations
 pub mod Journal
 pub mod Opened
+pub mod Opening
+pub mod Place
 pub mod Scan

@@ -1,24 +1,32 @@
-ghost use Rattle.std.specs.Prelude.{◌≡◌, ◌+◌, ◌^◌, ◌≤◌, length, [], ◌∷◌, is_ok, OnOk};
+ghost use Rattle.std.specs.Prelude.{◌≡◌, ◌+◌, ◌^◌, ◌≤◌, List, ℕ, length, [], ◌∷◌, is_ok, OnOk};
 ghost use Rattle.gate_log.specs.Calls.{TornFrom};
 ghost use Rattle.zen_disk.specs.DeviceCall.{Write, Sync};
 ghost use Rattle.zen_disk.specs.Disk.{written};
 ghost use Rattle.zen_disk.specs.Faults.{HasCause};
-ghost use Rattle.zen_disk.specs.Moments.{Only, Within, LeavesOnly};
+ghost use Rattle.zen_disk.specs.Moments.{LeavesOnly};
 ghost use Rattle.zen_disk.specs.Runs.{Ran};
+ghost use Rattle.zen_disk.specs.Sides.{on, other, OnlyOn};
 
-use zen_disk::{Disk, Failed};
+use zen_disk::{Disks, Failed, Side};
 
-// Writes the bytes and syncs.
-pub(crate) fn write_through<D: Disk>(disk: &mut D, at: u64, bytes: &[u8]) -> Result<(), Failed>
-    requires { D.told → at ≤ length (D.seen disk.old) }
-    ensures written { D.told → OnOk result (D.seen disk.new ≡ written (D.seen disk.old) at bytes.now) }
-    ensures durable { OnOk result (Only (D.seen disk.new) (D.may_leave disk.new)) }
+// Writes the bytes and syncs, on one side. On the other side a crash leaves what it left before.
+pub(crate) fn write_through<D: Disks>(
+    disk: &mut D,
+    side: Side,
+    at: u64,
+    bytes: &[u8],
+) -> Result<(), Failed>
+    requires { D.told → at ≤ length (on side (D.seen disk.old)) }
+    ensures written { D.told → OnOk result (on side (D.seen disk.new) ≡ written (on side (D.seen disk.old)) at bytes.now) }
+    ensures elsewhere { on (other side) (D.seen disk.new) ≡ on (other side) (D.seen disk.old) }
+    ensures durable { OnOk result (OnlyOn side (on side (D.seen disk.new)) (D.may_leave disk.new)) }
+    ensures still { (file : List ℕ) → OnlyOn (other side) file (D.may_leave disk.old) → OnlyOn (other side) file (D.may_leave disk.new) }
     ensures limit { OnOk result (at + length bytes.now ≤ 2 ^ 62) }
-    ensures any_moment { LeavesOnly D.moment D.left_since disk.old disk.new (TornFrom (D.may_leave disk.old) at (length bytes.now)) }
-    ensures ran { Ran D.steps (Write at bytes.now ∷ Sync ∷ []) disk.old disk.new (is_ok result) }
+    ensures any_moment { LeavesOnly D.moment D.left_since disk.old disk.new (TornFrom (D.may_leave disk.old) side at (length bytes.now)) }
+    ensures ran { Ran D.steps (Write side at bytes.now ∷ Sync side ∷ []) disk.old disk.new (is_ok result) }
     ensures cause { HasCause (D.faults disk.old) (D.faults disk.new) result }
 {
-    disk.write_at(at, bytes)?;
-    disk.sync()?;
+    disk.write_at(side, at, bytes)?;
+    disk.sync(side)?;
     Ok(())
 }

@@ -2,7 +2,7 @@ use crate::Why;
 use std::fmt::Debug;
 use thiserror::Error;
 
-/// Why a body is not added. The first of these that holds is answered.
+/// Why a body is not added, or a generation not begun. The first of these that holds is answered.
 #[derive(Clone, Copy, Debug, PartialEq, Eq, Error)]
 pub enum AppendError {
     /// An earlier call answered `Disk`.
@@ -23,13 +23,13 @@ pub enum AppendError {
 #[derive(Debug, Drop, Error)]
 #[error_bound(D: Debug)]
 pub enum LogError<D> {
-    /// The file is no journal.
+    /// The two files are no journal.
     #[error("not a journal: {0}")]
     NotAJournal(Why, D),
     /// The disk failed, and its count of faults rose.
     #[error("the disk failed")]
     Disk(D),
-    /// There is no memory for the file and its bodies.
+    /// There is no memory for the files and their bodies.
     #[error("no memory")]
     Memory(D),
 }

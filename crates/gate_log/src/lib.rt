@@ -1,7 +1,11 @@
-//! A journal of bodies in one file, each behind a gate byte that is opened by a write of its own.
+//! A journal of bodies in two files, each body behind a gate byte that is opened by a write of its own.
 //!
-//! The file begins with `ZENJRNL1` and a gate. A gate of value 1 is open, any other is closed. Behind an open gate
-//! stand the body's length in 4 bytes, the body, and the next gate. The bodies are those up to the first closed gate.
+//! A file begins with `ZENJRNL1` and a gate. A gate of value 1 is open, any other is closed. Behind an open gate
+//! stand the body's length in 4 bytes, the body, and the next gate. The bodies of a file are those up to the first closed gate.
+//!
+//! One file is in use, and bodies are added there. A body that begins with a 4 and an epoch of 8 bytes begins a generation:
+//! it stands for all that was before it, and is written as the only body of the other file, which is then in use. The
+//! file in use is that of the greater epoch. Where no body begins a generation file zero has epoch 0, and file one has none.
 #![tactic(auto)]
 
 mod add;
@@ -10,7 +14,9 @@ mod error;
 mod frame;
 mod log;
 mod open;
+mod order;
 mod refusal;
+mod renew;
 mod scan;
 #[cfg(test)]
 mod tests;
@@ -18,4 +24,4 @@ mod why;
 
 pub use error::{AppendError, LogError};
 pub use log::{GateLog, Opened};
-pub use why::Why;
+pub use why::{Fault, Why};

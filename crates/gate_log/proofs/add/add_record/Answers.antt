@@ -2,8 +2,11 @@ use Rattle.std.proofs.Common.{◌+◌, length, ◌∷◌, [], ◌≡◌, subst, 
 use Rattle.zen_disk.specs.Moments.{joins, leaves_also}
 use Rattle.zen_disk.specs.DeviceCall.{Write, Sync}
 use Rattle.zen_disk.specs.Runs.{Ran, ran_on}
+use Rattle.zen_disk.specs.Sides.{on, other}
 use Rattle.gate_log.specs.Journal.{IsBeforeOrAfter}
+use Rattle.gate_log.specs.Calls.{LeavesOn}
 use Rattle.gate_log.proofs.Added.{first_leaves, last_leaves, last_done}
+use Rattle.gate_log.proofs.Both.{leaves_on, only_there}
 use Rattle.std.specs.Prelude.{Result, Ok, Err, IsErr, is_ok, false}
 use Rattle.gate_log.proofs.add.add_record.Goals as goal
 
@@ -13,30 +16,60 @@ err_is (Err x) e = refl
 
 pub returns-in_err-write_through-clause-any_moment : goal.returns-in_err-write_through-clause-any_moment
 returns-in_err-write_through-clause-any_moment g c told bodies body framing laid only =
-    leaves_also g.D.Disk.moment g.D.Disk.left_since c.args.disk.now c.write_through.new.disk _ (IsBeforeOrAfter bodies body) c.write_through.ensures.any_moment
-    (first_leaves bodies body (g.D.Disk.seen c.args.disk.now) c.args.gate (length c.args.frame.now) (g.D.Disk.may_leave c.args.disk.now) laid only)
+    let side = c.args.side in
+    let seen = g.D.Disks.seen c.args.disk.now in
+    let old = g.D.Disks.may_leave c.args.disk.now in
+    leaves_also g.D.Disks.moment g.D.Disks.left_since c.args.disk.now c.write_through.new.disk _
+    (LeavesOn side (IsBeforeOrAfter bodies body) seen) c.write_through.ensures.any_moment
+    (leaves_on side seen seen old (c.args.gate + 1) (length c.args.frame.now) (IsBeforeOrAfter bodies body) (λ f left i. on side (only f left i))
+    (only_there side seen old only) (λ f torn. first_leaves bodies body (on side seen) f c.args.gate (length c.args.frame.now) laid torn))
 
 pub returns-in_err-write_through-2-clause-any_moment : goal.returns-in_err-write_through-2-clause-any_moment
 returns-in_err-write_through-2-clause-any_moment g c told bodies body framing laid only =
-    joins g.D.Disk.moment g.D.Disk.left_since c.args.disk.now c.write_through.new.disk c.write_through-2.new.disk _ _ (IsBeforeOrAfter bodies body) c.write_through.ensures.any_moment c.write_through-2.ensures.any_moment
-    (first_leaves bodies body (g.D.Disk.seen c.args.disk.now) c.args.gate (length c.args.frame.now) (g.D.Disk.may_leave c.args.disk.now) laid only)
-    (last_leaves bodies body c.args.frame.now (g.D.Disk.seen c.args.disk.now) (g.D.Disk.seen c.write_through.new.disk) c.args.gate laid framing (c.in_ok-write_through.ensures.written told) (g.D.Disk.may_leave c.write_through.new.disk) c.in_ok-write_through.ensures.durable)
-
-pub returns-clause-added : goal.returns-clause-added
-returns-clause-added g c told bodies body framing laid =
-    last_done bodies body c.args.frame.now (g.D.Disk.seen c.args.disk.now) (g.D.Disk.seen c.write_through.new.disk) c.args.gate laid framing (c.in_ok-write_through.ensures.written told) (g.D.Disk.seen c.write_through-2.new.disk) (c.in_ok-write_through-2.ensures.written told)
+    let side = c.args.side in
+    let seen = g.D.Disks.seen c.args.disk.now in
+    let mid = g.D.Disks.seen c.write_through.new.disk in
+    let old = g.D.Disks.may_leave c.args.disk.now in
+    let done = c.in_ok-write_through.ensures in
+    joins g.D.Disks.moment g.D.Disks.left_since c.args.disk.now c.write_through.new.disk c.write_through-2.new.disk _ _
+    (LeavesOn side (IsBeforeOrAfter bodies body) seen) c.write_through.ensures.any_moment c.write_through-2.ensures.any_moment
+    (leaves_on side seen seen old (c.args.gate + 1) (length c.args.frame.now) (IsBeforeOrAfter bodies body) (λ f left i. on side (only f left i))
+    (only_there side seen old only) (λ f torn. first_leaves bodies body (on side seen) f c.args.gate (length c.args.frame.now) laid torn))
+    (leaves_on side seen mid (g.D.Disks.may_leave c.write_through.new.disk) c.args.gate 1 (IsBeforeOrAfter bodies body) done.durable
+    (c.write_through.ensures.still (on (other side) seen) (only_there side seen old only))
+    (λ f torn. last_leaves bodies body c.args.frame.now (on side seen) (on side mid) c.args.gate laid framing (done.written told) f torn))
 
 pub returns-clause-any_moment : goal.returns-clause-any_moment
 returns-clause-any_moment g c told bodies body framing laid only =
-    joins g.D.Disk.moment g.D.Disk.left_since c.args.disk.now c.write_through.new.disk c.write_through-2.new.disk _ _ (IsBeforeOrAfter bodies body) c.write_through.ensures.any_moment c.write_through-2.ensures.any_moment
-    (first_leaves bodies body (g.D.Disk.seen c.args.disk.now) c.args.gate (length c.args.frame.now) (g.D.Disk.may_leave c.args.disk.now) laid only)
-    (last_leaves bodies body c.args.frame.now (g.D.Disk.seen c.args.disk.now) (g.D.Disk.seen c.write_through.new.disk) c.args.gate laid framing (c.in_ok-write_through.ensures.written told) (g.D.Disk.may_leave c.write_through.new.disk) c.in_ok-write_through.ensures.durable)
+    let side = c.args.side in
+    let seen = g.D.Disks.seen c.args.disk.now in
+    let mid = g.D.Disks.seen c.write_through.new.disk in
+    let old = g.D.Disks.may_leave c.args.disk.now in
+    let done = c.in_ok-write_through.ensures in
+    joins g.D.Disks.moment g.D.Disks.left_since c.args.disk.now c.write_through.new.disk c.write_through-2.new.disk _ _
+    (LeavesOn side (IsBeforeOrAfter bodies body) seen) c.write_through.ensures.any_moment c.write_through-2.ensures.any_moment
+    (leaves_on side seen seen old (c.args.gate + 1) (length c.args.frame.now) (IsBeforeOrAfter bodies body) (λ f left i. on side (only f left i))
+    (only_there side seen old only) (λ f torn. first_leaves bodies body (on side seen) f c.args.gate (length c.args.frame.now) laid torn))
+    (leaves_on side seen mid (g.D.Disks.may_leave c.write_through.new.disk) c.args.gate 1 (IsBeforeOrAfter bodies body) done.durable
+    (c.write_through.ensures.still (on (other side) seen) (only_there side seen old only))
+    (λ f torn. last_leaves bodies body c.args.frame.now (on side seen) (on side mid) c.args.gate laid framing (done.written told) f torn))
+
+pub returns-clause-added : goal.returns-clause-added
+returns-clause-added g c told bodies body framing laid =
+    let side = c.args.side in
+    last_done bodies body c.args.frame.now (on side (g.D.Disks.seen c.args.disk.now))
+    (on side (g.D.Disks.seen c.write_through.new.disk)) c.args.gate laid framing (c.in_ok-write_through.ensures.written told)
+    (on side (g.D.Disks.seen c.write_through-2.new.disk)) (c.in_ok-write_through-2.ensures.written told)
 
 pub returns-in_err-write_through-2-clause-ran : goal.returns-in_err-write_through-2-clause-ran
 returns-in_err-write_through-2-clause-ran g c =
-    let first = Write (c.args.gate + 1) c.args.frame.now ∷ Sync ∷ [] in
-    let then = Write c.args.gate (1 ∷ []) ∷ Sync ∷ [] in
+    let side = c.args.side in
+    let first = Write side (c.args.gate + 1) c.args.frame.now ∷ Sync side ∷ [] in
+    let then = Write side c.args.gate (1 ∷ []) ∷ Sync side ∷ [] in
     let failed = c.in_err-write_through-2.ensures.ran in
     let error = c.from_residual-in_err-write_through-2.ensures in
-    subst (λ ok. Ran g.D.Disk.steps (Write (c.args.gate + 1) c.args.frame.now ∷ Sync ∷ Write c.args.gate (1 ∷ []) ∷ Sync ∷ []) c.args.disk.now c.write_through-2.new.disk ok) (err_is c.from_residual-in_err-write_through-2.result error.0)
-    (ran_on g.D.Disk.steps first then c.args.disk.now c.write_through.new.disk c.write_through-2.new.disk _ c.in_ok-write_through.ensures.ran failed)
+    subst
+    (λ ok. Ran g.D.Disks.steps
+    (Write side (c.args.gate + 1) c.args.frame.now ∷ Sync side ∷ Write side c.args.gate (1 ∷ []) ∷ Sync side ∷ []) c.args.disk.now
+    c.write_through-2.new.disk ok) (err_is c.from_residual-in_err-write_through-2.result error.0)
+    (ran_on g.D.Disks.steps first then c.args.disk.now c.write_through.new.disk c.write_through-2.new.disk _ c.in_ok-write_through.ensures.ran failed)

@@ -1,21 +1,109 @@
-use Rattle.std.proofs.Common.{◌+◌, length, [], ◌∷◌, ◌++◌, arith}
-use Rattle.gate_log.specs.Journal.{standing}
-use Rattle.gate_log.proofs.Laid.{standing_is, settled_from}
+use Rattle.std.proofs.Common.{◌+◌, ◌≡◌, length, [], ◌∷◌, ◌++◌, arith, refl, subst, sym, ◌∙◌, ap, true, false, List, ℕ}
+use Rattle.zen_disk.specs.Moments.{leaves_also}
+use Rattle.zen_disk.specs.Runs.{Ran}
+use Rattle.zen_disk.specs.Sides.{on, other}
+use Rattle.gate_log.specs.Calls.{append_calls}
+use Rattle.gate_log.specs.Generations.{standing_in, in_use, tail_of, IsAppended}
+use Rattle.gate_log.proofs.Both.{only_both, only_there}
+use Rattle.gate_log.proofs.Settled.{settled_from, standing_is, append_leaves, appended_settled, as_said, put_same}
+use Rattle.gate_log.proofs.Ordered.{tail_push}
+use Rattle.gate_log.proofs.Laid.{length-framed}
+use Rattle.gate_log.proofs.Answered.{done, failed}
 use Rattle.gate_log.proofs.log.GateLog.keep.Goals as goal
+
+pub add_record-requires-clause-within : goal.add_record-requires-clause-within
+add_record-requires-clause-within g c told = (c.args.self.now.settled told c.requires.runs).here.inside
 
 pub invariant_of-self-2 : goal.invariant_of-self-2
 invariant_of-self-2 g c =
-    let old = standing (g.D.Disk.seen c.args.self.now.disk) in
+    let self = c.args.self.now in
+    let seen = g.D.Disks.seen self.disk in
+    let new = g.D.Disks.seen c.add_record.new.disk in
     let body = c.requires.frame.0 in
     record {
       limit = omega (arith, c.in-Ok.ensures.limit);
       settled = λ told running.
-          settled_from (old ++ body ∷ []) (g.D.Disk.seen c.add_record.new.disk) (c.args.self.now.gate + length c.args.frame.now) (g.D.Disk.may_leave c.add_record.new.disk)
-          (c.in-Ok.ensures.added told old body c.requires.frame.1 (c.args.self.now.settled told running).laid) c.in-Ok.ensures.durable;
+          let was = self.settled told c.requires.runs in
+          let before = standing_in seen in
+          let laid = c.in-Ok.ensures.added told (on self.side before.bodies) body c.requires.frame.1 was.here in
+          let there =
+          c.add_record.ensures.still (on (other self.side) seen) (only_there self.side seen (g.D.Disks.may_leave self.disk) was.durable) in
+          let only =
+          only_both self.side new (g.D.Disks.may_leave c.add_record.new.disk) c.in-Ok.ensures.durable
+          (λ f left. there f left ∙ sym c.add_record.ensures.elsewhere) in
+          settled_from _ new (g.D.Disks.may_leave c.add_record.new.disk) self.side (self.gate + length c.args.frame.now) self.other_gate self.epoch
+          (appended_settled before seen (g.D.Disks.may_leave self.disk) self.side self.gate self.other_gate self.epoch was body c.requires.frame.2 new
+          (g.D.Disks.may_leave c.add_record.new.disk) (self.gate + length c.args.frame.now) laid c.add_record.ensures.elsewhere only);
+      counted = λ told running.
+          let was = self.settled told c.requires.runs in
+          let before = standing_in seen in
+          let laid = c.in-Ok.ensures.added told (on self.side before.bodies) body c.requires.frame.1 was.here in
+          let there =
+          c.add_record.ensures.still (on (other self.side) seen) (only_there self.side seen (g.D.Disks.may_leave self.disk) was.durable) in
+          let only =
+          only_both self.side new (g.D.Disks.may_leave c.add_record.new.disk) c.in-Ok.ensures.durable
+          (λ f left. there f left ∙ sym c.add_record.ensures.elsewhere) in
+          let settled =
+          appended_settled before seen (g.D.Disks.may_leave self.disk) self.side self.gate self.other_gate self.epoch was body c.requires.frame.2 new
+          (g.D.Disks.may_leave c.add_record.new.disk) (self.gate + length c.args.frame.now) laid c.add_record.ensures.elsewhere only in
+          let now : in_use (standing_in new) ≡ on self.side before.bodies ++ body ∷ [] =
+          ap in_use (standing_is _ new settled.stands) ∙ put_same self.side (on self.side before.bodies ++ body ∷ []) before.bodies in
+          let then : in_use (standing_in seen) ≡ on self.side before.bodies = ap (λ s. on s before.bodies) was.active in
+          omega (
+            arith,
+            self.counted told c.requires.runs,
+            ap tail_of now,
+            ap tail_of then,
+            tail_push
+                (on self.side before.bodies) body c.requires.frame.2,
+            ap length c.requires.frame.1.bytes,
+            length-framed body,
+          );
     }
 
-pub returns-clause-ok : goal.returns-clause-ok
-returns-clause-ok g c told body framing =
-    let old = standing (g.D.Disk.seen c.args.self.now.disk) in
-    standing_is (old ++ body ∷ []) (g.D.Disk.seen c.add_record.new.disk) (c.args.self.now.gate + length c.args.frame.now)
-    (c.in-Ok.ensures.added told old body framing (c.args.self.now.settled told c.requires.runs).laid)
+pub returns-in_default-clause-appends : goal.returns-in_default-clause-appends
+returns-in_default-clause-appends g c body framing plain =
+    let self = c.args.self.now in
+    record {
+      answers = failed g.D.Disks self _ c.requires.runs refl c.add_record.ensures.cause.later c.in_default.ensures.cause.rose;
+      ok = λ told. tt;
+      any_moment = λ told running.
+          let seen = g.D.Disks.seen self.disk in
+          let was = self.settled told running in
+          leaves_also g.D.Disks.moment g.D.Disks.left_since self.disk c.add_record.new.disk _ (IsAppended (standing_in seen) body)
+          (c.add_record.ensures.any_moment told (on self.side (standing_in seen).bodies) body framing was.here was.durable)
+          (append_leaves (standing_in seen) seen (g.D.Disks.may_leave self.disk) self.side self.gate self.other_gate self.epoch was body plain);
+      ran = λ called.
+          subst (λ (l : List ℕ). Ran g.D.Disks.steps (append_calls self.side self.gate l) self.disk c.add_record.new.disk false) framing.bytes
+          c.in_default.ensures.ran;
+    }
+
+pub returns-clause-appends : goal.returns-clause-appends
+returns-clause-appends g c body framing plain =
+    let self = c.args.self.now in
+    let seen = g.D.Disks.seen self.disk in
+    let new = g.D.Disks.seen c.add_record.new.disk in
+    let now = g.D.Disks.may_leave c.add_record.new.disk in
+    let before = standing_in seen in
+    record {
+      answers = done g.D.Disks self _ _ c.requires.runs c.requires.runs c.add_record.ensures.cause.later;
+      ok = λ told.
+          let was = self.settled told c.requires.runs in
+          let laid = c.in-Ok.ensures.added told (on self.side before.bodies) body framing was.here in
+          let there =
+          c.add_record.ensures.still (on (other self.side) seen) (only_there self.side seen (g.D.Disks.may_leave self.disk) was.durable) in
+          let only = only_both self.side new now c.in-Ok.ensures.durable (λ f left. there f left ∙ sym c.add_record.ensures.elsewhere) in
+          let settled =
+          appended_settled before seen (g.D.Disks.may_leave self.disk) self.side self.gate self.other_gate self.epoch was body plain new now
+          (self.gate + length c.args.frame.now) laid c.add_record.ensures.elsewhere only in
+          standing_is _ new settled.stands
+          ∙ sym (as_said before seen (g.D.Disks.may_leave self.disk) self.side self.gate self.other_gate self.epoch was body plain);
+      any_moment = λ told running.
+          let was = self.settled told running in
+          leaves_also g.D.Disks.moment g.D.Disks.left_since self.disk c.add_record.new.disk _ (IsAppended before body)
+          (c.add_record.ensures.any_moment told (on self.side before.bodies) body framing was.here was.durable)
+          (append_leaves before seen (g.D.Disks.may_leave self.disk) self.side self.gate self.other_gate self.epoch was body plain);
+      ran = λ called.
+          subst (λ (l : List ℕ). Ran g.D.Disks.steps (append_calls self.side self.gate l) self.disk c.add_record.new.disk true) framing.bytes
+          c.in-Ok.ensures.ran;
+    }
