@@ -1,4 +1,11 @@
+pub mod Beginning
 pub mod Folds
+pub mod Found
+pub mod Frames
+pub mod Laying
+mod Reading
 mod Refused
+mod Same
 pub mod Sizes
 pub mod Spelled
+pub mod Writing

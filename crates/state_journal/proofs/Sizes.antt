@@ -11,7 +11,7 @@ use Rattle.cluster_state.specs.Fields.{id, ids, text_bytes, setting, settings, m
 use Rattle.cluster_state.specs.Settings.{Setting}
 use Rattle.cluster_state.specs.States.{value, state}
 
-length-eight : (n : ℕ) → length (eight_bytes n) ≡ 8
+pub length-eight : (n : ℕ) → length (eight_bytes n) ≡ 8
 unfolding eight_bytes
 length-eight n = refl
 
@@ -23,7 +23,7 @@ each_id : (xs : List Id) → AllByRecursion id.Fits xs → length (flat_map id.s
 each_id [] fits = omega arith
 each_id (x ∷ xs) fits = omega (arith, each_id xs fits.1, fits.0.1, ap length (flat_map-cons id.spelling x xs), length-append (id.spelling x) (flat_map id.spelling xs))
 
-ids_short : (limit : ℕ) (xs : List Id) → (ids limit).Fits xs → length ((ids limit).spelling xs) ≤ 1 + 33 * limit
+pub ids_short : (limit : ℕ) (xs : List Id) → (ids limit).Fits xs → length ((ids limit).spelling xs) ≤ 1 + 33 * limit
 ids_short limit xs fits = omega (arith, fits.0, each_id xs fits.2)
 
 optional_short : (o : Option Id) → (optional id).Fits o → length ((optional id).spelling o) ≤ 34

@@ -1,12 +1,14 @@
 -- That a state is within the limits holds in one way only.
-use Rattle.std.specs.Prelude.{List, [], ◌∷◌}
+use Rattle.std.specs.Prelude.{List, [], ◌∷◌, Option, Some, None, IfSome}
 use Rattle.std.specs.List.{AllByRecursion}
 use Rattle.std.specs.Coded.{×_prop, Unit-prop}
 use Rattle.std.proofs.Props.{props}
 use Rattle.cluster_state.specs.declared.state.ClusterState.{ClusterState}
-use Rattle.cluster_state.specs.Fields.{IsFitSetting}
+use Rattle.cluster_state.specs.Fields.{id, setting, IsFitSetting}
 use Rattle.cluster_state.specs.Settings.{Setting}
 use Rattle.cluster_state.specs.States.{IsFit}
+use Rattle.voting_config.specs.Ids.{Id}
+use Rattle.state_journal.specs.Drafts.{Drafted, HasSpelling, IsDraft}
 
 setting_prop : (x : Setting) → IsProp (IsFitSetting x)
 setting_prop x = hlevel props
@@ -17,3 +19,30 @@ each_prop (x ∷ xs) = ×_prop (setting_prop x) (each_prop xs)
 
 pub IsFit-prop : (s : ClusterState) → IsProp (IsFit s)
 IsFit-prop s = hlevel (each_prop s.value.settings, props)
+
+id_prop : (x : Id) → IsProp (id.Fits x)
+id_prop x = hlevel props
+
+ids_prop : (xs : List Id) → IsProp (AllByRecursion id.Fits xs)
+ids_prop [] = Unit-prop
+ids_prop (x ∷ xs) = ×_prop (id_prop x) (ids_prop xs)
+
+optional_prop : (o : Option Id) → IsProp (IfSome o id.Fits)
+optional_prop None = Unit-prop
+optional_prop (Some x) = id_prop x
+
+spelled_prop : (x : Setting) → IsProp (setting.Fits x)
+spelled_prop x = hlevel props
+
+entries_prop : (xs : List Setting) → IsProp (AllByRecursion setting.Fits xs)
+entries_prop [] = Unit-prop
+entries_prop (x ∷ xs) = ×_prop (spelled_prop x) (entries_prop xs)
+
+HasSpelling-prop : (s : ClusterState) → IsProp (HasSpelling s)
+unfolding HasSpelling
+HasSpelling-prop s =
+    let v = s.value in
+    hlevel (ids_prop s.config, ids_prop s.committed, optional_prop v.master, ids_prop v.members, ids_prop v.exclusions, entries_prop v.settings, props)
+
+pub IsDraft-prop : (s : ClusterState) (draft : Drafted) → IsProp (IsDraft s draft)
+IsDraft-prop s draft = hlevel (HasSpelling-prop s, props)

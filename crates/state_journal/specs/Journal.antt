@@ -5,71 +5,93 @@ use Rattle.std.proofs.Common.{◌∙◌, ap, sym}
 use Rattle.zen_disk.specs.Moments.{Only}
 use Rattle.cluster_state.specs.Initial.{empty_record}
 use Rattle.cluster_state.specs.declared.state.Kept.{Kept}
-use Rattle.gate_log.specs.Journal.{bodies_of, standing}
+use Rattle.zen_disk.specs.Sides.{Files}
+use Rattle.zen_disk.specs.declared.side.Side.{Side}
+use Rattle.gate_log.specs.Folded.{found_by}
+use Rattle.gate_log.specs.Generations.{Generations, generations_of, standing_in, in_use}
+use Rattle.gate_log.specs.declared.why.Fault.{Fault as LogFault}
+use Rattle.gate_log.specs.declared.why.Fault.TheVariants as log_fault
 use Rattle.gate_log.specs.declared.why.Why.{Why as LogWhy}
 use Rattle.gate_log.specs.declared.why.Why.TheVariants as log
 use Rattle.state_journal.specs.Bodies.{change_at}
 use Rattle.state_journal.specs.Changes.{changed}
 use Rattle.state_journal.specs.declared.change.Change.{Change}
-use Rattle.state_journal.specs.declared.change.Change.TheVariants.{Term, Accepted, Committed}
+use Rattle.state_journal.specs.declared.change.Change.TheVariants.{Term, Accepted, Committed, Renewed}
 use Rattle.state_journal.specs.declared.why.BodyFault.{BodyFault}
+use Rattle.state_journal.specs.declared.why.Fault.{Fault}
+use Rattle.state_journal.specs.declared.why.Fault.TheVariants.{Header, Cut, Long, Body, Order}
 use Rattle.state_journal.specs.declared.why.Why.{Why}
-use Rattle.state_journal.specs.declared.why.Why.TheVariants.{Header, Cut, Long, Body, Order}
+use Rattle.state_journal.specs.declared.why.Why.TheVariants.{At, Twin}
 
--- a term is greater than the term so far, and a state's is not
+-- a term is greater than the term so far, and a state's is not, also where both are set at once
 abbrev pub in_order : Kept → Change → Bool
 in_order kept (Term term) = nat_lt kept.term term
 in_order kept (Accepted state) = nat_le state.term kept.term
 in_order kept Committed = true
+in_order kept (Renewed generation) = nat_le generation.kept.accepted.term generation.kept.term
 
 -- the record with what a body holds, whose gate stands at p
-unfoldable pub with_body : ℕ → Kept → Result Change BodyFault → Result Kept Why
+unfoldable pub with_body : ℕ → Kept → Result Change BodyFault → Result Kept Fault
 with_body p kept (Ok change) = if in_order kept change then Ok (changed kept change) else Err (Order p)
 with_body p kept (Err fault) = Err (Body p fault)
 
-abbrev pub goes_on_with : (Kept → Result Kept Why) → Result Kept Why → Result Kept Why
+abbrev pub goes_on_with : (Kept → Result Kept Fault) → Result Kept Fault → Result Kept Fault
 goes_on_with more (Ok kept) = more kept
 goes_on_with more (Err why) = Err why
 
 -- the record with these bodies, of which the first one's gate stands at p, or the first fault
-unfoldable pub folded_from : ℕ → Kept → List (List ℕ) → Result Kept Why
+unfoldable pub folded_from : ℕ → Kept → List (List ℕ) → Result Kept Fault
 folded_from p kept [] = Ok kept
 folded_from p kept (body ∷ bodies) = goes_on_with (λ (k : Kept). folded_from (p + 5 + length body) k bodies) (with_body p kept (change_at body))
 
-abbrev pub why_by : LogWhy → Why
-why_by log.Header = Header
-why_by (log.Cut p) = Cut p
-why_by (log.Long p) = Long p
+-- the record of the bodies of one side, or its first fault
+abbrev pub record_of_bodies : List (List ℕ) → Result Kept Fault
+record_of_bodies bodies = folded_from 8 empty_record bodies
 
-abbrev pub found_in : Result (List (List ℕ)) LogWhy → Result Kept Why
-found_in (Ok bodies) = folded_from 8 empty_record bodies
+abbrev pub fault_by : LogFault → Fault
+fault_by log_fault.Header = Header
+fault_by (log_fault.Cut p) = Cut p
+fault_by (log_fault.Long p) = Long p
+fault_by (log_fault.Order p) = Order p
+
+abbrev pub why_by : LogWhy → Why
+why_by (log.At side fault) = At side (fault_by fault)
+why_by log.Twin = Twin
+
+abbrev pub on_its_side : Result Kept (Side × Fault) → Result Kept Why
+on_its_side (Ok kept) = Ok kept
+on_its_side (Err fault) = Err (At fault.0 fault.1)
+
+-- the record of the side in use, where the bodies of both sides are read
+abbrev pub found_in : Result Generations LogWhy → Result Kept Why
+found_in (Ok generations) = on_its_side (found_by record_of_bodies generations)
 found_in (Err why) = Err (why_by why)
 
--- the record that an opening of this file finds, or the file's first fault
-abbrev pub found_of : List ℕ → Result Kept Why
-found_of file = found_in (bodies_of file)
+-- the record that an opening of these files finds, or their first fault
+abbrev pub found_of : Files → Result Kept Why
+found_of files = found_in (generations_of files)
 
--- the record that a file stands for
-abbrev pub record_of_file : List ℕ → Option Kept
-record_of_file file = result_ok (found_of file)
+-- the record that two files stand for
+abbrev pub record_of_files : Files → Option Kept
+record_of_files files = result_ok (found_of files)
 
--- how many bodies a file has
-abbrev pub records_of : List ℕ → ℕ
-records_of file = length (standing file)
+-- how many bodies the side in use has
+abbrev pub records_of : Files → ℕ
+records_of files = length (in_use (standing_in files))
 
 -- what a crash since t left is opened with this
-abbrev pub StoodFor : (ℕ → List ℕ → Type 0) → ℕ → Option Kept → Type 0
-StoodFor left_since t found = (file : List ℕ) × left_since t file × (found ≡ record_of_file file)
+abbrev pub StoodFor : (ℕ → Files → Type 0) → ℕ → Option Kept → Type 0
+StoodFor left_since t found = (files : Files) × left_since t files × (found ≡ record_of_files files)
 
 -- an opening finds what it might have found before
-abbrev pub FoundAsSome : (List ℕ → Type 0) → List ℕ → Type 0
-FoundAsSome outcomes file = (d : List ℕ) × outcomes d × (found_of file ≡ found_of d)
+abbrev pub FoundAsSome : (Files → Type 0) → Files → Type 0
+FoundAsSome outcomes files = (d : Files) × outcomes d × (found_of files ≡ found_of d)
 
 -- at rest a crash leaves the record
-pub only_record : (seen : List ℕ) (left_now may_leave : List ℕ → Type 0) (kept : Kept) (found : Option Kept) → ((c : List ℕ) → left_now c → may_leave c) → Only seen may_leave → found_of seen ≡ Ok kept
-    → (c : List ℕ) × left_now c × (found ≡ record_of_file c) → found ≡ Some kept
-only_record seen left_now may_leave kept found now only is left = left.2 ∙ ap record_of_file (only left.0 (now left.0 left.1)) ∙ ap result_ok is
+pub only_record : (seen : Files) (left_now may_leave : Files → Type 0) (kept : Kept) (found : Option Kept) → ((c : Files) → left_now c → may_leave c) → Only seen may_leave → found_of seen ≡ Ok kept
+    → (c : Files) × left_now c × (found ≡ record_of_files c) → found ≡ Some kept
+only_record seen left_now may_leave kept found now only is left = left.2 ∙ ap record_of_files (only left.0 (now left.0 left.1)) ∙ ap result_ok is
 
 -- a crash since t might have left the record, where it might have left the file as it reads
-pub record_stays : (seen : List ℕ) (left_since : ℕ → List ℕ → Type 0) (t : ℕ) (kept : Kept) → left_since t seen → found_of seen ≡ Ok kept → StoodFor left_since t (Some kept)
+pub record_stays : (seen : Files) (left_since : ℕ → Files → Type 0) (t : ℕ) (kept : Kept) → left_since t seen → found_of seen ≡ Ok kept → StoodFor left_since t (Some kept)
 record_stays seen left_since t kept left is = (seen, left, sym (ap result_ok is))

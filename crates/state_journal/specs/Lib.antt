@@ -1,7 +1,9 @@
 pub mod Bodies
 pub mod Changes
+pub mod Drafts
 pub mod Fit
 pub mod Journal
+pub mod Keeping
 pub mod Opening
 pub mod Reads
 pub mod Writes

@@ -1,9 +1,15 @@
 -- What a refused opening says.
-use Rattle.std.specs.Prelude.{◌≡◌, ◌⊎◌, List, [], ◌∷◌, ℕ, Bool, true, false, Err}
-use Rattle.zen_disk.specs.DeviceCall.{DeviceCall, Len, Sync}
+use Rattle.std.specs.Prelude.{◌≡◌, List, ℕ, Bool, true, false, Result, Ok, Err}
+use Rattle.zen_disk.specs.DeviceCall.{DeviceCall}
 use Rattle.zen_disk.specs.Faults.{Rose}
 use Rattle.zen_disk.specs.Runs.{Ran}
-use Rattle.gate_log.specs.Calls.{opening_calls}
+use Rattle.zen_disk.specs.Sides.{Files}
+use Rattle.zen_disk.specs.declared.side.Side.TheVariants.{Zero, One}
+use Rattle.gate_log.specs.Calls.{opening_calls, both_opening_calls}
+use Rattle.gate_log.specs.Generations.{Generations, generations_of}
+use Rattle.gate_log.specs.Opening.{RanPartly}
+use Rattle.gate_log.specs.declared.why.Why.{Why as LogWhy}
+use Rattle.gate_log.specs.declared.why.Why.TheVariants.{At, Twin}
 use Rattle.gate_log.specs.declared.error.LogError.{LogError}
 use Rattle.gate_log.specs.declared.error.LogError.TheVariants as log
 use Rattle.state_journal.specs.Journal.{found_of, why_by}
@@ -16,11 +22,11 @@ handed_back (NotAJournal why d) = d
 handed_back (Disk d) = d
 handed_back (Memory d) = d
 
--- it is the first fault of the file
-abbrev pub IsWhyOf : {D : Type 0} → List ℕ → OpenError D → Type 0
-IsWhyOf file (NotAJournal why d) = found_of file ≡ Err why
-IsWhyOf file (Disk d) = Unit {0}
-IsWhyOf file (Memory d) = Unit {0}
+-- it is the first fault of the files
+abbrev pub IsWhyOf : {D : Type 0} → Files → OpenError D → Type 0
+IsWhyOf files (NotAJournal why d) = found_of files ≡ Err why
+IsWhyOf files (Disk d) = Unit {0}
+IsWhyOf files (Memory d) = Unit {0}
 
 -- the disk failed since
 abbrev pub RoseIfDisk : {D : Type 0} → (D → ℕ) → ℕ → OpenError D → Type 0
@@ -28,11 +34,18 @@ RoseIfDisk faults before (NotAJournal why d) = Unit {0}
 RoseIfDisk faults before (Disk d) = Rose before (faults d)
 RoseIfDisk faults before (Memory d) = Unit {0}
 
--- The calls of an opening were made up to the one that failed. Memory may be wanting before the read or after it.
-abbrev pub RanUntil : {D : Type 0} → (D → DeviceCall → D → Bool → Type 0) → List ℕ → D → OpenError D → Type 0
-RanUntil steps file disk (NotAJournal why d) = Ran steps (opening_calls file) disk d true
-RanUntil steps file disk (Disk d) = Ran steps (opening_calls file) disk d false
-RanUntil steps file disk (Memory d) = Ran steps (Sync ∷ Len ∷ []) disk d true ⊎ Ran steps (opening_calls file) disk d true
+-- where side zero is not laid out as a journal is, side one is not called
+abbrev pub calls_until : Result Generations LogWhy → Files → List DeviceCall
+calls_until (Err (At Zero fault)) files = opening_calls Zero files.zero
+calls_until (Err (At One fault)) files = both_opening_calls files
+calls_until (Err Twin) files = both_opening_calls files
+calls_until (Ok generations) files = both_opening_calls files
+
+-- The calls of an opening were made up to the one that failed. Memory may be wanting before each read or after it.
+abbrev pub RanUntil : {D : Type 0} → (D → DeviceCall → D → Bool → Type 0) → Files → D → OpenError D → Type 0
+RanUntil steps files disk (NotAJournal why d) = Ran steps (calls_until (generations_of files) files) disk d true
+RanUntil steps files disk (Disk d) = Ran steps (both_opening_calls files) disk d false
+RanUntil steps files disk (Memory d) = RanPartly steps (both_opening_calls files) disk d
 
 -- the same refusal
 abbrev pub error_by : {D : Type 0} → LogError D → OpenError D

@@ -3,19 +3,26 @@ use Rattle.std.specs.Prelude.{◌≡◌, ℕ, ◌≤◌, ◌^◌, Result, Ok, Er
 use Rattle.cluster_state.specs.States.{IsFit}
 use Rattle.cluster_state.specs.declared.fault.StateFault.{StateFault}
 use Rattle.cluster_state.specs.declared.fault.StateFault.TheVariants as fault
+use Rattle.cluster_state.specs.declared.fault.ReadError.{ReadError}
+use Rattle.cluster_state.specs.declared.fault.ReadError.TheVariants as reading
 use Rattle.cluster_state.specs.declared.fault.DecodeError.{DecodeError}
 use Rattle.cluster_state.specs.declared.fault.DecodeError.TheVariants as decoding
 use Rattle.cluster_state.specs.declared.state.Kept.{Kept}
 use Rattle.state_journal.specs.declared.change.Change.{Change}
-use Rattle.state_journal.specs.declared.change.Change.TheVariants.{Term, Accepted, Committed}
+use Rattle.state_journal.specs.declared.change.Change.TheVariants.{Term, Accepted, Committed, Renewed}
 use Rattle.state_journal.specs.declared.why.BodyFault.{BodyFault}
 use Rattle.state_journal.specs.declared.why.BodyFault.TheVariants.{Field, Trailing}
+use Rattle.state_journal.specs.declared.why.Fault.{Fault}
+use Rattle.state_journal.specs.declared.why.Fault.TheVariants.{Body}
 use Rattle.state_journal.specs.declared.why.Why.{Why}
-use Rattle.state_journal.specs.declared.why.Why.TheVariants.{Body}
+use Rattle.state_journal.specs.declared.why.Why.TheVariants.{At}
+use Rattle.zen_disk.specs.declared.side.Side.{Side}
 use Rattle.state_journal.specs.declared.body.BodyError.{BodyError}
 use Rattle.state_journal.specs.declared.body.BodyError.TheVariants as body
 use Rattle.state_journal.specs.declared.fold.FoldError.{FoldError}
 use Rattle.state_journal.specs.declared.fold.FoldError.TheVariants as fold
+use Rattle.state_journal.specs.declared.fold.FoundError.{FoundError}
+use Rattle.state_journal.specs.declared.fold.FoundError.TheVariants as found
 
 abbrev pub fault_by : StateFault → BodyFault
 fault_by (fault.Field e) = Field e
@@ -24,6 +31,10 @@ fault_by fault.Trailing = Trailing
 abbrev pub error_by : DecodeError → BodyError
 error_by decoding.Memory = body.Memory
 error_by (decoding.Fault f) = body.Fault (fault_by f)
+
+abbrev pub error_from : ReadError → BodyError
+error_from reading.Memory = body.Memory
+error_from (reading.Field f) = body.Fault (Field f)
 
 abbrev pub IsBodyError : BodyError → Result Change BodyFault → Type 0
 IsBodyError body.Memory read = Unit {0}
@@ -38,19 +49,33 @@ abbrev pub error_at : ℕ → BodyError → FoldError
 error_at p body.Memory = fold.Memory
 error_at p (body.Fault f) = fold.Fault (Body p f)
 
-abbrev pub IsFoldError : FoldError → Result Kept Why → Type 0
+abbrev pub IsFoldError : FoldError → Result Kept Fault → Type 0
 IsFoldError fold.Memory read = Unit {0}
 IsFoldError (fold.Fault why) read = read ≡ Err why
 
-abbrev pub ReadsRecord : Result Kept FoldError → Result Kept Why → Type 0
+abbrev pub ReadsRecord : Result Kept FoldError → Result Kept Fault → Type 0
 ReadsRecord (Ok kept) read = read ≡ Ok kept
 ReadsRecord (Err e) read = IsFoldError e read
+
+-- the error of one side
+abbrev pub error_on : Side → FoldError → FoundError
+error_on side fold.Memory = found.Memory
+error_on side (fold.Fault fault) = found.Fault (At side fault)
+
+abbrev pub IsFoundError : FoundError → Result Kept Why → Type 0
+IsFoundError found.Memory read = Unit {0}
+IsFoundError (found.Fault why) read = read ≡ Err why
+
+abbrev pub FindsRecord : Result Kept FoundError → Result Kept Why → Type 0
+FindsRecord (Ok kept) read = read ≡ Ok kept
+FindsRecord (Err e) read = IsFoundError e read
 
 -- a change within the limits
 abbrev pub IsFitChange : Change → Type 0
 IsFitChange (Term term) = term ≤ 2 ^ 62
 IsFitChange (Accepted state) = IsFit state
 IsFitChange Committed = Unit {0}
+IsFitChange (Renewed generation) = (generation.kept.term ≤ 2 ^ 62) × IsFit generation.kept.accepted
 
 -- a record within the limits
 pub record IsFitRecord (kept : Kept) : Type 0 where

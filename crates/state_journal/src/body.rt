@@ -1,18 +1,16 @@
 // Changes as bodies of a journal.
-ghost use Rattle.std.specs.Prelude.{◌≡◌, ◌≤◌, ◌==◌, ◌∷◌, length, Ok, Err, IfOk, if◌then◌else◌};
+ghost use Rattle.std.specs.Prelude.{◌≡◌, ◌==◌, length, Ok, Err, IfOk, if◌then◌else◌};
 ghost use Rattle.cluster_state.specs.Fields.{term as term_field};
-ghost use Rattle.cluster_state.specs.States.{whole, state as state_field, IsFit};
-ghost use Rattle.gate_log.specs.Journal.{framed};
-ghost use Rattle.state_journal.specs.Bodies.{body_of, change_at, change_by, change_tagged, IsReady};
-ghost use Rattle.state_journal.specs.Reads.{error_by, ReadsChange, IsFitChange};
+ghost use Rattle.cluster_state.specs.States.{whole, state as state_field};
+ghost use Rattle.state_journal.specs.Bodies.{body_of, change_at, change_by, change_tagged, generation as generation_field};
+ghost use Rattle.state_journal.specs.Reads.{error_by, error_from, ReadsChange, IsFitChange};
 ghost use Rattle.state_journal.specs.declared.change.Change.TheVariants as change;
 ghost use Rattle.state_journal.specs.declared.why.BodyFault.TheVariants as fault;
 ghost use Rattle.state_journal.specs.declared.body.BodyError.TheVariants as body_error;
 
-use crate::{BodyFault, Change};
-use cluster_state::encoding::write_state;
-use cluster_state::{ClusterState, DecodeError, FieldError, Reader, StateFault, decode_state};
-use std::alloc::{AllocError, Global};
+use crate::{BodyFault, Change, Generation};
+use cluster_state::{DecodeError, FieldError, Kept, ReadError, Reader, StateFault, decode_state};
+use std::alloc::Global;
 
 // Why a change was not read.
 #[derive(Clone, Copy, Debug)]
@@ -26,6 +24,17 @@ impl From<FieldError> for BodyError {
 
     fn from(fault: FieldError) -> BodyError {
         BodyError::Fault(BodyFault::Field(fault))
+    }
+}
+
+impl From<ReadError> for BodyError {
+    ghost from_gives = { λ f e. e ≡ error_from f };
+
+    fn from(error: ReadError) -> BodyError {
+        match error {
+            ReadError::Memory => BodyError::Memory,
+            ReadError::Field(fault) => BodyError::Fault(BodyFault::Field(fault)),
+        }
     }
 }
 
@@ -103,6 +112,36 @@ fn read_committed(bytes: &[u8]) -> Result<Change, BodyError>
     Ok(Change::Committed)
 }
 
+// A generation and nothing else, as its fields are spelled.
+fn whole_generation(alloc: Global, bytes: &[u8]) -> Result<Change, BodyError>
+    ensures { ReadsChange result (change_by change.Renewed (whole (generation_field.at bytes.now))) }
+{
+    let mut reader = Reader::new(bytes);
+    let epoch = reader.version()?;
+    let term = reader.term()?;
+    let accepted = reader.state(alloc)?;
+    let committed = reader.config()?;
+    if !reader.is_at_end() {
+        return Err(BodyError::Fault(BodyFault::Trailing));
+    }
+    Ok(Change::Renewed(Generation {
+        epoch,
+        kept: Kept {
+            term,
+            accepted,
+            committed,
+        },
+    }))
+}
+
+// A generation and nothing else.
+fn read_generation(alloc: Global, bytes: &[u8]) -> Result<Change, BodyError>
+    ensures reads { ReadsChange result (change_by change.Renewed (whole (generation_field.at bytes.now))) }
+    ensures fit { IfOk result IsFitChange }
+{
+    whole_generation(alloc, bytes)
+}
+
 // The change that a body with this first byte spells.
 #[tactic(auto, unfolding(crate::specs::Bodies::change_tagged))]
 fn read_tagged(alloc: Global, tag: u8, rest: &[u8]) -> Result<Change, BodyError>
@@ -118,6 +157,9 @@ fn read_tagged(alloc: Global, tag: u8, rest: &[u8]) -> Result<Change, BodyError>
     if tag == 3 {
         return read_committed(rest);
     }
+    if tag == 4 {
+        return read_generation(alloc, rest);
+    }
     Err(BodyError::Fault(BodyFault::Tag))
 }
 
@@ -130,39 +172,4 @@ pub(crate) fn read_body(alloc: Global, body: &[u8]) -> Result<Change, BodyError>
         [] => Err(BodyError::Fault(BodyFault::Tag)),
         [tag, rest @ ..] => read_tagged(alloc, *tag, rest),
     }
-}
-
-// The body that keeps a state.
-fn state_body(alloc: Global, state: &ClusterState) -> Result<Vec<u8>, AllocError>
-    requires { IsFit state.now }
-    ensures body { IfOk result (λ body. body.items ≡ 2 ∷ state_field.spelling state.now) }
-    ensures fits { IfOk result (λ _. state_field.Fits state.now) }
-{
-    let mut body = Vec::new(alloc);
-    body.push(2)?;
-    write_state(&mut body, state)?;
-    Ok(body)
-}
-
-// A body with its length in front and a closed gate behind.
-#[tactic(auto, unfolding(gate_log::specs::Journal::framed, gate_log::specs::Journal::sized))]
-fn frame_body(alloc: Global, body: &[u8]) -> Result<Vec<u8>, AllocError>
-    requires { length body.now ≤ 8388608 }
-    ensures { IfOk result (λ frame. frame.items ≡ framed body.now) }
-{
-    let mut frame = Vec::with_capacity(alloc, body.len() + 5)?;
-    let size = (body.len() as u32).to_be_bytes();
-    frame.extend_from_slice(&size)?;
-    frame.extend_from_slice(body)?;
-    frame.push(0)?;
-    Ok(frame)
-}
-
-// The body that keeps a state, with its length in front and a closed gate behind.
-pub(crate) fn state_frame(alloc: Global, state: &ClusterState) -> Result<Vec<u8>, AllocError>
-    requires { IsFit state.now }
-    ensures { IfOk result (λ frame. IsReady state.now frame.items) }
-{
-    let body = state_body(alloc, state)?;
-    frame_body(alloc, &body)
 }

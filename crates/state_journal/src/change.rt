@@ -1,4 +1,11 @@
-use cluster_state::ClusterState;
+use cluster_state::{ClusterState, Kept};
+
+/// What a generation of the journal begins with: its epoch, and the record so far.
+#[derive(Drop)]
+pub struct Generation {
+    pub epoch: u64,
+    pub kept: Kept,
+}
 
 /// A change of what a node keeps. Each is a body of a node's journal.
 #[derive(Drop)]
@@ -9,4 +16,6 @@ pub enum Change {
     Accepted(ClusterState),
     /// The accepted configuration is committed.
     Committed,
+    /// The whole record: the first body of a generation.
+    Renewed(Generation),
 }

@@ -6,13 +6,13 @@ use thiserror::Error;
 #[derive(Debug, Drop, Error)]
 #[error_bound(D: Debug)]
 pub enum OpenError<D> {
-    /// The file is no journal.
+    /// The two files are no journal.
     #[error("not a journal: {0}")]
     NotAJournal(Why, D),
     /// The disk failed, and its count of faults rose.
     #[error("the disk failed")]
     Disk(D),
-    /// There is no memory for the file, its bodies or a state.
+    /// There is no memory for the files, their bodies, a state or what a renewal needs.
     #[error("no memory")]
     Memory(D),
 }

@@ -1,31 +1,49 @@
 // The record that the bodies of a journal make.
-ghost use Rattle.std.specs.Prelude.{◌≡◌, ◌<◌, ◌^◌, Ok, IfOk, length};
+ghost use Rattle.std.specs.Prelude.{◌≡◌, Ok, IfOk};
 ghost use Rattle.cluster_state.specs.Initial.{empty_record};
-ghost use Rattle.gate_log.specs.Journal.{laid};
-ghost use Rattle.gate_log.specs.Opened.{lists};
+ghost use Rattle.gate_log.specs.Folded.{found_by};
+ghost use Rattle.gate_log.specs.Opened.{lists, generations_in};
 ghost use Rattle.state_journal.specs.Bodies.{change_at};
-ghost use Rattle.state_journal.specs.Journal.{with_body, folded_from};
-ghost use Rattle.state_journal.specs.Reads.{error_at, IsFitChange, IsFitRecord, ReadsRecord};
+ghost use Rattle.state_journal.specs.Journal.{with_body, folded_from, record_of_bodies, on_its_side};
+ghost use Rattle.state_journal.specs.Reads.{error_at, error_on, IsFitChange, IsFitRecord, ReadsRecord, FindsRecord};
 ghost use Rattle.state_journal.specs.declared.fold.FoldError.TheVariants as fold_error;
 
 use crate::body::{BodyError, read_body};
-use crate::{Change, Why};
+use crate::{Change, Fault, Why};
 use cluster_state::Kept;
 use std::alloc::Global;
 use voting_config::VotingConfig;
+use zen_disk::Side;
 
-// Why the bodies make no record.
+// Why the bodies of one side make no record.
 #[derive(Clone, Copy, Debug)]
-pub(crate) enum FoldError {
+enum FoldError {
+    Memory,
+    Fault(Fault),
+}
+
+impl From<Fault> for FoldError {
+    ghost from_gives = { λ f e. e ≡ fold_error.Fault f };
+
+    fn from(fault: Fault) -> FoldError {
+        FoldError::Fault(fault)
+    }
+}
+
+// Why the bodies of both sides make no record.
+#[derive(Clone, Copy, Debug)]
+pub(crate) enum FoundError {
     Memory,
     Fault(Why),
 }
 
-impl From<Why> for FoldError {
-    ghost from_gives = { λ w e. e ≡ fold_error.Fault w };
-
-    fn from(why: Why) -> FoldError {
-        FoldError::Fault(why)
+// The error of one side.
+fn found_error(side: Side, error: FoldError) -> FoundError
+    ensures { result ≡ error_on side error }
+{
+    match error {
+        FoldError::Memory => FoundError::Memory,
+        FoldError::Fault(fault) => FoundError::Fault(Why::At(side, fault)),
     }
 }
 
@@ -35,13 +53,13 @@ fn error_of(error: BodyError, at: u64) -> FoldError
 {
     match error {
         BodyError::Memory => FoldError::Memory,
-        BodyError::Fault(fault) => FoldError::Fault(Why::Body(at, fault)),
+        BodyError::Fault(fault) => FoldError::Fault(Fault::Body(at, fault)),
     }
 }
 
 // The record with a change whose gate stands at this offset.
 #[tactic(auto, unfolding(crate::specs::Journal::with_body))]
-fn apply(kept: Kept, change: Change, at: u64) -> Result<Kept, Why>
+fn apply(kept: Kept, change: Change, at: u64) -> Result<Kept, Fault>
     requires kept { IsFitRecord kept }
     requires change { IsFitChange change }
     ensures next { result ≡ with_body at kept (Ok change) }
@@ -51,19 +69,25 @@ fn apply(kept: Kept, change: Change, at: u64) -> Result<Kept, Why>
     match change {
         Change::Term(term) => {
             if term <= kept.term {
-                return Err(Why::Order(at));
+                return Err(Fault::Order(at));
             }
             kept.term = term;
         }
         Change::Accepted(state) => {
             if state.term > kept.term {
-                return Err(Why::Order(at));
+                return Err(Fault::Order(at));
             }
             kept.committed = VotingConfig::of(state.committed.members());
             kept.accepted = state;
         }
         Change::Committed => {
             kept.committed = VotingConfig::of(kept.accepted.config.members());
+        }
+        Change::Renewed(generation) => {
+            if generation.kept.accepted.term > generation.kept.term {
+                return Err(Fault::Order(at));
+            }
+            kept = generation.kept;
         }
     }
     Ok(kept)
@@ -82,9 +106,9 @@ fn add_body(alloc: Global, kept: Kept, body: &[u8], at: u64) -> Result<Kept, Fol
     }
 }
 
-// The record that these bodies make, all of them.
-pub(crate) fn fold_bodies(alloc: Global, bodies: &[Vec<u8>]) -> Result<Kept, FoldError>
-    ensures reads { length (laid (lists bodies.now)) < 2 ^ 63 → ReadsRecord result (folded_from 8 empty_record (lists bodies.now)) }
+// The record that these bodies of one side make, all of them.
+fn fold_bodies(alloc: Global, bodies: &[Vec<u8>]) -> Result<Kept, FoldError>
+    ensures reads { ReadsRecord result (folded_from 8 empty_record (lists bodies.now)) }
     ensures fit { IfOk result IsFitRecord }
 {
     let mut kept = Kept::empty(alloc);
@@ -94,7 +118,35 @@ pub(crate) fn fold_bodies(alloc: Global, bodies: &[Vec<u8>]) -> Result<Kept, Fol
             Ok(next) => next,
             Err(error) => return Err(error),
         };
-        at = at.saturating_add(5 + body.len() as u64);
+        // No memory holds bodies that are too many for an offset.
+        let Some(next) = at.checked_add(5 + body.len() as u64) else {
+            return Err(FoldError::Memory);
+        };
+        at = next;
     }
     Ok(kept)
+}
+
+// The record of the side in use, by the bodies of both.
+pub(crate) fn fold_sides(
+    alloc: Global,
+    side: Side,
+    zero: &[Vec<u8>],
+    one: &[Vec<u8>],
+) -> Result<Kept, FoundError>
+    ensures reads { FindsRecord result (on_its_side (found_by record_of_bodies (generations_in side zero.now one.now))) }
+    ensures fit { IfOk result IsFitRecord }
+{
+    let zero = match fold_bodies(alloc, zero) {
+        Ok(kept) => kept,
+        Err(error) => return Err(found_error(Side::Zero, error)),
+    };
+    let one = match fold_bodies(alloc, one) {
+        Ok(kept) => kept,
+        Err(error) => return Err(found_error(Side::One, error)),
+    };
+    match side {
+        Side::Zero => Ok(zero),
+        Side::One => Ok(one),
+    }
 }

@@ -1,47 +1,67 @@
-ghost use Rattle.std.specs.Prelude.{◌≡◌, ◌+◌, ◌^◌, ◌≤◌, true, false, length, Ok, IfOk, IfErr};
+ghost use Rattle.std.specs.Prelude.{◌≡◌, ◌^◌, ◌≤◌, true, false, length, Ok, IfOk, IfErr};
 ghost use Rattle.cluster_state.specs.States.{IsFit};
-ghost use Rattle.gate_log.specs.Calls.{append_calls, opening_calls};
-ghost use Rattle.gate_log.specs.Journal.{framed};
+ghost use Rattle.gate_log.specs.Calls.{both_opening_calls};
+ghost use Rattle.gate_log.specs.Generations.{in_use};
+ghost use Rattle.gate_log.specs.Opened.{generations_in};
+ghost use Rattle.gate_log.specs.Place.{place};
 ghost use Rattle.zen_disk.specs.Moments.{LeavesOnly};
 ghost use Rattle.zen_disk.specs.Runs.{Ran};
-ghost use Rattle.state_journal.specs.Fit.{IsFit-prop};
-ghost use Rattle.state_journal.specs.Bodies.{body_of};
+ghost use Rattle.state_journal.specs.Drafts.{IsDraft};
+ghost use Rattle.state_journal.specs.Fit.{IsFit-prop, IsDraft-prop};
+ghost use Rattle.state_journal.specs.Keeping.{keeping_calls};
 ghost use Rattle.state_journal.specs.Journal.{found_of, records_of, only_record, record_stays, FoundAsSome, StoodFor};
 
-use crate::append::append_ready;
 use crate::body::{committed_body, term_body};
-use crate::fold::{FoldError, fold_bodies};
+use crate::draft::Draft;
+use crate::fold::{FoundError, fold_sides};
+use crate::keep::{keep_small, keep_state, records_after};
 use crate::refusal::refused;
 use crate::{ArmKeeper, KeepError, Keeper, OpenError, Ready};
 use cluster_state::Kept;
 use gate_log::{GateLog, Opened};
 use std::alloc::Global;
 use voting_config::VotingConfig;
-use zen_disk::{Armable, Disk, Order};
+use zen_disk::{Armable, Disks, Order, Side};
 
-/// A keeper over a journal on a disk, in which each change is a body.
+/// A keeper over a journal in two generations, in which each change is a body.
+///
+/// Where a change would make the bodies behind the record that a generation began with take more than 65,536 bytes, the record with
+/// the change begins the next generation, in the other file.
 #[derive(Drop)]
-pub struct StateJournal<D: Disk> {
+pub struct StateJournal<D: Disks> {
     log: GateLog<D>,
     kept: Kept,
-    // how many bodies the journal has
+    // how many bodies are in use
     records: u64,
+    // the accepted state, ready to begin a generation
+    draft: Draft,
     ghost stands: { D.told → log.stopped ≡ false → found_of (D.seen log.disk) ≡ Ok kept },
     ghost counted: { D.told → log.stopped ≡ false → records ≡ records_of (D.seen log.disk) },
     ghost bounded: { kept.term ≤ 2 ^ 62 },
     ghost fit: { IsFit kept.accepted } by { IsFit-prop kept.accepted },
     ghost older: { kept.accepted.term ≤ kept.term },
+    ghost drafted: { IsDraft kept.accepted draft } by { IsDraft-prop kept.accepted draft },
 }
 
-impl<D: Disk> StateJournal<D> {
+// How many bodies the side in use has.
+fn count_in_use(side: Side, zero: &[Vec<u8>], one: &[Vec<u8>]) -> u64
+    ensures { result ≡ length (in_use (generations_in side zero.now one.now)) }
+{
+    match side {
+        Side::Zero => zero.len() as u64,
+        Side::One => one.len() as u64,
+    }
+}
+
+impl<D: Disks> StateJournal<D> {
     ghost use Rattle.state_journal.specs.Opening.{handed_back, IsWhyOf, RanUntil, RoseIfDisk};
 
-    /// Opens a journal that a crash may have left. A file of at most nine bytes is an empty one.
+    /// Opens a journal that a crash may have left. A file of at most nine bytes has no bodies.
     ///
-    /// `NotAJournal` has the first fault of the file, `Disk` comes only where the count of faults rose, and `Memory` where
-    /// there is none for the file, its bodies or a state. Each hands the disk back.
+    /// `NotAJournal` has the first fault of the two files, `Disk` comes only where the count of faults rose, and `Memory` where
+    /// there is none for the files, their bodies, a state or what a renewal needs. Each hands the disk back.
     ///
-    /// It makes four device calls on a file of at most nine bytes, else three.
+    /// For each file it makes four device calls where that has at most nine bytes, else three.
     pub fn open(alloc: Global, disk: D) -> Result<StateJournal<D>, OpenError<D>>
         ensures found { D.told → IfOk result (λ j. found_of (D.seen disk) ≡ Ok j.kept) }
         ensures keeps { D.told → IfOk result (λ j. found_of (D.seen j.log.disk) ≡ Ok j.kept) }
@@ -57,27 +77,33 @@ impl<D: Disk> StateJournal<D> {
         ensures any_moment_err { D.told → IfErr result (λ e. LeavesOnly D.moment D.left_since disk (handed_back e) (FoundAsSome (D.may_leave disk))) }
 
         // These device calls and no others.
-        ensures ran { D.told → IfOk result (λ j. Ran D.steps (opening_calls (D.seen disk)) disk j.log.disk true) }
+        ensures ran { D.told → IfOk result (λ j. Ran D.steps (both_opening_calls (D.seen disk)) disk j.log.disk true) }
         ensures ran_err { D.told → IfErr result (RanUntil D.steps (D.seen disk) disk) }
     {
         let opened = match GateLog::open(alloc, disk) {
             Ok(opened) => opened,
             Err(error) => return Err(refused(error)),
         };
-        match fold_bodies(alloc, &opened.bodies) {
-            Ok(kept) => Ok(StateJournal {
-                records: opened.bodies.len() as u64,
-                log: opened.log,
-                kept,
-            }),
-            Err(FoldError::Memory) => Err(OpenError::Memory(opened.log.into_disk())),
-            Err(FoldError::Fault(why)) => {
-                Err(OpenError::NotAJournal(why, opened.log.into_disk()))
+        let kept = match fold_sides(alloc, opened.log.side(), &opened.zero, &opened.one) {
+            Ok(kept) => kept,
+            Err(FoundError::Memory) => return Err(OpenError::Memory(opened.log.into_disk())),
+            Err(FoundError::Fault(why)) => {
+                return Err(OpenError::NotAJournal(why, opened.log.into_disk()));
             }
-        }
+        };
+        let Ok(draft) = Draft::new(alloc, &kept.accepted) else {
+            return Err(OpenError::Memory(opened.log.into_disk()));
+        };
+        let records = count_in_use(opened.log.side(), &opened.zero, &opened.one);
+        Ok(StateJournal {
+            log: opened.log,
+            kept,
+            records,
+            draft,
+        })
     }
 
-    /// How many bodies the journal has.
+    /// How many bodies are in use.
     pub fn records(&self) -> u64
         ensures { result ≡ self.now.records }
     {
@@ -99,7 +125,7 @@ impl<D: Disk> StateJournal<D> {
     }
 }
 
-impl<D: Disk> Keeper for StateJournal<D> {
+impl<D: Disks> Keeper for StateJournal<D> {
     ghost told = { D.told };
 
     ghost record_of = { λ j. j.kept };
@@ -112,8 +138,7 @@ impl<D: Disk> Keeper for StateJournal<D> {
 
     ghost left_since = { λ j. StoodFor (D.left_since j.log.disk) };
 
-    ghost writes = { λ j change k ok. let frame = framed (body_of change) in
-        Ran D.steps (append_calls j.log.gate frame) j.log.disk k.log.disk ok × (D.told → ok ≡ true → k.log.gate ≡ j.log.gate + length frame) };
+    ghost writes = { λ j change k ok. Ran D.steps (keeping_calls (place j.log) j.kept change) j.log.disk k.log.disk ok };
 
     ghost only_kept = { λ j found told running left.
         only_record (D.seen j.log.disk) (D.left_since j.log.disk (D.moment j.log.disk)) (D.may_leave j.log.disk) j.kept found (D.only_now j.log.disk) (j.log.settled told running).durable (j.stands told running) left };
@@ -133,11 +158,19 @@ impl<D: Disk> Keeper for StateJournal<D> {
         if self.log.stopped() {
             return Err(KeepError::Stopped);
         }
-        let Ok(()) = self.log.append_small(&term_body(term)) else {
+        let body = term_body(term);
+        let records = records_after(&self.log, self.records, body.len());
+        let Ok(()) = keep_small(
+            &mut self.log,
+            &mut self.draft,
+            &body,
+            term,
+            &self.kept.committed,
+        ) else {
             return Err(KeepError::Disk);
         };
         self.kept.term = term;
-        self.records = self.records.saturating_add(1);
+        self.records = records;
         Ok(())
     }
 
@@ -145,12 +178,15 @@ impl<D: Disk> Keeper for StateJournal<D> {
         if self.log.stopped() {
             return Err(KeepError::Stopped);
         }
-        let Ok(()) = append_ready(&mut self.log, &ready) else {
+        let Ready { state, mut draft } = ready;
+        let records = records_after(&self.log, self.records, draft.len() + 1);
+        let Ok(()) = keep_state(&mut self.log, &mut draft, self.kept.term, &state.committed) else {
             return Err(KeepError::Disk);
         };
-        self.kept.committed = VotingConfig::of(ready.state.committed.members());
-        self.kept.accepted = ready.state;
-        self.records = self.records.saturating_add(1);
+        self.kept.committed = VotingConfig::of(state.committed.members());
+        self.kept.accepted = state;
+        self.draft = draft;
+        self.records = records;
         Ok(())
     }
 
@@ -158,17 +194,26 @@ impl<D: Disk> Keeper for StateJournal<D> {
         if self.log.stopped() {
             return Err(KeepError::Stopped);
         }
-        let Ok(()) = self.log.append_small(&committed_body()) else {
+        let body = committed_body();
+        let records = records_after(&self.log, self.records, body.len());
+        let Ok(()) = keep_small(
+            &mut self.log,
+            &mut self.draft,
+            &body,
+            self.kept.term,
+            &self.kept.accepted.config,
+        ) else {
             return Err(KeepError::Disk);
         };
         self.kept.committed = VotingConfig::of(self.kept.accepted.config.members());
-        self.records = self.records.saturating_add(1);
+        self.records = records;
         Ok(())
     }
 }
 
 impl<D: Armable> ArmKeeper for StateJournal<D> {
-    ghost arms = { λ j order k. D.arms j.log.disk order k.log.disk × (k.log.gate ≡ j.log.gate) × (k.log.stopped ≡ j.log.stopped) × (k.kept ≡ j.kept) × (k.records ≡ j.records) };
+    ghost arms = { λ j order k. D.arms j.log.disk order k.log.disk × (place k.log ≡ place j.log)
+        × (k.log.stopped ≡ j.log.stopped) × (k.kept ≡ j.kept) × (k.records ≡ j.records) };
 
     fn arm(&mut self, order: Order) {
         self.log.arm(order);

@@ -1,10 +1,10 @@
 ghost use Rattle.std.specs.Prelude.{◌≡◌, IfOk, IfErr};
 ghost use Rattle.cluster_state.specs.Initial.{initial_state};
 ghost use Rattle.cluster_state.specs.States.{IsFit};
-ghost use Rattle.state_journal.specs.Bodies.{IsReady};
-ghost use Rattle.state_journal.specs.Fit.{IsFit-prop};
+ghost use Rattle.state_journal.specs.Drafts.{IsDraft};
+ghost use Rattle.state_journal.specs.Fit.{IsFit-prop, IsDraft-prop};
 
-use crate::body::state_frame;
+use crate::draft::Draft;
 use cluster_state::ClusterState;
 use std::alloc::{AllocError, Global};
 use voting_config::NodeSet;
@@ -13,10 +13,10 @@ use voting_config::NodeSet;
 #[derive(Drop)]
 pub struct Ready {
     pub state: ClusterState,
-    // the body that keeps it, with its length and a closed gate
-    frame: Vec<u8>,
+    // its bytes, with room for what is written around them
+    pub(crate) draft: Draft,
     ghost fit: { IsFit state } by { IsFit-prop state },
-    ghost framed: { IsReady state frame.items },
+    ghost drafted: { IsDraft state draft } by { IsDraft-prop state draft },
 }
 
 /// There was no memory to make a state ready. It is handed back.
@@ -32,10 +32,10 @@ impl Ready {
         ensures ready { IfOk result (λ r. r.state ≡ state) }
         ensures back { IfErr result (λ e. e.state ≡ state) }
     {
-        let Ok(frame) = state_frame(alloc, &state) else {
+        let Ok(draft) = Draft::new(alloc, &state) else {
             return Err(NotReady { state });
         };
-        Ok(Ready { state, frame })
+        Ok(Ready { state, draft })
     }
 
     /// What a bootstrap with this configuration makes the accepted state, ready to be kept.
@@ -46,12 +46,5 @@ impl Ready {
             Ok(ready) => Ok(ready),
             Err(_) => Err(AllocError),
         }
-    }
-
-    // The body that keeps it, with its length and a closed gate.
-    pub(crate) fn frame(&self) -> &[u8]
-        ensures { IsReady self.now.state result.now }
-    {
-        &self.frame
     }
 }

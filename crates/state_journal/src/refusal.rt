@@ -1,18 +1,29 @@
 ghost use Rattle.std.specs.Prelude.{◌≡◌};
-ghost use Rattle.state_journal.specs.Journal.{why_by};
+ghost use Rattle.state_journal.specs.Journal.{fault_by, why_by};
 ghost use Rattle.state_journal.specs.Opening.{error_by};
 
-use crate::{OpenError, Why};
+use crate::{Fault, OpenError, Why};
 use gate_log::LogError;
 
-// The fault of a file that has no bodies.
+// The fault of a side.
+fn fault_of(fault: gate_log::Fault) -> Fault
+    ensures { result ≡ fault_by fault }
+{
+    match fault {
+        gate_log::Fault::Header => Fault::Header,
+        gate_log::Fault::Cut(at) => Fault::Cut(at),
+        gate_log::Fault::Long(at) => Fault::Long(at),
+        gate_log::Fault::Order(at) => Fault::Order(at),
+    }
+}
+
+// The fault of two files that have no bodies.
 fn why_of(why: gate_log::Why) -> Why
     ensures { result ≡ why_by why }
 {
     match why {
-        gate_log::Why::Header => Why::Header,
-        gate_log::Why::Cut(at) => Why::Cut(at),
-        gate_log::Why::Long(at) => Why::Long(at),
+        gate_log::Why::At(side, fault) => Why::At(side, fault_of(fault)),
+        gate_log::Why::Twin => Why::Twin,
     }
 }
 

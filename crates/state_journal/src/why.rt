@@ -1,10 +1,12 @@
 use cluster_state::FieldError;
+use std::fmt;
 use thiserror::Error;
+use zen_disk::Side;
 
 /// What is wrong with a body: the first fault from left to right.
 #[derive(Clone, Copy, Debug, PartialEq, Eq, Error)]
 pub enum BodyFault {
-    /// Its first byte is neither 1, 2 nor 3, or it has no byte.
+    /// Its first byte is none of 1, 2, 3 and 4, or it has no byte.
     #[error("Tag")]
     Tag,
     /// A field of it is wrong.
@@ -15,9 +17,9 @@ pub enum BodyFault {
     Trailing,
 }
 
-/// Why a file is no journal: its first fault. All but `Header` have the offset of the open gate before it.
+/// The first fault of one file. All but `Header` have the offset of the open gate before the body.
 #[derive(Clone, Copy, Debug, PartialEq, Eq, Error)]
-pub enum Why {
+pub enum Fault {
     /// It is longer than nine bytes, and its first eight are not the header.
     #[error("Header")]
     Header,
@@ -30,7 +32,31 @@ pub enum Why {
     /// The body spells no change.
     #[error("Body({0},{1})")]
     Body(u64, BodyFault),
-    /// The body sets a term that is not greater than the one so far, or accepts a state of a greater term.
+    /// The body sets a term that is not greater than the one so far, or accepts a state of a greater term, or begins a
+    /// generation where none may begin, with no epoch or with a state of a term above its own.
     #[error("Order({0})")]
     Order(u64),
 }
+
+/// Why two files are no journal: their first fault. Faults of layout and order of bodies come first, side zero's before side
+/// one's, then `Twin`, then what the bodies hold, side zero's first.
+#[derive(Clone, Copy, Debug, PartialEq, Eq)]
+pub enum Why {
+    /// The fault of this side.
+    At(Side, Fault),
+    /// Both sides have one epoch.
+    Twin,
+}
+
+/// As `Cut(8)` on side zero, `1:Cut(8)` on side one, and `Twin`.
+impl fmt::Display for Why {
+    fn fmt<W: fmt::Write>(&self, f: &mut fmt::Formatter<W>) -> fmt::Result {
+        match *self {
+            Why::At(Side::Zero, fault) => write!(f, "{fault}"),
+            Why::At(Side::One, fault) => write!(f, "1:{fault}"),
+            Why::Twin => write!(f, "Twin"),
+        }
+    }
+}
+
+impl std::error::Error for Why {}

@@ -1,21 +1,20 @@
 use Rattle.std.proofs.Common.{◌≡◌, ◌+◌, ◌∷◌, ℕ, List, Ok, length, drop, ap, ◌∙◌, sym, subst, arith}
 use Rattle.std.proofs.lemmas.List.{drop_all}
-use Rattle.gate_log.specs.Journal.{laid}
 use Rattle.gate_log.specs.Opened.{lists}
 use Rattle.state_journal.specs.Bodies.{change_at}
 use Rattle.state_journal.specs.Journal.{with_body, folded_from}
 use Rattle.state_journal.specs.Reads.{IsFoldError}
-use Rattle.state_journal.proofs.Folds.{fold_step, fold_fault, fold_end, length-laid, lists_drop}
+use Rattle.state_journal.proofs.Folds.{fold_step, fold_fault, fold_end, lists_drop}
 use Rattle.state_journal.proofs.fold.fold_bodies.Goals as goal
 
 pub returns-in-Err-clause-reads : goal.returns-in-Err-clause-reads
-returns-in-Err-clause-reads c small =
+returns-in-Err-clause-reads c =
     let vs = c.args.bodies.now in
     let i = c.loop-body.body-index in
     let body = c.body-item.result.items in
     let here : lists (drop i vs) ≡ body ∷ lists (drop (i + 1) vs) = lists_drop vs i c.body-item.result (omega arith) c.body-item.is in
     let reads = subst (λ (l : List ℕ). IsFoldError c.in-Err.error (with_body c.loop-body.at c.loop-body.kept (change_at l))) c.deref.ensures.value c.in-Err.ensures.reads in
-    subst (IsFoldError c.in-Err.error) (sym (c.loop-body.invariant.so_far small ∙ ap (λ (l : List (List ℕ)). folded_from c.loop-body.at c.loop-body.kept l) here))
+    subst (IsFoldError c.in-Err.error) (sym (c.loop-body.invariant.so_far ∙ ap (λ (l : List (List ℕ)). folded_from c.loop-body.at c.loop-body.kept l) here))
     (fold_fault c.loop-body.at c.loop-body.kept body (lists (drop (i + 1) vs)) c.in-Err.error reads)
 
 pub loop-body-preserved : goal.loop-body-preserved
@@ -26,18 +25,14 @@ loop-body-preserved c =
     let rest = lists (drop (i + 1) vs) in
     let here : lists (drop i vs) ≡ body ∷ rest = lists_drop vs i c.body-item.result (omega arith) c.body-item.is in
     let reads = subst (λ (l : List ℕ). with_body c.loop-body.at c.loop-body.kept (change_at l) ≡ Ok c.in-Ok.next) c.deref.ensures.value c.in-Ok.ensures.reads in
+    let more : c.loop-body.at + 5 + length body ≡ c.in-Some.next = omega (arith, c.in-Some.ensures.1, c.len.ensures, c.body-item.result.ok.0) in
     record {
       fit = c.in-Ok.ensures.fit;
-      so_far = λ small.
-          let place = c.loop-body.invariant.place small in
-          let more : c.loop-body.at + 5 + length body ≡ c.saturating_add-at.result = omega (arith, place, ap (λ (l : List (List ℕ)). length (laid l)) here, length-laid body rest, ap length c.deref.ensures.value) in
-          c.loop-body.invariant.so_far small ∙ ap (λ (l : List (List ℕ)). folded_from c.loop-body.at c.loop-body.kept l) here ∙ fold_step c.loop-body.at c.loop-body.kept c.in-Ok.next body rest reads
+      so_far =
+          c.loop-body.invariant.so_far ∙ ap (λ (l : List (List ℕ)). folded_from c.loop-body.at c.loop-body.kept l) here ∙ fold_step c.loop-body.at c.loop-body.kept c.in-Ok.next body rest reads
           ∙ ap (λ (p : ℕ). folded_from p c.in-Ok.next rest) more;
-      place = λ small.
-          let place = c.loop-body.invariant.place small in
-          omega (arith, place, ap (λ (l : List (List ℕ)). length (laid l)) here, length-laid body rest, ap length c.deref.ensures.value);
     }
 
 pub returns-clause-reads : goal.returns-clause-reads
-returns-clause-reads c small =
-    c.loop-body.invariant.so_far small ∙ ap (λ (l : List _). folded_from c.loop-body.at c.loop-body.kept (lists l)) (drop_all c.loop-body.body-index c.args.bodies.now (omega arith)) ∙ fold_end c.loop-body.at c.loop-body.kept
+returns-clause-reads c =
+    c.loop-body.invariant.so_far ∙ ap (λ (l : List _). folded_from c.loop-body.at c.loop-body.kept (lists l)) (drop_all c.loop-body.body-index c.args.bodies.now (omega arith)) ∙ fold_end c.loop-body.at c.loop-body.kept

@@ -1,6 +1,5 @@
-use Rattle.std.proofs.Common.{◌≡◌, ◌+◌, ◌<◌, ◌^◌, length, drop}
+use Rattle.std.proofs.Common.{◌≡◌, drop}
 use Rattle.cluster_state.specs.Initial.{empty_record}
-use Rattle.gate_log.specs.Journal.{laid}
 use Rattle.gate_log.specs.Opened.{lists}
 use Rattle.state_journal.specs.Journal.{folded_from}
 use Rattle.state_journal.specs.Reads.{IsFitRecord}
@@ -9,6 +8,5 @@ use Rattle.state_journal.proofs.fold.fold_bodies.Given as goal
 abbrev pub invariant-loop-body : goal.invariant-loop-body
 invariant-loop-body l = record {
   fit : IsFitRecord l.kept;
-  so_far : length (laid (lists l.bodies)) < 2 ^ 63 → folded_from 8 empty_record (lists l.bodies) ≡ folded_from l.at l.kept (lists (drop l.body-index l.bodies));
-  place : length (laid (lists l.bodies)) < 2 ^ 63 → l.at + length (laid (lists (drop l.body-index l.bodies))) ≡ 8 + length (laid (lists l.bodies));
+  so_far : folded_from 8 empty_record (lists l.bodies) ≡ folded_from l.at l.kept (lists (drop l.body-index l.bodies));
 }

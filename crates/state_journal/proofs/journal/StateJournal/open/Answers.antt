@@ -1,26 +1,36 @@
-use Rattle.std.proofs.Common.{◌≡◌, ◌<◌, ◌^◌, ℕ, List, Ok, length, subst, arith}
-use Rattle.std.specs.Prelude.{Vec}
-use Rattle.std.specs.declared.alloc.Global.{Global}
-use Rattle.std.proofs.lemmas.List.{length-map}
-use Rattle.cluster_state.specs.Initial.{empty_record}
-use Rattle.gate_log.specs.Journal.{laid}
-use Rattle.gate_log.specs.Opened.{lists}
-use Rattle.state_journal.specs.Journal.{folded_from}
-use Rattle.state_journal.proofs.Folds.{bodies_small, finds, counts}
+use Rattle.std.proofs.Common.{◌≡◌, ◌∙◌, Ok, length, sym}
+use Rattle.gate_log.specs.Calls.{both_opening_calls}
+use Rattle.gate_log.specs.Folded.{found_by}
+use Rattle.gate_log.specs.Generations.{in_use}
+use Rattle.gate_log.specs.Opened.{generations_in}
+use Rattle.state_journal.specs.Journal.{record_of_bodies, on_its_side}
+use Rattle.state_journal.proofs.Found.{finds, counts, ran_all}
 use Rattle.state_journal.proofs.journal.StateJournal.open.Goals as goal
+
+pub returns-in-Err-Memory-clause-ran_err : goal.returns-in-Err-Memory-clause-ran_err
+returns-in-Err-Memory-clause-ran_err g c =
+    λ told. ran_all g.D.Disks.steps (both_opening_calls (g.D.Disks.seen c.args.disk)) c.args.disk c.in-Ok.opened.log.disk c.into_disk.result c.into_disk.ensures (c.in-Ok.ensures.ran told)
+
+pub returns-in_default-clause-ran_err : goal.returns-in_default-clause-ran_err
+returns-in_default-clause-ran_err g c =
+    λ told. ran_all g.D.Disks.steps (both_opening_calls (g.D.Disks.seen c.args.disk)) c.args.disk c.in-Ok.opened.log.disk c.into_disk-in_default.result c.into_disk-in_default.ensures (c.in-Ok.ensures.ran told)
 
 pub invariant_of-result : goal.invariant_of-result
 invariant_of-result g c =
     let log = c.in-Ok.opened.log in
-    let bodies = c.in-Ok.opened.bodies.items in
-    let file = g.D.Disk.seen log.disk in
-    let reads = subst (λ (vs : List (Vec ℕ Global)). length (laid (lists vs)) < 2 ^ 63 → folded_from 8 empty_record (lists vs) ≡ Ok c.in-Ok-fold_bodies.kept) c.deref.ensures.value c.in-Ok-fold_bodies.ensures.reads in
+    let files = g.D.Disks.seen log.disk in
+    let zero : c.deref.result.now ≡ c.in-Ok.opened.zero.items = c.deref.ensures.value in
+    let one : c.deref-2.result.now ≡ c.in-Ok.opened.one.items = c.deref-2.ensures.value in
+    let zero_again : c.deref-3.result.now ≡ c.in-Ok.opened.zero.items = c.deref-3.ensures.value in
+    let one_again : c.deref-4.result.now ≡ c.in-Ok.opened.one.items = c.deref-4.ensures.value in
+    let found = generations_in log.side c.in-Ok.opened.zero.items c.in-Ok.opened.one.items in
+    let reads : on_its_side (found_by record_of_bodies found) ≡ Ok c.in-Ok-fold_sides.kept = sym (λ i. on_its_side (found_by record_of_bodies (generations_in (c.side.ensures.value i) (zero i) (one i)))) ∙ c.in-Ok-fold_sides.ensures.reads in
     record {
-      stands = λ told running.
-          let small = bodies_small file (g.D.Disk.may_leave log.disk) log.gate (lists bodies) (log.settled told running) log.limit (c.in-Ok.ensures.keeps told) in
-          finds file (lists bodies) (Ok c.in-Ok-fold_bodies.kept) (c.in-Ok.ensures.keeps told) (reads small);
-      counted = λ told running. omega (arith, c.len.ensures, c.in-Ok.opened.bodies.ok.0, length-map bodies (λ (v : Vec ℕ Global). v.items), counts file (lists bodies) (c.in-Ok.ensures.keeps told));
-      bounded = c.in-Ok-fold_bodies.ensures.fit.bounded;
-      fit = c.in-Ok-fold_bodies.ensures.fit.fit;
-      older = c.in-Ok-fold_bodies.ensures.fit.older;
+      stands = λ told running. finds files found (Ok c.in-Ok-fold_sides.kept) (c.in-Ok.ensures.keeps told) reads;
+      counted = λ told running.
+          c.count_in_use-records.ensures ∙ (λ i. length (in_use (generations_in (c.side-2.ensures.value i) (zero_again i) (one_again i)))) ∙ counts files found (c.in-Ok.ensures.keeps told);
+      bounded = c.in-Ok-fold_sides.ensures.fit.bounded;
+      fit = c.in-Ok-fold_sides.ensures.fit.fit;
+      older = c.in-Ok-fold_sides.ensures.fit.older;
+      drafted = c.in-Ok-new.ensures;
     }

@@ -1,48 +1,79 @@
-use Rattle.std.proofs.Common.{◌≡◌, ℕ, [], ◌∷◌, ◌++◌, List, true, false, sym, ap, ◌∙◌, subst, arith}
+use Rattle.std.proofs.Common.{◌≡◌, ℕ, List, true, false, refl, sym, ap, ◌∙◌, subst, arith}
 use Rattle.std.proofs.lemmas.Bool.{lt-ltb}
-use Rattle.zen_disk.specs.Runs.{Ran}
-use Rattle.gate_log.specs.Calls.{append_calls}
-use Rattle.gate_log.specs.Journal.{framed, standing}
+use Rattle.zen_disk.specs.Moments.{LeavesOnly}
+use Rattle.gate_log.specs.Generations.{is_generation, standing_in}
+use Rattle.gate_log.specs.Place.{place, renews}
+use Rattle.state_journal.specs.Bodies.{body_of}
+use Rattle.state_journal.specs.Changes.{changed}
+use Rattle.state_journal.specs.Drafts.{MayBegin}
+use Rattle.state_journal.specs.Keeping.{generation_after, written_in, IsWritten}
 use Rattle.state_journal.specs.declared.change.Change.TheVariants.{Term}
-use Rattle.state_journal.proofs.Folds.{IsOpen, MayFollow, few, leaves_either, stands_after, counted_after, gate_after}
-use Rattle.state_journal.proofs.Spelled.{reads_term}
+use Rattle.state_journal.proofs.Same.{same_journal}
+use Rattle.state_journal.proofs.Spelled.{fits_of, reads_term, term_plain, length-term}
+use Rattle.state_journal.proofs.Writing.{IsOpen, MayFollow, few, leaves_either, stands_after, counted_after, counts_by}
 use Rattle.state_journal.proofs.journal.StateJournalKeeper.set_term.Goals as goal
 
+pub returns-then-stopped-clause-unchanged : goal.returns-then-stopped-clause-unchanged
+returns-then-stopped-clause-unchanged g c = λ stopped. same_journal _ _ refl refl refl refl
+
+pub keep_small-requires-clause-plain : goal.keep_small-requires-clause-plain
+keep_small-requires-clause-plain g c = subst (λ (b : List ℕ). is_generation b ≡ false) (sym c.term_body-body.ensures) (term_plain c.args.term)
+
 pub returns-in_default-clause-any_moment : goal.returns-in_default-clause-any_moment
-returns-in_default-clause-any_moment g c told running =
+returns-in_default-clause-any_moment g c = λ told running.
     let old = c.args.self.now in
-    let is : IsOpen (g.D.Disk.seen old.log.disk) (g.D.Disk.may_leave old.log.disk) old.log.gate old.kept old.records = record { settled = old.log.settled told running; limit = old.log.limit; stands = old.stands told running; counted = old.counted told running } in
-    let may : MayFollow old.kept (Term c.args.term) = record { reads = reads_term c.args.term c.requires.fits; order = lt-ltb _ _ c.requires.above } in
-    let run = c.append_small.ensures.any_moment told running in
-    record { later = run.later; since = leaves_either is (Term c.args.term) may g.D.Disk.moment g.D.Disk.left_since old.log.disk c.append_small.new.self.disk c.term_body.result c.term_body.ensures run }
+    let p = place old.log in
+    let change = Term c.args.term in
+    let next = changed old.kept change in
+    let is : IsOpen (g.D.Disks.seen old.log.disk) (g.D.Disks.may_leave old.log.disk) p old.kept old.records = record { settled = old.log.settled told running; limit = old.log.limit; stands = old.stands told running; counted = old.counted told running } in
+    let may : MayFollow old.kept change = record { reads = reads_term c.args.term c.requires.fits; order = lt-ltb _ _ c.requires.above } in
+    let begins : renews p (body_of change) ≡ true → MayBegin next =
+    λ renewing. record { bounded = c.requires.fits; fits = fits_of old.kept.accepted old.drafted.fits; named = c.keep_small.ensures.fits (ap (renews p) c.term_body-body.ensures ∙ renewing); older = omega (arith, old.older, c.requires.above) } in
+    let run =
+    subst
+    (λ (b : List ℕ). LeavesOnly g.D.Disks.moment g.D.Disks.left_since old.log.disk c.keep_small.new.log.disk (IsWritten (renews p b) (standing_in (g.D.Disks.seen old.log.disk)) b (generation_after p next)))
+    c.term_body-body.ensures (c.keep_small.ensures.any_moment told old.kept.accepted old.drafted) in
+    record { later = run.later; since = leaves_either is change may begins g.D.Disks.moment g.D.Disks.left_since old.log.disk c.keep_small.new.log.disk run }
 
 pub invariant_of-self-2 : goal.invariant_of-self-2
 invariant_of-self-2 g c =
     let old = c.args.self.now in
-    let now = c.append_small.new.self in
-    let may : MayFollow old.kept (Term c.args.term) = record { reads = reads_term c.args.term c.requires.fits; order = lt-ltb _ _ c.requires.above } in
+    let now = c.keep_small.new.log in
+    let p = place old.log in
+    let change = Term c.args.term in
+    let next = changed old.kept change in
     let ran : old.log.stopped ≡ false = sym c.stopped.ensures ∙ c.if-stopped.false in
+    let may : MayFollow old.kept change = record { reads = reads_term c.args.term c.requires.fits; order = lt-ltb _ _ c.requires.above } in
+    let begins : renews p (body_of change) ≡ true → MayBegin next =
+    λ renewing. record { bounded = c.requires.fits; fits = fits_of old.kept.accepted old.drafted.fits; named = c.keep_small.ensures.fits (ap (renews p) c.term_body-body.ensures ∙ renewing); older = omega (arith, old.older, c.requires.above) } in
     record {
       stands = λ told running.
-          let is : IsOpen (g.D.Disk.seen old.log.disk) (g.D.Disk.may_leave old.log.disk) old.log.gate old.kept old.records = record { settled = old.log.settled told ran; limit = old.log.limit; stands = old.stands told ran; counted = old.counted told ran } in
-          stands_after is (Term c.args.term) may (g.D.Disk.seen now.disk) (c.in-Ok.ensures.ok told ∙ ap (λ (b : List ℕ). standing (g.D.Disk.seen old.log.disk) ++ b ∷ []) c.term_body.ensures) (now.settled told running).stands;
+          let is : IsOpen (g.D.Disks.seen old.log.disk) (g.D.Disks.may_leave old.log.disk) p old.kept old.records = record { settled = old.log.settled told ran; limit = old.log.limit; stands = old.stands told ran; counted = old.counted told ran } in
+          let grown = subst (λ (b : List ℕ). standing_in (g.D.Disks.seen now.disk) ≡ written_in (renews p b) (standing_in (g.D.Disks.seen old.log.disk)) b (generation_after p next)) c.term_body-body.ensures (c.in-Ok.ensures.ok told old.kept.accepted old.drafted) in
+          stands_after is change may begins (g.D.Disks.seen now.disk) grown (now.settled told running).stands;
       counted = λ told running.
-          let is : IsOpen (g.D.Disk.seen old.log.disk) (g.D.Disk.may_leave old.log.disk) old.log.gate old.kept old.records = record { settled = old.log.settled told ran; limit = old.log.limit; stands = old.stands told ran; counted = old.counted told ran } in
-          let more = counted_after is (Term c.args.term) may (g.D.Disk.seen now.disk) (c.in-Ok.ensures.ok told ∙ ap (λ (b : List ℕ). standing (g.D.Disk.seen old.log.disk) ++ b ∷ []) c.term_body.ensures) in
-          let room = few is in
-          omega (arith, more, room, c.saturating_add-self.ensures);
+          let is : IsOpen (g.D.Disks.seen old.log.disk) (g.D.Disks.may_leave old.log.disk) p old.kept old.records = record { settled = old.log.settled told ran; limit = old.log.limit; stands = old.stands told ran; counted = old.counted told ran } in
+          let grown = subst (λ (b : List ℕ). standing_in (g.D.Disks.seen now.disk) ≡ written_in (renews p b) (standing_in (g.D.Disks.seen old.log.disk)) b (generation_after p next)) c.term_body-body.ensures (c.in-Ok.ensures.ok told old.kept.accepted old.drafted) in
+          counts_by (renews p (body_of change)) old.records c.records_after-records.result _ (counted_after is change may begins (g.D.Disks.seen now.disk) grown) (few is)
+          (c.records_after-records.ensures.one (body_of change) (length-term c.args.term)) (c.records_after-records.ensures.more (body_of change) (length-term c.args.term));
       bounded = c.requires.fits;
       fit = old.fit;
       older = omega (arith, old.older, c.requires.above);
+      drafted = record { spelled = c.keep_small.ensures.same ∙ old.drafted.spelled; fits = old.drafted.fits };
     }
 
-pub returns-clause-written : goal.returns-clause-written
-returns-clause-written g c running =
+pub returns-clause-any_moment : goal.returns-clause-any_moment
+returns-clause-any_moment g c = λ told running.
     let old = c.args.self.now in
-    let now = c.append_small.new.self in
-    let may : MayFollow old.kept (Term c.args.term) = record { reads = reads_term c.args.term c.requires.fits; order = lt-ltb _ _ c.requires.above } in (
-      subst (λ (b : List ℕ). Ran g.D.Disk.steps (append_calls old.log.gate (framed b)) old.log.disk now.disk true) c.term_body.ensures (c.in-Ok.ensures.ran running),
-      λ told ok.
-          let is : IsOpen (g.D.Disk.seen old.log.disk) (g.D.Disk.may_leave old.log.disk) old.log.gate old.kept old.records = record { settled = old.log.settled told running; limit = old.log.limit; stands = old.stands told running; counted = old.counted told running } in
-          gate_after is (Term c.args.term) may (g.D.Disk.seen now.disk) (c.in-Ok.ensures.ok told ∙ ap (λ (b : List ℕ). standing (g.D.Disk.seen old.log.disk) ++ b ∷ []) c.term_body.ensures) (g.D.Disk.may_leave now.disk) now.gate (now.settled told c.in-Ok.ensures.goes_on),
-    )
+    let p = place old.log in
+    let change = Term c.args.term in
+    let next = changed old.kept change in
+    let is : IsOpen (g.D.Disks.seen old.log.disk) (g.D.Disks.may_leave old.log.disk) p old.kept old.records = record { settled = old.log.settled told running; limit = old.log.limit; stands = old.stands told running; counted = old.counted told running } in
+    let may : MayFollow old.kept change = record { reads = reads_term c.args.term c.requires.fits; order = lt-ltb _ _ c.requires.above } in
+    let begins : renews p (body_of change) ≡ true → MayBegin next =
+    λ renewing. record { bounded = c.requires.fits; fits = fits_of old.kept.accepted old.drafted.fits; named = c.keep_small.ensures.fits (ap (renews p) c.term_body-body.ensures ∙ renewing); older = omega (arith, old.older, c.requires.above) } in
+    let run =
+    subst
+    (λ (b : List ℕ). LeavesOnly g.D.Disks.moment g.D.Disks.left_since old.log.disk c.keep_small.new.log.disk (IsWritten (renews p b) (standing_in (g.D.Disks.seen old.log.disk)) b (generation_after p next)))
+    c.term_body-body.ensures (c.keep_small.ensures.any_moment told old.kept.accepted old.drafted) in
+    record { later = run.later; since = leaves_either is change may begins g.D.Disks.moment g.D.Disks.left_since old.log.disk c.keep_small.new.log.disk run }

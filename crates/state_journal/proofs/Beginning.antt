@@ -1,0 +1,60 @@
+-- The body that begins a generation.
+use Rattle.std.proofs.Common.{◌≡◌, ℕ, ◌+◌, ◌<◌, ◌≤◌, ◌^◌, List, ◌∷◌, ◌++◌, length, refl, ap, ◌∙◌, subst, arith, length-append}
+use Rattle.std.specs.Int.{w64, to_be_bytes, from_be_bytes}
+use Rattle.std.proofs.lemmas.List.{take_at}
+use Rattle.std.proofs.lemmas.Nat.{from_be_bytes-to_be_bytes_8}
+use Rattle.voting_config.specs.Ids.{Id, most_ids}
+use Rattle.cluster_state.specs.declared.state.ClusterState.{ClusterState}
+use Rattle.cluster_state.specs.Field.{eight_bytes}
+use Rattle.cluster_state.specs.Fields.{ids}
+use Rattle.cluster_state.specs.States.{state}
+use Rattle.gate_log.specs.Generations.{Begins, epoch_in}
+use Rattle.gate_log.specs.Journal.{framed}
+use Rattle.gate_log.proofs.Laid.{length-framed}
+use Rattle.state_journal.specs.Bodies.{body_of}
+use Rattle.state_journal.specs.Drafts.{Drafted, IsDraft, generation_body}
+use Rattle.state_journal.specs.Keeping.{record_with}
+use Rattle.state_journal.specs.declared.change.Change.TheVariants.{Renewed}
+use Rattle.state_journal.proofs.Sizes.{length-eight, ids_short}
+use Rattle.state_journal.proofs.Spelled.{draft_short, renewed_is}
+
+pub length-generation : (epoch t : ℕ) (accepted : List ℕ) (committed : List Id) → length (generation_body epoch t accepted committed) ≡ 17 + length accepted + length ((ids most_ids).spelling committed)
+length-generation epoch t accepted committed =
+    omega (
+      arith,
+      length-append (eight_bytes epoch) (eight_bytes t ++ (accepted ++ (ids most_ids).spelling committed)),
+      length-append (eight_bytes t) (accepted ++ (ids most_ids).spelling committed),
+      length-append accepted ((ids most_ids).spelling committed),
+      length-eight epoch,
+      length-eight t,
+    )
+
+epoch_is : (epoch : ℕ) (rest : List ℕ) → epoch ≤ 2 ^ 62 → epoch_in (4 ∷ (eight_bytes epoch ++ rest)) ≡ epoch
+unfolding epoch_in eight_bytes
+epoch_is epoch rest small = ap (from_be_bytes w64) (take_at (to_be_bytes w64 epoch) rest 8 refl) ∙ from_be_bytes-to_be_bytes_8 epoch (omega (arith, small))
+
+pub begins_next : (epoch t : ℕ) (accepted : List ℕ) (committed : List Id) → epoch < 2 ^ 62 → Begins epoch (generation_body (epoch + 1) t accepted committed)
+begins_next epoch t accepted committed small = record {
+  tagged = refl;
+  long = omega (arith, length-generation (epoch + 1) t accepted committed);
+  next = epoch_is (epoch + 1) (eight_bytes t ++ (accepted ++ (ids most_ids).spelling committed)) (omega (arith, small));
+  limit = omega (arith, small);
+}
+
+module _ (epoch e t : ℕ) (s : ClusterState) (draft : Drafted) (committed : List Id) (is : IsDraft s draft) (same : e ≡ epoch) where
+  pub generation_is : generation_body (e + 1) t draft.state committed ≡ body_of (Renewed (record { epoch = epoch + 1; kept = record_with t s committed }))
+  generation_is = (λ i. generation_body (same i + 1) t (is.spelled i) committed) ∙ renewed_is (epoch + 1) t s committed
+
+  pub begins_with : epoch < 2 ^ 62 → Begins epoch (body_of (Renewed (record { epoch = epoch + 1; kept = record_with t s committed })))
+  begins_with small = subst (Begins epoch) (renewed_is (epoch + 1) t s committed) (begins_next epoch t (state.spelling s) committed small)
+
+  pub frame_short : (frame : List ℕ) → (ids most_ids).Fits committed → frame ≡ framed (generation_body (e + 1) t draft.state committed) → length frame ≤ 8388608 + 5
+  frame_short frame fits framed_is =
+      omega (
+        arith,
+        ap length framed_is,
+        length-framed (generation_body (e + 1) t draft.state committed),
+        length-generation (e + 1) t draft.state committed,
+        ids_short most_ids committed fits,
+        draft_short s draft is,
+      )

@@ -1,0 +1,150 @@
+// How a body is kept: it is appended to the side in use, or the record with it begins a generation on the other side.
+ghost use Rattle.std.specs.Prelude.{◌≡◌, ◌+◌, ◌-◌, ◌<◌, ◌≤◌, ◌^◌, true, false, ℕ, List, length, is_ok, IsErr, IsErrOf, OnOk, min};
+ghost use Rattle.cluster_state.specs.Fields.{ids};
+ghost use Rattle.cluster_state.specs.declared.state.ClusterState.{ClusterState};
+ghost use Rattle.gate_log.specs.Calls.{renewal_calls};
+ghost use Rattle.gate_log.specs.Generations.{standing_in, is_generation, renewed, IsRenewed};
+ghost use Rattle.gate_log.specs.Journal.{framed};
+ghost use Rattle.gate_log.specs.Place.{place, renews};
+ghost use Rattle.state_journal.specs.Bodies.{body_of};
+ghost use Rattle.state_journal.specs.Drafts.{IsDraft};
+ghost use Rattle.state_journal.specs.Keeping.{generation_after, record_with, writing_calls, written_in, IsWritten};
+ghost use Rattle.state_journal.specs.declared.change.Change.TheVariants as change;
+ghost use Rattle.voting_config.specs.Ids.{most_ids};
+ghost use Rattle.zen_disk.specs.Faults.{Rose};
+ghost use Rattle.zen_disk.specs.Moments.{LeavesOnly};
+ghost use Rattle.zen_disk.specs.Runs.{Ran};
+ghost use Rattle.zen_disk.specs.Sides.{other};
+
+use crate::draft::Draft;
+use gate_log::{AppendError, GateLog};
+use voting_config::VotingConfig;
+use zen_disk::Disks;
+
+// How many bytes the bodies behind a generation take at most.
+const MAX_TAIL: u64 = 65_536;
+
+const LAST_EPOCH: u64 = 1 << 62;
+
+// Whether a body of this length begins a generation.
+fn begins<D: Disks>(log: &GateLog<D>, len: usize) -> bool
+    requires { len ≤ 8388608 }
+    ensures { (body : List ℕ) → length body ≡ len → result ≡ renews (place log.now) body }
+{
+    MAX_TAIL < log.tail() + 5 + len as u64 && log.epoch() < LAST_EPOCH
+}
+
+// How many bodies are in use after one of this length is kept.
+pub(crate) fn records_after<D: Disks>(log: &GateLog<D>, records: u64, len: usize) -> u64
+    requires { len ≤ 8388608 }
+    ensures one { (body : List ℕ) → length body ≡ len → renews (place log.now) body ≡ true → result ≡ 1 }
+    ensures more { (body : List ℕ) → length body ≡ len → renews (place log.now) body ≡ false → result ≡ min (records + 1) (2 ^ 64 - 1) }
+{
+    if begins(log, len) {
+        1
+    } else {
+        records.saturating_add(1)
+    }
+}
+
+// Begins the next generation with the record of this term, the draft's state and this committed configuration.
+fn begin<D: Disks>(
+    log: &mut GateLog<D>,
+    draft: &mut Draft,
+    term: u64,
+    committed: &VotingConfig,
+) -> Result<(), AppendError>
+    requires runs { log.old.stopped ≡ false }
+    requires next { log.old.epoch < 2 ^ 62 }
+    requires drafted { (s : ClusterState) × IsDraft s draft.old }
+    ensures ok { D.told → (s : ClusterState) → IsDraft s draft.old
+        → let body = generation_after (place log.old) (record_with term s committed.now) in
+        OnOk result (standing_in (D.seen log.new.disk) ≡ renewed (standing_in (D.seen log.old.disk)) body) }
+    ensures only { IsErr result → IsErrOf result AppendError.Disk }
+    ensures cause { IsErrOf result AppendError.Disk → Rose (D.faults log.old.disk) (D.faults log.new.disk) }
+    ensures later { D.faults log.old.disk ≤ D.faults log.new.disk }
+    ensures stops { IsErrOf result AppendError.Disk → log.new.stopped ≡ true }
+    ensures goes_on { OnOk result (log.new.stopped ≡ false) }
+    ensures any_moment { D.told → (s : ClusterState) → IsDraft s draft.old
+        → let body = generation_after (place log.old) (record_with term s committed.now) in
+        LeavesOnly D.moment D.left_since log.old.disk log.new.disk (IsRenewed (standing_in (D.seen log.old.disk)) body) }
+    ensures ran { (s : ClusterState) → IsDraft s draft.old
+        → let body = generation_after (place log.old) (record_with term s committed.now) in
+        Ran D.steps (renewal_calls (other log.old.side) log.old.other_gate (framed body)) log.old.disk log.new.disk (is_ok result) }
+    ensures fits { (ids most_ids).Fits committed.now }
+    ensures same { draft.new.state ≡ draft.old.state }
+{
+    draft.lay_generation(log.epoch() + 1, term, committed);
+    log.renew(draft.frame())
+}
+
+// Keeps a short body, where the record with it has this term, the draft's state and this committed configuration.
+pub(crate) fn keep_small<D: Disks>(
+    log: &mut GateLog<D>,
+    draft: &mut Draft,
+    body: &[u8],
+    term: u64,
+    committed: &VotingConfig,
+) -> Result<(), AppendError>
+    requires runs { log.old.stopped ≡ false }
+    requires small { length body.now ≤ 64 }
+    requires plain { is_generation body.now ≡ false }
+    requires drafted { (s : ClusterState) × IsDraft s draft.old }
+    ensures ok { D.told → (s : ClusterState) → IsDraft s draft.old
+        → let p = place log.old in let next = record_with term s committed.now in
+        OnOk result (standing_in (D.seen log.new.disk)
+        ≡ written_in (renews p body.now) (standing_in (D.seen log.old.disk)) body.now (generation_after p next)) }
+    ensures only { IsErr result → IsErrOf result AppendError.Disk }
+    ensures cause { IsErrOf result AppendError.Disk → Rose (D.faults log.old.disk) (D.faults log.new.disk) }
+    ensures later { D.faults log.old.disk ≤ D.faults log.new.disk }
+    ensures stops { IsErrOf result AppendError.Disk → log.new.stopped ≡ true }
+    ensures goes_on { OnOk result (log.new.stopped ≡ false) }
+    ensures any_moment { D.told → (s : ClusterState) → IsDraft s draft.old
+        → let p = place log.old in let next = record_with term s committed.now in
+        LeavesOnly D.moment D.left_since log.old.disk log.new.disk
+        (IsWritten (renews p body.now) (standing_in (D.seen log.old.disk)) body.now (generation_after p next)) }
+    ensures ran { (s : ClusterState) → IsDraft s draft.old
+        → let p = place log.old in let next = record_with term s committed.now in
+        Ran D.steps (writing_calls (renews p body.now) p body.now (generation_after p next)) log.old.disk log.new.disk (is_ok result) }
+    ensures fits { renews (place log.old) body.now ≡ true → (ids most_ids).Fits committed.now }
+    ensures same { draft.new.state ≡ draft.old.state }
+{
+    if begins(log, body.len()) {
+        return begin(log, draft, term, committed);
+    }
+    log.append_small(body)
+}
+
+// Keeps the draft's state as the accepted one, with the committed configuration that it carries.
+pub(crate) fn keep_state<D: Disks>(
+    log: &mut GateLog<D>,
+    draft: &mut Draft,
+    term: u64,
+    committed: &VotingConfig,
+) -> Result<(), AppendError>
+    requires runs { log.old.stopped ≡ false }
+    requires drafted { (s : ClusterState) × IsDraft s draft.old }
+    ensures ok { D.told → (s : ClusterState) → IsDraft s draft.old
+        → let p = place log.old in let body = body_of (change.Accepted s) in let next = record_with term s committed.now in
+        OnOk result (standing_in (D.seen log.new.disk)
+        ≡ written_in (renews p body) (standing_in (D.seen log.old.disk)) body (generation_after p next)) }
+    ensures only { IsErr result → IsErrOf result AppendError.Disk }
+    ensures cause { IsErrOf result AppendError.Disk → Rose (D.faults log.old.disk) (D.faults log.new.disk) }
+    ensures later { D.faults log.old.disk ≤ D.faults log.new.disk }
+    ensures stops { IsErrOf result AppendError.Disk → log.new.stopped ≡ true }
+    ensures goes_on { OnOk result (log.new.stopped ≡ false) }
+    ensures any_moment { D.told → (s : ClusterState) → IsDraft s draft.old
+        → let p = place log.old in let body = body_of (change.Accepted s) in let next = record_with term s committed.now in
+        LeavesOnly D.moment D.left_since log.old.disk log.new.disk
+        (IsWritten (renews p body) (standing_in (D.seen log.old.disk)) body (generation_after p next)) }
+    ensures ran { (s : ClusterState) → IsDraft s draft.old
+        → let p = place log.old in let body = body_of (change.Accepted s) in let next = record_with term s committed.now in
+        Ran D.steps (writing_calls (renews p body) p body (generation_after p next)) log.old.disk log.new.disk (is_ok result) }
+    ensures same { draft.new.state ≡ draft.old.state }
+{
+    if begins(log, draft.len() + 1) {
+        return begin(log, draft, term, committed);
+    }
+    draft.lay_accepted();
+    log.append_framed(draft.frame())
+}
