@@ -22,7 +22,7 @@ use std::test::*;
 use voting_config::{NodeId, NodeSet};
 use wire_frames::{Frame, Message};
 use world_model::{Act, Outcome, Reply};
-use zen_disk::{Fuse, MemDisk, Order, Way};
+use zen_disk::{Fuse, MemDisks, Order, Way};
 
 // ---- nodes and frames within the limits, as `step` requires them
 
@@ -654,10 +654,10 @@ fn a_leader_whose_publication_fails_stands_again_and_publishes_the_same_value(
 // ---- a disk that fails
 
 // A node alone over a journal on a new disk.
-fn over_journal(alloc: Global) -> Result<Coordinator<StateJournal<Fuse<MemDisk>>>, Fail>
+fn over_journal(alloc: Global) -> Result<Coordinator<StateJournal<Fuse<MemDisks>>>, Fail>
     ensures { IfOk result IsReady }
 {
-    let disk = MemDisk::new(alloc, Vec::new(alloc), Vec::new(alloc));
+    let disk = MemDisks::new(alloc, Vec::new(alloc), Vec::new(alloc), Vec::new(alloc));
     let Ok(journal) = StateJournal::open(alloc, Fuse::new(disk)) else {
         return Err(Fail::new("no journal"));
     };

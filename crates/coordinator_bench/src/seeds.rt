@@ -9,10 +9,10 @@ use policy_model::{NodeIds, Settings};
 use state_journal::{Keeper, PlainKeeper, Ready, StateJournal};
 use std::alloc::Global;
 use voting_config::{NodeId, NodeSet};
-use zen_disk::MemDisk;
+use zen_disk::MemDisks;
 
 /// Nodes over journals on disks in memory.
-pub type Journaled = World<StateJournal<MemDisk>>;
+pub type Journaled = World<StateJournal<MemDisks>>;
 
 /// Nodes over records that take no memory and never fail.
 pub type Plain = World<PlainKeeper>;
@@ -123,15 +123,15 @@ fn ready(alloc: Global, bytes: &[u8]) -> Result<Ready, Fault> {
     }
 }
 
-fn empty_journal(alloc: Global) -> Result<StateJournal<MemDisk>, Fault> {
-    let disk = MemDisk::new(alloc, Vec::new(alloc), Vec::new(alloc));
+fn empty_journal(alloc: Global) -> Result<StateJournal<MemDisks>, Fault> {
+    let disk = MemDisks::new(alloc, Vec::new(alloc), Vec::new(alloc), Vec::new(alloc));
     match StateJournal::open(alloc, disk) {
         Ok(journal) => Ok(journal),
         Err(_) => Err(Fault::Unexpected("no journal")),
     }
 }
 
-fn keep_term(journal: &mut StateJournal<MemDisk>, term: u64) -> Result<(), Fault> {
+fn keep_term(journal: &mut StateJournal<MemDisks>, term: u64) -> Result<(), Fault> {
     if term > 1 || journal.kept().term >= term {
         return Err(Fault::Unexpected("a journal that is not empty"));
     }
@@ -141,7 +141,7 @@ fn keep_term(journal: &mut StateJournal<MemDisk>, term: u64) -> Result<(), Fault
     }
 }
 
-fn keep_state(journal: &mut StateJournal<MemDisk>, state: Ready) -> Result<(), Fault> {
+fn keep_state(journal: &mut StateJournal<MemDisks>, state: Ready) -> Result<(), Fault> {
     if state.state.term > journal.kept().term {
         return Err(Fault::Unexpected("a state of a later term"));
     }
@@ -152,7 +152,7 @@ fn keep_state(journal: &mut StateJournal<MemDisk>, state: Ready) -> Result<(), F
 }
 
 // A journal with the state that these bytes spell.
-fn journal(alloc: Global, bytes: &[u8]) -> Result<StateJournal<MemDisk>, Fault> {
+fn journal(alloc: Global, bytes: &[u8]) -> Result<StateJournal<MemDisks>, Fault> {
     let mut journal = empty_journal(alloc)?;
     keep_term(&mut journal, 1)?;
     keep_state(&mut journal, ready(alloc, bytes)?)?;

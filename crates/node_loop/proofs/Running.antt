@@ -2,10 +2,11 @@
 use Rattle.std.proofs.Common.{◌≡◌, ◌∙◌, ap, ℕ, ◌⊎◌, inl, inr, Option, Some, List, ◌∷◌}
 use Rattle.std.specs.Prelude.{Ok}
 use Rattle.std.specs.Result.{result_ok}
-use Rattle.zen_disk.specs.declared.disk.Disk.{Ghosts}
+use Rattle.zen_disk.specs.declared.disks.Disks.{Ghosts}
 use Rattle.zen_disk.specs.Moments.{LeavesOnly, joins}
+use Rattle.zen_disk.specs.Sides.{Files}
 use Rattle.cluster_state.specs.declared.state.Kept.{Kept}
-use Rattle.state_journal.specs.Journal.{found_of, record_of_file, FoundAsSome}
+use Rattle.state_journal.specs.Journal.{found_of, record_of_files, FoundAsSome}
 use Rattle.world_model.specs.declared.acts.Act.TheVariants.{Open}
 use Rattle.world_model.specs.Histories.{ContinuesUnlessFirst}
 use Rattle.coordinator.specs.declared.step.Sealed.{Sealed}
@@ -64,10 +65,10 @@ module _ {D : Type 0} (d : Ghosts D) where
     since = λ t found le left. either t found left.0 left.2 (only.since t left.0 le left.1);
   }
     where
-      either : (t : ℕ) (found : Option Kept) (file : List ℕ)
-          → found ≡ record_of_file file → d.left_since old t file ⊎ FoundAsSome (d.may_leave old) file → StoodOn d old t found ⊎ StandsOn d old found
-      either t found file is (inl before) = inl (file, before, is)
-      either t found file is (inr as_some) = inr (as_some.0, as_some.1, is ∙ ap result_ok as_some.2)
+      either : (t : ℕ) (found : Option Kept) (files : Files)
+          → found ≡ record_of_files files → d.left_since old t files ⊎ FoundAsSome (d.may_leave old) files → StoodOn d old t found ⊎ StandsOn d old found
+      either t found files is (inl before) = inl (files, before, is)
+      either t found files is (inr as_some) = inr (as_some.0, as_some.1, is ∙ ap result_ok as_some.2)
 
   pub holds_since : (old mid now : D) (s : Settings) (life new : Life)
       → (d.told → LeavesOnly d.moment d.left_since old mid (FoundAsSome (d.may_leave old))) → HoldsOn d mid now s life new → HoldsSince d old now s life new

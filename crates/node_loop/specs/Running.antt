@@ -1,9 +1,10 @@
 -- Part of the statement: what a run of a node comes to, told by the disk of its journal.
 use Rattle.std.specs.Prelude.{◌≡◌, ℕ, ◌⊎◌, Option, Ok, List}
-use Rattle.zen_disk.specs.declared.disk.Disk.{Ghosts}
+use Rattle.zen_disk.specs.declared.disks.Disks.{Ghosts}
 use Rattle.zen_disk.specs.Moments.{LeavesOnly}
+use Rattle.zen_disk.specs.Sides.{Files}
 use Rattle.cluster_state.specs.declared.state.Kept.{Kept}
-use Rattle.state_journal.specs.Journal.{found_of, record_of_file, StoodFor}
+use Rattle.state_journal.specs.Journal.{found_of, record_of_files, StoodFor}
 use Rattle.world_model.specs.declared.acts.Act.TheVariants.{Open}
 use Rattle.world_model.specs.Histories.{ContinuesUnlessFirst}
 use Rattle.coordinator.specs.declared.step.Sealed.{Sealed}
@@ -25,7 +26,7 @@ module _ {D : Type 0} (d : Ghosts D) where
 
   -- what a crash now leaves is opened with this
   abbrev pub StandsOn : D → Option Kept → Type 0
-  StandsOn disk found = (file : List ℕ) × d.may_leave disk file × (found ≡ record_of_file file)
+  StandsOn disk found = (files : Files) × d.may_leave disk files × (found ≡ record_of_files files)
 
   -- a crash leaves the last record of a life
   abbrev pub LeavesLastOn : D → Settings → Life → Type 0

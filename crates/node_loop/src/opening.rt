@@ -21,13 +21,13 @@ use coordinator::Sealed;
 use policy_model::Settings;
 use state_journal::{Keeper, OpenError, StateJournal};
 use std::alloc::Global;
-use zen_disk::Disk;
+use zen_disk::Disks;
 use zen_link::{Link, Sink};
 
 /// A node over the journal on a disk.
 pub type JournalNode<D> = Node<Reporter<StateJournal<D>>>;
 
-impl<D: Disk> Node<Reporter<StateJournal<D>>> {
+impl<D: Disks> Node<Reporter<StateJournal<D>>> {
     /// Opens a node over the journal on a disk. Its life goes on with the opening of the record that the journal gave.
     ///
     /// # Errors
@@ -69,7 +69,7 @@ impl<D: Disk> Node<Reporter<StateJournal<D>>> {
         turns: u64,
     ) -> (D, End)
         ensures serves { (s : SettingsOf) (life : Life) → Reports ⟦<StateJournal<D> as Keeper>⟧ self.steps.node self.steps.told s life → IsOpened life → Reads self.connections.items NoIntakes
-            → Serves sent_of (entry_text s) s life result.1 (O.written out.old) (O.written out.new) (L.told link.old) (L.told link.new) (HoldsOn D.Disk self.steps.node.core.keeper.log.disk result.0 s life) turns (opening_text s life) }
+            → Serves sent_of (entry_text s) s life result.1 (O.written out.old) (O.written out.new) (L.told link.old) (L.told link.new) (HoldsOn D.Disks self.steps.node.core.keeper.log.disk result.0 s life) turns (opening_text s life) }
         ensures causes { HasCauses (Some result.1) (D.faults self.steps.node.core.keeper.log.disk) (D.faults result.0) (O.faults out.old) (O.faults out.new) (L.faults link.old) (L.faults link.new) }
     {
         let mut node = self;

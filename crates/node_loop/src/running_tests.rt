@@ -11,11 +11,11 @@ use state_journal::OpenError;
 use std::alloc::{AllocError, Global};
 use std::test::Fail;
 use voting_config::{NodeId, NodeSet};
-use zen_disk::{Disk, MemDisk};
+use zen_disk::{Disks, MemDisks, Side};
 use zen_link::{Input, Link, MemLink, MemSink, Sink};
 
 // What the clauses of the two calls come to together, over any disk.
-fn open_and_run<D: Disk, L: Link<Out = Sealed>, O: Sink>(
+fn open_and_run<D: Disks, L: Link<Out = Sealed>, O: Sink>(
     alloc: Global,
     settings: Settings,
     disk: D,
@@ -23,7 +23,7 @@ fn open_and_run<D: Disk, L: Link<Out = Sealed>, O: Sink>(
     out: &mut O,
     turns: u64,
 ) -> Result<(D, End), OpenError<D>>
-    ensures { IfOk result (λ r. RanOn D.Disk disk r.0 settings r.1 (O.written out.old) (O.written out.new) (L.told link.old) (L.told link.new) turns) }
+    ensures { IfOk result (λ r. RanOn D.Disks disk r.0 settings r.1 (O.written out.old) (O.written out.new) (L.told link.old) (L.told link.new) turns) }
 {
     let node = Node::open(alloc, settings, disk)?;
     Ok(node.run(link, out, turns))
@@ -54,7 +54,7 @@ fn the_disk_of_a_run_is_opened_by_the_next_one(rt: HostRuntime) -> Result<(), Fa
     let alloc = rt.alloc();
     let mut link = MemLink::new(alloc, one_tick(alloc)?, Vec::new(alloc));
     let mut out = MemSink::new(alloc, 1 << 20, Vec::new(alloc));
-    let disk = MemDisk::new(alloc, Vec::new(alloc), Vec::new(alloc));
+    let disk = MemDisks::new(alloc, Vec::new(alloc), Vec::new(alloc), Vec::new(alloc));
     let Ok((disk, end)) = open_and_run(alloc, alone(alloc)?, disk, &mut link, &mut out, 1) else {
         return Err(Fail::new("the journal was not opened"));
     };
@@ -77,7 +77,12 @@ fn a_disk_that_fails_at_the_opening_is_handed_back(rt: HostRuntime) -> Result<()
     let alloc = rt.alloc();
     let mut link = MemLink::new(alloc, Vec::new(alloc), Vec::new(alloc));
     let mut out = MemSink::new(alloc, 1 << 20, Vec::new(alloc));
-    let disk = MemDisk::new(alloc, Vec::new(alloc), vec![in alloc; 1u64]?);
+    let disk = MemDisks::new(
+        alloc,
+        Vec::new(alloc),
+        Vec::new(alloc),
+        vec![in alloc; 1u64]?,
+    );
     let Err(OpenError::Disk(mut disk)) = open_and_run(
         alloc,
         alone(alloc)?,
@@ -88,7 +93,7 @@ fn a_disk_that_fails_at_the_opening_is_handed_back(rt: HostRuntime) -> Result<()
     ) else {
         return Err(Fail::new("the journal was opened"));
     };
-    assert!(rt; disk.len()? == 0);
+    assert!(rt; disk.len(Side::Zero)? == 0);
     assert!(rt; out.as_bytes().is_empty());
     Ok(())
 }

@@ -9,11 +9,11 @@ use policy_model::{NodeIds, Settings};
 use std::alloc::{AllocError, Global};
 use std::test::Fail;
 use voting_config::{NodeId, NodeSet};
-use zen_disk::MemDisk;
+use zen_disk::MemDisks;
 use zen_link::{Input, MemLink, MemSink, Traffic};
 
 // The node a, which is the only first voter and knows no other node, over an empty disk whose calls of these numbers fail.
-fn open(alloc: Global, failing: Vec<u64>) -> Result<JournalNode<MemDisk>, Fail> {
+fn open(alloc: Global, failing: Vec<u64>) -> Result<JournalNode<MemDisks>, Fail> {
     let me = NodeId::parse("a")?;
     let mut initial = NodeSet::new();
     let _ = initial.insert(me);
@@ -26,7 +26,7 @@ fn open(alloc: Global, failing: Vec<u64>) -> Result<JournalNode<MemDisk>, Fail> 
     match Node::open(
         alloc,
         settings,
-        MemDisk::new(alloc, Vec::new(alloc), failing),
+        MemDisks::new(alloc, Vec::new(alloc), Vec::new(alloc), failing),
     ) {
         Ok(node) => Ok(node),
         Err(_) => Err(Fail::new("the journal was not opened")),
@@ -214,11 +214,11 @@ fn nothing_is_sent_whose_lines_are_not_written(rt: HostRuntime) -> Result<(), Fa
     Ok(())
 }
 
-// The opening of an empty disk makes four calls, and the first act that is kept four more.
+// The opening of an empty disk makes eight calls, and the first act that is kept four more.
 #[test]
 fn an_event_that_the_disk_strikes_is_told_and_ends_the_run(rt: HostRuntime) -> Result<(), Fail> {
     let alloc = rt.alloc();
-    for call in [5u64, 6, 7, 8] {
+    for call in [9u64, 10, 11, 12] {
         let mut node = open(alloc, vec![in alloc; call]?)?;
         let mut link = MemLink::new(alloc, ticks(alloc)?, Vec::new(alloc));
         let mut out = MemSink::new(alloc, 1 << 20, Vec::new(alloc));

@@ -1,46 +1,45 @@
--- A disk in memory under orders does what is said of it, unless it found no memory.
-use Rattle.std.proofs.Common.{◌≡◌, ℕ, List, [], ◌∷◌, Bool, true, false, Some, None, refl, sym, ◌∙◌, ap, subst, inl, inr}
+-- A disk of two files in memory under orders does what is said of it, unless it found no memory.
+use Rattle.std.proofs.Common.{◌≡◌, List, [], ◌∷◌, Bool, true, false, Some, None, refl, sym, ◌∙◌, ap, subst, inl, inr}
 use Rattle.std.specs.Prelude.{Option}
-use Rattle.gate_log.proofs.Laid.{gate_is}
-use Rattle.gate_log.specs.Journal.{IsSettled, standing}
 use Rattle.zen_disk.specs.Armed.{armed_later, armed_with, fate_by, fate_of, stop_due, is_fault_due}
 use Rattle.zen_disk.specs.DeviceCall.{DeviceCall, Len, Read, Write, Sync}
-use Rattle.zen_disk.specs.FileState.{FileState, after, left_by}
+use Rattle.zen_disk.specs.FileState.{FileState, after, both_left_by}
 use Rattle.zen_disk.specs.Fuse.{FuseArms, FuseSteps, StepsAt, StopsIn}
-use Rattle.zen_disk.specs.MemDisk.{MemSteps, file_of}
+use Rattle.zen_disk.specs.MemDisks.{MemSteps, files_of}
 use Rattle.zen_disk.specs.Runs.{Ran}
-use Rattle.zen_disk.specs.declared.memory.MemDisk.{MemDisk}
+use Rattle.zen_disk.specs.Sides.{Sides}
+use Rattle.zen_disk.specs.declared.memory.MemDisks.{MemDisks}
 use Rattle.zen_disk.specs.declared.orders.Armed.{Armed}
 use Rattle.zen_disk.specs.declared.orders.Order.{Order}
 use Rattle.zen_disk.specs.declared.orders.Struck.{Struck}
 use Rattle.zen_disk.specs.declared.orders.Struck.TheVariants.{Stop, Fault}
 use Rattle.zen_disk.specs.declared.orders.Way.{Way}
-use Rattle.replay_node.specs.NodeDisk.{NodeDisk, CallsEnd, Done, Failed, StoppedIn, Called, MemFuse, DiskStands, EndsAs, Restarted, placed, call_by, call_once, go_on, calls_made, gate_of, stopped_by, with_order}
+use Rattle.replay_node.specs.NodeDisk.{NodeDisk, CallsEnd, Done, Failed, StoppedIn, Called, MemFuse, DiskStands, EndsAs, Restarted, placed, call_by, call_once, go_on, calls_made, stopped_by, with_order}
 
 -- the only call of such a fuse that fails with nothing told to have struck is one that found no memory
 abbrev pub FoundMemory : MemFuse → Bool → Type 0
 FoundMemory fuse ok = ok ≡ false → fuse.struck ≡ None → ⊥
 
-placed_so : (old new : MemDisk) (call : DeviceCall) (struck : Option Struck) → StopsIn MemSteps old call new struck → (struck ≡ None → ⊥) → (file_of new ≡ placed (file_of old) call) × (struck ≡ Some Stop)
-placed_so old new (Write at bytes) struck (inl by) memory = (by.0.file, by.1)
-placed_so old new (Write at bytes) struck (inr by) memory = absurd (memory by.1)
-placed_so old new Len struck by memory = (ap file_of by.0, by.1)
-placed_so old new (Read at n) struck by memory = (ap file_of by.0, by.1)
-placed_so old new Sync struck by memory = (ap file_of by.0, by.1)
+placed_so : (old new : MemDisks) (call : DeviceCall) (struck : Option Struck) → StopsIn MemSteps old call new struck → (struck ≡ None → ⊥) → (files_of new ≡ placed (files_of old) call) × (struck ≡ Some Stop)
+placed_so old new (Write side at bytes) struck (inl by) memory = (by.0.file, by.1)
+placed_so old new (Write side at bytes) struck (inr by) memory = absurd (memory by.1)
+placed_so old new (Len side) struck by memory = (ap files_of by.0, by.1)
+placed_so old new (Read side at n) struck by memory = (ap files_of by.0, by.1)
+placed_so old new (Sync side) struck by memory = (ap files_of by.0, by.1)
 
-one_by : (stop : Option Way) (fault : Bool) (f g : MemFuse) (d : NodeDisk) (call : DeviceCall) (ok : Bool) → file_of f.disk ≡ d.file → g.armed ≡ armed_later d.armed → g.down ≡ stop
+one_by : (stop : Option Way) (fault : Bool) (f g : MemFuse) (d : NodeDisk) (call : DeviceCall) (ok : Bool) → files_of f.disk ≡ d.files → g.armed ≡ armed_later d.armed → g.down ≡ stop
     → StepsAt MemSteps (fate_by stop fault) f.disk call g.disk ok g.struck → FoundMemory g ok → EndsAs (call_by stop fault d call).ended g (call_by stop fault d call).disk ok
-one_by (Some way) fault f g d call ok file armed down steps memory =
+one_by (Some way) fault f g d call ok files armed down steps memory =
     let there = placed_so f.disk g.disk call g.struck steps.0 (memory steps.1) in
-    (steps.1, there.1, down, ap (left_by way) (there.0 ∙ ap (λ (s : FileState). placed s call) file), armed)
-one_by None true f g d call ok file armed down steps memory = (steps.1, steps.2, record { file = ap file_of steps.0 ∙ file; armed = armed; up = down })
-one_by None false f g d call true file armed down steps memory = (refl, record { file = steps.0.file ∙ ap (λ (s : FileState). after s call) file; armed = armed; up = down })
-one_by None false f g d call false file armed down steps memory = absurd (memory refl steps.1)
+    (steps.1, there.1, down, ap (both_left_by way) (there.0 ∙ ap (λ (s : Sides FileState). placed s call) files), armed)
+one_by None true f g d call ok files armed down steps memory = (steps.1, steps.2, record { files = ap files_of steps.0 ∙ files; armed = armed; up = down })
+one_by None false f g d call true files armed down steps memory = (refl, record { files = steps.0.file ∙ ap (λ (s : Sides FileState). after s call) files; armed = armed; up = down })
+one_by None false f g d call false files armed down steps memory = absurd (memory refl steps.1)
 
 one : (f g : MemFuse) (d : NodeDisk) (call : DeviceCall) (ok : Bool) → DiskStands f d → FuseSteps MemSteps f call g ok → FoundMemory g ok → EndsAs (call_once d call).ended g (call_once d call).disk ok
 one f g d call ok stands steps memory =
     let run = steps.0 stands.up in
-    one_by (stop_due d.armed.stop) (is_fault_due d.armed.fault) f g d call ok stands.file (run.orders ∙ ap armed_later stands.armed) (run.down ∙ ap (λ (a : Armed). stop_due a.stop) stands.armed)
+    one_by (stop_due d.armed.stop) (is_fault_due d.armed.fault) f g d call ok stands.files (run.orders ∙ ap armed_later stands.armed) (run.down ∙ ap (λ (a : Armed). stop_due a.stop) stands.armed)
     (subst (λ (a : Armed). StepsAt MemSteps (fate_of a) f.disk call g.disk ok g.struck) stands.armed run.disk) memory
 
 goes_on : (end : CallsEnd) (mid g : MemFuse) (d : NodeDisk) (ok : Bool) (more : NodeDisk → Called) → EndsAs end mid d true → (DiskStands mid d → EndsAs (more d).ended g (more d).disk ok)
@@ -68,7 +67,7 @@ pub record StopLeaves (end : CallsEnd) (g : MemFuse) (d : NodeDisk) : Type 0 whe
   pub way : Way
   pub ended : end ≡ StoppedIn way
   pub down : g.down ≡ Some way
-  pub file : left_by way (file_of g.disk) ≡ d.file
+  pub files : both_left_by way (files_of g.disk) ≡ d.files
   pub armed : g.armed ≡ d.armed
 
 -- how calls ended, by their answer and by what has struck
@@ -85,7 +84,7 @@ ends_failed (StoppedIn way) g d ok said failing struck = absurd (cc said.1)
 ends_stopped : (end : CallsEnd) (g : MemFuse) (d : NodeDisk) (ok : Bool) → EndsAs end g d ok → ok ≡ false → g.struck ≡ Some Stop → StopLeaves end g d
 ends_stopped Done g d ok said failing struck = absurd (cc said.0)
 ends_stopped Failed g d ok said failing struck = absurd (cc said.1)
-ends_stopped (StoppedIn way) g d ok said failing struck = record { way = way; ended = refl; down = said.2; file = said.3; armed = said.4 }
+ends_stopped (StoppedIn way) g d ok said failing struck = record { way = way; ended = refl; down = said.2; files = said.3; armed = said.4 }
 
 module _ (calls : List DeviceCall) (f g : MemFuse) (d : NodeDisk) (ok : Bool) (stands : DiskStands f d) (ran : Ran (FuseSteps MemSteps) calls f g ok) where
   pub said_done : ok ≡ true → ((calls_made d calls).ended ≡ Done) × DiskStands g (calls_made d calls).disk
@@ -98,13 +97,10 @@ module _ (calls : List DeviceCall) (f g : MemFuse) (d : NodeDisk) (ok : Bool) (s
   said_stopped failing struck = ends_stopped (calls_made d calls).ended g (calls_made d calls).disk ok (as_said calls f g d ok stands ran (λ failing none. absurd (cc (struck, none)))) failing struck
 
 pub restarted_stands : (end : CallsEnd) (g new : MemFuse) (d : NodeDisk) → StopLeaves end g d → Restarted g new → DiskStands new d
-restarted_stands end g new d left again = record { file = again.file left.way left.down ∙ left.file; armed = again.armed ∙ left.armed; up = again.up }
+restarted_stands end g new d left again = record { files = again.files left.way left.down ∙ left.files; armed = again.armed ∙ left.armed; up = again.up }
 
-pub stopped_stands : (f new : MemFuse) (d : NodeDisk) (way : Way) → DiskStands f d → new.armed ≡ f.armed → new.down ≡ None → file_of new.disk ≡ left_by way (file_of f.disk) → DiskStands new (stopped_by way d)
-stopped_stands f new d way stands armed up file = record { file = file ∙ ap (left_by way) stands.file; armed = armed ∙ stands.armed; up = up }
+pub stopped_stands : (f new : MemFuse) (d : NodeDisk) (way : Way) → DiskStands f d → new.armed ≡ f.armed → new.down ≡ None → files_of new.disk ≡ both_left_by way (files_of f.disk) → DiskStands new (stopped_by way d)
+stopped_stands f new d way stands armed up files = record { files = files ∙ ap (both_left_by way) stands.files; armed = armed ∙ stands.armed; up = up }
 
 pub ordered_stands : (f g : MemFuse) (d : NodeDisk) (order : Order) → DiskStands f d → FuseArms f order g → DiskStands g (with_order order d)
-ordered_stands f g d order stands arms = record { file = ap file_of arms.disk ∙ stands.file; armed = arms.armed ∙ ap (armed_with order) stands.armed; up = arms.down ∙ stands.up }
-
-pub gate_stands : (file : List ℕ) (outcomes : List ℕ → Type 0) (gate : ℕ) → IsSettled file outcomes gate → gate ≡ gate_of file
-gate_stands file outcomes gate is = gate_is (standing file) file gate is.laid
+ordered_stands f g d order stands arms = record { files = ap files_of arms.disk ∙ stands.files; armed = arms.armed ∙ ap (armed_with order) stands.armed; up = arms.down ∙ stands.up }

@@ -1,17 +1,19 @@
--- What a crash may leave is told by the state of the file, so a file in the same state may leave the same.
-use Rattle.std.proofs.Common.{◌≡◌, ℕ, ◌+◌, ◌≤◌, max, List, [], ◌∷◌, ◌++◌, length, take, drop, sym, ◌∙◌, ap, subst, inl, inr, reverse, arith, append_assoc, length-append, length-drop}
+-- What a crash may leave is told by the state of each file, so files in the same state may leave the same.
+use Rattle.std.proofs.Common.{◌≡◌, ℕ, ◌+◌, ◌≤◌, max, List, [], ◌∷◌, ◌++◌, length, take, drop, sym, ◌∙◌, ap, subst, inl, inr, arith, append_assoc, length-append, length-drop}
 use Rattle.std.proofs.lemmas.Bool.{cases_lt}
 use Rattle.std.proofs.lemmas.List.{length-take-le, take_at, drop_at, drop_all}
 use Rattle.zen_disk.specs.Disk.{Torn}
-use Rattle.zen_disk.specs.FileState.{FileState, stable_of, ranges_of, left_by, settled}
+use Rattle.zen_disk.specs.FileState.{FileState, stable_of, ranges_of, state_of, left_by, both_left_by, settled}
 use Rattle.zen_disk.specs.UndoLog.{before, IsUndo, IsProper, IsImage, image-read}
 use Rattle.zen_disk.specs.declared.orders.Way.{Way}
 use Rattle.zen_disk.specs.declared.orders.Way.TheVariants.{Lost, Kept, Torn as TornTo}
 use Rattle.zen_disk.specs.declared.undo_log.Overwrite.{Overwrite}
 use Rattle.zen_disk.specs.declared.undo_log.UndoRecord.{UndoRecord}
 use Rattle.zen_disk.specs.declared.undo_log.UndoRecord.TheVariants.{Overwrote, Synced}
-use Rattle.zen_disk.specs.MemDisk.{file_of}
-use Rattle.zen_disk.specs.declared.memory.MemDisk.{MemDisk}
+use Rattle.zen_disk.specs.MemDisks.{files_of, past_of, read_of}
+use Rattle.zen_disk.specs.Sides.{Sides, Files}
+use Rattle.zen_disk.specs.UndoOrder.{AreImages, images-read}
+use Rattle.zen_disk.specs.declared.memory.MemDisks.{MemDisks}
 use Rattle.replay_node.specs.NodeDisk.{MemFuse, MayLeave}
 
 -- a write tears at most its range
@@ -26,9 +28,12 @@ torn_back w read is =
     let both : length (take at read ++ over) ≡ at + length over = omega (arith, length-append (take at read) over, front) in
     let size : length old ≡ at + length over + length (drop end read) = omega (arith, length-append (take at read ++ over) (drop end read), both) in
     let rest : length (drop end read) + end ≡ length read = omega (arith, length-drop end read, inside) in
-    let before_is : take at old ≡ take at read = ap (λ (l : List ℕ). take at l) (append_assoc (take at read) over (drop end read)) ∙ take_at (take at read) (over ++ drop end read) at front in
+    let before_is : take at old ≡ take at read =
+    ap (λ (l : List ℕ). take at l) (append_assoc (take at read) over (drop end read)) ∙ take_at (take at read) (over ++ drop end read) at front in
     let after_is : drop end read ≡ drop end old = elim (cases_lt (length over) w.len) [
-      | inl short ↦ let all : end ≡ length read = is.tail short in drop_all end read (omega (arith, all)) ∙ sym (drop_all end old (omega (arith, all, size, rest, short)))
+      | inl short ↦
+          let all : end ≡ length read = is.tail short in
+          drop_all end read (omega (arith, all)) ∙ sym (drop_all end old (omega (arith, all, size, rest, short)))
       | inr whole ↦ sym (drop_at (take at read ++ over) (drop end read) end (omega (arith, both, is.no_more, whole)))
     ] in
     let longest : length read ≤ max (length old) end = elim (cases_lt (length over) w.len) [
@@ -55,28 +60,38 @@ torn_image [] read c torn = torn
 torn_image (Overwrote w ∷ past) read c torn = inr (torn.0, torn_image past (before (Overwrote w) read) torn.0 torn.1, torn.2)
 torn_image (Synced ∷ past) read c torn = torn
 
-abbrev pub Images : MemDisk → List ℕ → Type 0
-Images disk = IsImage (reverse disk.log.items) disk.bytes.items
+-- the same of one file, by its log and what is read
+module _ (past : List UndoRecord) (read : List ℕ) (new_past : List UndoRecord) (new : List ℕ) (proper : IsProper new_past new) (c : List ℕ) where
+  same_state : state_of new_past new ≡ state_of past read → IsImage new_past new c → IsImage past read c
+  same_state same is = torn_image past read c (subst (λ (s : FileState). TornBy s.ranges s.stable c) same (image_torn new_past new c proper is))
 
-state_torn : (disk : MemDisk) (c : List ℕ) → Images disk c → TornBy (file_of disk).ranges (file_of disk).stable c
-state_torn disk c is = image_torn (reverse disk.log.items) disk.bytes.items c disk.proper is
+  -- all is stable, so what is read is all that may be left
+  all_stable : (bytes : List ℕ) → state_of new_past new ≡ settled bytes → IsImage past read new → IsImage new_past new c → IsImage past read c
+  all_stable bytes stable left is =
+      let c_is : c ≡ bytes = subst (λ (s : FileState). TornBy s.ranges s.stable c) stable (image_torn new_past new c proper is) in
+      let read_is : new ≡ bytes = ap (λ (s : FileState). s.read) stable in
+      subst (IsImage past read) (read_is ∙ sym c_is) left
 
-same_state : (old new : MemDisk) (c : List ℕ) → file_of new ≡ file_of old → Images new c → Images old c
-same_state old new c same is =
-    torn_image (reverse old.log.items) old.bytes.items c (subst (λ (s : FileState). TornBy s.ranges s.stable c) same (state_torn new c is))
+  file_within : (way : Way) → state_of new_past new ≡ left_by way (state_of past read) → IsImage past read new → IsImage new_past new c
+      → IsImage past read c
+  file_within Lost left now is = all_stable _ left now is
+  file_within Kept left now is = same_state left is
+  file_within (TornTo x) left now is = all_stable _ left now is
 
--- all is stable, so what is read is all that may be left
-all_stable : (old new : MemDisk) (bytes c : List ℕ) → file_of new ≡ settled bytes → Images old new.bytes.items → Images new c → Images old c
-all_stable old new bytes c stable read is =
-    let c_is : c ≡ bytes = subst (λ (s : FileState). TornBy s.ranges s.stable c) stable (state_torn new c is) in
-    let read_is : new.bytes.items ≡ bytes = ap (λ (s : FileState). s.read) stable in
-    subst (Images old) (read_is ∙ sym c_is) read
+abbrev pub Images : MemDisks → Files → Type 0
+Images disk = AreImages (past_of disk) (read_of disk)
 
-pub crash_within : (way : Way) (old new : MemDisk) (c : List ℕ) → file_of new ≡ left_by way (file_of old) → Images old new.bytes.items → Images new c → Images old c
-crash_within Lost old new c left read is = all_stable old new _ c left read is
-crash_within Kept old new c left read is = same_state old new c left is
-crash_within (TornTo x) old new c left read is = all_stable old new _ c left read is
+pub crash_within : (way : Way) (old new : MemDisks) (c : Files) → files_of new ≡ both_left_by way (files_of old) → Images old (read_of new)
+    → Images new c → Images old c
+crash_within way old new c left now are =
+    let past = past_of old in
+    let read = read_of old in
+    let zero : state_of (past_of new).zero (read_of new).zero ≡ left_by way (state_of past.zero read.zero) = ap (λ (s : Sides FileState). s.zero) left in
+    let one : state_of (past_of new).one (read_of new).one ≡ left_by way (state_of past.one read.one) = ap (λ (s : Sides FileState). s.one) left in (
+      file_within past.zero read.zero (past_of new).zero (read_of new).zero new.zero.proper c.zero way zero now.0 are.0,
+      file_within past.one read.one (past_of new).one (read_of new).one new.one.proper c.one way one now.1 are.1,
+    )
 
 -- what is read may be left
-pub images_within : (f : MemFuse) → MayLeave f f.disk.bytes.items
-images_within f = image-read (reverse f.disk.log.items) f.disk.bytes.items
+pub images_within : (f : MemFuse) → MayLeave f (read_of f.disk)
+images_within f = images-read (past_of f.disk) (read_of f.disk)

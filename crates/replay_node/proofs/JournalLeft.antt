@@ -1,68 +1,123 @@
--- What an append, an opening and any stops in them make of a node's journal.
-use Rattle.std.proofs.Common.{◌≡◌, ◌⊎◌, inl, inr, ℕ, ◌+◌, ◌≤◌, ◌<◌, Bool, true, cond, List, [], ◌∷◌, ◌++◌, length, take, drop, get_or, Ok, refl, sym, ◌∙◌, ap, subst, arith, append_assoc}
-use Rattle.std.specs.Prelude.{nat_le}
-use Rattle.std.proofs.lemmas.Bool.{cases_eq, cases_lt, lt-leb, le-leb}
-use Rattle.std.proofs.lemmas.List.{drop_all, get_or_at, length-take-le}
+-- What an append, a renewal, an opening and any stops in them make of a node's journal.
+use Rattle.std.proofs.Common.{◌≡◌, ◌⊎◌, inl, inr, ℕ, ◌+◌, ◌≤◌, ◌<◌, ◌^◌, Bool, true, false, List, [], ◌∷◌, ◌++◌, length, take, drop, get_or, Ok, refl, sym, ◌∙◌, ap, subst, arith, append_assoc, length-append, take-append-drop, if◌then◌else◌}
+use Rattle.std.specs.Prelude.{Option, nat_lt}
+use Rattle.std.specs.Option.{unwrap_or}
+use Rattle.std.proofs.lemmas.Bool.{cases_eq, ltb-true, ltb-false}
+use Rattle.std.proofs.lemmas.List.{drop_more, get_or_at, length-take-le}
+use Rattle.std.proofs.lemmas.Nat.{from_be_bytes-to_be_bytes_8}
+use Rattle.voting_config.specs.Ids.{most_ids}
+use Rattle.cluster_state.specs.Field.{eight_bytes}
+use Rattle.cluster_state.specs.Fields.{term, ids}
+use Rattle.cluster_state.specs.States.{state}
 use Rattle.cluster_state.specs.Initial.{empty_record}
 use Rattle.cluster_state.specs.declared.state.Kept.{Kept}
-use Rattle.zen_disk.specs.DeviceCall.{DeviceCall, Len, Read, Write, Sync}
+use Rattle.zen_disk.specs.DeviceCall.{DeviceCall, Write, Sync}
 use Rattle.zen_disk.specs.Disk.{written, part, Torn}
-use Rattle.zen_disk.specs.FileState.{FileState, after, settled}
+use Rattle.zen_disk.specs.FileState.{FileState, settled}
+use Rattle.zen_disk.specs.Sides.{Sides, Files, on, other, put}
+use Rattle.zen_disk.specs.declared.side.Side.{Side}
+use Rattle.zen_disk.specs.declared.side.Side.TheVariants.{Zero, One}
 use Rattle.zen_disk.proofs.Files.{torn_written, part_written}
-use Rattle.gate_log.specs.Calls.{append_calls, opening_calls}
-use Rattle.gate_log.specs.Journal.{header, framed, laid, standing, IsFrame, IsLaid}
-use Rattle.gate_log.proofs.Added.{torn_behind, opened, still_closed}
-use Rattle.gate_log.proofs.Laid.{brief, fresh_laid, gate_is, stands_for, standing_is}
+use Rattle.gate_log.specs.Calls.{LeavesOn, append_calls, renewal_calls}
+use Rattle.gate_log.specs.Folded.{found_by}
+use Rattle.gate_log.specs.Generations.{Generations, Begins, IsSettledAs, appended, renewed, epoch_in, epoch_of, generations_of, in_use, is_generation, tail_of, standing_in}
+use Rattle.gate_log.specs.Journal.{framed, bodies_of, IsBeforeOrAfter, IsReplaced, IsFrame, IsLaid}
+use Rattle.gate_log.specs.Place.{Place, gate_behind, place_of, renews}
+use Rattle.gate_log.proofs.Added.{emptied, first_closed, first_is_open, laid_nothing, opened, room, still_closed, torn_behind}
+use Rattle.gate_log.proofs.Folded.{append_finds, renewal_finds}
+use Rattle.gate_log.proofs.Laid.{gate_is, stands_for}
+use Rattle.gate_log.proofs.Settled.{after_it, append_leaves, appended_settled, other_other, renewal_leaves, renewed_settled, standing_is}
 use Rattle.state_journal.specs.Bodies.{body_of, change_at}
 use Rattle.state_journal.specs.Changes.{changed}
-use Rattle.state_journal.specs.Journal.{in_order, folded_from, found_in, found_of}
+use Rattle.state_journal.specs.Drafts.{MayBegin}
+use Rattle.state_journal.specs.Journal.{in_order, found_in, found_of, on_its_side, record_of_bodies}
+use Rattle.state_journal.specs.Keeping.{generation_after, keeping_calls, writing_calls}
 use Rattle.state_journal.specs.declared.change.Change.{Change}
 use Rattle.state_journal.proofs.Folds.{folded-push, makes, fold_end}
-use Rattle.replay_node.specs.NodeDisk.{NodeDisk, calls_made, gate_of, opening}
-use Rattle.replay_node.proofs.FileLeft.{Leaves, Ends, leaves_read, call_leaves, no_calls}
+use Rattle.state_journal.proofs.Found.{appended_reads, in_use_read, on_side_ok, renewed_reads}
+use Rattle.state_journal.proofs.Sizes.{ids_short, length-eight, state_short}
+use Rattle.state_journal.proofs.Writing.{begun, next_epoch}
+use Rattle.replay_node.specs.NodeDisk.{NodeDisk, bytes_read, calls_made}
+use Rattle.replay_node.proofs.FilesLeft.{Since, Nothing, MayBe, Leaves, Ends, Rest, state_since, no_calls, pair, pair_here, pair_there, writes}
 
--- an opening of the file finds this record, and the file is a journal or too short to be one
-pub record StandsWith (kept : Kept) (file : List ℕ) : Type 0 where
-  pub found : found_of file ≡ Ok kept
-  pub laid_out : (length file ≤ 9) ⊎ ((gate : ℕ) × IsLaid (standing file) file gate)
+-- a file of a journal: too short for a body, or laid out
+abbrev pub IsReadable : List ℕ → Type 0
+IsReadable file = (length file ≤ 9) ⊎ ((bodies : List (List ℕ)) × (gate : ℕ) × IsLaid bodies file gate)
 
-abbrev pub StandsWithEither : Kept → Kept → List ℕ → Type 0
-StandsWithEither a b file = StandsWith a file ⊎ StandsWith b file
+-- an opening of the files finds this record
+pub record StandsWith (kept : Kept) (files : Files) : Type 0 where
+  pub found : found_of files ≡ Ok kept
+  pub zero : IsReadable files.zero
+  pub one : IsReadable files.one
 
--- the file of a node that runs: all of it is stable, and it is a journal with this record
-pub record Runs (file : FileState) (kept : Kept) : Type 0 where
-  pub bytes : List ℕ
+abbrev pub StandsWithEither : Kept → Kept → Files → Type 0
+StandsWithEither a b files = StandsWith a files ⊎ StandsWith b files
+
+abbrev pub both_settled : Files → Sides FileState
+both_settled bytes = record { zero = settled bytes.zero; one = settled bytes.one }
+
+-- the files of a node that runs: all of them is stable, and they are a journal with this record
+pub record Runs (files : Sides FileState) (kept : Kept) : Type 0 where
+  pub bytes : Files
+  pub generations : Generations
+  pub side : Side
   pub gate : ℕ
-  pub is : file ≡ settled bytes
-  pub laid_out : IsLaid (standing bytes) bytes gate
+  pub other_gate : ℕ
+  pub epoch : ℕ
+  pub is : files ≡ both_settled bytes
+  pub settled : IsSettledAs generations bytes (λ c. c ≡ bytes) side gate other_gate epoch
   pub found : found_of bytes ≡ Ok kept
 
--- a change that may be kept next
+-- a change that may be kept next, after which the record may begin a generation
 pub record MayKeep (kept : Kept) (change : Change) : Type 0 where
   pub reads : change_at (body_of change) ≡ Ok change
   pub order : in_order kept change ≡ true
   pub short : length (body_of change) ≤ 8388608
+  pub plain : is_generation (body_of change) ≡ false
+  pub begins : MayBegin (changed kept change)
 
-laid_found : (bodies : List (List ℕ)) (file : List ℕ) (gate : ℕ) (kept : Kept) → IsLaid bodies file gate → folded_from 8 empty_record bodies ≡ Ok kept → found_of file ≡ Ok kept
-laid_found bodies file gate kept is folds = ap found_in (stands_for bodies file gate is) ∙ folds
+found_as : (files : Files) (g : Generations) (kept : Kept) → generations_of files ≡ Ok g → found_by record_of_bodies g ≡ Ok kept
+    → found_of files ≡ Ok kept
+found_as files g kept is found = ap found_in is ∙ ap on_its_side found
 
-laid_standing : (bodies : List (List ℕ)) (file : List ℕ) (gate : ℕ) → IsLaid bodies file gate → IsLaid (standing file) file gate
-laid_standing bodies file gate is = subst (λ (bs : List (List ℕ)). IsLaid bs file gate) (sym (standing_is bodies file gate is)) is
+pub readable_pair : (side : Side) (c d : List ℕ) → IsReadable c → IsReadable d → IsReadable (pair side c d).zero × IsReadable (pair side c d).one
+readable_pair Zero c d here there = (here, there)
+readable_pair One c d here there = (there, here)
 
-laid_stands : (bodies : List (List ℕ)) (file : List ℕ) (gate : ℕ) (kept : Kept) → IsLaid bodies file gate → folded_from 8 empty_record bodies ≡ Ok kept → StandsWith kept file
-laid_stands bodies file gate kept is folds = record { found = laid_found bodies file gate kept is folds; laid_out = inr (gate, laid_standing bodies file gate is) }
+readable_sides : (side : Side) (files : Files) → IsReadable (on side files) → IsReadable (on (other side) files)
+    → IsReadable files.zero × IsReadable files.one
+readable_sides Zero files here there = (here, there)
+readable_sides One files here there = (there, here)
 
-laid_runs : (bodies : List (List ℕ)) (file : FileState) (bytes : List ℕ) (gate : ℕ) (kept : Kept) → file ≡ settled bytes → IsLaid bodies bytes gate → folded_from 8 empty_record bodies ≡ Ok kept → Runs file kept
-laid_runs bodies file bytes gate kept same is folds = record { bytes = bytes; gate = gate; is = same; laid_out = laid_standing bodies bytes gate is; found = laid_found bodies bytes gate kept is folds }
+settled_pair : (side : Side) (bytes : Files) → both_settled bytes ≡ pair side (settled (on side bytes)) (settled (on (other side) bytes))
+settled_pair Zero bytes = refl
+settled_pair One bytes = refl
 
-pub runs_leaves : (file : FileState) (kept other : Kept) → Runs file kept → Leaves file (StandsWithEither kept other)
-runs_leaves file kept other runs = inl (record { bytes = runs.bytes; is = runs.is; holds = inl (record { found = runs.found; laid_out = inr (runs.gate, runs.laid_out) }) })
+other_pair : (side : Side) (bytes : Files) → both_settled bytes ≡ pair (other side) (settled (on (other side) bytes)) (settled (on side bytes))
+other_pair Zero bytes = refl
+other_pair One bytes = refl
 
--- ---- an append
+pair_settled : (side : Side) (here there : List ℕ) → pair side (settled here) (settled there) ≡ both_settled (pair side here there)
+pair_settled Zero here there = refl
+pair_settled One here there = refl
 
-module _ (bodies : List (List ℕ)) (old : List ℕ) (gate : ℕ) (kept : Kept) (change : Change) (is : IsLaid bodies old gate) (folds : folded_from 8 empty_record bodies ≡ Ok kept) (may : MayKeep kept change) where
+-- ---- one body more on a side
+
+-- the file has these bodies, with one more or without it
+abbrev IsEitherLaid : List (List ℕ) → List ℕ → List ℕ → Type 0
+IsEitherLaid bodies body c = ((gate : ℕ) × IsLaid bodies c gate) ⊎ ((gate : ℕ) × IsLaid (bodies ++ body ∷ []) c gate)
+
+either_counts : (bodies : List (List ℕ)) (body c : List ℕ) → IsEitherLaid bodies body c → IsBeforeOrAfter bodies body c
+either_counts bodies body c (inl before) = inl (stands_for bodies c before.0 before.1)
+either_counts bodies body c (inr after) = inr (stands_for (bodies ++ body ∷ []) c after.0 after.1)
+
+either_readable : (bodies : List (List ℕ)) (body c : List ℕ) → IsEitherLaid bodies body c → IsReadable c
+either_readable bodies body c (inl before) = inr (bodies, before.0, before.1)
+either_readable bodies body c (inr after) = inr (bodies ++ body ∷ [], after.0, after.1)
+
+module _ (bodies : List (List ℕ)) (body old : List ℕ) (gate : ℕ) (is : IsLaid bodies old gate) (short : length body ≤ 8388608) where
   abbrev frame : List ℕ
-  frame = framed (body_of change)
+  frame = framed body
 
   abbrev staged : List ℕ
   staged = written old (gate + 1) frame
@@ -70,154 +125,333 @@ module _ (bodies : List (List ℕ)) (old : List ℕ) (gate : ℕ) (kept : Kept) 
   abbrev done : List ℕ
   done = written (written old (gate + 1) frame) gate (1 ∷ [])
 
-  abbrev P : List ℕ → Type 0
-  P = StandsWithEither kept (changed kept change)
-
-  framing : IsFrame (body_of change) frame
-  framing = record { short = may.short; bytes = refl }
+  framing : IsFrame body frame
+  framing = record { short = short; bytes = refl }
 
   inside_old : gate + 1 ≤ length old
   inside_old = omega (arith, is.inside)
 
-  with_it : folded_from 8 empty_record (bodies ++ body_of change ∷ []) ≡ Ok (changed kept change)
-  with_it = folded-push (body_of change) kept (changed kept change) (λ p. makes p kept (body_of change) change may.reads may.order) bodies 8 empty_record folds
-
   -- the first write
-  first_left : (c : List ℕ) → Torn (gate + 1) (length frame) old c → P c
-  first_left c torn = inl (laid_stands bodies c gate kept (torn_behind bodies old c gate (length frame) is torn) folds)
+  first_left : (c : List ℕ) → Torn (gate + 1) (length frame) old c → IsEitherLaid bodies body c
+  first_left c torn = inl (gate, torn_behind bodies old c gate (length frame) is torn)
 
   staged_laid : IsLaid bodies staged gate
   staged_laid = torn_behind bodies old staged gate (length frame) is (torn_written old (gate + 1) frame inside_old)
 
-  behind : part (gate + 1) (length frame) staged ≡ framed (body_of change)
+  behind : part (gate + 1) (length frame) staged ≡ framed body
   behind = part_written old (gate + 1) frame inside_old
 
   -- and the second
-  last_laid : (c : List ℕ) → Torn gate 1 staged c → get_or c gate 0 ≡ 1 → IsLaid (bodies ++ body_of change ∷ []) c (gate + length frame)
-  last_laid c torn one = opened bodies (body_of change) frame staged gate staged_laid framing behind c torn one
+  last_laid : (c : List ℕ) → Torn gate 1 staged c → get_or c gate 0 ≡ 1 → IsLaid (bodies ++ body ∷ []) c (gate + length frame)
+  last_laid c torn one = opened bodies body frame staged gate staged_laid framing behind c torn one
 
-  last_left : (c : List ℕ) → Torn gate 1 staged c → P c
+  last_left : (c : List ℕ) → Torn gate 1 staged c → IsEitherLaid bodies body c
   last_left c torn = elim (cases_eq (get_or c gate 0) 1) [
-    | inl one ↦ inr (laid_stands (bodies ++ body_of change ∷ []) c (gate + length frame) (changed kept change) (last_laid c torn one) with_it)
-    | inr closed ↦ inl (laid_stands bodies c gate kept (still_closed bodies (body_of change) frame staged gate staged_laid framing behind c torn closed) folds)
+    | inl one ↦ inr (gate + length frame, last_laid c torn one)
+    | inr closed ↦ inl (gate, still_closed bodies body frame staged gate staged_laid framing behind c torn closed)
   ]
 
   inside_staged : gate ≤ length staged
   inside_staged = omega (arith, staged_laid.inside)
 
-  done_torn : Torn gate 1 staged done
-  done_torn = torn_written staged gate (1 ∷ []) inside_staged
-
   done_open : get_or done gate 0 ≡ 1
-  done_open = ap (λ (l : List ℕ). get_or l gate 0) (append_assoc (take gate staged) (1 ∷ []) (drop (gate + 1) staged)) ∙ get_or_at (take gate staged) 1 (drop (gate + 1) staged) 0 gate (length-take-le gate staged inside_staged)
+  done_open =
+      ap (λ (l : List ℕ). get_or l gate 0) (append_assoc (take gate staged) (1 ∷ []) (drop (gate + 1) staged))
+      ∙ get_or_at (take gate staged) 1 (drop (gate + 1) staged) 0 gate (length-take-le gate staged inside_staged)
 
-  all_four : (disk : NodeDisk) → disk.file ≡ settled old → Ends (calls_made disk (append_calls gate frame)) (λ f. Runs f (changed kept change)) (λ f. Leaves f P)
-  all_four disk file =
-      let D : FileState → Type 0 = λ f. Runs f (changed kept change) in
-      let s1 : FileState = after (settled old) (Write (gate + 1) frame) in
-      let s3 : FileState = after (settled staged) (Write gate (1 ∷ [])) in
-      let here0 : Leaves (settled old) P = inl (record { bytes = old; is = refl; holds = inl (laid_stands bodies old gate kept is folds) }) in
-      let here1 : Leaves s1 P = inr (record { old = old; at = gate + 1; bytes = framed (body_of change); inside = inside_old; is = refl; left = first_left }) in
-      let here2 : Leaves (settled staged) P = inl (record { bytes = staged; is = refl; holds = inl (laid_stands bodies staged gate kept staged_laid folds) }) in
-      let here3 : Leaves s3 P = inr (record { old = staged; at = gate; bytes = 1 ∷ []; inside = inside_staged; is = refl; left = last_left }) in
-      call_leaves disk (Write (gate + 1) frame) (Sync ∷ Write gate (1 ∷ []) ∷ Sync ∷ []) (settled old) s1 P D file refl here0 here1 (λ d1 f1.
-      call_leaves d1 Sync (Write gate (1 ∷ []) ∷ Sync ∷ []) s1 (settled staged) P D f1 refl here1 here1 (λ d2 f2.
-      call_leaves d2 (Write gate (1 ∷ [])) (Sync ∷ []) (settled staged) s3 P D f2 refl here2 here3 (λ d3 f3.
-      call_leaves d3 Sync [] s3 (settled done) P D f3 refl here3 here3 (λ d4 f4.
-      no_calls d4 D (λ f. Leaves f P) (laid_runs (bodies ++ body_of change ∷ []) d4.file done (gate + length frame) (changed kept change) f4 (last_laid done done_torn done_open) with_it)))))
+  done_laid : IsLaid (bodies ++ body ∷ []) done (gate + length frame)
+  done_laid = last_laid done (torn_written staged gate (1 ∷ []) inside_staged) done_open
 
--- whatever strikes it, the record is the one before it or the new one
-pub append_ends : (disk : NodeDisk) (kept : Kept) (change : Change) → Runs disk.file kept → MayKeep kept change
-    → Ends (calls_made disk (append_calls (gate_of disk.file.read) (framed (body_of change)))) (λ f. Runs f (changed kept change)) (λ f. Leaves f (StandsWithEither kept (changed kept change)))
-append_ends disk kept change runs may =
-    let folds : folded_from 8 empty_record (standing runs.bytes) ≡ Ok kept = sym (ap found_in (stands_for (standing runs.bytes) runs.bytes runs.gate runs.laid_out)) ∙ runs.found in
-    let gate : runs.gate ≡ gate_of disk.file.read = gate_is (standing runs.bytes) runs.bytes runs.gate runs.laid_out ∙ ap (λ (f : FileState). gate_of f.read) (sym runs.is) in
-    subst (λ (g : ℕ). Ends (calls_made disk (append_calls g (framed (body_of change)))) (λ f. Runs f (changed kept change)) (λ f. Leaves f (StandsWithEither kept (changed kept change)))) gate
-    (all_four (standing runs.bytes) runs.bytes runs.gate kept change runs.laid_out folds may disk runs.is)
+  adds : (side : Side) (there : Since) (P : Files → Type 0) (D : Sides FileState → Type 0)
+      → ((c d : List ℕ) → IsEitherLaid bodies body c → MayBe there d → P (pair side c d))
+      → ((files : Sides FileState) → files ≡ pair side (settled done) (state_since there) → D files)
+      → Rest P D (append_calls side gate frame) (pair side (settled old) (state_since there))
+  adds side there P D left last =
+      writes side there P D old (gate + 1) frame inside_old (Write side gate (1 ∷ []) ∷ Sync side ∷ [])
+      (λ c d torn may. left c d (first_left c torn) may)
+      (writes side there P D staged gate (1 ∷ []) inside_staged [] (λ c d torn may. left c d (last_left c torn) may)
+      (λ disk files. no_calls disk D (λ f. Leaves f P) (last disk.files files)))
 
--- ---- an opening
+-- ---- a change
 
-short_record : (file : List ℕ) (kept : Kept) → length file ≤ 9 → found_of file ≡ Ok kept → empty_record ≡ kept
-short_record file kept short found =
-    let is : found_of file ≡ Ok empty_record = ap found_in (brief file short) ∙ fold_end 8 empty_record in
-    cc
+module _ (files : Sides FileState) (kept next : Kept) (runs : Runs files kept) where
+  abbrev g : Generations
+  g = runs.generations
 
-short_stands : (file : List ℕ) → length file ≤ 9 → StandsWith empty_record file
-short_stands file short = record { found = ap found_in (brief file short) ∙ fold_end 8 empty_record; laid_out = inl short }
+  abbrev side : Side
+  side = runs.side
 
-fresh_is : (old : List ℕ) → length old ≤ 9 → written old 0 (header ++ 0 ∷ []) ≡ header ++ 0 ∷ []
-fresh_is old short = ap (λ (l : List ℕ). (header ++ 0 ∷ []) ++ l) (drop_all 9 old short)
+  -- what is read on the side in use, and on the other
+  abbrev used : List ℕ
+  used = on runs.side runs.bytes
 
--- a record is as it was before
-abbrev Same : Kept → Kept → Kept → Type 0
-Same a b kept = (kept ≡ a) ⊎ (kept ≡ b)
+  abbrev unused : List ℕ
+  unused = on (other runs.side) runs.bytes
 
-stands_as : (a b kept : Kept) (file : List ℕ) → Same a b kept → StandsWith kept file → StandsWithEither a b file
-stands_as a b kept file (inl e) s = inl (subst (λ (k : Kept). StandsWith k file) e s)
-stands_as a b kept file (inr e) s = inr (subst (λ (k : Kept). StandsWith k file) e s)
+  abbrev only : Files → Files → Type 0
+  only bytes c = c ≡ bytes
 
-module _ (a b kept : Kept) (bytes : List ℕ) (same : Same a b kept) (stands : StandsWith kept bytes) where
-  abbrev Q : List ℕ → Type 0
-  Q = StandsWithEither a b
+  abbrev P : Files → Type 0
+  P = StandsWithEither kept next
 
-  abbrev E : FileState → Type 0
-  E = λ f. Runs f kept
+  abbrev D : Sides FileState → Type 0
+  D = λ f. Runs f next
 
-  at_rest : Leaves (settled bytes) Q
-  at_rest = inl (record { bytes = bytes; is = refl; holds = stands_as a b kept bytes same stands })
+  reads_kept : found_by record_of_bodies g ≡ Ok kept
+  reads_kept = on_side_ok _ kept (sym (ap found_in runs.settled.stands) ∙ runs.found)
 
-  write_left : length bytes ≤ 9 → (c : List ℕ) → Torn 0 9 bytes c → Q c
-  write_left short c torn =
-      let brief_c : length c ≤ 9 = omega (arith, torn.no_longer, short) in
-      stands_as a b kept c same (subst (λ (k : Kept). StandsWith k c) (short_record bytes kept short stands.found) (short_stands c brief_c))
+  in_use_kept : record_of_bodies (in_use g) ≡ Ok kept
+  in_use_kept = in_use_read record_of_bodies g.side g.bodies kept reads_kept
 
-  prepares : length bytes ≤ 9 → (disk : NodeDisk) → disk.file ≡ settled bytes → Ends (calls_made disk (Write 0 (header ++ 0 ∷ []) ∷ Sync ∷ [])) E (λ f. Leaves f Q)
-  prepares short disk file =
-      let s1 : FileState = after (settled bytes) (Write 0 (header ++ 0 ∷ [])) in
-      let here1 : Leaves s1 Q = inr (record { old = bytes; at = 0; bytes = header ++ 0 ∷ []; inside = omega arith; is = refl; left = write_left short }) in
-      call_leaves disk (Write 0 (header ++ 0 ∷ [])) (Sync ∷ []) (settled bytes) s1 Q E file refl at_rest here1 (λ d1 f1.
-      call_leaves d1 Sync [] s1 (settled (written bytes 0 (header ++ 0 ∷ []))) Q E f1 refl here1 here1 (λ d2 f2.
-      no_calls d2 E (λ f. Leaves f Q)
-      (laid_runs [] d2.file (header ++ 0 ∷ []) 8 kept (f2 ∙ ap settled (fresh_is bytes short)) fresh_laid (fold_end 8 empty_record ∙ ap (λ (k : Kept). Ok k) (short_record bytes kept short stands.found)))))
+  used_readable : IsReadable used
+  used_readable = inr (on side g.bodies, runs.gate, runs.settled.here)
 
-  long_runs : 9 < length bytes → (file : FileState) → file ≡ settled bytes → Runs file kept
-  long_runs long file is = elim stands.laid_out [
-    | inl short ↦ absurd (omega arith)
-    | inr laid ↦ record { bytes = bytes; gate = laid.0; is = is; laid_out = laid.1; found = stands.found }
+  unused_readable : IsReadable unused
+  unused_readable = inr (on (other side) g.bodies, runs.other_gate, runs.settled.there)
+
+  -- by what a crash leaves of the generations
+  abbrev FindsEither : Files → Type 0
+  FindsEither c = (h : Generations) × (generations_of c ≡ Ok h) × ((found_by record_of_bodies h ≡ Ok kept) ⊎ (found_by record_of_bodies h ≡ Ok next))
+
+  stands_by : (c : Files) → IsReadable c.zero × IsReadable c.one → FindsEither c → P c
+  stands_by c readable by = elim by.2 [
+    | inl old ↦ inl (record { found = found_as c by.0 kept by.1 old; zero = readable.0; one = readable.1 })
+    | inr new ↦ inr (record { found = found_as c by.0 next by.1 new; zero = readable.0; one = readable.1 })
   ]
 
-  reads : 9 < length bytes → (disk : NodeDisk) → disk.file ≡ settled bytes → Ends (calls_made disk (Read 0 (length bytes) ∷ [])) E (λ f. Leaves f Q)
-  reads long disk file =
-      call_leaves disk (Read 0 (length bytes)) [] (settled bytes) (settled bytes) Q E file refl at_rest at_rest (λ d1 f1. no_calls d1 E (λ f. Leaves f Q) (long_runs long d1.file f1))
+  -- an append
+  module _ (body : List ℕ) (plain : is_generation body ≡ false) (short : length body ≤ 8388608)
+      (with_it : record_of_bodies (in_use g ++ body ∷ []) ≡ Ok next) where
+    abbrev longer : List (List ℕ)
+    longer = on runs.side runs.generations.bodies ++ body ∷ []
 
-  abbrev rest : Bool → List DeviceCall
-  rest b = cond b (Write 0 (header ++ 0 ∷ []) ∷ Sync ∷ []) [] ++ cond b [] (Read 0 (length bytes) ∷ [])
+    append_left : (c d : List ℕ) → IsEitherLaid (on side g.bodies) body c → d ≡ unused → P (pair side c d)
+    append_left c d laid_out same =
+        let now = pair side c d in
+        let leaves : LeavesOn side (IsBeforeOrAfter (on side g.bodies) body) runs.bytes now = record {
+          here = subst (IsBeforeOrAfter (on side g.bodies) body) (sym (pair_here side c d)) (either_counts (on side g.bodies) body c laid_out);
+          there = pair_there side c d ∙ same;
+        } in
+        let is_appended = append_leaves g runs.bytes (only runs.bytes) side runs.gate runs.other_gate runs.epoch runs.settled body plain now leaves in
+        stands_by now (readable_pair side c d (either_readable (on side g.bodies) body c laid_out) (subst IsReadable (sym same) unused_readable))
+        (append_finds record_of_bodies g body kept next reads_kept with_it now is_appended)
 
-  rest_ends : (disk : NodeDisk) → disk.file ≡ settled bytes → Ends (calls_made disk (rest (nat_le (length bytes) 9))) E (λ f. Leaves f Q)
-  rest_ends disk file = elim (cases_lt 9 (length bytes)) [
-    | inl long ↦ subst (λ (b : Bool). Ends (calls_made disk (rest b)) E (λ f. Leaves f Q)) (sym (lt-leb (length bytes) 9 long)) (reads long disk file)
-    | inr short ↦ subst (λ (b : Bool). Ends (calls_made disk (rest b)) E (λ f. Leaves f Q)) (sym (le-leb (length bytes) 9 short)) (prepares short disk file)
-  ]
+    append_runs : (new : List ℕ) (gate : ℕ) (f : Sides FileState) → IsLaid longer new gate → f ≡ pair side (settled new) (settled unused) → D f
+    append_runs new gate f laid_out same =
+        let now = pair side new unused in
+        let there : IsLaid longer (on side now) gate = subst (λ (l : List ℕ). IsLaid longer l gate) (sym (pair_here side new unused)) laid_out in
+        let settled_now =
+        appended_settled g runs.bytes (only runs.bytes) side runs.gate runs.other_gate runs.epoch runs.settled body plain now (only now) gate there
+        (pair_there side new unused) (λ c e. e) in
+        let active = runs.settled.active in
+        let is_new : appended g body ≡ record { bodies = put side longer g.bodies; side = side } =
+        λ i. record { bodies = put (active i) (on (active i) g.bodies ++ body ∷ []) g.bodies; side = active i } in
+        let reads_next = appended_reads record_of_bodies g body kept next reads_kept with_it in
+        record {
+          bytes = now;
+          generations = record { bodies = put side longer g.bodies; side = side };
+          side = side;
+          gate = gate;
+          other_gate = runs.other_gate;
+          epoch = runs.epoch;
+          is = same ∙ pair_settled side new unused;
+          settled = settled_now;
+          found = found_as now _ next settled_now.stands (subst (λ (h : Generations). found_by record_of_bodies h ≡ Ok next) is_new reads_next);
+        }
 
-  opens : (disk : NodeDisk) → disk.file.read ≡ bytes → Leaves disk.file Q → Ends (calls_made disk (opening_calls bytes)) E (λ f. Leaves f Q)
-  opens disk read now =
-      call_leaves disk Sync (Len ∷ rest (nat_le (length bytes) 9)) disk.file (settled bytes) Q E refl (ap settled read) now now (λ d1 f1.
-      call_leaves d1 Len (rest (nat_le (length bytes) 9)) (settled bytes) (settled bytes) Q E f1 refl at_rest at_rest (λ d2 f2. rest_ends d2 f2))
+    appends : Rest P D (append_calls side runs.gate (framed body)) (both_settled runs.bytes)
+    appends =
+        let laid_out = done_laid (on side g.bodies) body used runs.gate runs.settled.here short in
+        subst (Rest P D (append_calls side runs.gate (framed body))) (sym (settled_pair side runs.bytes))
+        (adds (on side g.bodies) body used runs.gate runs.settled.here short side (Nothing unused) P D append_left
+        (λ f same. append_runs _ (runs.gate + length (framed body)) f laid_out same))
 
--- what an opening finds is one of the two records, and then the journal runs with it
-pub record Opening (a b : Kept) (disk : NodeDisk) : Type 0 where
-  pub kept : Kept
-  pub is : (kept ≡ a) ⊎ (kept ≡ b)
-  pub found : found_of disk.file.read ≡ Ok kept
-  pub ends : Ends (opening disk) (λ f. Runs f kept) (λ f. Leaves f (StandsWithEither a b))
+  -- a renewal
+  module _ (body : List ℕ) (begins_it : Begins runs.epoch body) (short : length body ≤ 8388608) (alone : record_of_bodies (body ∷ []) ≡ Ok next) where
+    abbrev past : List (List ℕ)
+    past = on (other runs.side) runs.generations.bodies
 
-pub opening_ends : (a b : Kept) (disk : NodeDisk) → Leaves disk.file (StandsWithEither a b) → Opening a b disk
-opening_ends a b disk now = from (leaves_read disk.file (StandsWithEither a b) now)
+    renewal_left : (c d : List ℕ) → IsReplaced past body c → IsReadable c → d ≡ used → P (pair (other side) c d)
+    renewal_left c d left readable same =
+        let now = pair (other side) c d in
+        let leaves : LeavesOn (other side) (IsReplaced past body) runs.bytes now = record {
+          here = subst (IsReplaced past body) (sym (pair_here (other side) c d)) left;
+          there = pair_there (other side) c d ∙ same ∙ sym (other_other side runs.bytes);
+        } in
+        let is_renewed =
+        renewal_leaves g runs.bytes (only runs.bytes) side runs.gate runs.other_gate runs.epoch runs.settled body begins_it now leaves in
+        stands_by now (readable_pair (other side) c d readable (subst IsReadable (sym same) used_readable))
+        (renewal_finds record_of_bodies g body kept next empty_record reads_kept (fold_end 8 empty_record) alone now is_renewed)
+
+    past_inside : 8 < length unused
+    past_inside = room past unused runs.other_gate runs.settled.there
+
+    -- a crash while the first gate is closed
+    closing_left : 8 < runs.other_gate → (c d : List ℕ) → Torn 8 1 unused c → d ≡ used → P (pair (other side) c d)
+    closing_left some c d torn same =
+        let was : get_or unused 8 0 ≡ 1 = first_is_open past unused runs.other_gate runs.settled.there some in
+        let inside : 8 < length unused = past_inside in
+        elim (cases_eq (get_or c 8 0) 1) [
+          | inl one ↦
+              let behind : drop 8 c ≡ drop 8 unused =
+              drop_more c 8 0 (omega (arith, inside, torn.no_shorter)) ∙ (λ i. (one ∙ sym was) i ∷ torn.after i)
+              ∙ sym (drop_more unused 8 0 inside) in
+              let unchanged : c ≡ unused = sym (take-append-drop 8 c) ∙ (λ i. torn.before i ++ behind i) ∙ take-append-drop 8 unused in
+              renewal_left c d (inl (inl (ap bodies_of unchanged ∙ stands_for past unused runs.other_gate runs.settled.there)))
+              (subst IsReadable (sym unchanged) unused_readable) same
+          | inr shut ↦
+              let none : IsLaid [] c 8 = emptied past unused runs.other_gate runs.settled.there c torn shut in
+              renewal_left c d (inl (inr (stands_for [] c 8 none))) (inr ([], 8, none)) same
+        ]
+
+    -- and while the body is added behind it
+    refill_left : (c d : List ℕ) → IsEitherLaid [] body c → d ≡ used → P (pair (other side) c d)
+    refill_left c d (inl before) same = renewal_left c d (inl (inr (stands_for [] c before.0 before.1))) (inr ([], before.0, before.1)) same
+    refill_left c d (inr after) same = renewal_left c d (inr (stands_for (body ∷ []) c after.0 after.1)) (inr (body ∷ [], after.0, after.1)) same
+
+    renewal_runs : (new : List ℕ) (gate : ℕ) (f : Sides FileState) → IsLaid (body ∷ []) new gate
+        → f ≡ pair (other side) (settled new) (settled used) → D f
+    renewal_runs new gate f laid_out same =
+        let now = pair (other side) new used in
+        let here : IsLaid (body ∷ []) (on (other side) now) gate =
+        subst (λ (l : List ℕ). IsLaid (body ∷ []) l gate) (sym (pair_here (other side) new used)) laid_out in
+        let settled_now =
+        renewed_settled g runs.bytes (only runs.bytes) side runs.gate runs.other_gate runs.epoch runs.settled body begins_it now (only now) gate here
+        (pair_there (other side) new used ∙ sym (other_other side runs.bytes)) (λ c e. e) in
+        let active = runs.settled.active in
+        let is_new : renewed g body ≡ after_it g side body =
+        λ i. record { bodies = put (other (active i)) (body ∷ []) g.bodies; side = other (active i) } in
+        let reads_next = renewed_reads record_of_bodies g body kept next reads_kept alone in
+        record {
+          bytes = now;
+          generations = after_it g side body;
+          side = other side;
+          gate = gate;
+          other_gate = runs.gate;
+          epoch = runs.epoch + 1;
+          is = same ∙ pair_settled (other side) new used;
+          settled = settled_now;
+          found = found_as now _ next settled_now.stands (subst (λ (h : Generations). found_by record_of_bodies h ≡ Ok next) is_new reads_next);
+        }
+
+    refills : (mid : List ℕ) → IsLaid [] mid 8 → Rest P D (append_calls (other side) 8 (framed body)) (pair (other side) (settled mid) (settled used))
+    refills mid none =
+        adds [] body mid 8 none short (other side) (Nothing used) P D refill_left
+        (λ f same. renewal_runs _ (8 + length (framed body)) f (done_laid [] body mid 8 none short) same)
+
+    abbrev closing : Bool → List DeviceCall
+    closing some =
+        (if some then Write (other runs.side) 8 (0 ∷ []) ∷ Sync (other runs.side) ∷ [] else []) ++ append_calls (other runs.side) 8 (framed body)
+
+    closes_first : (some : Bool) → nat_lt 8 runs.other_gate ≡ some → Rest P D (closing some) (pair (other side) (settled unused) (settled used))
+    closes_first true some =
+        let inside : 8 < length unused = past_inside in
+        let closed = written unused 8 (0 ∷ []) in
+        writes (other side) (Nothing used) P D unused 8 (0 ∷ []) (omega (arith, inside)) (append_calls (other side) 8 (framed body))
+        (closing_left (ltb-true 8 runs.other_gate some))
+        (refills closed (first_closed past unused closed runs.other_gate runs.settled.there refl))
+    closes_first false none = refills unused (laid_nothing past unused runs.other_gate runs.settled.there (ltb-false 8 runs.other_gate none))
+
+    renews_it : Rest P D (renewal_calls (other side) runs.other_gate (framed body)) (both_settled runs.bytes)
+    renews_it =
+        subst (Rest P D (renewal_calls (other side) runs.other_gate (framed body))) (sym (other_pair side runs.bytes))
+        (closes_first (nat_lt 8 runs.other_gate) refl)
+
+  -- where it stands
+  abbrev here : Place
+  here = record { side = runs.side; gate = runs.gate; other_gate = runs.other_gate; epoch = runs.epoch; tail = tail_of (in_use runs.generations) }
+
+  stands_here : here ≡ place_of (standing_in runs.bytes)
+  stands_here =
+      let active = sym runs.settled.active in
+      let gate : runs.gate ≡ gate_behind (in_use g) =
+      gate_is (on side g.bodies) used runs.gate runs.settled.here ∙ ap (λ (s : Side). gate_behind (on s g.bodies)) active in
+      let other_gate : runs.other_gate ≡ gate_behind (on (other g.side) g.bodies) =
+      gate_is (on (other side) g.bodies) unused runs.other_gate runs.settled.there ∙ ap (λ (s : Side). gate_behind (on (other s) g.bodies)) active in
+      let epoch : runs.epoch ≡ unwrap_or (epoch_of g.side (in_use g)) 0 =
+      ap (λ (e : Option ℕ). unwrap_or e 0) (sym runs.settled.has_epoch_of) ∙ ap (λ (s : Side). unwrap_or (epoch_of s (on s g.bodies)) 0) active in
+      let at_g : here ≡ place_of g =
+      λ i. record { side = active i; gate = gate i; other_gate = other_gate i; epoch = epoch i; tail = tail_of (in_use g) } in
+      at_g ∙ ap place_of (sym (standing_is g runs.bytes runs.settled.stands))
+
+-- the body that begins the next generation
+module _ (p : Place) (next : Kept) (small : p.epoch < 2 ^ 62) (may : MayBegin next) where
+  generation_begins : Begins p.epoch (generation_after p next)
+  unfolding body_of eight_bytes epoch_in
+  generation_begins =
+      let rest = term.spelling next.term ++ (state.spelling next.accepted ++ (ids most_ids).spelling next.committed) in
+      record {
+        tagged = refl;
+        long = omega (arith, length-append (eight_bytes (p.epoch + 1)) rest);
+        next = from_be_bytes-to_be_bytes_8 (p.epoch + 1) (omega (arith, small));
+        limit = omega (arith, small);
+      }
+
+  generation_short : length (generation_after p next) ≤ 8388608
+  unfolding body_of
+  generation_short =
+      let committed = (ids most_ids).spelling next.committed in
+      omega (
+        arith,
+        length-append (eight_bytes (p.epoch + 1)) (term.spelling next.term ++ (state.spelling next.accepted ++ committed)),
+        length-append (eight_bytes next.term) (state.spelling next.accepted ++ committed),
+        length-append (state.spelling next.accepted) committed,
+        length-eight (p.epoch + 1),
+        length-eight next.term,
+        state_short next.accepted may.fits,
+        ids_short most_ids next.committed may.named,
+      )
+
+-- ---- whatever strikes a change, the record is the one before it or the new one
+
+module _ (files : Sides FileState) (kept : Kept) (change : Change) (runs : Runs files kept) (may : MayKeep kept change) where
+  abbrev after : Kept
+  after = changed kept change
+
+  abbrev EndsWell : List DeviceCall → Type 0
+  EndsWell calls = Rest (StandsWithEither kept (changed kept change)) (λ f. Runs f (changed kept change)) calls (both_settled runs.bytes)
+
+  with_it : record_of_bodies (in_use runs.generations ++ body_of change ∷ []) ≡ Ok after
+  with_it =
+      folded-push (body_of change) kept after (λ at. makes at kept (body_of change) change may.reads may.order)
+      (in_use runs.generations) 8 empty_record
+      (in_use_kept files kept after runs)
+
+  by : (renewing : Bool) → renews (here files kept after runs) (body_of change) ≡ renewing
+      → EndsWell (writing_calls renewing (here files kept after runs) (body_of change) (generation_after (here files kept after runs) after))
+  by true renewing =
+      let p = here files kept after runs in
+      let small : runs.epoch < 2 ^ 62 = next_epoch p (body_of change) renewing in
+      renews_it files kept after runs (generation_after p after) (generation_begins p after small may.begins)
+      (generation_short p after small may.begins)
+      (begun p after small may.begins)
+  by false appending = appends files kept after runs (body_of change) may.plain may.short with_it
+
+  keeps : EndsWell (keeping_calls (place_of (standing_in runs.bytes)) kept change)
+  keeps =
+      subst (λ (p : Place). EndsWell (keeping_calls p kept change)) (stands_here files kept after runs)
+      (by (renews (here files kept after runs) (body_of change)) refl)
+
+pub keep_ends : (disk : NodeDisk) (kept : Kept) (change : Change) → Runs disk.files kept → MayKeep kept change
+    → let calls = keeping_calls (place_of (standing_in (bytes_read disk.files))) kept change in
+    Ends (calls_made disk calls) (λ f. Runs f (changed kept change)) (λ f. Leaves f (StandsWithEither kept (changed kept change)))
+keep_ends disk kept change runs may =
+    let next = changed kept change in
+    let D : Files → Type 0 =
+    λ read. Ends (calls_made disk (keeping_calls (place_of (standing_in read)) kept change)) (λ f. Runs f next)
+    (λ f. Leaves f (StandsWithEither kept next)) in
+    subst D (sym (ap bytes_read runs.is)) (keeps disk.files kept change runs may disk runs.is)
+
+pub runs_leaves : (files : Sides FileState) (kept next : Kept) → Runs files kept → Leaves files (StandsWithEither kept next)
+runs_leaves files kept next runs = record {
+  since = record { zero = Nothing runs.bytes.zero; one = Nothing runs.bytes.one };
+  is = runs.is;
+  left = λ c zero one.
+      let same : runs.bytes ≡ c = λ i. record { zero = sym zero i; one = sym one i } in
+      inl (subst (StandsWith kept) same (record { found = runs.found; zero = readable.0; one = readable.1 }));
+}
   where
-    from : StandsWithEither a b disk.file.read → Opening a b disk
-    from (inl s) = record { kept = a; is = inl refl; found = s.found; ends = opens a b a disk.file.read (inl refl) s disk refl now }
-    from (inr s) = record { kept = b; is = inr refl; found = s.found; ends = opens a b b disk.file.read (inr refl) s disk refl now }
-
--- a journal on an empty disk runs
-pub empty_stands : StandsWith empty_record []
-empty_stands = short_stands [] (omega arith)
+    readable : IsReadable runs.bytes.zero × IsReadable runs.bytes.one
+    readable =
+        readable_sides runs.side runs.bytes (inr (on runs.side runs.generations.bodies, runs.gate, runs.settled.here))
+        (inr (on (other runs.side) runs.generations.bodies, runs.other_gate, runs.settled.there))

@@ -3,7 +3,7 @@ pub mod Alone
 pub mod AsSaid
 pub mod Carried
 pub mod Crashed
-pub mod FileLeft
+pub mod FilesLeft
 pub mod Found
 pub mod IdLists
 pub mod JournalLeft
@@ -13,6 +13,7 @@ pub mod Moves
 pub mod NodeSound
 pub mod Nodes
 pub mod Opened
+pub mod OpeningLeft
 pub mod Reopened
 pub mod SettledLocal
 pub mod Settling

@@ -1,7 +1,9 @@
 -- What an act of a node may come to.
-use Rattle.std.proofs.Common.{◌≡◌, ◌⊎◌, inl, inr, ℕ, true, false, List, refl}
+use Rattle.std.proofs.Common.{◌≡◌, ◌⊎◌, inl, inr, true, false, List, refl}
 use Rattle.std.specs.List.{Contains}
 use Rattle.voting_config.specs.Ids.{Id}
+use Rattle.cluster_state.specs.declared.state.Kept.{Kept}
+use Rattle.zen_disk.specs.Sides.{Files}
 use Rattle.coord_state.specs.Writes.{change_of}
 use Rattle.world_model.specs.declared.acts.Act.{Act}
 use Rattle.world_model.specs.declared.acts.Act.TheVariants.{Bootstrap, StartJoin, TakeJoin, Value, Publish, Response, Commit, Open}
@@ -10,25 +12,26 @@ use Rattle.world_model.specs.declared.acts.Message.TheVariants.{Join as JoinMess
 use Rattle.world_model.specs.declared.acts.Reply.{Reply}
 use Rattle.world_model.specs.declared.acts.Reply.TheVariants.{Taken, Refused, Stopped}
 use Rattle.world_model.specs.Acts.{NodeHistory}
+use Rattle.world_model.specs.NodeState.{durable_of}
 use Rattle.world_model.specs.Histories.{node_history, sent, is_down, is_opening, Continues, IsSourced, MayHappen}
 use Rattle.world_model.specs.Replies.{reply_of, is_taken, writes, IsOutcome}
-use Rattle.replay_node.specs.NodeDisk.{NodeDisk, CallsEnd, Done, Failed, StoppedIn, calls_made}
+use Rattle.replay_node.specs.NodeDisk.{NodeDisk, CallsEnd, Done, Failed, StoppedIn, bytes_read, calls_made}
 use Rattle.replay_node.specs.NodeWorld.{NodeWorld, act_called, act_calls, outcome_at, outcome_by}
 use Rattle.replay_node.specs.Sent.{taking}
 use Rattle.replay_node.specs.Worlds.{World, node_world}
 
 -- the calls of an act end well, unless it is taken and writes
-ends_well : (disk : NodeDisk) (reply : Reply) (act : Act) (read : List ℕ) → ((calls_made disk (act_calls reply (change_of act) read)).ended ≡ Done) ⊎ ((is_taken reply ≡ true) × (writes act ≡ true))
-ends_well disk (Refused cause) act read = inl refl
-ends_well disk Stopped act read = inl refl
-ends_well disk (Taken sends wins) (Bootstrap config) read = inr (refl, refl)
-ends_well disk (Taken sends wins) (StartJoin candidate term) read = inr (refl, refl)
-ends_well disk (Taken sends wins) (Publish request) read = inr (refl, refl)
-ends_well disk (Taken sends wins) (Commit commit) read = inr (refl, refl)
-ends_well disk (Taken sends wins) (TakeJoin join) read = inl refl
-ends_well disk (Taken sends wins) (Value version config value) read = inl refl
-ends_well disk (Taken sends wins) (Response response) read = inl refl
-ends_well disk (Taken sends wins) (Open found) read = inl refl
+ends_well : (disk : NodeDisk) (reply : Reply) (act : Act) (kept : Kept) (files : Files) → ((calls_made disk (act_calls reply (change_of act) kept files)).ended ≡ Done) ⊎ ((is_taken reply ≡ true) × (writes act ≡ true))
+ends_well disk (Refused cause) act kept files = inl refl
+ends_well disk Stopped act kept files = inl refl
+ends_well disk (Taken sends wins) (Bootstrap config) kept files = inr (refl, refl)
+ends_well disk (Taken sends wins) (StartJoin candidate term) kept files = inr (refl, refl)
+ends_well disk (Taken sends wins) (Publish request) kept files = inr (refl, refl)
+ends_well disk (Taken sends wins) (Commit commit) kept files = inr (refl, refl)
+ends_well disk (Taken sends wins) (TakeJoin join) kept files = inl refl
+ends_well disk (Taken sends wins) (Value version config value) kept files = inl refl
+ends_well disk (Taken sends wins) (Response response) kept files = inl refl
+ends_well disk (Taken sends wins) (Open found) kept files = inl refl
 
 outcome_is : (me : Id) (g : NodeHistory) (act : Act) (end : CallsEnd) → (end ≡ Done) ⊎ ((is_taken (reply_of me g act) ≡ true) × (writes act ≡ true)) → IsOutcome me g act (outcome_by end (reply_of me g act))
 outcome_is me g act Done w = refl
@@ -38,7 +41,7 @@ outcome_is me g act (StoppedIn way) (inl e) = absurd (cc)
 outcome_is me g act (StoppedIn way) (inr w) = w
 
 outcome_may : (me : Id) (w : NodeWorld) (act : Act) → IsOutcome me w.acts act (outcome_at me w act)
-outcome_may me w act = outcome_is me w.acts act (act_called me w act).ended (ends_well w.disk (reply_of me w.acts act) act w.disk.file.read)
+outcome_may me w act = outcome_is me w.acts act (act_called me w act).ended (ends_well w.disk (reply_of me w.acts act) act (durable_of w.acts) (bytes_read w.disk.files))
 
 continues : (g : NodeHistory) (act : Act) → is_opening act ≡ false → Continues g act
 continues g (Open found) e = absurd (cc)

@@ -1,5 +1,5 @@
--- What each line keeps true of a node: what its file may be read as, where any stops follow, is the record of its acts.
-use Rattle.std.proofs.Common.{◌≡◌, inl, inr, ℕ, ◌≤◌, ◌^◌, max, Bool, true, false, ◌||◌, Option, None, Some, List, [], length, refl, sym, ◌∙◌, ap, subst, arith, if◌then◌else◌}
+-- What each line keeps true of a node: what its files may be read as, where any stops follow, is the record of its acts.
+use Rattle.std.proofs.Common.{◌≡◌, inl, inr, ℕ, ◌≤◌, max, Bool, true, false, ◌||◌, Option, None, Some, List, [], length, refl, sym, ◌∙◌, ap, subst, arith, if◌then◌else◌}
 use Rattle.std.specs.Prelude.{Result}
 use Rattle.std.specs.Result.{result_unwrap_or}
 use Rattle.std.proofs.lemmas.Bool.{lt-ltb, le-leb}
@@ -11,13 +11,16 @@ use Rattle.cluster_state.specs.States.{state, value as value_field}
 use Rattle.cluster_state.specs.declared.state.ClusterState.{ClusterState}
 use Rattle.cluster_state.specs.declared.state.Kept.{Kept}
 use Rattle.zen_disk.specs.Armed.{nothing_armed}
-use Rattle.zen_disk.specs.FileState.{FileState, settled as settled_file}
+use Rattle.zen_disk.specs.FileState.{FileState}
+use Rattle.zen_disk.specs.Sides.{Sides}
 use Rattle.zen_disk.specs.declared.orders.Order.{Order}
 use Rattle.zen_disk.specs.declared.orders.Way.{Way}
-use Rattle.gate_log.specs.Calls.{append_calls}
-use Rattle.gate_log.specs.Journal.{framed}
+use Rattle.gate_log.specs.Generations.{is_generation, standing_in}
+use Rattle.gate_log.specs.Place.{place_of}
 use Rattle.state_journal.specs.Bodies.{body_of}
 use Rattle.state_journal.specs.Changes.{changed}
+use Rattle.state_journal.specs.Drafts.{MayBegin}
+use Rattle.state_journal.specs.Keeping.{keeping_calls}
 use Rattle.state_journal.specs.declared.change.Change.{Change}
 use Rattle.state_journal.specs.declared.change.Change.TheVariants.{Term, Accepted, Committed}
 use Rattle.state_journal.specs.declared.why.Why.{Why}
@@ -35,7 +38,7 @@ use Rattle.world_model.specs.NodeState.{term_of, accepted_of, committed_of, dura
 use Rattle.world_model.specs.Histories.{is_down, is_opening, IsLocal}
 use Rattle.world_model.specs.Replies.{reply_of, writes}
 use Rattle.world_model.proofs.Guards.{start_guard, publish_guard}
-use Rattle.replay_node.specs.NodeDisk.{NodeDisk, CallsEnd, Done, Failed, StoppedIn, Called, calls_made, gate_of, opening}
+use Rattle.replay_node.specs.NodeDisk.{NodeDisk, CallsEnd, Done, Failed, StoppedIn, Called, bytes_read, calls_made, no_files, opening}
 use Rattle.replay_node.specs.NodeLines.{after_stop}
 use Rattle.replay_node.specs.NodeWorld.{NodeWorld, act_calls, acts_reopened, after_act, after_crash, after_opening, after_order, found_at, fresh_node, is_stop, needs_opening, opened_by, outcome_by}
 use Rattle.replay_node.specs.Settled.{settled, is_kept, IsUnstruck}
@@ -45,17 +48,11 @@ use Rattle.replay_node.proofs.SettledLocal.{stopped_reply}
 use Rattle.replay_node.proofs.Settling.{settled_then, unstruck, unstruck_then}
 use Rattle.replay_node.proofs.StateSteps.{stopped_then, stopped_disk}
 use Rattle.replay_node.proofs.Struck.{durable_kept, durable_lost, durable_lost_crash, durable_refused}
-use Rattle.replay_node.proofs.FileLeft.{Leaves, EndsIn, leaves_stop}
-use Rattle.replay_node.proofs.JournalLeft.{StandsWithEither, Runs, MayKeep, Opening, append_ends, empty_stands, opening_ends, runs_leaves}
+use Rattle.replay_node.proofs.FilesLeft.{Nothing, Leaves, EndsIn, leaves_stop}
+use Rattle.replay_node.proofs.JournalLeft.{StandsWith, StandsWithEither, Runs, MayKeep, keep_ends, runs_leaves}
+use Rattle.replay_node.proofs.OpeningLeft.{Opening, empty_stands, opening_ends}
 
 -- ---- what fits into a body
-
--- the record's next states fit into a body
-pub record IsFitKept (kept : Kept) : Type 0 where
-  pub term : kept.term ≤ 2 ^ 62
-  pub config : (ids most_ids).Fits kept.accepted.config
-  pub committed : (ids most_ids).Fits kept.committed
-  pub value : value_field.Fits kept.accepted.value
 
 -- what the act keeps fits into a body, and what it sends
 abbrev pub IsFitAct : Act → Type 0
@@ -70,11 +67,11 @@ none_fit limit = (omega arith, refl, tt)
 empty_value_fits : value_field.Fits empty_value
 empty_value_fits = (tt, (none_fit most_ids, (none_fit 10, (omega arith, refl, tt))))
 
-pub empty_fit : IsFitKept empty_record
-empty_fit = record { term = omega arith; config = none_fit most_ids; committed = none_fit most_ids; value = empty_value_fits }
-
 initial_fits : (config : List Id) → (ids most_ids).Fits config → state.Fits (initial_state config)
 initial_fits config fits = (omega arith, (omega arith, (fits, (fits, empty_value_fits))))
+
+pub empty_begins : MayBegin empty_record
+empty_begins = record { bounded = omega arith; fits = initial_fits [] (none_fit most_ids); named = none_fit most_ids; older = omega arith }
 
 short_term : (t : ℕ) → length (body_of (Term t)) ≤ 8388608
 unfolding body_of eight_bytes
@@ -87,8 +84,26 @@ short_committed : length (body_of Committed) ≤ 8388608
 unfolding body_of
 short_committed = let e : length (body_of Committed) ≡ 1 = refl in omega arith
 
-may_accept : (kept : Kept) (s : ClusterState) → state.Fits s → s.term ≤ kept.term → MayKeep kept (Accepted s)
-may_accept kept s fits older = record { reads = reads_state s fits; order = le-leb s.term kept.term older; short = short_state s fits }
+plain_term : (t : ℕ) → is_generation (body_of (Term t)) ≡ false
+unfolding body_of
+plain_term t = refl
+
+plain_state : (s : ClusterState) → is_generation (body_of (Accepted s)) ≡ false
+unfolding body_of
+plain_state s = refl
+
+plain_committed : is_generation (body_of Committed) ≡ false
+unfolding body_of
+plain_committed = refl
+
+may_accept : (kept : Kept) (s : ClusterState) → MayBegin kept → state.Fits s → s.term ≤ kept.term → MayKeep kept (Accepted s)
+may_accept kept s may fits older = record {
+  reads = reads_state s fits;
+  order = le-leb s.term kept.term older;
+  short = short_state s fits;
+  plain = plain_state s;
+  begins = record { bounded = may.bounded; fits = fits; named = fits.1.1.1.0; older = older };
+}
 
 -- the change of an act that is taken, and what it makes of the record
 pub record Keeps (g : NodeHistory) (act : Act) : Type 0 where
@@ -96,15 +111,13 @@ pub record Keeps (g : NodeHistory) (act : Act) : Type 0 where
   pub is : change_of act ≡ Some change
   pub with_it : durable_of (Then g act (Crashed true)) ≡ changed (durable_of g) change
   pub may : MayKeep (durable_of g) change
-  pub fit : IsFitKept (changed (durable_of g) change)
 
-keeps : (me : Id) (g : NodeHistory) (act : Act) (sends : Option Message) (wins : Bool) → Taken sends wins ≡ reply_of me g act → writes act ≡ true → IsFitAct act → IsFitKept (durable_of g) → Keeps g act
+keeps : (me : Id) (g : NodeHistory) (act : Act) (sends : Option Message) (wins : Bool) → Taken sends wins ≡ reply_of me g act → writes act ≡ true → IsFitAct act → MayBegin (durable_of g) → Keeps g act
 keeps me g (Bootstrap config) sends wins is w fits kept = record {
   change = Accepted (initial_state config);
   is = refl;
   with_it = refl;
-  may = may_accept (durable_of g) (initial_state config) (initial_fits config fits) (omega arith);
-  fit = record { term = kept.term; config = fits; committed = fits; value = empty_value_fits };
+  may = may_accept (durable_of g) (initial_state config) kept (initial_fits config fits) (omega arith);
 }
 keeps me g (StartJoin candidate term) sends wins is w fits kept =
     let guard = start_guard me g candidate term sends wins is in
@@ -115,8 +128,13 @@ keeps me g (StartJoin candidate term) sends wins is w fits kept =
       change = Term term;
       is = refl;
       with_it = ap (λ (t : ℕ). record { term = t; accepted = accepted_of g; committed = committed_of g }) greater;
-      may = record { reads = reads_term term below; order = lt-ltb (term_of g) term above; short = short_term term };
-      fit = record { term = below; config = kept.config; committed = kept.committed; value = kept.value };
+      may = record {
+        reads = reads_term term below;
+        order = lt-ltb (term_of g) term above;
+        short = short_term term;
+        plain = plain_term term;
+        begins = record { bounded = below; fits = kept.fits; named = kept.named; older = omega (arith, kept.older, above) };
+      };
     }
 keeps me g (Publish request) sends wins is w fits kept =
     let guard = publish_guard me g request sends wins is in
@@ -125,15 +143,19 @@ keeps me g (Publish request) sends wins is w fits kept =
       change = Accepted request.state;
       is = refl;
       with_it = refl;
-      may = may_accept (durable_of g) request.state fits (omega (arith, now));
-      fit = record { term = kept.term; config = fits.1.1.0; committed = fits.1.1.1.0; value = fits.1.1.1.1 };
+      may = may_accept (durable_of g) request.state kept fits (omega (arith, now));
     }
 keeps me g (Commit commit) sends wins is w fits kept = record {
   change = Committed;
   is = refl;
   with_it = refl;
-  may = record { reads = reads_committed; order = refl; short = short_committed };
-  fit = record { term = kept.term; config = kept.config; committed = kept.config; value = kept.value };
+  may = record {
+    reads = reads_committed;
+    order = refl;
+    short = short_committed;
+    plain = plain_committed;
+    begins = record { bounded = kept.bounded; fits = kept.fits; named = kept.fits.1.1.0; older = kept.older };
+  };
 }
 keeps me g (TakeJoin join) sends wins is w fits kept = absurd (cc)
 keeps me g (Value version config value) sends wins is w fits kept = absurd (cc)
@@ -142,37 +164,37 @@ keeps me g (Open found) sends wins is w fits kept = absurd (cc)
 
 -- ---- a node
 
-abbrev pub LeavesActs : FileState → NodeHistory → Type 0
-LeavesActs file g = Leaves file (StandsWithEither (durable_of (settled false g)) (durable_of (settled true g)))
+abbrev pub LeavesActs : Sides FileState → NodeHistory → Type 0
+LeavesActs files g = Leaves files (StandsWithEither (durable_of (settled false g)) (durable_of (settled true g)))
 
 -- a node that runs has the record of its acts; of one that is stopped or down, an opening finds the record without the act that was struck or with it
 pub record Sound (w : NodeWorld) : Type 0 where
   pub up : w.down ≡ false → is_down w.acts ≡ false
-  pub fit : (kept : Bool) → IsFitKept (durable_of (settled kept w.acts))
+  pub fit : (kept : Bool) → MayBegin (durable_of (settled kept w.acts))
   pub unstruck : needs_opening w ≡ false → IsUnstruck w.acts
-  pub runs : needs_opening w ≡ false → Runs w.disk.file (durable_of w.acts)
-  pub left : needs_opening w ≡ true → LeavesActs w.disk.file w.acts
+  pub runs : needs_opening w ≡ false → Runs w.disk.files (durable_of w.acts)
+  pub left : needs_opening w ≡ true → LeavesActs w.disk.files w.acts
 
-running_sound : (g : NodeHistory) (disk : NodeDisk) → is_down g ≡ false → stopped_of g ≡ false → IsUnstruck g → IsFitKept (durable_of g) → Runs disk.file (durable_of g) → Sound (record { acts = g; disk = disk; down = false })
+running_sound : (g : NodeHistory) (disk : NodeDisk) → is_down g ≡ false → stopped_of g ≡ false → IsUnstruck g → MayBegin (durable_of g) → Runs disk.files (durable_of g) → Sound (record { acts = g; disk = disk; down = false })
 running_sound g disk up going free fit runs = record {
   up = λ d. up;
-  fit = λ k. subst (λ (h : NodeHistory). IsFitKept (durable_of h)) (sym (unstruck g k free)) fit;
+  fit = λ k. subst (λ (h : NodeHistory). MayBegin (durable_of h)) (sym (unstruck g k free)) fit;
   unstruck = λ n. free;
   runs = λ n. runs;
   left = λ n. absurd (cc (going, n));
 }
 
-stopped_sound : (g : NodeHistory) (disk : NodeDisk) (down : Bool) → (down || stopped_of g) ≡ true → (down ≡ false → is_down g ≡ false) → ((kept : Bool) → IsFitKept (durable_of (settled kept g))) → LeavesActs disk.file g → Sound (record { acts = g; disk = disk; down = down })
+stopped_sound : (g : NodeHistory) (disk : NodeDisk) (down : Bool) → (down || stopped_of g) ≡ true → (down ≡ false → is_down g ≡ false) → ((kept : Bool) → MayBegin (durable_of (settled kept g))) → LeavesActs disk.files g → Sound (record { acts = g; disk = disk; down = down })
 stopped_sound g disk down needs up fit left = record { up = up; fit = fit; unstruck = λ n. absurd (cc (needs, n)); runs = λ n. absurd (cc (needs, n)); left = λ n. left }
 
-leaves_acts : (w : NodeWorld) → Sound w → LeavesActs w.disk.file w.acts
+leaves_acts : (w : NodeWorld) → Sound w → LeavesActs w.disk.files w.acts
 leaves_acts w s = from (needs_opening w) refl
   where
-    from : (b : Bool) → needs_opening w ≡ b → LeavesActs w.disk.file w.acts
+    from : (b : Bool) → needs_opening w ≡ b → LeavesActs w.disk.files w.acts
     from true needs = s.left needs
     from false runs =
         let own : (k : Bool) → durable_of w.acts ≡ durable_of (settled k w.acts) = λ k. ap durable_of (sym (unstruck w.acts k (s.unstruck runs))) in
-        subst (λ (a : Kept). Leaves w.disk.file (StandsWithEither a (durable_of (settled true w.acts)))) (own false) (runs_leaves w.disk.file (durable_of w.acts) (durable_of (settled true w.acts)) (s.runs runs))
+        subst (λ (a : Kept). Leaves w.disk.files (StandsWithEither a (durable_of (settled true w.acts)))) (own false) (runs_leaves w.disk.files (durable_of w.acts) (durable_of (settled true w.acts)) (s.runs runs))
 
 -- ---- an act
 
@@ -183,51 +205,51 @@ quiet_sound w act reply o same s up =
     let own : (k : Bool) → durable_of (settled k (Then w.acts act (Answered reply))) ≡ durable_of (settled k w.acts) = λ k. ap durable_of (settled_then k w.acts act reply o) ∙ same (settled k w.acts) in
     record {
       up = λ d. refl;
-      fit = λ k. subst IsFitKept (sym (own k)) (s.fit k);
+      fit = λ k. subst MayBegin (sym (own k)) (s.fit k);
       unstruck = λ n. unstruck_then w.acts act reply (s.unstruck (sym needs ∙ n));
-      runs = λ n. subst (λ (k : Kept). Runs w.disk.file k) (sym (same w.acts)) (s.runs (sym needs ∙ n));
+      runs = λ n. subst (λ (k : Kept). Runs w.disk.files k) (sym (same w.acts)) (s.runs (sym needs ∙ n));
       left = λ n.
-          subst (λ (a : Kept). Leaves w.disk.file (StandsWithEither a (durable_of (settled true (Then w.acts act (Answered reply)))))) (sym (own false))
-          (subst (λ (b : Kept). Leaves w.disk.file (StandsWithEither (durable_of (settled false w.acts)) b)) (sym (own true)) (s.left (sym needs ∙ n)));
+          subst (λ (a : Kept). Leaves w.disk.files (StandsWithEither a (durable_of (settled true (Then w.acts act (Answered reply)))))) (sym (own false))
+          (subst (λ (b : Kept). Leaves w.disk.files (StandsWithEither (durable_of (settled false w.acts)) b)) (sym (own true)) (s.left (sym needs ∙ n)));
     }
 
 -- one that keeps a change, by how its calls ended
 abbrev acted_by : CallsEnd → NodeDisk → NodeHistory → Act → Reply → NodeWorld
 acted_by end disk g act reply = record { acts = Then g act (outcome_by end reply); disk = disk; down = is_stop end }
 
-module _ (g : NodeHistory) (act : Act) (o : is_opening act ≡ false) (k : Keeps g act) (free : IsUnstruck g) (going : stopped_of g ≡ false) (fit : IsFitKept (durable_of g)) where
+module _ (g : NodeHistory) (act : Act) (o : is_opening act ≡ false) (k : Keeps g act) (free : IsUnstruck g) (going : stopped_of g ≡ false) (fit : MayBegin (durable_of g)) where
   abbrev next : Kept
   next = changed (durable_of g) k.change
 
   -- the record of acts that are the ones before with the struck act kept or not
-  struck_left : (file : FileState) (h : NodeHistory) → durable_of (settled false h) ≡ durable_of g → durable_of (settled true h) ≡ next → Leaves file (StandsWithEither (durable_of g) next) → LeavesActs file h
-  struck_left file h lost kept left =
-      subst (λ (a : Kept). Leaves file (StandsWithEither a (durable_of (settled true h)))) (sym lost) (subst (λ (b : Kept). Leaves file (StandsWithEither (durable_of g) b)) (sym kept) left)
+  struck_left : (files : Sides FileState) (h : NodeHistory) → durable_of (settled false h) ≡ durable_of g → durable_of (settled true h) ≡ next → Leaves files (StandsWithEither (durable_of g) next) → LeavesActs files h
+  struck_left files h lost kept left =
+      subst (λ (a : Kept). Leaves files (StandsWithEither a (durable_of (settled true h)))) (sym lost) (subst (λ (b : Kept). Leaves files (StandsWithEither (durable_of g) b)) (sym kept) left)
 
-  struck_fit : (h : NodeHistory) → durable_of (settled false h) ≡ durable_of g → durable_of (settled true h) ≡ next → (kept : Bool) → IsFitKept (durable_of (settled kept h))
-  struck_fit h lost kept false = subst IsFitKept (sym lost) fit
-  struck_fit h lost kept true = subst IsFitKept (sym kept) k.fit
+  struck_fit : (h : NodeHistory) → durable_of (settled false h) ≡ durable_of g → durable_of (settled true h) ≡ next → (kept : Bool) → MayBegin (durable_of (settled kept h))
+  struck_fit h lost kept false = subst MayBegin (sym lost) fit
+  struck_fit h lost kept true = subst MayBegin (sym kept) k.may.begins
 
-  kept_sound : (end : CallsEnd) (disk : NodeDisk) (sends : Option Message) (wins : Bool) → EndsIn end disk.file (λ f. Runs f next) (λ f. Leaves f (StandsWithEither (durable_of g) next)) → Sound (acted_by end disk g act (Taken sends wins))
+  kept_sound : (end : CallsEnd) (disk : NodeDisk) (sends : Option Message) (wins : Bool) → EndsIn end disk.files (λ f. Runs f next) (λ f. Leaves f (StandsWithEither (durable_of g) next)) → Sound (acted_by end disk g act (Taken sends wins))
   kept_sound Done disk sends wins runs =
       let h : NodeHistory = Then g act (Answered (Taken sends wins)) in
       let is : durable_of h ≡ next = kept_after g act (Answered (Taken sends wins)) refl ∙ k.with_it in
-      running_sound h disk refl (stopped_then g act (Taken sends wins) o ∙ going) (unstruck_then g act (Taken sends wins) free) (subst IsFitKept (sym is) k.fit) (subst (λ (x : Kept). Runs disk.file x) (sym is) runs)
+      running_sound h disk refl (stopped_then g act (Taken sends wins) o ∙ going) (unstruck_then g act (Taken sends wins) free) (subst MayBegin (sym is) k.may.begins) (subst (λ (x : Kept). Runs disk.files x) (sym is) runs)
   kept_sound Failed disk sends wins left =
       let h : NodeHistory = Then g act (Disk false) in
       let lost : durable_of (settled false h) ≡ durable_of g = durable_lost g act o in
       let kept : durable_of (settled true h) ≡ next = durable_kept g act ∙ k.with_it in
-      stopped_sound h disk false (stopped_disk g act false o) (λ d. refl) (struck_fit h lost kept) (struck_left disk.file h lost kept left)
+      stopped_sound h disk false (stopped_disk g act false o) (λ d. refl) (struck_fit h lost kept) (struck_left disk.files h lost kept left)
   kept_sound (StoppedIn way) disk sends wins left =
       let h : NodeHistory = Then g act (Crashed false) in
       let lost : durable_of (settled false h) ≡ durable_of g = durable_lost_crash g act o in
       let kept : durable_of (settled true h) ≡ next = k.with_it in
-      stopped_sound h disk true refl (λ d. absurd (cc)) (struck_fit h lost kept) (struck_left disk.file h lost kept left)
+      stopped_sound h disk true refl (λ d. absurd (cc)) (struck_fit h lost kept) (struck_left disk.files h lost kept left)
 
 -- an act by its reply
 abbrev after_reply : NodeWorld → Act → Reply → NodeWorld
 after_reply w act reply =
-    let called : Called = calls_made w.disk (act_calls reply (change_of act) w.disk.file.read) in
+    let called : Called = calls_made w.disk (act_calls reply (change_of act) (durable_of w.acts) (bytes_read w.disk.files)) in
     acted_by called.ended called.disk w.acts act reply
 
 unwritten : (act : Act) (sends : Option Message) (wins : Bool) → writes act ≡ false → is_opening act ≡ false → (change_of act ≡ None) × ((g : NodeHistory) → durable_of (Then g act (Answered (Taken sends wins))) ≡ durable_of g)
@@ -245,18 +267,18 @@ module _ (me : Id) (w : NodeWorld) (act : Act) (s : Sound w) (up : w.down ≡ fa
   writing sends wins is w_act going =
       let needs : needs_opening w ≡ false = ap (λ (b : Bool). b || stopped_of w.acts) up ∙ going in
       let free = s.unstruck needs in
-      let fit : IsFitKept (durable_of w.acts) = subst (λ (h : NodeHistory). IsFitKept (durable_of h)) (unstruck w.acts false free) (s.fit false) in
+      let fit : MayBegin (durable_of w.acts) = subst (λ (h : NodeHistory). MayBegin (durable_of h)) (unstruck w.acts false free) (s.fit false) in
       let k : Keeps w.acts act = keeps me w.acts act sends wins is w_act fits fit in
-      let called : Called = calls_made w.disk (append_calls (gate_of w.disk.file.read) (framed (body_of k.change))) in
+      let called : Called = calls_made w.disk (keeping_calls (place_of (standing_in (bytes_read w.disk.files))) (durable_of w.acts) k.change) in
       let there : Sound (acted_by called.ended called.disk w.acts act (Taken sends wins)) =
-      kept_sound w.acts act o k free going fit called.ended called.disk sends wins (append_ends w.disk (durable_of w.acts) k.change (s.runs needs) k.may) in
-      subst (λ (c : Option Change). let called : Called = calls_made w.disk (act_calls (Taken sends wins) c w.disk.file.read) in Sound (acted_by called.ended called.disk w.acts act (Taken sends wins))) (sym k.is) there
+      kept_sound w.acts act o k free going fit called.ended called.disk sends wins (keep_ends w.disk (durable_of w.acts) k.change (s.runs needs) k.may) in
+      subst (λ (c : Option Change). let called : Called = calls_made w.disk (act_calls (Taken sends wins) c (durable_of w.acts) (bytes_read w.disk.files)) in Sound (acted_by called.ended called.disk w.acts act (Taken sends wins))) (sym k.is) there
 
   taking : (sends : Option Message) (wins : Bool) → Taken sends wins ≡ reply_of me w.acts act → (b : Bool) → writes act ≡ b → stopped_of w.acts ≡ false → Sound (after_reply w act (Taken sends wins))
   taking sends wins is true e going = writing sends wins is e going
   taking sends wins is false e going =
       let none = unwritten act sends wins e o in
-      subst (λ (c : Option Change). let called : Called = calls_made w.disk (act_calls (Taken sends wins) c w.disk.file.read) in Sound (acted_by called.ended called.disk w.acts act (Taken sends wins))) (sym none.0)
+      subst (λ (c : Option Change). let called : Called = calls_made w.disk (act_calls (Taken sends wins) c (durable_of w.acts) (bytes_read w.disk.files)) in Sound (acted_by called.ended called.disk w.acts act (Taken sends wins))) (sym none.0)
       (quiet_sound w act (Taken sends wins) o none.1 s up)
 
   by_reply : (reply : Reply) → reply ≡ reply_of me w.acts act → stopped_of w.acts ≡ false → Sound (after_reply w act reply)
@@ -274,7 +296,7 @@ module _ (me : Id) (w : NodeWorld) (act : Act) (s : Sound w) (up : w.down ≡ fa
 -- ---- other lines
 
 crash_sound : (way : Way) (w : NodeWorld) → Sound w → Sound (after_crash way w)
-crash_sound way w s = record { up = λ d. absurd (cc); fit = s.fit; unstruck = λ n. absurd (cc); runs = λ n. absurd (cc); left = λ n. leaves_stop way w.disk.file _ (leaves_acts w s) }
+crash_sound way w s = record { up = λ d. absurd (cc); fit = s.fit; unstruck = λ n. absurd (cc); runs = λ n. absurd (cc); left = λ n. leaves_stop way w.disk.files _ (leaves_acts w s) }
 
 pub stop_sound : (way : Way) (w : NodeWorld) → Sound w → Sound (after_stop way w)
 stop_sound way w s = from w.down
@@ -303,13 +325,13 @@ module _ (me : Id) (w : NodeWorld) (l : IsLocal me w.acts) (s : Sound w) (needs 
   pub found_either : IsFound w.acts (found_at w)
   found_either = subst (λ (k : Kept). IsFound w.acts k) (sym found_record) o.is
 
-  opened_sound : (end : CallsEnd) (disk : NodeDisk) → EndsIn end disk.file (λ f. Runs f o.kept) (λ f. LeavesActs f w.acts) → Sound (opened_by end w.acts disk (found_at w))
+  opened_sound : (end : CallsEnd) (disk : NodeDisk) → EndsIn end disk.files (λ f. Runs f o.kept) (λ f. LeavesActs f w.acts) → Sound (opened_by end w.acts disk (found_at w))
   opened_sound Done disk runs =
       let k : Bool = is_kept w.acts (found_at w) in
       let is : found_at w ≡ durable_of (settled k w.acts) = found_is me w.acts (found_at w) l found_either in
       let g : NodeHistory = acts_reopened w.acts (found_at w) in
       let kept : durable_of g ≡ found_at w = reopened_record (settled k w.acts) (found_at w) is in
-      running_sound g disk refl refl tt (subst IsFitKept (sym (kept ∙ is)) (s.fit k)) (subst (λ (x : Kept). Runs disk.file x) (sym (kept ∙ found_record)) runs)
+      running_sound g disk refl refl tt (subst MayBegin (sym (kept ∙ is)) (s.fit k)) (subst (λ (x : Kept). Runs disk.files x) (sym (kept ∙ found_record)) runs)
   opened_sound Failed disk left = stopped_sound w.acts disk true refl (λ d. absurd (cc)) s.fit left
   opened_sound (StoppedIn way) disk left = stopped_sound w.acts disk true refl (λ d. absurd (cc)) s.fit left
 
@@ -318,7 +340,12 @@ module _ (me : Id) (w : NodeWorld) (l : IsLocal me w.acts) (s : Sound w) (needs 
 
 pub fresh_sound : Sound fresh_node
 fresh_sound =
-    let disk : NodeDisk = record { file = settled_file []; armed = nothing_armed } in
-    let o : Opening empty_record empty_record disk = opening_ends empty_record empty_record disk (inl (record { bytes = []; is = refl; holds = inl empty_stands })) in
+    let disk : NodeDisk = record { files = no_files; armed = nothing_armed } in
+    let left : Leaves no_files (StandsWithEither empty_record empty_record) = record {
+      since = record { zero = Nothing []; one = Nothing [] };
+      is = refl;
+      left = λ c zero one. inl (subst (StandsWith empty_record) (λ i. record { zero = sym zero i; one = sym one i }) empty_stands);
+    } in
+    let o : Opening empty_record empty_record disk = opening_ends empty_record empty_record disk left in
     let same : o.kept ≡ empty_record = elim o.is [ inl e ↦ e | inr e ↦ e ] in
-    running_sound NoActs (opening disk).disk refl refl tt empty_fit (subst (λ (k : Kept). Runs (opening disk).disk.file k) same o.ends)
+    running_sound NoActs (opening disk).disk refl refl tt empty_begins (subst (λ (k : Kept). Runs (opening disk).disk.files k) same o.ends)

@@ -4,10 +4,11 @@ use Rattle.std.specs.Prelude.{if◌then◌else◌}
 use Rattle.std.specs.Result.{result_ok}
 use Rattle.voting_config.specs.Ids.{Id}
 use Rattle.cluster_state.specs.declared.state.Kept.{Kept}
-use Rattle.zen_disk.specs.FileState.{left_by}
-use Rattle.zen_disk.specs.MemDisk.{file_of}
+use Rattle.zen_disk.specs.FileState.{both_left_by}
+use Rattle.zen_disk.specs.MemDisks.{files_of}
+use Rattle.zen_disk.specs.Sides.{Files}
 use Rattle.zen_disk.specs.declared.orders.Way.{Way}
-use Rattle.state_journal.specs.Journal.{record_of_file}
+use Rattle.state_journal.specs.Journal.{record_of_files}
 use Rattle.coord_state.specs.StandsFor.{StandsFor}
 use Rattle.coord_state.specs.declared.coord.CoordState.{CoordState}
 use Rattle.world_model.specs.declared.acts.Act.{Act}
@@ -35,15 +36,15 @@ use Rattle.replay_node.specs.declared.node.Slot.TheVariants.{Open, Down}
 use Rattle.replay_node.proofs.AsSaid.{stopped_stands}
 use Rattle.replay_node.proofs.Settling.{unstruck}
 
-pub leaves_less : (old new : MemFuse) (g : NodeHistory) → ((file : List ℕ) → MayLeave new file → MayLeave old file) → LeavesActs old g → LeavesActs new g
-leaves_less old new g within leaves = record { left = λ file may. leaves.left file (within file may); shown = leaves.shown }
+pub leaves_less : (old new : MemFuse) (g : NodeHistory) → ((files : Files) → MayLeave new files → MayLeave old files) → LeavesActs old g → LeavesActs new g
+leaves_less old new g within leaves = record { left = λ files may. leaves.left files (within files may); shown = leaves.shown }
 
 -- an act
 
 pub goes_down : (me : Id) (s : CoordState Journal) (fuse : MemFuse) (w : NodeWorld) → CrashedStands me s w → Restarted s.keeper.log.disk fuse → DownStands fuse w
 goes_down me s fuse w crashed again = record {
   down = crashed.down;
-  disk = record { file = again.file crashed.way crashed.stopped ∙ crashed.file; armed = again.armed ∙ crashed.armed; up = again.up };
+  disk = record { files = again.files crashed.way crashed.stopped ∙ crashed.files; armed = again.armed ∙ crashed.armed; up = again.up };
   left = leaves_less s.keeper.log.disk fuse w.acts (again.left crashed.way crashed.stopped) crashed.left;
 }
 
@@ -94,7 +95,7 @@ kept_is s g stands = let kept : NodeState → Kept = λ n. record { term = n.ter
 
 running_leaves : (s : CoordState Journal) (g : NodeHistory) → s.keeper.log.stopped ≡ false → StandsFor record_of has_stopped faults s g → IsUnstruck g → LeavesActs s.keeper.log.disk g
 running_leaves s g running stands u = record {
-  left = λ file may. inl (ap record_of_file ((s.keeper.log.settled tt running).durable file may) ∙ ap result_ok (s.keeper.stands tt running) ∙ ap Some (kept_is s g stands ∙ ap durable_of (sym (unstruck g false u))));
+  left = λ files may. inl (ap record_of_files ((s.keeper.log.settled tt running).durable files may) ∙ ap result_ok (s.keeper.stands tt running) ∙ ap Some (kept_is s g stands ∙ ap durable_of (sym (unstruck g false u))));
   shown = λ e. ap durable_of (unstruck g false u ∙ sym (unstruck g true u));
 }
 
@@ -109,8 +110,8 @@ open_leaves me s w stands = from s.keeper.log.stopped refl
 pub record StoppedAs (old new : MemFuse) (way : Way) : Type 0 where
   pub armed : new.armed ≡ old.armed
   pub up : new.down ≡ None
-  pub file : file_of new.disk ≡ left_by way (file_of old.disk)
-  pub left : (file : List ℕ) → MayLeave new file → MayLeave old file
+  pub files : files_of new.disk ≡ both_left_by way (files_of old.disk)
+  pub left : (c : Files) → MayLeave new c → MayLeave old c
 
 pub crash_open : (old : ReplayNode) (s : CoordState Journal) (way : Way) (fuse : MemFuse) (was now : List ℕ) → old.slot ≡ Open s → StoppedAs s.keeper.log.disk fuse way → now ≡ was ++ crashed_line old.me
     → DoesLine old (record old { slot = Down fuse }) (after_stop way) (stop_text old.me) was now
@@ -122,7 +123,7 @@ crash_open old s way fuse was now slot stopped text =
           let o = open_stands w stands in
           let down : DownStands fuse (after_crash way w) = record {
             down = refl;
-            disk = stopped_stands s.keeper.log.disk fuse w.disk way o.disk stopped.armed stopped.up stopped.file;
+            disk = stopped_stands s.keeper.log.disk fuse w.disk way o.disk stopped.armed stopped.up stopped.files;
             left = leaves_less s.keeper.log.disk fuse w.acts stopped.left (open_leaves old.me s w o);
           } in
           let crashed : NodeStands (record old { slot = Down fuse }) (after_crash way w) = record { slot = down; published = stands.published } in

@@ -6,18 +6,19 @@ use Rattle.voting_config.specs.Ids.{Id}
 use Rattle.cluster_state.specs.Initial.{empty_record}
 use Rattle.cluster_state.specs.declared.state.Kept.{Kept}
 use Rattle.zen_disk.specs.Armed.{nothing_armed}
-use Rattle.zen_disk.specs.FileState.{FileState, settled as settled_file}
 use Rattle.zen_disk.specs.Fuse.{FuseSteps}
-use Rattle.zen_disk.specs.MemDisk.{MemSteps, file_of}
+use Rattle.zen_disk.specs.MemDisks.{MemSteps, files_of, past_of, read_of}
 use Rattle.zen_disk.specs.Moments.{LeavesOnly}
 use Rattle.zen_disk.specs.Runs.{Ran}
-use Rattle.zen_disk.specs.UndoLog.{WasImage, was-is, only-last}
+use Rattle.zen_disk.specs.Sides.{Files}
+use Rattle.zen_disk.specs.UndoOrder.{WereImages, only-last, were-are}
 use Rattle.zen_disk.specs.declared.orders.Struck.{Struck}
 use Rattle.zen_disk.specs.declared.orders.Struck.TheVariants.{Stop, Fault}
-use Rattle.gate_log.specs.Calls.{opening_calls}
+use Rattle.gate_log.specs.Calls.{both_opening_calls}
+use Rattle.gate_log.specs.Generations.{generations_of}
 use Rattle.gate_log.specs.Journal.{bodies_of}
 use Rattle.state_journal.specs.Changes.{IsEither}
-use Rattle.state_journal.specs.Journal.{found_of, folded_from, record_of_file, FoundAsSome}
+use Rattle.state_journal.specs.Journal.{found_of, folded_from, record_of_files, FoundAsSome}
 use Rattle.state_journal.specs.declared.why.Why.{Why}
 use Rattle.coord_state.specs.StandsFor.{StandsFor}
 use Rattle.coord_state.specs.declared.coord.CoordState.{CoordState}
@@ -28,7 +29,7 @@ use Rattle.world_model.specs.Acts.{NodeHistory, NoActs, Then}
 use Rattle.world_model.specs.Histories.{is_down}
 use Rattle.world_model.specs.NodeState.{NodeState, node_state, durable_of, opened, stopped_of}
 use Rattle.trace_text.specs.Trace.{crashed_line, disk_line, record_line, up_line}
-use Rattle.replay_node.specs.NodeDisk.{NodeDisk, CallsEnd, Done, Failed, StoppedIn, calls_made, opening, MemFuse, MayLeave, DiskStands, Restarted}
+use Rattle.replay_node.specs.NodeDisk.{NodeDisk, CallsEnd, Done, Failed, StoppedIn, calls_made, opening, bytes_read, no_files, MemFuse, MayLeave, DiskStands, Restarted}
 use Rattle.replay_node.specs.NodeWorld.{NodeWorld, fresh_node, after_opening, found_at, needs_opening, opened_by, opening_text}
 use Rattle.replay_node.specs.NodeLines.{after_restart, restart_text, DoesLine}
 use Rattle.replay_node.specs.Opens.{ClosedStands, Opens, StaysDown}
@@ -46,10 +47,10 @@ use Rattle.replay_node.proofs.Settling.{settled_published}
 use Rattle.replay_node.proofs.Struck.{kept_choice}
 
 abbrev pub moment_of : MemFuse → ℕ
-moment_of f = length (reverse f.disk.log.items)
+moment_of f = length (reverse f.disk.order.items)
 
-abbrev pub left_of : MemFuse → ℕ → List ℕ → Type 0
-left_of f = WasImage (reverse f.disk.log.items) f.disk.bytes.items
+abbrev pub left_of : MemFuse → ℕ → Files → Type 0
+left_of f = WereImages (reverse f.disk.order.items) (past_of f.disk) (read_of f.disk)
 
 -- the fields of a node that was opened are those of its record
 reopened_state : (g : NodeHistory) (found : Kept) → found ≡ durable_of g → node_state (opened found) ≡ node_state (Then g (OpenAct found) (Answered (Taken None false)))
@@ -68,9 +69,9 @@ none_either a b found is (inr e) = cc
 
 -- the journal was opened on this disk
 pub record JustOpened (fuse : MemFuse) (j : Journal) : Type 0 where
-  pub found : found_of fuse.disk.bytes.items ≡ Ok j.kept
+  pub found : found_of (read_of fuse.disk) ≡ Ok j.kept
   pub runs : j.log.stopped ≡ false
-  pub ran : Ran (FuseSteps MemSteps) (opening_calls fuse.disk.bytes.items) fuse j.log.disk true
+  pub ran : Ran (FuseSteps MemSteps) (both_opening_calls (read_of fuse.disk)) fuse j.log.disk true
 
 -- a node that was just opened over this journal
 pub record JustOver (me : Id) (j : Journal) (s : CoordState Journal) : Type 0 where
@@ -92,29 +93,29 @@ just_stands me j s g disk over runs up unstruck state stands = record {
 }
 
 module _ (me : Id) (fuse : MemFuse) (w : NodeWorld) (c : ClosedStands fuse w) where
-  read_is : fuse.disk.bytes.items ≡ w.disk.file.read
-  read_is = ap (λ (f : FileState). f.read) c.disk.file
+  read_is : read_of fuse.disk ≡ bytes_read w.disk.files
+  read_is = ap bytes_read c.disk.files
 
-  -- the file that is read is one that a crash may leave
-  is_either : IsEither (durable_of (settled false w.acts)) (durable_of (settled true w.acts)) (record_of_file fuse.disk.bytes.items)
-  is_either = c.left.left fuse.disk.bytes.items (images_within fuse)
+  -- the files that are read are such as a crash may leave
+  is_either : IsEither (durable_of (settled false w.acts)) (durable_of (settled true w.acts)) (record_of_files (read_of fuse.disk))
+  is_either = c.left.left (read_of fuse.disk) (images_within fuse)
 
-  pub no_fault : (why : Why) → found_of fuse.disk.bytes.items ≡ Err why → ⊥
-  no_fault why is = none_either _ _ (record_of_file fuse.disk.bytes.items) (ap result_ok is) is_either
+  pub no_fault : (why : Why) → found_of (read_of fuse.disk) ≡ Err why → ⊥
+  no_fault why is = none_either _ _ (record_of_files (read_of fuse.disk)) (ap result_ok is) is_either
 
-  found_is : (kept : Kept) → found_of fuse.disk.bytes.items ≡ Ok kept → kept ≡ found_at w
+  found_is : (kept : Kept) → found_of (read_of fuse.disk) ≡ Ok kept → kept ≡ found_at w
   found_is kept is = sym (ap (λ (r : Result Kept Why). result_unwrap_or r empty_record) (ap found_of (sym read_is) ∙ is))
 
-  kept_found : (kept : Kept) → found_of fuse.disk.bytes.items ≡ Ok kept → kept ≡ durable_of (settled (is_kept w.acts kept) w.acts)
-  kept_found kept is = kept_choice w.acts kept (some_either _ _ kept (record_of_file fuse.disk.bytes.items) (ap result_ok is) is_either) c.left.shown
+  kept_found : (kept : Kept) → found_of (read_of fuse.disk) ≡ Ok kept → kept ≡ durable_of (settled (is_kept w.acts kept) w.acts)
+  kept_found kept is = kept_choice w.acts kept (some_either _ _ kept (record_of_files (read_of fuse.disk)) (ap result_ok is) is_either) c.left.shown
 
   module _ (j : Journal) (is : JustOpened fuse j) where
     finds : found_at w ≡ durable_of (settled (is_kept w.acts (found_at w)) w.acts)
     finds = subst (λ (k : Kept). k ≡ durable_of (settled (is_kept w.acts k) w.acts)) (found_is j.kept is.found) (kept_found j.kept is.found)
 
     made : ((opening w.disk).ended ≡ Done) × DiskStands j.log.disk (opening w.disk).disk
-    made = subst (λ (file : List ℕ). ((calls_made w.disk (opening_calls file)).ended ≡ Done) × DiskStands j.log.disk (calls_made w.disk (opening_calls file)).disk) read_is
-        (said_done (opening_calls fuse.disk.bytes.items) fuse j.log.disk w.disk true c.disk is.ran refl)
+    made = subst (λ (files : Files). ((calls_made w.disk (both_opening_calls files)).ended ≡ Done) × DiskStands j.log.disk (calls_made w.disk (both_opening_calls files)).disk) read_is
+        (said_done (both_opening_calls (read_of fuse.disk)) fuse j.log.disk w.disk true c.disk is.ran refl)
 
     pub opens : (s : CoordState Journal) (was now : List ℕ) → JustOver me j s → now ≡ was ++ record_line me j.kept.term j.kept.accepted j.kept.committed → Opens me fuse (Open s) was now w
     opens s was now over text =
@@ -133,17 +134,17 @@ module _ (me : Id) (fuse : MemFuse) (w : NodeWorld) (c : ClosedStands fuse w) wh
   still_leaves : (g : MemFuse) → LeavesOnly moment_of left_of fuse g (FoundAsSome (MayLeave fuse)) → LeavesActs g w.acts
   still_leaves g run = record { left = leaves; shown = c.left.shown }
     where
-      found_before : (file : List ℕ) → left_of fuse (moment_of fuse) file ⊎ FoundAsSome (MayLeave fuse) file → IsEither (durable_of (settled false w.acts)) (durable_of (settled true w.acts)) (record_of_file file)
-      found_before file (inl was) = c.left.left file (only-last (reverse fuse.disk.log.items) fuse.disk.bytes.items file was)
-      found_before file (inr some) = subst (IsEither (durable_of (settled false w.acts)) (durable_of (settled true w.acts))) (sym (ap result_ok some.2)) (c.left.left some.0 some.1)
+      found_before : (files : Files) → left_of fuse (moment_of fuse) files ⊎ FoundAsSome (MayLeave fuse) files → IsEither (durable_of (settled false w.acts)) (durable_of (settled true w.acts)) (record_of_files files)
+      found_before files (inl was) = c.left.left files (only-last (reverse fuse.disk.order.items) (past_of fuse.disk) (read_of fuse.disk) files was)
+      found_before files (inr some) = subst (IsEither (durable_of (settled false w.acts)) (durable_of (settled true w.acts))) (sym (ap result_ok some.2)) (c.left.left some.0 some.1)
 
-      leaves : (file : List ℕ) → MayLeave g file → IsEither (durable_of (settled false w.acts)) (durable_of (settled true w.acts)) (record_of_file file)
-      leaves file may = found_before file (run.since (moment_of fuse) file (omega arith) (was-is (reverse g.disk.log.items) g.disk.bytes.items (moment_of fuse) file may))
+      leaves : (files : Files) → MayLeave g files → IsEither (durable_of (settled false w.acts)) (durable_of (settled true w.acts)) (record_of_files files)
+      leaves files may = found_before files (run.since (moment_of fuse) files (omega arith) (were-are (reverse g.disk.order.items) (past_of g.disk) (read_of g.disk) (moment_of fuse) files may))
 
-  module _ (g : MemFuse) (run : LeavesOnly moment_of left_of fuse g (FoundAsSome (MayLeave fuse))) (ran : Ran (FuseSteps MemSteps) (opening_calls fuse.disk.bytes.items) fuse g false) (was now : List ℕ) where
+  module _ (g : MemFuse) (run : LeavesOnly moment_of left_of fuse g (FoundAsSome (MayLeave fuse))) (ran : Ran (FuseSteps MemSteps) (both_opening_calls (read_of fuse.disk)) fuse g false) (was now : List ℕ) where
     failed : g.struck ≡ Some Fault → now ≡ was ++ disk_line me → Opens me fuse (Down g) was now w
     failed struck text =
-        let made = subst (λ (file : List ℕ). ((calls_made w.disk (opening_calls file)).ended ≡ Failed) × DiskStands g (calls_made w.disk (opening_calls file)).disk) read_is (said_failed (opening_calls fuse.disk.bytes.items) fuse g w.disk false c.disk ran refl struck) in
+        let made = subst (λ (files : Files). ((calls_made w.disk (both_opening_calls files)).ended ≡ Failed) × DiskStands g (calls_made w.disk (both_opening_calls files)).disk) read_is (said_failed (both_opening_calls (read_of fuse.disk)) fuse g w.disk false c.disk ran refl struck) in
         let down : DownStands g (record { acts = w.acts; disk = (opening w.disk).disk; down = true }) = record { down = refl; disk = made.1; left = still_leaves g run } in
         record {
           stands = subst (λ (e : CallsEnd). SlotStands me (Down g) (opened_by e w.acts (opening w.disk).disk (found_at w))) (sym made.0) down;
@@ -153,7 +154,7 @@ module _ (me : Id) (fuse : MemFuse) (w : NodeWorld) (c : ClosedStands fuse w) wh
 
     stopped : (again : MemFuse) → g.struck ≡ Some Stop → Restarted g again → now ≡ was ++ crashed_line me → Opens me fuse (Down again) was now w
     stopped again struck restarts text =
-        let said = subst (λ (file : List ℕ). StopLeaves (calls_made w.disk (opening_calls file)).ended g (calls_made w.disk (opening_calls file)).disk) read_is (said_stopped (opening_calls fuse.disk.bytes.items) fuse g w.disk false c.disk ran refl struck) in
+        let said = subst (λ (files : Files). StopLeaves (calls_made w.disk (both_opening_calls files)).ended g (calls_made w.disk (both_opening_calls files)).disk) read_is (said_stopped (both_opening_calls (read_of fuse.disk)) fuse g w.disk false c.disk ran refl struck) in
         let down : DownStands again (record { acts = w.acts; disk = (opening w.disk).disk; down = true }) = record {
           down = refl;
           disk = restarted_stands (opening w.disk).ended g again (opening w.disk).disk said restarts;
@@ -175,23 +176,23 @@ module _ (me : Id) (fuse : MemFuse) (w : NodeWorld) (c : ClosedStands fuse w) wh
 
 -- a new node
 
-empty_found : (bytes : List ℕ) (kept : Kept) → bytes ≡ [] → found_of bytes ≡ Ok kept → kept ≡ empty_record
-unfolding bodies_of folded_from
-empty_found bytes kept empty is = let same : found_of [] ≡ Ok kept = ap found_of (sym empty) ∙ is in cc
+empty_found : (bytes : Files) (kept : Kept) → bytes ≡ bytes_read no_files → found_of bytes ≡ Ok kept → kept ≡ empty_record
+unfolding generations_of bodies_of folded_from
+empty_found bytes kept empty is = let same : found_of (bytes_read no_files) ≡ Ok kept = ap found_of (sym empty) ∙ is in cc
 
 pub record IsEmptyDisk (f : MemFuse) : Type 0 where
-  pub file : file_of f.disk ≡ settled_file []
+  pub files : files_of f.disk ≡ no_files
   pub armed : f.armed ≡ nothing_armed
   pub up : f.down ≡ None
-  pub seen : f.disk.bytes.items ≡ []
+  pub seen : read_of f.disk ≡ bytes_read no_files
 
 pub new_stands : (me : Id) (f : MemFuse) (j : Journal) (s : CoordState Journal) → IsEmptyDisk f → JustOpened f j → JustOver me j s → OpenStands me s fresh_node
 new_stands me f j s empty is over =
-    let disk : NodeDisk = record { file = settled_file []; armed = nothing_armed } in
-    let began : DiskStands f disk = record { file = empty.file; armed = empty.armed; up = empty.up } in
-    let ran = subst (λ (file : List ℕ). Ran (FuseSteps MemSteps) (opening_calls file) f j.log.disk true) empty.seen is.ran in
-    let made = said_done (opening_calls []) f j.log.disk disk true began ran refl in
-    just_stands me j s NoActs (opening disk).disk over is.runs refl tt (ap (λ (x : Kept). node_state (opened x)) (empty_found f.disk.bytes.items j.kept empty.seen is.found)) made.1
+    let disk : NodeDisk = record { files = no_files; armed = nothing_armed } in
+    let began : DiskStands f disk = record { files = empty.files; armed = empty.armed; up = empty.up } in
+    let ran = subst (λ (files : Files). Ran (FuseSteps MemSteps) (both_opening_calls files) f j.log.disk true) empty.seen is.ran in
+    let made = said_done (both_opening_calls (bytes_read no_files)) f j.log.disk disk true began ran refl in
+    just_stands me j s NoActs (opening disk).disk over is.runs refl tt (ap (λ (x : Kept). node_state (opened x)) (empty_found (read_of f.disk) j.kept empty.seen is.found)) made.1
 
 -- a restart
 

@@ -1,5 +1,5 @@
 -- What an act makes of a node whose journal is open, by how it ended.
-use Rattle.std.proofs.Common.{◌≡◌, ◌⊎◌, ℕ, ◌+◌, Bool, true, false, List, length, reverse, refl, sym, ◌∙◌, ap, subst, inl, inr, arith}
+use Rattle.std.proofs.Common.{◌≡◌, ◌⊎◌, ℕ, Bool, true, false, List, length, reverse, refl, sym, ◌∙◌, ap, subst, inl, inr, arith}
 use Rattle.std.proofs.lemmas.Result.{IfOk-weaker}
 use Rattle.std.specs.Prelude.{Option, None, Some, Result, Err, IfOk}
 use Rattle.std.specs.declared.alloc.AllocError.{AllocError}
@@ -10,16 +10,18 @@ use Rattle.cluster_state.specs.declared.state.Kept.{Kept}
 use Rattle.zen_disk.specs.DeviceCall.{DeviceCall}
 use Rattle.zen_disk.specs.FileState.{FileState}
 use Rattle.zen_disk.specs.Fuse.{FuseSteps}
-use Rattle.zen_disk.specs.MemDisk.{MemSteps}
+use Rattle.zen_disk.specs.MemDisks.{MemSteps, past_of, read_of}
 use Rattle.zen_disk.specs.Moments.{LeavesOnly, quiet}
 use Rattle.zen_disk.specs.Runs.{Ran}
-use Rattle.zen_disk.specs.UndoLog.{WasImage, IsImage, was-is, only-last}
+use Rattle.zen_disk.specs.Sides.{Sides, Files}
+use Rattle.zen_disk.specs.UndoOrder.{AreImages, WereImages, only-last, were-are}
 use Rattle.zen_disk.specs.declared.orders.Struck.TheVariants.{Stop, Fault}
-use Rattle.gate_log.specs.Calls.{append_calls}
-use Rattle.gate_log.specs.Journal.{framed}
-use Rattle.state_journal.specs.Bodies.{body_of}
+use Rattle.gate_log.specs.Generations.{standing_in}
+use Rattle.gate_log.specs.Place.{place, place_of}
+use Rattle.gate_log.proofs.Places.{place_is}
 use Rattle.state_journal.specs.Changes.{IsEither}
-use Rattle.state_journal.specs.Journal.{StoodFor, only_record, record_of_file}
+use Rattle.state_journal.specs.Journal.{StoodFor, only_record, record_of_files}
+use Rattle.state_journal.specs.Keeping.{keeping_calls}
 use Rattle.state_journal.specs.declared.change.Change.{Change}
 use Rattle.coord_state.specs.Checks.{Foretells}
 use Rattle.coord_state.specs.Outcomes.{publish_outcome}
@@ -41,14 +43,14 @@ use Rattle.world_model.specs.Histories.{is_opening, is_down}
 use Rattle.world_model.specs.NodeState.{NodeState, durable_of, stopped_of}
 use Rattle.world_model.specs.Replies.{reply_of, reply_at, is_taken, writes}
 use Rattle.replay_node.specs.Did.{outcome_of}
-use Rattle.replay_node.specs.NodeDisk.{NodeDisk, CallsEnd, Done, Failed, StoppedIn, Called, MemFuse, MayLeave, DiskStands, calls_made, gate_of}
+use Rattle.replay_node.specs.NodeDisk.{NodeDisk, CallsEnd, Done, Failed, StoppedIn, Called, MemFuse, MayLeave, DiskStands, bytes_read, calls_made}
 use Rattle.replay_node.specs.NodeWorld.{NodeWorld, act_calls, act_called, after_act, is_stop, outcome_at, outcome_by}
 use Rattle.replay_node.specs.Settled.{settled, IsUnstruck}
-use Rattle.replay_node.specs.Stands.{Journal, LeavesActs, OpenStands, CrashedStands, record_of, has_stopped, faults}
+use Rattle.replay_node.specs.Stands.{Journal, LeavesActs, OpenStands, CrashedStands, fuse_ghosts, record_of, has_stopped, faults}
 use Rattle.replay_node.specs.StateDoes.{IsToldBy, StandsAfter, StateDid, StateDoes}
 use Rattle.replay_node.specs.declared.did.Did.{Did}
 use Rattle.replay_node.specs.declared.did.Did.TheVariants as did
-use Rattle.replay_node.proofs.AsSaid.{gate_stands, said_done, said_failed, said_stopped, StopLeaves}
+use Rattle.replay_node.proofs.AsSaid.{said_done, said_failed, said_stopped, StopLeaves}
 use Rattle.replay_node.proofs.Found.{struck_tells, tells_of, Tells}
 use Rattle.replay_node.proofs.SettledLocal.{stopped_reply}
 use Rattle.replay_node.proofs.Settling.{settled_then, unstruck_then}
@@ -57,15 +59,13 @@ use Rattle.replay_node.proofs.Struck.{closed_of_writes, durable_kept, durable_lo
 -- what the journal's ghost members are over such a disk
 
 abbrev pub moment : Journal → ℕ
-moment j = length (reverse j.log.disk.disk.log.items)
+moment j = length (reverse j.log.disk.disk.order.items)
 
 abbrev pub left_since : Journal → ℕ → Option Kept → Type 0
-left_since j = StoodFor (WasImage (reverse j.log.disk.disk.log.items) j.log.disk.disk.bytes.items)
+left_since j = StoodFor (WereImages (reverse j.log.disk.disk.order.items) (past_of j.log.disk.disk) (read_of j.log.disk.disk))
 
 abbrev pub journal_writes : Journal → Change → Journal → Bool → Type 0
-journal_writes j change k ok =
-    let frame = framed (body_of change) in
-    Ran (FuseSteps MemSteps) (append_calls j.log.gate frame) j.log.disk k.log.disk ok × (Unit {0} → ok ≡ true → k.log.gate ≡ j.log.gate + length frame)
+journal_writes j change k ok = Ran (FuseSteps MemSteps) (keeping_calls (place j.log) j.kept change) j.log.disk k.log.disk ok
 
 -- what coord_state tells of an act
 pub record Step (old new : CoordState Journal) (act : Act) (o : Outcome) : Type 0 where
@@ -75,24 +75,26 @@ pub record Step (old new : CoordState Journal) (act : Act) (o : Outcome) : Type 
 
 -- ---- the device calls
 
-gate_is : (j : Journal) (d : NodeDisk) → DiskStands j.log.disk d → j.log.stopped ≡ false → j.log.gate ≡ gate_of d.file.read
-gate_is j d stands running = gate_stands _ _ _ (j.log.settled tt running) ∙ ap (λ (s : FileState). gate_of s.read) stands.file
+calls_are : (j : Journal) (d : NodeDisk) (kept : Kept) (change : Change) → DiskStands j.log.disk d → j.log.stopped ≡ false → j.kept ≡ kept
+    → keeping_calls (place j.log) j.kept change ≡ keeping_calls (place_of (standing_in (bytes_read d.files))) kept change
+calls_are j d kept change stands running same =
+    let there : place j.log ≡ place_of (standing_in (bytes_read d.files)) = place_is fuse_ghosts j.log tt running ∙ ap (λ (s : Sides FileState). place_of (standing_in (bytes_read s))) stands.files in
+    λ i. keeping_calls (there i) (same i) change
 
 abbrev CallsDone : Journal → Called → Type 0
 CallsDone new called = (called.ended ≡ Done) × DiskStands new.log.disk called.disk
 
-taken_done : (old new : Journal) (change : Option Change) (d : NodeDisk) (sends : Option Message) (wins : Bool) → DiskStands old.log.disk d → old.log.stopped ≡ false → Wrote journal_writes old change new true
-    → CallsDone new (calls_made d (act_calls (Taken sends wins) change d.file.read))
-taken_done old new (Some change) d sends wins stands running wrote =
-    let ran = subst (λ (gate : ℕ). Ran (FuseSteps MemSteps) (append_calls gate (framed (body_of change))) old.log.disk new.log.disk true) (gate_is old d stands running) wrote.0 in
-    said_done (append_calls (gate_of d.file.read) (framed (body_of change))) old.log.disk new.log.disk d true stands ran refl
-taken_done old new None d sends wins stands running wrote = (refl, subst (λ (j : Journal). DiskStands j.log.disk d) (sym wrote) stands)
+module _ (old new : Journal) (d : NodeDisk) (kept : Kept) (stands : DiskStands old.log.disk d) (same : old.kept ≡ kept) where
+  taken_done : (change : Option Change) (sends : Option Message) (wins : Bool) → old.log.stopped ≡ false → Wrote journal_writes old change new true → CallsDone new (calls_made d (act_calls (Taken sends wins) change kept (bytes_read d.files)))
+  taken_done (Some change) sends wins running wrote =
+      let ran = subst (λ (calls : List DeviceCall). Ran (FuseSteps MemSteps) calls old.log.disk new.log.disk true) (calls_are old d kept change stands running same) wrote in
+      said_done (keeping_calls (place_of (standing_in (bytes_read d.files))) kept change) old.log.disk new.log.disk d true stands ran refl
+  taken_done None sends wins running wrote = (refl, subst (λ (j : Journal). DiskStands j.log.disk d) (sym wrote) stands)
 
-answered_done : (old new : Journal) (act : Act) (reply : Reply) (d : NodeDisk) → DiskStands old.log.disk d → (is_taken reply ≡ true → old.log.stopped ≡ false) → WritesBy journal_writes old act new (Answered reply)
-    → CallsDone new (calls_made d (act_calls reply (change_of act) d.file.read))
-answered_done old new act (Taken sends wins) d stands running wrote = taken_done old new (change_of act) d sends wins stands (running refl) wrote
-answered_done old new act (Refused cause) d stands running wrote = (refl, subst (λ (j : Journal). DiskStands j.log.disk d) (sym wrote) stands)
-answered_done old new act Stopped d stands running wrote = (refl, subst (λ (j : Journal). DiskStands j.log.disk d) (sym wrote) stands)
+  answered_done : (act : Act) (reply : Reply) → (is_taken reply ≡ true → old.log.stopped ≡ false) → WritesBy journal_writes old act new (Answered reply) → CallsDone new (calls_made d (act_calls reply (change_of act) kept (bytes_read d.files)))
+  answered_done act (Taken sends wins) running wrote = taken_done (change_of act) sends wins (running refl) wrote
+  answered_done act (Refused cause) running wrote = (refl, subst (λ (j : Journal). DiskStands j.log.disk d) (sym wrote) stands)
+  answered_done act Stopped running wrote = (refl, subst (λ (j : Journal). DiskStands j.log.disk d) (sym wrote) stands)
 
 -- ---- the journal has stopped as the acts say
 
@@ -126,8 +128,8 @@ leaves_stopped : (fuse : MemFuse) (g : NodeHistory) (act : Act) (reply : Reply) 
 leaves_stopped fuse g act reply o refused leaves =
     let same : (k : Bool) → durable_of (settled k (Then g act (Answered reply))) ≡ durable_of (settled k g) = λ k. ap durable_of (settled_then k g act reply o) ∙ durable_refused (settled k g) act reply o refused in
     record {
-      left = λ file may. subst (λ (a : Kept). IsEither a (durable_of (settled true (Then g act (Answered reply)))) (record_of_file file)) (sym (same false))
-          (subst (λ (b : Kept). IsEither (durable_of (settled false g)) b (record_of_file file)) (sym (same true)) (leaves.left file may));
+      left = λ files may. subst (λ (a : Kept). IsEither a (durable_of (settled true (Then g act (Answered reply)))) (record_of_files files)) (sym (same false))
+          (subst (λ (b : Kept). IsEither (durable_of (settled false g)) b (record_of_files files)) (sym (same true)) (leaves.left files may));
       shown = tells_of _ _ _ _ (same false) (same true) leaves.shown;
     }
 
@@ -138,7 +140,8 @@ module _ (old new : CoordState Journal) (act : Act) (reply : Reply) (step : Step
   answered_calls : CallsDone new.keeper (act_called old.me w act)
   answered_calls =
       let running = λ (taken : is_taken reply ≡ true). runs_of old.me old w.acts act o stands.acts (subst (λ (r : Reply). is_taken r ≡ true) reply_is taken) in
-      subst (λ (r : Reply). CallsDone new.keeper (calls_made w.disk (act_calls r (change_of act) w.disk.file.read))) reply_is (answered_done old.keeper new.keeper act reply w.disk stands.disk running step.wrote)
+      subst (λ (r : Reply). CallsDone new.keeper (calls_made w.disk (act_calls r (change_of act) (durable_of w.acts) (bytes_read w.disk.files)))) reply_is
+      (answered_done old.keeper new.keeper w.disk (durable_of w.acts) stands.disk (stands_durable old w.acts stands.acts) act reply running step.wrote)
 
   pub answered_at : Answered reply ≡ outcome_at old.me w act
   answered_at = ap Answered reply_is ∙ sym (ap (λ (e : CallsEnd). outcome_by e (reply_of old.me w.acts act)) answered_calls.0)
@@ -175,14 +178,15 @@ change_is act e = cc
 -- what was left before the act is the record
 was_record : (c : CoordState Journal) (g : NodeHistory) (found : Option Kept) → StandsFor record_of has_stopped faults c g → c.keeper.log.stopped ≡ false → left_since c.keeper (moment c.keeper) found → found ≡ Some (durable_of g)
 was_record c g found s running left =
-    let past = reverse c.keeper.log.disk.disk.log.items in
-    let read = c.keeper.log.disk.disk.bytes.items in
-    only_record read (WasImage past read (length past)) (IsImage past read) c.keeper.kept found (only-last past read) (c.keeper.log.settled tt running).durable (c.keeper.stands tt running) left ∙ ap Some (stands_durable c g s)
+    let order = reverse c.keeper.log.disk.disk.order.items in
+    let past = past_of c.keeper.log.disk.disk in
+    let read = read_of c.keeper.log.disk.disk in
+    only_record read (WereImages order past read (length order)) (AreImages past read) c.keeper.kept found (only-last order past read) (c.keeper.log.settled tt running).durable (c.keeper.stands tt running) left ∙ ap Some (stands_durable c g s)
 
 leaves_by : (fuse : MemFuse) (g h : NodeHistory) (act : Act) → durable_of (settled false h) ≡ durable_of g → durable_of (settled true h) ≡ durable_of (Then g act (Crashed true))
-    → ((file : List ℕ) → MayLeave fuse file → IsDuring g act (record_of_file file)) → Tells (durable_of g) (durable_of (Then g act (Crashed true))) → LeavesActs fuse h
+    → ((files : Files) → MayLeave fuse files → IsDuring g act (record_of_files files)) → Tells (durable_of g) (durable_of (Then g act (Crashed true))) → LeavesActs fuse h
 leaves_by fuse g h act lost kept during tells = record {
-  left = λ file may. subst (λ (a : Kept). IsEither a (durable_of (settled true h)) (record_of_file file)) (sym lost) (subst (λ (b : Kept). IsEither (durable_of g) b (record_of_file file)) (sym kept) (during file may));
+  left = λ files may. subst (λ (a : Kept). IsEither a (durable_of (settled true h)) (record_of_files files)) (sym lost) (subst (λ (b : Kept). IsEither (durable_of g) b (record_of_files files)) (sym kept) (during files may));
   shown = tells_of _ _ _ _ lost kept tells;
 }
 
@@ -196,31 +200,33 @@ module _ (old new : CoordState Journal) (act : Act) (step : Step old new act (Di
   struck_runs : old.keeper.log.stopped ≡ false
   struck_runs = runs_of old.me old w.acts act struck_closed stands.acts struck_taken.0
 
-  during : (file : List ℕ) → MayLeave new.keeper.log.disk file → IsDuring w.acts act (record_of_file file)
-  during file may = from (run.since (moment old.keeper) (record_of_file file) (omega arith) (file, was-is (reverse new.keeper.log.disk.disk.log.items) new.keeper.log.disk.disk.bytes.items (moment old.keeper) file may, refl))
+  during : (files : Files) → MayLeave new.keeper.log.disk files → IsDuring w.acts act (record_of_files files)
+  during files may =
+      let disk = new.keeper.log.disk.disk in
+      from (run.since (moment old.keeper) (record_of_files files) (omega arith) (files, were-are (reverse disk.order.items) (past_of disk) (read_of disk) (moment old.keeper) files may, refl))
     where
       run : LeavesOnly moment left_since old.keeper new.keeper (IsDuring w.acts act)
       run = step.any_moment w.acts stands.acts
 
-      from : left_since old.keeper (moment old.keeper) (record_of_file file) ⊎ IsDuring w.acts act (record_of_file file) → IsDuring w.acts act (record_of_file file)
-      from (inl was) = inl (was_record old w.acts (record_of_file file) stands.acts struck_runs was)
+      from : left_since old.keeper (moment old.keeper) (record_of_files files) ⊎ IsDuring w.acts act (record_of_files files) → IsDuring w.acts act (record_of_files files)
+      from (inl was) = inl (was_record old w.acts (record_of_files files) stands.acts struck_runs was)
       from (inr now) = now
 
   change : (c : Change) × (change_of act ≡ Some c)
   change = change_is act struck_taken.1
 
   abbrev calls : List DeviceCall
-  calls = append_calls (gate_of w.disk.file.read) (framed (body_of change.0))
+  calls = keeping_calls (place_of (standing_in (bytes_read w.disk.files))) (durable_of w.acts) change.0
 
   struck_ran : Ran (FuseSteps MemSteps) calls old.keeper.log.disk new.keeper.log.disk false
   struck_ran =
       let wrote : Wrote journal_writes old.keeper (Some change.0) new.keeper false = subst (λ (c : Option Change). Wrote journal_writes old.keeper c new.keeper false) change.1 step.wrote in
-      subst (λ (gate : ℕ). Ran (FuseSteps MemSteps) (append_calls gate (framed (body_of change.0))) old.keeper.log.disk new.keeper.log.disk false) (gate_is old.keeper w.disk stands.disk struck_runs) wrote.0
+      subst (λ (made : List DeviceCall). Ran (FuseSteps MemSteps) made old.keeper.log.disk new.keeper.log.disk false) (calls_are old.keeper w.disk (durable_of w.acts) change.0 stands.disk struck_runs (stands_durable old w.acts stands.acts)) wrote
 
   struck_calls : act_called old.me w act ≡ calls_made w.disk calls
   struck_calls =
       let taken = taken_is (reply_of old.me w.acts act) struck_taken.0 in
-      ap (calls_made w.disk) (ap (λ (c : Option Change). act_calls (reply_of old.me w.acts act) c w.disk.file.read) change.1 ∙ ap (λ (r : Reply). act_calls r (Some change.0) w.disk.file.read) (sym taken.2))
+      ap (calls_made w.disk) (ap (λ (c : Option Change). act_calls (reply_of old.me w.acts act) c (durable_of w.acts) (bytes_read w.disk.files)) change.1 ∙ ap (λ (r : Reply). act_calls r (Some change.0) (durable_of w.acts) (bytes_read w.disk.files)) (sym taken.2))
 
   ended_at : (e : CallsEnd) → (calls_made w.disk calls).ended ≡ e → outcome_by e (reply_of old.me w.acts act) ≡ outcome_at old.me w act
   ended_at e is = sym (ap (λ (x : CallsEnd). outcome_by x (reply_of old.me w.acts act)) (ap (λ (c : Called). c.ended) struck_calls ∙ is))
@@ -261,7 +267,7 @@ module _ (old new : CoordState Journal) (act : Act) (step : Step old new act (Di
       down = ap is_stop (ap (λ (c : Called). c.ended) struck_calls ∙ stop.ended);
       way = stop.way;
       stopped = stop.down;
-      file = stop.file ∙ ap (λ (c : Called). c.disk.file) (sym struck_calls);
+      files = stop.files ∙ ap (λ (c : Called). c.disk.files) (sym struck_calls);
       armed = stop.armed ∙ ap (λ (c : Called). c.disk.armed) (sym struck_calls);
       left = subst (λ (p : Outcome). LeavesActs new.keeper.log.disk (Then w.acts act p)) crashed_at (leaves (Then w.acts act (Crashed false)) (durable_lost_crash w.acts act struck_closed) refl);
     }

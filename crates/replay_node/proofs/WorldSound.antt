@@ -1,4 +1,4 @@
--- What each line of a schedule keeps true of all nodes: their history is legal, each node's file holds the record of its acts, and what was
+-- What each line of a schedule keeps true of all nodes: their history is legal, each node's files hold the record of its acts, and what was
 -- published fits into a body.
 use Rattle.std.proofs.Common.{◌≡◌, ℕ, zero, suc, ◌≤◌, ◌^◌, Bool, true, false, None, Some, List, [], ◌∷◌, ◌++◌, refl, sym, ◌∙◌, ap, subst, arith, append-nil, slice_get, if◌then◌else◌}
 use Rattle.std.specs.Prelude.{◌||◌}
@@ -10,6 +10,7 @@ use Rattle.cluster_state.specs.declared.messages.PublishRequest.{PublishRequest}
 use Rattle.cluster_state.specs.declared.state.Kept.{Kept}
 use Rattle.zen_disk.specs.declared.orders.Order.{Order}
 use Rattle.zen_disk.specs.declared.orders.Way.{Way}
+use Rattle.state_journal.specs.Drafts.{MayBegin}
 use Rattle.world_model.specs.declared.acts.Act.{Act}
 use Rattle.world_model.specs.declared.acts.Act.TheVariants.{Value}
 use Rattle.world_model.specs.declared.acts.Message.{Message}
@@ -34,7 +35,7 @@ use Rattle.replay_node.specs.Worlds.{World, crashed, did, did_unless_down, fresh
 use Rattle.replay_node.proofs.AllSettled.{settled_sent}
 use Rattle.replay_node.proofs.MayAct.{may_act}
 use Rattle.replay_node.proofs.Moves.{NodeMoves, moves_crashed, moves_did_unless_down, moves_ordered, moves_restarted}
-use Rattle.replay_node.proofs.NodeSound.{IsFitAct, IsFitKept, Sound, act_sound, found_either, fresh_sound, opening_sound, order_sound, stop_sound}
+use Rattle.replay_node.proofs.NodeSound.{IsFitAct, Sound, act_sound, found_either, fresh_sound, opening_sound, order_sound, stop_sound}
 use Rattle.replay_node.proofs.Reopened.{IsFound, reopened_legal}
 use Rattle.replay_node.proofs.Settling.{unstruck}
 
@@ -79,10 +80,10 @@ taking_fits (ResponseMessage r) f = tt
 taking_fits (CommitMessage c) f = tt
 
 -- the record of a node that is up and runs
-running_fit : (w : NodeWorld) → Sound w → w.down ≡ false → stopped_of w.acts ≡ false → IsFitKept (durable_of w.acts)
+running_fit : (w : NodeWorld) → Sound w → w.down ≡ false → stopped_of w.acts ≡ false → MayBegin (durable_of w.acts)
 running_fit w s up going =
     let needs : needs_opening w ≡ false = ap (λ (b : Bool). b || stopped_of w.acts) up ∙ going in
-    subst (λ (g : NodeHistory). IsFitKept (durable_of g)) (unstruck w.acts false (s.unstruck needs)) (s.fit false)
+    subst (λ (g : NodeHistory). MayBegin (durable_of g)) (unstruck w.acts false (s.unstruck needs)) (s.fit false)
 
 published_fits : (me : Id) (w : NodeWorld) (act : Act) (r : PublishRequest) (wins : Bool) → Sound w → w.down ≡ false → IsFitAct act → Taken (Some (PublishMessage r)) wins ≡ reply_of me w.acts act → PublishBy me w.acts r act → state.Fits r.state
 published_fits me w act r wins s up fits is by =
@@ -90,9 +91,9 @@ published_fits me w act r wins s up fits is by =
     let value_act : Act = Value r.state.version r.state.config r.state.value in
     let fits_value : IsFitAct value_act = subst IsFitAct by.act_is fits in
     let guard = value_guard me w.acts r.state.version r.state.config r.state.value (Some (PublishMessage r)) wins (subst (λ (a : Act). Taken (Some (PublishMessage r)) wins ≡ reply_of me w.acts a) by.act_is is) in
-    let bounded = kept.term in
+    let bounded = kept.bounded in
     let term : r.state.term ≤ 2 ^ 62 = omega (arith, by.term_is) in
-    (term, (guard.below, (fits_value.0, (subst (λ (c : List Id). (ids most_ids).Fits c) (sym by.committed_is) kept.committed, fits_value.1))))
+    (term, (guard.below, (fits_value.0, (subst (λ (c : List Id). (ids most_ids).Fits c) (sym by.committed_is) kept.named, fits_value.1))))
 
 sent_fits : (me : Id) (w : NodeWorld) (act : Act) (m : Message) (wins : Bool) → Sound w → w.down ≡ false → IsFitAct act → Taken (Some m) wins ≡ reply_of me w.acts act → Origin me w.acts act m → IsFitMessage m
 sent_fits me w act (JoinMessage j) wins s up fits is by = tt

@@ -7,10 +7,11 @@ use Rattle.cluster_state.specs.declared.state.Kept.{Kept}
 use Rattle.zen_disk.specs.DeviceCall.{DeviceCall}
 use Rattle.zen_disk.specs.declared.orders.Order.{Order}
 use Rattle.zen_disk.specs.declared.orders.Way.{Way}
-use Rattle.gate_log.specs.Calls.{append_calls}
-use Rattle.gate_log.specs.Journal.{framed}
-use Rattle.state_journal.specs.Bodies.{body_of}
+use Rattle.zen_disk.specs.Sides.{Files}
+use Rattle.gate_log.specs.Generations.{standing_in}
+use Rattle.gate_log.specs.Place.{place_of}
 use Rattle.state_journal.specs.Journal.{found_of}
+use Rattle.state_journal.specs.Keeping.{keeping_calls}
 use Rattle.state_journal.specs.declared.change.Change.{Change}
 use Rattle.world_model.specs.declared.acts.Act.{Act}
 use Rattle.world_model.specs.declared.acts.Outcome.{Outcome}
@@ -19,11 +20,11 @@ use Rattle.world_model.specs.declared.acts.Act.TheVariants.{Open}
 use Rattle.world_model.specs.declared.acts.Reply.TheVariants.{Taken, Refused, Stopped}
 use Rattle.world_model.specs.declared.acts.Outcome.TheVariants.{Answered, Disk, Crashed}
 use Rattle.world_model.specs.Acts.{NodeHistory, NoActs, Then}
-use Rattle.world_model.specs.NodeState.{stopped_of}
+use Rattle.world_model.specs.NodeState.{durable_of, stopped_of}
 use Rattle.world_model.specs.Replies.{reply_of}
 use Rattle.coord_state.specs.Writes.{change_of}
 use Rattle.trace_text.specs.Trace.{record_line, crashed_line, disk_line}
-use Rattle.replay_node.specs.NodeDisk.{NodeDisk, CallsEnd, Done, Failed, StoppedIn, Called, calls_made, opening, gate_of, fresh_disk, with_order, stopped_by}
+use Rattle.replay_node.specs.NodeDisk.{NodeDisk, CallsEnd, Done, Failed, StoppedIn, Called, calls_made, opening, bytes_read, fresh_disk, with_order, stopped_by}
 use Rattle.replay_node.specs.Settled.{settled, is_kept}
 
 -- what it did, its disk, and whether it is down
@@ -37,12 +38,13 @@ fresh_node = record { acts = NoActs; disk = fresh_disk; down = false }
 
 -- ---- an act
 
--- the device calls of an act that is answered so: those that append its change, where it is taken and has one
-abbrev pub act_calls : Reply → Option Change → List ℕ → List DeviceCall
-act_calls (Taken sends wins) (Some change) read = append_calls (gate_of read) (framed (body_of change))
-act_calls (Taken sends wins) None read = []
-act_calls (Refused cause) change read = []
-act_calls Stopped change read = []
+-- The device calls of an act that is answered so, where the node keeps this record in files that read so: those that keep its change, where
+-- it is taken and has one.
+abbrev pub act_calls : Reply → Option Change → Kept → Files → List DeviceCall
+act_calls (Taken sends wins) (Some change) kept files = keeping_calls (place_of (standing_in files)) kept change
+act_calls (Taken sends wins) None kept files = []
+act_calls (Refused cause) change kept files = []
+act_calls Stopped change kept files = []
 
 -- its outcome by how these calls end; what the disk failed or stopped in counts as not kept until the node is opened
 abbrev pub outcome_by : CallsEnd → Reply → Outcome
@@ -56,7 +58,7 @@ is_stop Failed = false
 is_stop (StoppedIn way) = true
 
 abbrev pub act_called : Id → NodeWorld → Act → Called
-act_called me w act = calls_made w.disk (act_calls (reply_of me w.acts act) (change_of act) w.disk.file.read)
+act_called me w act = calls_made w.disk (act_calls (reply_of me w.acts act) (change_of act) (durable_of w.acts) (bytes_read w.disk.files))
 
 abbrev pub outcome_at : Id → NodeWorld → Act → Outcome
 outcome_at me w act = outcome_by (act_called me w act).ended (reply_of me w.acts act)
@@ -78,9 +80,9 @@ after_order order w = record { acts = w.acts; disk = with_order order w.disk; do
 abbrev pub needs_opening : NodeWorld → Bool
 needs_opening w = w.down || stopped_of w.acts
 
--- the record that the bytes stand for
+-- the record that the files stand for
 abbrev pub found_at : NodeWorld → Kept
-found_at w = result_unwrap_or (found_of w.disk.file.read) empty_record
+found_at w = result_unwrap_or (found_of (bytes_read w.disk.files)) empty_record
 
 abbrev pub acts_reopened : NodeHistory → Kept → NodeHistory
 acts_reopened g found = Then (settled (is_kept g found) g) (Open found) (Answered (Taken None false))

@@ -1,15 +1,17 @@
 -- When a node of a replay stands for what it did and for its disk.
-use Rattle.std.specs.Prelude.{◌≡◌, ◌<◌, ◌⊎◌, ℕ, ◌+◌, true, false, Bool, Some, List, length}
+use Rattle.std.specs.Prelude.{◌≡◌, ◌<◌, ◌⊎◌, ℕ, ◌+◌, true, false, Bool, Some, length}
 use Rattle.voting_config.specs.Ids.{Id, has, most_ids}
 use Rattle.cluster_state.specs.declared.state.Kept.{Kept}
-use Rattle.zen_disk.specs.FileState.{left_by}
-use Rattle.zen_disk.specs.MemDisk.{file_of}
-use Rattle.zen_disk.specs.contracts.fuse.FuseDisk.TheImpl as FuseDisk
-use Rattle.zen_disk.specs.contracts.memory.MemDisk as MemDiskRow
-use Rattle.zen_disk.specs.contracts.memory.MemDiskDisk.TheImpl as MemDiskDisk
+use Rattle.zen_disk.specs.FileState.{both_left_by}
+use Rattle.zen_disk.specs.MemDisks.{files_of}
+use Rattle.zen_disk.specs.Sides.{Files}
+use Rattle.zen_disk.specs.contracts.fuse.FuseDisks.TheImpl as FuseDisks
+use Rattle.zen_disk.specs.contracts.memory.MemDisks as MemDisksRow
+use Rattle.zen_disk.specs.contracts.memory.MemDisksDisks.TheImpl as MemDisksDisks
+use Rattle.zen_disk.specs.declared.disks.Disks.{Ghosts}
 use Rattle.zen_disk.specs.declared.orders.Way.{Way}
 use Rattle.state_journal.specs.Changes.{IsEither}
-use Rattle.state_journal.specs.Journal.{record_of_file}
+use Rattle.state_journal.specs.Journal.{record_of_files}
 use Rattle.state_journal.specs.declared.journal.StateJournal.{StateJournal}
 use Rattle.coord_state.specs.StandsFor.{StandsFor}
 use Rattle.coord_state.specs.declared.coord.CoordState.{CoordState}
@@ -31,8 +33,12 @@ use Rattle.replay_node.specs.declared.node.ReplayNode.{ReplayNode}
 use Rattle.replay_node.specs.declared.node.Slot.{Slot}
 use Rattle.replay_node.specs.declared.node.Slot.TheVariants.{Open, Down}
 
+-- what the ghost members of such a disk are
+abbrev pub fuse_ghosts : Ghosts MemFuse
+fuse_ghosts = FuseDisks.ghosts MemDisksRow.the_row MemDisksDisks.ghosts FuseDisks.no_dict
+
 abbrev pub Journal : Type 0
-Journal = StateJournal MemFuse (FuseDisk.ghosts MemDiskRow.the_row MemDiskDisk.ghosts FuseDisk.no_dict)
+Journal = StateJournal MemFuse fuse_ghosts
 
 -- what the journal's ghost members are over such a disk
 
@@ -48,7 +54,7 @@ faults j = j.log.disk.disk.faults + j.log.disk.refused
 -- whatever a crash leaves holds the acts so far, with the act that was struck or without it; and where the two records show the same, they
 -- are the same
 pub record LeavesActs (fuse : MemFuse) (g : NodeHistory) : Type 0 where
-  pub left : (file : List ℕ) → MayLeave fuse file → IsEither (durable_of (settled false g)) (durable_of (settled true g)) (record_of_file file)
+  pub left : (files : Files) → MayLeave fuse files → IsEither (durable_of (settled false g)) (durable_of (settled true g)) (record_of_files files)
   pub shown : shows_as (durable_of (settled false g)) (durable_of (settled true g)) ≡ true → durable_of (settled false g) ≡ durable_of (settled true g)
 
 -- a node whose journal is open; once it met a fault of its disk, an act was struck
@@ -72,7 +78,7 @@ pub record CrashedStands (me : Id) (state : CoordState Journal) (w : NodeWorld) 
   pub down : w.down ≡ true
   pub way : Way
   pub stopped : state.keeper.log.disk.down ≡ Some way
-  pub file : left_by way (file_of state.keeper.log.disk.disk) ≡ w.disk.file
+  pub files : both_left_by way (files_of state.keeper.log.disk.disk) ≡ w.disk.files
   pub armed : state.keeper.log.disk.armed ≡ w.disk.armed
   pub left : LeavesActs state.keeper.log.disk w.acts
 

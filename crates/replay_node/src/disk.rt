@@ -1,23 +1,24 @@
-ghost use Rattle.std.specs.Prelude.{◌≡◌, ℕ, List, None, []};
+ghost use Rattle.std.specs.Prelude.{◌≡◌, None};
 ghost use Rattle.zen_disk.specs.Armed.{nothing_armed};
-ghost use Rattle.zen_disk.specs.FileState.{left_by, settled};
-ghost use Rattle.zen_disk.specs.MemDisk.{file_of};
-ghost use Rattle.replay_node.specs.NodeDisk.{MayLeave, Restarted};
+ghost use Rattle.zen_disk.specs.FileState.{both_left_by};
+ghost use Rattle.zen_disk.specs.MemDisks.{files_of, read_of};
+ghost use Rattle.zen_disk.specs.Sides.{Files};
+ghost use Rattle.replay_node.specs.NodeDisk.{MayLeave, Restarted, bytes_read, no_files};
 
 use std::alloc::Global;
-use zen_disk::{Armable, Armed, Fuse, MemDisk, Order, Way};
+use zen_disk::{Armable, Armed, Fuse, MemDisks, Order, Way};
 
-/// An empty disk, with no orders. It takes no memory.
-pub fn empty_disk(alloc: Global) -> Fuse<MemDisk>
-    ensures file { file_of result.disk ≡ settled [] }
+/// A disk of two empty files, with no orders. It takes no memory.
+pub fn empty_disk(alloc: Global) -> Fuse<MemDisks>
+    ensures files { files_of result.disk ≡ no_files }
     ensures armed { result.armed ≡ nothing_armed }
     ensures up { result.down ≡ None }
-    ensures seen { result.disk.bytes.items ≡ [] }
+    ensures seen { read_of result.disk ≡ bytes_read no_files }
 {
-    Fuse::new(MemDisk::new(alloc, Vec::new(alloc), Vec::new(alloc)))
+    Fuse::new(MemDisks::new(alloc, Vec::new(alloc), Vec::new(alloc), Vec::new(alloc)))
 }
 
-fn arm_stop(fuse: &mut Fuse<MemDisk>, stop: Option<(u64, Way)>)
+fn arm_stop(fuse: &mut Fuse<MemDisks>, stop: Option<(u64, Way)>)
     requires { fuse.old.armed.stop ≡ None }
     ensures armed { fuse.new.armed ≡ record (fuse.old.armed) { stop = stop } }
     ensures disk { fuse.new.disk ≡ fuse.old.disk }
@@ -29,7 +30,7 @@ fn arm_stop(fuse: &mut Fuse<MemDisk>, stop: Option<(u64, Way)>)
     }
 }
 
-fn arm_fault(fuse: &mut Fuse<MemDisk>, fault: Option<u64>)
+fn arm_fault(fuse: &mut Fuse<MemDisks>, fault: Option<u64>)
     requires { fuse.old.armed.fault ≡ None }
     ensures armed { fuse.new.armed ≡ record (fuse.old.armed) { fault = fault } }
     ensures disk { fuse.new.disk ≡ fuse.old.disk }
@@ -42,7 +43,7 @@ fn arm_fault(fuse: &mut Fuse<MemDisk>, fault: Option<u64>)
 }
 
 /// This disk under these orders.
-fn with_orders(disk: MemDisk, armed: Armed) -> Fuse<MemDisk>
+fn with_orders(disk: MemDisks, armed: Armed) -> Fuse<MemDisks>
     ensures disk { result.disk ≡ disk }
     ensures armed { result.armed ≡ armed }
     ensures down { result.down ≡ None }
@@ -54,7 +55,7 @@ fn with_orders(disk: MemDisk, armed: Armed) -> Fuse<MemDisk>
 }
 
 /// The disk as a stop has left it, running again, with the orders that have not come yet.
-pub fn restarted(fuse: Fuse<MemDisk>) -> Fuse<MemDisk>
+pub fn restarted(fuse: Fuse<MemDisks>) -> Fuse<MemDisks>
     ensures { Restarted fuse result }
 {
     let armed = fuse.armed();
@@ -62,11 +63,11 @@ pub fn restarted(fuse: Fuse<MemDisk>) -> Fuse<MemDisk>
 }
 
 /// The running disk, stopped between two calls and running again.
-pub fn stopped(fuse: Fuse<MemDisk>, way: Way) -> Fuse<MemDisk>
+pub fn stopped(fuse: Fuse<MemDisks>, way: Way) -> Fuse<MemDisks>
     ensures armed { result.armed ≡ fuse.armed }
     ensures up { result.down ≡ None }
-    ensures file { file_of result.disk ≡ left_by way (file_of fuse.disk) }
-    ensures left { (file : List ℕ) → MayLeave result file → MayLeave fuse file }
+    ensures files { files_of result.disk ≡ both_left_by way (files_of fuse.disk) }
+    ensures left { (c : Files) → MayLeave result c → MayLeave fuse c }
 {
     let mut fuse = fuse;
     fuse.stop(way);

@@ -28,14 +28,14 @@ use std::mem;
 use std::rc::Rc;
 use trace_text::{write_crashed, write_disk, write_down, write_record, write_up};
 use voting_config::{NodeId, NodeSet, VotingConfig};
-use zen_disk::{Armable, Fuse, MemDisk, Order, Struck, Way};
+use zen_disk::{Armable, Fuse, MemDisks, Order, Struck, Way};
 
 /// Whether a node's journal is open.
 #[derive(Drop)]
 pub enum Slot {
     Open(OpenNode),
     /// The node is down, and this is its disk.
-    Down(Fuse<MemDisk>),
+    Down(Fuse<MemDisks>),
 }
 
 /// A node of a replay, and what it has published last.
@@ -261,7 +261,7 @@ impl ReplayNode {
     fn open(
         &mut self,
         alloc: Global,
-        fuse: Fuse<MemDisk>,
+        fuse: Fuse<MemDisks>,
         text: &mut Text,
     ) -> Result<(), AllocError>
         requires { (w : NodeWorld) × ClosedStands fuse w }
@@ -282,7 +282,7 @@ impl ReplayNode {
     }
 
     // What the fuse tells of an opening that met a fault of the disk. A fault that no order has made is want of memory.
-    fn stay_down(&mut self, fuse: Fuse<MemDisk>, text: &mut Text) -> Result<(), AllocError>
+    fn stay_down(&mut self, fuse: Fuse<MemDisks>, text: &mut Text) -> Result<(), AllocError>
         ensures me { self.new.me ≡ self.old.me }
         ensures published { self.new.published ≡ self.old.published }
         ensures down { OnOk result (StaysDown fuse.struck self.old.me fuse self.new.slot text.old text.new) }

@@ -21,10 +21,10 @@ use std::alloc::{AllocError, Global};
 use std::rc::Rc;
 use voting_config::{NodeId, NodeSet, VotingConfig};
 use world_model::Cause;
-use zen_disk::{Fuse, MemDisk, Struck};
+use zen_disk::{Fuse, MemDisks, Struck};
 
 /// A node whose journal is open on a memory disk under a fuse.
-pub type OpenNode = CoordState<StateJournal<Fuse<MemDisk>>>;
+pub type OpenNode = CoordState<StateJournal<Fuse<MemDisks>>>;
 
 // What the fuse tells of an act that met a fault of the disk. A fault that no order has made is want of memory.
 fn told(state: &OpenNode, did: Did) -> Result<Did, AllocError>

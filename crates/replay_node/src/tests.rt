@@ -1,38 +1,42 @@
 use crate::disk::{empty_disk, restarted, stopped};
 use std::test::Fail;
-use zen_disk::{Armable, Armed, Disk, Fuse, MemDisk, Order, Way};
+use zen_disk::{Armable, Armed, Disks, Fuse, MemDisks, Order, Side, Way};
 
-// A disk with two stable bytes and two behind them that are not.
-fn half_synced(rt: &HostRuntime) -> Result<Fuse<MemDisk>, Fail> {
+// A disk with stable bytes on each side, and bytes behind them that are not.
+fn half_synced(rt: &HostRuntime) -> Result<Fuse<MemDisks>, Fail> {
     let mut fuse = empty_disk(rt.alloc());
-    fuse.write_at(0, b"ab")?;
-    fuse.sync()?;
-    fuse.write_at(2, b"cd")?;
+    fuse.write_at(Side::Zero, 0, b"ab")?;
+    fuse.sync(Side::Zero)?;
+    fuse.write_at(Side::One, 0, b"xyz")?;
+    fuse.sync(Side::One)?;
+    fuse.write_at(Side::Zero, 2, b"cd")?;
+    fuse.write_at(Side::One, 1, b"w")?;
     Ok(fuse)
 }
 
-fn content(rt: &HostRuntime, fuse: &mut Fuse<MemDisk>) -> Result<Vec<u8>, Fail> {
-    let len = fuse.len()?;
+fn content(rt: &HostRuntime, fuse: &mut Fuse<MemDisks>, side: Side) -> Result<Vec<u8>, Fail> {
+    let len = fuse.len(side)?;
     let mut bytes = vec![in rt.alloc(); 0; len as usize]?;
-    fuse.read(0, &mut bytes)?;
+    fuse.read(side, 0, &mut bytes)?;
     Ok(bytes)
 }
 
 #[test]
-fn a_restarted_disk_holds_what_the_stop_left(rt: HostRuntime) -> Result<(), Fail> {
+fn a_restarted_disk_holds_what_the_stop_left_on_both_sides(rt: HostRuntime) -> Result<(), Fail> {
     let table = [
-        (Way::Lost, b"ab".as_slice()),
-        (Way::Kept, b"abcd".as_slice()),
-        (Way::Torn(b'x'), b"abxx".as_slice()),
+        (Way::Lost, b"ab".as_slice(), b"xyz".as_slice()),
+        (Way::Kept, b"abcd".as_slice(), b"xwz".as_slice()),
+        (Way::Torn(b'q'), b"abqq".as_slice(), b"xqz".as_slice()),
     ];
-    for (way, left) in table {
+    for (way, zero, one) in table {
         let mut between = stopped(half_synced(&rt)?, way);
-        assert_eq!(&rt; content(&rt, &mut between)?.as_slice(), left);
+        assert_eq!(&rt; content(&rt, &mut between, Side::Zero)?.as_slice(), zero);
+        assert_eq!(&rt; content(&rt, &mut between, Side::One)?.as_slice(), one);
 
         let mut inside = half_synced(&rt)?;
         inside.arm(Order::Stop(1, way));
         inside.arm(Order::Fault(7));
-        assert!(&rt; inside.sync().is_err());
+        assert!(&rt; inside.sync(Side::One).is_err());
         let mut inside = restarted(inside);
         assert_eq!(&rt;
             inside.armed(),
@@ -41,7 +45,8 @@ fn a_restarted_disk_holds_what_the_stop_left(rt: HostRuntime) -> Result<(), Fail
                 fault: Some(6)
             }
         );
-        assert_eq!(&rt; content(&rt, &mut inside)?.as_slice(), left);
+        assert_eq!(&rt; content(&rt, &mut inside, Side::Zero)?.as_slice(), zero);
+        assert_eq!(&rt; content(&rt, &mut inside, Side::One)?.as_slice(), one);
     }
     Ok(())
 }

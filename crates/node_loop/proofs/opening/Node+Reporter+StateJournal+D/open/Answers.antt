@@ -9,7 +9,7 @@ use Rattle.node_loop.proofs.opening.Node+Reporter+StateJournal+D.open.Goals as g
 
 pub returns-in-Ok-clause-stands : goal.returns-in-Ok-clause-stands
 returns-in-Ok-clause-stands g c =
-    let k = StateJournalKeeper.ghosts g.row.D g.D.Disk g.D.Disk-dict in
+    let k = StateJournalKeeper.ghosts g.row.D g.D.Disks g.D.Disks-dict in
     let made = c.open-2.result in
     subst (λ r. (life : Life) → ContinuesUnlessFirst (acts_of (log_of life)) (Open r.node.core.keeper.kept)
     → Reports k r.node r.told c.args.settings (Opened life r.node.core.keeper.kept)) (sym c.in-Ok.ensures.ok.0)

@@ -10,8 +10,8 @@ use Rattle.node_loop.proofs.opening.Node+Reporter+StateJournal+D.run.Goals as go
 
 pub returns-clause-serves : goal.returns-clause-serves
 returns-clause-serves g c s life reports opened reads =
-    let k = StateJournalKeeper.ghosts g.row.D g.D.Disk g.D.Disk-dict in
-    let d = g.D.Disk in
+    let k = StateJournalKeeper.ghosts g.row.D g.D.Disks g.D.Disks-dict in
+    let d = g.D.Disks in
     let out = g.O.Sink.written c.args.out.now in
     let out_now = g.O.Sink.written c.serve-end.new.out in
     let told = g.L.Link.told c.args.link.now in

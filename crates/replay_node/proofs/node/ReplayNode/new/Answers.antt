@@ -9,7 +9,7 @@ returns-in-Ok-clause-stands c =
     let opened = c.in-Ok.ensures in
     let over = c.new.ensures in
     record {
-      slot = new_stands c.args.me disk c.in-Ok.journal c.new.result (record { file = empty.file; armed = empty.armed; up = empty.up; seen = empty.seen })
+      slot = new_stands c.args.me disk c.in-Ok.journal c.new.result (record { files = empty.files; armed = empty.armed; up = empty.up; seen = empty.seen })
           (record { found = opened.found tt; runs = opened.runs; ran = opened.ran tt }) (record { me_is = over.me; keeper = over.keeper; stands = over.stands });
       published = refl;
     }

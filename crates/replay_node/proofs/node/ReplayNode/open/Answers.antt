@@ -2,7 +2,7 @@ use Rattle.std.proofs.Common.{◌++◌, ap, subst, ◌∙◌}
 use Rattle.std.proofs.lemmas.Result.{on_ok_weaker}
 use Rattle.cluster_state.specs.declared.state.Kept.{Kept}
 use Rattle.zen_disk.specs.Fuse.{FuseSteps}
-use Rattle.zen_disk.specs.MemDisk.{MemSteps}
+use Rattle.zen_disk.specs.MemDisks.{MemSteps, read_of}
 use Rattle.zen_disk.specs.Moments.{LeavesOnly}
 use Rattle.state_journal.specs.Journal.{FoundAsSome}
 use Rattle.state_journal.specs.Opening.{handed_back, IsWhyOf, RanUntil}
@@ -14,7 +14,7 @@ use Rattle.replay_node.proofs.node.ReplayNode.open.Goals as goal
 
 pub unreachable-requires : goal.unreachable-requires
 unreachable-requires c =
-    let why = subst (λ (e : OpenError MemFuse). IsWhyOf c.args.fuse.disk.bytes.items e) c.in-Err-NotAJournal.field-0-is (c.in-Err-NotAJournal.ensures.why tt) in
+    let why = subst (λ (e : OpenError MemFuse). IsWhyOf (read_of c.args.fuse.disk) e) c.in-Err-NotAJournal.field-0-is (c.in-Err-NotAJournal.ensures.why tt) in
     no_fault c.args.self.now.me c.args.fuse c.requires.0 c.requires.1 c.in-Err-NotAJournal.field-0-0 why
 
 pub returns-in-Ok-clause-opens : goal.returns-in-Ok-clause-opens
@@ -31,5 +31,5 @@ returns-clause-opens c =
     let fuse = c.args.fuse in
     let failed = c.in-Err-Disk.ensures in
     let run = subst (λ (e : OpenError MemFuse). LeavesOnly moment_of left_of fuse (handed_back e) (FoundAsSome (MayLeave fuse))) c.in-Err-Disk.field-0-is (failed.any_moment_err tt) in
-    let ran = subst (λ (e : OpenError MemFuse). RanUntil (FuseSteps MemSteps) fuse.disk.bytes.items fuse e) c.in-Err-Disk.field-0-is (failed.ran_err tt) in
+    let ran = subst (λ (e : OpenError MemFuse). RanUntil (FuseSteps MemSteps) (read_of fuse.disk) fuse e) c.in-Err-Disk.field-0-is (failed.ran_err tt) in
     on_ok_weaker c.stay_down.result (λ down w closed. stays c.args.self.now.me fuse w closed c.in-Err-Disk.fuse run ran c.args.text.now c.stay_down.new.text c.stay_down.new.self.slot down) c.stay_down.ensures.down
