@@ -1,3 +1,5 @@
+ghost use Rattle.std.specs.Prelude.{◌≡◌, ◌≤◌, ◌<◌, ◌+◌, IsTrue, IfSome, IsSomeAnd, None, Some};
+
 use crate::framing::Framing;
 use crate::queue::FrameQueue;
 use arrayvec::ArrayVec;
@@ -22,6 +24,10 @@ const FRONT: usize = 38;
 // The bytes of a frame's length.
 const LENGTH: u64 = 4;
 
+// The longest time that a client which has ended its writing is kept for its replies, in milliseconds: longer than the
+// publication in flight and the one behind it may take, after which each of its lines has been answered.
+const LINGER: u64 = 65_000;
+
 // Under which a socket is registered. Each wait is followed by a look at all sockets, so nothing asks which one woke it.
 pub(crate) const ANY: Token = Token(0);
 
@@ -31,6 +37,8 @@ pub(crate) enum Heard {
     Nothing,
     Bytes(Bytes),
     Stop,
+    // The other side writes no more, and may read on.
+    Shut,
     End,
 }
 
@@ -90,6 +98,8 @@ pub(crate) struct Connection {
     outgoing: FrameQueue,
     // Whether it is reported when it can be written to.
     is_watched: bool,
+    // Once its other side has ended its writing: until when it is kept.
+    shut_until: Option<u64>,
     // Whether it was ended here.
     over: bool,
 }
@@ -120,6 +130,7 @@ impl Connection {
             goes_on: false,
             outgoing: FrameQueue::new(alloc),
             is_watched: false,
+            shut_until: None,
             over: false,
         }
     }
@@ -207,7 +218,7 @@ impl Connection {
         }
         let mut buffer = [0u8; READ];
         match self.stream.peek(&mut buffer) {
-            Ok(0) if self.held == 0 => Ok(Heard::End),
+            Ok(0) if self.held == 0 => Ok(Heard::Shut),
             Ok(count) => {
                 self.heard = order;
                 self.take(alloc, framing, &buffer[..count])
@@ -215,6 +226,21 @@ impl Connection {
             Err(error) if is_later(&error) => Ok(Heard::Nothing),
             Err(_) => Ok(Heard::End),
         }
+    }
+
+    // Whether it is kept at this moment though its other side has ended its writing: a client is, for the replies that it is
+    // owed and those that wait to be written, but not for ever.
+    pub(crate) fn is_kept(&mut self, owed: u64, now: u64) -> bool
+        ensures bounded { IsTrue result → IsSomeAnd self.new.shut_until (λ until. now < until) }
+        ensures first { self.old.shut_until ≡ None → IfSome self.new.shut_until (λ until. until ≤ now + 65000) }
+        ensures once { IfSome self.old.shut_until (λ until. self.new.shut_until ≡ Some until) }
+    {
+        let until = match self.shut_until {
+            Some(until) => until,
+            None => now.saturating_add(LINGER),
+        };
+        self.shut_until = Some(until);
+        self.brings_lines() && now < until && (owed > 0 || !self.outgoing.is_empty())
     }
 
     // Takes the bytes that a look has shown. None is the end.

@@ -3,8 +3,8 @@ use std::io;
 use std::os::fd::AsRawFd;
 use std::path::Path;
 
-// After it a crash of the machine loses no name in the folder.
-fn sync_folder(rt: &HostRuntime, path: &str) -> io::Result<()> {
+/// After it a crash of the machine loses no name in the folder.
+pub fn sync_folder(rt: &HostRuntime, path: &str) -> io::Result<()> {
     let path = if path.is_empty() { "." } else { path };
     File::open(rt, path)?.sync_all()
 }
@@ -29,8 +29,8 @@ fn make_folder(rt: &HostRuntime, path: &str) -> io::Result<()> {
     }
 }
 
-// Makes a folder and its parents, the highest first.
-fn make_folders(rt: &HostRuntime, dir: &str) -> io::Result<()> {
+/// Makes a folder and its parents, the highest first, where they are not there.
+pub fn make_folders(rt: &HostRuntime, dir: &str) -> io::Result<()> {
     for (end, _) in dir.match_indices('/') {
         if end > 0 {
             make_folder(rt, &dir[..end])?;
@@ -39,24 +39,31 @@ fn make_folders(rt: &HostRuntime, dir: &str) -> io::Result<()> {
     make_folder(rt, dir)
 }
 
-fn open_or_make(rt: &HostRuntime, path: &str) -> io::Result<File> {
-    let file = OpenOptions::new()
-        .read(true)
-        .write(true)
-        .create(true)
-        .open(rt, path)?;
-    // Where a standard stream was closed, the file takes its number, and what is meant for the stream must not land in it.
+// Where a standard stream was closed, a file takes its number, and what is meant for the stream must not land in it.
+fn off_the_streams(file: File) -> io::Result<File> {
     if file.as_raw_fd() <= 2 {
         return file.try_clone();
     }
     Ok(file)
 }
 
-/// Opens the file at `path` in the folder `dir`. It makes both where they are not there, the folder with its parents, and
-/// syncs the folders in which it made a name.
-pub fn open_in_folder(rt: &HostRuntime, dir: &str, path: &str) -> io::Result<File> {
-    make_folders(rt, dir)?;
-    let file = open_or_make(rt, path)?;
+/// Opens a file, if it is there.
+pub fn open_file(rt: &HostRuntime, path: &str) -> io::Result<Option<File>> {
+    match OpenOptions::new().read(true).write(true).open(rt, path) {
+        Ok(file) => Ok(Some(off_the_streams(file)?)),
+        Err(error) if error.kind() == io::ErrorKind::NotFound => Ok(None),
+        Err(error) => Err(error),
+    }
+}
+
+/// Makes the file at `path` in the folder `dir`, or opens it where it is there, and syncs the folder.
+pub fn make_file(rt: &HostRuntime, dir: &str, path: &str) -> io::Result<File> {
+    let file = OpenOptions::new()
+        .read(true)
+        .write(true)
+        .create(true)
+        .open(rt, path)?;
+    let file = off_the_streams(file)?;
     sync_folder(rt, dir)?;
     Ok(file)
 }

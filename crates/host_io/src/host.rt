@@ -2,18 +2,17 @@ ghost use Rattle.std.specs.Prelude.{◌≡◌, ◌≤◌, None, ⊤};
 ghost use Rattle.zen_disk.specs.Faults.{Rose};
 
 use crate::children::{Children, SystemChild};
-use crate::folder::open_in_folder;
-use crate::{FileDisk, Framing, SocketLink, StandardInput, StandardOutput};
+use crate::{FileDisks, Framing, SocketLink, StandardInput, StandardOutput};
 use zen_host::{Ended, Host, HostError};
 use zen_link::LinkSettings;
 
-/// The host that is the system. A folder's disk is the file `journal.0` in it, a link's frames are those of a framing,
-/// and its children are those of this process.
+/// The host that is the system. A folder's disk is the files `journal.0` and `journal.1` in it, a link's frames are those of a
+/// framing, and its children are those of this process.
 #[derive(Drop)]
 pub struct SystemHost<'a, F: Framing + Copy + Drop> {
     rt: &'a HostRuntime,
     framing: F,
-    disk_back: Option<FileDisk>,
+    disk_back: Option<FileDisks>,
     link_back: Option<SocketLink<HostRuntime, F>>,
     children: Children,
     // how many children were spawned, and neither waited for nor killed
@@ -56,7 +55,7 @@ impl<F: Framing + Copy + Drop> Host for SystemHost<'_, F> {
 
     type Out = StandardOutput;
 
-    type Disk = FileDisk;
+    type Disk = FileDisks;
 
     type Link = SocketLink<HostRuntime, F>;
 
@@ -88,14 +87,12 @@ impl<F: Framing + Copy + Drop> Host for SystemHost<'_, F> {
 
     ghost kill_steps = { λ _ _ _. ⊤ };
 
-    fn open_disk(&mut self, dir: &str) -> Result<FileDisk, HostError> {
-        let Ok(path) = format!(in self.rt.alloc(); "{dir}/journal.0") else {
-            return Err(HostError::Memory);
-        };
-        let Ok(file) = open_in_folder(self.rt, dir, path.as_str()) else {
-            return Err(self.failed());
-        };
-        Ok(FileDisk::new(file))
+    fn open_disk(&mut self, dir: &str) -> Result<FileDisks, HostError> {
+        match FileDisks::open(self.rt, dir) {
+            Ok(disk) => Ok(disk),
+            Err(HostError::Memory) => Err(HostError::Memory),
+            Err(HostError::Failed) => Err(self.failed()),
+        }
     }
 
     fn open_link(
@@ -109,7 +106,7 @@ impl<F: Framing + Copy + Drop> Host for SystemHost<'_, F> {
         }
     }
 
-    fn close_disk(&mut self, disk: FileDisk) {
+    fn close_disk(&mut self, disk: FileDisks) {
         self.disk_back = Some(disk);
     }
 

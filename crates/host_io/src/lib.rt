@@ -1,6 +1,6 @@
-//! The outside of the program as the system has it: a file, the standard streams, a node's link over sockets, the children
-//! of the process, and the host that opens a folder's journal and a link and runs the children. What they hold is not told,
-//! so no clause speaks of it: that they keep and carry bytes is tested.
+//! The outside of the program as the system has it: the two files of a journal, the standard streams, a node's link over
+//! sockets, the children of the process, and the host that opens a folder's journal and a link and runs the children. What
+//! they hold is not told, so no clause speaks of it: that they keep and carry bytes is tested.
 #![tactic(auto)]
 
 #[cfg(test)]
@@ -21,7 +21,7 @@ pub mod streams;
 mod tests;
 
 pub use children::{Children, SystemChild};
-pub use disk::FileDisk;
+pub use disk::FileDisks;
 pub use framing::{Framing, Piece, Target};
 pub use host::SystemHost;
 pub use link::SocketLink;

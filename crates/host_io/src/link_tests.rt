@@ -2,7 +2,7 @@ use crate::{Framing, Piece, SocketLink, SystemHost, Target};
 use bytes::Bytes;
 use std::alloc::{AllocError, Global};
 use std::io::{Read, Write};
-use std::net::{TcpListener, TcpStream};
+use std::net::{Shutdown, TcpListener, TcpStream};
 use std::process::Abort;
 use std::test::Fail;
 use std::time::Duration;
@@ -87,6 +87,21 @@ fn open(
 // Whether a link is opened with these settings.
 fn opens(rt: &HostRuntime, settings: &LinkSettings) -> bool {
     SystemHost::new(rt, Pieces).open_link(settings).is_ok()
+}
+
+// Reads until the other side ends its writing, or there is no more room. Gives how many bytes came.
+fn read_to_end(mut client: &TcpStream, into: &mut [u8]) -> io::Result<usize> {
+    let mut count: usize = 0;
+    for _ in 0..into.len() {
+        let Some(rest) = into.get_mut(count..) else {
+            break;
+        };
+        match client.read(rest)? {
+            0 => break,
+            read => count = count.saturating_add(read),
+        }
+    }
+    Ok(count)
 }
 
 // A link with no peers, and where it listens.
@@ -473,9 +488,47 @@ fn connect_one(
 }
 
 #[test]
+fn a_client_that_ends_its_writing_gets_its_replies(rt: HostRuntime) -> Result<(), Fail> {
+    let (mut link, address) = open_alone(&rt, id(&rt, "a"))?;
+    let client = connect(&rt, &address)?;
+    say(&client, b"1\n2\n3")?;
+    client.shutdown(Shutdown::Write)?;
+    let conn = expect_bytes(&rt, &mut link, b"1\n");
+    expect_bytes(&rt, &mut link, b"2\n");
+    expect_bytes(&rt, &mut link, b"3");
+    expect_tick(&rt, &mut link);
+    send(rt.alloc(), &mut link, Target::Connection(conn), b"one\n")?;
+    expect_tick(&rt, &mut link);
+    send(rt.alloc(), &mut link, Target::Connection(conn), b"two\n")?;
+    expect_closed(&rt, &mut link, conn);
+    let mut replies = [0u8; 9];
+    assert!(rt; read_to_end(&client, &mut replies)? == 8);
+    assert!(rt; replies.starts_with(b"one\ntwo\n"));
+    Ok(())
+}
+
+#[test]
+fn one_that_ends_its_writing_reads_slowly(rt: HostRuntime) -> Result<(), Fail> {
+    let (mut link, address) = open_alone(&rt, id(&rt, "a"))?;
+    let (client, conn) = connect_one(&rt, &mut link, &address)?;
+    client.shutdown(Shutdown::Write)?;
+    send_many(rt.alloc(), &mut link, conn, 7, LONG)?;
+    // The end is seen before the client reads. A system whose buffers take all of it at once has the link close the
+    // connection, else it is kept for what waits.
+    drop(link.next());
+    let all = read_slowly(rt.alloc(), &mut link, &client, LONG)?;
+    assert!(rt; after_many(&all, 7, LONG) == Some([].as_slice()));
+    Ok(())
+}
+
+#[test]
 fn a_late_reply_reaches_no_other_client(rt: HostRuntime) -> Result<(), Fail> {
     let (mut link, address) = open_alone(&rt, id(&rt, "a"))?;
     let (gone, first) = connect_one(&rt, &mut link, &address)?;
+    say(&gone, b"y\n")?;
+    expect_bytes(&rt, &mut link, b"y\n");
+    // One that goes with a reply unread resets its connection.
+    send(rt.alloc(), &mut link, Target::Connection(first), b"z\n")?;
     drop(gone);
     expect_closed(&rt, &mut link, first);
     let (client, second) = connect_one(&rt, &mut link, &address)?;

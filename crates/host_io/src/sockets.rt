@@ -199,7 +199,7 @@ impl Sockets {
         for _ in 1..CONNECTIONS {
             let number = self.last % (CONNECTIONS - 1) + 1;
             self.last = number;
-            let input = self.hear(framing, number)?;
+            let input = self.hear(framing, number, now)?;
             if input.is_some() {
                 return Ok(input);
             }
@@ -416,7 +416,12 @@ impl Sockets {
     }
 
     // What has come over the connection with this number.
-    fn hear<F: Framing>(&mut self, framing: &F, number: u64) -> Result<Option<Input>, AllocError>
+    fn hear<F: Framing>(
+        &mut self,
+        framing: &F,
+        number: u64,
+        now: u64,
+    ) -> Result<Option<Input>, AllocError>
         requires { number < 64 }
         ensures { IfOk result (λ found. IfSome found (λ input. IsTrue (has_low_conn input))) }
     {
@@ -441,6 +446,8 @@ impl Sockets {
                 }));
             }
             Heard::Stop => return Ok(Some(Input::Stop)),
+            Heard::Shut if self.is_kept(number, now) => return Ok(None),
+            Heard::Shut => {}
             Heard::End => {}
         }
         self.close(number);
@@ -448,6 +455,15 @@ impl Sockets {
             Ok(Some(Input::Closed { conn: number }))
         } else {
             Ok(None)
+        }
+    }
+
+    // Whether the connection with this number, whose other side has ended its writing, is kept for its replies.
+    fn is_kept(&mut self, number: u64, now: u64) -> bool {
+        let owed = self.owed_by(number);
+        match self.connections.get_mut(number as usize) {
+            Some(Some(connection)) => connection.is_kept(owed, now),
+            _ => false,
         }
     }
 

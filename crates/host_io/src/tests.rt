@@ -1,9 +1,9 @@
-use crate::{FileDisk, Framing, Piece, StandardOutput, SystemHost};
+use crate::{FileDisks, Framing, Piece, StandardOutput, SystemHost};
 use std::alloc::{AllocError, Global};
 use std::fs;
 use std::test::Fail;
 use voting_config::NodeId;
-use zen_disk::Disk;
+use zen_disk::{Disks, Side};
 use zen_host::{Host, HostError};
 use zen_link::Sink;
 
@@ -27,33 +27,92 @@ impl Framing for NoFrames {
     }
 }
 
-fn opened(host: &mut SystemHost<'_, NoFrames>, dir: &str) -> Result<FileDisk, HostError> {
+fn opened(host: &mut SystemHost<'_, NoFrames>, dir: &str) -> Result<FileDisks, HostError> {
     host.open_disk(dir)
 }
 
-// Writes the bytes into the journal of a folder, syncs it and gives it back.
-fn keep(host: &mut SystemHost<'_, NoFrames>, dir: &str, bytes: &[u8]) -> Result<bool, HostError> {
+// Writes the bytes into the files of a folder, syncs both and gives them back.
+fn keep(
+    host: &mut SystemHost<'_, NoFrames>,
+    dir: &str,
+    zero: &[u8],
+    one: &[u8],
+) -> Result<bool, HostError> {
     let mut disk = opened(host, dir)?;
-    let kept = disk.write_at(0, bytes).is_ok() && disk.sync().is_ok();
+    let kept = disk.write_at(Side::Zero, 0, zero).is_ok()
+        && disk.sync(Side::Zero).is_ok()
+        && disk.write_at(Side::One, 0, one).is_ok()
+        && disk.sync(Side::One).is_ok();
     host.close_disk(disk);
     Ok(kept)
+}
+
+// Whether a side has these bytes.
+fn reads(disk: &mut FileDisks, side: Side, wanted: &[u8]) -> bool {
+    let mut into = [0; 5];
+    if wanted.len() > into.len() || disk.len(side) != Ok(wanted.len() as u64) {
+        return false;
+    }
+    let into = &mut into[..wanted.len()];
+    disk.read(side, 0, into) == Ok(()) && *into == *wanted
+}
+
+// Whether the file of the system has these bytes.
+fn holds(rt: &HostRuntime, path: &str, wanted: &[u8]) -> bool {
+    match fs::read(rt, path) {
+        Ok(bytes) => bytes.as_slice() == wanted,
+        Err(_) => false,
+    }
 }
 
 #[test]
 fn what_was_synced_is_read_after_a_second_opening(rt: HostRuntime) -> Result<(), Fail> {
     let _ = fs::remove_dir_all(&rt, "host_io_kept");
     let mut host = SystemHost::new(&rt, NoFrames);
-    assert!(rt; keep(&mut host, "host_io_kept/a/b", b"abcde") == Ok(true));
+    assert!(rt; keep(&mut host, "host_io_kept/a/b", b"abcde", b"xyz") == Ok(true));
     let mut again = SystemHost::new(&rt, NoFrames);
     let Ok(mut disk) = opened(&mut again, "host_io_kept/a/b/") else {
         panic!(rt; "the folder was not opened");
     };
-    let mut into = [0; 3];
-    assert!(rt; disk.len() == Ok(5));
-    assert!(rt; disk.read(1, &mut into) == Ok(()));
-    assert!(rt; into == *b"bcd");
-    assert!(rt; fs::read(&rt, "host_io_kept/a/b/journal.0")?.as_slice() == b"abcde".as_slice());
+    assert!(rt; reads(&mut disk, Side::Zero, b"abcde") && reads(&mut disk, Side::One, b"xyz"));
+    assert!(rt; holds(&rt, "host_io_kept/a/b/journal.0", b"abcde"));
+    assert!(rt; holds(&rt, "host_io_kept/a/b/journal.1", b"xyz"));
     fs::remove_dir_all(&rt, "host_io_kept")?;
+    Ok(())
+}
+
+// Whether a side has no bytes, gives none, and is synced all the same.
+fn is_empty(disk: &mut FileDisks, side: Side) -> bool {
+    let none = disk.read(side, 0, &mut [0]).is_err();
+    none && reads(disk, side, b"") && disk.sync(side) == Ok(())
+}
+
+#[test]
+fn a_file_that_is_not_there_is_made_at_its_first_write(rt: HostRuntime) -> Result<(), Fail> {
+    let _ = fs::remove_dir_all(&rt, "host_io_old");
+    fs::create_dir(&rt, "host_io_old")?;
+    fs::write(&rt, "host_io_old/journal.0", b"abc".as_slice())?;
+    let mut host = SystemHost::new(&rt, NoFrames);
+    let Ok(mut disk) = opened(&mut host, "host_io_old") else {
+        panic!(rt; "the folder was not opened");
+    };
+    assert!(rt; reads(&mut disk, Side::Zero, b"abc") && is_empty(&mut disk, Side::One));
+    assert!(rt; !holds(&rt, "host_io_old/journal.1", b""));
+    assert!(rt; disk.write_at(Side::One, 0, b"d").is_ok() && disk.sync(Side::One).is_ok());
+    assert!(rt; holds(&rt, "host_io_old/journal.1", b"d"));
+    fs::remove_dir_all(&rt, "host_io_old")?;
+    Ok(())
+}
+
+#[test]
+fn a_file_that_cannot_be_made_is_a_fault_of_the_disk(rt: HostRuntime) -> Result<(), Fail> {
+    let _ = fs::remove_dir_all(&rt, "host_io_gone");
+    let mut host = SystemHost::new(&rt, NoFrames);
+    let Ok(mut disk) = opened(&mut host, "host_io_gone") else {
+        panic!(rt; "the folder was not opened");
+    };
+    fs::remove_dir_all(&rt, "host_io_gone")?;
+    assert!(rt; disk.write_at(Side::Zero, 0, b"a").is_err());
     Ok(())
 }
 
@@ -64,11 +123,10 @@ fn a_short_read_and_a_write_past_the_limit_are_faults(rt: HostRuntime) -> Result
     let Ok(mut disk) = opened(&mut host, "host_io_short") else {
         panic!(rt; "the folder was not opened");
     };
-    assert!(rt; disk.len() == Ok(0));
-    assert!(rt; disk.write_at(0, b"ab").is_ok());
-    assert!(rt; disk.read(0, &mut [0; 3]).is_err());
-    assert!(rt; disk.write_at(1 << 62, b"a").is_err());
-    assert!(rt; disk.len() == Ok(2));
+    assert!(rt; disk.write_at(Side::Zero, 0, b"ab").is_ok());
+    assert!(rt; disk.read(Side::Zero, 0, &mut [0; 3]).is_err());
+    assert!(rt; disk.write_at(Side::Zero, 1 << 62, b"a").is_err());
+    assert!(rt; reads(&mut disk, Side::Zero, b"ab"));
     fs::remove_dir_all(&rt, "host_io_short")?;
     Ok(())
 }

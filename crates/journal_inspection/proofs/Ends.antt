@@ -3,9 +3,10 @@ use Rattle.std.proofs.Common.{◌≡◌, ℕ, Option, Some, List, Ok, Err, refl,
 use Rattle.std.specs.Result.{result_ok}
 use Rattle.zen_disk.specs.Faults.{Rose}
 use Rattle.zen_disk.specs.Moments.{Only}
+use Rattle.zen_disk.specs.Sides.{Files}
 use Rattle.cluster_state.specs.declared.state.Kept.{Kept}
 use Rattle.state_journal.specs.declared.why.Why.{Why}
-use Rattle.state_journal.specs.Journal.{found_of, record_of_file, records_of}
+use Rattle.state_journal.specs.Journal.{found_of, record_of_files, records_of}
 use Rattle.journal_inspection.specs.Shows.{LeavesRecord, Shows, Reports, Refuses}
 use Rattle.journal_inspection.specs.Inspects.{HostView, Opened, EndsWith, IsComplete}
 use Rattle.journal_inspection.specs.declared.showing.Shown.{Shown}
@@ -13,26 +14,26 @@ use Rattle.journal_inspection.specs.declared.showing.Shown.TheVariants as shown
 use Rattle.journal_inspection.specs.declared.inspecting.Inspection.{Inspection}
 use Rattle.journal_inspection.specs.declared.inspecting.Inspection.TheVariants as end
 
-leaves_record : (seen : List ℕ) (may_leave : List ℕ → Type 0) (kept : Kept) → Only seen may_leave → found_of seen ≡ Ok kept → LeavesRecord may_leave kept
-leaves_record seen may_leave kept only is image left = ap record_of_file (only image left) ∙ ap result_ok is
+leaves_record : (seen : Files) (may_leave : Files → Type 0) (kept : Kept) → Only seen may_leave → found_of seen ≡ Ok kept → LeavesRecord may_leave kept
+leaves_record seen may_leave kept only is image left = ap record_of_files (only image left) ∙ ap result_ok is
 
 -- a journal was opened
-pub shows_report : (told : Type 0) (file seen : List ℕ) (may_leave : List ℕ → Type 0) (before now : ℕ) (kept : Kept) (records : ℕ) (s : Shown) → Reports kept records s → (told → found_of file ≡ Ok kept) → (told → records ≡ records_of file)
-    → (told → Only seen may_leave) → (told → found_of seen ≡ Ok kept) → Shows told file may_leave before now s
-shows_report told file seen may_leave before now kept records (shown.Report text) is found counted only keeps =
+pub shows_report : (told : Type 0) (files seen : Files) (may_leave : Files → Type 0) (before now : ℕ) (kept : Kept) (records : ℕ) (s : Shown) → Reports kept records s → (told → found_of files ≡ Ok kept) → (told → records ≡ records_of files)
+    → (told → Only seen may_leave) → (told → found_of seen ≡ Ok kept) → Shows told files may_leave before now s
+shows_report told files seen may_leave before now kept records (shown.Report text) is found counted only keeps =
     record { kept = kept; records = records; lines = is; found = found; counted = counted; stays = λ t. leaves_record seen may_leave kept (only t) (keeps t) }
-shows_report told file seen may_leave before now kept records (shown.NotAJournal text) is found counted only keeps = absurd is
-shows_report told file seen may_leave before now kept records shown.Disk is found counted only keeps = absurd is
-shows_report told file seen may_leave before now kept records shown.Memory is found counted only keeps = tt
+shows_report told files seen may_leave before now kept records (shown.NotAJournal text) is found counted only keeps = absurd is
+shows_report told files seen may_leave before now kept records shown.Disk is found counted only keeps = absurd is
+shows_report told files seen may_leave before now kept records shown.Memory is found counted only keeps = tt
 
--- the file is no journal
-pub shows_refusal : (told : Type 0) (file : List ℕ) (may_leave : List ℕ → Type 0) (before now : ℕ) (why : Why) (s : Shown) → Refuses why s → (told → found_of file ≡ Err why) → Shows told file may_leave before now s
-shows_refusal told file may_leave before now why (shown.Report text) is found = absurd is
-shows_refusal told file may_leave before now why (shown.NotAJournal text) is found = record { why = why; line = is; found = found }
-shows_refusal told file may_leave before now why shown.Disk is found = absurd is
-shows_refusal told file may_leave before now why shown.Memory is found = tt
+-- the files are no journal
+pub shows_refusal : (told : Type 0) (files : Files) (may_leave : Files → Type 0) (before now : ℕ) (why : Why) (s : Shown) → Refuses why s → (told → found_of files ≡ Err why) → Shows told files may_leave before now s
+shows_refusal told files may_leave before now why (shown.Report text) is found = absurd is
+shows_refusal told files may_leave before now why (shown.NotAJournal text) is found = record { why = why; line = is; found = found }
+shows_refusal told files may_leave before now why shown.Disk is found = absurd is
+shows_refusal told files may_leave before now why shown.Memory is found = tt
 
-module _ {D : Type 0} (told : Type 0) (seen : D → List ℕ) (may_leave : D → List ℕ → Type 0) (count : D → ℕ) where
+module _ {D : Type 0} (told : Type 0) (seen : D → Files) (may_leave : D → Files → Type 0) (count : D → ℕ) where
   -- a disk that stands for a record is not refused
   not_refused : {A : Type 0} (ready back : Option D) (text : List ℕ) (disk : D) (kept : Kept) → Opened told seen may_leave count ready back (shown.NotAJournal text) → ready ≡ Some disk → told → found_of (seen disk) ≡ Ok kept → A
   not_refused ready back text disk kept opened is t found =

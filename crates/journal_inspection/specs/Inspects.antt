@@ -1,6 +1,7 @@
 -- What inspecting a folder does.
 use Rattle.std.specs.Prelude.{◌≡◌, ℕ, ◌⊎◌, true, false, Option, Some, Ok, List, []}
 use Rattle.zen_disk.specs.Faults.{Rose}
+use Rattle.zen_disk.specs.Sides.{Files}
 use Rattle.zen_host.specs.HostCalls.{HostCall, OpensDisk, and_call}
 use Rattle.zen_link.specs.Streams.{Appended, AppendedFront}
 use Rattle.cluster_state.specs.declared.state.Kept.{Kept}
@@ -34,7 +35,7 @@ Asked dir was now end.NoMemory = (now ≡ was) ⊎ (now ≡ and_call was (OpensD
 Asked dir was now other = now ≡ and_call was (OpensDisk dir false)
 
 -- The host gave a disk, the one that it had ready where it tells, and was given it back. This is shown of it.
-pub record Opened {D : Type 0} (told : Type 0) (seen : D → List ℕ) (may_leave : D → List ℕ → Type 0) (count : D → ℕ) (ready back_now : Option D) (s : Shown) : Type 0 where
+pub record Opened {D : Type 0} (told : Type 0) (seen : D → Files) (may_leave : D → Files → Type 0) (count : D → ℕ) (ready back_now : Option D) (s : Shown) : Type 0 where
   pub given : D
   pub is_given : (disk : D) → ready ≡ Some disk → given ≡ disk
   pub fresh : count given ≡ 0
@@ -42,7 +43,7 @@ pub record Opened {D : Type 0} (told : Type 0) (seen : D → List ℕ) (may_leav
   pub is_back : back_now ≡ Some back
   pub shows : Shows told (seen given) (may_leave back) (count given) (count back) s
 
-module _ {D L : Type 0} (told : Type 0) (seen : D → List ℕ) (may_leave : D → List ℕ → Type 0) (count : D → ℕ) where
+module _ {D L : Type 0} (told : Type 0) (seen : D → Files) (may_leave : D → Files → Type 0) (count : D → ℕ) where
   -- what was written at each end; a disk that was given is given back, also where memory ran out
   abbrev pub EndsWith : (host host_now : HostView D L) → (was now : Option (List ℕ)) → (wrote wrote_now : ℕ) → Inspection → Type 0
   EndsWith host host_now was now wrote wrote_now end.Done =

@@ -1,38 +1,39 @@
 -- What is shown of the journal on a disk.
 use Rattle.std.specs.Prelude.{◌≡◌, ℕ, Some, Ok, Err, List}
 use Rattle.zen_disk.specs.Faults.{Rose}
+use Rattle.zen_disk.specs.Sides.{Files}
 use Rattle.cluster_state.specs.declared.state.Kept.{Kept}
 use Rattle.state_journal.specs.declared.why.Why.{Why}
-use Rattle.state_journal.specs.Journal.{found_of, record_of_file, records_of}
+use Rattle.state_journal.specs.Journal.{found_of, record_of_files, records_of}
 use Rattle.journal_inspection.specs.Report.{report, not_a_journal}
 use Rattle.journal_inspection.specs.declared.showing.Shown.{Shown}
 use Rattle.journal_inspection.specs.declared.showing.Shown.TheVariants as shown
 
 -- whatever a crash leaves stands for this record
-abbrev pub LeavesRecord : (List ℕ → Type 0) → Kept → Type 0
-LeavesRecord may_leave kept = (image : List ℕ) → may_leave image → record_of_file image ≡ Some kept
+abbrev pub LeavesRecord : (Files → Type 0) → Kept → Type 0
+LeavesRecord may_leave kept = (image : Files) → may_leave image → record_of_files image ≡ Some kept
 
--- The text is the seven lines of a record. Where the disk tells, its file stood for that record, and a crash now leaves it.
-pub record IsReport (told : Type 0) (file : List ℕ) (may_leave : List ℕ → Type 0) (text : List ℕ) : Type 0 where
+-- The text is the seven lines of a record. Where the disk tells, its files stood for that record, and a crash now leaves it.
+pub record IsReport (told : Type 0) (files : Files) (may_leave : Files → Type 0) (text : List ℕ) : Type 0 where
   pub kept : Kept
   pub records : ℕ
   pub lines : text ≡ report kept records
-  pub found : told → found_of file ≡ Ok kept
-  pub counted : told → records ≡ records_of file
+  pub found : told → found_of files ≡ Ok kept
+  pub counted : told → records ≡ records_of files
   pub stays : told → LeavesRecord may_leave kept
 
--- The text is the line that names a fault. Where the disk tells, this is the first fault of its file.
-pub record IsRefusal (told : Type 0) (file : List ℕ) (text : List ℕ) : Type 0 where
+-- The text is the line that names a fault. Where the disk tells, this is the first fault of its files.
+pub record IsRefusal (told : Type 0) (files : Files) (text : List ℕ) : Type 0 where
   pub why : Why
   pub line : text ≡ not_a_journal why
-  pub found : told → found_of file ≡ Err why
+  pub found : told → found_of files ≡ Err why
 
--- what is shown, where a disk with this file and so many faults became one with these images and so many faults
-abbrev pub Shows : (told : Type 0) → (file : List ℕ) → (may_leave : List ℕ → Type 0) → (before now : ℕ) → Shown → Type 0
-Shows told file may_leave before now (shown.Report text) = IsReport told file may_leave text
-Shows told file may_leave before now (shown.NotAJournal text) = IsRefusal told file text
-Shows told file may_leave before now shown.Disk = Rose before now
-Shows told file may_leave before now shown.Memory = Unit {0}
+-- what is shown, where a disk with these files and so many faults became one with these images and so many faults
+abbrev pub Shows : (told : Type 0) → (files : Files) → (may_leave : Files → Type 0) → (before now : ℕ) → Shown → Type 0
+Shows told files may_leave before now (shown.Report text) = IsReport told files may_leave text
+Shows told files may_leave before now (shown.NotAJournal text) = IsRefusal told files text
+Shows told files may_leave before now shown.Disk = Rose before now
+Shows told files may_leave before now shown.Memory = Unit {0}
 
 -- ---- not part of the statement
 

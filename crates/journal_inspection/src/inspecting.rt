@@ -11,7 +11,7 @@ use zen_link::write_all;
 pub enum Inspection {
     /// The seven lines were written.
     Done,
-    /// The file is no journal, and the line that says why was written.
+    /// The files are no journal, and the line that says why was written.
     NotAJournal,
     /// Memory ran out, and nothing was written.
     NoMemory,

@@ -1,12 +1,13 @@
 ghost use Rattle.std.specs.Prelude.{◌≡◌, ◌++◌, OnOk, IfOk};
 ghost use Rattle.cluster_state.specs.States.{IsFit};
-ghost use Rattle.journal_inspection.specs.Report.{digest_text, accepted_lines, state_lines, report, field_name, body_fault_text, why_text, not_a_journal};
+ghost use Rattle.journal_inspection.specs.Report.{digest_text, accepted_lines, state_lines, report, field_name, body_fault_text, fault_text, why_text, not_a_journal};
 
 use cluster_state::{ClusterState, FieldError, Kept, encode_state, to_json};
 use schedule_text::Text;
 use sha2::{Digest, Sha256};
-use state_journal::{BodyFault, Why};
+use state_journal::{BodyFault, Fault, Why};
 use std::alloc::{AllocError, Global};
+use zen_disk::Side;
 
 #[tactic(auto, unfolding(crate::specs::Report::digest_text))]
 fn write_digest(alloc: Global, text: &mut Text, state: &ClusterState) -> Result<(), AllocError>
@@ -42,7 +43,7 @@ fn write_state(alloc: Global, text: &mut Text, state: &ClusterState) -> Result<(
     text.word("\n")
 }
 
-/// Writes the seven lines that show what a journal of so many bodies keeps.
+/// Writes the seven lines that show what a journal keeps that has so many bodies in use.
 pub fn write_report(
     alloc: Global,
     text: &mut Text,
@@ -88,29 +89,29 @@ fn name_of_fault(fault: BodyFault) -> &'static str
     }
 }
 
-fn write_why(text: &mut Text, why: Why) -> Result<(), AllocError>
-    ensures { OnOk result (text.new ≡ text.old ++ why_text why) }
+fn write_fault(text: &mut Text, fault: Fault) -> Result<(), AllocError>
+    ensures { OnOk result (text.new ≡ text.old ++ fault_text fault) }
 {
-    match why {
-        Why::Header => text.word("Header"),
-        Why::Cut(at) => {
+    match fault {
+        Fault::Header => text.word("Header"),
+        Fault::Cut(at) => {
             text.word("Cut(")?;
             text.number(at)?;
             text.word(")")
         }
-        Why::Long(at) => {
+        Fault::Long(at) => {
             text.word("Long(")?;
             text.number(at)?;
             text.word(")")
         }
-        Why::Body(at, fault) => {
+        Fault::Body(at, fault) => {
             text.word("Body(")?;
             text.number(at)?;
             text.word(",")?;
             text.word(name_of_fault(fault))?;
             text.word(")")
         }
-        Why::Order(at) => {
+        Fault::Order(at) => {
             text.word("Order(")?;
             text.number(at)?;
             text.word(")")
@@ -118,7 +119,20 @@ fn write_why(text: &mut Text, why: Why) -> Result<(), AllocError>
     }
 }
 
-/// Writes why a file is no journal, as `zen: not a journal: Cut(8)` with a line feed.
+fn write_why(text: &mut Text, why: Why) -> Result<(), AllocError>
+    ensures { OnOk result (text.new ≡ text.old ++ why_text why) }
+{
+    match why {
+        Why::At(Side::Zero, fault) => write_fault(text, fault),
+        Why::At(Side::One, fault) => {
+            text.word("1:")?;
+            write_fault(text, fault)
+        }
+        Why::Twin => text.word("Twin"),
+    }
+}
+
+/// Writes why two files are no journal, as `zen: not a journal: Cut(8)` with a line feed.
 pub fn write_not_a_journal(text: &mut Text, why: Why) -> Result<(), AllocError>
     ensures { OnOk result (text.new ≡ text.old ++ not_a_journal why) }
 {

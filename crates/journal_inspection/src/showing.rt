@@ -7,14 +7,14 @@ use cluster_state::Kept;
 use schedule_text::Text;
 use state_journal::{Keeper, OpenError, StateJournal, Why};
 use std::alloc::Global;
-use zen_disk::Disk;
+use zen_disk::Disks;
 
 /// What is shown of the journal on a disk.
 #[derive(Drop)]
 pub enum Shown {
     /// The seven lines of what it keeps.
     Report(Text),
-    /// The line that says why the file is no journal.
+    /// The line that says why the files are no journal.
     NotAJournal(Text),
     /// The disk failed, and its count of faults rose.
     Disk,
@@ -43,9 +43,9 @@ fn refusal(alloc: Global, why: Why) -> Shown
     }
 }
 
-/// Opens the journal on a disk, which makes its header where the file has at most nine bytes, and shows what it keeps, or
-/// why the file is no journal. The disk is handed back.
-pub fn show<D: Disk + Drop>(alloc: Global, disk: D) -> (D, Shown)
+/// Opens the journal on a disk, which makes the header of each file that has at most nine bytes, and shows what it keeps, or
+/// why the files are no journal. The disk is handed back.
+pub fn show<D: Disks + Drop>(alloc: Global, disk: D) -> (D, Shown)
     ensures shows { Shows D.told (D.seen disk) (D.may_leave result.0) (D.faults disk) (D.faults result.0) result.1 }
     ensures later { D.faults disk ≤ D.faults result.0 }
 {

@@ -3,7 +3,7 @@ ghost use Rattle.zen_disk.specs.Faults.{Rose};
 ghost use Rattle.zen_host.specs.HostCalls.{HostCall, OpensDisk, OpensLink, Spawns, Kills, Notes, NotesWait, IsNumber, told_settings};
 
 use thiserror::Error;
-use zen_disk::Disk;
+use zen_disk::Disks;
 use zen_link::{Link, LinkSettings, Sink, Source};
 
 /// Why a host refuses a call.
@@ -36,7 +36,7 @@ pub trait Host {
 
     type Out: Sink + Drop;
 
-    type Disk: Disk + Drop;
+    type Disk: Disks + Drop;
 
     type Link: Link + Drop;
 

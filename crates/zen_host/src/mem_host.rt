@@ -7,7 +7,7 @@ ghost use Rattle.zen_host.specs.HostCalls.{OpensDisk, OpensLink, Spawns, WaitsFo
 
 use crate::{Ended, Host, HostError};
 use std::alloc::{AllocError, Global};
-use zen_disk::Disk;
+use zen_disk::Disks;
 use zen_link::{Link, LinkSettings, MemLink, MemSink, MemSource, Peer};
 
 /// A call of a host in memory that may be refused.
@@ -54,7 +54,7 @@ pub struct MemChild {
 /// host was made with, and where there is nothing to give or 2^64 - 1 children run; and a call that finds no memory in which
 /// to be told answers `Memory`.
 #[derive(Drop)]
-pub struct MemHost<D: Disk + Drop, L: Link + Drop = MemLink<()>> {
+pub struct MemHost<D: Disks + Drop, L: Link + Drop = MemLink<()>> {
     alloc: Global,
     disk: Option<D>,
     link: Option<L>,
@@ -70,7 +70,7 @@ pub struct MemHost<D: Disk + Drop, L: Link + Drop = MemLink<()>> {
     ghost link_fresh: { ForSome link (λ given. L.faults given ≡ 0) },
 }
 
-impl<D: Disk + Drop> MemHost<D, MemLink<()>> {
+impl<D: Disks + Drop> MemHost<D, MemLink<()>> {
     /// A host that gives this disk, and no link. The calls fail whose numbers are listed, the first being 1.
     pub fn new(alloc: Global, disk: D, fails: Vec<u64>) -> MemHost<D, MemLink<()>>
         requires { D.faults disk ≡ 0 }
@@ -126,7 +126,7 @@ impl<D: Disk + Drop> MemHost<D, MemLink<()>> {
     }
 }
 
-impl<D: Disk + Drop, L: Link + Drop> MemHost<D, L> {
+impl<D: Disks + Drop, L: Link + Drop> MemHost<D, L> {
     /// A host that gives this disk and this link. The calls fail whose numbers are listed, the first being 1.
     pub fn with_link(alloc: Global, disk: D, link: L, fails: Vec<u64>) -> MemHost<D, L>
         requires fresh { D.faults disk ≡ 0 }
@@ -382,7 +382,7 @@ fn refuse_told(asked: &mut Vec<Asked>, faults: &mut u64, call: Asked) -> HostErr
     count_refusal(faults)
 }
 
-impl<D: Disk + Drop, L: Link + Drop> Host for MemHost<D, L> {
+impl<D: Disks + Drop, L: Link + Drop> Host for MemHost<D, L> {
     ghost use Rattle.zen_host.specs.MemHost.{MemOpens, MemSpawns, MemWaits, MemKills};
 
     type In = MemSource;

@@ -2,19 +2,24 @@ use crate::{Asked, Ended, Host, HostError, MemHost};
 use std::alloc::{AllocError, Global};
 use std::test::Fail;
 use voting_config::NodeId;
-use zen_disk::{Disk, MemDisk};
+use zen_disk::{Disks, MemDisks, Side};
 use zen_link::{Input, Link, LinkSettings, MemLink, Peer};
 
 #[test]
 fn a_host_gives_its_disk_and_takes_it_back(rt: HostRuntime) -> Result<(), Fail> {
     let alloc = rt.alloc();
-    let disk = MemDisk::new(alloc, Vec::from_slice(alloc, b"ab")?, Vec::new(alloc));
+    let disk = MemDisks::new(
+        alloc,
+        Vec::from_slice(alloc, b"ab")?,
+        Vec::new(alloc),
+        Vec::new(alloc),
+    );
     let mut host = MemHost::new(alloc, disk, vec![in alloc; 1u64]?);
     assert!(rt; matches!(host.open_disk("a"), Err(HostError::Failed)));
     let Ok(mut disk) = host.open_disk("b") else {
         panic!(rt; "no disk");
     };
-    assert!(rt; disk.len() == Ok(2));
+    assert!(rt; disk.len(Side::Zero) == Ok(2));
     host.close_disk(disk);
     assert!(rt; host.asked().len() == 2);
     assert!(rt; matches!(host.open_disk("b"), Err(HostError::Failed)));
@@ -38,7 +43,7 @@ fn settings(alloc: Global) -> Result<LinkSettings, AllocError> {
 #[test]
 fn a_host_gives_its_link_and_takes_it_back(rt: HostRuntime) -> Result<(), Fail> {
     let alloc = rt.alloc();
-    let disk = MemDisk::new(alloc, Vec::new(alloc), Vec::new(alloc));
+    let disk = MemDisks::new(alloc, Vec::new(alloc), Vec::new(alloc), Vec::new(alloc));
     let link: MemLink<u8> = MemLink::new(alloc, Vec::new(alloc), Vec::new(alloc));
     let mut host = MemHost::with_link(alloc, disk, link, vec![in alloc; 1u64]?);
     let settings = settings(alloc)?;
@@ -68,7 +73,7 @@ fn is_end(answer: &Result<Ended, HostError>, status: u8, output: &str) -> bool {
 #[test]
 fn children_end_in_the_order_in_which_they_are_spawned(rt: HostRuntime) -> Result<(), Fail> {
     let alloc = rt.alloc();
-    let disk = MemDisk::new(alloc, Vec::new(alloc), Vec::new(alloc));
+    let disk = MemDisks::new(alloc, Vec::new(alloc), Vec::new(alloc), Vec::new(alloc));
     let ends = vec![in alloc; ended(alloc, 3, "x")?, ended(alloc, 0, "")?]?;
     let mut host = MemHost::with_children(alloc, disk, ends, vec![in alloc; 2u64, 5u64]?);
     let words = vec![in alloc; String::from_str(alloc, "w")?]?;
@@ -106,7 +111,7 @@ fn children_end_in_the_order_in_which_they_are_spawned(rt: HostRuntime) -> Resul
 #[test]
 fn a_killing_is_told(rt: HostRuntime) -> Result<(), Fail> {
     let alloc = rt.alloc();
-    let disk = MemDisk::new(alloc, Vec::new(alloc), Vec::new(alloc));
+    let disk = MemDisks::new(alloc, Vec::new(alloc), Vec::new(alloc), Vec::new(alloc));
     let ends = vec![in alloc; ended(alloc, 0, "")?, ended(alloc, 0, "")?]?;
     let mut host = MemHost::with_children(alloc, disk, ends, vec![in alloc; 3u64]?);
     let (Ok(first), Ok(second)) = (host.spawn("p", &[]), host.spawn("p", &[])) else {
