@@ -40,7 +40,7 @@ so_many number (suc step) =
     omega (arith, so_many number step, length-append (lines_to number step) (last ∷ []))
 
 -- what a replay holds is what was sent
-pub held_is : (ids initial : List Id) (nodes : List ReplayNode) (messages : List SentMessage) (tally : Tally) (done : List Line) → initial ≡ first_nodes → Tallied ids initial nodes messages tally done → length messages ≡ count_sent done
+pub held_is : (ids initial : List Id) (nodes : List ReplayNode) (messages : List SentMessage) (tally : Tally) (done : List Line) → initial ≡ first_nodes → Tallied Tallies ids initial nodes messages tally done → length messages ≡ count_sent done
 held_is ids initial nodes messages tally done e m =
     sym (length-map messages message_of)
     ∙ ap (λ (ms : List Message). length ms) m.stands.messages_sent
@@ -62,5 +62,5 @@ more_lines number step sent line is held =
     rw add-one (ap (λ (l : Line). lines_to number step ++ l ∷ []) (sym (is ∙ ap (λ (k : ℕ). line_at number step k) held)))
 
 -- behind the last line the tally is that of the trace
-pub summed_up : (ids initial : List Id) (nodes : List ReplayNode) (messages : List SentMessage) (tally : Tally) (number steps : ℕ) → initial ≡ first_nodes → Tallied ids initial nodes messages tally (lines_to number steps) → Tallies tally (trace (generated number steps))
+pub summed_up : (ids initial : List Id) (nodes : List ReplayNode) (messages : List SentMessage) (tally : Tally) (number steps : ℕ) → initial ≡ first_nodes → Tallied Tallies ids initial nodes messages tally (lines_to number steps) → Tallies tally (trace (generated number steps))
 summed_up ids initial nodes messages tally number steps e m = subst (λ (x : List Id). Tallies tally (trace_from x fresh_world (lines_to number steps))) e m.tallies

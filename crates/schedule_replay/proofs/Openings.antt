@@ -6,8 +6,10 @@ use Rattle.voting_config.specs.Ids.{Id}
 use Rattle.cluster_state.specs.Initial.{empty_record}
 use Rattle.cluster_state.specs.declared.state.Kept.{Kept}
 use Rattle.wire_frames.specs.declared.frame.Frame.{Frame}
-use Rattle.zen_disk.specs.FileState.{FileState}
+use Rattle.zen_disk.specs.MemDisks.{read_of}
+use Rattle.zen_disk.specs.Sides.{Files}
 use Rattle.zen_disk.specs.declared.orders.Way.{Way}
+use Rattle.gate_log.specs.Generations.{generations_of}
 use Rattle.gate_log.specs.Journal.{bodies_of}
 use Rattle.state_journal.specs.Journal.{folded_from, found_of}
 use Rattle.state_journal.specs.declared.why.Why.{Why}
@@ -18,7 +20,7 @@ use Rattle.world_model.specs.Acts.{NodeHistory, NoActs, Then}
 use Rattle.world_model.specs.Histories.{ContinuesUnlessFirst}
 use Rattle.world_model.specs.NodeState.{durable_of, stopped_of}
 use Rattle.trace_text.specs.Trace.{crashed_line, down_line, record_line, up_line}
-use Rattle.replay_node.specs.NodeDisk.{NodeDisk, CallsEnd, Done, Failed, StoppedIn, opening, MemFuse}
+use Rattle.replay_node.specs.NodeDisk.{NodeDisk, CallsEnd, Done, Failed, StoppedIn, bytes_read, no_files, opening, MemFuse}
 use Rattle.replay_node.specs.NodeLines.{stop_text}
 use Rattle.replay_node.specs.NodeWorld.{NodeWorld, after_crash, after_opening, found_at, fresh_node, needs_opening, opened_by, opening_text}
 use Rattle.replay_node.specs.Opens.{Opens}
@@ -57,7 +59,7 @@ crash_done s own way old node fuse frames was now slot stopped written stands =
     let o : OpenStands s.me node.core own.node = here.core in
     let down : DownStands fuse (after_crash way own.node) = record {
       down = refl;
-      disk = stopped_stands node.core.keeper.log.disk fuse own.node.disk way o.disk stopped.armed stopped.up stopped.file;
+      disk = stopped_stands node.core.keeper.log.disk fuse own.node.disk way o.disk stopped.armed stopped.up stopped.files;
       left = leaves_less node.core.keeper.log.disk fuse own.node.acts stopped.left (open_leaves s.me node.core own.node o);
     } in
     let there : NodeFor s (record old { slot = Down fuse }) (record own { node = after_crash way own.node }) false = record {
@@ -119,7 +121,7 @@ module _ (s : Settings) (old : ClusterNode) (fuse : MemFuse) (own : Own) (closed
 
     found_kept : j.kept ≡ found
     found_kept =
-        let read : fuse.disk.bytes.items ≡ own.node.disk.file.read = ap (λ (f : FileState). f.read) closed.closed.disk.file in
+        let read : read_of fuse.disk ≡ bytes_read own.node.disk.files = ap bytes_read closed.closed.disk.files in
         sym (ap (λ (r : Result Kept Why). result_unwrap_or r empty_record) (ap found_of (sym read) ∙ is.found))
 
     acts_now : (after_opening own.node).acts ≡ Then (settled kept own.node.acts) (OpenAct found) (Answered (Taken None false))
@@ -253,15 +255,15 @@ still_up s own old node frames was now slot runs written stands = by (needs_open
 
 -- ---- a node that is opened for the first time
 
-empty_found : (bytes : List ℕ) (kept : Kept) → bytes ≡ [] → found_of bytes ≡ Ok kept → kept ≡ empty_record
-unfolding bodies_of folded_from
-empty_found bytes kept empty is = let same : found_of [] ≡ Ok kept = ap found_of (sym empty) ∙ is in cc
+empty_found : (files : Files) (kept : Kept) → files ≡ bytes_read no_files → found_of files ≡ Ok kept → kept ≡ empty_record
+unfolding generations_of bodies_of folded_from
+empty_found files kept empty is = let same : found_of (bytes_read no_files) ≡ Ok kept = ap found_of (sym empty) ∙ is in cc
 
 pub first_open : (s : Settings) (fuse : MemFuse) → IsEmptyDisk fuse → (j : Journal) → JustOpened fuse j → (node : Node) → OverJournal s j node → OpenFor s node NotBegun fresh_node
 first_open s fuse empty j is node over = record {
   settings = over.settings;
   ready = over.ready;
-  life_is = over.first (empty_found fuse.disk.bytes.items j.kept empty.seen is.found);
+  life_is = over.first (empty_found (read_of fuse.disk) j.kept empty.seen is.found);
   core = new_stands s.me fuse j node.core empty is (record { me_is = over.ready.me ∙ ap (λ (t : Settings). t.me) over.settings; keeper = over.keeper_is; stands = over.stands });
   fit = λ still. over.fit;
 }

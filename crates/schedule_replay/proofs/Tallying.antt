@@ -1,11 +1,10 @@
--- A replay with its tally, line by line.
+-- A replay and what observes it, line by line.
 use Rattle.std.proofs.Common.{◌≡◌, ℕ, ◌+◌, ◌<◌, ◌≤◌, List, [], ◌∷◌, ◌++◌, length, take, get_or, refl, sym, ap, subst, ◌∙◌, append-nil, append_assoc}
 use Rattle.std.proofs.lemmas.List.{take_all, take_more}
 use Rattle.voting_config.specs.Ids.{Id}
 use Rattle.wire_frames.specs.declared.frame.Frame.{Frame}
 use Rattle.schedule_text.specs.declared.schedule.Line.{Line}
-use Rattle.trace_summary.specs.Tallies.{EndsLine, Tallies}
-use Rattle.trace_summary.specs.declared.summary.Tally.{Tally}
+use Rattle.trace_summary.specs.Tallies.{EndsLine}
 use Rattle.replay_node.specs.Clusters.{Cluster, fresh_cluster, after as cluster_after, replayed_from as cluster_from}
 use Rattle.replay_node.specs.declared.message.SentMessage.{SentMessage}
 use Rattle.replay_node.specs.declared.node.ReplayNode.{ReplayNode}
@@ -20,8 +19,8 @@ use Rattle.schedule_replay.specs.declared.cluster.node.ClusterNode.{ClusterNode}
 use Rattle.schedule_replay.proofs.Ending.{trace_ends, cluster_trace_ends}
 
 -- a piece was added behind whole lines
-abbrev pub Adds : Tally → Tally → List ℕ → Type 0
-Adds old new piece = (text : List ℕ) → EndsLine text → Tallies old text → Tallies new (text ++ piece)
+abbrev pub Adds : {T : Type 0} → (saw : T → List ℕ → Type 0) → T → T → List ℕ → Type 0
+Adds saw old new piece = (text : List ℕ) → EndsLine text → saw old text → saw new (text ++ piece)
 
 -- the lines up to the one in hand, and with it
 pub taken_more : (lines : List Line) (i : ℕ) (line : Line) → i < length lines → line ≡ get_or lines i line → take (i + 1) lines ≡ take i lines ++ line ∷ []
@@ -42,30 +41,30 @@ trace_more initial w (x ∷ ls) l =
     ap (λ (t : List ℕ). trace_line initial w x ++ t) (trace_more initial (after initial w x) ls l)
     ∙ sym (append_assoc (trace_line initial w x) (trace_from initial (after initial w x) ls) _)
 
-module _ (ids initial : List Id) (nodes more : List ReplayNode) (messages sent : List SentMessage) (tally later : Tally) (none text piece : List ℕ) (done : List Line) (line : Line) (is : piece ≡ text) where
-  pub one_more : none ≡ [] → Tallied ids initial nodes messages tally done → WritesLine ids initial nodes more messages sent none text line → Adds tally later piece → Tallied ids initial more sent later (done ++ line ∷ [])
+module _ {T : Type 0} (saw : T → List ℕ → Type 0) (ids initial : List Id) (nodes more : List ReplayNode) (messages sent : List SentMessage) (tally later : T) (none text piece : List ℕ) (done : List Line) (line : Line) (is : piece ≡ text) where
+  pub one_more : none ≡ [] → Tallied saw ids initial nodes messages tally done → WritesLine ids initial nodes more messages sent none text line → Adds saw tally later piece → Tallied saw ids initial more sent later (done ++ line ∷ [])
   one_more empty m writes adds =
       let w : World = replayed_from initial fresh_world done in
       let step = (subst (λ (x : List ℕ). WritesLine ids initial nodes more messages sent x text line) empty writes) w m.stands in
       record {
         stands = subst (λ (v : World). Stands ids more sent v) (sym (replayed_more initial fresh_world done line)) step.stands;
-        tallies = subst (λ (t : List ℕ). Tallies later t)
+        tallies = subst (λ (t : List ℕ). saw later t)
             (ap (λ (t : List ℕ). trace_from initial fresh_world done ++ t) (is ∙ step.written) ∙ sym (trace_more initial fresh_world done line))
             (adds (trace_from initial fresh_world done) (trace_ends initial fresh_world done) m.tallies);
       }
 
 -- a line leaves the ids as they are
-pub same_header : (ids initial new_ids new_initial : List Id) (nodes : List ReplayNode) (messages : List SentMessage) (tally : Tally) (done : List Line) → new_ids ≡ ids → new_initial ≡ initial → Tallied ids initial nodes messages tally done → Tallied new_ids new_initial nodes messages tally done
-same_header ids initial new_ids new_initial nodes messages tally done e f m =
-    subst (λ (x : List Id). Tallied x new_initial nodes messages tally done) (sym e)
-    (subst (λ (x : List Id). Tallied ids x nodes messages tally done) (sym f) m)
+pub same_header : {T : Type 0} (saw : T → List ℕ → Type 0) (ids initial new_ids new_initial : List Id) (nodes : List ReplayNode) (messages : List SentMessage) (tally : T) (done : List Line) → new_ids ≡ ids → new_initial ≡ initial → Tallied saw ids initial nodes messages tally done → Tallied saw new_ids new_initial nodes messages tally done
+same_header saw ids initial new_ids new_initial nodes messages tally done e f m =
+    subst (λ (x : List Id). Tallied saw x new_initial nodes messages tally done) (sym e)
+    (subst (λ (x : List Id). Tallied saw ids x nodes messages tally done) (sym f) m)
 
 -- behind all lines the tally is that of the whole trace
-pub whole_tallied : (ids initial header : List Id) (nodes : List ReplayNode) (messages : List SentMessage) (tally : Tally) (lines all : List Line) (i : ℕ) → initial ≡ header → lines ≡ all → length lines ≤ i
-    → Tallied ids initial nodes messages tally (take i lines) → Tallies tally (trace_from header fresh_world all)
-whole_tallied ids initial header nodes messages tally lines all i e f past m =
-    subst (λ (x : List Id). Tallies tally (trace_from x fresh_world all)) e
-    (subst (λ (ls : List Line). Tallies tally (trace_from initial fresh_world ls)) (all_taken lines i past ∙ f) m.tallies)
+pub whole_tallied : {T : Type 0} (saw : T → List ℕ → Type 0) (ids initial header : List Id) (nodes : List ReplayNode) (messages : List SentMessage) (tally : T) (lines all : List Line) (i : ℕ) → initial ≡ header → lines ≡ all → length lines ≤ i
+    → Tallied saw ids initial nodes messages tally (take i lines) → saw tally (trace_from header fresh_world all)
+whole_tallied saw ids initial header nodes messages tally lines all i e f past m =
+    subst (λ (x : List Id). saw tally (trace_from x fresh_world all)) e
+    (subst (λ (ls : List Line). saw tally (trace_from initial fresh_world ls)) (all_taken lines i past ∙ f) m.tallies)
 
 -- ---- whole nodes
 
@@ -79,27 +78,27 @@ cluster_trace_more nodes initial c (x ∷ ls) l =
     ap (λ (t : List ℕ). cluster_line nodes initial c x ++ t) (cluster_trace_more nodes initial (cluster_after nodes initial c x) ls l)
     ∙ sym (append_assoc (cluster_line nodes initial c x) (cluster_trace nodes initial (cluster_after nodes initial c x) ls) _)
 
-module _ (ids initial : List Id) (nodes more : List ClusterNode) (frames sent : List Frame) (tally later : Tally) (none text piece : List ℕ) (done : List Line) (line : Line) (is : piece ≡ text) where
-  pub one_more_cluster : none ≡ [] → ClusterTallied ids initial nodes frames tally done → WritesClusterLine ids initial nodes more frames sent none text line → Adds tally later piece → ClusterTallied ids initial more sent later (done ++ line ∷ [])
+module _ {T : Type 0} (saw : T → List ℕ → Type 0) (ids initial : List Id) (nodes more : List ClusterNode) (frames sent : List Frame) (tally later : T) (none text piece : List ℕ) (done : List Line) (line : Line) (is : piece ≡ text) where
+  pub one_more_cluster : none ≡ [] → ClusterTallied saw ids initial nodes frames tally done → WritesClusterLine ids initial nodes more frames sent none text line → Adds saw tally later piece → ClusterTallied saw ids initial more sent later (done ++ line ∷ [])
   one_more_cluster empty m writes adds =
       let first : Cluster = fresh_cluster ids initial in
       let c : Cluster = cluster_from ids initial first done in
       let step = (subst (λ (x : List ℕ). WritesClusterLine ids initial nodes more frames sent x text line) empty writes) c m.stands in
       record {
         stands = subst (λ (d : Cluster). ClusterFor ids initial more sent d) (sym (cluster_more ids initial first done line)) step.stands;
-        tallies = subst (λ (t : List ℕ). Tallies later t)
+        tallies = subst (λ (t : List ℕ). saw later t)
             (ap (λ (t : List ℕ). cluster_trace ids initial first done ++ t) (is ∙ step.written) ∙ sym (cluster_trace_more ids initial first done line))
             (adds (cluster_trace ids initial first done) (cluster_trace_ends ids initial first done) m.tallies);
       }
 
-pub same_cluster_header : (ids initial new_ids new_initial : List Id) (nodes : List ClusterNode) (frames : List Frame) (tally : Tally) (done : List Line) → new_ids ≡ ids → new_initial ≡ initial → ClusterTallied ids initial nodes frames tally done → ClusterTallied new_ids new_initial nodes frames tally done
-same_cluster_header ids initial new_ids new_initial nodes frames tally done e f m =
-    subst (λ (x : List Id). ClusterTallied x new_initial nodes frames tally done) (sym e)
-    (subst (λ (x : List Id). ClusterTallied ids x nodes frames tally done) (sym f) m)
+pub same_cluster_header : {T : Type 0} (saw : T → List ℕ → Type 0) (ids initial new_ids new_initial : List Id) (nodes : List ClusterNode) (frames : List Frame) (tally : T) (done : List Line) → new_ids ≡ ids → new_initial ≡ initial → ClusterTallied saw ids initial nodes frames tally done → ClusterTallied saw new_ids new_initial nodes frames tally done
+same_cluster_header saw ids initial new_ids new_initial nodes frames tally done e f m =
+    subst (λ (x : List Id). ClusterTallied saw x new_initial nodes frames tally done) (sym e)
+    (subst (λ (x : List Id). ClusterTallied saw ids x nodes frames tally done) (sym f) m)
 
-pub whole_cluster_tallied : (ids initial named header : List Id) (nodes : List ClusterNode) (frames : List Frame) (tally : Tally) (lines all : List Line) (i : ℕ) → ids ≡ named → initial ≡ header → lines ≡ all → length lines ≤ i
-    → ClusterTallied ids initial nodes frames tally (take i lines) → Tallies tally (cluster_trace named header (fresh_cluster named header) all)
-whole_cluster_tallied ids initial named header nodes frames tally lines all i d e f past m =
-    subst (λ (x : List Id). Tallies tally (cluster_trace x header (fresh_cluster x header) all)) d
-    (subst (λ (x : List Id). Tallies tally (cluster_trace ids x (fresh_cluster ids x) all)) e
-    (subst (λ (ls : List Line). Tallies tally (cluster_trace ids initial (fresh_cluster ids initial) ls)) (all_taken lines i past ∙ f) m.tallies))
+pub whole_cluster_tallied : {T : Type 0} (saw : T → List ℕ → Type 0) (ids initial named header : List Id) (nodes : List ClusterNode) (frames : List Frame) (tally : T) (lines all : List Line) (i : ℕ) → ids ≡ named → initial ≡ header → lines ≡ all → length lines ≤ i
+    → ClusterTallied saw ids initial nodes frames tally (take i lines) → saw tally (cluster_trace named header (fresh_cluster named header) all)
+whole_cluster_tallied saw ids initial named header nodes frames tally lines all i d e f past m =
+    subst (λ (x : List Id). saw tally (cluster_trace x header (fresh_cluster x header) all)) d
+    (subst (λ (x : List Id). saw tally (cluster_trace ids x (fresh_cluster ids x) all)) e
+    (subst (λ (ls : List Line). saw tally (cluster_trace ids initial (fresh_cluster ids initial) ls)) (all_taken lines i past ∙ f) m.tallies))

@@ -1,9 +1,9 @@
 -- When a node stands for its life, for what it did and for its disk.
 use Rattle.std.specs.Prelude.{◌≡◌, false}
 use Rattle.zen_disk.specs.contracts.fuse.Fuse as FuseRow
-use Rattle.zen_disk.specs.contracts.fuse.FuseDisk.TheImpl as FuseDisk
-use Rattle.zen_disk.specs.contracts.memory.MemDisk as MemDiskRow
-use Rattle.zen_disk.specs.contracts.memory.MemDiskDisk.TheImpl as MemDiskDisk
+use Rattle.zen_disk.specs.contracts.fuse.FuseDisks.TheImpl as FuseDisks
+use Rattle.zen_disk.specs.contracts.memory.MemDisks as MemDisksRow
+use Rattle.zen_disk.specs.contracts.memory.MemDisksDisks.TheImpl as MemDisksDisks
 use Rattle.state_journal.specs.contracts.journal.StateJournalKeeper.TheImpl as JournalKeeper
 use Rattle.state_journal.specs.declared.keeper.Keeper.{Ghosts}
 use Rattle.replay_node.specs.NodeWorld.{NodeWorld}
@@ -20,7 +20,7 @@ Node = Coordinator Journal
 
 -- what the journal's ghost members are over such a disk
 abbrev pub keeper : Ghosts Journal
-keeper = JournalKeeper.ghosts (FuseRow.the_row MemDiskRow.the_row) (FuseDisk.ghosts MemDiskRow.the_row MemDiskDisk.ghosts FuseDisk.no_dict) JournalKeeper.no_dict
+keeper = JournalKeeper.ghosts (FuseRow.the_row MemDisksRow.the_row) (FuseDisks.ghosts MemDisksRow.the_row MemDisksDisks.ghosts FuseDisks.no_dict) JournalKeeper.no_dict
 
 -- a node whose journal is open; while it runs, it is within the limits
 pub record OpenFor (s : Settings) (node : Node) (life : Life) (x : NodeWorld) : Type 0 where

@@ -1,10 +1,8 @@
--- Where a replay with its tally stands behind some lines. Not part of the statement.
-use Rattle.std.specs.Prelude.{List}
+-- Where a replay and what observes its trace stand behind some lines. Not part of the statement.
+use Rattle.std.specs.Prelude.{ℕ, List}
 use Rattle.voting_config.specs.Ids.{Id}
 use Rattle.wire_frames.specs.declared.frame.Frame.{Frame}
 use Rattle.schedule_text.specs.declared.schedule.Line.{Line}
-use Rattle.trace_summary.specs.Tallies.{Tallies}
-use Rattle.trace_summary.specs.declared.summary.Tally.{Tally}
 use Rattle.replay_node.specs.Clusters.{fresh_cluster, replayed_from as cluster_from}
 use Rattle.replay_node.specs.declared.message.SentMessage.{SentMessage}
 use Rattle.replay_node.specs.declared.node.ReplayNode.{ReplayNode}
@@ -16,12 +14,12 @@ use Rattle.schedule_replay.specs.WorldStands.{Stands}
 use Rattle.schedule_replay.specs.ClusterStands.{ClusterFor}
 use Rattle.schedule_replay.specs.declared.cluster.node.ClusterNode.{ClusterNode}
 
--- the nodes and the messages are what these lines make of them, and the tally is that of their trace
-pub record Tallied (ids initial : List Id) (nodes : List ReplayNode) (messages : List SentMessage) (tally : Tally) (done : List Line) : Type 0 where
+-- the nodes and the messages are what these lines make of them, and what observes has seen their trace
+pub record Tallied {T : Type 0} (saw : T → List ℕ → Type 0) (ids initial : List Id) (nodes : List ReplayNode) (messages : List SentMessage) (observer : T) (done : List Line) : Type 0 where
   pub stands : Stands ids nodes messages (replayed_from initial fresh_world done)
-  pub tallies : Tallies tally (trace_from initial fresh_world done)
+  pub tallies : saw observer (trace_from initial fresh_world done)
 
 -- and so of whole nodes
-pub record ClusterTallied (ids initial : List Id) (nodes : List ClusterNode) (frames : List Frame) (tally : Tally) (done : List Line) : Type 0 where
+pub record ClusterTallied {T : Type 0} (saw : T → List ℕ → Type 0) (ids initial : List Id) (nodes : List ClusterNode) (frames : List Frame) (observer : T) (done : List Line) : Type 0 where
   pub stands : ClusterFor ids initial nodes frames (cluster_from ids initial (fresh_cluster ids initial) done)
-  pub tallies : Tallies tally (cluster_trace ids initial (fresh_cluster ids initial) done)
+  pub tallies : saw observer (cluster_trace ids initial (fresh_cluster ids initial) done)

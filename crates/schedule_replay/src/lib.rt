@@ -5,6 +5,7 @@ pub mod cluster;
 pub mod generating;
 pub mod laws;
 pub mod nodes;
+mod observing;
 pub mod replayer;
 pub mod replaying;
 
@@ -14,7 +15,7 @@ pub use laws::{
     law_cluster_trace_tells, law_generated, law_replay_is_legal, law_steps_go_on, law_trace_agrees,
     law_trace_follows, law_trace_shows, law_trace_tells,
 };
-pub use replaying::{ReplayError, replay};
+pub use replaying::{ReplayError, replay, write_trace};
 
 #[cfg(test)]
 mod tests;

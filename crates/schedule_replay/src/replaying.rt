@@ -1,4 +1,4 @@
-ghost use Rattle.std.specs.Prelude.{◌≡◌, ◌≤◌, IfOk};
+ghost use Rattle.std.specs.Prelude.{◌≡◌, ◌≤◌, [], IfOk, OnOk};
 ghost use Rattle.std.specs.List.{AllByRecursion};
 ghost use Rattle.zen_disk.specs.Faults.{Rose};
 ghost use Rattle.zen_link.specs.Streams.{AppendedFront};
@@ -10,6 +10,7 @@ ghost use Rattle.schedule_replay.specs.Written.{WritesTrace};
 ghost use Rattle.trace_summary.specs.Summaries.{summary_of};
 
 use crate::cluster::replayer::ClusterReplayer;
+use crate::observing::{Nobody, Observer};
 use crate::replayer::Replayer;
 use schedule_text::{Level, Schedule, Text};
 use std::alloc::Global;
@@ -59,21 +60,21 @@ fn out_of_memory<S: Sink>(out: &mut S, held: &Text) -> ReplayError
 }
 
 // A schedule of level core: the nodes do single acts.
-fn replay_core<S: Sink>(
+fn replay_core<T: Observer, S: Sink>(
     alloc: Global,
     schedule: &Schedule,
+    observer: &mut T,
     out: &mut S,
-) -> Result<Summary, ReplayError>
+) -> Result<(), ReplayError>
     requires fits { AllByRecursion (FitsLine Core schedule.now.nodes) schedule.now.lines }
     ensures written { WritesTrace (S.written out.old) (S.written out.new) (trace_at Core schedule.now) result }
-    ensures summary { IfOk result (λ s. s ≡ summary_of (trace_at Core schedule.now)) }
+    ensures observed { OnOk result (T.saw observer.old [] → T.saw observer.new (trace_at Core schedule.now)) }
     ensures later { S.faults out.old ≤ S.faults out.new }
     ensures fault { result ≡ Err ReplayError.Write → Rose (S.faults out.old) (S.faults out.new) }
 {
     let Ok(mut replayer) = Replayer::new(alloc, &schedule.nodes, &schedule.initial) else {
         return Err(ReplayError::Memory);
     };
-    let mut tally = Tally::new();
     let mut held = Text::new(alloc);
     let mut text = Text::new(alloc);
     let lines = schedule.lines.as_slice();
@@ -83,7 +84,7 @@ fn replay_core<S: Sink>(
             return Err(out_of_memory(out, &held));
         };
         let piece = text.as_bytes();
-        let Ok(()) = tally.add(piece) else {
+        let Ok(()) = observer.observe(piece) else {
             return Err(out_of_memory(out, &held));
         };
         hold(out, &mut held, &text)?;
@@ -91,25 +92,25 @@ fn replay_core<S: Sink>(
     let Ok(()) = write_all(out, held.as_bytes()) else {
         return Err(ReplayError::Write);
     };
-    Ok(tally.finish())
+    Ok(())
 }
 
 // A schedule of level node: whole nodes do what their policy says.
-fn replay_nodes<S: Sink>(
+fn replay_nodes<T: Observer, S: Sink>(
     alloc: Global,
     schedule: &Schedule,
+    observer: &mut T,
     out: &mut S,
-) -> Result<Summary, ReplayError>
+) -> Result<(), ReplayError>
     requires fits { AllByRecursion (FitsLine Node schedule.now.nodes) schedule.now.lines }
     ensures written { WritesTrace (S.written out.old) (S.written out.new) (trace_at Node schedule.now) result }
-    ensures summary { IfOk result (λ s. s ≡ summary_of (trace_at Node schedule.now)) }
+    ensures observed { OnOk result (T.saw observer.old [] → T.saw observer.new (trace_at Node schedule.now)) }
     ensures later { S.faults out.old ≤ S.faults out.new }
     ensures fault { result ≡ Err ReplayError.Write → Rose (S.faults out.old) (S.faults out.new) }
 {
     let Ok(mut replayer) = ClusterReplayer::new(alloc, &schedule.nodes, &schedule.initial) else {
         return Err(ReplayError::Memory);
     };
-    let mut tally = Tally::new();
     let mut held = Text::new(alloc);
     let mut text = Text::new(alloc);
     let lines = schedule.lines.as_slice();
@@ -119,7 +120,7 @@ fn replay_nodes<S: Sink>(
             return Err(out_of_memory(out, &held));
         };
         let piece = text.as_bytes();
-        let Ok(()) = tally.add(piece) else {
+        let Ok(()) = observer.observe(piece) else {
             return Err(out_of_memory(out, &held));
         };
         hold(out, &mut held, &text)?;
@@ -127,13 +128,48 @@ fn replay_nodes<S: Sink>(
     let Ok(()) = write_all(out, held.as_bytes()) else {
         return Err(ReplayError::Write);
     };
-    Ok(tally.finish())
+    Ok(())
 }
 
-/// Replays a schedule of this level, writes the trace of its one history, and sums it up. `Write` only where the count of faults of the
-/// sink rose; a prefix of the trace is written then, and at `Memory` too.
+// Replays a schedule of this level, and shows the observer what is written.
+fn replay_shown<T: Observer, S: Sink>(
+    alloc: Global,
+    schedule: &Schedule,
+    level: Level,
+    observer: &mut T,
+    out: &mut S,
+) -> Result<(), ReplayError>
+    requires fits { AllByRecursion (FitsLine level schedule.now.nodes) schedule.now.lines }
+    ensures written { WritesTrace (S.written out.old) (S.written out.new) (trace_at level schedule.now) result }
+    ensures observed { OnOk result (T.saw observer.old [] → T.saw observer.new (trace_at level schedule.now)) }
+    ensures later { S.faults out.old ≤ S.faults out.new }
+    ensures fault { result ≡ Err ReplayError.Write → Rose (S.faults out.old) (S.faults out.new) }
+{
+    match level {
+        Level::Core => replay_core(alloc, schedule, observer, out),
+        Level::Node => replay_nodes(alloc, schedule, observer, out),
+    }
+}
+
+/// Replays a schedule of this level and writes the trace of its one history. `Write` only where the count of faults of the sink rose; a
+/// prefix of the trace is written then, and at `Memory` too.
 ///
 /// At level core the laws of this crate tell of the history, at level node those of `cluster_replay`.
+pub fn write_trace<S: Sink>(
+    alloc: Global,
+    schedule: &Schedule,
+    level: Level,
+    out: &mut S,
+) -> Result<(), ReplayError>
+    requires fits { AllByRecursion (FitsLine level schedule.now.nodes) schedule.now.lines }
+    ensures written { WritesTrace (S.written out.old) (S.written out.new) (trace_at level schedule.now) result }
+    ensures later { S.faults out.old ≤ S.faults out.new }
+    ensures fault { result ≡ Err ReplayError.Write → Rose (S.faults out.old) (S.faults out.new) }
+{
+    replay_shown(alloc, schedule, level, &mut Nobody, out)
+}
+
+/// Does as `write_trace`, and sums the trace up, which takes a digest of all its bytes.
 pub fn replay<S: Sink>(
     alloc: Global,
     schedule: &Schedule,
@@ -146,8 +182,9 @@ pub fn replay<S: Sink>(
     ensures later { S.faults out.old ≤ S.faults out.new }
     ensures fault { result ≡ Err ReplayError.Write → Rose (S.faults out.old) (S.faults out.new) }
 {
-    match level {
-        Level::Core => replay_core(alloc, schedule, out),
-        Level::Node => replay_nodes(alloc, schedule, out),
+    let mut tally = Tally::new();
+    match replay_shown(alloc, schedule, level, &mut tally, out) {
+        Ok(()) => Ok(tally.finish()),
+        Err(error) => Err(error),
     }
 }

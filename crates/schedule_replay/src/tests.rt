@@ -1,6 +1,6 @@
 mod rows;
 
-use crate::{generate, replay};
+use crate::{generate, replay, write_trace};
 use rows::ROWS;
 use schedule_text::{Level, ReadError, Text, read_schedule};
 use std::alloc::{AllocError, Global};
@@ -41,6 +41,10 @@ fn whole_nodes_have_these_traces(rt: HostRuntime) -> Result<(), Fail> {
         let ended = replay(rt.alloc(), &schedule, Level::Node, &mut sink);
         assert!(&rt; ended.is_ok(), "{name}");
         assert!(&rt; sink.as_bytes() == trace.as_bytes(), "{name}");
+        let mut second = MemSink::new(rt.alloc(), 100, Vec::new(rt.alloc()));
+        let ended = write_trace(rt.alloc(), &schedule, Level::Node, &mut second);
+        assert!(&rt; ended.is_ok(), "{name}");
+        assert!(&rt; second.as_bytes() == trace.as_bytes(), "{name}");
     }
     Ok(())
 }

@@ -1,5 +1,7 @@
-ghost use Rattle.std.specs.Prelude.{◌≡◌, ◌+◌, IfOk, if◌then◌else◌};
-ghost use Rattle.trace_summary.specs.Counted.{after_lines, is_act as is_act_of, is_committed as is_committed_of, is_crash as is_crash_of, is_refused as is_refused_of, is_step as is_step_of, is_won as is_won_of, lines_of, no_counts, with_line, word_at};
+ghost use Rattle.std.specs.Prelude.{◌≡◌, ◌+◌, ◌&&◌, [], IfOk, codes, nat_eq, if◌then◌else◌};
+ghost use Rattle.std.specs.List.{starts_with};
+ghost use Rattle.std.specs.Str.{bytes_eq};
+ghost use Rattle.trace_summary.specs.Counted.{after_lines, lines_of, no_counts, with_line, word_at};
 
 use schedule_text::words::cut;
 use std::alloc::AllocError;
@@ -41,43 +43,51 @@ fn third_word(line: &[u8]) -> &[u8]
     cut(rest, b' ').0
 }
 
-fn is_step(line: &[u8]) -> bool
-    ensures { result ≡ is_step_of line.now }
+// How the act of a line ended, and nothing where the line is no act: other lines are long, and not looked through.
+fn ending(line: &[u8], is_act: bool) -> &[u8]
+    ensures { result.now ≡ (if is_act then word_at 2 line.now else []) }
 {
-    first_word(line) == b">".as_slice()
+    if is_act { third_word(line) } else { &[] }
 }
 
-fn is_act(line: &[u8]) -> bool
-    ensures { result ≡ is_act_of line.now }
+// Whether a line with this first word echoes a line of the schedule.
+fn is_step(word: &[u8]) -> bool
+    ensures { result ≡ bytes_eq word.now (codes ">") }
 {
-    first_word(line) == b"act".as_slice()
+    word == b">".as_slice()
 }
 
-fn is_refused(line: &[u8]) -> bool
-    ensures { result ≡ is_refused_of line.now }
+fn is_act(word: &[u8]) -> bool
+    ensures { result ≡ bytes_eq word.now (codes "act") }
 {
-    is_act(line) && third_word(line).starts_with(b"refused:")
+    word == b"act".as_slice()
 }
 
-fn is_won(line: &[u8]) -> bool
-    ensures { result ≡ is_won_of line.now }
+fn is_won(word: &[u8]) -> bool
+    ensures { result ≡ bytes_eq word.now (codes "won") }
 {
-    first_word(line) == b"won".as_slice()
+    word == b"won".as_slice()
 }
 
-fn is_committed(line: &[u8]) -> bool
-    ensures { result ≡ is_committed_of line.now }
+fn is_committed(word: &[u8]) -> bool
+    ensures { result ≡ bytes_eq word.now (codes "committed") }
 {
-    first_word(line) == b"committed".as_slice()
+    word == b"committed".as_slice()
 }
 
-fn is_crash(line: &[u8]) -> bool
-    ensures { result ≡ is_crash_of line.now }
+fn is_refused(is_act: bool, ending: &[u8]) -> bool
+    ensures { result ≡ (is_act && starts_with nat_eq ending.now (codes "refused:")) }
 {
-    if is_act(line) {
-        return third_word(line) == b"crashed".as_slice();
+    is_act && ending.starts_with(b"refused:")
+}
+
+fn is_crash(is_act: bool, word: &[u8], ending: &[u8]) -> bool
+    ensures { result ≡ (if is_act then bytes_eq ending.now (codes "crashed") else bytes_eq word.now (codes "crashed")) }
+{
+    if is_act {
+        return ending == b"crashed".as_slice();
     }
-    first_word(line) == b"crashed".as_slice()
+    word == b"crashed".as_slice()
 }
 
 // One more where there is one. A count of 2^64 finds no room.
@@ -108,17 +118,20 @@ impl Counts {
         }
     }
 
-    // The counts with this line.
+    // The counts with this line, whose words are looked up once.
     fn with(self, line: &[u8]) -> Result<Counts, AllocError>
         ensures { IfOk result (λ c. c ≡ with_line self line.now) }
     {
+        let word = first_word(line);
+        let is_act = is_act(word);
+        let ending = ending(line, is_act);
         Ok(Counts {
-            steps: count(self.steps, is_step(line))?,
-            acts: count(self.acts, is_act(line))?,
-            refused: count(self.refused, is_refused(line))?,
-            won: count(self.won, is_won(line))?,
-            committed: count(self.committed, is_committed(line))?,
-            crashes: count(self.crashes, is_crash(line))?,
+            steps: count(self.steps, is_step(word))?,
+            acts: count(self.acts, is_act)?,
+            refused: count(self.refused, is_refused(is_act, ending))?,
+            won: count(self.won, is_won(word))?,
+            committed: count(self.committed, is_committed(word))?,
+            crashes: count(self.crashes, is_crash(is_act, word, ending))?,
         })
     }
 

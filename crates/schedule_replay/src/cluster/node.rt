@@ -26,14 +26,14 @@ use std::mem;
 use trace_text::{write_crashed, write_disk, write_down, write_record, write_up};
 use voting_config::{NodeId, NodeSet};
 use wire_frames::Frame;
-use zen_disk::{Armable, Fuse, MemDisk, Order, Struck, Way};
+use zen_disk::{Armable, Fuse, MemDisks, Order, Struck, Way};
 
 /// Whether a node's journal is open.
 #[derive(Drop)]
 pub enum Slot {
     Open(OpenNode),
     /// The node is down, and this is its disk.
-    Down(Fuse<MemDisk>),
+    Down(Fuse<MemDisks>),
 }
 
 /// A node of a cluster, and the state that it has published last.
@@ -245,7 +245,7 @@ impl ClusterNode {
         alloc: Global,
         ids: &NodeSet,
         initial: &NodeSet,
-        fuse: Fuse<MemDisk>,
+        fuse: Fuse<MemDisks>,
         frames: &mut Vec<Frame>,
         text: &mut Text,
     ) -> Result<(), AllocError>
@@ -266,7 +266,7 @@ impl ClusterNode {
     }
 
     // What the fuse tells of an opening that met a fault of the disk. A fault that no order has made is want of memory.
-    fn stay_down(&mut self, fuse: Fuse<MemDisk>, text: &mut Text) -> Result<(), AllocError>
+    fn stay_down(&mut self, fuse: Fuse<MemDisks>, text: &mut Text) -> Result<(), AllocError>
         ensures me { self.new.me ≡ self.old.me }
         ensures published { self.new.published ≡ self.old.published }
         ensures down { OnOk result (StaysDownAt fuse.struck self.old.me fuse self.new.slot text.old text.new) }
@@ -307,7 +307,7 @@ fn settings_of(
 }
 
 // A node over a journal that was just opened.
-fn node_over(alloc: Global, settings: Settings, journal: StateJournal<Fuse<MemDisk>>) -> OpenNode
+fn node_over(alloc: Global, settings: Settings, journal: StateJournal<Fuse<MemDisks>>) -> OpenNode
     requires { journal.log.stopped ≡ false }
     ensures { OverJournal settings journal result }
 {

@@ -7,10 +7,10 @@ use coordinator::{Coordinator, Entries, Sealed, StepError};
 use policy_model::Event;
 use state_journal::StateJournal;
 use std::alloc::{AllocError, Global};
-use zen_disk::{Fuse, MemDisk, Struck};
+use zen_disk::{Fuse, MemDisks, Struck};
 
 /// A node whose journal is open on a memory disk under a fuse.
-pub type OpenNode = Coordinator<StateJournal<Fuse<MemDisk>>>;
+pub type OpenNode = Coordinator<StateJournal<Fuse<MemDisks>>>;
 
 /// How an event came to its end.
 #[derive(Drop)]

@@ -28,10 +28,10 @@ steps-preserved c =
       c.line-in-steps.ensures.ids ∙ c.steps.invariant.0,
       c.line-in-steps.ensures.initial ∙ c.steps.invariant.1,
       c.line.ensures.rest c.args.number c.steps.counter c.steps.invariant.2,
-      same_header _ _ _ _ _ _ _ _ c.line-in-steps.ensures.ids c.line-in-steps.ensures.initial
-          (subst (λ (done : List Line). Tallied c.steps.replayer.ids c.steps.replayer.initial c.line-in-steps.new.self.nodes.items c.line-in-steps.new.self.sent.items c.add.new.self done)
+      same_header Tallies _ _ _ _ _ _ _ _ c.line-in-steps.ensures.ids c.line-in-steps.ensures.initial
+          (subst (λ (done : List Line). Tallied Tallies c.steps.replayer.ids c.steps.replayer.initial c.line-in-steps.new.self.nodes.items c.line-in-steps.new.self.sent.items c.add.new.self done)
           (sym (more_lines c.args.number c.steps.counter (length c.as_slice.result.now) c.in_ok-drawn.drawn (c.in_ok-drawn.ensures.line c.args.number c.steps.counter c.steps.invariant.2) held))
-          (one_more c.steps.replayer.ids c.steps.replayer.initial _ _ _ _ _ _ _ c.line-in-steps.new.text c.as_bytes-piece.result.now _ c.in_ok-drawn.drawn c.as_bytes-piece.ensures c.clear.ensures c.steps.invariant.3 c.in_ok-line.ensures.done c.in_ok-add.ensures)),
+          (one_more Tallies c.steps.replayer.ids c.steps.replayer.initial _ _ _ _ _ _ _ c.line-in-steps.new.text c.as_bytes-piece.result.now _ c.in_ok-drawn.drawn c.as_bytes-piece.ensures c.clear.ensures c.steps.invariant.3 c.in_ok-line.ensures.done c.in_ok-add.ensures)),
     )
 
 pub returns : goal.returns

@@ -21,20 +21,20 @@ loop-line-preserved g c = (
   omega (arith, c.loop-line.invariant.2, c.hold.ensures.later),
   same_ids _ _ _ _ _ _ _ _ _ _ _ _ c.line.ensures.ids c.line.ensures.initial
       (goes_on c.loop-line.replayer.ids c.loop-line.replayer.initial _ _ _ _ _ (g.S.Sink.written c.loop-line.out) _ c.loop-line.held c.hold.new.held c.clear.new.self c.line.new.text c.as_slice-lines.result.now c.loop-line.line-index c.line-item.result _ _ c.loop-line-test.true c.line-item.is c.clear.ensures c.loop-line.invariant.3 c.in-Ok-line.ensures.done c.in_ok-hold.ensures.holds),
-  same_header _ _ _ _ _ _ _ _ c.line.ensures.ids c.line.ensures.initial
-      (subst (λ (done : List Line). Tallied c.loop-line.replayer.ids c.loop-line.replayer.initial c.line.new.self.nodes.items c.line.new.self.sent.items c.add.new.self done)
+  λ first. same_header g.T.Observer.saw _ _ _ _ _ _ _ _ c.line.ensures.ids c.line.ensures.initial
+      (subst (λ (done : List Line). Tallied g.T.Observer.saw c.loop-line.replayer.ids c.loop-line.replayer.initial c.line.new.self.nodes.items c.line.new.self.sent.items c.observe.new.self done)
       (sym (taken_more c.as_slice-lines.result.now c.loop-line.line-index c.line-item.result c.loop-line-test.true c.line-item.is))
-      (one_more c.loop-line.replayer.ids c.loop-line.replayer.initial _ _ _ _ _ _ _ c.line.new.text c.as_bytes-piece.result.now _ c.line-item.result c.as_bytes-piece.ensures c.clear.ensures c.loop-line.invariant.4 c.in-Ok-line.ensures.done c.in-Ok-add.ensures)),
+      (one_more g.T.Observer.saw c.loop-line.replayer.ids c.loop-line.replayer.initial _ _ _ _ _ _ _ c.line.new.text c.as_bytes-piece.result.now _ c.line-item.result c.as_bytes-piece.ensures c.clear.ensures (c.loop-line.invariant.4 first) c.in-Ok-line.ensures.done c.in-Ok-observe.ensures)),
 )
 
-pub returns-in_default-add-clause-written : goal.returns-in_default-add-clause-written
-returns-in_default-add-clause-written g c =
-    stops c.loop-line.replayer.ids c.loop-line.replayer.initial _ _ _ (g.S.Sink.written c.loop-line.out) _ c.loop-line.held c.loop-line.held _ _ _ (λ i. c.loop-line.held) c.loop-line.invariant.3 c.out_of_memory-in_default-add.ensures.written
+pub returns-in_default-observe-clause-written : goal.returns-in_default-observe-clause-written
+returns-in_default-observe-clause-written g c =
+    stops c.loop-line.replayer.ids c.loop-line.replayer.initial _ _ _ (g.S.Sink.written c.loop-line.out) _ c.loop-line.held c.loop-line.held _ _ _ (λ i. c.loop-line.held) c.loop-line.invariant.3 c.out_of_memory-in_default-observe.ensures.written
 
-pub returns-clause-summary : goal.returns-clause-summary
-returns-clause-summary g c =
-    c.finish.ensures _ (whole_tallied c.loop-line.replayer.ids c.loop-line.replayer.initial c.args.schedule.now.initial _ _ _ c.as_slice-lines.result.now c.args.schedule.now.lines c.loop-line.line-index
-    c.loop-line.invariant.1 c.as_slice-lines.ensures (omega (arith, c.loop-line-test.false)) c.loop-line.invariant.4)
+pub returns-clause-observed : goal.returns-clause-observed
+returns-clause-observed g c = λ first.
+    whole_tallied g.T.Observer.saw c.loop-line.replayer.ids c.loop-line.replayer.initial c.args.schedule.now.initial _ _ _ c.as_slice-lines.result.now c.args.schedule.now.lines c.loop-line.line-index
+    c.loop-line.invariant.1 c.as_slice-lines.ensures (omega (arith, c.loop-line-test.false)) (c.loop-line.invariant.4 first)
 
 pub returns-in_default-write_all-clause-written : goal.returns-in_default-write_all-clause-written
 returns-in_default-write_all-clause-written g c =

@@ -11,6 +11,6 @@ returns-in-Open c =
     let node = c.in-Open.node in
     let done = c.stopped.ensures in
     let same : c.into_disk.result ≡ node.core.keeper.log.disk = c.into_disk.ensures ∙ ap (λ (j : Journal). j.log.disk) c.into_keeper.ensures in
-    let by : StoppedAs c.into_disk.result c.stopped.result c.args.way = record { armed = done.armed; up = done.up; file = done.file; left = done.left } in
+    let by : StoppedAs c.into_disk.result c.stopped.result c.args.way = record { armed = done.armed; up = done.up; files = done.files; left = done.left } in
     on_ok_weaker c.write_crashed.result (λ text frames s own stands. crash_done s own c.args.way c.args.self.now node c.stopped.result frames c.args.text.now c.write_crashed.new.text (sym c.in-Open.ensures)
     (subst (λ (f : MemFuse). StoppedAs f c.stopped.result c.args.way) same by) text stands) c.write_crashed.ensures

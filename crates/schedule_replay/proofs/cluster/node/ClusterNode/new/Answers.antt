@@ -19,4 +19,4 @@ returns-in-Whole c =
     let is : JustOpened c.empty_disk.result c.in-Ok.journal = record { found = c.in-Ok.ensures.found tt; runs = c.in-Ok.ensures.runs; ran = c.in-Ok.ensures.ran tt } in
     let ends = subst (λ (e : Ended). Ends c.node_over-node.result c.step.new.node Start e) c.in-Whole.is c.in_ok-ended.ensures in
     first_stands s c.args.me refl c.step.new.node c.in-Whole.field-0
-    (ends s NotBegun fresh_node (first_open s c.empty_disk.result (record { file = disk.file; armed = disk.armed; up = disk.up; seen = disk.seen }) c.in-Ok.journal is c.node_over-node.result over))
+    (ends s NotBegun fresh_node (first_open s c.empty_disk.result (record { files = disk.files; armed = disk.armed; up = disk.up; seen = disk.seen }) c.in-Ok.journal is c.node_over-node.result over))

@@ -3,7 +3,7 @@ use Rattle.std.specs.Prelude.{OnOk}
 use Rattle.std.proofs.lemmas.Result.{on_ok_weaker}
 use Rattle.cluster_state.specs.declared.state.Kept.{Kept}
 use Rattle.zen_disk.specs.Fuse.{FuseSteps}
-use Rattle.zen_disk.specs.MemDisk.{MemSteps}
+use Rattle.zen_disk.specs.MemDisks.{MemSteps, read_of}
 use Rattle.zen_disk.specs.Moments.{LeavesOnly}
 use Rattle.state_journal.specs.Journal.{FoundAsSome}
 use Rattle.state_journal.specs.Opening.{handed_back, IsWhyOf, RanUntil}
@@ -21,7 +21,7 @@ use Rattle.schedule_replay.proofs.cluster.node.ClusterNode.open.Goals as goal
 
 pub unreachable-requires : goal.unreachable-requires
 unreachable-requires c =
-    let why = subst (λ (e : OpenError MemFuse). IsWhyOf c.args.fuse.disk.bytes.items e) c.in-Err-NotAJournal.field-0-is (c.in-Err-NotAJournal.ensures.why tt) in
+    let why = subst (λ (e : OpenError MemFuse). IsWhyOf (read_of c.args.fuse.disk) e) c.in-Err-NotAJournal.field-0-is (c.in-Err-NotAJournal.ensures.why tt) in
     no_fault c.args.self.now.me c.args.fuse c.requires.0.node c.requires.1.closed c.in-Err-NotAJournal.field-0-0 why
 
 pub event-requires-clause-stands : goal.event-requires-clause-stands
@@ -50,7 +50,7 @@ returns c =
     let fuse = c.args.fuse in
     let failed = c.in-Err-Disk.ensures in
     let run = subst (λ (e : OpenError MemFuse). LeavesOnly moment_of left_of fuse (handed_back e) (FoundAsSome (MayLeave fuse))) c.in-Err-Disk.field-0-is (failed.any_moment_err tt) in
-    let ran = subst (λ (e : OpenError MemFuse). RanUntil (FuseSteps MemSteps) fuse.disk.bytes.items fuse e) c.in-Err-Disk.field-0-is (failed.ran_err tt) in
+    let ran = subst (λ (e : OpenError MemFuse). RanUntil (FuseSteps MemSteps) (read_of fuse.disk) fuse e) c.in-Err-Disk.field-0-is (failed.ran_err tt) in
     let stays_down : OnOk c.stay_down.result (StaysDownAt c.in-Err-Disk.fuse.struck old.me c.in-Err-Disk.fuse c.stay_down.new.self.slot c.args.text.now c.stay_down.new.text) = subst (λ (f : MemFuse). OnOk c.stay_down.result (StaysDownAt f.struck old.me f c.stay_down.new.self.slot c.args.text.now c.stay_down.new.text)) c.in-Err-Disk.fuse-is c.stay_down.ensures.down in
     on_ok_weaker c.stay_down.result (λ (down : StaysDownAt c.in-Err-Disk.fuse.struck old.me c.in-Err-Disk.fuse c.stay_down.new.self.slot c.args.text.now c.stay_down.new.text) own closed. closed_again s old fuse own closed c.stay_down.new.self down.again c.args.frames.now.items c.args.text.now c.stay_down.new.text c.stay_down.ensures.me c.stay_down.ensures.published down.slot
     (stays old.me fuse own.node closed.closed c.in-Err-Disk.fuse run ran c.args.text.now c.stay_down.new.text (CoreDown down.again) down.stays)) stays_down
