@@ -1,7 +1,7 @@
 use crate::{Trial, TrialEnd, has_won, run_trial};
 use std::alloc::{AllocError, Global};
 use std::test::Fail;
-use zen_disk::MemDisk;
+use zen_disk::MemDisks;
 use zen_host::{Asked, Ended, MemHost};
 use zen_link::MemSink;
 
@@ -22,7 +22,7 @@ const NOT_WON: [&str; 3] = ["a won\n", "wont b\nwo\n", "> won"];
 struct Tried {
     end: TrialEnd,
     sink: MemSink,
-    host: MemHost<MemDisk>,
+    host: MemHost<MemDisks>,
 }
 
 // A trial whose nodes end so, where the calls of the host with these numbers fail.
@@ -40,7 +40,7 @@ fn trial_of(
             output,
         })?;
     }
-    let disk = MemDisk::new(alloc, Vec::new(alloc), Vec::new(alloc));
+    let disk = MemDisks::new(alloc, Vec::new(alloc), Vec::new(alloc), Vec::new(alloc));
     let mut host = MemHost::with_children(alloc, disk, ends, Vec::from_slice(alloc, fails)?);
     let mut sink = MemSink::new(alloc, 100, Vec::new(alloc));
     let end = run_trial(alloc, &TRIAL, &mut sink, &mut host);
@@ -131,7 +131,7 @@ fn a_node_is_told_its_id_its_folder_and_its_peers(rt: HostRuntime) -> Result<(),
 }
 
 // The numbers of the children that were killed, in order.
-fn killed(alloc: Global, host: &MemHost<MemDisk>) -> Result<Vec<usize>, AllocError> {
+fn killed(alloc: Global, host: &MemHost<MemDisks>) -> Result<Vec<usize>, AllocError> {
     let mut children = Vec::new(alloc);
     for call in host.asked() {
         if let Asked::Kill { child, .. } = call {

@@ -1,9 +1,10 @@
 -- What a node did that served a link, as a life on the disk that was given back.
 use Rattle.std.proofs.Common.{◌≡◌, ℕ, ◌≤◌, Option, Some, List, [], ◌∷◌, ◌++◌, refl}
-use Rattle.zen_disk.specs.declared.disk.Disk.{Ghosts as Disks}
+use Rattle.zen_disk.specs.Sides.{Files}
+use Rattle.zen_disk.specs.declared.disks.Disks.{Ghosts as Disks}
 use Rattle.zen_link.specs.declared.link.Traffic.{Traffic}
 use Rattle.cluster_state.specs.declared.state.Kept.{Kept}
-use Rattle.state_journal.specs.Journal.{record_of_file}
+use Rattle.state_journal.specs.Journal.{record_of_files}
 use Rattle.policy_model.specs.declared.settings.Settings.{Settings}
 use Rattle.policy_model.specs.Entries.{Life, NotBegun, Opened, Lived, Entry}
 use Rattle.policy_model.specs.Follows.{Follows}
@@ -58,12 +59,12 @@ module _ {X : Type 0} (output : X → Output) (text : Life → Entry → List �
   serves_with end o0 o1 w0 w1 turns opening (Unopened unsaid front same still) = Unopened unsaid front same (also [] tt still)
   serves_with end o0 o1 w0 w1 turns opening (Served mid written on) = Served mid written (on_with end mid o1 w0 w1 turns on)
 
-module _ {D : Type 0} (d : Disks D) (counts_now : (disk : D) (t : ℕ) (file : List ℕ) → t ≤ d.moment disk → d.may_leave disk file → d.left_since disk t file) where
-  -- each file that a crash may leave stands for the last record
-  file_last : (back : D) (s : Settings) (life : Life) → LeavesLastOn d back s life → d.told → (file : List ℕ) → d.may_leave back file → IsLastRecord life (record_of_file file)
-  file_last back s life leaves told file left =
+module _ {D : Type 0} (d : Disks D) (counts_now : (disk : D) (t : ℕ) (files : Files) → t ≤ d.moment disk → d.may_leave disk files → d.left_since disk t files) where
+  -- whatever files a crash may leave, they stand for the last record
+  files_last : (back : D) (s : Settings) (life : Life) → LeavesLastOn d back s life → d.told → (files : Files) → d.may_leave back files → IsLastRecord life (record_of_files files)
+  files_last back s life leaves told files left =
       let last = leaves told in
-      last.only (record_of_file file) (file, counts_now back last.since file last.past left, refl)
+      last.only (record_of_files files) (files, counts_now back last.since files last.past left, refl)
 
   lives_on : (s : Settings) (kept : Kept) (opened back : D) → LawLifeIsLocal → (es : List Entry) → EntriesFollow s (Opened NotBegun kept) es → HoldsOn d opened back s (Opened NotBegun kept) (lived (Opened NotBegun kept) es)
       → LivesOn d s kept opened back (lived (Opened NotBegun kept) es)
@@ -73,7 +74,7 @@ module _ {D : Type 0} (d : Disks D) (counts_now : (disk : D) (t : ℕ) (file : L
         follows = follows;
         local = local s (lived (Opened NotBegun kept) es) follows;
         holds = holds;
-        leaves = file_last back s (lived (Opened NotBegun kept) es) holds.stands;
+        leaves = files_last back s (lived (Opened NotBegun kept) es) holds.stands;
       }
 
   -- what serving did, as a life on the disk

@@ -1,7 +1,7 @@
 -- How a run of the program ends, by its command.
 use Rattle.std.proofs.Common.{◌≡◌, ℕ, ◌≤◌, Option, None, Some, List, [], ◌∷◌, refl, sym, ◌∙◌, subst, arith, inl, inr}
 use Rattle.zen_disk.specs.Faults.{Rose}
-use Rattle.zen_disk.specs.declared.disk.Disk.{Ghosts as Disks}
+use Rattle.zen_disk.specs.declared.disks.Disks.{Ghosts as Disks}
 use Rattle.zen_link.specs.declared.link.Link.{Ghosts as Links}
 use Rattle.command_line.specs.declared.command.NodeWords.{NodeWords}
 use Rattle.coordinator.specs.declared.step.Sealed.{Sealed}

@@ -2,7 +2,8 @@
 use Rattle.std.specs.Prelude.{◌≡◌, ◌≤◌, ◌⊎◌, ℕ, true, false, Option, Some, Ok, List, [], map, codes}
 use Rattle.zen_disk.specs.Faults.{Rose}
 use Rattle.zen_disk.specs.Moments.{LeavesOnly}
-use Rattle.zen_disk.specs.declared.disk.Disk.{Ghosts as Disks}
+use Rattle.zen_disk.specs.Sides.{Files}
+use Rattle.zen_disk.specs.declared.disks.Disks.{Ghosts as Disks}
 use Rattle.zen_link.specs.declared.link.Link.{Ghosts as Links}
 use Rattle.zen_link.specs.Streams.{Appended, AppendedFront}
 use Rattle.zen_host.specs.HostCalls.{ToldPeer, OpensDisk, OpensLink, and_call}
@@ -10,7 +11,7 @@ use Rattle.cluster_state.specs.declared.state.Kept.{Kept}
 use Rattle.world_model.specs.Histories.{IsLocal}
 use Rattle.state_journal.specs.declared.error.OpenError.{OpenError}
 use Rattle.state_journal.specs.declared.error.OpenError.TheVariants as refused
-use Rattle.state_journal.specs.Journal.{found_of, record_of_file, FoundAsSome}
+use Rattle.state_journal.specs.Journal.{found_of, record_of_files, FoundAsSome}
 use Rattle.state_journal.specs.Opening.{handed_back, IsWhyOf}
 use Rattle.policy_model.specs.declared.settings.Settings.{Settings}
 use Rattle.policy_model.specs.Entries.{Life, NotBegun, Opened, log_of}
@@ -82,12 +83,12 @@ module _ {D : Type 0} (d : Disks D) where
 
   -- A node that was opened with this record lived on to this life, and its disk went from one to the other. It did what the policy says, and its
   -- acts keep the rules of the core by themselves. A crash at any moment leaves the record of what was done so far, without the act in hand or with
-  -- it; and at the end each file that a crash may leave stands for the record of all acts, a last one that was struck counted as not kept or as kept.
+  -- it; and at the end whatever files a crash may leave stand for the record of all acts, a last one that was struck counted as not kept or as kept.
   pub record LivesOn (s : Settings) (kept : Kept) (opened back : D) (life : Life) : Type 0 where
     pub follows : Follows s life
     pub local : IsLocal s.me (acts_of (log_of life))
     pub holds : HoldsOn d opened back s (Opened NotBegun kept) life
-    pub leaves : d.told → (file : List ℕ) → d.may_leave back file → IsLastRecord life (record_of_file file)
+    pub leaves : d.told → (files : Files) → d.may_leave back files → IsLastRecord life (record_of_files files)
 
 module _ {D L : Type 0} (d : Disks D) (l : Links L Sealed) (w : NodeWords) (host host_now : HostView D L) (sink sink_now : SinkView) (status : Status) where
   -- the host gave no disk, or no memory was found before it was asked

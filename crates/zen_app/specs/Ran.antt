@@ -1,7 +1,7 @@
 -- How a run of the program ends. This is the statement of `run`.
 use Rattle.std.specs.Prelude.{◌≡◌, ℕ, ◌≤◌, ◌⊎◌, Option, None, Some, List, [], codes}
 use Rattle.zen_disk.specs.Faults.{Rose}
-use Rattle.zen_disk.specs.declared.disk.Disk.{Ghosts as Disks}
+use Rattle.zen_disk.specs.declared.disks.Disks.{Ghosts as Disks}
 use Rattle.zen_link.specs.declared.link.Link.{Ghosts as Links}
 use Rattle.zen_link.specs.Streams.{Appended, AppendedFront}
 use Rattle.schedule_text.specs.declared.fault.BadSchedule.{BadSchedule}

@@ -5,7 +5,7 @@ ghost use Rattle.zen_app.specs.Runs.{ReplayEnded};
 
 use crate::Status;
 use crate::input::{InputError, read_input};
-use schedule_replay::{ReplayError, replay};
+use schedule_replay::{ReplayError, write_trace};
 use schedule_text::{BadSchedule, Level, ReadError, Text, read_schedule};
 use std::alloc::Global;
 use zen_link::{Sink, Source, write_all};
@@ -34,8 +34,8 @@ pub fn run_replay<I: Source, S: Sink>(
         Err(ReadError::Memory) => return Status::NoMemory,
         Err(ReadError::Bad(bad)) => return refuse(alloc, out, bad),
     };
-    match replay(alloc, &schedule, level, out) {
-        Ok(_) => Status::Ok,
+    match write_trace(alloc, &schedule, level, out) {
+        Ok(()) => Status::Ok,
         Err(ReplayError::Write) => Status::WriteFault,
         Err(ReplayError::Memory) => Status::NoMemory,
     }

@@ -49,7 +49,7 @@ pub fn run<L: Link<Out = Sealed> + Drop, H: Host<Link = L>>(
     out: &mut H::Out,
     host: &mut H,
 ) -> Status
-    ensures { Ran H.Disk.Disk L.Link
+    ensures { Ran H.Disk.Disks L.Link
         (map (λ w. string_bytes w) words.now)
         (record { left = H.In.left input.old; faults = H.In.faults input.old })
         (record { left = H.In.left input.new; faults = H.In.faults input.new })

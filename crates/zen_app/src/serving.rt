@@ -137,7 +137,7 @@ pub fn run_node<L: Link<Out = Sealed> + Drop, H: Host<Link = L>>(
     out: &mut H::Out,
     host: &mut H,
 ) -> Status
-    ensures run { NodeRun H.Disk.Disk L.Link words.now
+    ensures run { NodeRun H.Disk.Disks L.Link words.now
         (record { calls = H.calls host.old; disk_ready = H.disk_ready host.old; disk_back = H.disk_back host.old; link_ready = H.link_ready host.old; link_back = H.link_back host.old; running = H.running host.old; faults = H.faults host.old })
         (record { calls = H.calls host.new; disk_ready = H.disk_ready host.new; disk_back = H.disk_back host.new; link_ready = H.link_ready host.new; link_back = H.link_back host.new; running = H.running host.new; faults = H.faults host.new })
         (record { written = H.Out.written out.old; faults = H.Out.faults out.old })

@@ -9,16 +9,17 @@ use schedule_text::{Level, Text, read_schedule, write_schedule};
 use std::alloc::{AllocError, Global};
 use std::process::Abort;
 use std::test::Fail;
-use zen_disk::{Disk, MemDisk};
+use zen_disk::{Disks, MemDisks, Side};
 use zen_host::MemHost;
 use zen_link::{MemLink, MemSink, MemSource};
 
-// A run: its words, what the input and the file of the journal hold, and the numbers of the calls that fail.
+// A run: its words, what the input and the two files of the journal hold, and the numbers of the calls that fail.
 #[derive(Clone, Copy)]
 struct Case<'a> {
     words: &'a [&'a str],
     input: &'a [u8],
     file: &'a [u8],
+    other_file: &'a [u8],
     reads: &'a [u64],
     writes: &'a [u64],
     openings: &'a [u64],
@@ -29,6 +30,7 @@ const REPLAY: Case<'static> = Case {
     words: &["replay", "--level", "core"],
     input: b"",
     file: b"",
+    other_file: b"",
     reads: &[],
     writes: &[],
     openings: &[],
@@ -54,7 +56,7 @@ fn inspection<'a>(file: &'a [u8]) -> Case<'a> {
 struct Ended {
     status: Status,
     sink: MemSink,
-    host: MemHost<MemDisk, MemLink<Sealed>>,
+    host: MemHost<MemDisks, MemLink<Sealed>>,
 }
 
 fn ran(alloc: Global, case: Case<'_>) -> Result<Ended, AllocError> {
@@ -67,7 +69,13 @@ fn ran(alloc: Global, case: Case<'_>) -> Result<Ended, AllocError> {
     let mut source = MemSource::new(bytes, Vec::from_slice(alloc, case.reads)?);
     let mut sink = MemSink::new(alloc, 100, Vec::from_slice(alloc, case.writes)?);
     let file = Vec::from_slice(alloc, case.file)?;
-    let disk = MemDisk::new(alloc, file, Vec::from_slice(alloc, case.device_calls)?);
+    let other_file = Vec::from_slice(alloc, case.other_file)?;
+    let disk = MemDisks::new(
+        alloc,
+        file,
+        other_file,
+        Vec::from_slice(alloc, case.device_calls)?,
+    );
     let link = MemLink::new(alloc, Vec::new(alloc), Vec::new(alloc));
     let mut host = MemHost::with_link(alloc, disk, link, Vec::from_slice(alloc, case.openings)?);
     let status = run(alloc, words.as_slice(), &mut source, &mut sink, &mut host);
@@ -402,9 +410,9 @@ fn a_fault_of_the_input_or_output_ends_the_run(rt: HostRuntime) -> Result<(), Fa
 // Seeds whose schedules elect, commit, crash and fail most, and what a second replay, in another language, makes of those schedules: a trace of so
 // many bytes, with this 64-bit FNV-1a.
 const DRAWN: [(u64, usize, u64); 5] = [
-    (1_045, 12_204, 0x9234_d412_ec48_2b8b),
-    (1_254, 13_404, 0x296d_e697_d883_2964),
-    (1_703, 14_195, 0xd7be_fe7b_47ed_5c88),
+    (1_045, 12_220, 0xb4db_ca24_6e72_f8d8),
+    (1_254, 13_392, 0x6bc3_95f0_af2f_4bbc),
+    (1_703, 13_970, 0xd109_f693_5daa_a325),
     (2_067, 12_104, 0x42f4_6343_3104_d12c),
     (2_349, 15_673, 0x7cfe_90bb_9cbc_f9d4),
 ];
@@ -477,15 +485,66 @@ fn the_journal_in_a_folder_is_shown(rt: HostRuntime) -> Result<(), Fail> {
     Ok(())
 }
 
+// The first generation of the other file, whose record has term 4682.
+const RENEWED: &[u8] = b"ZENJRNL1\x01\0\0\0\x29\x04\0\0\0\0\0\0\0\x01\0\0\0\0\0\0\x12\x4a\
+    \0\0\0\0\0\0\0\0\0\0\0\0\0\0\0\0\0\0\0\0\0\0\0\0\0";
+
+#[test]
+fn the_newer_generation_is_shown(rt: HostRuntime) -> Result<(), Fail> {
+    for (file, other_file) in [(TERM_ONE, RENEWED), (RENEWED, b"".as_slice())] {
+        let case = Case {
+            other_file,
+            ..inspection(file)
+        };
+        let lines =
+            "term=4682\naccepted=0/0\nconfig=_\ncommitted=_\nrecords=1\nsha256=015275e61fa0d075";
+        let ended = ran(rt.alloc(), case)?;
+        assert!(rt; ended.status == Status::Ok);
+        assert!(rt; ended.sink.as_bytes().starts_with(lines.as_bytes()));
+    }
+    Ok(())
+}
+
 #[test]
 fn an_empty_folder_gets_an_empty_journal(rt: HostRuntime) -> Result<(), Fail> {
     let ended = ran(rt.alloc(), inspection(b""))?;
     let Some(mut disk) = ended.host.into_disk_back() else {
         panic!(rt; "the disk was not given back");
     };
-    let mut bytes = [1; 9];
-    assert!(rt; disk.len() == Ok(9) && disk.read(0, &mut bytes).is_ok());
-    assert!(rt; bytes == *b"ZENJRNL1\0");
+    for side in [Side::Zero, Side::One] {
+        let mut bytes = [1; 9];
+        assert!(rt; disk.len(side) == Ok(9) && disk.read(side, 0, &mut bytes).is_ok());
+        assert!(rt; bytes == *b"ZENJRNL1\0");
+    }
+    Ok(())
+}
+
+const CUT: &[u8] = b"ZENJRNL1\x01\0\0\0\xff\0";
+
+// Two files and their first fault.
+const OTHER_PAIRS: [(&[u8], &[u8], &str); 6] = [
+    (b"", CUT, "1:Cut(8)"),
+    (b"", TERM_ONE, "1:Order(8)"),
+    (RENEWED, RENEWED, "Twin"),
+    (CUT, b"ABCDEFGHIJ", "Cut(8)"),
+    (RENEWED, b"ABCDEFGHIJ", "1:Header"),
+    (b"ZENJRNL1\x01\0\0\0\x01\x05\0", CUT, "1:Cut(8)"),
+];
+
+#[test]
+fn two_files_that_are_no_journal_are_refused_for_their_first_fault(
+    rt: HostRuntime,
+) -> Result<(), Fail> {
+    for (file, other_file, why) in OTHER_PAIRS {
+        let line = format!(in rt.alloc(); "zen: not a journal: {why}\n")?;
+        let case = Case {
+            other_file,
+            ..inspection(file)
+        };
+        let ended = ran(rt.alloc(), case)?;
+        assert!(rt; ended.status == Status::NotAJournal, "{why}");
+        assert!(rt; ended.sink.as_bytes() == line.as_bytes(), "{why}");
+    }
     Ok(())
 }
 
@@ -511,12 +570,12 @@ fn a_file_that_is_no_journal_is_refused_with_its_reason(rt: HostRuntime) -> Resu
     Ok(())
 }
 
-// Opening an empty file makes four device calls, and opening a journal three.
+// Opening makes four device calls for each side that is empty, and three for one with a journal.
 #[test]
 fn a_fault_of_the_disk_the_host_or_the_output_ends_an_inspection(
     rt: HostRuntime,
 ) -> Result<(), Fail> {
-    for (file, calls) in [(b"".as_slice(), 4), (TERM_ONE, 3)] {
+    for (file, calls) in [(b"".as_slice(), 8), (TERM_ONE, 7)] {
         for call in 1..=calls {
             let case = Case {
                 device_calls: &[call],

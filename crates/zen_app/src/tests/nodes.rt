@@ -7,7 +7,7 @@ use coordinator::Sealed;
 use std::alloc::{AllocError, Global};
 use std::process::Abort;
 use std::test::Fail;
-use zen_disk::{Disk, MemDisk};
+use zen_disk::{Disks, MemDisks};
 use zen_host::MemHost;
 use zen_link::{Input, MemLink, MemSink, MemSource};
 
@@ -69,7 +69,7 @@ fn words(alloc: Global, turns: &str) -> Result<Vec<String>, AllocError> {
 struct NodeEnded {
     status: Status,
     sink: MemSink,
-    host: MemHost<MemDisk, MemLink<Sealed>>,
+    host: MemHost<MemDisks, MemLink<Sealed>>,
 }
 
 fn node_ran(alloc: Global, case: NodeCase<'_>) -> Result<NodeEnded, AllocError> {
@@ -77,7 +77,12 @@ fn node_ran(alloc: Global, case: NodeCase<'_>) -> Result<NodeEnded, AllocError> 
     let mut source = MemSource::new(Vec::new(alloc), Vec::from_slice(alloc, &[1])?);
     let mut sink = MemSink::new(alloc, 100, Vec::from_slice(alloc, case.writes)?);
     let file = Vec::from_slice(alloc, case.file)?;
-    let disk = MemDisk::new(alloc, file, Vec::from_slice(alloc, case.device_calls)?);
+    let disk = MemDisks::new(
+        alloc,
+        file,
+        Vec::new(alloc),
+        Vec::from_slice(alloc, case.device_calls)?,
+    );
     let link = MemLink::new(
         alloc,
         three_ticks(alloc)?,
@@ -136,11 +141,11 @@ fn a_node_whose_link_fails_ends_with_that(rt: HostRuntime) -> Result<(), Fail> {
     )
 }
 
-// The opening of an empty file makes four device calls: the fifth is the first one of the first act.
+// The opening of two empty files makes eight device calls: the ninth is the first one of the first act.
 #[test]
 fn a_node_whose_disk_fails_ends_with_the_act_that_met_it(rt: HostRuntime) -> Result<(), Fail> {
     let case = NodeCase {
-        device_calls: &[5],
+        device_calls: &[9],
         ..NODE
     };
     let text = "record a 0 0/0 _ _\n> start\n> tick 1 0\nact a disk boot a\n";

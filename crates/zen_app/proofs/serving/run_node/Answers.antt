@@ -17,7 +17,7 @@ returns-in-Err-open-clause-run g c =
     let sink : SinkView = record { written = g.H.Out.Sink.written c.args.out.now; faults = g.H.Out.Sink.faults c.args.out.now } in
     let sink_now : SinkView = record { written = g.H.Out.Sink.written c.refuse_journal.new.out; faults = g.H.Out.Sink.faults c.refuse_journal.new.out } in
     let gave = c.in-Ok-open_disk.ensures in
-    unopened g.H.Disk.Disk g.L.Link c.args.words.now (view c.args.host.now) (view c.refuse_journal.new.host) sink sink_now c.in-Ok-open_disk.disk c.in-Err-open.error c.refuse_journal.result
+    unopened g.H.Disk.Disks g.L.Link c.args.words.now (view c.args.host.now) (view c.refuse_journal.new.host) sink sink_now c.in-Ok-open_disk.disk c.in-Err-open.error c.refuse_journal.result
     (record { same = λ x is. gave.given x is; fresh = gave.fresh }) c.in-Err-open.ensures.why c.in-Err-open.ensures.any_moment_err c.refuse_journal.ensures.refused
     (c.refuse_journal.ensures.calls ∙ gave.call ∙ ap (λ dir. and_call (g.H.Host.calls c.args.host.now) (OpensDisk dir false)) c.as_str.ensures)
     c.refuse_journal.ensures.back (record { ready = c.refuse_journal.ensures.link_ready ∙ gave.link_ready; back = c.refuse_journal.ensures.link_back ∙ gave.link_back }) c.in-Err-open.ensures.cause
@@ -28,8 +28,8 @@ returns-in-Err-open_link-clause-run g c =
     let sink : SinkView = record { written = g.H.Out.Sink.written c.args.out.now; faults = g.H.Out.Sink.faults c.args.out.now } in
     let gave = c.in-Ok-open_disk.ensures in
     let asked = gave.call ∙ ap (λ dir. and_call (g.H.Host.calls c.args.host.now) (OpensDisk dir false)) c.as_str.ensures in
-    subst (λ status. NodeRun g.H.Disk.Disk g.L.Link c.args.words.now (view c.args.host.now) (view c.close_disk.new.self) sink sink status) (sym c.refusal-in-Err-open_link.ensures)
-    (unlinked g.H.Disk.Disk g.L.Link c.args.words.now (view c.args.host.now) (view c.close_disk.new.self) sink sink c.in-Ok-open_disk.disk c.in-Ok-open.node.steps.node.core.keeper.log.disk c.in-Ok-open.node.steps.node.core.keeper.kept c.in-Err-open_link.error
+    subst (λ status. NodeRun g.H.Disk.Disks g.L.Link c.args.words.now (view c.args.host.now) (view c.close_disk.new.self) sink sink status) (sym c.refusal-in-Err-open_link.ensures)
+    (unlinked g.H.Disk.Disks g.L.Link c.args.words.now (view c.args.host.now) (view c.close_disk.new.self) sink sink c.in-Ok-open_disk.disk c.in-Ok-open.node.steps.node.core.keeper.log.disk c.in-Ok-open.node.steps.node.core.keeper.kept c.in-Err-open_link.error
     (record { same = λ x is. gave.given x is; fresh = gave.fresh }) (record { found = c.in-Ok-open.ensures.found; any_moment = c.in-Ok-open.ensures.any_moment })
     (link_noted g.row.L.Denot _ _ _ _ _ _ c.in-Err-open_link.error asked c.close_disk.ensures.calls c.settings-2.ensures c.in-Err-open_link.ensures.call)
     (λ is. rose_within _ _ _ _ gave.later (c.in-Err-open_link.ensures.failed (ap (λ e. Err e) is)) c.close_disk.ensures.faults)
@@ -49,7 +49,7 @@ returns-clause-run g c =
     let stands = rw c.in-Ok.ensures at (c.in-Ok-open.ensures.stands NotBegun tt) in
     let asked = gave.call ∙ ap (λ dir. and_call (g.H.Host.calls c.args.host.now) (OpensDisk dir false)) c.as_str.ensures in
     let causes = causes_since (Some c.run-disk.result.1) _ _ _ _ _ _ _ c.in-Ok-open.ensures.later c.run-disk.ensures.causes in
-    served g.H.Disk.Disk g.L.Link c.args.words.now (view c.args.host.now) (view c.close_disk-2.new.self) sink sink_now c.write_end.result (record {
+    served g.H.Disk.Disks g.L.Link c.args.words.now (view c.args.host.now) (view c.close_disk-2.new.self) sink sink_now c.write_end.result (record {
       given = c.in-Ok-open_disk.disk;
       is_given = record { same = λ x is. gave.given x is; fresh = gave.fresh };
       opened = opened;
@@ -66,7 +66,7 @@ returns-clause-run g c =
       end = c.run-disk.result.1;
       served = g.H.Out.Sink.written c.run-disk.new.out;
       wrote = g.H.Out.Sink.faults c.run-disk.new.out;
-      serves = serves_on g.H.Disk.Disk g.met.H.Disk.Disk.counts_now sent_of (entry_text s) s kept opened c.run-disk.result.0 c.run-disk.result.1 _ _ _ _ c.args.words.now.turns (opening_text s life) life_local
+      serves = serves_on g.H.Disk.Disks g.met.H.Disk.Disks.counts_now sent_of (entry_text s) s kept opened c.run-disk.result.0 c.run-disk.result.1 _ _ _ _ c.args.words.now.turns (opening_text s life) life_local
           (c.run-disk.ensures.serves s life stands (record { unstarted = refl; unstruck = refl }) c.in-Ok-open.ensures.reads);
       causes = causes;
       ends = c.write_end.ensures.ends;
