@@ -15,6 +15,7 @@ import nodes as running
 # the ratios counts.
 ROUNDS = 15
 PUTS = 100
+JOINS = 200
 # The most requests that a leader keeps unanswered.
 FLIGHT = 64
 HEADER = b'ZENJRNL1'
@@ -36,16 +37,33 @@ def puts(client, first, count, flight):
     return sorted(times), time.perf_counter() - start
 
 
-def appends(path, after):
-    """The bodies of a journal behind so many bytes, and its end."""
+def bodies_of(path):
+    """The bodies of one of a journal's files."""
     with open(path, 'rb') as file:
         data = file.read()
-    place, bodies = max(after, len(HEADER)), []
+    place, bodies = len(HEADER), []
     while data[place] == 1:
         length = struct.unpack('>I', data[place + 1:place + 5])[0]
         bodies.append(data[place + 5:place + 5 + length])
         place += 5 + length
-    return bodies, place
+    return bodies
+
+
+def generations(folder):
+    """The bodies of both generations, by their epochs."""
+    found = {0: bodies_of(os.path.join(folder, 'journal.0'))}
+    for bodies in (found[0], bodies_of(os.path.join(folder, 'journal.1'))):
+        if bodies and bodies[0][0] == 4:
+            found[struct.unpack('>Q', bodies[0][1:9])[0]] = bodies
+    return found
+
+
+def appends(folder, after):
+    """The bodies written since a journal stood there, where no more than one generation began since, and where it stands: its epoch and the
+    count of its bodies."""
+    found, (epoch, count) = generations(folder), after
+    bodies = found.get(epoch, [])[count:] + [body for begun in sorted(found) if begun > epoch for body in found[begun]]
+    return bodies, (max(found), len(found[max(found)]))
 
 
 def append_all(file, place, bodies):
@@ -60,27 +78,73 @@ def append_all(file, place, bodies):
     return time.perf_counter() - start, place
 
 
-def measure_acts(program, top):
-    nodes = running.started(program, ['a'], top)
+def report_acts(name, rounds):
+    count, of_node, alone = (sum(column) for column in zip(*rounds))
+    print('%s, of one node over a file: %d in %.2f s, %.0f acts/s' % (name, count, of_node, count / of_node))
+    print('    the same device calls alone: %.2f s, %.0f acts/s; ratio of the times: %.2f' % (
+        alone, count / alone, sorted(one / other for _, one, other in rounds)[len(rounds) // 2]))
+
+
+def measure_rounds(node, top, give):
+    """Has the node do rounds of acts, each followed by the device calls of its appends alone. Gives for each round how many acts there were, and
+    both times."""
     bare = os.open(os.path.join(top, 'bare'), os.O_RDWR | os.O_CREAT)
     os.pwrite(bare, HEADER + b'\0', 0)
     try:
-        running.leader_of(nodes, time.monotonic() + 60)
-        journal = os.path.join(nodes['a'].folder, 'journal.0')
-        rounds, end, place = [], appends(journal, 0)[1], len(HEADER)
-        with running.Client(nodes['a'].port) as client:
-            for number in range(ROUNDS):
-                # One waits while the other is published, so that the node never waits for its client.
-                of_node = puts(client, number * PUTS, PUTS, 2)[1]
-                bodies, end = appends(journal, end)
-                alone, place = append_all(bare, place, bodies)
-                rounds.append((len(bodies), of_node, alone))
-        count, of_node, alone = (sum(column) for column in zip(*rounds))
-        print('acts that write, of one node over a file: %d in %.2f s, %.0f acts/s' % (count, of_node, count / of_node))
-        print('the same device calls alone: %.2f s, %.0f acts/s' % (alone, count / alone))
-        print('ratio of the times: %.2f' % sorted(one / other for _, one, other in rounds)[ROUNDS // 2])
+        journal = node.folder
+        rounds, end, place = [], appends(journal, (0, 0))[1], len(HEADER)
+        for number in range(ROUNDS):
+            of_node = give(number)
+            bodies, end = appends(journal, end)
+            alone, place = append_all(bare, place, bodies)
+            rounds.append((len(bodies), of_node, alone))
+        return rounds
     finally:
         os.close(bare)
+
+
+def measure_joins(program, top):
+    """Acts alone: a node without a configuration starts joins in ever higher terms. The frames wait for it in its socket, so it waits for nobody."""
+    nodes = running.started(program, ['a'], top, initial='_')
+    try:
+        with socket.create_connection((running.HOST, nodes['a'].port)) as peer:
+            peer.settimeout(60)
+
+            def give(number):
+                joins = b''.join(frame(1, b'\1c' + struct.pack('>Q', 1 + number * JOINS + one), b'a') for one in range(JOINS))
+                start = time.perf_counter()
+                # The answer to the last frame, which asks for peers, comes behind all acts.
+                peer.sendall(joins + frame(7, b'\0', b'a'))
+                while read(peer, struct.unpack('>I', read(peer, 4))[0])[0] != 8:
+                    pass
+                return time.perf_counter() - start
+
+            report_acts('acts alone, starts of joins', measure_rounds(nodes['a'], top, give))
+    finally:
+        running.end(nodes)
+
+
+def read(peer, count):
+    """So many bytes."""
+    got = b''
+    while len(got) < count:
+        more = peer.recv(count - len(got))
+        if not more:
+            raise running.Broken('the node ends the connection of a peer')
+        got += more
+    return got
+
+
+def measure_puts(program, top):
+    """Acts of puts: two of four events of a put, whose lines come from a client and whose replies go there."""
+    nodes = running.started(program, ['a'], top)
+    try:
+        running.leader_of(nodes, time.monotonic() + 60)
+        with running.Client(nodes['a'].port) as client:
+            # One waits while the other is published, so that the node seldom waits for its client.
+            rounds = measure_rounds(nodes['a'], top, lambda number: puts(client, number * PUTS, PUTS, 2)[1])
+        report_acts('acts of puts, two unanswered', rounds)
+    finally:
         running.end(nodes)
 
 
@@ -103,9 +167,9 @@ def text(bytes_of):
     return struct.pack('>H', len(bytes_of)) + bytes_of
 
 
-def frame(kind, fields):
-    """A frame from b to z: a node that is not z decodes it and tells of it, and does nothing."""
-    body = bytes([kind]) + b'\1b\1z' + fields
+def frame(kind, fields, to=b'z'):
+    """A frame from b: a node to which it doesn't go decodes it and tells of it, and does nothing."""
+    body = bytes([kind]) + b'\1b\1' + to + fields
     return struct.pack('>I', len(body)) + body
 
 
@@ -138,7 +202,7 @@ def wait_for_end(connection):
 def main(words):
     top = tempfile.mkdtemp(dir=words[1] if len(words) > 1 else None)
     try:
-        for measure in (measure_acts, measure_requests, measure_frames):
+        for measure in (measure_joins, measure_puts, measure_requests, measure_frames):
             here = os.path.join(top, measure.__name__)
             os.mkdir(here)
             measure(words[0], here)

@@ -1,19 +1,22 @@
-//! Rounds of large values over five nodes, each of which keeps its journal on a disk in memory. Each value is published,
-//! delivered to every node as bytes, acknowledged and committed.
+//! What the core costs: rounds of large values over five nodes, each of which keeps its journal on a disk in memory, where each
+//! value is published, delivered to every node as bytes, acknowledged and committed; or terms, over the journal of a folder.
 #![tactic(auto)]
+
+mod terms;
 
 use anyhow::{Context, Result, bail, ensure};
 use cluster_state::{
     ApplyCommit, ClusterState, Join, PublishRequest, PublishResponse, decode_state,
 };
 use coord_state::CoordState;
-use state_journal::{Ready, StateJournal};
+use state_journal::{Keeper, Ready, StateJournal};
 use std::alloc::{AllocError, Global};
-use std::env;
+use std::{env, fs};
+use terms::set_terms;
 use voting_config::{MAX_IDS, NodeId, NodeSet};
-use zen_disk::MemDisk;
+use zen_disk::MemDisks;
 
-type Node = CoordState<StateJournal<MemDisk>>;
+type Node = CoordState<StateJournal<MemDisks>>;
 
 const TERM: u64 = 1;
 
@@ -72,7 +75,7 @@ impl Cluster {
                 bail!("{name} is no id");
             };
             let _ = members.insert(id);
-            let disk = MemDisk::new(alloc, Vec::new(alloc), Vec::new(alloc));
+            let disk = MemDisks::new(alloc, Vec::new(alloc), Vec::new(alloc), Vec::new(alloc));
             let Ok(journal) = StateJournal::open(alloc, disk) else {
                 bail!("no journal");
             };
@@ -187,15 +190,34 @@ fn run(alloc: Global, settings: u16, rounds: u64) -> Result<Cluster> {
     Ok(cluster)
 }
 
-fn main(rt: HostRuntime) -> Result<()> {
-    let mut words = env::args(&rt)?.skip(1);
-    let settings = words.next().context("how many settings?")?.parse::<u16>()?;
-    let rounds = words.next().context("how many rounds?")?.parse::<u64>()?;
+// Runs the rounds that the words name, and says what is committed.
+fn run_rounds(rt: &HostRuntime, settings: u16, rounds: u64) -> Result<()> {
     let mut cluster = run(rt.alloc(), settings, rounds)?;
     let accepted = &cluster.candidate()?.kept().accepted;
     let (version, count) = (accepted.version, accepted.value.settings.len());
     println!(rt; "version {version} with {count} settings is committed")?;
     Ok(())
+}
+
+// Sets so many terms in a folder, and says what its journal keeps.
+fn run_terms(rt: &HostRuntime, dir: &str, count: u64) -> Result<()> {
+    let journal = set_terms(rt, dir, count)?;
+    let (term, records) = (journal.kept().term, journal.records());
+    println!(rt; "term {term} in {records} records")?;
+    Ok(())
+}
+
+fn main(rt: HostRuntime) -> Result<()> {
+    let mut words = env::args(&rt)?.skip(1);
+    let first = words.next().context("how many settings?")?;
+    if first.as_str() == "terms" {
+        let dir = words.next().context("which folder?")?;
+        let count = words.next().context("how many terms?")?.parse::<u64>()?;
+        return run_terms(&rt, dir.as_str(), count);
+    }
+    let settings = first.parse::<u16>()?;
+    let rounds = words.next().context("how many rounds?")?.parse::<u64>()?;
+    run_rounds(&rt, settings, rounds)
 }
 
 #[test]
@@ -211,4 +233,17 @@ fn each_node_commits_the_last_value(rt: HostRuntime) {
         let last = accepted.value.settings.texts().last_key_value();
         assert!(rt; last.is_some_and(|(key, text)| key.len() == 128 && text.len() == 1024));
     }
+}
+
+#[test]
+fn terms_are_kept_in_a_folder(rt: HostRuntime) -> Result<()> {
+    let _ = fs::remove_dir_all(&rt, "core_bench_terms");
+    ensure!(
+        set_terms(&rt, "core_bench_terms", 3)?.records() == 3,
+        "three records"
+    );
+    let journal = set_terms(&rt, "core_bench_terms", 2)?;
+    assert!(rt; journal.kept().term == 5 && journal.records() == 5);
+    fs::remove_dir_all(&rt, "core_bench_terms")?;
+    Ok(())
 }
