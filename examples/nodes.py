@@ -29,12 +29,12 @@ class Node:
         # Once it is over it is not started any more, not by another thread either.
         self.lock, self.is_over = threading.Lock(), False
 
-    def settle(self, ports):
-        """Says where it and the others listen."""
+    def settle(self, ports, initial=None):
+        """Says where it and the others listen, and who the first voters are: all of them, if nothing else is said."""
         self.port = ports[self.name]
         peers = ','.join('%s=%s:%d' % (name, HOST, port) for name, port in sorted(ports.items()) if name != self.name)
         self.words = ['node', '--id', self.name, '--dir', self.folder, '--listen', '%s:%d' % (HOST, self.port), '--peers', peers or '_',
-                      '--initial', ','.join(sorted(ports)), '--turns', str(TURNS)]
+                      '--initial', initial or ','.join(sorted(ports)), '--turns', str(TURNS)]
 
     def start(self):
         """Starts a run. It is up once it has begun to write. Gives whether it is: where its port was taken meanwhile it has ended."""
@@ -149,7 +149,7 @@ def free_ports(names):
     return ports
 
 
-def started(program, names, top):
+def started(program, names, top, initial=None):
     """New nodes, all of them up. Where one finds its port taken, all begin anew."""
     for attempt in range(10):
         here = os.path.join(top, str(attempt))
@@ -157,7 +157,7 @@ def started(program, names, top):
         nodes = {name: Node(program, name, here) for name in names}
         ports = free_ports(names)
         for node in nodes.values():
-            node.settle(ports)
+            node.settle(ports, initial)
         try:
             if all(node.start() for node in nodes.values()):
                 return nodes
