@@ -1,0 +1,56 @@
+-- Part of the statement of `zen_chart`: where lifelines stand.
+use Rattle.std.specs.Prelude.{ℕ, ◌+◌, ◌*◌, ◌==◌, ◌&&◌, not, Bool, Option, None, Some, List, [], ◌∷◌, length, if◌then◌else◌, min, max}
+use Rattle.std.specs.Str.{bytes_eq}
+use Rattle.voting_config.specs.Ids.{Id, has, with_id, most_ids}
+use Rattle.trace_reader.specs.declared.told.Told.{Told}
+use Rattle.trace_reader.specs.declared.told.Told.TheVariants as told
+use Rattle.trace_reader.specs.declared.told.TraceLine.{TraceLine}
+use Rattle.sequence_chart.specs.declared.columns.Column.{Column}
+use Rattle.sequence_chart.specs.Labels.{label_of}
+
+-- the node that a line tells of
+abbrev pub node_of : Told → Id
+node_of (told.Delivery n k) = n
+node_of (told.Event n) = n
+node_of (told.Act n e) = n
+node_of (told.Won n t) = n
+node_of (told.Committed n) = n
+node_of (told.Sent n to) = n
+node_of (told.Unsent n) = n
+node_of (told.Misrouted n) = n
+node_of (told.Crashed n) = n
+node_of (told.Disk n) = n
+node_of (told.Opened n) = n
+node_of (told.Down n) = n
+node_of (told.Up n) = n
+node_of (told.Mode n m t) = n
+node_of (told.Dropped n) = n
+node_of (told.Replied n) = n
+
+-- one more node, where there is room for it
+abbrev pub with_node : Id → List Id → List Id
+with_node n ids = if not (has n ids) && length ids == most_ids then ids else with_id n ids
+
+abbrev pub with_receiver : Told → List Id → List Id
+with_receiver (told.Sent from (Some to)) ids = with_node to ids
+with_receiver other ids = ids
+
+-- the nodes of a trace: those that its lines tell of, and those that messages are for
+abbrev pub nodes_from : List Id → List TraceLine → List Id
+nodes_from ids [] = ids
+nodes_from ids (l ∷ ls) = nodes_from (with_receiver l.told (with_node (node_of l.told) ids)) ls
+
+-- how many characters wide the labels of a node are, with this number before
+abbrev pub widest_from : ℕ → Id → List TraceLine → ℕ
+widest_from most n [] = most
+widest_from most n (l ∷ ls) = widest_from (if bytes_eq (node_of l.told) n then max most (min 48 (length (label_of l))) else most) n ls
+
+-- a lifeline for each node, from the left
+abbrev pub columns_from : ℕ → List Id → List TraceLine → List Column
+columns_from left [] lines = []
+columns_from left (n ∷ ns) lines = record { node = n; left = left } ∷ columns_from (left + 44 + 6 * widest_from (length n) n lines) ns lines
+
+-- how many units to the right the column of a node begins
+abbrev pub left_of : List Column → Id → ℕ
+left_of [] n = 0
+left_of (c ∷ cs) n = if bytes_eq c.node n then c.left else left_of cs n

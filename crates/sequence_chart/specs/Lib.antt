@@ -1,0 +1,10 @@
+pub mod Words
+pub mod Rows
+pub mod Messages
+pub mod Columns
+pub mod Labels
+pub mod Elements
+pub mod Lifelines
+pub mod Chart
+pub mod Laws
+pub mod Frame

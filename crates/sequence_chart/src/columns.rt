@@ -1,0 +1,118 @@
+//! Columns: which nodes have a lifeline, and where it stands.
+ghost use Rattle.std.specs.Prelude.{◌≡◌, ◌+◌, ◌*◌, ◌≤◌, length, IfOk, []};
+ghost use Rattle.sequence_chart.specs.Columns.{node_of as node_of_told, with_node as with_node_of, with_receiver as with_receiver_of, nodes_from, widest_from, columns_from, left_of as left_of_columns};
+
+use crate::labels::label;
+use std::alloc::{AllocError, Global};
+use trace_reader::{Told, TraceLine};
+use voting_config::{NodeId, NodeSet};
+
+/// A lifeline: its node, and how many units to the right its column begins. The line itself stands 24 units further.
+#[derive(Clone, Copy)]
+pub struct Column {
+    pub node: NodeId,
+    pub left: u32,
+}
+
+/// The node that a line tells of.
+pub fn node_of(told: &Told) -> NodeId
+    ensures { result ≡ node_of_told told.now }
+{
+    match told {
+        Told::Delivery(node, _) => *node,
+        Told::Event(node) => *node,
+        Told::Act(node, _) => *node,
+        Told::Won(node, _) => *node,
+        Told::Committed(node) => *node,
+        Told::Sent(node, _) => *node,
+        Told::Unsent(node) => *node,
+        Told::Misrouted(node) => *node,
+        Told::Crashed(node) => *node,
+        Told::Disk(node) => *node,
+        Told::Opened(node) => *node,
+        Told::Down(node) => *node,
+        Told::Up(node) => *node,
+        Told::Mode(node, _, _) => *node,
+        Told::Dropped(node) => *node,
+        Told::Replied(node) => *node,
+    }
+}
+
+fn add_node(nodes: &mut NodeSet, node: NodeId)
+    ensures { nodes.new ≡ with_node_of node nodes.old }
+{
+    let _ = nodes.insert(node);
+}
+
+fn add_receiver(nodes: &mut NodeSet, told: &Told)
+    ensures { nodes.new ≡ with_receiver_of told.now nodes.old }
+{
+    let Told::Sent(_, to) = told else {
+        return;
+    };
+    let Some(to) = to else {
+        return;
+    };
+    add_node(nodes, *to);
+}
+
+/// The nodes of a trace: those that its lines tell of, and those that messages are for. Of more than 32 those that come first.
+pub fn nodes_of(lines: &[TraceLine]) -> NodeSet
+    ensures { result ≡ nodes_from [] lines.now }
+{
+    let mut nodes = NodeSet::new();
+    for line in lines {
+        add_node(&mut nodes, node_of(&line.told));
+        add_receiver(&mut nodes, &line.told);
+    }
+    nodes
+}
+
+// How many characters wide the labels of a node are, and its name.
+#[tactic(auto, using(voting_config::specs::Padded::id_length))]
+fn widest(alloc: Global, node: NodeId, lines: &[TraceLine]) -> Result<u32, AllocError>
+    ensures is { IfOk result (λ w. w ≡ widest_from (length node) node lines.now) }
+    ensures few { IfOk result (λ w. w ≤ 48) }
+{
+    let mut most = node.as_bytes().len();
+    for line in lines {
+        if node_of(&line.told).as_bytes() == node.as_bytes() {
+            let text = label(alloc, line)?;
+            most = most.max(text.len().min(48));
+        }
+    }
+    Ok(most as u32)
+}
+
+/// A lifeline for each node, from the left, the first column beginning so far to the right. And how far the last one reaches.
+pub fn columns_of(
+    alloc: Global,
+    left: u32,
+    nodes: &NodeSet,
+    lines: &[TraceLine],
+) -> Result<(Vec<Column>, u32), AllocError>
+    requires { left ≤ 1000 }
+    ensures is { IfOk result (λ c. c.0.items ≡ columns_from left nodes.now lines.now) }
+    ensures few { IfOk result (λ c. c.1 ≤ 20000) }
+{
+    let mut columns = Vec::new(alloc);
+    let mut left = left;
+    for node in nodes.as_slice() {
+        columns.push(Column { node: *node, left })?;
+        let wide = widest(alloc, *node, lines)?;
+        left += 44 + 6 * wide;
+    }
+    Ok((columns, left))
+}
+
+/// How many units to the right the column of a node begins.
+pub fn left_of(columns: &[Column], node: NodeId) -> u32
+    ensures { result ≡ left_of_columns columns.now node }
+{
+    for column in columns {
+        if column.node.as_bytes() == node.as_bytes() {
+            return column.left;
+        }
+    }
+    0
+}

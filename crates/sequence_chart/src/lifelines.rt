@@ -1,0 +1,199 @@
+//! Lifelines: each piece by what its node was, and the names of the nodes.
+ghost use Rattle.std.specs.Prelude.{◌≡◌, ◌≤◌, ◌<◌, ◌^◌, ◌+◌, ◌++◌, length, OnOk};
+ghost use Rattle.std.specs.List.{flat_map};
+ghost use Rattle.sequence_chart.specs.Lifelines.{ending_stroke as ending_stroke_of, first_pen, head, lifeline as lifeline_of, lifeline_from, mode_class as mode_class_of, pen_after, piece, piece_at, piece_of, stroke_by, turn as turn_of};
+ghost use Rattle.sequence_chart.specs.Rows.{first_cursor};
+
+use crate::columns::{Column, node_of};
+use crate::marks::term_class;
+use crate::rows::{Cursor, MAX_LINES, y_of};
+use schedule_text::Text;
+use std::alloc::AllocError;
+use trace_reader::{Ending, Mode, Told, TraceLine};
+use voting_config::NodeId;
+
+/// How a lifeline looks.
+#[derive(Clone, Copy)]
+pub enum Stroke {
+    /// The node's mode is not told.
+    Plain,
+    /// The node is that, in this term.
+    Mode(Mode, u64),
+    /// The node is down.
+    Gap,
+}
+
+/// How a lifeline looks since some row.
+#[derive(Clone, Copy)]
+pub struct Pen {
+    pub top: u32,
+    pub stroke: Stroke,
+}
+
+impl Pen {
+    fn first() -> Pen
+        ensures { result ≡ first_pen }
+    {
+        Pen {
+            top: 0,
+            stroke: Stroke::Plain,
+        }
+    }
+
+    fn after(self, row: u32, turn: Option<Stroke>) -> Pen
+        ensures { result ≡ pen_after self row turn }
+    {
+        match turn {
+            None => self,
+            Some(stroke) => Pen { top: row, stroke },
+        }
+    }
+}
+
+fn ending_stroke(ending: Ending) -> Option<Stroke>
+    ensures { result ≡ ending_stroke_of ending }
+{
+    match ending {
+        Ending::Taken => None,
+        Ending::Refused => None,
+        Ending::Stopped => None,
+        Ending::Disk => Some(Stroke::Gap),
+        Ending::Crashed => Some(Stroke::Gap),
+    }
+}
+
+fn stroke_after(told: &Told) -> Option<Stroke>
+    ensures { result ≡ stroke_by told.now }
+{
+    match told {
+        Told::Mode(_, mode, term) => Some(Stroke::Mode(*mode, *term)),
+        Told::Crashed(_) => Some(Stroke::Gap),
+        Told::Disk(_) => Some(Stroke::Gap),
+        Told::Act(_, ending) => ending_stroke(*ending),
+        Told::Opened(_) => Some(Stroke::Plain),
+        _ => None,
+    }
+}
+
+// How a line changes the lifeline of a node, if it does.
+fn turn(node: NodeId, told: &Told) -> Option<Stroke>
+    ensures { result ≡ turn_of node told.now }
+{
+    if node_of(told).as_bytes() == node.as_bytes() {
+        return stroke_after(told);
+    }
+    None
+}
+
+fn mode_class(mode: Mode) -> &'static str
+    ensures { result.now ≡ mode_class_of mode }
+{
+    match mode {
+        Mode::Candidate => "candidate ",
+        Mode::Leader => "leader ",
+        Mode::Follower => "follower ",
+    }
+}
+
+fn write_piece_of(text: &mut Text, left: u32, top: u32, bottom: u32) -> Result<(), AllocError>
+    ensures { OnOk result (text.new ≡ text.old ++ piece_of left top bottom) }
+{
+    text.word("' d='M")?;
+    text.number(left as u64 + 24)?;
+    text.word(" ")?;
+    text.number(y_of(top))?;
+    text.word("V")?;
+    text.number(y_of(bottom))?;
+    text.word("'/>\n")
+}
+
+fn write_piece(text: &mut Text, left: u32, pen: Pen, bottom: u32) -> Result<(), AllocError>
+    ensures { OnOk result (text.new ≡ text.old ++ piece left pen bottom) }
+{
+    match pen.stroke {
+        Stroke::Gap => Ok(()),
+        Stroke::Plain => {
+            text.word("<path class='plain")?;
+            write_piece_of(text, left, pen.top, bottom)
+        }
+        Stroke::Mode(mode, term) => {
+            text.word("<path class='")?;
+            text.word(mode_class(mode))?;
+            text.word(term_class(term))?;
+            write_piece_of(text, left, pen.top, bottom)
+        }
+    }
+}
+
+fn write_piece_at(
+    text: &mut Text,
+    left: u32,
+    pen: Pen,
+    row: u32,
+    turn: Option<Stroke>,
+) -> Result<(), AllocError>
+    ensures { OnOk result (text.new ≡ text.old ++ piece_at left pen row turn) }
+{
+    match turn {
+        None => Ok(()),
+        Some(_) => write_piece(text, left, pen, row),
+    }
+}
+
+fn write_lifeline(
+    text: &mut Text,
+    lines: &[TraceLine],
+    bottom: u32,
+    column: &Column,
+) -> Result<(), AllocError>
+    requires { length lines.now ≤ MAX_LINES }
+    ensures { OnOk result (text.new ≡ text.old ++ lifeline_of lines.now bottom column.now) }
+{
+    let mut cursor = Cursor::first();
+    let mut pen = Pen::first();
+    for line in lines {
+        cursor = cursor.after(&line.told);
+        let turn = turn(column.node, &line.told);
+        write_piece_at(text, column.left, pen, cursor.row, turn)?;
+        pen = pen.after(cursor.row, turn);
+    }
+    write_piece(text, column.left, pen, bottom)
+}
+
+/// Writes all lifelines, down to a row.
+pub fn write_lifelines(
+    text: &mut Text,
+    lines: &[TraceLine],
+    bottom: u32,
+    columns: &[Column],
+) -> Result<(), AllocError>
+    requires { length lines.now ≤ MAX_LINES }
+    ensures { OnOk result (text.new ≡ text.old ++ flat_map (lifeline_of lines.now bottom) columns.now) }
+{
+    for column in columns {
+        write_lifeline(text, lines, bottom, column)?;
+    }
+    Ok(())
+}
+
+fn write_head(text: &mut Text, y: u64, column: &Column) -> Result<(), AllocError>
+    ensures { OnOk result (text.new ≡ text.old ++ head y column.now) }
+{
+    text.word("<text class='head' x='")?;
+    text.number(column.left as u64 + 24)?;
+    text.word("' y='")?;
+    text.number(y)?;
+    text.word("'>")?;
+    text.id(column.node)?;
+    text.word("</text>\n")
+}
+
+/// Writes the names of all nodes, so many units down.
+pub fn write_heads(text: &mut Text, y: u64, columns: &[Column]) -> Result<(), AllocError>
+    ensures { OnOk result (text.new ≡ text.old ++ flat_map (head y) columns.now) }
+{
+    for column in columns {
+        write_head(text, y, column)?;
+    }
+    Ok(())
+}

@@ -1,0 +1,105 @@
+//! A trace, read line by line.
+ghost use Rattle.std.specs.Prelude.{◌≡◌, ◌+◌, ◌<◌, ◌≤◌, ◌^◌, length, OnOk, IfOk, []};
+ghost use Rattle.voting_config.specs.Lists.{parts_of, parts_in};
+ghost use Rattle.schedule_text.specs.Answers.{Answers};
+ghost use Rattle.trace_reader.specs.Limits.{most_trace_lines};
+ghost use Rattle.trace_reader.specs.Reading.{result_behind, told_at as told_at_of, words_told, line_at, end_at, trace_at, lines_at, first_progress};
+
+use crate::echoes::read_echo;
+use crate::fault::BadTrace;
+use crate::progress::Progress;
+use crate::results::read_result;
+use crate::told::{Told, Trace, TraceLine};
+use crate::words::rest_of;
+use schedule_text::{LineBytes, ReadError, Why};
+use std::alloc::Global;
+use voting_config::cut;
+
+fn result(progress: &Progress, verb: &[u8], rest: Option<&[u8]>) -> Result<Told, Why>
+    ensures { result ≡ result_behind progress.now.actor progress.now.next verb.now (parts_in 32 rest.entry) }
+{
+    let Some(actor) = progress.actor else {
+        return Err(Why::Header);
+    };
+    read_result(actor, progress.next, verb, rest)
+}
+
+fn told_at(alloc: Global, progress: &Progress, line: &[u8]) -> Result<Told, ReadError<Why>>
+    requires { progress.now.before + length line.now + 1 < 2 ^ 64 }
+    ensures read { Answers result (told_at_of progress.now line.now) }
+    ensures counted { OnOk result (progress.now.number ≤ most_trace_lines) }
+{
+    if let Err(why) = progress.check_size(line) {
+        return Err(ReadError::Bad(why));
+    }
+    let (verb, rest) = cut(line, b' ');
+    if verb == b">".as_slice() {
+        let echo = match rest_of(rest) {
+            Ok(echo) => echo,
+            Err(why) => return Err(ReadError::Bad(why)),
+        };
+        return read_echo(alloc, echo);
+    }
+    match result(progress, verb, rest) {
+        Ok(told) => Ok(told),
+        Err(why) => Err(ReadError::Bad(why)),
+    }
+}
+
+fn one_line(
+    alloc: Global,
+    progress: &Progress,
+    line: &[u8],
+) -> Result<TraceLine, ReadError<BadTrace>>
+    requires { progress.now.before + length line.now + 1 < 2 ^ 64 }
+    ensures read { Answers result (line_at progress.now line.now) }
+    ensures counted { OnOk result (progress.now.number ≤ most_trace_lines) }
+{
+    let told = match told_at(alloc, progress, line) {
+        Ok(told) => told,
+        Err(ReadError::Bad(why)) => return Err(ReadError::Bad(progress.bad(why))),
+        Err(ReadError::Memory) => return Err(ReadError::Memory),
+    };
+    let Ok(text) = LineBytes::of(alloc, line) else {
+        return Err(ReadError::Memory);
+    };
+    Ok(TraceLine { text, told })
+}
+
+// What stands after the last line feed must be nothing.
+fn check_end(progress: &Progress, line: &[u8]) -> Result<(), BadTrace>
+    requires { progress.now.before + length line.now < 2 ^ 64 }
+    ensures { result ≡ end_at progress.now line.now tt }
+{
+    if line.is_empty() {
+        return Ok(());
+    }
+    Err(progress.bad(progress.why_cut(line)))
+}
+
+/// The lines of the trace that the bytes are, or the first bad line and why it is bad. `Memory` may come for any bytes.
+pub fn read_trace(alloc: Global, bytes: &[u8]) -> Result<Trace, ReadError<BadTrace>>
+    ensures read { Answers result (trace_at bytes.now) }
+    ensures few { IfOk result (λ t. length t ≤ most_trace_lines) }
+{
+    let mut lines = Vec::new(alloc);
+    let mut progress = Progress::first();
+    let (mut line, mut rest) = cut(bytes, b'\n');
+    while let Some(more) = rest {
+        let next = cut(more, b'\n');
+        let read = match one_line(alloc, &progress, line) {
+            Ok(read) => read,
+            Err(fault) => return Err(fault),
+        };
+        progress = progress.after(line, &read.told);
+        if lines.push(read).is_err() {
+            return Err(ReadError::Memory);
+        }
+        line = next.0;
+        rest = next.1;
+    }
+    if let Err(bad) = check_end(&progress, line) {
+        return Err(ReadError::Bad(bad));
+    }
+    Ok(Trace::of(lines))
+}

@@ -1,0 +1,89 @@
+//! Traces that are read, and texts that are refused.
+use crate::{BadTrace, Told, Trace, read_trace, write_bad_trace};
+use schedule_text::{ReadError, Text, Why};
+use std::alloc::Global;
+use std::test::Fail;
+
+const ELECTION: &str = "> boot a\n\
+    act a ok boot a,b\n\
+    > startjoin b a 1\n\
+    act b ok startjoin a 1\n\
+    m1 b->a join 1 0/0\n\
+    > deliver a 1\n\
+    act a ok join b a 1 0/0\n\
+    won a 1\n";
+
+fn lines_read(alloc: Global, text: &str) -> Result<Trace, Fail> {
+    match read_trace(alloc, text.as_bytes()) {
+        Ok(trace) => Ok(trace),
+        Err(_) => Err("it was not read".into()),
+    }
+}
+
+#[test]
+fn an_election_is_read(rt: HostRuntime) -> Result<(), Fail> {
+    let trace = lines_read(rt.alloc(), ELECTION)?;
+    let lines = trace.as_slice();
+    assert!(rt; lines.len() == 8);
+    assert!(rt; lines[4].text.as_slice() == b"m1 b->a join 1 0/0".as_slice());
+    assert!(rt; matches!(&lines[4].told, Told::Sent(_, Some(_))));
+    assert!(rt; matches!(&lines[5].told, Told::Delivery(_, 1)));
+    assert!(rt; matches!(&lines[7].told, Told::Won(_, 1)));
+    Ok(())
+}
+
+#[test]
+fn lines_of_whole_nodes_are_read(rt: HostRuntime) -> Result<(), Fail> {
+    let trace = lines_read(
+        rt.alloc(),
+        "> tick a 5 7\nmode a follower b 2\ndrop a b lag\nm1 a->* commit 1/1\nreply a {\"id\":1,\"not_master\":\"b\"}\n\
+        > client a \n> crash a torn:a5\ncrashed a\n> restart a\nrecord a 1 0/0 a,b _\n> deliver a 9\nunsent\n",
+    )?;
+    assert!(rt; trace.as_slice().len() == 12);
+    Ok(())
+}
+
+fn fault_of(alloc: Global, text: &str) -> Option<BadTrace> {
+    match read_trace(alloc, text.as_bytes()) {
+        Ok(_) => None,
+        Err(ReadError::Memory) => None,
+        Err(ReadError::Bad(bad)) => Some(bad),
+    }
+}
+
+// Texts that are no trace: which line is the first bad one, and why.
+const BAD: [(&str, usize, Why); 14] = [
+    ("act a ok boot a\n", 1, Why::Header),
+    ("> boot a", 1, Why::NoNewline),
+    ("> boot a\n\n", 2, Why::Verb),
+    ("> boot a b\n", 1, Why::Arity),
+    ("> boat a\n", 1, Why::Verb),
+    ("> deliver a 0\n", 1, Why::Number),
+    ("> boot A\n", 1, Why::Id),
+    ("> boot a\nact a maybe boot a\n", 2, Why::Verb),
+    ("> boot a\nact a ok\n", 2, Why::Arity),
+    ("> boot a\nact a ok open a\n", 2, Why::Verb),
+    ("> boot a\nm2 a->a join 1 0/0\n", 2, Why::Number),
+    ("> boot a\nm1 a=>a join 1 0/0\n", 2, Why::Id),
+    ("> boot a\nwon a 01\n", 2, Why::Number),
+    ("> boot a\nunsent a\n", 2, Why::Arity),
+];
+
+#[test]
+fn bad_lines_are_named(rt: HostRuntime) -> Result<(), Fail> {
+    for (text, line, why) in BAD {
+        let bad = fault_of(rt.alloc(), text).ok_or("it is read")?;
+        assert!(rt; bad.line == line);
+        assert!(rt; bad.why == why);
+    }
+    Ok(())
+}
+
+#[test]
+fn a_fault_is_written(rt: HostRuntime) -> Result<(), Fail> {
+    let bad = fault_of(rt.alloc(), "> boot a\nboot a\n").ok_or("it is read")?;
+    let mut text = Text::new(rt.alloc());
+    write_bad_trace(&mut text, &bad)?;
+    assert!(rt; text.as_bytes() == "zen_chart: bad trace at line 2: Verb\n".as_bytes());
+    Ok(())
+}

@@ -1,0 +1,108 @@
+//! The words of a line, one after the other.
+ghost use Rattle.std.specs.Prelude.{◌≡◌};
+ghost use Rattle.voting_config.specs.Lists.{parts_in};
+ghost use Rattle.schedule_text.specs.Lines.{one, two, any_number, word_and_rest as word_and_rest_of};
+ghost use Rattle.schedule_text.specs.Answers.{Gives};
+ghost use Rattle.trace_reader.specs.Reading.{rest_of as rest_of_words};
+ghost use Rattle.trace_reader.specs.Results.{no_word as no_word_of, some_word as some_word_of, node, node_alone as node_alone_of, node_with_rest as node_with_rest_of};
+
+use schedule_text::Why;
+use schedule_text::lines::one_word;
+use schedule_text::words::number_at;
+use voting_config::{NodeId, cut};
+
+/// The id that a word is, and else `Id`.
+pub fn id_at(word: &[u8]) -> Result<NodeId, Why>
+    ensures { result ≡ node.at word.now }
+{
+    match NodeId::from_bytes(word) {
+        Some(id) => Ok(id),
+        None => Err(Why::Id),
+    }
+}
+
+/// The number below 2^64 that a word is, and else `Number`.
+pub fn any_number_at(word: &[u8]) -> Result<u64, Why>
+    ensures { result ≡ any_number.at word.now }
+{
+    number_at(word, 0, u64::MAX)
+}
+
+/// `Arity` where a word stands after the first one.
+pub fn no_word(rest: Option<&[u8]>) -> Result<(), Why>
+    ensures { result ≡ no_word_of (parts_in 32 rest.entry) }
+{
+    let Some(rest) = rest else {
+        return Ok(());
+    };
+    let _ = cut(rest, b' ');
+    Err(Why::Arity)
+}
+
+/// `Arity` where no word stands after the first one.
+pub fn some_word(rest: Option<&[u8]>) -> Result<(), Why>
+    ensures { result ≡ some_word_of (parts_in 32 rest.entry) }
+{
+    let Some(rest) = rest else {
+        return Err(Why::Arity);
+    };
+    let _ = cut(rest, b' ');
+    Ok(())
+}
+
+/// All that stands after the first word, and `Arity` where there is no space after it.
+pub fn rest_of(rest: Option<&[u8]>) -> Result<&[u8], Why>
+    ensures { Gives (λ w. w.now) result (rest_of_words (parts_in 32 rest.entry)) }
+{
+    let Some(rest) = rest else {
+        return Err(Why::Arity);
+    };
+    Ok(rest)
+}
+
+/// The word after the first one, and all that stands after the space after it, further spaces included. `Arity` where there
+/// is no such word or space.
+pub fn word_and_rest(rest: Option<&[u8]>) -> Result<(&[u8], &[u8]), Why>
+    ensures { Gives (λ w. (w.0.now, w.1.now)) result (word_and_rest_of (parts_in 32 rest.entry)) }
+{
+    let Some(rest) = rest else {
+        return Err(Why::Arity);
+    };
+    let (word, rest) = cut(rest, b' ');
+    let Some(rest) = rest else {
+        return Err(Why::Arity);
+    };
+    Ok((word, rest))
+}
+
+/// The one word after the first one, a node.
+pub fn node_alone(rest: Option<&[u8]>) -> Result<NodeId, Why>
+    ensures { result ≡ node_alone_of (parts_in 32 rest.entry) }
+{
+    let word = one_word(rest)?;
+    let node = id_at(word)?;
+    Ok(node)
+}
+
+/// The word after the first one, a node after which something stands.
+pub fn node_with_rest(rest: Option<&[u8]>) -> Result<NodeId, Why>
+    ensures { result ≡ node_with_rest_of (parts_in 32 rest.entry) }
+{
+    let (word, _) = word_and_rest(rest)?;
+    let node = id_at(word)?;
+    Ok(node)
+}
+
+/// The two words after the first one, a node and a number.
+pub fn node_and_number(rest: Option<&[u8]>) -> Result<(NodeId, u64), Why>
+    ensures { result ≡ (two node any_number).at (parts_in 32 rest.entry) }
+{
+    let Some(rest) = rest else {
+        return Err(Why::Arity);
+    };
+    let (first, rest) = cut(rest, b' ');
+    let last = one_word(rest)?;
+    let node = id_at(first)?;
+    let number = any_number_at(last)?;
+    Ok((node, number))
+}

@@ -1,0 +1,5 @@
+pub mod Codes
+pub mod Ran
+pub mod Reading
+pub mod Runs
+pub mod Views
