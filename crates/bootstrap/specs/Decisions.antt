@@ -1,4 +1,4 @@
--- Whether a node takes the initial configuration.
+-- Part of the statement: whether a node takes the initial configuration.
 use Rattle.std.specs.Prelude.{Bool, not, ◌&&◌, Option, None, Some, List, if◌then◌else◌}
 use Rattle.voting_config.specs.Ids.{Id, has, with_id, is_quorum_of}
 

@@ -1,3 +1,4 @@
+//! When a node takes the first configuration, by cases.
 use super::*;
 use std::test::*;
 

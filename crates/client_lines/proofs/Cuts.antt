@@ -38,7 +38,7 @@ no_feed_in_rest (b ∷ bytes) =
       | false ↦ λ e. ap (λ (c : Cut). has_no_feed c.rest) (cut-other b bytes e) ∙ no_feed_in_front b (cut bytes).ended (cut bytes).rest e (no_feed_in_rest bytes)
     ] refl
 
--- ---- bytes behind what is held
+-- ---- bytes after what is held
 
 abbrev held_lines : List ℕ → List (List ℕ) → List (List ℕ)
 held_lines xs [] = []

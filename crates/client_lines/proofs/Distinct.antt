@@ -1,10 +1,10 @@
 -- Lists of distinct ids.
-use Rattle.std.proofs.Common.{◌≡◌, refl, ◌∙◌, ap, suc, not, Bool, true, false, cond, ◌||◌, List, [], ◌∷◌, ◌++◌, length}
+use Rattle.std.proofs.Common.{◌≡◌, refl, ◌∙◌, ap, not, Bool, true, false, ◌||◌, List, [], ◌∷◌, ◌++◌}
 use Rattle.std.proofs.Math.Bool.{or-false, and-false}
 use Rattle.std.proofs.lemmas.Bool.{and_parts, and_from, or_parts}
 use Rattle.std.proofs.lemmas.List.Folds.{list_any-append}
 use Rattle.std.specs.Cmp.Lexicographic.{nat_list_eq_equiv}
-use Rattle.voting_config.specs.Ids.{Id, same, before, has, put, with_id}
+use Rattle.voting_config.specs.Ids.{Id, same, has}
 use Rattle.client_lines.specs.Requests.{are_distinct}
 
 pub has-append : (q : Id) (xs ys : List Id) → has q (xs ++ ys) ≡ (has q xs || has q ys)
@@ -37,14 +37,3 @@ are_distinct-push x (y ∷ ys) h k =
     let here : has y (x ∷ []) ≡ false = rw (nat_list_eq_equiv.symm x y, apart.0) refl in
     let same_front : has y (ys ++ x ∷ []) ≡ has y ys = has-append y ys (x ∷ []) ∙ ap (λ (b : Bool). has y ys || b) here ∙ or-false (has y ys) in
     and_from _ _ (ap not same_front ∙ parts.0) (are_distinct-push x ys parts.1 apart.1)
-
-length-put : (x : Id) (ys : List Id) → length (put x ys) ≡ suc (length ys)
-length-put x [] = refl
-length-put x (y ∷ ys) =
-    elim (before y x) as (λ b. length (cond b (y ∷ put x ys) (x ∷ y ∷ ys)) ≡ suc (suc (length ys))) [
-      | true ↦ ap suc (length-put x ys)
-      | false ↦ refl
-    ]
-
-pub length-with_id : (x : Id) (ys : List Id) → has x ys ≡ false → length (with_id x ys) ≡ suc (length ys)
-length-with_id x ys h = rw h (length-put x ys)

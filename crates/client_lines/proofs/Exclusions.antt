@@ -10,11 +10,12 @@ use Rattle.serde_json.specs.View.{items_view}
 use Rattle.serde_json.specs.declared.value.Value.{Value}
 use Rattle.serde_json.specs.Find.{as_array}
 use Rattle.serde_json.proofs.Views.{items_len-items_view}
-use Rattle.voting_config.specs.Ids.{Id, same, has, with_id}
+use Rattle.voting_config.specs.Ids.{Id, same, has, with_id, set_of}
 use Rattle.voting_config.proofs.Sorted.{has-with_id}
 use Rattle.cluster_state.specs.declared.request.Ask.TheVariants.{Exclude}
-use Rattle.client_lines.specs.Requests.{node_id_of, node_ids_of, are_distinct, set_of, as_set, node_set_of, exclude_of}
-use Rattle.client_lines.proofs.Distinct.{has-append, are_distinct-again, are_distinct-push, length-with_id}
+use Rattle.client_lines.specs.Requests.{node_id_of, node_ids_of, are_distinct, as_set, node_set_of, exclude_of}
+use Rattle.voting_config.proofs.Sets.{length-with_id-absent}
+use Rattle.client_lines.proofs.Distinct.{has-append, are_distinct-again, are_distinct-push}
 
 -- one more id, that is not in yet, where 32 are not in yet
 abbrev pub with_new_id : Id → List Id → Option (List Id)
@@ -25,7 +26,7 @@ abbrev pub ids_from : Items → List Id → Option (List Id)
 ids_from no_items found = Some found
 ids_from (item d ds) found = option_and_then (λ id. option_and_then (λ more. ids_from ds more) (with_new_id id found)) (node_id_of d)
 
--- what was found is the set of the ids at the front
+-- what was found is the set of the ids at the start
 record IsSetOf (found front : List Id) : Type 0 where
   members : (q : Id) → has q found ≡ has q front
   size : length found ≡ length front
@@ -50,7 +51,7 @@ none_follows : (front : List Id) (x : Id) (o : Option (List Id)) → ((ids : Lis
 none_follows front x None h = refl
 none_follows front x (Some ids) h = sym (h ids)
 
--- an id goes over to the front
+-- an id goes over to those at the start
 goes_over : (front : List Id) (x : Id) (o : Option (List Id))
     → option_and_then as_set (option_map (λ ids. (front ++ x ∷ []) ++ ids) o) ≡ option_and_then as_set (option_map (λ ids. front ++ ids) (option_map (λ ids. x ∷ ids) o))
 goes_over front x None = refl
@@ -59,7 +60,7 @@ goes_over front x (Some ids) = ap as_set (append_assoc front (x ∷ []) ids)
 IsSetOf-with_id : (x : Id) (found front : List Id) → IsSetOf found front → has x found ≡ false → length found < 32 → IsSetOf (with_id x found) (front ++ x ∷ [])
 IsSetOf-with_id x found front s new room = record {
   members = λ q. has-with_id q x found ∙ or_comm (same x q) (has q found) ∙ ap (λ (b : Bool). b || same x q) (s.members q) ∙ sym (has-append q front (x ∷ []) ∙ ap (λ (b : Bool). has q front || b) (or-false (same x q)));
-  size = let longer = length-with_id x found new in rw (longer, length-append, s.size) (omega arith);
+  size = let longer = length-with_id-absent x found new in rw (longer, length-append, s.size) (omega arith);
   set = ap (with_id x) s.set ∙ sym (fold-append (λ ids id. with_id id ids) [] front (x ∷ []));
   distinct = are_distinct-push x front s.distinct (sym (s.members x) ∙ new);
   few = rw length-append (omega (arith, s.size));

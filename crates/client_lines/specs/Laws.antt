@@ -1,9 +1,9 @@
--- Neither how bytes are cut into pieces nor what a line loses makes a difference.
+-- For the contracts inside: neither how bytes are cut into pieces nor what a line loses makes a difference.
 use Rattle.std.specs.Prelude.{◌≡◌, ℕ, List, ◌++◌}
 use Rattle.client_lines.specs.Lines.{kept, lines_of, rest_of}
 use Rattle.client_lines.specs.Reading.{line_request}
 
--- bytes in two pieces, the second behind what is held of the first, give the lines and the rest that they give in one
+-- bytes in two pieces, the second after what is held of the first, give the lines and the rest that they give in one
 pub record CutsAnywhere (front back : List ℕ) : Type 0 where
   pub lines : lines_of (front ++ back) ≡ lines_of front ++ lines_of (rest_of front ++ back)
   pub rest : rest_of (front ++ back) ≡ rest_of (rest_of front ++ back)

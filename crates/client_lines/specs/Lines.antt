@@ -1,13 +1,13 @@
--- Lines of bytes.
+-- Part of the statement: lines of bytes.
 use Rattle.std.specs.Prelude.{ℕ, ◌≤◌, ◌==◌, not, if◌then◌else◌, List, [], ◌∷◌, length, map, take, IsTrue}
 use Rattle.std.specs.List.{list_all}
 
--- bytes cut at their line feeds: what stands before each of them, and what stands behind the last one
+-- bytes cut at their line feeds: what stands before each of them, and what stands after the last one
 pub record Cut : Type 0 where
   pub ended : List (List ℕ)
   pub rest : List ℕ
 
--- a byte in front of the first line
+-- a byte before the first line
 abbrev pub in_front : ℕ → List (List ℕ) → List ℕ → Cut
 in_front b [] rest = record { ended = []; rest = b ∷ rest }
 in_front b (line ∷ lines) rest = record { ended = (b ∷ line) ∷ lines; rest = rest }

@@ -1,4 +1,4 @@
--- Which request a line is, or why it is none.
+-- Part of the statement: which request a line is, or why it is none.
 use Rattle.std.specs.Prelude.{◌≡◌, ℕ, if◌then◌else◌, List, length, nat_lt, Option, Some, None, ok_or, Result, Ok, Err}
 use Rattle.std.specs.Str.{is_utf8}
 use Rattle.serde_json.specs.Data.{Data}

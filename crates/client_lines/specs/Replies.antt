@@ -1,4 +1,4 @@
--- What is written for a reply.
+-- Part of the statement: what is written for a reply.
 use Rattle.std.specs.Prelude.{ℕ, List, codes}
 use Rattle.serde_json.specs.Data.{Data, number, unsigned, string, object, no_members, member, put}
 use Rattle.serde_json.specs.Written.{compact_text}

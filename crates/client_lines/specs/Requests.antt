@@ -1,11 +1,11 @@
--- Which request a JSON value is.
-use Rattle.std.specs.Prelude.{ℕ, ◌^◌, ◌==◌, ◌&&◌, Bool, true, false, not, if◌then◌else◌, List, [], ◌∷◌, length, codes, fold, nat_le, Option, Some, None, option_map, option_and_then}
+-- Part of the statement: which request a JSON value is.
+use Rattle.std.specs.Prelude.{ℕ, ◌^◌, ◌==◌, ◌&&◌, Bool, true, false, not, if◌then◌else◌, List, [], ◌∷◌, length, codes, nat_le, Option, Some, None, option_map, option_and_then}
 use Rattle.std.specs.Option.{option_map_or}
 use Rattle.std.specs.Result.{result_ok}
 use Rattle.serde_json.specs.Data.{Data, Items, no_items, item}
 use Rattle.serde_json.specs.Events.{members_len, items_len}
 use Rattle.serde_json.specs.Find.{get, as_number, as_u64, as_str, as_bool, as_array, as_object}
-use Rattle.voting_config.specs.Ids.{Id, has, with_id, most_ids}
+use Rattle.voting_config.specs.Ids.{Id, has, most_ids, set_of}
 use Rattle.voting_config.specs.Parse.{parsed}
 use Rattle.cluster_state.specs.declared.request.Request.{Request}
 use Rattle.cluster_state.specs.declared.request.Ask.{Ask}
@@ -54,9 +54,6 @@ node_ids_of (item d ds) = node_id_of d >>= λ id. option_map (λ ids. id ∷ ids
 abbrev pub are_distinct : List Id → Bool
 are_distinct [] = true
 are_distinct (x ∷ xs) = not (has x xs) && are_distinct xs
-
-abbrev pub set_of : List Id → List Id
-set_of ids = fold (λ found id. with_id id found) [] ids
 
 -- distinct ids, few enough for a set
 abbrev pub as_set : List Id → Option (List Id)

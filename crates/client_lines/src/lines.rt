@@ -1,3 +1,4 @@
+//! Lines out of a stream of bytes, the same however the bytes are cut.
 ghost use Rattle.std.specs.Prelude.{◌≡◌, ℕ, List, [], ◌++◌, IfOk, OnErr};
 ghost use Rattle.client_lines.specs.Lines.{lines_of, rest_of};
 ghost use Rattle.client_lines.specs.Laws.{CutsAnywhere, KeepsEnough};

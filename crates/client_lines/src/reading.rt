@@ -1,3 +1,4 @@
+//! A line read as the request that it is, or the first reason why it is none.
 ghost use Rattle.std.specs.Prelude.{◌≡◌};
 ghost use Rattle.serde_json.specs.View.{view, items_view};
 ghost use Rattle.client_lines.specs.Requests.{has_members as members_are, id_of, text_at, put_of, remove_of, node_id_of, node_set_of, exclude_of, clear_of, state_of, ask_of, request_of};

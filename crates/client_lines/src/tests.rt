@@ -1,3 +1,4 @@
+//! Requests, faults and replies with their texts, in the forms of docs/formats.md.
 use crate::*;
 use cluster_state::{ClusterState, StateId};
 use std::alloc::{AllocError, Global};
@@ -267,7 +268,7 @@ fn a_line_of_8193_bytes_is_too_long(rt: HostRuntime) -> Result<(), Fail> {
     Ok(())
 }
 
-// The lines, each with a semicolon behind it.
+// The lines, each with a semicolon after it.
 fn joined(alloc: Global, lines: Lines) -> Result<Vec<u8>, AllocError> {
     let mut text = Vec::new(alloc);
     for line in lines.into_lines() {

@@ -1,9 +1,8 @@
 -- The JSON of a state has no float, and settings go into an object at its end.
 use Rattle.std.proofs.Common.{◌≡◌, ℕ, true, false, List, [], ◌∷◌, ◌++◌, map, Option, Some, None, refl, sym, ap, subst, ◌∙◌, append_assoc}
 use Rattle.std.specs.List.{list_all}
-use Rattle.std.specs.declared.cmp.Ordering.{Ordering}
-use Rattle.std.specs.declared.cmp.Ordering.TheVariants.{Less, Equal, Greater}
-use Rattle.std.specs.Ordering.{is_lt, nat_cmp, ordering_reverse}
+use Rattle.std.specs.declared.cmp.Ordering.TheVariants.{Greater}
+use Rattle.std.specs.Ordering.{nat_cmp, ordering_reverse}
 use Rattle.std.specs.Cmp.Lexicographic.{slice_cmp}
 use Rattle.std.proofs.lemmas.Cmp.{nat_list_cmp_total}
 use Rattle.std.proofs.lemmas.Bool.{and_parts, and_from}
@@ -12,7 +11,7 @@ use Rattle.serde_json.specs.Data.{string, Members, member, put}
 use Rattle.serde_json.specs.View.{items_of}
 use Rattle.serde_json.specs.Written.{has_float, items_have_float, members_have_float}
 use Rattle.voting_config.specs.Ids.{Id, before, is_below, ascends}
-use Rattle.voting_config.proofs.Sorted.{ascends-push}
+use Rattle.voting_config.proofs.Sorted.{ascends-push, less_is}
 use Rattle.cluster_state.specs.declared.state.ClusterState.{ClusterState}
 use Rattle.cluster_state.specs.declared.state.ClusterValue.{ClusterValue}
 use Rattle.cluster_state.specs.Order.{ascends_from}
@@ -40,11 +39,6 @@ pub no_float : (s : ClusterState) → has_float (state_json s) ≡ false
 no_float s = rw (no_float_texts s.committed, no_float_texts s.config, no_float_value s.value) refl
 
 -- ---- settings into an object
-
-less_is : (o : Ordering) → is_lt o ≡ true → o ≡ Less
-less_is Less h = refl
-less_is Equal h = cc
-less_is Greater h = cc
 
 -- a key that is after all goes last
 put_last : (ss : List Setting) (k v : List ℕ) → list_all (λ s. before s.0 k) ss ≡ true → put k (string v) (setting_members ss) ≡ setting_members (ss ++ (k, v) ∷ [])
@@ -75,7 +69,7 @@ all_before (t ∷ ts) s rest h =
     below_within x [] s rest h = (and_parts (before x s.0) (is_below x (keys rest)) h).0
     below_within x (t ∷ ts) s rest h = below_within x ts s rest (and_parts (before x t.0) (is_below x (keys (ts ++ s ∷ rest))) h).1
 
--- settings at the front are in the object
+-- settings at the start are in the object
 pub record Shown (all : List Setting) (rest : List Setting) (object : Members) : Type 0 where
   pub front : List Setting
   pub split : front ++ rest ≡ all

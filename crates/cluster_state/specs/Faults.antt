@@ -1,4 +1,4 @@
--- What a reader's error says of the bytes.
+-- For the contracts inside: what a reader's error says of the bytes.
 use Rattle.std.specs.Prelude.{◌≡◌, ℕ, List, Result, Ok, Err}
 use Rattle.cluster_state.specs.declared.fault.FieldError.{FieldError}
 use Rattle.cluster_state.specs.declared.fault.ReadError.{ReadError}

@@ -1,4 +1,4 @@
--- What a node begins with.
+-- Part of the statement: what a node begins with.
 use Rattle.std.specs.Prelude.{None, List, []}
 use Rattle.voting_config.specs.Ids.{Id}
 use Rattle.cluster_state.specs.declared.state.ClusterState.{ClusterState}

@@ -1,4 +1,4 @@
--- When a join is counted.
+-- Part of the statement: when a join is counted.
 use Rattle.std.specs.Prelude.{ℕ, Bool, true, false, cond, not, ◌&&◌, Result, Ok, Err, List, [], ◌∷◌, nat_lt, nat_eq}
 use Rattle.voting_config.specs.Ids.{Id, same}
 use Rattle.cluster_state.specs.declared.state.StateId.{StateId}

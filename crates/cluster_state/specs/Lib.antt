@@ -9,3 +9,4 @@ pub mod Fields
 pub mod States
 pub mod Json
 pub mod Puts
+pub mod StateIds

@@ -1,4 +1,4 @@
--- Which settings a client may put.
+-- Part of the statement: which settings a client may put.
 use Rattle.std.specs.Prelude.{ℕ, ◌==◌, ◌||◌, List, length, nat_lt, Option, Some, None, if◌then◌else◌}
 use Rattle.cluster_state.specs.declared.request.Ask.{Ask}
 use Rattle.cluster_state.specs.declared.request.Ask.TheVariants.{Put, Remove, Exclude, Clear, State}

@@ -1,4 +1,4 @@
--- When two values are the same.
+-- Part of the statement: when two values are the same.
 use Rattle.std.specs.Prelude.{Bool, true, false, ◌&&◌, Option, Some, None}
 use Rattle.voting_config.specs.Ids.{Id, same, same_config}
 use Rattle.cluster_state.specs.declared.state.ClusterValue.{ClusterValue}

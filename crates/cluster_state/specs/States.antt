@@ -1,4 +1,4 @@
--- A state as bytes.
+-- Part of the statement: a state as bytes.
 use Rattle.std.specs.Prelude.{◌≡◌, ℕ, ◌≤◌, ◌^◌, ◌==◌, List, length, Option, Result, Ok, Err, if◌then◌else◌}
 use Rattle.voting_config.specs.Ids.{Id, most_ids}
 use Rattle.cluster_state.specs.declared.fault.FieldError.{FieldError}

@@ -1,4 +1,4 @@
-//! Fields read from the front of bytes: each gives the value, or the first fault.
+//! Fields read from the start of bytes: each gives the value, or the first fault.
 
 ghost use Rattle.std.specs.Prelude.{◌≡◌, ◌≤◌, ◌==◌, [], length, if◌then◌else◌, true};
 ghost use Rattle.std.specs.Option.{option_copied};
@@ -36,7 +36,7 @@ impl<'a> Model for Reader<'a> {
 }
 
 impl<'a> Reader<'a> {
-    /// A reader of these bytes, from their front.
+    /// A reader of these bytes, from their start.
     pub fn new(bytes: &'a [u8]) -> Reader<'a>
         ensures { result ≡ bytes.now }
     {
@@ -145,7 +145,7 @@ impl<'a> Reader<'a> {
         NodeId::from_bytes(front).ok_or(FieldError::BadId)
     }
 
-    /// A flag, and behind a 1 an id.
+    /// A flag, and after a 1 an id.
     pub fn optional_id(&mut self) -> Result<Option<NodeId>, FieldError>
         ensures { Reads (λ x. x) result self.new ((optional id).at self.old) }
     {

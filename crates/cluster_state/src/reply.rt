@@ -1,3 +1,4 @@
+//! What a client is answered. The types stand here, below the crates that make answers and those that write them.
 use crate::state::{ClusterState, StateId};
 use voting_config::{NodeId, NodeSet};
 

@@ -1,3 +1,4 @@
+//! What a client asks for. The types stand here, below the crates that read requests and those that answer them.
 ghost use Rattle.std.specs.Prelude.{◌≡◌, IfOk};
 ghost use Rattle.cluster_state.specs.Puts.{bad_setting_of};
 

@@ -1,3 +1,4 @@
+//! Cluster states, their ids and values, and what a node keeps durably.
 ghost use Rattle.std.specs.Prelude.{◌≡◌, IfOk};
 
 use crate::settings::Settings;
@@ -18,6 +19,31 @@ pub struct ClusterValue {
 pub struct StateId {
     pub term: u64,
     pub version: u64,
+}
+
+impl StateId {
+    ghost use Rattle.cluster_state.specs.StateIds.{is_fresher as is_fresher_of, is_reached, is_same_state};
+
+    /// Whether the id is above the other.
+    pub fn is_fresher(self, other: StateId) -> bool
+        ensures { result ≡ is_fresher_of self other }
+    {
+        self > other
+    }
+
+    /// Whether the other is this id or above it.
+    pub fn is_reached_by(self, other: StateId) -> bool
+        ensures { result ≡ is_reached self other }
+    {
+        self <= other
+    }
+
+    /// Whether the two ids are the same.
+    pub fn is_same(self, other: StateId) -> bool
+        ensures { result ≡ is_same_state self other }
+    {
+        self == other
+    }
 }
 
 /// The greatest term and the greatest version: 2^62.

@@ -1,3 +1,4 @@
+//! A text, seen as its bytes.
 use std::alloc::AllocError;
 use std::marker::Model;
 

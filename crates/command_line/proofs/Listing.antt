@@ -8,8 +8,9 @@ use Rattle.std.proofs.Math.Bool.{or_comm, or-false}
 use Rattle.std.proofs.lemmas.Bool.Decides.{nat_tests}
 use Rattle.std.proofs.lemmas.List.{append-nil, length-append}
 use Rattle.std.proofs.lemmas.List.Folds.{list_any-append}
-use Rattle.voting_config.specs.Ids.{Id, same, before, has, put, with_id, is_id}
+use Rattle.voting_config.specs.Ids.{Id, same, has, put, with_id, is_id}
 use Rattle.voting_config.proofs.Sorted.{has-with_id}
+use Rattle.voting_config.proofs.Sets.{length-with_id-absent}
 use Rattle.zen_link.specs.declared.link.Peer.{Peer}
 use Rattle.zen_host.specs.HostCalls.{ToldPeer, told_peer}
 use Rattle.command_line.specs.declared.command.WordsError.{WordsError}
@@ -44,22 +45,11 @@ item_fails put items i d found total Memory within h so_far = tt
 
 -- ---- ids
 
--- what was found has the ids at the front
+-- what was found has the ids at the start
 record HasFront (found front : List Id) : Type 0 where
   members : (q : Id) → has q found ≡ has q front
   size : length found ≡ length front
   few : length front ≤ 32
-
-length-put : (x : Id) (ys : List Id) → length (put x ys) ≡ suc (length ys)
-length-put x [] = refl
-length-put x (y ∷ ys) =
-    elim (before y x) as (λ b. length (cond b (y ∷ put x ys) (x ∷ y ∷ ys)) ≡ suc (suc (length ys))) [
-      | true ↦ ap suc (length-put x ys)
-      | false ↦ refl
-    ]
-
-length-with_id : (x : Id) (ys : List Id) → has x ys ≡ false → length (with_id x ys) ≡ suc (length ys)
-length-with_id x ys h = rw h (length-put x ys)
 
 has_push : (q x : Id) (front : List Id) → has q (front ++ x ∷ []) ≡ (has q front || same x q)
 has_push q x front = list_any-append (λ y. same y q) front (x ∷ []) ∙ ap (λ (b : Bool). has q front || b) (or-false (same x q))
@@ -67,7 +57,7 @@ has_push q x front = list_any-append (λ y. same y q) front (x ∷ []) ∙ ap (�
 HasFront-with_id : (x : Id) (found front : List Id) → HasFront found front → has x found ≡ false → length found < 32 → HasFront (with_id x found) (front ++ x ∷ [])
 HasFront-with_id x found front s new room = record {
   members = λ q. has-with_id q x found ∙ or_comm (same x q) (has q found) ∙ ap (λ (b : Bool). b || same x q) (s.members q) ∙ sym (has_push q x front);
-  size = let longer = length-with_id x found new in rw (longer, length-append, s.size) (omega arith);
+  size = let longer = length-with_id-absent x found new in rw (longer, length-append, s.size) (omega arith);
   few = rw length-append (omega (arith, s.size));
 }
 

@@ -1,4 +1,4 @@
--- What was answered is what there is, unless memory ran out.
+-- For the contracts inside: what was answered is what there is, unless memory ran out.
 use Rattle.std.specs.Prelude.{◌≡◌, Option, Some, None, Result, Ok, Err}
 use Rattle.command_line.specs.declared.command.WordsError.{WordsError}
 use Rattle.command_line.specs.declared.command.WordsError.TheVariants.{Usage, Memory}

@@ -1,8 +1,8 @@
--- Lists by commas: of ids, and of peers.
-use Rattle.std.specs.Prelude.{ℕ, ◌==◌, ◌&&◌, ◌||◌, Bool, true, not, if◌then◌else◌, List, [], ◌∷◌, ◌++◌, length, map, fold, nat_le, nat_lt, Option, Some, None}
+-- Part of the statement: lists by commas: of ids, and of peers.
+use Rattle.std.specs.Prelude.{ℕ, ◌==◌, ◌&&◌, ◌||◌, Bool, true, not, if◌then◌else◌, List, [], ◌∷◌, ◌++◌, length, map, nat_le, nat_lt, Option, Some, None}
 use Rattle.std.specs.List.{list_all, list_any, before_first, after_first}
-use Rattle.voting_config.specs.Ids.{Id, is_id, has, with_id, most_ids}
-use Rattle.schedule_text.specs.Words.{items_of}
+use Rattle.voting_config.specs.Ids.{Id, is_id, has, most_ids, set_of, with_id}
+use Rattle.voting_config.specs.Lists.{items_of}
 use Rattle.zen_host.specs.HostCalls.{ToldPeer}
 use Rattle.command_line.specs.Given.{Text}
 use Rattle.command_line.specs.Values.{◌>>=◌, id_of}
@@ -13,10 +13,6 @@ are_new before [] = true
 are_new before (x ∷ xs) = not (has x before) && are_new (before ++ x ∷ []) xs
 
 -- ---- ids
-
--- the ids as a set
-abbrev pub set_of : List Id → List Id
-set_of ids = fold (λ set id. with_id id set) [] ids
 
 -- distinct ids, no more than a set holds
 abbrev pub are_set_ids : List Text → Bool

@@ -1,4 +1,4 @@
--- The commands, and the command line as clap is told of it.
+-- Part of the statement: the commands, and the command line as clap is given it.
 use Rattle.std.specs.Prelude.{◌≡◌, true, false, List, [], ◌∷◌, map, Some, codes}
 use Rattle.clap.specs.Words.{App, Rule, Shape, app_of, new_rule, with_rule}
 use Rattle.clap.specs.Simple.{new_shape}
@@ -30,7 +30,7 @@ commands =
     (codes "replay", replay_takes) ∷ (codes "inspect", inspect_takes) ∷ (codes "node", node_takes)
     ∷ (codes "generate", generate_takes) ∷ (codes "trial", trial_takes) ∷ []
 
--- ---- as clap is told
+-- ---- as clap is given it
 
 abbrev pub raw : Named → Rule
 raw (option n) = record (new_rule n) { long = Some n }

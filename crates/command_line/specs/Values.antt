@@ -1,4 +1,4 @@
--- The values of options, by their kinds.
+-- Part of the statement: the values of options, by their kinds.
 use Rattle.std.specs.Prelude.{ℕ, ◌^◌, ◌==◌, ◌&&◌, ◌||◌, Bool, false, if◌then◌else◌, length, codes, nat_le, nat_lt, Option, Some, None, option_and_then}
 use Rattle.std.specs.Char.{is_ascii_digit}
 use Rattle.std.specs.List.{list_all, list_any}

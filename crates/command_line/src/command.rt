@@ -1,3 +1,4 @@
+//! The commands of the program, with what each is given.
 ghost use Rattle.std.specs.Prelude.{◌≡◌};
 ghost use Rattle.command_line.specs.declared.command.WordsError.TheVariants as error;
 

@@ -1,7 +1,8 @@
+//! Lists by commas: of ids, and of peers with their addresses.
 ghost use Rattle.std.specs.Prelude.{◌≡◌, map, IfOk};
 ghost use Rattle.std.specs.List.{list_any};
 ghost use Rattle.voting_config.specs.Ids.{same};
-ghost use Rattle.schedule_text.specs.Words.{items_of};
+ghost use Rattle.voting_config.specs.Lists.{items_of};
 ghost use Rattle.zen_host.specs.HostCalls.{told_peer};
 ghost use Rattle.command_line.specs.Answers.{Gives, GivesBy};
 ghost use Rattle.command_line.specs.Lists.{set_in, initial_of, peer_of, peers_in, peers_of, with_new_id, with_new_peer};

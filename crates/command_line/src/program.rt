@@ -1,3 +1,4 @@
+//! The command line as clap knows it: each command with its options and flags.
 ghost use Rattle.std.specs.Prelude.{◌≡◌, IfOk, codes};
 ghost use Rattle.clap.specs.Words.{app_of};
 ghost use Rattle.command_line.specs.Given.{option, flag};
@@ -66,7 +67,7 @@ fn trial<'a>(alloc: Global) -> Result<Command<'a>, AllocError>
     with_option(alloc, command, "turns")
 }
 
-/// The commands and what they take, as clap is told of them.
+/// The commands and what they take, as clap is given them.
 pub fn program<'a>(alloc: Global) -> Result<Command<'a>, AllocError>
     ensures { IfOk result (λ c. app_of c ≡ program_app) }
 {

@@ -1,3 +1,4 @@
+//! Words that are commands, and words that are none.
 use crate::{NodeWords, ProgramCommand, WordsError, read_words};
 use schedule_text::Level;
 use std::alloc::{AllocError, Global};

@@ -1,3 +1,4 @@
+//! The values of options, by their kinds: texts, ids, addresses, numbers.
 ghost use Rattle.std.specs.Prelude.{◌≡◌, ◌==◌, not, is_some, option_map};
 ghost use Rattle.std.specs.Char.{is_ascii_digit};
 ghost use Rattle.std.specs.List.{list_all, list_any};

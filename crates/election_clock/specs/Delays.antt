@@ -1,4 +1,4 @@
--- How long an attempt at an election waits, in milliseconds.
+-- Part of the statement: how long an attempt at an election waits, and when a span has gone by, in milliseconds.
 use Rattle.std.specs.Prelude.{ℕ, ◌+◌, ◌*◌, ◌%◌, min, Bool, nat_le}
 
 -- a wait of the first attempt is at most this long
@@ -24,3 +24,7 @@ delay_of attempt word = 1 + word % longest_of attempt
 -- the moment is reached
 abbrev pub is_due : ℕ → ℕ → Bool
 is_due at now = nat_le at now
+
+-- whether a span has gone by since a moment
+abbrev pub has_passed : ℕ → ℕ → ℕ → Bool
+has_passed since span now = nat_le (since + span) now

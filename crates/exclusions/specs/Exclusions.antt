@@ -1,10 +1,9 @@
--- Which nodes are not to vote.
+-- Part of the statement: which nodes are not to vote.
 use Rattle.std.specs.Prelude.{ℕ, Bool, not, ◌||◌, Option, None, Some, Result, Ok, Err, List, find, nat_lt, if◌then◌else◌}
-use Rattle.voting_config.specs.Ids.{Id, has, union_count_of}
+use Rattle.voting_config.specs.Ids.{Id, has, union_count_of, union}
 use Rattle.exclusions.specs.declared.AddError.{AddError}
 use Rattle.exclusions.specs.declared.AddError.TheVariants.{NotMember, TooMany}
 use Rattle.exclusions.specs.declared.StillMember.{StillMember}
-use Rattle.exclusions.specs.Sets.{union}
 
 -- how many nodes may be excluded at most
 abbrev pub most_exclusions : ℕ

@@ -2,10 +2,9 @@
 //! reference 7.x, Voting configuration exclusions API).
 #![tactic(auto)]
 
-ghost use Rattle.std.specs.Prelude.{◌≡◌, ◌<◌, ◌≤◌, find, length, not};
-ghost use Rattle.voting_config.specs.Ids.{has, most_ids, union_count_of, with_id};
-ghost use Rattle.exclusions.specs.Sets.{union};
-ghost use Rattle.exclusions.specs.Exclusions.{added_of, cleared_of, may_win_of, most_exclusions};
+ghost use Rattle.std.specs.Prelude.{◌≡◌, find, not};
+ghost use Rattle.voting_config.specs.Ids.{has};
+ghost use Rattle.exclusions.specs.Exclusions.{added_of, cleared_of, may_win_of};
 
 use thiserror::Error;
 use voting_config::{NodeId, NodeSet, VotingConfig};
@@ -45,7 +44,7 @@ pub fn add(now_excluded: &NodeSet, members: &NodeSet, asked: &NodeSet) -> Result
     if count > MAX_EXCLUSIONS {
         return Err(AddError::TooMany(count));
     }
-    Ok(union_of(now_excluded, asked))
+    Ok(now_excluded.union(asked))
 }
 
 /// Whether the exclusions may be cleared. `StillMember` exactly where `wait` is true and an excluded id is a member,
@@ -87,25 +86,4 @@ fn first_within(ids: &NodeSet, set: &NodeSet) -> Option<NodeId>
     ensures { result ≡ find (λ id. has id set.now) ids.now }
 {
     ids.as_slice().iter().copied().find(|id| set.contains(*id))
-}
-
-// The ids of both sets, which are few enough for a set.
-fn union_of(first: &NodeSet, second: &NodeSet) -> NodeSet
-    requires { union_count_of second.now first.now ≤ most_exclusions }
-    ensures { result ≡ union first.now second.now }
-{
-    let mut both = first.copy();
-    let ids = second.as_slice();
-    for id in ids {
-        put(&mut both, *id);
-    }
-    both
-}
-
-// Puts the id in, where it is not in yet.
-fn put(ids: &mut NodeSet, id: NodeId)
-    requires { length ids.old < most_ids }
-    ensures { ids.new ≡ with_id id ids.old }
-{
-    let _ = ids.insert(id);
 }

@@ -1,46 +1,14 @@
 -- Followers whose ids ascend.
-use Rattle.std.proofs.Common.{◌≡◌, ℕ, zero, suc, Bool, true, false, cond, not, ◌&&◌, List, [], ◌∷◌, map, drop, refl, sym, ap, subst, ◌∙◌}
+use Rattle.std.proofs.Common.{◌≡◌, ℕ, zero, suc, Bool, true, false, cond, not, ◌&&◌, List, [], ◌∷◌, map, drop, refl, sym, subst, ◌∙◌}
 use Rattle.std.specs.Prelude.{filter, is_none}
-use Rattle.std.proofs.lemmas.Bool.{and_parts, and_from, or_from}
-use Rattle.std.specs.Ordering.{is_lt, is_eq, ordering_reverse, nat_cmp}
-use Rattle.std.specs.declared.cmp.Ordering.{Ordering}
-use Rattle.std.specs.declared.cmp.Ordering.TheVariants.{Less, Equal, Greater}
-use Rattle.std.specs.Cmp.Lexicographic.{slice_cmp, nat_list_cmp_total, texts_ties, same_text}
-use Rattle.voting_config.specs.Ids.{Id, has, same, before, is_below, ascends, put, with_id}
+use Rattle.std.proofs.lemmas.Bool.{and_parts, and_from}
+use Rattle.std.specs.Cmp.Lexicographic.{same_text}
+use Rattle.voting_config.specs.Ids.{Id, has, same, before, is_below, ascends}
+use Rattle.voting_config.proofs.Sorted.{is_below-absent}
 use Rattle.fault_checks.specs.declared.followers.Follower.{Follower}
 use Rattle.cluster_state.specs.declared.state.StateId.{StateId}
 use Rattle.fault_checks.specs.Checks.{ticked_at, answered_at, fails, asks}
 use Rattle.fault_checks.specs.Followers.{ids_of, watched_or_new, AreApart, answered_from, answered_by, behind_after, stays, stayed, is_late, is_asked, drops_for_checks, drops_for_lag, to_ask, to_drop_for_checks, to_drop_for_lag}
-
-less_is : (o : Ordering) → is_lt o ≡ true → o ≡ Less
-less_is Less h = refl
-less_is Equal h = cc
-less_is Greater h = cc
-
-turned : (x y : Id) → before x y ≡ true → slice_cmp nat_cmp y x ≡ Greater
-turned x y h = nat_list_cmp_total.antisymm y x ∙ ap ordering_reverse (less_is _ h)
-
-not_before : (x y : Id) → before x y ≡ true → before y x ≡ false
-not_before x y h = ap is_lt (turned x y h)
-
-not_same : (x y : Id) → before x y ≡ true → same y x ≡ false
-not_same x y h = texts_ties y x ∙ ap is_eq (turned x y h)
-
-is_below-absent : (x : Id) (ys : List Id) → is_below x ys ≡ true → has x ys ≡ false
-is_below-absent x [] h = refl
-is_below-absent x (y ∷ ys) h =
-    let parts : (before x y ≡ true) × (is_below x ys ≡ true) = and_parts (before x y) (is_below x ys) h in
-    or_from _ _ (not_same x y parts.0) (is_below-absent x ys parts.1)
-
-put-first : (x : Id) (ys : List Id) → is_below x ys ≡ true → put x ys ≡ x ∷ ys
-put-first x [] h = refl
-put-first x (y ∷ ys) h =
-    let parts : (before x y ≡ true) × (is_below x ys ≡ true) = and_parts (before x y) (is_below x ys) h in
-    rw (not_before x y parts.0) refl
-
--- an id before all others goes in at the front
-pub with_id-first : (x : Id) (ys : List Id) → is_below x ys ≡ true → with_id x ys ≡ x ∷ ys
-with_id-first x ys h = rw (is_below-absent x ys h) (put-first x ys h)
 
 pub is_below-filter : (x : Id) (p : Follower → Bool) (fs : List Follower) → is_below x (ids_of fs) ≡ true → is_below x (ids_of (filter p fs)) ≡ true
 is_below-filter x p [] h = refl

@@ -6,7 +6,8 @@ use Rattle.std.proofs.lemmas.List.{drop_more, length-map}
 use Rattle.voting_config.specs.Ids.{Id, with_id, is_below, ascends}
 use Rattle.fault_checks.specs.declared.followers.Follower.{Follower}
 use Rattle.fault_checks.specs.Followers.{ids_of}
-use Rattle.fault_checks.proofs.Ascending.{with_id-first, is_below-filter, ascends-drop}
+use Rattle.voting_config.proofs.Sets.{with_id-first}
+use Rattle.fault_checks.proofs.Ascending.{is_below-filter, ascends-drop}
 
 length-filter-le : (p : Follower → Bool) (fs : List Follower) → length (filter p fs) ≤ length fs
 length-filter-le p [] = omega arith

@@ -1,5 +1,6 @@
--- The checks of one node by another, one after the other.
+-- Part of the statement: the checks of one node by another, one after the other.
 use Rattle.std.specs.Prelude.{ℕ, ◌+◌, min, Bool, false, not, ◌&&◌, Option, None, Some, nat_le, if◌then◌else◌, is_none}
+use Rattle.election_clock.specs.Delays.{has_passed}
 use Rattle.fault_checks.specs.declared.checking.Check.{Check}
 use Rattle.fault_checks.specs.Spans.{check_interval, check_timeout, check_retry_count}
 
@@ -21,7 +22,7 @@ answered_at c good now =
 -- whether the outstanding check has had no answer for too long
 abbrev pub is_overdue : Option ℕ → ℕ → Bool
 is_overdue None now = false
-is_overdue (Some asked) now = nat_le (asked + check_timeout) now
+is_overdue (Some asked) now = has_passed asked check_timeout now
 
 -- a check that is overdue has failed
 abbrev pub timed_out_at : Check → ℕ → Check
@@ -33,7 +34,7 @@ has_failed c = nat_le check_retry_count c.failures
 
 -- whether the next check is due
 abbrev pub is_due : Check → ℕ → Bool
-is_due c now = is_none c.asked && nat_le (c.since + check_interval) now
+is_due c now = is_none c.asked && has_passed c.since check_interval now
 
 -- whether a tick finds too many failures
 abbrev pub fails : Check → ℕ → Bool

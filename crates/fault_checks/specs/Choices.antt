@@ -1,4 +1,4 @@
--- Which followers a tick names.
+-- For the contracts inside: which followers a tick names.
 use Rattle.std.specs.Prelude.{ℕ, Bool}
 use Rattle.fault_checks.specs.declared.followers.Choice.{Choice}
 use Rattle.fault_checks.specs.declared.followers.Choice.TheVariants as choice

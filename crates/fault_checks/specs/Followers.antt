@@ -1,14 +1,16 @@
--- Whether the followers answer and keep up, by the calls so far.
-use Rattle.std.specs.Prelude.{◌≡◌, ℕ, ◌+◌, Bool, true, false, not, ◌&&◌, ◌||◌, Option, None, Some, List, [], ◌∷◌, map, filter, nat_le, nat_lt, nat_eq, if◌then◌else◌, is_none}
+-- Part of the statement: whether the followers answer and keep up, by the calls so far.
+use Rattle.std.specs.Prelude.{◌≡◌, ℕ, Bool, true, false, not, ◌&&◌, Option, None, Some, List, [], ◌∷◌, map, filter, if◌then◌else◌, is_none}
 use Rattle.voting_config.specs.Ids.{Id, has, same}
 use Rattle.cluster_state.specs.declared.state.StateId.{StateId}
+use Rattle.cluster_state.specs.StateIds.{is_reached, is_same_state}
+use Rattle.election_clock.specs.Delays.{has_passed}
 use Rattle.fault_checks.specs.declared.followers.Behind.{Behind}
 use Rattle.fault_checks.specs.declared.followers.Follower.{Follower}
 use Rattle.fault_checks.specs.declared.checking.Check.{Check}
 use Rattle.fault_checks.specs.Checks.{unchecked, answered_at, ticked_at, fails, asks}
 use Rattle.fault_checks.specs.Spans.{follower_lag_timeout}
 
--- what the follower checks are told after their start
+-- what comes to the follower checks after their start
 pub data Call : Type 0 where
   -- these are the members now
   Watched : (members : List Id) → (now : ℕ) → Call
@@ -26,13 +28,6 @@ pub data Calls : Type 0 where
 -- before any state
 abbrev pub no_state : StateId
 no_state = record { term = 0; version = 0 }
-
--- whether a state is not above another
-abbrev pub is_reached : StateId → StateId → Bool
-is_reached state applied = nat_lt state.term applied.term || (nat_eq state.term applied.term && nat_le state.version applied.version)
-
-abbrev pub is_same_state : StateId → StateId → Bool
-is_same_state state last = nat_eq state.term last.term && nat_eq state.version last.version
 
 -- a new follower
 abbrev pub new_follower : Id → ℕ → Follower
@@ -71,7 +66,7 @@ answered_from f from finished good applied now = if same f.id from then answered
 -- whether a follower has been behind for too long
 abbrev pub is_late : Option Behind → ℕ → Bool
 is_late None now = false
-is_late (Some behind) now = nat_le (behind.since + follower_lag_timeout) now
+is_late (Some behind) now = has_passed behind.since follower_lag_timeout now
 
 -- a tick keeps a follower that it drops neither for its checks nor for its lag
 abbrev pub is_kept : Check → Option Behind → ℕ → Bool

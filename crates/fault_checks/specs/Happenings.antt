@@ -1,6 +1,7 @@
--- What happened in the checks of one node by another, and what follows from the last of it.
-use Rattle.std.specs.Prelude.{ℕ, ◌+◌, Bool, true, false, not, ◌&&◌, Option, None, Some, List, [], ◌∷◌, length, take, filter, nat_le, if◌then◌else◌, is_none}
+-- For the contracts inside: what happened in the checks of one node by another, and what follows from the last of it.
+use Rattle.std.specs.Prelude.{ℕ, Bool, true, false, not, ◌&&◌, Option, None, Some, List, [], ◌∷◌, length, take, filter, nat_le, if◌then◌else◌, is_none}
 use Rattle.std.specs.List.{list_all}
+use Rattle.election_clock.specs.Delays.{has_passed}
 use Rattle.fault_checks.specs.Checks.{is_overdue}
 use Rattle.fault_checks.specs.Spans.{check_interval, check_retry_count}
 
@@ -53,7 +54,7 @@ moment_of (TimedOut now) = now
 
 abbrev pub is_next_due : List Happening → ℕ → Bool
 is_next_due [] now = false
-is_next_due (last ∷ older) now = is_none (outstanding (last ∷ older)) && nat_le (moment_of last + check_interval) now
+is_next_due (last ∷ older) now = is_none (outstanding (last ∷ older)) && has_passed (moment_of last) check_interval now
 
 -- whether a tick sends a check: one is due, and the last three did not fail
 abbrev pub sends : List Happening → ℕ → Bool

@@ -1,4 +1,4 @@
--- Whom the checks lose, by what happened in them.
+-- For the contracts inside: whom the checks lose, by what happened in them.
 use Rattle.std.specs.Prelude.{◌≡◌, ℕ, not, ◌&&◌, List, [], ◌∷◌, if◌then◌else◌}
 use Rattle.voting_config.specs.Ids.{Id, has, same}
 use Rattle.fault_checks.specs.declared.leader.LeaderTick.TheVariants.{Quiet, Ask, Lost}

@@ -1,4 +1,4 @@
--- Whether the leader answers, by the calls so far.
+-- Part of the statement: whether the leader answers, by the calls so far.
 use Rattle.std.specs.Prelude.{◌≡◌, ℕ, Bool, if◌then◌else◌}
 use Rattle.voting_config.specs.Ids.{Id}
 use Rattle.fault_checks.specs.declared.checking.Check.{Check}
@@ -6,7 +6,7 @@ use Rattle.fault_checks.specs.declared.leader.LeaderTick.{LeaderTick}
 use Rattle.fault_checks.specs.declared.leader.LeaderTick.TheVariants.{Quiet, Ask, Lost}
 use Rattle.fault_checks.specs.Checks.{unchecked, answered_at, ticked_at, fails, asks}
 
--- what a leader check is told after its start
+-- what comes to a leader check after its start
 pub data LeaderCall : Type 0 where
   LeaderAnswered : (good : Bool) → (now : ℕ) → LeaderCall
   LeaderTicked : (now : ℕ) → LeaderCall

@@ -1,4 +1,4 @@
--- The spans of the checks, in ms.
+-- Part of the statement: the spans of the checks, in ms.
 use Rattle.std.specs.Prelude.{ℕ}
 
 -- how long after an answer or a failure the next check comes

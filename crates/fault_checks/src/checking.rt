@@ -1,7 +1,9 @@
-ghost use Rattle.std.specs.Prelude.{◌≡◌, ◌+◌, nat_le};
+//! The checks of one node by another: when the next is due, and what an answer or a failure makes of them.
+ghost use Rattle.std.specs.Prelude.{◌≡◌};
 ghost use Rattle.fault_checks.specs.Checks.{unchecked as unchecked_of, failed_at as failed_at_of, answered_at as answered_at_of, is_overdue as is_overdue_of, timed_out_at as timed_out_at_of, has_failed as has_failed_of, is_due as is_due_of, fails as fails_of, asks as asks_of, ticked_at as ticked_at_of};
 
-use crate::spans::{CHECK_INTERVAL, CHECK_RETRY_COUNT, CHECK_TIMEOUT};
+use crate::spans::{CHECK_INTERVAL_MS, CHECK_RETRY_COUNT, CHECK_TIMEOUT_MS};
+use election_clock::has_passed;
 
 /// The checks of one node, one after the other.
 #[derive(Clone, Copy, Default)]
@@ -12,13 +14,6 @@ pub struct Check {
     pub asked: Option<u64>,
     /// The failures in a row, counted to [`CHECK_RETRY_COUNT`].
     pub failures: u64,
-}
-
-// Whether a span has gone by since a moment.
-pub(crate) fn has_passed(since: u64, span: u64, now: u64) -> bool
-    ensures { result ≡ nat_le (since + span) now }
-{
-    since <= now && span <= now - since
 }
 
 pub(crate) fn unchecked(now: u64) -> Check
@@ -58,7 +53,7 @@ fn is_overdue(asked: Option<u64>, now: u64) -> bool
 {
     match asked {
         None => false,
-        Some(asked) => has_passed(asked, CHECK_TIMEOUT, now),
+        Some(asked) => has_passed(asked, CHECK_TIMEOUT_MS, now),
     }
 }
 
@@ -81,7 +76,7 @@ fn has_failed(check: Check) -> bool
 fn is_due(check: Check, now: u64) -> bool
     ensures { result ≡ is_due_of check now }
 {
-    check.asked.is_none() && has_passed(check.since, CHECK_INTERVAL, now)
+    check.asked.is_none() && has_passed(check.since, CHECK_INTERVAL_MS, now)
 }
 
 pub(crate) fn fails(check: Check, now: u64) -> bool

@@ -1,34 +1,16 @@
-ghost use Rattle.std.specs.Prelude.{◌≡◌, ◌<◌, ◌≤◌, length, map, filter, nat_le, IsTrue, if◌then◌else◌};
+//! The checks of the followers by their leader: which of them fail, and which lag.
+ghost use Rattle.std.specs.Prelude.{◌≡◌, ◌<◌, ◌≤◌, length, map, filter, IsTrue, if◌then◌else◌};
 ghost use Rattle.voting_config.specs.Ids.{with_id, most_ids, ascends};
 ghost use Rattle.fault_checks.specs.declared.followers.Follower.{Follower as FollowerOf};
 ghost use Rattle.fault_checks.specs.Checks.{ticked_at as ticked_at_of};
 ghost use Rattle.fault_checks.specs.Choices.{is_chosen as is_chosen_of};
-ghost use Rattle.fault_checks.specs.Followers.{
-  is_reached as is_reached_of,
-  new_follower as new_follower_of,
-  watched_or_new as watched_or_new_of,
-  fallen_behind as fallen_behind_of,
-  is_same_state as is_same_state_of,
-  behind_finished as behind_finished_of,
-  behind_after as behind_after_of,
-  answered_from as answered_from_of,
-  is_late as is_late_of,
-  drops_for_checks as drops_for_checks_of,
-  drops_for_lag as drops_for_lag_of,
-  stays as stays_of,
-  stayed,
-  is_asked as is_asked_of,
-  ids_of,
-  to_ask,
-  to_drop_for_checks,
-  to_drop_for_lag,
-  AreApart,
-};
+ghost use Rattle.fault_checks.specs.Followers.{new_follower as new_follower_of, watched_or_new as watched_or_new_of, fallen_behind as fallen_behind_of, behind_finished as behind_finished_of, behind_after as behind_after_of, answered_from as answered_from_of, is_late as is_late_of, drops_for_checks as drops_for_checks_of, drops_for_lag as drops_for_lag_of, stays as stays_of, stayed, is_asked as is_asked_of, ids_of, to_ask, to_drop_for_checks, to_drop_for_lag, AreApart};
 
 use crate::checking::{self, Check};
-use crate::spans::FOLLOWER_LAG_TIMEOUT;
+use crate::spans::FOLLOWER_LAG_TIMEOUT_MS;
 use arrayvec::ArrayVec;
 use cluster_state::StateId;
+use election_clock::has_passed;
 use std::marker::Model;
 use voting_config::{MAX_IDS, NodeId, NodeSet};
 
@@ -121,6 +103,7 @@ impl FollowerChecks {
         ensures { result ≡ self.now }
     {
         let mut watched = ArrayVec::new();
+        // There is as much room as in the original, so this is no error.
         let _ = watched.try_extend_from_slice(self.watched.as_slice());
         FollowerChecks {
             finished: self.finished,
@@ -166,10 +149,10 @@ impl FollowerChecks {
     }
 
     /// Whom to ask and whom to drop now, in ms. Dropped are those whose last [`crate::CHECK_RETRY_COUNT`] checks have
-    /// failed, and of the others those that fell behind a finished state [`FOLLOWER_LAG_TIMEOUT`] or more ago; they
-    /// are watched no more. Of the rest those are asked that have no check outstanding, [`crate::CHECK_INTERVAL`] or
+    /// failed, and of the others those that fell behind a finished state [`FOLLOWER_LAG_TIMEOUT_MS`] or more ago; they
+    /// are watched no more. Of the rest those are asked that have no check outstanding, [`crate::CHECK_INTERVAL_MS`] or
     /// more after their last answer or failure, or after they became watched. A check that has had no answer for
-    /// [`crate::CHECK_TIMEOUT`] fails at this tick.
+    /// [`crate::CHECK_TIMEOUT_MS`] fails at this tick.
     pub fn tick(&mut self, now: u64) -> Checked
         ensures ask { result.ask ≡ to_ask self.old.watched now }
         ensures checks { result.checks ≡ to_drop_for_checks self.old.watched now }
@@ -186,13 +169,6 @@ impl FollowerChecks {
     }
 }
 
-// Whether a state is not above another.
-fn is_reached(state: StateId, applied: StateId) -> bool
-    ensures { result ≡ is_reached_of state applied }
-{
-    state.term < applied.term || (state.term == applied.term && state.version <= applied.version)
-}
-
 fn fallen_behind(
     behind: Option<Behind>,
     applied: StateId,
@@ -204,19 +180,13 @@ fn fallen_behind(
     match behind {
         Some(behind) => Some(behind),
         None => {
-            if is_reached(state, applied) {
+            if state.is_reached_by(applied) {
                 None
             } else {
                 Some(Behind { state, since: now })
             }
         }
     }
-}
-
-fn is_same_state(state: StateId, last: StateId) -> bool
-    ensures { result ≡ is_same_state_of state last }
-{
-    state.term == last.term && state.version == last.version
 }
 
 fn behind_finished(
@@ -228,7 +198,7 @@ fn behind_finished(
 ) -> Option<Behind>
     ensures { result ≡ behind_finished_of behind applied last state now }
 {
-    if is_same_state(state, last) {
+    if state.is_same(last) {
         behind
     } else {
         fallen_behind(behind, applied, state, now)
@@ -246,7 +216,7 @@ fn behind_after(
     match behind {
         None => None,
         Some(behind) => {
-            if is_reached(behind.state, applied) {
+            if behind.state.is_reached_by(applied) {
                 fallen_behind(None, applied, finished, now)
             } else {
                 Some(behind)
@@ -260,7 +230,7 @@ fn is_late(behind: Option<Behind>, now: u64) -> bool
 {
     match behind {
         None => false,
-        Some(behind) => checking::has_passed(behind.since, FOLLOWER_LAG_TIMEOUT, now),
+        Some(behind) => has_passed(behind.since, FOLLOWER_LAG_TIMEOUT_MS, now),
     }
 }
 
@@ -441,7 +411,7 @@ fn insert_chosen(ids: &mut NodeSet, follower: &Follower, choice: Choice, now: u6
     ensures { ids.new ≡ (if is_chosen_of choice follower.now now then with_id follower.now.id ids.old else ids.old) }
 {
     if is_chosen(choice, follower, now) {
-        let _ = ids.insert(follower.id);
+        ids.put(follower.id);
     }
 }
 

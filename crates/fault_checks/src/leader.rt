@@ -1,3 +1,4 @@
+//! The checks of the leader by a follower of it.
 ghost use Rattle.std.specs.Prelude.{◌≡◌};
 
 use crate::checking::{self, Check};
@@ -42,7 +43,7 @@ impl LeaderCheck {
       leader_tick,
     };
 
-    /// The checks of this leader begin now, in ms: the first is due [`crate::CHECK_INTERVAL`] from now.
+    /// The checks of this leader begin now, in ms: the first is due [`crate::CHECK_INTERVAL_MS`] from now.
     pub fn start(leader: NodeId, now: u64) -> LeaderCheck
         ensures { StandsForLeader result (LeaderStarted leader now) }
     {
@@ -61,9 +62,9 @@ impl LeaderCheck {
     }
 
     /// What to do about the leader now, in ms: `Lost` exactly where the last [`crate::CHECK_RETRY_COUNT`] checks have
-    /// failed, and from then on. Else `Ask` exactly where no check is outstanding and [`crate::CHECK_INTERVAL`] have
+    /// failed, and from then on. Else `Ask` exactly where no check is outstanding and [`crate::CHECK_INTERVAL_MS`] have
     /// gone by since the last answer, failure or the start. A check that has had no answer for
-    /// [`crate::CHECK_TIMEOUT`] fails at this tick.
+    /// [`crate::CHECK_TIMEOUT_MS`] fails at this tick.
     pub fn tick(&mut self, now: u64) -> LeaderTick
         ensures tick { result ≡ leader_tick self.old now }
         ensures now { self.new ≡ after_leader self.old (LeaderTicked now) }

@@ -1,3 +1,4 @@
+//! A follower that never answers, one that lags, and a leader that refuses, tick by tick.
 use super::*;
 use cluster_state::StateId;
 use std::test::*;

@@ -1,3 +1,4 @@
+//! Whether a node counts a join.
 ghost use Rattle.std.specs.Prelude.{◌≡◌};
 ghost use Rattle.cluster_state.specs.JoinCheck.{join_checked};
 

@@ -1,3 +1,4 @@
+//! Joins that are counted, and one that is refused.
 use crate::{JoinVotes, join_check};
 use cluster_state::{Join, JoinCause, StateId};
 use voting_config::{NodeId, NodeSet, VotingConfig};

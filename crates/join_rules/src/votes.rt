@@ -1,3 +1,4 @@
+//! `JoinVotes`: the sources of the joins that were counted, or of the responses to a publication.
 ghost use Rattle.std.specs.Prelude.{◌≡◌, ◌<◌, ◌⊎◌, [], length, true};
 ghost use Rattle.voting_config.specs.Ids.{has, with_id, most_ids};
 
@@ -37,6 +38,7 @@ impl JoinVotes {
         requires { (has source self.old ≡ true) ⊎ (length self.old < most_ids) }
         ensures { self.new ≡ with_id source self.old }
     {
+        // There is room, or it is in already, so this is no error.
         let _ = self.ids.insert(source);
     }
 

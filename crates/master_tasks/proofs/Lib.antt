@@ -1,4 +1,3 @@
-pub mod Kept
 pub mod Settling
 pub mod Stepping
 pub mod Making

@@ -3,13 +3,12 @@ use Rattle.std.proofs.Common.{◌≡◌, ℕ, suc, ◌+◌, ◌<◌, ◌≤◌, 
 use Rattle.std.specs.Prelude.{if◌then◌else◌}
 use Rattle.std.specs.List.{AllByRecursion}
 use Rattle.std.proofs.lemmas.Bool.Decides.{nat_tests}
-use Rattle.voting_config.specs.Ids.{Id, ascends, has, union_count_of}
+use Rattle.voting_config.specs.Ids.{Id, ascends, has, union_count_of, union}
 use Rattle.exclusions.specs.declared.AddError.{AddError}
 use Rattle.exclusions.specs.declared.AddError.TheVariants.{TooMany}
 use Rattle.exclusions.specs.declared.StillMember.{StillMember}
-use Rattle.exclusions.specs.Sets.{union}
 use Rattle.exclusions.specs.Exclusions.{most_exclusions, added_of, cleared_of, together, unless_missing}
-use Rattle.exclusions.proofs.Unions.{length-union}
+use Rattle.voting_config.proofs.Sets.{length-union}
 use Rattle.cluster_state.specs.declared.state.ClusterState.{ClusterState}
 use Rattle.cluster_state.specs.declared.state.ClusterValue.{ClusterValue}
 use Rattle.cluster_state.specs.Fields.{most_settings, IsFitSetting}

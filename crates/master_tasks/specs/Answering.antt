@@ -1,9 +1,9 @@
--- Which of the requests that wait are answered, each by a look at it alone.
-use Rattle.std.specs.Prelude.{ℕ, ◌+◌, Bool, not, ◌&&◌, Option, None, Some, List, filter, nat_le, is_some, is_none, if◌then◌else◌}
-use Rattle.std.specs.List.{list_any, filter_map}
+-- Part of the statement: which of the requests that wait are answered, each by a look at it alone.
+use Rattle.std.specs.Prelude.{ℕ, Bool, not, ◌&&◌, Option, None, Some, List, filter, is_some, is_none, if◌then◌else◌}
+use Rattle.std.specs.List.{filter_map}
 use Rattle.std.specs.Option.{option_map}
-use Rattle.voting_config.specs.Ids.{Id, has}
-use Rattle.reconfigurator.specs.Targets.{among}
+use Rattle.election_clock.specs.Delays.{has_passed}
+use Rattle.voting_config.specs.Ids.{Id, among, some_among}
 use Rattle.cluster_state.specs.declared.state.StateId.{StateId}
 use Rattle.cluster_state.specs.declared.request.Ask.{Ask}
 use Rattle.cluster_state.specs.declared.request.Ask.TheVariants as ask
@@ -36,10 +36,6 @@ excluded_by (ask.Exclude ids) = Some ids
 excluded_by (ask.Clear wait) = None
 excluded_by ask.State = None
 
--- whether one of the ids is among the others
-abbrev pub some_among : List Id → List Id → Bool
-some_among ids others = list_any (λ id. has id others) ids
-
 -- the node is the leader of this term no more
 abbrev pub failed : ℕ → Waiting → Option Answer
 failed term w = Some (answer.FailedToCommit term)
@@ -62,7 +58,7 @@ if_late committed late None = None
 if_late committed late (Some ids) = if late then Some (answer.ExclusionTimeout (among ids committed)) else None
 
 abbrev pub timed_out : List Id → ℕ → Waiting → Option Answer
-timed_out committed now w = if_late committed (nat_le (w.arrived + exclusion_span) now) (excluded_by w.request.ask)
+timed_out committed now w = if_late committed (has_passed w.arrived exclusion_span now) (excluded_by w.request.ask)
 
 -- the accepted state is the one that the requests ask for; an exclusion waits until none of its ids votes
 abbrev pub nothing_new : List Id → StateId → Waiting → Option Answer

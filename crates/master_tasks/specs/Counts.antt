@@ -1,4 +1,4 @@
--- Each request that waits is answered once, or waits on.
+-- For the contracts inside: each request that waits is answered once, or waits on.
 use Rattle.std.specs.Prelude.{◌≡◌, ◌+◌, Option, List, length}
 use Rattle.cluster_state.specs.declared.reply.Answer.{Answer}
 use Rattle.master_tasks.specs.declared.waiting.Waiting.{Waiting}

@@ -1,4 +1,4 @@
--- The answer that a request gets for each reason.
+-- For the contracts inside: the answer that a request gets for each reason.
 use Rattle.std.specs.Prelude.{Option}
 use Rattle.cluster_state.specs.declared.reply.Answer.{Answer}
 use Rattle.master_tasks.specs.declared.waiting.Waiting.{Waiting}

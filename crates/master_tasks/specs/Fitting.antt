@@ -1,4 +1,4 @@
--- Requests and next states that are within the limits of a state.
+-- For the contracts inside: requests and next states that are within the limits of a state.
 use Rattle.std.specs.Prelude.{◌≡◌, None, List}
 use Rattle.std.specs.List.{AllByRecursion}
 use Rattle.cluster_state.specs.States.{IsFitValue}

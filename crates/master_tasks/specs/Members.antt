@@ -1,7 +1,6 @@
--- The members of the next state.
+-- Part of the statement: the members of the next state.
 use Rattle.std.specs.Prelude.{List, fold, if◌then◌else◌}
-use Rattle.voting_config.specs.Ids.{Id, has, without_id}
-use Rattle.reconfigurator.specs.Targets.{outside}
+use Rattle.voting_config.specs.Ids.{Id, has, without_id, outside}
 use Rattle.master_tasks.specs.Queue.{Tasks, with_room}
 
 -- the ids with these more as far as there is room, the node itself first and then by id

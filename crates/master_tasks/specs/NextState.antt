@@ -1,7 +1,7 @@
--- The next state that a leader makes of its tasks.
+-- Part of the statement: the next state that a leader makes of its tasks.
 use Rattle.std.specs.Prelude.{◌≡◌, ℕ, Bool, ◌&&◌, Some, List, [], ◌++◌, length, nat_eq, if◌then◌else◌}
-use Rattle.voting_config.specs.Ids.{Id, same_config}
-use Rattle.reconfigurator.specs.Targets.{among, target_of}
+use Rattle.voting_config.specs.Ids.{Id, same_config, among}
+use Rattle.reconfigurator.specs.Targets.{target_of}
 use Rattle.cluster_state.specs.declared.state.ClusterState.{ClusterState}
 use Rattle.cluster_state.specs.declared.state.ClusterValue.{ClusterValue}
 use Rattle.cluster_state.specs.Same.{same_value}

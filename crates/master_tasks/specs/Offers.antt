@@ -1,4 +1,4 @@
--- What a refused offer hands back.
+-- For the contracts inside: what a refused offer hands back.
 use Rattle.cluster_state.specs.declared.request.Request.{Request}
 use Rattle.master_tasks.specs.declared.tasks.OfferError.{OfferError}
 use Rattle.master_tasks.specs.declared.tasks.OfferError.TheVariants.{QueueFull, Memory}

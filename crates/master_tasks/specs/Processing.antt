@@ -1,4 +1,4 @@
--- What a request does to the value.
+-- Part of the statement: what a request does to the value.
 use Rattle.std.specs.Prelude.{◌+◌, true, not, ◌&&◌, Option, None, Some, Result, Ok, Err, List, [], ◌∷◌, ◌++◌, length, map, fold, nat_le, if◌then◌else◌}
 use Rattle.voting_config.specs.Ids.{Id, has}
 use Rattle.cluster_state.specs.declared.state.ClusterState.{ClusterState}
@@ -76,6 +76,6 @@ and_then p w (Makes made) = record p { value = made; waiting = p.waiting ++ reco
 abbrev pub with_next : ClusterState → Processed → Waiting → Processed
 with_next accepted p w = and_then p w (processing_once accepted p.value w)
 
--- the requests from the front, each on the value so far
+-- the requests from the first on, each on the value so far
 abbrev pub processed_all : ClusterState → ClusterValue → List Waiting → Processed
 processed_all accepted value waiting = fold (with_next accepted) (before_all value) waiting

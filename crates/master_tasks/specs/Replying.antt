@@ -1,4 +1,4 @@
--- Replies, and the room that is left for more.
+-- Part of the statement: replies, and the room that is left for more.
 use Rattle.std.specs.Prelude.{ℕ, ◌-◌, List, [], ◌++◌, length}
 use Rattle.cluster_state.specs.declared.reply.Answer.{Answer}
 use Rattle.cluster_state.specs.declared.reply.Reply.TheVariants as reply

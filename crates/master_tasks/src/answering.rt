@@ -1,20 +1,16 @@
-ghost use Rattle.std.specs.Prelude.{◌≡◌, ◌+◌, is_some, nat_le};
-ghost use Rattle.master_tasks.specs.Answering.{
-  excluded_by,
-  exclusion_done as exclusion_done_of,
-  exclusion_span,
-  timed_out as timed_out_of,
-};
+//! Which requests that wait are answered, and why.
+ghost use Rattle.std.specs.Prelude.{◌≡◌, is_some};
+ghost use Rattle.master_tasks.specs.Answering.{excluded_by, exclusion_done as exclusion_done_of, timed_out as timed_out_of};
 ghost use Rattle.master_tasks.specs.Deciding.{decided};
 
-use crate::sets::{among, some_among};
 use crate::waiting::Waiting;
 use cluster_state::{Answer, Ask, StateId};
+use election_clock::has_passed;
 use voting_config::VotingConfig;
 
 /// How long an exclusion waits, in ms: 30 s, the default of `timeout` of the voting configuration exclusions API
 /// (Elasticsearch reference 7.x).
-pub const EXCLUSION_SPAN: u64 = 30_000;
+pub const EXCLUSION_SPAN_MS: u64 = 30_000;
 
 /// Why requests that wait are answered.
 #[derive(Clone, Copy)]
@@ -73,7 +69,7 @@ fn exclusion_done(committed: &VotingConfig, id: StateId, w: &Waiting) -> Option<
 {
     match &w.request.ask {
         Ask::Exclude(ids) => {
-            if w.processed && !some_among(ids, committed.members()) {
+            if w.processed && !ids.meets(committed.members()) {
                 Some(Answer::Acked(id))
             } else {
                 None
@@ -89,19 +85,12 @@ fn timed_out(committed: &VotingConfig, now: u64, w: &Waiting) -> Option<Answer>
 {
     match &w.request.ask {
         Ask::Exclude(ids) => {
-            if is_late(w.arrived, now) {
-                Some(Answer::ExclusionTimeout(among(ids, committed.members())))
+            if has_passed(w.arrived, EXCLUSION_SPAN_MS, now) {
+                Some(Answer::ExclusionTimeout(ids.within(committed.members())))
             } else {
                 None
             }
         }
         _ => None,
     }
-}
-
-// Whether a request that came at a moment has waited too long, both in ms.
-fn is_late(arrived: u64, now: u64) -> bool
-    ensures { result ≡ nat_le (arrived + exclusion_span) now }
-{
-    arrived <= now && EXCLUSION_SPAN <= now - arrived
 }

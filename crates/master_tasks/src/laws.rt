@@ -1,3 +1,4 @@
+//! What holds of the next state, and of the requests that wait. The calls do nothing: what they promise is proved.
 ghost use Rattle.std.specs.Prelude.{◌≡◌, IsTrue, List, None, Option};
 ghost use Rattle.cluster_state.specs.declared.reply.Answer.{Answer};
 ghost use Rattle.cluster_state.specs.Puts.{bad_setting_of};
@@ -19,7 +20,7 @@ pub fn law_answered_or_left()
     ensures { (decide : Waiting → Option Answer) (waiting : List Waiting) → AreCounted decide waiting }
 {}
 
-/// Each request that waits is answered by the next state, or waits on behind it.
+/// Each request that waits is answered by the next state, or waits on after it.
 pub fn law_next_answered_or_left()
     ensures { (l : Leader) (t : Tasks) → NextIsCounted l t }
 {}
@@ -29,7 +30,7 @@ pub fn law_left_are_good()
     ensures { (decide : Waiting → Option Answer) (waiting : List Waiting) → HaveGoodSettings waiting → HaveGoodSettings (left_by decide waiting) }
 {}
 
-/// Nor is one behind the arrival of a request that is not to put one.
+/// Nor is one after the arrival of a request that is not to put one.
 pub fn law_offered_are_good()
     ensures { (t : Tasks) (w : Waiting) → HaveGoodSettings t.waiting → bad_setting_of w.request.ask ≡ None → HaveGoodSettings (offered t w).waiting }
 {}

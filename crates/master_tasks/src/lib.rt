@@ -8,11 +8,10 @@ mod members;
 pub mod next;
 mod processing;
 pub mod replies;
-mod sets;
 pub mod tasks;
 pub mod waiting;
 
-pub use answering::EXCLUSION_SPAN;
+pub use answering::EXCLUSION_SPAN_MS;
 pub use laws::{
     law_answered_or_left, law_left_are_good, law_next_answered_or_left, law_nothing_new,
     law_offered_are_good,

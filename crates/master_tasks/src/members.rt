@@ -1,3 +1,4 @@
+//! The members of the next state, as far as there is room.
 ghost use Rattle.std.specs.Prelude.{◌≡◌};
 ghost use Rattle.master_tasks.specs.Queue.{with_room as with_room_of};
 ghost use Rattle.master_tasks.specs.Members.{joined};
@@ -8,7 +9,9 @@ use voting_config::{NodeId, NodeSet};
 pub fn put(ids: &mut NodeSet, id: NodeId)
     ensures { ids.new ≡ with_room_of ids.old id }
 {
+    // For the proof alone: a set has 32 ids at most.
     let _ = ids.len();
+    // Where there is no room the set stays as it is.
     let _ = ids.insert(id);
 }
 

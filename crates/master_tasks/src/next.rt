@@ -1,3 +1,4 @@
+//! What comes of a leader's tasks: nothing, or a next state.
 use crate::replies::Replies;
 use cluster_state::ClusterValue;
 use voting_config::VotingConfig;

@@ -1,3 +1,4 @@
+//! What each request does to the value of the next state.
 ghost use Rattle.std.specs.Prelude.{◌≡◌, IfOk, OnOk};
 ghost use Rattle.master_tasks.specs.Processing.{answer_after, clearing, excluding, processing, processing_once, putting, refused as refused_of, value_after};
 ghost use Rattle.exclusions.specs.Exclusions.{added_of, cleared_of};

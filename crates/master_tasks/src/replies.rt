@@ -1,3 +1,4 @@
+//! Replies in order, in room that was taken beforehand.
 ghost use Rattle.std.specs.Prelude.{◌≡◌, ◌≤◌, length, IfOk, [], ◌∷◌};
 ghost use Rattle.master_tasks.specs.Replying.{room_for, with_sent};
 

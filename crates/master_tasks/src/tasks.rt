@@ -1,3 +1,4 @@
+//! `MasterTasks`: the requests that are not answered yet, the members that are to come and to go, and the next state that is made of them.
 ghost use Rattle.std.specs.Prelude.{◌≡◌, ◌↔◌, ◌<◌, ◌≤◌, length, slice_get, Some, Err, IsTrue, IfOk, IfErr, OnOk, OnErr};
 ghost use Rattle.master_tasks.specs.declared.tasks.OfferError.TheVariants as offer_error;
 ghost use Rattle.master_tasks.specs.Answering.{answers_by, committed_in, exclusion_done, failed, timed_out, without_answered};
@@ -21,7 +22,6 @@ use crate::members::{join, put};
 use crate::next::Next;
 use crate::processing::process_once;
 use crate::replies::Replies;
-use crate::sets::{among, outside};
 use crate::waiting::Waiting;
 use cluster_state::{ClusterState, ClusterValue, Request, StateId};
 use reconfigurator::target;
@@ -241,7 +241,7 @@ impl MasterTasks {
         }
     }
 
-    // Processes the requests from the front, each on the value so far.
+    // Processes the requests from the first on, each on the value so far.
     fn process(
         &self,
         accepted: &ClusterState,
@@ -271,7 +271,7 @@ impl MasterTasks {
     /// What comes of the tasks, made by a leader in its `term` of its accepted state, the committed configuration and
     /// those who voted for it. `New` is to be published: it begins with the accepted value and the node as master;
     /// members that are to go leave it, but never the node itself; members that are to come join it as far as there
-    /// is room, the node itself first; and the requests that were not processed yet are processed from the front, each
+    /// is room, the node itself first; and the requests that were not processed yet are processed from the first on, each
     /// on the value so far. Where that is the accepted value and configuration, in the current term, it is `Same`, and
     /// what waits is acknowledged. At an error nothing changed.
     pub fn next_state(
@@ -290,6 +290,7 @@ impl MasterTasks {
         ensures fits { IsFitValue accepted.now.value → HaveGoodSettings self.old.waiting → IfOk result IsFitNext }
         ensures good { HaveGoodSettings self.old.waiting → OnOk result (HaveGoodSettings self.new.waiting) }
     {
+        // For the proof alone: settings ascend by key.
         let _ = accepted.value.settings.texts();
         let value = self.value_before(me, &accepted.value)?;
         let Processed {
@@ -331,7 +332,7 @@ impl MasterTasks {
     {
         let mut gone = self.removals.copy();
         gone.remove(me);
-        let mut members = outside(members, &gone);
+        let mut members = members.without(&gone);
         join(me, &self.additions, &mut members);
         members
     }
@@ -352,7 +353,7 @@ fn config_for(
     if !committed.is_same(&accepted.config) {
         return VotingConfig::of(accepted.config.members());
     }
-    let live = among(&value.members, votes);
+    let live = value.members.within(votes);
     target(&live, &value.exclusions, me, &accepted.config, shrink)
 }
 

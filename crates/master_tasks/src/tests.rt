@@ -1,3 +1,4 @@
+//! Requests with the states and the answers that they come to.
 use crate::*;
 use cluster_state::{
     Answer, Ask, ClusterState, ClusterValue, Reply, Request, Settings, StateId, Text, value_to_json,

@@ -1,3 +1,4 @@
+//! A request that waits, and the reply that it gets.
 ghost use Rattle.std.specs.Prelude.{◌≡◌, IfOk, true};
 ghost use Rattle.cluster_state.specs.declared.reply.Answer.{Answer as AnswerOf};
 ghost use Rattle.master_tasks.specs.Replying.{answer_to};

@@ -1,8 +1,8 @@
--- How the nodes of a trial ended, and what is written of that.
+-- Part of the statement: how the nodes of a trial ended, and what is written of that.
 use Rattle.std.specs.Prelude.{ℕ, ◌==◌, ◌&&◌, ◌||◌, Bool, if◌then◌else◌, List, [], ◌∷◌, ◌++◌, codes, decimal}
 use Rattle.std.specs.List.{list_any}
 use Rattle.std.specs.Str.{bytes_eq}
-use Rattle.schedule_text.specs.Words.{parts_of}
+use Rattle.voting_config.specs.Lists.{parts_of}
 use Rattle.zen_host.specs.HostCalls.{ToldEnd, told_end}
 use Rattle.node_trial.specs.declared.ends.TrialEnds.{TrialEnds}
 use Rattle.node_trial.specs.declared.node.TrialNode.{TrialNode}

@@ -1,4 +1,4 @@
--- The three nodes of a trial, and the words that run each.
+-- Part of the statement: the three nodes of a trial, and the words that run each.
 use Rattle.std.specs.Prelude.{ℕ, ◌+◌, List, [], ◌∷◌, ◌++◌, codes, decimal}
 use Rattle.node_trial.specs.declared.node.Trial.{Trial}
 use Rattle.node_trial.specs.declared.node.TrialNode.{TrialNode}

@@ -1,4 +1,4 @@
--- What a trial does: the calls that it makes of the host, and what it writes.
+-- Part of the statement: what a trial does: the calls that it makes of the host, and what it writes.
 use Rattle.std.specs.Prelude.{◌≡◌, ◌⊎◌, ℕ, Bool, true, false, Option, None, Some, Result, Ok, Err, List, [], ◌∷◌, ◌++◌}
 use Rattle.zen_host.specs.HostCalls.{HostCall, Spawns, WaitsFor, Kills, ToldEnd, and_call, IsNumber}
 use Rattle.zen_host.specs.declared.host.HostError.{HostError}
@@ -25,12 +25,12 @@ Waits [] [] was now = now ≡ was
 Waits (child ∷ children) (ended ∷ ends) was now = Waits children ends (and_call was (WaitsFor child (Some ended))) now
 Waits children ends was now = ⊥
 
--- a call is refused as Failed, or it is not told, since no memory was found for it
+-- a call is refused as Failed, or it is not noted, since no memory was found for it
 abbrev pub Refuses : HostCall → (was now : Option (List HostCall)) → HostError → Type 0
 Refuses call was now host.Failed = now ≡ and_call was call
 Refuses call was now host.Memory = now ≡ was
 
--- a child is killed, unless that is refused, which is told, or finds no memory
+-- a child is killed, unless that is refused, which is noted, or finds no memory
 abbrev pub IsKilled : (child : ℕ) → (was now : Option (List HostCall)) → Type 0
 IsKilled child was now = (now ≡ was) ⊎ ((refused : Bool) × (now ≡ and_call was (Kills child refused)))
 
@@ -54,7 +54,7 @@ pub record Unstarted (t : ToldTrial) (was now : Option (List HostCall)) (error :
   pub refuses : Refuses (Spawns t.program (words_of t next) true) begun refused error
   pub killed : AreKilled children refused now
 
--- some of these children have ended; the host did not tell how the next one did, and was asked to kill those after it
+-- some of these children have ended; the host did not say how the next one did, and was asked to kill those after it
 pub record Unwaited (children : List ℕ) (was now : Option (List HostCall)) (error : HostError) : Type 0 where
   pub ended : List ℕ
   pub next : ℕ

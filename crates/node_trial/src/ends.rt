@@ -1,14 +1,12 @@
+//! How the three nodes ended, as lines, and whether one of them has won.
 ghost use Rattle.std.specs.Prelude.{◌≡◌, ◌++◌, OnOk};
-ghost use Rattle.std.specs.List.{list_any};
-ghost use Rattle.schedule_text.specs.Words.{parts_of};
 ghost use Rattle.zen_host.specs.HostCalls.{told_end};
-ghost use Rattle.node_trial.specs.Nodes.{name_of};
 ghost use Rattle.node_trial.specs.Ends.{told_ends, is_win, has_won as has_won_of, has_passed as has_passed_of, have_passed as have_passed_of, one_has_won, child_line, won_line, text_of};
 
 use crate::TrialNode;
 use schedule_text::Text;
-use schedule_text::words::cut;
 use std::alloc::AllocError;
+use voting_config::cut;
 use zen_host::Ended;
 
 /// How the three nodes ended.

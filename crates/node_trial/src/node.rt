@@ -1,3 +1,4 @@
+//! The three nodes of a trial, and the words that run each.
 ghost use Rattle.std.specs.Prelude.{◌≡◌, [], ◌∷◌, ◌++◌, map, string_bytes, decimal, IfOk, OnOk};
 ghost use Rattle.node_trial.specs.Nodes.{told_trial, name_of, others_of, port_of, address, peer, folder_of, peers_of, words_of};
 

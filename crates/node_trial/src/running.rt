@@ -1,3 +1,4 @@
+//! The three nodes started, waited for, and killed where a start or a wait is refused.
 ghost use Rattle.std.specs.Prelude.{◌≡◌, ◌+◌, ◌-◌, ◌≤◌, [], ◌∷◌, IfOk, OnErr, IsErrOf};
 ghost use Rattle.zen_disk.specs.Faults.{Rose};
 ghost use Rattle.zen_host.specs.HostCalls.{Spawns, Notes, IsNumber};
@@ -69,6 +70,7 @@ fn kill<H: Host>(host: &mut H, child: H::Child)
     ensures link_back { H.link_back host.new ≡ H.link_back host.old }
     ensures later { H.faults host.old ≤ H.faults host.new }
 {
+    // A killing that is refused has been counted as a fault of the host.
     let _ = host.kill(child);
 }
 

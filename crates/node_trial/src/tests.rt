@@ -1,3 +1,4 @@
+//! Trials over a host in memory, and each way in which one ends.
 use crate::{Trial, TrialEnd, has_won, run_trial};
 use std::alloc::{AllocError, Global};
 use std::test::Fail;

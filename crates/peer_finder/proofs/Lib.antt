@@ -1,3 +1,2 @@
 pub mod Members
-mod Refilled
 mod Sets

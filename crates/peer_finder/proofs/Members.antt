@@ -1,16 +1,13 @@
 -- What one more call makes of the peers.
-use Rattle.std.proofs.Common.{◌≡◌, Bool, true, false, cond, not, ◌||◌, ◌&&◌, Option, None, Some, List, [], ◌∷◌, ◌++◌, map, length, refl, sym, ap, subst, ◌∙◌}
+use Rattle.std.proofs.Common.{◌≡◌, Bool, true, false, cond, not, ◌||◌, ◌&&◌, Option, None, Some, List, [], ◌∷◌, ◌++◌, map, length, refl, sym, ap, ◌∙◌}
 use Rattle.std.specs.Prelude.{filter, nat_le}
 use Rattle.std.proofs.lemmas.Bool.{and_parts, or_parts}
 use Rattle.std.proofs.lemmas.List.{map-append}
-use Rattle.std.proofs.lemmas.Slice.Eq.{bytes_eq-Decides}
 use Rattle.std.specs.Cmp.Lexicographic.{same_text}
 use Rattle.voting_config.specs.Ids.{Id, has, same, without_id}
+use Rattle.voting_config.proofs.Sets.{same_self, same_flipped, has-without_id}
 use Rattle.peer_finder.specs.declared.Peer.{Peer}
 use Rattle.peer_finder.specs.Peers.{PeerFinder, Calls, Call, Started, Then, Added, Asked, Answered, Forgotten, AnswersForgotten, StandsFor, finder_of, after, me_of, known_of, answer_of, peer_of, ids_of, is_new_peer, most_peers, with_answer, without_answer, answer_in}
-
-same-refl : (x : Id) → same x x ≡ true
-same-refl x = (bytes_eq-Decides x x).1 refl
 
 not_true : (b : Bool) → not b ≡ true → b ≡ false
 not_true true h = cc
@@ -23,24 +20,13 @@ has-front id (x ∷ xs) ys h =
     rw parts.0 (has-front id xs ys parts.1)
 
 -- taking another id out leaves it
-has-without_id : (id x : Id) (ids : List Id) → same id x ≡ false → has id (without_id x ids) ≡ false → has id ids ≡ false
-has-without_id id x [] other h = refl
-has-without_id id x (y ∷ ys) other h =
-    elim (same y x) as (λ b. same y x ≡ b → has id (cond (not b) (y ∷ without_id x ys) (without_id x ys)) ≡ false → (same y id || has id ys) ≡ false) [
-      | true ↦ λ e k. rw (differs e) (has-without_id id x ys other k)
-      | false ↦ λ e k.
-          let parts : (same y id ≡ false) × (has id (without_id x ys) ≡ false) = or_parts (same y id) (has id (without_id x ys)) k in
-          rw parts.0 (has-without_id id x ys other parts.1)
-    ] refl h
+has-other : (id x : Id) (ids : List Id) → same id x ≡ false → has id (without_id x ids) ≡ false → has id ids ≡ false
+has-other id x ids other h = from (same x id) (has id ids) (same_flipped x id ∙ other) (sym (has-without_id id x ids) ∙ h)
   where
-    differs : same y x ≡ true → same y id ≡ false
-    differs e =
-        elim (same y id) as (λ b. same y id ≡ b → b ≡ false) [
-          | true ↦ λ k.
-              let both : same id x ≡ true = subst (λ (i : Id). same i x ≡ true) (same_text y id (sym k)) e in
-              absurd (cc)
-          | false ↦ λ k. refl
-        ] refl
+    from : (b c : Bool) → b ≡ false → (c && not b) ≡ false → c ≡ false
+    from true c e k = cc
+    from false true e k = cc
+    from false false e k = refl
 
 -- who isn't known has no answer
 pub answer_of-unknown : (calls : Calls) (id : Id) → has id (known_of calls) ≡ false → answer_of calls id ≡ None
@@ -59,7 +45,7 @@ answer_of-unknown (Then calls (Answered x master)) id h =
 answer_of-unknown (Then calls (Forgotten x)) id h =
     elim (same id x) as (λ b. same id x ≡ b → cond b None (answer_of calls id) ≡ None) [
       | true ↦ λ e. refl
-      | false ↦ λ e. answer_of-unknown calls id (has-without_id id x (known_of calls) e h)
+      | false ↦ λ e. answer_of-unknown calls id (has-other id x (known_of calls) e h)
     ] refl
 answer_of-unknown (Then calls (AnswersForgotten now)) id h = refl
 
@@ -67,7 +53,7 @@ answer_of-unknown (Then calls (AnswersForgotten now)) id h = refl
 map-members : {X : Type 0} (f g : Id → X) (ids : List Id) → ((id : Id) → has id ids ≡ true → f id ≡ g id) → map f ids ≡ map g ids
 map-members f g [] h = refl
 map-members f g (x ∷ xs) h =
-    let first : f x ≡ g x = h x (rw (same-refl x) refl) in
+    let first : f x ≡ g x = h x (rw (same_self x) refl) in
     let others = map-members f g xs (λ id k. h id (later (same x id) (has id xs) k)) in
     cc
   where

@@ -1,4 +1,4 @@
--- Which peers are chosen.
+-- For the contracts inside: which peers are chosen.
 use Rattle.std.specs.Prelude.{Bool, not, is_some}
 use Rattle.voting_config.specs.Ids.{same}
 use Rattle.peer_finder.specs.declared.Peer.{Peer}

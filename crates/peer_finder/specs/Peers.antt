@@ -1,10 +1,10 @@
--- Which nodes a node has met, and what they answered, by the calls so far.
+-- Part of the statement: which nodes a node has met, and what they answered, by the calls so far.
 use Rattle.std.specs.Prelude.{◌≡◌, ℕ, ◌+◌, Bool, false, not, ◌&&◌, Option, None, Some, List, [], ◌∷◌, ◌++◌, length, map, filter, nat_le, if◌then◌else◌, is_some, is_none}
 use Rattle.voting_config.specs.Ids.{Id, has, same, with_id, without_id}
 use Rattle.peer_finder.specs.declared.Found.{Found}
 use Rattle.peer_finder.specs.declared.Peer.{Peer}
 
--- what a peer finder is told after its start
+-- what comes to a peer finder after its start
 pub data Call : Type 0 where
   Added : (id : Id) → Call
   Asked : (now : ℕ) → Call

@@ -1,13 +1,13 @@
 //! Finding peers: the nodes that a node has met, what they answered, and when they are asked again.
 #![tactic(auto)]
 
-ghost use Rattle.std.specs.Prelude.{◌≡◌, ◌+◌, ◌<◌, ◌≤◌, length, filter, map, nat_le, is_some, not};
-ghost use Rattle.voting_config.specs.Ids.{with_id, most_ids};
+ghost use Rattle.std.specs.Prelude.{◌≡◌, ◌+◌, ◌<◌, ◌≤◌, length, filter, map, nat_le};
 ghost use Rattle.peer_finder.specs.declared.Peer.{Peer as PeerOf};
 ghost use Rattle.peer_finder.specs.Peers.{with_answer as with_answer_of, without_answer as without_answer_of, answer_in, ids_of as ids_in, set_of as set_of_ids, is_free as is_free_of};
 ghost use Rattle.peer_finder.specs.Choices.{is_chosen as is_chosen_of};
 
 use arrayvec::ArrayVec;
+use election_clock::has_passed;
 use std::marker::Model;
 use voting_config::{NodeId, NodeSet};
 
@@ -16,7 +16,7 @@ pub const MAX_PEERS: usize = 31;
 
 /// `discovery.find_peers_interval`, in ms: how long after peers were asked they are asked again. 1 s by default
 /// (Elasticsearch reference 7.x, Discovery and cluster formation settings).
-pub const FIND_PEERS_INTERVAL: u64 = 1_000;
+pub const FIND_PEERS_INTERVAL_MS: u64 = 1_000;
 
 /// What a peer answered last.
 #[derive(Clone, Copy)]
@@ -101,13 +101,13 @@ impl PeerFinder {
         self.peers.push(Peer { id, answer: None });
     }
 
-    /// The peers are asked now, in ms: discovery is next due [`FIND_PEERS_INTERVAL`] from now.
+    /// The peers are asked now, in ms: discovery is next due [`FIND_PEERS_INTERVAL_MS`] from now.
     pub fn asked(&mut self, now: u64)
         ensures now { self.new ≡ after self.old (Asked now) }
         ensures calls { (calls : Calls) → StandsFor self.old calls → StandsFor self.new (Then calls (Asked now)) }
     {
         self.since = now;
-        self.wait = FIND_PEERS_INTERVAL;
+        self.wait = FIND_PEERS_INTERVAL_MS;
     }
 
     /// A node answers with the master that it knows. Nothing changes where it isn't known.
@@ -181,7 +181,7 @@ impl PeerFinder {
     pub fn is_due(&self, now: u64) -> bool
         ensures { result ≡ nat_le self.now.due now }
     {
-        self.since <= now && self.wait <= now - self.since
+        has_passed(self.since, self.wait, now)
     }
 
     /// Whom to ask now, in ms: the peers where discovery is due, else nobody.
@@ -305,7 +305,7 @@ fn set_of(ids: &[NodeId]) -> NodeSet
     let mut place = ids.len();
     while place > 0 {
         place -= 1;
-        insert(&mut set, ids[place]);
+        set.put(ids[place]);
     }
     set
 }
@@ -318,14 +318,6 @@ fn set_chosen(peers: &[Peer], choice: Choice) -> NodeSet
     let kept = chosen(peers, choice);
     let ids = ids_of(kept.as_slice());
     set_of(ids.as_slice())
-}
-
-// Puts an id in where there is room.
-fn insert(ids: &mut NodeSet, id: NodeId)
-    requires { length ids.old < most_ids }
-    ensures { ids.new ≡ with_id id ids.old }
-{
-    let _ = ids.insert(id);
 }
 
 #[cfg(test)]

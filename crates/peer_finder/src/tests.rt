@@ -1,3 +1,4 @@
+//! Which peers are kept, and when they are asked.
 use super::*;
 use std::test::*;
 

@@ -3,9 +3,10 @@ use Rattle.std.proofs.Common.{◌≡◌, Bool, true, false, not, ◌&&◌, ◌||
 use Rattle.std.specs.Cmp.Lexicographic.{same_text}
 use Rattle.voting_config.specs.Ids.{Id, has, same, with_id, without_id}
 use Rattle.voting_config.proofs.Sorted.{has-with_id}
-use Rattle.pre_vote.specs.Calls.{Calls, Start, Add, node_of, last_of, is_fresher, is_vote, voters_of}
+use Rattle.cluster_state.specs.StateIds.{is_fresher}
+use Rattle.pre_vote.specs.Calls.{Calls, Start, Add, node_of, last_of, is_vote, voters_of}
 use Rattle.pre_vote.specs.Laws.{Answer, newest_of, counts}
-use Rattle.pre_vote.proofs.Participants.{same_flipped, has-without_id}
+use Rattle.voting_config.proofs.Sets.{same_flipped, has-without_id}
 
 -- who is among the voters after an answer
 chosen : (vote mine : Bool) (x q : Id) (voters : List Id) → same x q ≡ mine → has q (cond vote (with_id x voters) (without_id x voters)) ≡ cond mine vote (has q voters)

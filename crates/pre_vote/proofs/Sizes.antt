@@ -1,24 +1,8 @@
 -- How many are in a round when an id goes from one of its two sets to the other.
 use Rattle.std.proofs.Common.{◌≡◌, suc, ◌+◌, ◌<◌, ◌≤◌, Bool, true, false, not, ◌||◌, List, [], ◌∷◌, length, refl, ap, cond, arith, nat_lt}
 use Rattle.std.proofs.lemmas.Bool.{ltb-true}
-use Rattle.voting_config.specs.Ids.{Id, has, same, before, put, with_id, without_id, most_ids}
-
-pub length-put : (x : Id) (ys : List Id) → length (put x ys) ≡ suc (length ys)
-length-put x [] = refl
-length-put x (y ∷ ys) =
-    elim (before y x) as (λ b. length (cond b (y ∷ put x ys) (x ∷ y ∷ ys)) ≡ suc (suc (length ys))) [
-      | true ↦ ap suc (length-put x ys)
-      | false ↦ refl
-    ]
-
-length-without_id : (x : Id) (ys : List Id) → length (without_id x ys) ≤ length ys
-length-without_id x [] = omega arith
-length-without_id x (y ∷ ys) =
-    let lower = length-without_id x ys in
-    elim (same y x) as (λ b. length (cond (not b) (y ∷ without_id x ys) (without_id x ys)) ≤ suc (length ys)) [
-      | true ↦ omega arith
-      | false ↦ omega arith
-    ]
+use Rattle.voting_config.specs.Ids.{Id, has, same, put, with_id, without_id, most_ids}
+use Rattle.voting_config.proofs.Sorted.{length-put, length-without_id}
 
 -- an id that is in is gone then
 shorter : (x : Id) (ys : List Id) → has x ys ≡ true → length (without_id x ys) < length ys

@@ -1,7 +1,8 @@
--- A round of pre-votes by its calls so far: its start, and the answers since.
-use Rattle.std.specs.Prelude.{ℕ, max, Bool, not, ◌&&◌, ◌||◌, List, [], ◌∷◌, length, nat_lt, nat_eq, if◌then◌else◌}
-use Rattle.voting_config.specs.Ids.{Id, has, same, with_id, without_id, most_ids}
+-- Part of the statement: a round of pre-votes by its calls so far: its start, and the answers since.
+use Rattle.std.specs.Prelude.{ℕ, max, Bool, not, ◌||◌, List, [], ◌∷◌, if◌then◌else◌}
+use Rattle.voting_config.specs.Ids.{Id, has_room as room_in, same, with_id, without_id}
 use Rattle.cluster_state.specs.declared.state.StateId.{StateId}
+use Rattle.cluster_state.specs.StateIds.{is_fresher}
 
 -- the calls, the newest last
 pub data Calls : Type 0 where
@@ -22,10 +23,6 @@ last_of (Add before source term answered) = last_of before
 abbrev pub greatest_term : Calls → ℕ
 greatest_term (Start me last term) = term
 greatest_term (Add before source term last) = max term (greatest_term before)
-
--- an id is above another
-abbrev pub is_fresher : StateId → StateId → Bool
-is_fresher x y = nat_lt y.term x.term || (nat_eq y.term x.term && nat_lt y.version x.version)
 
 -- after an answer its source is a voter: it is the node itself, or what it has accepted is no fresher
 abbrev pub is_vote : Id → StateId → Id → StateId → Bool
@@ -54,4 +51,4 @@ participants_of (Add before source term last) = with_id source (participants_of 
 
 -- an answer of the source can be added: it is the node or has answered, or these are fewer than a set holds
 abbrev pub has_room : Id → Calls → Bool
-has_room source calls = has source (participants_of calls) || nat_lt (length (participants_of calls)) most_ids
+has_room source calls = room_in (participants_of calls) source

@@ -1,8 +1,9 @@
--- Who is counted in a round, by the answers of the round.
+-- For the contracts inside: who is counted in a round, by the answers of the round.
 use Rattle.std.specs.Prelude.{◌≡◌, Bool, false, not, ◌||◌, Option, None, Some, List, [], ◌∷◌, find}
 use Rattle.voting_config.specs.Ids.{Id, has, same}
 use Rattle.cluster_state.specs.declared.state.StateId.{StateId}
-use Rattle.pre_vote.specs.Calls.{Calls, Start, Add, node_of, last_of, is_fresher, voters_of}
+use Rattle.cluster_state.specs.StateIds.{is_fresher}
+use Rattle.pre_vote.specs.Calls.{Calls, Start, Add, node_of, last_of, voters_of}
 
 -- an answer: who gave it, and the id of the state that it has accepted
 pub record Answer : Type 0 where

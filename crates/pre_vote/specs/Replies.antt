@@ -1,4 +1,4 @@
--- What a node answers that is asked for a pre-vote.
+-- Part of the statement: what a node answers that is asked for a pre-vote.
 use Rattle.std.specs.Prelude.{Option, None, Some, if◌then◌else◌}
 use Rattle.voting_config.specs.Ids.{Id, same}
 use Rattle.pre_vote.specs.declared.replies.Reply.{Reply}

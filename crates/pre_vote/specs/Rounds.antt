@@ -1,10 +1,11 @@
--- A round of pre-votes as it stands.
+-- Part of the statement: a round of pre-votes as it stands.
 use Rattle.std.specs.Prelude.{ℕ, ◌+◌, max, Bool, ◌&&◌, ◌||◌, List, [], ◌∷◌, length, nat_lt, if◌then◌else◌}
 use Rattle.voting_config.specs.Ids.{Id, has, with_id, without_id, is_quorum_of, most_ids}
 use Rattle.cluster_state.specs.declared.state.StateId.{StateId}
 use Rattle.pre_vote.specs.declared.rounds.Added.{Added}
 use Rattle.pre_vote.specs.declared.rounds.Added.TheVariants.{Counted, Fresher, Quorum}
-use Rattle.pre_vote.specs.Calls.{Calls, node_of, last_of, greatest_term, is_fresher, is_vote, voters_of, others_of}
+use Rattle.cluster_state.specs.StateIds.{is_fresher}
+use Rattle.pre_vote.specs.Calls.{Calls, node_of, last_of, greatest_term, is_vote, voters_of, others_of}
 
 -- what the calls so far give
 pub record Round : Type 0 where

@@ -1,3 +1,4 @@
+//! What a node answers that is asked for a pre-vote.
 ghost use Rattle.std.specs.Prelude.{◌≡◌};
 ghost use Rattle.pre_vote.specs.Replies.{reply_to};
 

@@ -1,6 +1,6 @@
-ghost use Rattle.std.specs.Prelude.{◌≡◌, ◌+◌, ◌≤◌, ◌^◌, ◌||◌, length, nat_lt, IsTrue};
-ghost use Rattle.voting_config.specs.Ids.{has, most_ids, with_id};
-ghost use Rattle.pre_vote.specs.Calls.{Calls, Start, Add, has_room, is_vote as vote_of, is_fresher as fresher_of};
+//! `PreVotes`: one round of pre-votes, from its start on.
+ghost use Rattle.std.specs.Prelude.{◌≡◌, ◌+◌, ◌≤◌, ◌^◌, ◌||◌, length, IsTrue};
+ghost use Rattle.pre_vote.specs.Calls.{Calls, Start, Add, has_room, is_vote as vote_of};
 
 use cluster_state::StateId;
 use std::marker::Model;
@@ -48,7 +48,7 @@ impl PreVotes {
         ensures calls { result ≡ round_of (Start me last term) }
     {
         let mut voters = NodeSet::new();
-        put(&mut voters, me);
+        voters.put(me);
         PreVotes {
             me,
             last,
@@ -67,7 +67,7 @@ impl PreVotes {
         self.has_place(source)
     }
 
-    // Whether the two sets have the source, or are fewer than a set holds.
+    // Whether the two sets have the source, or are fewer than a set holds. `fits` only calls it, and says the same of the calls.
     fn has_place(&self, source: NodeId) -> bool
         ensures { result ≡ fits_in source self.now }
     {
@@ -98,12 +98,12 @@ impl PreVotes {
         self.greatest = self.greatest.max(term);
         if is_vote(self.me, self.last, source, last) {
             self.others.remove(source);
-            put(&mut self.voters, source);
+            self.voters.put(source);
         } else {
             self.voters.remove(source);
-            put(&mut self.others, source);
+            self.others.put(source);
         }
-        if is_fresher(last, self.last) {
+        if last.is_fresher(self.last) {
             Added::Fresher
         } else if committed.is_quorum(&self.voters) && accepted.is_quorum(&self.voters) {
             Added::Quorum(self.greatest + 1)
@@ -117,20 +117,5 @@ impl PreVotes {
 fn is_vote(me: NodeId, own: StateId, source: NodeId, last: StateId) -> bool
     ensures { result ≡ vote_of me own source last }
 {
-    source == me || !is_fresher(last, own)
-}
-
-// Whether an id is above another.
-fn is_fresher(id: StateId, other: StateId) -> bool
-    ensures { result ≡ fresher_of id other }
-{
-    id.term > other.term || (id.term == other.term && id.version > other.version)
-}
-
-// Puts the id in, where it is not in yet.
-fn put(ids: &mut NodeSet, id: NodeId)
-    requires { IsTrue (has id ids.old || nat_lt (length ids.old) most_ids) }
-    ensures { ids.new ≡ with_id id ids.old }
-{
-    let _ = ids.insert(id);
+    source == me || !last.is_fresher(own)
 }

@@ -1,3 +1,4 @@
+//! Rounds of pre-votes, answer by answer.
 use super::*;
 use cluster_state::StateId;
 use std::test::*;

@@ -1,11 +1,12 @@
--- A publication of the leader, by the calls so far.
-use Rattle.std.specs.Prelude.{◌≡◌, ℕ, ◌+◌, Bool, true, false, not, ◌&&◌, ◌||◌, List, [], filter, length, nat_le, nat_eq, if◌then◌else◌}
+-- Part of the statement: a publication of the leader, by the calls so far.
+use Rattle.std.specs.Prelude.{◌≡◌, ℕ, Bool, true, false, not, ◌&&◌, ◌||◌, List, [], filter, length, nat_eq, if◌then◌else◌}
 use Rattle.voting_config.specs.Ids.{Id, has, same, with_id, without_id, most_ids}
 use Rattle.cluster_state.specs.declared.state.StateId.{StateId}
+use Rattle.election_clock.specs.Delays.{has_passed}
 use Rattle.publication.specs.declared.Stage.{Stage}
 use Rattle.publication.specs.declared.Stage.TheVariants.{Running, Failed, Done}
 
--- what a publication is told after its start
+-- what comes to a publication after its start
 pub data Call : Type 0 where
   Responded : (source : Id) → Call
   CommitSent : Call
@@ -102,5 +103,5 @@ publish_timeout = 30000
 abbrev pub stage_of : Publication → ℕ → Stage
 stage_of p now =
     if p.finished then Done p.laggards
-    else if nat_le (p.started + publish_timeout) now then Failed
+    else if has_passed p.started publish_timeout now then Failed
     else Running

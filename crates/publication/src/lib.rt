@@ -5,12 +5,13 @@ ghost use Rattle.std.specs.Prelude.{◌≡◌};
 ghost use Rattle.publication.specs.Publications.{with_fitting};
 
 use cluster_state::StateId;
+use election_clock::has_passed;
 use std::marker::Model;
 use voting_config::{NodeId, NodeSet};
 
 /// `cluster.publish.timeout`, in ms: how long a publication may take until it is finished. 30 s by default
 /// (Elasticsearch reference 7.x, Discovery and cluster formation settings).
-pub const PUBLISH_TIMEOUT: u64 = 30_000;
+pub const PUBLISH_TIMEOUT_MS: u64 = 30_000;
 
 /// What has become of a publication.
 #[derive(Drop)]
@@ -52,19 +53,7 @@ impl Model for Publication {
 }
 
 impl Publication {
-    ghost use Rattle.publication.specs.Publications.{
-      Calls,
-      Started,
-      Then,
-      Responded,
-      CommitSent,
-      Finished,
-      Applied,
-      StandsFor,
-      publication_of,
-      after,
-      stage_of,
-    };
+    ghost use Rattle.publication.specs.Publications.{Calls, Started, Then, Responded, CommitSent, Finished, Applied, StandsFor, after, stage_of};
 
     /// A publication of the state with this id to these nodes, which starts now, in ms.
     pub fn start(id: StateId, targets: &NodeSet, now: u64) -> Publication
@@ -114,13 +103,13 @@ impl Publication {
     }
 
     /// Its stage at this moment, in ms: `Done` exactly where it is finished, `Failed` exactly where it is not and
-    /// [`PUBLISH_TIMEOUT`] or more have gone by since its start, else `Running`.
+    /// [`PUBLISH_TIMEOUT_MS`] or more have gone by since its start, else `Running`.
     pub fn tick(&self, now: u64) -> Stage
         ensures { result ≡ stage_of self.now now }
     {
         if self.finished {
             Stage::Done(self.laggards.copy())
-        } else if self.started <= now && PUBLISH_TIMEOUT <= now - self.started {
+        } else if has_passed(self.started, PUBLISH_TIMEOUT_MS, now) {
             Stage::Failed
         } else {
             Stage::Running
@@ -167,6 +156,7 @@ impl Publication {
 fn insert_fitting(ids: &mut NodeSet, id: NodeId)
     ensures { ids.new ≡ with_fitting id ids.old }
 {
+    // Where there is no room the set stays as it is.
     let _ = ids.insert(id);
 }
 

@@ -1,3 +1,4 @@
+//! A publication from its start to its end, in time and late.
 use super::*;
 use std::test::*;
 

@@ -1,17 +1,6 @@
--- Which nodes are to be the voters.
-use Rattle.std.specs.Prelude.{ℕ, ◌-◌, ◌%◌, max, Bool, not, ◌||◌, List, [], ◌∷◌, ◌++◌, length, filter, take, fold, nat_lt, nat_eq, if◌then◌else◌}
-use Rattle.voting_config.specs.Ids.{Id, has, with_id, is_quorum_of}
-
--- the ids of the first list that the second has, and those that it does not have
-abbrev pub among : List Id → List Id → List Id
-among xs ys = filter (λ x. has x ys) xs
-
-abbrev pub outside : List Id → List Id → List Id
-outside xs ys = filter (λ x. not (has x ys)) xs
-
--- the ids as a set
-abbrev pub set_of : List Id → List Id
-set_of ids = fold (λ set id. with_id id set) [] ids
+-- Part of the statement: which nodes are to be the voters.
+use Rattle.std.specs.Prelude.{ℕ, ◌-◌, ◌%◌, max, Bool, ◌||◌, List, [], ◌∷◌, ◌++◌, length, take, nat_lt, nat_eq, if◌then◌else◌}
+use Rattle.voting_config.specs.Ids.{Id, among, has, is_quorum_of, outside, set_of}
 
 -- an even number is made odd by one less; none stays none
 abbrev pub odd_of : ℕ → ℕ

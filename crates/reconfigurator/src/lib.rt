@@ -1,10 +1,10 @@
 //! Which nodes are to be the voters, as nodes come and go.
 #![tactic(auto)]
 
-ghost use Rattle.std.specs.Prelude.{◌≡◌, ◌+◌, ◌<◌, ◌≤◌, [], ◌∷◌, ◌++◌, length, take, if◌then◌else◌};
-ghost use Rattle.voting_config.specs.Ids.{has, most_ids, with_id};
+ghost use Rattle.std.specs.Prelude.{◌≡◌, ◌||◌, ◌+◌, ◌<◌, ◌≤◌, [], ◌∷◌, ◌++◌, length, take, if◌then◌else◌};
+ghost use Rattle.voting_config.specs.Ids.{has, most_ids, set_of};
 ghost use Rattle.arrayvec.specs.ArrayVec.{array_vec_len};
-ghost use Rattle.reconfigurator.specs.Targets.{among as among_of, candidates_of, chosen_of, least_size as least_size_of, odd_of, outside as outside_of, set_of, size_of, target_of};
+ghost use Rattle.reconfigurator.specs.Targets.{candidates_of, chosen_of, least_size as least_size_of, odd_of, size_of, target_of};
 
 use arrayvec::ArrayVec;
 use voting_config::{MAX_IDS, NodeId, NodeSet, VotingConfig};
@@ -52,12 +52,11 @@ fn chosen(
 ) -> NodeSet
     ensures { result ≡ chosen_of live.now excluded.now master config.now shrink }
 {
-    let _ = live.len();
     let members = config.len();
-    let allowed = outside(live.as_slice(), excluded.as_slice());
-    let voters = outside(config.as_slice(), excluded.as_slice());
+    let allowed = live.without(excluded);
+    let voters = config.without(excluded);
     let size = size(allowed.len(), members, voters.len(), shrink);
-    let candidates = candidates(allowed.as_slice(), voters.as_slice(), master);
+    let candidates = candidates(&allowed, &voters, master);
     as_set(front(candidates.as_slice(), size))
 }
 
@@ -99,83 +98,50 @@ fn least_size(members: usize, voters: usize, shrink: bool) -> usize
 }
 
 // All that may vote, the best first.
-fn candidates(
-    live: &[NodeId],
-    voters: &[NodeId],
-    master: NodeId,
-) -> ArrayVec<NodeId, MAX_CANDIDATES>
-    requires live { length live.now ≤ most_ids }
-    requires voters { length voters.now ≤ most_ids }
+fn candidates(live: &NodeSet, voters: &NodeSet, master: NodeId) -> ArrayVec<NodeId, MAX_CANDIDATES>
     ensures { result.items ≡ candidates_of live.now voters.now master }
 {
-    let others = outside(live, &[master]);
-    let other_voters = outside(voters, &[master]);
-    let mut all = ArrayVec::new();
-    if has_id(live, master) || has_id(voters, master) {
-        all.push(master);
-    }
-    append(
-        &mut all,
-        among(others.as_slice(), other_voters.as_slice()).as_slice(),
-    );
-    append(
-        &mut all,
-        outside(others.as_slice(), other_voters.as_slice()).as_slice(),
-    );
-    append(
-        &mut all,
-        outside(other_voters.as_slice(), others.as_slice()).as_slice(),
-    );
+    let leader = only(master);
+    let others = live.without(&leader);
+    let other_voters = voters.without(&leader);
+    let mut all = master_first(live, voters, master);
+    append(&mut all, &others.within(&other_voters));
+    append(&mut all, &others.without(&other_voters));
+    append(&mut all, &other_voters.without(&others));
     all
 }
 
-// The ids that the others have.
-fn among(ids: &[NodeId], others: &[NodeId]) -> ArrayVec<NodeId, MAX_IDS>
-    requires { length ids.now ≤ most_ids }
-    ensures { result.items ≡ among_of ids.now others.now }
+// The master, where it may vote.
+fn master_first(
+    live: &NodeSet,
+    voters: &NodeSet,
+    master: NodeId,
+) -> ArrayVec<NodeId, MAX_CANDIDATES>
+    ensures { result.items ≡ (if has master live.now || has master voters.now then master ∷ [] else []) }
 {
-    let mut kept = ArrayVec::new();
-    for id in ids {
-        keep(&mut kept, *id, has_id(others, *id));
+    let mut first = ArrayVec::new();
+    if live.contains(master) || voters.contains(master) {
+        first.push(master);
     }
-    kept
+    first
 }
 
-// The ids that the others do not have.
-fn outside(ids: &[NodeId], others: &[NodeId]) -> ArrayVec<NodeId, MAX_IDS>
-    requires { length ids.now ≤ most_ids }
-    ensures { result.items ≡ outside_of ids.now others.now }
+// The set of one id.
+fn only(id: NodeId) -> NodeSet
+    ensures { result ≡ id ∷ [] }
 {
-    let mut kept = ArrayVec::new();
-    for id in ids {
-        keep(&mut kept, *id, !has_id(others, *id));
-    }
-    kept
-}
-
-// Whether the id is one of the ids.
-fn has_id(ids: &[NodeId], id: NodeId) -> bool
-    ensures { result ≡ has id ids.now }
-{
-    ids.contains(&id)
-}
-
-// Puts the id at the end, where it is to be kept.
-fn keep(kept: &mut ArrayVec<NodeId, MAX_IDS>, id: NodeId, kept_too: bool)
-    requires { array_vec_len kept.old < most_ids }
-    ensures { kept.new.items ≡ kept.old.items ++ (if kept_too then id ∷ [] else []) }
-{
-    if kept_too {
-        kept.push(id);
-    }
+    let mut ids = NodeSet::new();
+    ids.push(id);
+    ids
 }
 
 // Puts the ids at the end.
-fn append(all: &mut ArrayVec<NodeId, MAX_CANDIDATES>, ids: &[NodeId])
-    requires { array_vec_len all.old + length ids.now ≤ MAX_CANDIDATES }
+fn append(all: &mut ArrayVec<NodeId, MAX_CANDIDATES>, ids: &NodeSet)
+    requires { array_vec_len all.old + most_ids ≤ MAX_CANDIDATES }
     ensures { all.new.items ≡ all.old.items ++ ids.now }
 {
-    let _ = all.try_extend_from_slice(ids);
+    // There is room, so this is no error.
+    let _ = all.try_extend_from_slice(ids.as_slice());
 }
 
 // The first of the ids, as many as there are.
@@ -197,15 +163,7 @@ fn as_set(ids: &[NodeId]) -> NodeSet
 {
     let mut set = NodeSet::new();
     for id in ids {
-        put(&mut set, *id);
+        set.put(*id);
     }
     set
-}
-
-// Puts the id in, where it is not in yet.
-fn put(ids: &mut NodeSet, id: NodeId)
-    requires { length ids.old < most_ids }
-    ensures { ids.new ≡ with_id id ids.old }
-{
-    let _ = ids.insert(id);
 }

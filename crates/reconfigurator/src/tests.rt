@@ -1,34 +1,28 @@
+//! Live nodes and voters, with the voters that they become.
 use super::*;
 use std::test::*;
 
-// The ids that are the letters of a text.
-fn letters(text: &str) -> NodeSet {
-    let mut ids = NodeSet::new();
-    for letter in text.as_bytes() {
-        if let Some(id) = NodeId::from_bytes(&[*letter]) {
-            let _ = ids.insert(id);
-        }
-    }
-    ids
+fn set(text: &str) -> NodeSet {
+    NodeSet::parse(text).unwrap_or(NodeSet::new())
 }
 
 #[test]
 fn the_voters_become_these(rt: HostRuntime) -> Result<(), Fail> {
     let a = NodeId::parse("a").ok().ok_or("a letter is an id")?;
     for (live, excluded, config, shrink, want) in [
-        ("abcd", "", "abc", true, "abc"),
-        ("abcde", "", "abc", true, "abcde"),
-        ("ab", "", "ab", true, "a"),
-        ("abc", "c", "abc", true, "ab"),
-        ("ab", "", "abc", true, "abc"),
+        ("a,b,c,d", "_", "a,b,c", true, "a,b,c"),
+        ("a,b,c,d,e", "_", "a,b,c", true, "a,b,c,d,e"),
+        ("a,b", "_", "a,b", true, "a"),
+        ("a,b,c", "c", "a,b,c", true, "a,b"),
+        ("a,b", "_", "a,b,c", true, "a,b,c"),
         ("a", "a", "a", true, "a"),
-        ("abc", "", "abcde", true, "abc"),
-        ("abc", "", "abcde", false, "abcde"),
+        ("a,b,c", "_", "a,b,c,d,e", true, "a,b,c"),
+        ("a,b,c", "_", "a,b,c,d,e", false, "a,b,c,d,e"),
     ] {
-        let config = VotingConfig::of(&letters(config));
-        let voters = target(&letters(live), &letters(excluded), a, &config, shrink);
+        let config = VotingConfig::of(&set(config));
+        let voters = target(&set(live), &set(excluded), a, &config, shrink);
         assert!(rt;
-            voters.is_same(&VotingConfig::of(&letters(want))),
+            voters.is_same(&VotingConfig::of(&set(want))),
             "live {live}, excluded {excluded}"
         );
     }

@@ -2,9 +2,10 @@
 use Rattle.std.proofs.Common.{◌≡◌, ℕ, zero, suc, ◌+◌, ◌-◌, ◌/◌, ◌%◌, ◌<◌, ◌≤◌, Bool, true, false, List, [], ◌∷◌, ◌++◌, length, length-append, refl, arith, IsTrue, lit≤}
 use Rattle.std.specs.Prelude.{nat_lt, ◌==◌, codes, decimal, if◌then◌else◌}
 use Rattle.std.proofs.lemmas.Bool.{and_from, ltb-true}
-use Rattle.voting_config.specs.Ids.{Id, has}
+use Rattle.voting_config.specs.Ids.{Id, has, are_among}
 use Rattle.zen_disk.specs.declared.orders.Way.{Way}
-use Rattle.schedule_text.specs.Words.{items_of, list_text, are_ids_after, are_among, mode_text, FitsMode}
+use Rattle.voting_config.specs.Lists.{items_of, list_text, are_ids_after}
+use Rattle.schedule_text.specs.Words.{mode_text, FitsMode}
 use Rattle.schedule_text.specs.Lines.{FitsCore, line_text}
 use Rattle.schedule_text.specs.declared.schedule.Line.{Line}
 use Rattle.schedule_text.specs.declared.schedule.Line.TheVariants.{Boot, StartJoin, Deliver, Restart}

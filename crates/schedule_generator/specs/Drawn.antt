@@ -1,9 +1,9 @@
--- The line of a step that three words give, after so many messages.
+-- Part of the statement: the line of a step that three words give, after so many messages.
 use Rattle.std.specs.Prelude.{ℕ, ◌+◌, ◌-◌, ◌/◌, ◌%◌, ◌==◌, List, [], ◌∷◌, codes, decimal, nat_lt, if◌then◌else◌}
 use Rattle.voting_config.specs.Ids.{Id}
 use Rattle.zen_disk.specs.declared.orders.Way.{Way}
 use Rattle.zen_disk.specs.declared.orders.Way.TheVariants.{Lost, Kept, Torn}
-use Rattle.schedule_text.specs.Words.{items_of}
+use Rattle.voting_config.specs.Lists.{items_of}
 use Rattle.schedule_text.specs.declared.schedule.Line.{Line}
 use Rattle.schedule_text.specs.declared.schedule.Line.TheVariants.{StartJoin, Value, Deliver, Crash, Restart, Fuse}
 use Rattle.schedule_generator.specs.declared.drawing.Draw.{Draw}

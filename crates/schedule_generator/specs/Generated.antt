@@ -1,13 +1,13 @@
--- The schedules of a number.
+-- Part of the statement: the schedules of a number.
 use Rattle.std.specs.Prelude.{ℕ, zero, suc, ◌-◌, List, [], ◌∷◌, ◌++◌, codes, nat_lt, if◌then◌else◌}
-use Rattle.schedule_text.specs.Words.{items_of}
+use Rattle.voting_config.specs.Lists.{items_of}
 use Rattle.schedule_text.specs.declared.schedule.Line.{Line}
 use Rattle.schedule_text.specs.declared.schedule.Line.TheVariants.{Boot}
 use Rattle.schedule_text.specs.declared.schedule.Schedule.{Schedule}
 use Rattle.schedule_generator.specs.Draws.{after_draws, draw_of, seeded}
 use Rattle.schedule_generator.specs.Drawn.{drawn_line, node_of}
 
--- The line of a step, counted from 0, after so many messages. The first three nodes boot; each step behind them draws three words, which
+-- The line of a step, counted from 0, after so many messages. The first three nodes boot; each step after them draws three words, which
 -- no other step draws.
 abbrev pub line_at : (number step sent : ℕ) → Line
 line_at number step sent =

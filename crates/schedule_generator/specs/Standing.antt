@@ -1,4 +1,4 @@
--- Where a generator stands. Not part of the statement.
+-- For the contracts inside: where a generator stands.
 use Rattle.std.specs.Prelude.{◌≡◌, ℕ, ◌-◌}
 use Rattle.schedule_generator.specs.Draws.{after_draws, seeded}
 use Rattle.schedule_generator.specs.declared.generator.Generator.{Generator}

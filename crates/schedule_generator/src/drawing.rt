@@ -1,8 +1,8 @@
+//! The line that three words of a generator give.
 ghost use Rattle.std.specs.Prelude.{◌≡◌, ◌+◌, ◌<◌, ◌^◌, [], IfOk, IsTrue};
-ghost use Rattle.schedule_text.specs.Words.{are_ids_after, items_of};
+ghost use Rattle.voting_config.specs.Lists.{are_ids_after, items_of};
 ghost use Rattle.schedule_generator.specs.Drawn.{config_of, drawn_line as drawn_line_of, node_of, ordinal_of, stop_line as stop_line_of, text_of, way_of};
 
-use schedule_text::words::set_of;
 use schedule_text::{IdList, Line, SettingText, Text};
 use std::alloc::{AllocError, Global};
 use voting_config::{NodeId, NodeSet};
@@ -32,7 +32,7 @@ pub fn nodes(word: &[u8]) -> NodeSet
     requires { IsTrue (are_ids_after [] (items_of word.now)) }
     ensures { result ≡ items_of word.now }
 {
-    let Some(ids) = set_of(word) else {
+    let Some(ids) = NodeSet::from_bytes(word) else {
         unreachable!()
     };
     ids

@@ -1,3 +1,4 @@
+//! `Generator`: the lines of a number's schedule, one after the other.
 ghost use Rattle.std.specs.Prelude.{◌≡◌, ◌+◌, ◌<◌, ◌^◌, ℕ, [], IfOk};
 ghost use Rattle.schedule_generator.specs.Draws.{after_draw, draw_of, seeded};
 ghost use Rattle.schedule_generator.specs.Generated.{generated_from, line_at};

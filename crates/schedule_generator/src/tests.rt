@@ -1,3 +1,4 @@
+//! The lines that numbers give, also as a second generator draws them.
 use crate::{Generator, empty_schedule};
 use schedule_text::{Level, Line, Lines, Text, read_schedule, write_schedule};
 use std::alloc::{AllocError, Global};

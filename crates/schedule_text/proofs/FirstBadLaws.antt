@@ -6,14 +6,14 @@ use Rattle.std.proofs.lemmas.Bool.{and_parts, and_from, cases_lt}
 use Rattle.std.proofs.lemmas.Bool.Decides.{nat_tests}
 use Rattle.std.proofs.lemmas.List.{length-append}
 use Rattle.std.proofs.lemmas.Slice.Eq.{bytes_eq-Decides}
-use Rattle.voting_config.specs.Ids.{Id, is_id, most_ids}
+use Rattle.voting_config.specs.Ids.{Id, is_id, most_ids, are_among}
 use Rattle.schedule_text.specs.declared.fault.Why.{Why}
 use Rattle.schedule_text.specs.declared.fault.BadSchedule.{BadSchedule}
 use Rattle.schedule_text.specs.declared.level.Level.{Level}
 use Rattle.schedule_text.specs.declared.place.Place.{Place}
 use Rattle.schedule_text.specs.declared.schedule.Line.{Line}
 use Rattle.schedule_text.specs.declared.schedule.Schedule.{Schedule}
-use Rattle.schedule_text.specs.Words.{list_text, may_follow, are_ids_after, are_among}
+use Rattle.voting_config.specs.Lists.{list_text, may_follow, are_ids_after}
 use Rattle.schedule_text.specs.Reading.{first_place, after_line, in_line, ◌>>>◌, header_at, initial_line_at, end_at, no_initial, first_line_at, second_line_at, one_line_at, lines_at, pieces, initial_at, nodes_at, schedule_at, fault_in, fault_of}
 use Rattle.schedule_text.specs.Spelled.{with_feeds}
 use Rattle.schedule_text.specs.FirstBad.{first_lines, BeginsSchedule, IsFirstBad, LawFirstBadLine}

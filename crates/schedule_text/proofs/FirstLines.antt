@@ -4,7 +4,7 @@ use Rattle.std.specs.Prelude.{◌==◌}
 use Rattle.std.specs.List.{list_all, join_with_byte}
 use Rattle.std.proofs.lemmas.Bool.{and_parts}
 use Rattle.schedule_text.specs.FirstBad.{first_lines}
-use Rattle.schedule_text.specs.Words.{parts_of}
+use Rattle.voting_config.specs.Lists.{parts_of}
 use Rattle.schedule_text.specs.Spelled.{with_feeds}
 use Rattle.schedule_text.proofs.WordLaws.{lacks, is_false, split_alone, split_first, join_split, parts_not_empty}
 use Rattle.schedule_text.proofs.ScheduleLaws.{join_more}

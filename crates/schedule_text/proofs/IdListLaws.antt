@@ -4,7 +4,7 @@ use Rattle.std.proofs.Math.Seq.{drop-cons}
 use Rattle.std.proofs.lemmas.Bool.{and_parts}
 use Rattle.voting_config.specs.Ids.{Id, before, is_below, ascends, comes_after, IsIdSet}
 
--- an id that stands behind others of an ascending list comes after them
+-- an id that stands after others of an ascending list comes after them
 after_front : (front : List Id) (x : Id) (more : List Id) → ascends (front ++ x ∷ more) ≡ true → comes_after x front ≡ true
 after_front [] x more h = refl
 after_front (y ∷ []) x more h = (and_parts (before y x) _ (and_parts (is_below y (x ∷ more)) _ h).0).0

@@ -6,13 +6,14 @@ use Rattle.std.specs.Cmp.Lexicographic.{same_text}
 use Rattle.std.specs.List.{list_all, join_with_byte}
 use Rattle.std.proofs.lemmas.Bool.{and_parts, and_from}
 use Rattle.std.proofs.lemmas.Bool.Decides.{nat_tests}
-use Rattle.voting_config.specs.Ids.{Id, is_id}
+use Rattle.voting_config.specs.Ids.{Id, is_id, are_among}
 use Rattle.schedule_text.specs.declared.fault.Why.{Why}
 use Rattle.schedule_text.specs.declared.level.Level.{Level}
 use Rattle.schedule_text.specs.declared.level.Level.TheVariants.{Core, Node}
 use Rattle.schedule_text.specs.declared.schedule.Line.{Line}
 use Rattle.schedule_text.specs.declared.schedule.Line.TheVariants as line
-use Rattle.schedule_text.specs.Words.{◌>>=◌, Word, listed, are_among, parts_of}
+use Rattle.voting_config.specs.Lists.{parts_of}
+use Rattle.schedule_text.specs.Words.{◌>>=◌, Word, listed}
 use Rattle.schedule_text.specs.Lines.{Args, one_word, two_words, three_words, four_words, one, two, three, four, word_and_rest, any_number, ordinal, most_ordinal, moment, boot, start_join, value, deliver, crash, restart, fuse, fail, tick, client, words_of, line_words, line_text, FitsCore, FitsNode, FitsLine, client_at, shared_verb_at, core_line_at, node_line_at, words_at, line_at}
 use Rattle.schedule_text.proofs.WordLaws.{is_plain, IsWord, bind_ok, ok_is, all_weaker, lacks, parts_not_empty, split_first, split_join, join_split, join_all, listed_law, text_law, number_law, list_law}
 use Rattle.schedule_text.proofs.ModeLaws.{mode_law}
@@ -203,7 +204,7 @@ rest_by : (v : List ℕ) (parts : List (List ℕ)) → parts ≢ [] → word_and
 rest_by v [] some = absurd (some refl)
 rest_by v (w ∷ ws) some = refl
 
--- all that stands behind the space after the first word
+-- all that follows the space after the first word
 pub rest_is : (v rest : List ℕ) → word_and_rest (v ∷ parts_of 32 rest) ≡ Ok (v, rest)
 rest_is v rest = rest_by v (parts_of 32 rest) (parts_not_empty 32 rest) ∙ ap (λ t. done {A = List ℕ × List ℕ} (v, t)) (join_split 32 rest)
 

@@ -7,7 +7,7 @@ use Rattle.std.specs.List.{list_all, join_with_byte, AllByRecursion}
 use Rattle.std.proofs.lemmas.Bool.{and_parts, and_from, le-ltb, ltb-false, lt-ltb}
 use Rattle.std.proofs.lemmas.Bool.Decides.{nat_tests}
 use Rattle.std.proofs.lemmas.List.{length-append, append-nil}
-use Rattle.voting_config.specs.Ids.{Id, is_id}
+use Rattle.voting_config.specs.Ids.{Id, is_id, are_among}
 use Rattle.schedule_text.specs.declared.fault.Why.{Why}
 use Rattle.schedule_text.specs.declared.fault.Why.TheVariants as why
 use Rattle.schedule_text.specs.declared.fault.BadSchedule.{BadSchedule}
@@ -18,7 +18,8 @@ use Rattle.schedule_text.specs.declared.place.Place.{Place}
 use Rattle.schedule_text.specs.declared.schedule.Line.{Line}
 use Rattle.schedule_text.specs.declared.schedule.Schedule.{Schedule}
 use Rattle.schedule_text.specs.Limits.{most_bytes, most_lines, most_line_bytes}
-use Rattle.schedule_text.specs.Words.{◌>>=◌, list, is_some_list, list_text, are_ids_after, are_among, parts_of}
+use Rattle.voting_config.specs.Lists.{list_text, are_ids_after, parts_of}
+use Rattle.schedule_text.specs.Words.{◌>>=◌, list, is_some_list}
 use Rattle.schedule_text.specs.Lines.{one_word, words_of, line_text, FitsLine, line_at}
 use Rattle.schedule_text.specs.Reading.{first_place, after_line, sized_at, in_line, ◌>>>◌, as_header, header_words, header_at, initial_line_at, end_at, first_line_at, second_line_at, one_line_at, lines_at, pieces, initial_at, nodes_at, schedule_at, fault_in, fault_of}
 use Rattle.schedule_text.specs.Spelled.{text_lines, with_feeds, schedule_text, IsSchedule, IsWithin, Spells, Nothing, Text}

@@ -12,7 +12,8 @@ use Rattle.std.proofs.lemmas.List.Splits.{join_with_byte-slice_split, length-sli
 use Rattle.voting_config.specs.Ids.{Id, is_id, is_id_byte, has, most_ids}
 use Rattle.schedule_text.specs.declared.fault.Why.{Why}
 use Rattle.schedule_text.specs.declared.fault.Why.TheVariants as why
-use Rattle.schedule_text.specs.Words.{◌>>=◌, Word, itself, listed, text, is_digit, value_from, is_decimal, number, may_follow, are_ids_after, parts_of, items_of, list_text, list}
+use Rattle.voting_config.specs.Lists.{may_follow, are_ids_after, parts_of, items_of, list_text}
+use Rattle.schedule_text.specs.Words.{◌>>=◌, Word, itself, listed, text, is_digit, value_from, is_decimal, number, list}
 
 -- no space and no line feed
 abbrev pub is_plain : List ℕ → Bool

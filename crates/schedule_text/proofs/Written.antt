@@ -3,7 +3,7 @@ use Rattle.std.proofs.Common.{◌≡◌, Result, OnOk, subst, List, [], ◌∷�
 use Rattle.std.specs.List.{flat_map}
 use Rattle.std.proofs.lemmas.List.{append-nil, drop_all, take_all}
 use Rattle.voting_config.specs.Ids.{Id}
-use Rattle.schedule_text.specs.Words.{list_text}
+use Rattle.voting_config.specs.Lists.{list_text}
 
 abbrev pub comma_text : List Id → List ℕ
 comma_text ids = flat_map (λ (i : Id). 44 ∷ i) ids

@@ -1,4 +1,4 @@
--- Which line is the first bad one, by the schedules that there are.
+-- Part of the statement: which line is the first bad one, by the schedules that there are.
 use Rattle.std.specs.Prelude.{◌≡◌, ◌↔◌, ℕ, zero, suc, ◌-◌, ◌==◌, List, [], ◌∷◌, Some, if◌then◌else◌}
 use Rattle.schedule_text.specs.declared.fault.Why.{Why}
 use Rattle.schedule_text.specs.declared.level.Level.{Level}

@@ -1,4 +1,4 @@
--- How large a schedule is at most.
+-- Part of the statement: how large a schedule is at most.
 use Rattle.std.specs.Prelude.{ℕ}
 
 -- the bytes of a schedule

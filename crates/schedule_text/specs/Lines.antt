@@ -1,4 +1,4 @@
--- The lines of a schedule by their words.
+-- Part of the statement: the lines of a schedule by their words.
 use Rattle.std.specs.Prelude.{ℕ, ◌-◌, ◌^◌, ◌==◌, Bool, not, Result, Ok, Err, List, [], ◌∷◌, codes, IsTrue, if◌then◌else◌}
 use Rattle.std.specs.List.{join_with_byte, list_all}
 use Rattle.std.specs.Str.{bytes_eq}
@@ -10,9 +10,10 @@ use Rattle.schedule_text.specs.declared.level.Level.TheVariants.{Core, Node}
 use Rattle.schedule_text.specs.declared.schedule.Line.{Line}
 use Rattle.schedule_text.specs.declared.schedule.Line.TheVariants as line
 use Rattle.zen_disk.specs.declared.orders.Way.{Way}
-use Rattle.schedule_text.specs.Words.{parts_of, ◌>>=◌, Word, listed, text, number, config, mode}
+use Rattle.voting_config.specs.Lists.{parts_of}
+use Rattle.schedule_text.specs.Words.{◌>>=◌, Word, listed, text, number, config, mode}
 
--- ---- the words behind a verb
+-- ---- the words after a verb
 
 -- So many words, each of its kind: how they are spelled, and what words are read as. Another number of words is Arity, and
 -- then the first bad word from the left says why.
@@ -70,7 +71,7 @@ four {A} {B} {C} {D} a b c d = record {
 abbrev pub is_one_line : List ℕ → Bool
 is_one_line bytes = list_all (λ b. not (b == 10)) bytes
 
--- the first word, and what stands behind the space after it
+-- the first word, and what follows the space after it
 abbrev pub word_and_rest : List (List ℕ) → Result (List ℕ × List ℕ) Why
 word_and_rest [] = Err why.Arity
 word_and_rest (v ∷ []) = Err why.Arity
@@ -136,7 +137,7 @@ client ids = with_rest (listed ids)
 abbrev pub words_of : List ℕ → List (List ℕ)
 words_of bytes = parts_of 32 bytes
 
--- the words of a line; the bytes behind the node of a client's line stand for one word
+-- the words of a line; the bytes after the node of a client's line stand for one word
 abbrev pub line_words : Line → List (List ℕ)
 line_words (line.Boot n) = codes "boot" ∷ n ∷ []
 line_words (line.StartJoin n c t) = codes "startjoin" ∷ n ∷ c ∷ any_number.spelling t ∷ []
@@ -182,7 +183,7 @@ abbrev pub FitsLine : Level → List Id → Line → Type 0
 FitsLine Core ids l = FitsCore ids l
 FitsLine Node ids l = FitsNode ids l
 
--- what the words behind a verb are read as
+-- what the words after a verb are read as
 abbrev pub boot_at : List Id → List (List ℕ) → Result Line Why
 boot_at ids ws = (boot ids).at ws >>= λ x. Ok (line.Boot x)
 
@@ -213,7 +214,7 @@ tick_at ids ws = (tick ids).at ws >>= λ x. Ok (line.Tick x.0 x.1 x.2)
 abbrev pub client_at : List Id → List (List ℕ) → Result Line Why
 client_at ids ws = (client ids).at ws >>= λ x. Ok (line.Client x.0 x.1)
 
--- a line that stops a node, starts it again or lets its disk fail, by its verb
+-- a line that crashes a node, starts it again or lets its disk fail, by its verb
 abbrev pub stop_verb_at : List Id → List ℕ → List (List ℕ) → Result Line Why
 stop_verb_at ids verb ws =
     if bytes_eq verb (codes "crash") then crash_at ids ws

@@ -1,7 +1,7 @@
--- What bytes are read as: the schedule, or the first bad line and why it is bad.
+-- Part of the statement: what bytes are read as: the schedule, or the first bad line and why it is bad.
 use Rattle.std.specs.Prelude.{ℕ, ◌+◌, Option, None, Some, Result, Ok, Err, List, [], ◌∷◌, ◌++◌, length, codes, nat_lt, if◌then◌else◌}
 use Rattle.std.specs.Str.{bytes_eq}
-use Rattle.voting_config.specs.Ids.{Id}
+use Rattle.voting_config.specs.Ids.{Id, are_among}
 use Rattle.schedule_text.specs.declared.fault.Why.{Why}
 use Rattle.schedule_text.specs.declared.fault.Why.TheVariants as why
 use Rattle.schedule_text.specs.declared.fault.BadSchedule.{BadSchedule}
@@ -10,7 +10,8 @@ use Rattle.schedule_text.specs.declared.place.Place.{Place}
 use Rattle.schedule_text.specs.declared.schedule.Line.{Line}
 use Rattle.schedule_text.specs.declared.schedule.Schedule.{Schedule}
 use Rattle.schedule_text.specs.Limits.{most_bytes, most_lines, most_line_bytes}
-use Rattle.schedule_text.specs.Words.{parts_of, ◌>>=◌, list, are_among, is_some_list}
+use Rattle.voting_config.specs.Lists.{parts_of}
+use Rattle.schedule_text.specs.Words.{◌>>=◌, list, is_some_list}
 use Rattle.schedule_text.specs.Lines.{one_word, words_of, line_at}
 
 abbrev pub first_place : Place
@@ -82,7 +83,7 @@ abbrev pub end_at : {A : Type 0} → Place → List ℕ → A → Result A BadSc
 end_at p [] x = Ok x
 end_at p (b ∷ bs) x = Err (record { line = p.number; why = why_cut p (b ∷ bs) })
 
--- the lines from this place on, after those in front, of what stands between line feeds
+-- the lines from this place on, after those before it, of what stands between line feeds
 abbrev pub lines_at : Level → List Id → Place → List Line → List (List ℕ) → Result (List Line) BadSchedule
 lines_at level ids p front [] = Ok front
 lines_at level ids p front (line ∷ []) = end_at p line front

@@ -1,10 +1,11 @@
--- Which bytes are a schedule.
+-- Part of the statement: which bytes are a schedule.
 use Rattle.std.specs.Prelude.{ℕ, ◌<◌, ◌≤◌, List, [], ◌∷◌, ◌++◌, length, map, codes, IsTrue}
 use Rattle.std.specs.List.{flat_map, AllByRecursion}
 use Rattle.schedule_text.specs.declared.level.Level.{Level}
 use Rattle.schedule_text.specs.declared.schedule.Schedule.{Schedule}
 use Rattle.schedule_text.specs.Limits.{most_bytes, most_lines, most_line_bytes}
-use Rattle.schedule_text.specs.Words.{list_text, are_ids_after, are_among}
+use Rattle.voting_config.specs.Lists.{list_text, are_ids_after}
+use Rattle.voting_config.specs.Ids.{are_among}
 use Rattle.schedule_text.specs.Lines.{FitsLine, line_text}
 
 -- the lines of a schedule as they are written, without their line feeds

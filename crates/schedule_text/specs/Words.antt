@@ -1,27 +1,13 @@
--- The words of a line: how each kind is spelled, and what a word is read as.
-use Rattle.std.specs.Prelude.{ℕ, ◌+◌, ◌-◌, ◌*◌, ◌/◌, ◌%◌, ◌<◌, ◌≤◌, ◌==◌, Bool, true, false, not, ◌&&◌, ◌||◌, Option, None, Some, Result, Ok, Err, List, [], ◌∷◌, ◌++◌, length, take, get_or, codes, decimal, IsTrue, nat_le, nat_lt, if◌then◌else◌}
-use Rattle.std.specs.List.{slice_split, join_with_byte, list_all}
+-- Part of the statement: the words of a line: how each kind is spelled, and what a word is read as.
+use Rattle.std.specs.Prelude.{ℕ, ◌+◌, ◌-◌, ◌*◌, ◌/◌, ◌%◌, ◌<◌, ◌≤◌, ◌==◌, Bool, false, not, ◌&&◌, ◌||◌, Result, Ok, Err, List, [], ◌∷◌, ◌++◌, length, take, get_or, codes, decimal, IsTrue, nat_le, nat_lt, if◌then◌else◌}
+use Rattle.std.specs.List.{list_all}
 use Rattle.std.specs.Str.{bytes_eq}
-use Rattle.std.specs.Borrow.{Bor}
-use Rattle.voting_config.specs.Ids.{Id, is_id, has, comes_after, most_ids}
+use Rattle.voting_config.specs.Ids.{Id, are_among, has, is_id}
+use Rattle.voting_config.specs.Lists.{are_ids_after, items_of, list_text}
 use Rattle.zen_disk.specs.declared.orders.Way.{Way}
 use Rattle.zen_disk.specs.declared.orders.Way.TheVariants.{Lost, Kept, Torn}
 use Rattle.schedule_text.specs.declared.fault.Why.{Why}
 use Rattle.schedule_text.specs.declared.fault.Why.TheVariants as why
-
--- what stands between the bytes c
-abbrev pub parts_of : ℕ → List ℕ → List (List ℕ)
-parts_of c bytes = slice_split (λ b. b == c) bytes
-
--- the parts after the first one, where there are some
-abbrev pub parts_in : ℕ → Option (Bor (List ℕ)) → List (List ℕ)
-parts_in c None = []
-parts_in c (Some rest) = parts_of c rest.now
-
--- how many bytes are left
-abbrev pub left_in : Option (Bor (List ℕ)) → ℕ
-left_in None = 0
-left_in (Some rest) = 1 + length rest.now
 
 infixl 10 ◌>>=◌
 abbrev pub ◌>>=◌ : {A B : Type 0} → Result A Why → (A → Result B Why) → Result B Why
@@ -75,24 +61,6 @@ number low high = record {
 
 -- ---- lists
 
--- an id that comes after these, and there is room for it
-abbrev pub may_follow : List Id → List ℕ → Bool
-may_follow front x = is_id x && nat_lt (length front) most_ids && comes_after x front
-
--- each is an id that comes after those before it, and no set has more ids
-abbrev pub are_ids_after : List Id → List (List ℕ) → Bool
-are_ids_after front [] = true
-are_ids_after front (x ∷ xs) = may_follow front x && are_ids_after (front ++ x ∷ []) xs
-
--- what stands between the commas of a list
-abbrev pub items_of : List ℕ → List (List ℕ)
-items_of w = if bytes_eq w (codes "_") then [] else parts_of 44 w
-
--- ids with commas between them
-abbrev pub list_text : List Id → List ℕ
-list_text [] = codes "_"
-list_text (x ∷ xs) = join_with_byte 44 (x ∷ xs)
-
 -- a list of ids, which passes the test
 abbrev pub list : (List Id → Bool) → Word (List Id)
 list good = record {
@@ -100,9 +68,6 @@ list good = record {
   at = λ w. if are_ids_after [] (items_of w) && good (items_of w) then Ok (items_of w) else Err why.List;
   Fits = λ xs. IsTrue (are_ids_after [] xs && good xs);
 }
-
-abbrev pub are_among : List Id → List Id → Bool
-are_among ids xs = list_all (λ x. has x ids) xs
 
 -- some of the listed nodes
 abbrev pub config : List Id → Word (List Id)

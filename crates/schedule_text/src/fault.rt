@@ -1,3 +1,4 @@
+//! Why a text is no schedule.
 ghost use Rattle.std.specs.Prelude.{◌≡◌};
 ghost use Rattle.schedule_text.specs.Printed.{why_text};
 
@@ -26,7 +27,7 @@ pub enum Why {
     /// The first word is no verb of the level.
     #[error("the first word is no verb")]
     Verb,
-    /// The verb has another number of words behind it, or a `client` line no node with a space after it.
+    /// The verb has another number of words after it, or a `client` line no node with a space after it.
     #[error("the verb takes another number of words")]
     Arity,
     /// The word is no listed node.
@@ -77,7 +78,7 @@ pub struct BadSchedule {
     pub why: Why,
 }
 
-/// Why nothing was read: a fault of the bytes, or too little memory.
+/// Why nothing was read: a fault of the bytes, or that memory ran out.
 #[derive(Clone, Copy, Debug, PartialEq, Eq, Error)]
 #[error_bound(E: Display)]
 pub enum ReadError<E> {

@@ -1,3 +1,4 @@
+//! A set of ids that takes memory for those alone that are in it.
 ghost use Rattle.std.specs.Prelude.{◌≡◌, IfOk};
 ghost use Rattle.voting_config.specs.Ids.{IsIdSet};
 

@@ -1,3 +1,4 @@
+//! The bytes of a client's line.
 ghost use Rattle.std.specs.Prelude.{◌≡◌, IfOk};
 
 use std::alloc::{AllocError, Global};

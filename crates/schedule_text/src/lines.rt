@@ -1,6 +1,7 @@
+//! A line of a schedule read from its words.
 ghost use Rattle.std.specs.Prelude.{◌≡◌, Option};
-ghost use Rattle.schedule_text.specs.Words.{parts_in};
-ghost use Rattle.schedule_text.specs.Lines.{one_word as one_word_of, two_words as two_words_of, three_words as three_words_of, four_words as four_words_of, word_and_rest as word_and_rest_of, boot_at, start_join_at, value_at, deliver_at, crash_at, restart_at, fuse_at, fail_at, tick_at, client_at, stop_verb_at, shared_verb_at, core_verb_at, core_line_at, node_verb_at, node_line_at, line_at, Args};
+ghost use Rattle.voting_config.specs.Lists.{parts_in};
+ghost use Rattle.schedule_text.specs.Lines.{one_word as one_word_of, two_words as two_words_of, three_words as three_words_of, four_words as four_words_of, word_and_rest as word_and_rest_of, boot_at, start_join_at, value_at, deliver_at, crash_at, restart_at, fuse_at, fail_at, tick_at, client_at, stop_verb_at, shared_verb_at, core_verb_at, core_line_at, node_verb_at, node_line_at, line_at};
 ghost use Rattle.schedule_text.specs.Answers.{Gives, Answers};
 
 use crate::fault::{ReadError, Why};
@@ -10,9 +11,9 @@ use crate::line_bytes::LineBytes;
 use crate::modes::mode_at;
 use crate::schedule::Line;
 use crate::setting_text::SettingText;
-use crate::words::{config_at, cut, node_at, number_at, text_at};
+use crate::words::{config_at, node_at, number_at, text_at};
 use std::alloc::Global;
-use voting_config::{NodeId, NodeSet};
+use voting_config::{NodeId, NodeSet, cut};
 
 /// The greatest number that a `deliver`, `fuse` or `fail` line has.
 pub const MAX_ORDINAL: u64 = 4294967295;
@@ -20,7 +21,7 @@ pub const MAX_ORDINAL: u64 = 4294967295;
 /// The latest moment of a `tick` line, in milliseconds.
 pub const MAX_MOMENT: u64 = 4611686018427387904;
 
-/// The one word behind a verb, and `Arity` where there is another number of words.
+/// The one word after a verb, and `Arity` where there is another number of words.
 pub fn one_word(rest: Option<&[u8]>) -> Result<&[u8], Why>
     ensures { Gives (λ w. w.now) result (one_word_of (parts_in 32 rest.entry)) }
 {
@@ -31,6 +32,7 @@ pub fn one_word(rest: Option<&[u8]>) -> Result<&[u8], Why>
     let Some(rest) = rest else {
         return Ok(word);
     };
+    // For the proof alone, which counts the words: that there is one more.
     let _ = cut(rest, b' ');
     Err(Why::Arity)
 }
@@ -179,7 +181,7 @@ fn tick(ids: &NodeSet, rest: Option<&[u8]>) -> Result<Line, Why>
     Ok(Line::Tick(node, now, word))
 }
 
-// The first word behind a verb, and all that stands behind the space after it, further spaces included.
+// The first word after a verb, and all that follows the space after it, further spaces included.
 fn word_and_rest(rest: Option<&[u8]>) -> Result<(&[u8], &[u8]), Why>
     ensures { Gives (λ w. (w.0.now, w.1.now)) result (word_and_rest_of (parts_in 32 rest.entry)) }
 {

@@ -1,3 +1,4 @@
+//! What a stop leaves, as a word.
 ghost use Rattle.std.specs.Prelude.{◌≡◌, ◌<◌, IfOk};
 ghost use Rattle.schedule_text.specs.Words.{mode, torn_at as torn_at_of, byte_at as byte_at_of, hex_at as hex_at_of, hex_byte as hex_byte_of};
 

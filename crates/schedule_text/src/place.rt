@@ -1,3 +1,4 @@
+//! Where a line stands in a text, and the limits of texts and lines.
 ghost use Rattle.std.specs.Prelude.{◌≡◌, ◌+◌, ◌<◌, ◌^◌, length};
 ghost use Rattle.schedule_text.specs.Reading.{first_place, after_line, sized_at, why_cut};
 ghost use Rattle.schedule_text.specs.Answers.{Gives};

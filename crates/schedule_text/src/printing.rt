@@ -1,3 +1,4 @@
+//! Schedules and their lines written as text.
 ghost use Rattle.std.specs.Prelude.{◌≡◌, ◌++◌, OnOk, IfOk, map};
 ghost use Rattle.schedule_text.specs.Lines.{line_text};
 ghost use Rattle.schedule_text.specs.Spelled.{schedule_text, with_feeds};

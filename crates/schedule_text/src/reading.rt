@@ -1,8 +1,9 @@
+//! A text read as a schedule, or refused by its first bad line.
 ghost use Rattle.std.specs.Prelude.{◌≡◌, ◌+◌, ◌<◌, ◌≤◌, ◌^◌, length, OnOk, IfOk, Result, []};
 ghost use Rattle.schedule_text.specs.Limits.{most_lines};
-ghost use Rattle.schedule_text.specs.Words.{parts_of};
-ghost use Rattle.schedule_text.specs.Reading.{header_at, initial_line_at, in_line, sized_at, one_line_at, first_line_at, second_line_at, lines_at, initial_at, schedule_at, fault_of, end_at, no_initial};
-ghost use Rattle.schedule_text.specs.Answers.{Gives, Answers, Faulted};
+ghost use Rattle.voting_config.specs.Lists.{parts_of};
+ghost use Rattle.schedule_text.specs.Reading.{header_at, initial_line_at, one_line_at, first_line_at, second_line_at, lines_at, initial_at, schedule_at, fault_of, end_at, no_initial};
+ghost use Rattle.schedule_text.specs.Answers.{Answers, Faulted};
 ghost use Rattle.schedule_text.specs.Spelled.{Spells};
 ghost use Rattle.schedule_text.specs.declared.schedule.Schedule.{Schedule};
 
@@ -11,9 +12,8 @@ use crate::level::Level;
 use crate::lines::{one_word, read_line};
 use crate::place::Place;
 use crate::schedule::{Line, Lines, Schedule};
-use crate::words::{are_among, cut, set_of};
 use std::alloc::Global;
-use voting_config::NodeSet;
+use voting_config::{NodeSet, cut};
 
 fn header(name: &[u8], line: &[u8]) -> Result<NodeSet, Why>
     ensures { result ≡ header_at name.now line.now }
@@ -25,7 +25,7 @@ fn header(name: &[u8], line: &[u8]) -> Result<NodeSet, Why>
     let Ok(word) = one_word(rest) else {
         return Err(Why::Header);
     };
-    let Some(ids) = set_of(word) else {
+    let Some(ids) = NodeSet::from_bytes(word) else {
         return Err(Why::Header);
     };
     if ids.len() == 0 {
@@ -38,7 +38,7 @@ fn initial_line(ids: &NodeSet, line: &[u8]) -> Result<NodeSet, Why>
     ensures { result ≡ initial_line_at ids.now line.now }
 {
     let initial = header(b"initial", line)?;
-    if !are_among(ids, &initial) {
+    if !ids.has_all(&initial) {
         return Err(Why::Header);
     }
     Ok(initial)
@@ -93,7 +93,7 @@ fn one_line(
     }
 }
 
-// What stands behind the last line feed must be nothing.
+// What stands after the last line feed must be nothing.
 fn check_end(place: Place, line: &[u8]) -> Result<(), BadSchedule>
     requires { place.before + length line.now < 2 ^ 64 }
     ensures { result ≡ end_at place line.now tt }
@@ -136,7 +136,7 @@ fn read_lines(
     Ok(Lines::of(lines))
 }
 
-// The lines behind the header's first one.
+// The lines after the header's first one.
 fn read_rest(
     alloc: Global,
     level: Level,
@@ -152,6 +152,7 @@ fn read_rest(
     let Some(rest) = rest else {
         return Err(ReadError::Bad(no_second(place, line)));
     };
+    // For the proof alone, which speaks of the text cut at each line feed.
     let _ = cut(rest, b'\n');
     let initial = match second_line(&nodes, place, line) {
         Ok(initial) => initial,
@@ -178,6 +179,7 @@ fn no_second(place: Place, line: &[u8]) -> BadSchedule
     place.bad(place.why_cut(line))
 }
 
+// Has the exact answer in its contract. `read_schedule` only calls it, and says from it what callers need.
 fn read_exact(alloc: Global, level: Level, bytes: &[u8]) -> Result<Schedule, ReadError<BadSchedule>>
     ensures { Answers result (schedule_at level bytes.now) }
 {
@@ -193,11 +195,13 @@ fn read_exact(alloc: Global, level: Level, bytes: &[u8]) -> Result<Schedule, Rea
             lines: Lines::of(Vec::new(alloc)),
         });
     };
+    // For the proof alone, which speaks of the text cut at each line feed.
     let _ = cut(rest, b'\n');
     let nodes = match first_line(place, line) {
         Ok(nodes) => nodes,
         Err(bad) => return Err(ReadError::Bad(bad)),
     };
+    // The match changes nothing: the proof goes by its two cases.
     match read_rest(alloc, level, nodes, place.after(line), rest) {
         Ok(schedule) => Ok(schedule),
         Err(fault) => Err(fault),
@@ -218,6 +222,7 @@ pub fn read_schedule(
     // Which fault it is, where there is one. `law_first_bad_line` says which line it names.
     ensures fault { Faulted result (fault_of level bytes.now) }
 {
+    // The match changes nothing: the proof goes by its two cases.
     match read_exact(alloc, level, bytes) {
         Ok(read) => Ok(read),
         Err(fault) => Err(fault),

@@ -1,3 +1,4 @@
+//! Schedules and their lines, as types.
 ghost use Rattle.std.specs.Prelude.{◌≡◌};
 
 use crate::id_list::IdList;
@@ -7,7 +8,7 @@ use std::marker::Model;
 use voting_config::{NodeId, NodeSet};
 use zen_disk::Way;
 
-/// A line of a schedule behind its header. The first id is the node that acts. `Boot`, `StartJoin` and `Value` stand at
+/// A line of a schedule after its header. The first id is the node that acts. `Boot`, `StartJoin` and `Value` stand at
 /// level core alone, `Tick` and `Client` at level node alone.
 #[derive(Drop)]
 pub enum Line {
@@ -20,11 +21,11 @@ pub enum Line {
     Value(NodeId, u64, SettingText, IdList),
     /// The node is handed the message with this number, counted from 1.
     Deliver(NodeId, u64),
-    /// The node stops between two acts, and its disk is left so.
+    /// The node crashes between two acts, and its disk is left so.
     Crash(NodeId, Way),
     /// The node starts again.
     Restart(NodeId),
-    /// The node stops inside its device call of this number, the next one being 1, and its disk is left so.
+    /// The node crashes inside its device call of this number, the next one being 1, and its disk is left so.
     Fuse(NodeId, u64, Way),
     /// The node's device call of this number fails, the next one being 1.
     Fail(NodeId, u64),
@@ -65,7 +66,7 @@ impl Lines {
     }
 }
 
-/// A schedule: its header, and the lines behind it. A text of no bytes names no node and has no line.
+/// A schedule: its header, and the lines after it. A text of no bytes names no node and has no line.
 #[derive(Drop)]
 pub struct Schedule {
     /// All nodes.

@@ -1,3 +1,4 @@
+//! The text that a `value` line gives its setting.
 ghost use Rattle.std.specs.Prelude.{◌≡◌, IsTrue, Some, None, if◌then◌else◌};
 ghost use Rattle.voting_config.specs.Ids.{is_id};
 

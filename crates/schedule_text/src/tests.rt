@@ -1,3 +1,4 @@
+//! Texts with their first bad lines, and texts that are printed as they were read.
 use crate::fault::{BadSchedule, ReadError, Why};
 use crate::level::Level;
 use crate::printing::write_schedule;
@@ -18,7 +19,7 @@ fn fault(alloc: Global, level: Level, text: &[u8]) -> Option<(usize, Why)> {
     }
 }
 
-// A text with so many times these bytes behind a header.
+// A text with so many times these bytes after a header.
 fn many(alloc: Global, count: usize, bytes: &[u8]) -> Option<Vec<u8>> {
     let Ok(mut text) = Vec::from_slice(alloc, HEADER) else {
         return None;
@@ -31,7 +32,7 @@ fn many(alloc: Global, count: usize, bytes: &[u8]) -> Option<Vec<u8>> {
     Some(text)
 }
 
-// The fault of a text with so many times these bytes behind a header.
+// The fault of a text with so many times these bytes after a header.
 fn fault_of_many(alloc: Global, level: Level, count: usize, bytes: &[u8]) -> Option<(usize, Why)> {
     match many(alloc, count, bytes) {
         Some(text) => fault(alloc, level, text.as_slice()),

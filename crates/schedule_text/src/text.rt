@@ -1,5 +1,7 @@
+//! A text that grows at its end.
 ghost use Rattle.std.specs.Prelude.{◌≡◌, ◌++◌, ◌∷◌, [], length, OnOk, decimal};
-ghost use Rattle.schedule_text.specs.Words.{list_text, byte_text, mode_text};
+ghost use Rattle.voting_config.specs.Lists.{list_text};
+ghost use Rattle.schedule_text.specs.Words.{byte_text, mode_text};
 ghost use Rattle.schedule_text.specs.Lines.{line_text};
 ghost use Rattle.schedule_text.specs.Printed.{bad_line, reason_text};
 

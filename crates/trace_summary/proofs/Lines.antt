@@ -76,7 +76,7 @@ split_append p (x ∷ xs) y ys e =
       | false ↦ ap (onto_first x) (split_append p xs y ys e) ∙ onto_front x (slice_split p xs) (slice_split p ys) (omega (arith, length-slice_split p xs))
     ]
 
--- the counts of a text that goes on behind a whole line
+-- the counts of a text that goes on after a whole line
 pub pieces_join : (text piece : List ℕ) → EndsLine text → after_lines (counts_in (lines_of text)) (lines_of piece) ≡ counts_in (lines_of (text ++ piece))
 pieces_join text piece Empty = lines_join ([] ∷ []) (lines_of piece) ∙ empty_first (lines_of piece)
 pieces_join text piece (Fed front) =

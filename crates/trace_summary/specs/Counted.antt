@@ -1,8 +1,8 @@
--- How many lines of each kind a trace has. Part of the statement, but for `with_line` and `after_lines`.
+-- Part of the statement: how many lines of each kind a trace has. `with_line` and `after_lines` are for the contracts inside.
 use Rattle.std.specs.Prelude.{ℕ, ◌+◌, Bool, ◌&&◌, List, [], ◌∷◌, codes, count_by, get_or, nat_eq, if◌then◌else◌}
 use Rattle.std.specs.List.{starts_with}
 use Rattle.std.specs.Str.{bytes_eq}
-use Rattle.schedule_text.specs.Words.{parts_of}
+use Rattle.voting_config.specs.Lists.{parts_of}
 use Rattle.trace_summary.specs.declared.counts.Counts.{Counts}
 
 -- what stands between the line feeds of a text
@@ -19,7 +19,7 @@ word_at place line = get_or (parts_of 32 line) place []
 abbrev pub is_step : List ℕ → Bool
 is_step line = bytes_eq (word_at 0 line) (codes ">")
 
--- an act, behind whose node stands how it ended
+-- an act, after whose node stands how it ended
 abbrev pub is_act : List ℕ → Bool
 is_act line = bytes_eq (word_at 0 line) (codes "act")
 
@@ -35,7 +35,7 @@ is_won line = bytes_eq (word_at 0 line) (codes "won")
 abbrev pub is_committed : List ℕ → Bool
 is_committed line = bytes_eq (word_at 0 line) (codes "committed")
 
--- a node that stopped, in an act or not
+-- a node that crashed, in an act or not
 abbrev pub is_crash : List ℕ → Bool
 is_crash line = if is_act line then bytes_eq (word_at 2 line) (codes "crashed") else bytes_eq (word_at 0 line) (codes "crashed")
 

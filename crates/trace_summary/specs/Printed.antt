@@ -1,4 +1,4 @@
--- The printed form of a summary. Part of the statement.
+-- Part of the statement: the printed form of a summary.
 use Rattle.std.specs.Prelude.{ℕ, List, ◌++◌, codes, decimal}
 use Rattle.hex.specs.Hex.{encode_lower}
 use Rattle.trace_summary.specs.declared.counts.Counts.{Counts}

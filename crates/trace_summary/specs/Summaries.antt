@@ -1,4 +1,4 @@
--- The summary of a trace. Part of the statement.
+-- Part of the statement: the summary of a trace.
 use Rattle.std.specs.Prelude.{ℕ, List, length}
 use Rattle.sha2.specs.Sha256.{sha256}
 use Rattle.trace_summary.specs.Counted.{counts_in, lines_of}

@@ -1,4 +1,4 @@
--- What a tally stands for. Not part of the statement.
+-- For the contracts inside: what a tally stands for.
 use Rattle.std.specs.Prelude.{◌≡◌, ℕ, List, [], ◌∷◌, ◌++◌, length}
 use Rattle.sha2.specs.Hashers.{Holds256}
 use Rattle.trace_summary.specs.Counted.{counts_in, lines_of}

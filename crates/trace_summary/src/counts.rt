@@ -1,10 +1,11 @@
+//! The lines of a trace counted by their kinds.
 ghost use Rattle.std.specs.Prelude.{◌≡◌, ◌+◌, ◌&&◌, [], IfOk, codes, nat_eq, if◌then◌else◌};
 ghost use Rattle.std.specs.List.{starts_with};
 ghost use Rattle.std.specs.Str.{bytes_eq};
 ghost use Rattle.trace_summary.specs.Counted.{after_lines, lines_of, no_counts, with_line, word_at};
 
-use schedule_text::words::cut;
 use std::alloc::AllocError;
+use voting_config::cut;
 
 /// How many lines of each kind a trace has.
 #[derive(Clone, Copy, Debug, PartialEq, Eq)]
@@ -19,7 +20,7 @@ pub struct Counts {
     pub won: u64,
     /// States that were committed.
     pub committed: u64,
-    /// Stops of a node, between two acts, in an act, or as it opened its journal.
+    /// Crashes of a node, between two acts, in an act, or as it opened its journal.
     pub crashes: u64,
 }
 

@@ -1,3 +1,4 @@
+//! A summary written as eight lines.
 ghost use Rattle.std.specs.Prelude.{◌≡◌, ℕ, ◌++◌, codes, decimal, OnOk};
 ghost use Rattle.trace_summary.specs.Printed.{counts_text, digest_text, hex_text, named_text, summary_text};
 

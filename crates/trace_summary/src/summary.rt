@@ -1,3 +1,4 @@
+//! `Tally`: the summary of a trace that comes piece by piece.
 ghost use Rattle.std.specs.Prelude.{◌≡◌, ℕ, List, [], ◌++◌, OnOk};
 ghost use Rattle.trace_summary.specs.Summaries.{summary_of};
 ghost use Rattle.trace_summary.specs.Tallies.{EndsLine, Tallies};
@@ -35,7 +36,7 @@ impl Tally {
         }
     }
 
-    /// Adds a piece, behind whole lines. Where it is an error, a count has passed 2^64, and the tally is of no use.
+    /// Adds a piece, after whole lines. Where it is an error, a count has passed 2^64, and the tally is of no use.
     pub fn add(&mut self, piece: &[u8]) -> Result<(), AllocError>
         ensures { OnOk result ((text : List ℕ) → EndsLine text → Tallies self.old text → Tallies self.new (text ++ piece.now)) }
     {

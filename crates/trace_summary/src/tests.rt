@@ -1,3 +1,4 @@
+//! Texts with their summaries, whole and in pieces.
 use crate::{Tally, write_summary};
 use schedule_text::Text;
 use std::alloc::{AllocError, Global};

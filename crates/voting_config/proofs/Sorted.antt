@@ -18,7 +18,7 @@ put-insert x (y ∷ ys) =
       | false ↦ refl
     ]
 
-less_is : (o : Ordering) → is_lt o ≡ true → o ≡ Less
+pub less_is : (o : Ordering) → is_lt o ≡ true → o ≡ Less
 less_is Less h = refl
 less_is Equal h = cc
 less_is Greater h = cc
@@ -103,7 +103,7 @@ before-comes_after x y (z ∷ zs) h k =
     let parts = and_parts _ _ h in
     before_trans y z x (and_parts _ _ parts.0).0 (before-comes_after x z zs parts.1 k)
 
-list_all-push : (p : Id → Bool) (x : Id) (ys : List Id) → list_all p ys ≡ true → p x ≡ true → list_all p (ys ++ x ∷ []) ≡ true
+pub list_all-push : (p : Id → Bool) (x : Id) (ys : List Id) → list_all p ys ≡ true → p x ≡ true → list_all p (ys ++ x ∷ []) ≡ true
 list_all-push p x [] h k = and_from _ _ k refl
 list_all-push p x (y ∷ ys) h k = let parts = and_parts _ _ h in and_from _ _ parts.0 (list_all-push p x ys parts.1 k)
 
@@ -124,7 +124,7 @@ comes_after-last x y (z ∷ w ∷ ws) h =
     let f : suc (length ws) - 1 ≡ length ws = omega arith in
     comes_after-last x y (w ∷ ws) (rw f (rw e at h))
 
-list_all-put : (p : Id → Bool) (x : Id) (ys : List Id) → p x ≡ true → list_all p ys ≡ true → list_all p (put x ys) ≡ true
+pub list_all-put : (p : Id → Bool) (x : Id) (ys : List Id) → p x ≡ true → list_all p ys ≡ true → list_all p (put x ys) ≡ true
 list_all-put p x [] h k = and_from _ _ h refl
 list_all-put p x (y ∷ ys) h k =
     let parts = and_parts _ _ k in
@@ -133,7 +133,7 @@ list_all-put p x (y ∷ ys) h k =
       | false ↦ and_from _ _ h k
     ]
 
-length-put : (x : Id) (ys : List Id) → length (put x ys) ≡ suc (length ys)
+pub length-put : (x : Id) (ys : List Id) → length (put x ys) ≡ suc (length ys)
 length-put x [] = refl
 length-put x (y ∷ ys) =
     elim (before y x) as (λ b. length (cond b (y ∷ put x ys) (x ∷ y ∷ ys)) ≡ suc (suc (length ys))) [
@@ -158,14 +158,14 @@ IsIdSet-with_id x ys set id absent room = rw absent record {
 
 -- Taking an id out.
 
-before-not_same : (x y : Id) → before y x ≡ true → same y x ≡ false
+pub before-not_same : (x y : Id) → before y x ≡ true → same y x ≡ false
 before-not_same x y h = texts_ties y x ∙ ap is_eq (less_is _ h)
 
-after-not_same : (x y : Id) → before x y ≡ true → same y x ≡ false
+pub after-not_same : (x y : Id) → before x y ≡ true → same y x ≡ false
 after-not_same x y h = texts_ties y x ∙ ap is_eq (nat_list_cmp_total.antisymm y x ∙ ap ordering_reverse (less_is _ h))
 
 -- an id that is before all of them is not one of them
-is_below-absent : (x : Id) (ys : List Id) → is_below x ys ≡ true → has x ys ≡ false
+pub is_below-absent : (x : Id) (ys : List Id) → is_below x ys ≡ true → has x ys ≡ false
 is_below-absent x [] h = refl
 is_below-absent x (y ∷ ys) h =
     let parts = and_parts _ _ h in
@@ -218,7 +218,7 @@ place_of-within x (y ∷ ys) h k =
       | false ↦ λ e. omega arith
     ] refl
 
-list_all-without_id : (p : Id → Bool) (x : Id) (ys : List Id) → list_all p ys ≡ true → list_all p (without_id x ys) ≡ true
+pub list_all-without_id : (p : Id → Bool) (x : Id) (ys : List Id) → list_all p ys ≡ true → list_all p (without_id x ys) ≡ true
 list_all-without_id p x [] h = refl
 list_all-without_id p x (y ∷ ys) h =
     let parts = and_parts _ _ h in
@@ -227,7 +227,7 @@ list_all-without_id p x (y ∷ ys) h =
       | false ↦ and_from _ _ parts.0 (list_all-without_id p x ys parts.1)
     ]
 
-ascends-without_id : (x : Id) (ys : List Id) → ascends ys ≡ true → ascends (without_id x ys) ≡ true
+pub ascends-without_id : (x : Id) (ys : List Id) → ascends ys ≡ true → ascends (without_id x ys) ≡ true
 ascends-without_id x [] h = refl
 ascends-without_id x (y ∷ ys) h =
     let parts = and_parts _ _ h in
@@ -236,7 +236,7 @@ ascends-without_id x (y ∷ ys) h =
       | false ↦ and_from _ _ (list_all-without_id (before y) x ys parts.0) (ascends-without_id x ys parts.1)
     ]
 
-length-without_id : (x : Id) (ys : List Id) → length (without_id x ys) ≤ length ys
+pub length-without_id : (x : Id) (ys : List Id) → length (without_id x ys) ≤ length ys
 length-without_id x [] = omega arith
 length-without_id x (y ∷ ys) =
     let lower = length-without_id x ys in

@@ -1,3 +1,4 @@
+//! `NodeId`: the name of a node.
 ghost use Rattle.std.specs.Prelude.{◌≡◌, ℕ, ◌+◌, ◌<◌, ◌≤◌, IsTrue, take, length, position, not, codes, if◌then◌else◌};
 ghost use Rattle.std.specs.List.{list_all};
 ghost use Rattle.voting_config.specs.Ids.{is_id as is_id_of, is_id_byte as byte_of_id};

@@ -1,6 +1,9 @@
+//! `NodeSet`: a set of at most 32 ids, which is held in place and takes no memory of the allocator.
 ghost use Rattle.std.specs.Prelude.{◌≡◌, ℕ, ◌+◌, ◌<◌, ◌≤◌, ◌↔◌, List, [], ◌∷◌, ◌++◌, length, IsTrue, IfOk, OnOk, OnErr, IsErr, slice_get, not, Result, false};
-ghost use Rattle.voting_config.specs.Ids.{Id, has, with_id, without_id, place_of, ascends, comes_after, IsIdSet, most_ids, union_count_of};
+ghost use Rattle.voting_config.specs.Ids.{Id, among, are_among, comes_after, has, has_room as has_room_of, IsIdSet, most_ids, outside, place_of, some_among, union as union_of, union_count_of, with_id, without_id};
+ghost use Rattle.voting_config.specs.Lists.{listed_ids};
 
+use crate::lists::read_ids;
 use crate::node_id::NodeId;
 use arrayvec::ArrayVec;
 use std::marker::Model;
@@ -41,6 +44,24 @@ impl NodeSet {
         NodeSet {
             ids: ArrayVec::new(),
         }
+    }
+
+    /// The set that a text lists: ids that ascend, with `,` between them, or `_` for none. None where the text is no
+    /// such list, or has more than [`MAX_IDS`] ids.
+    pub fn parse(text: &str) -> Option<NodeSet>
+        ensures { result ≡ listed_ids text.now }
+    {
+        NodeSet::from_bytes(text.as_bytes())
+    }
+
+    /// The set that the bytes of a text list, as [`NodeSet::parse`] reads it.
+    pub fn from_bytes(text: &[u8]) -> Option<NodeSet>
+        ensures { result ≡ listed_ids text.now }
+    {
+        if text == b"_".as_slice() {
+            return Some(NodeSet::new());
+        }
+        read_ids(text)
     }
 
     /// How many ids are in the set.
@@ -87,10 +108,27 @@ impl NodeSet {
         if self.ids.is_full() {
             return Err(Full);
         }
+        // For the proof alone: an id has 1 to 32 bytes, and no others than those of ids.
         let _ = id.as_bytes();
         let place = place_among(self.ids.as_slice(), id);
         self.ids.insert(place, id);
         Ok(true)
+    }
+
+    /// Whether the id can be put in: true exactly where it is in, or where fewer than [`MAX_IDS`] are.
+    pub fn has_room(&self, id: NodeId) -> bool
+        ensures { result ≡ has_room_of self.now id }
+    {
+        self.contains(id) || self.ids.len() < MAX_IDS
+    }
+
+    /// Puts the id in, where it is not in yet and there is room for it.
+    pub fn put(&mut self, id: NodeId)
+        requires { IsTrue (has_room_of self.old id) }
+        ensures { self.new ≡ with_id id self.old }
+    {
+        // There is room, or it is in already, so this is no error.
+        let _ = self.insert(id);
     }
 
     /// Takes the id out. True where it was in.
@@ -122,8 +160,64 @@ impl NodeSet {
         requires last { IsTrue (comes_after id self.old) }
         ensures { self.new ≡ self.old ++ id ∷ [] }
     {
+        // For the proof alone: an id has 1 to 32 bytes, and no others than those of ids.
         let _ = id.as_bytes();
         self.ids.push(id);
+    }
+
+    /// Those of the ids that the others have too.
+    pub fn within(&self, others: &NodeSet) -> NodeSet
+        ensures { result ≡ among self.now others.now }
+    {
+        let mut kept = NodeSet::new();
+        let ids = self.as_slice();
+        for id in ids {
+            if others.contains(*id) {
+                kept.push(*id);
+            }
+        }
+        kept
+    }
+
+    /// Those of the ids that the others do not have.
+    pub fn without(&self, others: &NodeSet) -> NodeSet
+        ensures { result ≡ outside self.now others.now }
+    {
+        let mut kept = NodeSet::new();
+        let ids = self.as_slice();
+        for id in ids {
+            if !others.contains(*id) {
+                kept.push(*id);
+            }
+        }
+        kept
+    }
+
+    /// Whether the others have one of the ids.
+    pub fn meets(&self, others: &NodeSet) -> bool
+        ensures { result ≡ some_among self.now others.now }
+    {
+        self.as_slice().iter().any(|id| others.contains(*id))
+    }
+
+    /// Whether the set has all of the others.
+    pub fn has_all(&self, others: &NodeSet) -> bool
+        ensures { result ≡ are_among self.now others.now }
+    {
+        others.as_slice().iter().all(|id| self.contains(*id))
+    }
+
+    /// The ids of both sets, which are few enough for a set: `union_count` tells.
+    pub fn union(&self, others: &NodeSet) -> NodeSet
+        requires { union_count_of others.now self.now ≤ most_ids }
+        ensures { result ≡ union_of self.now others.now }
+    {
+        let mut both = self.copy();
+        let ids = others.as_slice();
+        for id in ids {
+            both.put(*id);
+        }
+        both
     }
 
     /// How many ids are in one of the two sets.
@@ -144,6 +238,7 @@ impl NodeSet {
         ensures { result ≡ self.now }
     {
         let mut ids = ArrayVec::new();
+        // There is as much room as in the original, so this is no error.
         let _ = ids.try_extend_from_slice(self.ids.as_slice());
         NodeSet { ids }
     }

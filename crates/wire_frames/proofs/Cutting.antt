@@ -8,11 +8,11 @@ use Rattle.wire_frames.specs.declared.frame.Frame.{Frame}
 use Rattle.wire_frames.specs.Frames.{frame_of}
 use Rattle.wire_frames.specs.Streams.{Front, Unfinished, Faulty, Whole, said_length, front_with, front_of, Ending, Rest, Stream, prepend, stream_with_front, stream_within, stream, stream_after, IsStream}
 
--- what stands at the front, by its three tests
+-- what stands at the start, by its three tests
 abbrev pub front_by : (short too_long unfinished : Bool) → Front → Front
 front_by a b c front = cond a Unfinished (cond b (Faulty TooLong) (cond c Unfinished front))
 
--- what a whole frame at the front says of the tests
+-- what a whole frame at the start says of the tests
 pub record IsWholeBy (a b c : Bool) (read : Result Frame FrameFault) (rest : List ℕ) (frame : Frame) (after : List ℕ) : Type 0 where
   pub four : a ≡ false
   pub fits : b ≡ false
@@ -30,7 +30,7 @@ whole_by false false false (Ok f) rest frame after e = record { four = refl; fit
 by_whole : (a b c : Bool) (r : Result Frame FrameFault) (rest : List ℕ) (frame : Frame) (after : List ℕ) → IsWholeBy a b c r rest frame after → front_by a b c (front_with r rest) ≡ Whole frame after
 by_whole a b c r rest frame after h = rw (h.four, h.fits, h.there, h.body, h.next) refl
 
--- what a fault at the front says of the tests
+-- what a fault at the start says of the tests
 pub record IsBadBody (b c : Bool) (read : Result Frame FrameFault) (fault : FrameFault) : Type 0 where
   pub fits : b ≡ false
   pub there : c ≡ false
@@ -76,7 +76,7 @@ module _ (bytes more : List ℕ) (four : nat_lt (length bytes) 4 ≡ false) wher
   after-append : nat_lt (length (drop 4 bytes)) (said_length bytes) ≡ false → drop (said_length (bytes ++ more)) (drop 4 (bytes ++ more)) ≡ drop (said_length bytes) (drop 4 bytes) ++ more
   after-append there = rw (said-append, rest-append) (drop-append-le (said_length bytes) (drop 4 bytes) more (at_least (length (drop 4 bytes)) (said_length bytes) there))
 
--- a frame at the front stays there, whatever follows
+-- a frame at the start stays there, whatever follows
 pub whole-append : (bytes more : List ℕ) (frame : Frame) (after : List ℕ) → front_of bytes ≡ Whole frame after → front_of (bytes ++ more) ≡ Whole frame (after ++ more)
 whole-append bytes more frame after e =
     let h = whole_by _ _ _ (frame_of (take (said_length bytes) (drop 4 bytes))) (drop (said_length bytes) (drop 4 bytes)) frame after e in
@@ -122,7 +122,7 @@ within-enough (suc n) (suc m) bytes p q =
     let shorter = whole-shorter bytes frame after e in
     within-enough n m after (omega arith) (omega arith))
 
--- the stream is what its front says
+-- the stream is what its start says
 pub stream-with_front : (bytes : List ℕ) → stream bytes ≡ stream_with_front (front_of bytes) bytes stream
 unfolding stream
 stream-with_front bytes =
@@ -153,7 +153,7 @@ append_within (suc n) bytes more (Whole frame after) p e =
     ∙ ap (prepend (frame ∷ [])) (later ∙ ap (λ s. prepend s.frames (stream_after s.ending more)) (sym (stream-with_front after)))
     ∙ prepend-prepend (frame ∷ []) (stream after).frames _
 
--- what follows goes on from what stands behind the frames
+-- what follows goes on from what stands after the frames
 pub stream-append : (bytes more : List ℕ) → stream (bytes ++ more) ≡ prepend (stream bytes).frames (stream_after (stream bytes).ending more)
 stream-append bytes more =
     append_within (length bytes) bytes more (front_of bytes) (omega arith) refl

@@ -15,7 +15,7 @@ use Rattle.wire_frames.specs.Steps.{Measures, ReadsBody, AddsFrame, Takes, AreTa
 use Rattle.wire_frames.proofs.Cutting.{stream-front, prepend-prepend}
 use Rattle.wire_frames.proofs.Waiting.{front_awaits, awaits_nothing}
 
--- what a body is, the front is
+-- what a body is, the prefix is
 pub body_is_front : (r : Result Step AllocError) (bytes part : List ℕ) (size : ℕ) (old new : List Frame) → part ≡ take size (drop 4 bytes) → Measures (body.Whole size) bytes
     → IfOk r (λ s. ReadsBody s (frame_of part) (length part) old new) → IfOk r (λ s. Takes s bytes old new)
 body_is_front (Ok (step.Unfinished wanted)) bytes part size old new is m h = absurd h

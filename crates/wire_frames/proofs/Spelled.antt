@@ -1,4 +1,4 @@
--- A spelled frame in front of bytes.
+-- A spelled frame before other bytes.
 use Rattle.std.proofs.Common.{◌≡◌, ℕ, ◌<◌, ◌≤◌, ◌^◌, nat_lt, false, List, [], ◌∷◌, ◌++◌, length, drop, refl, sym, ap, subst, ◌∙◌, arith, append_assoc, length-append}
 use Rattle.std.proofs.lemmas.List.{take_at, drop_at}
 use Rattle.std.proofs.lemmas.Nat.{from_be_bytes-to_be_bytes_4}
@@ -25,7 +25,7 @@ said-four size rest h = ap (from_be_bytes w32) (take_at (four_bytes size) rest 4
 pub rest-four : (size : ℕ) (rest : List ℕ) → drop 4 (four_bytes size ++ rest) ≡ rest
 rest-four size rest = drop_at (four_bytes size) rest 4 (length-four size)
 
--- the body of a frame is what stands behind its length
+-- the body of a frame is what stands after its length
 body_is : (f : Frame) (bytes : List ℕ) (s : SpellsFrame f bytes) → s.body ≡ drop 4 bytes
 body_is f bytes s = sym (ap (drop 4) s.whole ∙ rest-four (length s.body) s.body)
 
@@ -34,7 +34,7 @@ one_frame f g bytes s t =
     let P : List ℕ → Type 0 = SpellsBody g in
     one_body f g s.body s.spelled (subst P (body_is g bytes t ∙ sym (body_is f bytes s)) t.spelled)
 
--- a body behind its length, and bytes after it
+-- a body after its length, and bytes after it
 pub front-read : (body more : List ℕ) → length body ≤ most_body → front_of (four_bytes (length body) ++ (body ++ more)) ≡ front_with (frame_of body) more
 front-read body more fits =
     let size = length body in

@@ -2,9 +2,9 @@
 use Rattle.std.proofs.Common.{◌≡◌, ℕ, zero, suc, ◌<◌, ◌≤◌, ◌^◌, Bool, true, false, nat_lt, ◌⊎◌, inl, inr, Result, Ok, Err, List, [], ◌∷◌, ◌++◌, length, take, drop, refl, sym, ap, subst, ◌∙◌, arith, append_assoc, length-append}
 use Rattle.std.specs.Prelude.{All}
 use Rattle.std.proofs.lemmas.Bool.{cases_lt, lt-ltb}
-use Rattle.std.proofs.lemmas.List.{take-append-drop, length-take, length-take-le, get_or-take, get_or_past}
+use Rattle.std.proofs.lemmas.List.{take-append-drop, length-take-le, get_or_past}
 use Rattle.std.proofs.lemmas.Nat.{be_bytes_4}
-use Rattle.cluster_state.proofs.Laws.{IsBytes, IsBytes-rest}
+use Rattle.cluster_state.proofs.Laws.{IsBytes, IsBytes-rest, IsBytes-take}
 use Rattle.wire_frames.specs.declared.fault.FrameFault.{FrameFault}
 use Rattle.wire_frames.specs.declared.frame.Frame.{Frame}
 use Rattle.wire_frames.specs.Frames.{most_body, four_bytes, SpellsFrame, frame_of}
@@ -49,14 +49,7 @@ stream_of_split (frame ∷ frames) bytes ending h = ap stream h.2 ∙ first_fram
 
 -- ---- the stream splits
 
-IsBytes-take : (n : ℕ) (bytes : List ℕ) → IsBytes bytes → IsBytes (take n bytes)
-IsBytes-take n bytes h i =
-    elim (cases_lt i n) [
-      | inl lt ↦ rw (get_or-take n bytes i 0 lt) (h i)
-      | inr le ↦ rw (get_or_past (take n bytes) i 0 (omega (arith, length-take n bytes))) (omega arith)
-    ]
-
--- the length in front
+-- the length that comes first
 length_in_front : (bytes : List ℕ) → IsBytes bytes → 4 ≤ length bytes → bytes ≡ four_bytes (said_length bytes) ++ drop 4 bytes
 unfolding four_bytes
 length_in_front bytes fits long =
@@ -66,7 +59,7 @@ length_in_front bytes fits long =
 said_small : (bytes : List ℕ) → IsBytes bytes → 4 ≤ length bytes → said_length bytes < 2 ^ 32
 said_small bytes fits long = let front = IsBytes-take 4 bytes fits in omega (arith, front 0, front 1, front 2, front 3)
 
--- the length in front, the body, and what is behind it
+-- the length, the body, and what comes after it
 body_in_front : (bytes : List ℕ) → IsBytes bytes → 4 ≤ length bytes → said_length bytes ≤ length (drop 4 bytes)
     → bytes ≡ four_bytes (length (take (said_length bytes) (drop 4 bytes))) ++ (take (said_length bytes) (drop 4 bytes) ++ drop (said_length bytes) (drop 4 bytes))
 body_in_front bytes fits long there =
@@ -121,7 +114,7 @@ front_fault bytes fault fits e =
           })
     ]
 
--- a frame in front
+-- a frame that comes first
 record IsCut (bytes : List ℕ) (frame : Frame) (after : List ℕ) : Type 0 where
   first : List ℕ
   whole : bytes ≡ first ++ after

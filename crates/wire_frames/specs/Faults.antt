@@ -1,4 +1,4 @@
--- What a frame reader's error says of the bytes.
+-- For the contracts inside: what a frame reader's error says of the bytes.
 use Rattle.std.specs.Prelude.{◌≡◌, Result, Ok, Err}
 use Rattle.cluster_state.specs.declared.fault.ReadError.{ReadError}
 use Rattle.cluster_state.specs.declared.fault.ReadError.TheVariants as reading

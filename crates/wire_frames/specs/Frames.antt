@@ -1,4 +1,4 @@
--- A frame as bytes: four bytes of length, and as many of body: a kind, the ids from and to, and the fields of the kind.
+-- Part of the statement: a frame as bytes: four bytes of length, and as many of body: a kind, the ids from and to, and the fields of the kind.
 use Rattle.std.specs.Prelude.{◌≡◌, ℕ, List, ◌∷◌, ◌++◌, length, Option, Some, None, Result, Ok, Err}
 use Rattle.std.specs.Int.{w32, to_be_bytes}
 use Rattle.cluster_state.specs.declared.fault.FieldError.{FieldError}
@@ -44,7 +44,7 @@ IsFitFrame frame = IsFitMessage frame.message
 
 -- ---- which frame a body is
 
--- the ids and the message of a kind at the front of bytes, and the bytes after them, or the first fault
+-- the ids and the message of a kind at the start of bytes, and the bytes after them, or the first fault
 abbrev pub frame_at : Kind → List ℕ → Result (Frame × List ℕ) FieldError
 frame_at kind bytes = id.at bytes >>= λ from. id.at from.1 >>= λ to. message_at kind to.1 >>= λ m.
     Ok (record { from = from.0; to = to.0; message = m.0 }, m.1)

@@ -1,4 +1,4 @@
--- The kinds of messages, and the byte that stands for each.
+-- Part of the statement: the kinds of messages, and the byte that stands for each.
 use Rattle.std.specs.Prelude.{ℕ, ◌==◌, List, [], ◌∷◌, Option, find}
 use Rattle.wire_frames.specs.declared.frame.Kind.{Kind}
 use Rattle.wire_frames.specs.declared.frame.Kind.TheVariants as kind

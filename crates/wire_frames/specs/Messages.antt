@@ -1,4 +1,4 @@
--- The fields of each message.
+-- Part of the statement: the fields of each message.
 use Rattle.std.specs.Prelude.{◌≡◌, ℕ, ◌≤◌, ◌^◌, Bool, List, [], Option, Result, Ok}
 use Rattle.voting_config.specs.Ids.{Id, most_ids}
 use Rattle.cluster_state.specs.declared.fault.FieldError.{FieldError}
@@ -34,7 +34,7 @@ follower_answer = flag then term then state_id
 abbrev pub as_message : {A : Type 0} → (A → Message) → Result (A × List ℕ) FieldError → Result (Message × List ℕ) FieldError
 as_message make read = read >>= λ x. Ok (make x.0, x.1)
 
--- the message of a kind at the front of bytes, and the bytes after it, or the first fault
+-- the message of a kind at the start of bytes, and the bytes after it, or the first fault
 abbrev pub message_at : Kind → List ℕ → Result (Message × List ℕ) FieldError
 message_at kind.StartJoin bytes = as_message (λ x. message.StartJoin x.0 x.1) (start_join.at bytes)
 message_at kind.Join bytes = as_message (λ x. message.Join x.0 x.1) (term_and_last.at bytes)

@@ -1,4 +1,4 @@
--- A stream in terms of its bytes: spelled frames, one behind the other, and then less than a frame, or a fault.
+-- For the contracts inside: a stream in terms of its bytes: spelled frames, one after the other, and then less than a frame, or a fault.
 use Rattle.std.specs.Prelude.{◌≡◌, ℕ, ◌<◌, ◌≤◌, ◌^◌, ◌⊎◌, List, [], ◌∷◌, ◌++◌, length, Err}
 use Rattle.wire_frames.specs.declared.fault.FrameFault.{FrameFault}
 use Rattle.wire_frames.specs.declared.fault.FrameFault.TheVariants.{TooLong}
@@ -40,7 +40,7 @@ abbrev pub IsEnding : Ending → List ℕ → Type 0
 IsEnding (Rest rest) bytes = (bytes ≡ rest) × IsPartial bytes
 IsEnding (Fault fault) bytes = BeginsTooLong bytes fault ⊎ BeginsNoFrame bytes fault
 
--- the bytes are these frames, one behind the other, and then this ending
+-- the bytes are these frames, one after the other, and then this ending
 abbrev pub Splits : List ℕ → List Frame → Ending → Type 0
 Splits bytes [] ending = IsEnding ending bytes
 Splits bytes (frame ∷ frames) ending = (first : List ℕ) × (rest : List ℕ) × (bytes ≡ first ++ rest) × SpellsFrame frame first × Splits rest frames ending

@@ -1,4 +1,4 @@
--- What the steps over a stream find.
+-- For the contracts inside: what the steps over a stream find.
 use Rattle.std.specs.Prelude.{◌≡◌, ℕ, ◌+◌, ◌<◌, ◌≤◌, Result, Ok, Err, List, [], ◌∷◌, ◌++◌, length, take, drop, All, Option}
 use Rattle.wire_frames.specs.declared.fault.FrameFault.{FrameFault}
 use Rattle.wire_frames.specs.declared.fault.FrameFault.TheVariants.{TooLong}
@@ -10,7 +10,7 @@ use Rattle.wire_frames.specs.declared.reader.Step.TheVariants as step
 use Rattle.wire_frames.specs.Frames.{IsFitFrame, frame_of}
 use Rattle.wire_frames.specs.Streams.{Faulty, Whole, front_with, front_of, Awaits, prepend, stream, ending_of, IsStream}
 
--- what the length at the front of the bytes says
+-- what the length at the start of the bytes says
 abbrev pub Measures : BodyLength → List ℕ → Type 0
 Measures (body.Unfinished wanted) bytes = (length bytes < wanted) × Awaits bytes wanted
 Measures body.TooLong bytes = front_of bytes ≡ Faulty TooLong
@@ -31,7 +31,7 @@ pub record AddsFrame (bytes : List ℕ) (size : ℕ) (old new : List Frame) : Ty
   pub some : 0 < size
   pub within : size ≤ length bytes
 
--- what stands at the front of the bytes, and what was added to the frames
+-- what stands at the start of the bytes, and what was added to the frames
 abbrev pub Takes : Step → (bytes : List ℕ) → (old new : List Frame) → Type 0
 Takes (step.Unfinished wanted) bytes old new = (length bytes < wanted) × Awaits bytes wanted × (new ≡ old)
 Takes (step.Faulty fault) bytes old new = (front_of bytes ≡ Faulty fault) × (new ≡ old)
@@ -43,7 +43,7 @@ pub record AreTaken (bytes : List ℕ) (used : ℕ) (frames : List Frame) : Type
   pub stream : prepend frames (stream (drop used bytes)) ≡ stream bytes
   pub fit : All IsFitFrame frames
 
--- the frames at the front of the bytes, how many bytes they take, and what stands behind them: a fault, or less than a frame, which
+-- the frames at the start of the bytes, how many bytes they take, and what stands after them: a fault, or less than a frame, which
 -- awaits so many bytes
 pub record IsScan (bytes : List ℕ) (frames : List Frame) (used wanted : ℕ) (fault : Option FrameFault) : Type 0 where
   pub within : used ≤ length bytes

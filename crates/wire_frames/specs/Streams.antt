@@ -1,4 +1,4 @@
--- A stream of bytes as frames.
+-- Part of the statement: a stream of bytes as frames.
 use Rattle.std.specs.Prelude.{◌≡◌, ℕ, zero, suc, ◌<◌, nat_lt, Bool, true, false, IsTrue, if◌then◌else◌, Option, Some, None, Result, Ok, Err, List, [], ◌∷◌, ◌++◌, length, take, drop}
 use Rattle.std.specs.Int.{w32, from_be_bytes}
 use Rattle.wire_frames.specs.declared.fault.FrameFault.{FrameFault}
@@ -6,7 +6,7 @@ use Rattle.wire_frames.specs.declared.fault.FrameFault.TheVariants.{TooLong}
 use Rattle.wire_frames.specs.declared.frame.Frame.{Frame}
 use Rattle.wire_frames.specs.Frames.{most_body, frame_of}
 
--- what stands at the front of bytes: less than a frame, a fault, or a frame with the bytes after it
+-- what stands at the start of bytes: less than a frame, a fault, or a frame with the bytes after it
 pub data Front : Type 0 where
   Unfinished : Front
   Faulty : FrameFault → Front
@@ -21,7 +21,7 @@ abbrev pub front_with : Result Frame FrameFault → List ℕ → Front
 front_with (Ok frame) rest = Whole frame rest
 front_with (Err fault) rest = Faulty fault
 
--- what stands at the front of the bytes: nothing whole before the four bytes of the length, then too long a length, then nothing
+-- what stands at the start of the bytes: nothing whole before the four bytes of the length, then too long a length, then nothing
 -- whole before as many bytes of body, then what the body is
 abbrev pub front_of : List ℕ → Front
 front_of bytes =
@@ -35,25 +35,25 @@ is_unfinished Unfinished = true
 is_unfinished (Faulty fault) = false
 is_unfinished (Whole frame rest) = false
 
--- while fewer bytes than wanted are there, less than a frame stands at the front, whatever comes
+-- while fewer bytes than wanted are there, less than a frame stands at the start, whatever comes
 abbrev pub Awaits : List ℕ → (wanted : ℕ) → Type 0
 Awaits bytes wanted = (more : List ℕ) → length (bytes ++ more) < wanted → IsTrue (is_unfinished (front_of (bytes ++ more)))
 
--- what stands behind the frames of a stream: less than a frame, or a fault
+-- what stands after the frames of a stream: less than a frame, or a fault
 pub data Ending : Type 0 where
   Rest : List ℕ → Ending
   Fault : FrameFault → Ending
 
--- the frames at the front, and what stands behind them
+-- the frames at the start, and what stands after them
 pub record Stream : Type 0 where
   pub frames : List Frame
   pub ending : Ending
 
--- the stream with these frames in front
+-- the stream with these frames before it
 abbrev pub prepend : List Frame → Stream → Stream
 prepend frames stream = record { frames = frames ++ stream.frames; ending = stream.ending }
 
--- the stream with this front, where the bytes after a frame are read as given
+-- the stream with this prefix, where the bytes after a frame are read as given
 abbrev pub stream_with_front : Front → List ℕ → (List ℕ → Stream) → Stream
 stream_with_front Unfinished bytes after = record { frames = []; ending = Rest bytes }
 stream_with_front (Faulty fault) bytes after = record { frames = []; ending = Fault fault }
@@ -68,16 +68,16 @@ stream_within (suc n) bytes = stream_with_front (front_of bytes) bytes (stream_w
 unfoldable pub stream : List ℕ → Stream
 stream bytes = stream_within (length bytes) bytes
 
--- the stream of what stands behind the frames so far and of further bytes; behind a fault there is nothing
+-- the stream of what stands after the frames so far and of further bytes; after a fault there is nothing
 abbrev pub stream_after : Ending → List ℕ → Stream
 stream_after (Rest bytes) more = stream (bytes ++ more)
 stream_after (Fault fault) more = record { frames = []; ending = Fault fault }
 
--- the bytes are these frames, and this stands behind them
+-- the bytes are these frames, and this stands after them
 abbrev pub IsStream : List ℕ → List Frame → Ending → Type 0
 IsStream bytes frames ending = stream bytes ≡ record { frames = frames; ending = ending }
 
--- the fault that stands behind the frames
+-- the fault that stands after the frames
 abbrev pub fault_in : Ending → Option FrameFault
 fault_in (Rest bytes) = None
 fault_in (Fault fault) = Some fault

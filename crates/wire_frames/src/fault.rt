@@ -18,7 +18,7 @@ pub enum FrameFault {
     UnknownKind(u8),
     #[error("a field is bad: {0}")]
     Field(FieldError),
-    /// Bytes are left behind the last field.
+    /// Bytes are left after the last field.
     #[error("bytes are left behind the last field")]
     Trailing,
 }

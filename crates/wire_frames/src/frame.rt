@@ -80,7 +80,7 @@ impl Kind {
     }
 }
 
-/// What a node tells another.
+/// What a node says to another.
 #[derive(Drop)]
 pub enum Message {
     /// Vote for the candidate in this term.

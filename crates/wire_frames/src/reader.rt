@@ -21,7 +21,7 @@ pub struct Fed {
     pub fault: Option<FrameFault>,
 }
 
-/// Reads frames out of a stream of bytes that comes in pieces. Seen as what stands behind the frames given so far: the
+/// Reads frames out of a stream of bytes that comes in pieces. Seen as what stands after the frames given so far: the
 /// bytes of an unfinished one, or a fault.
 #[derive(Drop)]
 pub struct FrameReader {
@@ -58,14 +58,14 @@ impl FrameReader {
         }
     }
 
-    /// Takes the next bytes of the stream, and gives the frames that are now whole and the fault that stands next. Behind
+    /// Takes the next bytes of the stream, and gives the frames that are now whole and the fault that stands next. After
     /// a fault it gives no frame and that fault. Where memory runs out the reader is as it was.
     pub fn feed(&mut self, bytes: &[u8]) -> Result<Fed, AllocError>
-        // The frames given and what then stands behind them are the stream of what stood there and these bytes.
+        // The frames given and what then stands after them are the stream of what stood there and these bytes.
         ensures now { IfOk result (λ fed. stream_after self.old bytes.now ≡ record { frames = fed.frames.items; ending = self.new }) }
         ensures fault { IfOk result (λ fed. fed.fault ≡ fault_in self.new) }
         ensures fit { IfOk result (λ fed. All IsFitFrame fed.frames.items) }
-        // The frames given so far and what stands behind them are the stream of all bytes fed.
+        // The frames given so far and what stands after them are the stream of all bytes fed.
         ensures so_far { IfOk result (λ fed. (before : List ℕ) (frames : List Frame) → IsStream before frames self.old
             → IsStream (before ++ bytes.now) (frames ++ fed.frames.items) self.new) }
         ensures err { OnErr result (self.new ≡ self.old) }
@@ -73,6 +73,7 @@ impl FrameReader {
         self.accept(bytes)
     }
 
+    // Has the contract of one call. `feed` only calls it, and says from it what holds of all bytes so far.
     fn accept(&mut self, bytes: &[u8]) -> Result<Fed, AllocError>
         ensures now { IfOk result (λ fed. stream_after self.old bytes.now ≡ record { frames = fed.frames.items; ending = self.new }) }
         ensures fault { IfOk result (λ fed. fed.fault ≡ fault_in self.new) }
@@ -114,7 +115,7 @@ impl FrameReader {
     }
 }
 
-// What the first four bytes say of the body behind them.
+// What the first four bytes say of the body after them.
 #[derive(Clone, Copy)]
 enum BodyLength {
     // So many bytes are wanted.
@@ -141,7 +142,7 @@ fn body_length(bytes: &[u8]) -> BodyLength
     BodyLength::Whole(size)
 }
 
-// What stands at the front of bytes: less than a frame, a fault, or a frame of so many bytes.
+// What stands at the start of bytes: less than a frame, a fault, or a frame of so many bytes.
 #[derive(Clone, Copy)]
 enum Step {
     // So many bytes are wanted.
@@ -164,7 +165,7 @@ fn take_body(alloc: Global, body: &[u8], frames: &mut Vec<Frame>) -> Result<Step
     }
 }
 
-// Adds the frame at the front of bytes, if one stands there.
+// Adds the frame at the start of bytes, if one stands there.
 fn take_frame(alloc: Global, bytes: &[u8], frames: &mut Vec<Frame>) -> Result<Step, AllocError>
     ensures { IfOk result (λ step. Takes step bytes.now frames.old.items frames.new.items) }
 {
@@ -179,7 +180,7 @@ fn take_frame(alloc: Global, bytes: &[u8], frames: &mut Vec<Frame>) -> Result<St
     }
 }
 
-// The frames at the front of bytes, how many bytes they take, and what stands next: a fault, or less than a frame, which
+// The frames at the start of bytes, how many bytes they take, and what stands next: a fault, or less than a frame, which
 // wants so many bytes.
 struct Scan {
     frames: Vec<Frame>,

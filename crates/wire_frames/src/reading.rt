@@ -1,3 +1,4 @@
+//! A frame read from its bytes, or their first fault.
 ghost use Rattle.std.specs.Prelude.{◌≡◌, Ok, IfOk, List, ℕ};
 ghost use Rattle.cluster_state.specs.Faults.{Reads, ReadsInMemory};
 ghost use Rattle.cluster_state.specs.States.{whole};
@@ -126,6 +127,7 @@ fn rest_of_frame(alloc: Global, reader: &mut Reader, kind: Kind) -> Result<Frame
     Ok(frame)
 }
 
+// Has the exact answer in its contract. `read_frame` only calls it, and says from it what callers need.
 fn whole_frame(alloc: Global, body: &[u8]) -> Result<Frame, FrameError>
     ensures { ReadsFrame result (frame_of body.now) }
 {
@@ -139,7 +141,7 @@ fn whole_frame(alloc: Global, body: &[u8]) -> Result<Frame, FrameError>
 
 /// The frame with this body: a kind byte, the ids from and to, and the fields of the kind. Otherwise the first fault:
 /// `Field(Short)` where the body is empty, `UnknownKind`, `Field` of the first bad field, `Trailing` where bytes are left
-/// behind the last field; `Memory` where memory runs out.
+/// after the last field; `Memory` where memory runs out.
 pub fn read_frame(alloc: Global, body: &[u8]) -> Result<Frame, FrameError>
     // What is read is spelled by the body, and within the limits.
     ensures found { IfOk result (λ f. SpellsBody f body.now) }

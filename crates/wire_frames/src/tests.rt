@@ -1,3 +1,4 @@
+//! Frames byte by byte, streams however they are cut, and first faults.
 ghost use Rattle.std.specs.Prelude.{◌+◌, ◌<◌, ◌^◌, length};
 ghost use Rattle.wire_frames.specs.Messages.{IsFitMessage};
 
@@ -38,7 +39,7 @@ fn is_join(message: &Message) -> bool {
     }
 }
 
-// How many frames a new reader gives for the two parts, and the fault that stands behind them.
+// How many frames a new reader gives for the two parts, and the fault that stands after them.
 fn fed(
     rt: &HostRuntime,
     first: &[u8],

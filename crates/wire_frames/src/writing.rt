@@ -1,3 +1,4 @@
+//! A frame written as its bytes.
 ghost use Rattle.std.specs.Prelude.{◌≡◌, ◌++◌, ◌+◌, ◌≤◌, length, OnOk, IfOk};
 ghost use Rattle.cluster_state.specs.Fields.{id};
 ghost use Rattle.wire_frames.specs.Messages.{state_id, term_and_last, payload, FitsMessage, IsFitId, IsFitMessage};

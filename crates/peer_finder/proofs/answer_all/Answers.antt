@@ -1,7 +1,7 @@
 use Rattle.std.proofs.Common.{arith}
 use Rattle.peer_finder.specs.declared.Peer.{Peer}
 use Rattle.peer_finder.specs.Peers.{with_answer}
-use Rattle.peer_finder.proofs.Refilled.{map-step}
+use Rattle.voting_config.proofs.Refilled.{map-step}
 use Rattle.peer_finder.proofs.answer_all.Goals as goal
 
 pub loop-peer-preserved : goal.loop-peer-preserved

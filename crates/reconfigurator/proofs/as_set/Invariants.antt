@@ -1,5 +1,5 @@
 use Rattle.std.proofs.Common.{◌≡◌, take}
-use Rattle.reconfigurator.specs.Targets.{set_of}
+use Rattle.voting_config.specs.Ids.{set_of}
 use Rattle.reconfigurator.proofs.as_set.Given as goal
 
 abbrev pub invariant-loop-id : goal.invariant-loop-id

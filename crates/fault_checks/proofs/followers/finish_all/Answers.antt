@@ -1,7 +1,7 @@
 use Rattle.std.proofs.Common.{arith}
 use Rattle.fault_checks.specs.declared.followers.Follower.{Follower}
 use Rattle.fault_checks.specs.Followers.{behind_finished}
-use Rattle.fault_checks.proofs.Refilled.{map-step}
+use Rattle.voting_config.proofs.Refilled.{map-step}
 use Rattle.fault_checks.proofs.followers.finish_all.Goals as goal
 
 pub loop-follower-preserved : goal.loop-follower-preserved

@@ -1,6 +1,6 @@
 use Rattle.std.proofs.Common.{◌≡◌}
 use Rattle.std.specs.List.{list_any}
-use Rattle.schedule_text.specs.Words.{parts_of, parts_in, left_in}
+use Rattle.voting_config.specs.Lists.{parts_of, parts_in, left_in}
 use Rattle.node_trial.specs.Ends.{is_win}
 use Rattle.node_trial.proofs.ends.has_won.Given as goal
 

@@ -2,7 +2,7 @@ use Rattle.std.proofs.Common.{add-zero, refl, sym, ◌∙◌}
 use Rattle.peer_finder.specs.declared.Peer.{Peer}
 use Rattle.peer_finder.specs.Peers.{AnswersForgotten, without_answer}
 use Rattle.peer_finder.proofs.Members.{stands-Then, ids_of-without_answer}
-use Rattle.peer_finder.proofs.Refilled.{refill-map}
+use Rattle.voting_config.proofs.Refilled.{refill-map}
 use Rattle.peer_finder.proofs.PeerFinder.forget_answers.Goals as goal
 
 pub invariant_of-self : goal.invariant_of-self

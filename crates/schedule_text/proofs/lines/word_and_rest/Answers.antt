@@ -1,5 +1,5 @@
 use Rattle.std.proofs.Common.{◌∷◌, ap, ◌∙◌}
-use Rattle.schedule_text.specs.Words.{parts_in}
+use Rattle.voting_config.specs.Lists.{parts_in}
 use Rattle.schedule_text.specs.Lines.{word_and_rest}
 use Rattle.schedule_text.proofs.LineLaws.{rest_is}
 use Rattle.schedule_text.proofs.lines.word_and_rest.Goals as goal

@@ -3,7 +3,7 @@ use Rattle.fault_checks.specs.declared.followers.Follower.{Follower}
 use Rattle.fault_checks.specs.Followers.{Answered, answered_from}
 use Rattle.fault_checks.proofs.Ascending.{ids_of-map, answered_from-id}
 use Rattle.fault_checks.proofs.Standing.{stands-Then}
-use Rattle.fault_checks.proofs.Refilled.{refill-map}
+use Rattle.voting_config.proofs.Refilled.{refill-map}
 use Rattle.fault_checks.proofs.followers.FollowerChecks.answer.Goals as goal
 
 pub invariant_of-self : goal.invariant_of-self

@@ -3,7 +3,7 @@ use Rattle.fault_checks.specs.declared.followers.Follower.{Follower}
 use Rattle.fault_checks.specs.Followers.{Finished, behind_finished}
 use Rattle.fault_checks.proofs.Ascending.{ids_of-map}
 use Rattle.fault_checks.proofs.Standing.{stands-Then}
-use Rattle.fault_checks.proofs.Refilled.{refill-map}
+use Rattle.voting_config.proofs.Refilled.{refill-map}
 use Rattle.fault_checks.proofs.followers.FollowerChecks.finished.Goals as goal
 
 pub invariant_of-self : goal.invariant_of-self

@@ -11,10 +11,10 @@ refused_by : (act : Bool) (ending third : List ℕ) → ending ≡ (if act then 
 refused_by true ending third e = ap (λ (x : List ℕ). starts_with nat_eq x (codes "refused:")) e
 refused_by false ending third e = refl
 
-stopped_by : (act : Bool) (word ending third : List ℕ) → ending ≡ (if act then third else [])
+crashed_by : (act : Bool) (word ending third : List ℕ) → ending ≡ (if act then third else [])
     → (if act then bytes_eq ending (codes "crashed") else bytes_eq word (codes "crashed")) ≡ (if act then bytes_eq third (codes "crashed") else bytes_eq word (codes "crashed"))
-stopped_by true word ending third e = ap (λ (x : List ℕ). bytes_eq x (codes "crashed")) e
-stopped_by false word ending third e = refl
+crashed_by true word ending third e = ap (λ (x : List ℕ). bytes_eq x (codes "crashed")) e
+crashed_by false word ending third e = refl
 
 pub returns : goal.returns
 unfolding with_line
@@ -34,5 +34,5 @@ returns c =
           (c.is_crash.ensures
           ∙ ap (λ (b : Bool). if b then bytes_eq c.ending-ending.result.now (codes "crashed") else bytes_eq c.first_word-word.result.now (codes "crashed")) act
           ∙ ap (λ (w : List ℕ). if bytes_eq (word_at 0 c.args.line.now) (codes "act") then bytes_eq c.ending-ending.result.now (codes "crashed") else bytes_eq w (codes "crashed")) word
-          ∙ stopped_by (bytes_eq (word_at 0 c.args.line.now) (codes "act")) (word_at 0 c.args.line.now) c.ending-ending.result.now (word_at 2 c.args.line.now) third)) i;
+          ∙ crashed_by (bytes_eq (word_at 0 c.args.line.now) (codes "act")) (word_at 0 c.args.line.now) c.ending-ending.result.now (word_at 2 c.args.line.now) third)) i;
     }

@@ -1,5 +1,5 @@
 use Rattle.std.proofs.Common.{◌≡◌, ◌∷◌}
-use Rattle.schedule_text.specs.Words.{left_in, parts_in}
+use Rattle.voting_config.specs.Lists.{left_in, parts_in}
 use Rattle.trace_summary.specs.Counted.{after_lines, lines_of}
 use Rattle.trace_summary.proofs.counts.Counts.with_lines.Given as goal
 

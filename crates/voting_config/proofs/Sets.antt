@@ -1,0 +1,162 @@
+-- Who is in a set with an id more or less, and how many.
+use Rattle.std.proofs.Common.{◌≡◌, ℕ, suc, ◌+◌, ◌≤◌, ◌<◌, Bool, true, false, cond, not, ◌&&◌, ◌||◌, List, [], ◌∷◌, length, take, get_or, fold, count_by, refl, sym, ◌∙◌, ap, subst, arith, nat_lt}
+use Rattle.std.specs.List.{list_all}
+use Rattle.std.specs.Cmp.Lexicographic.{bytes_decides, nat_list_cmp_total, nat_list_eq_equiv, same_text}
+use Rattle.std.specs.Ordering.{is_lt, ordering_reverse}
+use Rattle.std.proofs.lemmas.Bool.{and_parts, ltb-true, lt-ltb}
+use Rattle.std.proofs.lemmas.List.{length-take}
+use Rattle.std.proofs.lemmas.List.Edits.{length-remove}
+use Rattle.std.proofs.lemmas.List.Sums.{sum_by-cons, sum_by-take-le, fold_more}
+use Rattle.voting_config.specs.Ids.{Id, is_id, same, before, has, is_below, ascends, IsIdSet, most_ids, put, with_id, without_id, place_of, has_room, set_of, union, union_count_of, same_config}
+use Rattle.voting_config.proofs.Sorted.{less_is, length-put, list_all-put, has-put, is_below-absent, IsIdSet-with_id, without_id-absent, remove-place_of, place_of-within}
+
+-- ---- whether two ids are the same, or two lists of them
+
+pub same_self : (x : Id) → same x x ≡ true
+same_self x = (bytes_decides x x).1 refl
+
+pub same_is : (x y : Id) → same x y ≡ true → x ≡ y
+same_is x y h = (bytes_decides x y).0 h
+
+pub same_flipped : (x y : Id) → same x y ≡ same y x
+same_flipped x y = nat_list_eq_equiv.symm x y
+
+pub same_config_is : (xs ys : List Id) → same_config xs ys ≡ true → xs ≡ ys
+same_config_is [] [] h = refl
+same_config_is [] (y ∷ ys) h = cc
+same_config_is (x ∷ xs) [] h = cc
+same_config_is (x ∷ xs) (y ∷ ys) h =
+    let parts = and_parts _ _ h in
+    let heads = same_is x y parts.0 in
+    let tails = same_config_is xs ys parts.1 in
+    cc
+
+-- ---- an id more
+
+pub length-with_id : (x : Id) (ys : List Id) → length (with_id x ys) ≡ length ys + cond (has x ys) 0 1
+length-with_id x ys =
+    elim (has x ys) as (λ b. length (cond b ys (put x ys)) ≡ length ys + cond b 0 1) [
+      | true ↦ omega arith
+      | false ↦ omega (arith, length-put x ys)
+    ]
+
+pub length-with_id-absent : (x : Id) (ys : List Id) → has x ys ≡ false → length (with_id x ys) ≡ suc (length ys)
+length-with_id-absent x ys h = rw h (length-put x ys)
+
+pub length-with_id-le : (x : Id) (ys : List Id) → length (with_id x ys) ≤ suc (length ys)
+length-with_id-le x ys =
+    elim (has x ys) as (λ b. length (cond b ys (put x ys)) ≤ suc (length ys)) [
+      | true ↦ omega arith
+      | false ↦ omega (arith, length-put x ys)
+    ]
+
+pub list_all-with_id : (p : Id → Bool) (x : Id) (ys : List Id) → p x ≡ true → list_all p ys ≡ true → list_all p (with_id x ys) ≡ true
+list_all-with_id p x ys h k = elim (has x ys) as (λ b. list_all p (cond b ys (put x ys)) ≡ true) [ true ↦ k | false ↦ list_all-put p x ys h k ]
+
+not_before : (x y : Id) → before x y ≡ true → before y x ≡ false
+not_before x y h = ap is_lt (nat_list_cmp_total.antisymm y x ∙ ap ordering_reverse (less_is _ h))
+
+-- an id before all others goes in at the start
+put-first : (x : Id) (ys : List Id) → is_below x ys ≡ true → put x ys ≡ x ∷ ys
+put-first x [] h = refl
+put-first x (y ∷ ys) h = rw (not_before x y (and_parts (before x y) (is_below x ys) h).0) refl
+
+pub with_id-first : (x : Id) (ys : List Id) → is_below x ys ≡ true → with_id x ys ≡ x ∷ ys
+with_id-first x ys h = rw (is_below-absent x ys h) (put-first x ys h)
+
+-- one more, where there is room
+pub IsIdSet-with_room : (x : Id) (ys : List Id) → IsIdSet ys → is_id x ≡ true → has_room ys x ≡ true → IsIdSet (with_id x ys)
+IsIdSet-with_room x ys set id room =
+    elim (has x ys) as (λ b. has x ys ≡ b → (b || nat_lt (length ys) most_ids) ≡ true → IsIdSet (with_id x ys)) [
+      | true ↦ λ e k. subst (λ (b : Bool). IsIdSet (cond b ys (put x ys))) (sym e) set
+      | false ↦ λ e k. IsIdSet-with_id x ys set id e (ltb-true (length ys) most_ids k)
+    ] refl room
+
+-- a set has at most as many ids as it is made of
+length-fold : (set ids : List Id) → length (fold (λ s id. with_id id s) set ids) ≤ length set + length ids
+length-fold set [] = omega arith
+length-fold set (x ∷ ids) = omega (arith, length-fold (with_id x set) ids, length-with_id-le x set)
+
+pub length-set_of-take : (ids : List Id) (n : ℕ) → length (set_of (take n ids)) ≤ n
+length-set_of-take ids n = omega (arith, length-fold [] (take n ids), length-take n ids)
+
+-- ---- an id less
+
+other_than : (x y q : Id) → (same y q && not (same y x)) ≡ (same y q && not (same x q))
+other_than x y q =
+    elim (same y q) as (λ b. same y q ≡ b → (b && not (same y x)) ≡ (b && not (same x q))) [
+      | true ↦ λ e. ap not (subst (λ (i : Id). same i x ≡ same x q) (sym (same_text y q (sym e))) (same_flipped q x))
+      | false ↦ λ e. refl
+    ] refl
+
+left_step : (a b c h : Bool) → (a && not b) ≡ (a && not c) → (cond (not b) (a || (h && not c)) (h && not c)) ≡ ((a || h) && not c)
+left_step true true true true p = refl
+left_step true true true false p = refl
+left_step true true false h p = absurd (cc)
+left_step true false true h p = absurd (cc)
+left_step true false false h p = refl
+left_step false true c h p = refl
+left_step false false c h p = refl
+
+pub has-without_id : (q x : Id) (ys : List Id) → has q (without_id x ys) ≡ (has q ys && not (same x q))
+has-without_id q x [] = refl
+has-without_id q x (y ∷ ys) =
+    inner (same y x) (has-without_id q x ys) ∙ left_step (same y q) (same y x) (same x q) (has q ys) (other_than x y q)
+  where
+    inner : (b : Bool) → has q (without_id x ys) ≡ (has q ys && not (same x q)) → has q (cond (not b) (y ∷ without_id x ys) (without_id x ys)) ≡ cond (not b) (same y q || (has q ys && not (same x q))) (has q ys && not (same x q))
+    inner true rest = rest
+    inner false rest = ap (λ t. same y q || t) rest
+
+-- how many are left: one less, where it was in
+pub length-without_id-is : (x : Id) (ys : List Id) → ascends ys ≡ true → length (without_id x ys) + cond (has x ys) 1 0 ≡ length ys
+length-without_id-is x ys h =
+    elim (has x ys) as (λ b. has x ys ≡ b → length (without_id x ys) + cond b 1 0 ≡ length ys) [
+      | true ↦ λ e. rw (← remove-place_of x ys h e) (length-remove ys (place_of x ys) (place_of-within x ys h e))
+      | false ↦ λ e. rw (without_id-absent x ys e) (omega arith)
+    ] refl
+
+-- ---- two sets as one
+
+-- 1 for an id that is not in the set
+abbrev absent : List Id → Id → ℕ
+absent set x = cond (not (has x set)) 1 0
+
+-- with an id more, no more are absent
+absent-le : (b c : Bool) → cond (not (b || c)) 1 0 ≤ cond (not c) 1 0
+absent-le true true = omega arith
+absent-le true false = omega arith
+absent-le false c = omega arith
+
+absent-put : (x : Id) (set ids : List Id) → count_by (λ y. not (has y (put x set))) ids ≤ count_by (λ y. not (has y set)) ids
+absent-put x set [] = omega arith
+absent-put x set (y ∷ ys) =
+    let here : absent (put x set) y ≤ absent set y = rw has-put (absent-le (same x y) (has y set)) in
+    omega (arith, here, absent-put x set ys, sum_by-cons (absent (put x set)) y ys, sum_by-cons (absent set) y ys)
+
+one_more : (x : Id) (set ids : List Id) → union_count_of ids (with_id x set) ≤ union_count_of (x ∷ ids) set
+one_more x set ids =
+    elim (has x set) as (λ b. has x set ≡ b → union_count_of ids (cond b set (put x set)) ≤ union_count_of (x ∷ ids) set) [
+      | true ↦ λ e. omega (arith, sum_by-cons (absent set) x ids)
+      | false ↦ λ e.
+          let here : absent set x ≡ 1 = rw e refl in
+          omega (arith, here, length-put x set, absent-put x set ids, sum_by-cons (absent set) x ids)
+    ] refl
+
+pub length-union : (set ids : List Id) → length (union set ids) ≤ union_count_of ids set
+length-union set [] = omega arith
+length-union set (x ∷ ids) = omega (arith, length-union (with_id x set) ids, one_more x set ids)
+
+-- on the way to a union there are no more ids than in it
+length-union-take : (set ids : List Id) (n : ℕ) → length (union set (take n ids)) ≤ union_count_of ids set
+length-union-take set ids n = omega (arith, length-union set (take n ids), sum_by-take-le (absent set) ids n)
+
+-- so there is room for the next one
+pub union-room : (set ids : List Id) (i : ℕ) (x : Id) → i < length ids → x ≡ get_or ids i x → union_count_of ids set ≤ most_ids → has_room (union set (take i ids)) x ≡ true
+union-room set ids i x less at fits =
+    let so_far = union set (take i ids) in
+    let next : union set (take (i + 1) ids) ≡ with_id x so_far =
+    fold_more (λ s id. with_id id s) set ids i x less ∙ ap (λ (y : Id). with_id y so_far) (sym at) in
+    elim (has x so_far) as (λ b. length so_far + cond b 0 1 ≤ most_ids → (b || nat_lt (length so_far) most_ids) ≡ true) [
+      | true ↦ λ k. refl
+      | false ↦ λ k. lt-ltb (length so_far) most_ids (omega (arith, k))
+    ] (omega (arith, length-union-take set ids (i + 1), ap length next, length-with_id x so_far, fits))

@@ -1,0 +1,17 @@
+use Rattle.std.proofs.Common.{arith, ap, length}
+use Rattle.voting_config.specs.Ids.{has}
+use Rattle.voting_config.proofs.Kept.{length-filter-take, comes_after-kept}
+use Rattle.voting_config.proofs.node_set.NodeSet.within.Goals as goal
+
+pub push-requires-clause-room : goal.push-requires-clause-room
+push-requires-clause-room c =
+    let few = length-filter-take (λ x. has x c.args.others.now) c.as_slice-ids.result.now c.loop-id.id-index in
+    let same_length = ap length c.loop-id.invariant in
+    let fits = c.as_slice-ids.ensures.is_set.fits in
+    let whole = ap length c.as_slice-ids.ensures.value in
+    omega (arith, few, same_length, fits, whole, c.loop-id-test.true)
+
+pub push-requires-clause-last : goal.push-requires-clause-last
+push-requires-clause-last c =
+    comes_after-kept (λ x. has x c.args.others.now) c.as_slice-ids.result.now c.loop-id.kept c.loop-id.id-index c.id-item.result
+    (rw c.as_slice-ids.ensures.value c.as_slice-ids.ensures.is_set.ascending) c.loop-id-test.true c.id-item.is c.loop-id.invariant
