@@ -32,9 +32,6 @@ id_trans t v t' v' t'' v'' (inl a) (inr b) = inl (omega arith)
 id_trans t v t' v' t'' v'' (inr a) (inl b) = inl (omega arith)
 id_trans t v t' v' t'' v'' (inr a) (inr b) = inr (omega arith)
 
-pub at_most_trans : (r s q : ClusterState) → IsAtMost r s → IsAtMost s q → IsAtMost r q
-at_most_trans r s q a b = id_trans r.term r.version s.term s.version q.term q.version a b
-
 pub at_most_from_below : (r s : ClusterState) → IsBelow r s → IsAtMost r s
 at_most_from_below r s (inl a) = inl a
 at_most_from_below r s (inr a) = inr (omega arith)

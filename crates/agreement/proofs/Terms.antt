@@ -6,7 +6,8 @@ use Rattle.cluster_state.specs.declared.state.ClusterState.{ClusterState}
 use Rattle.world_model.specs.Histories.{History}
 use Rattle.world_model.specs.Safety.{Published, published, IsCommitted, Descends, Itself, Child}
 use Rattle.world_model.proofs.Facts.{Facts, IsAtMost, IsPublished, IsOriginal, HasSentCommit, Election, elections}
-use Rattle.agreement.proofs.Order.{same_terms, same_versions, at_most_trans, at_most_from_below, decide_sent_commit, id_refl}
+use Rattle.world_model.proofs.Durable.{at_most_trans}
+use Rattle.agreement.proofs.Order.{same_terms, same_versions, at_most_from_below, decide_sent_commit, id_refl}
 use Rattle.agreement.proofs.Lineage.{published_all, original_all, descends_trans, descends_id, parent_below, parent_term, parent_version, parent_original, root_lowest}
 use Rattle.agreement.proofs.Newest.{IsRootOrChosen, IsCovered, HasOneState, committed_chosen, newest_config_step}
 use Rattle.agreement.proofs.Elections.{HasOneWinner, IsSettled, IsSettledBelow, win_base_older, covered_below, descends_below, descends_parent, alone, winner_has_committed, one_winner}

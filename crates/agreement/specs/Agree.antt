@@ -1,4 +1,4 @@
--- Agreement, as statements.
+-- For the contracts inside: agreement, as statements.
 use Rattle.std.specs.Prelude.{◌↔◌, List, Contains}
 use Rattle.voting_config.specs.Ids.{Id}
 use Rattle.cluster_state.specs.declared.state.Kept.{Kept}

@@ -6,8 +6,7 @@ use Rattle.std.specs.Option.{option_map}
 use Rattle.std.proofs.lemmas.Bool.{and_parts, or_parts, not-true}
 use Rattle.std.proofs.lemmas.Bool.Decides.{nat_tests}
 use Rattle.std.proofs.lemmas.List.{append_assoc, append-nil}
-use Rattle.voting_config.specs.Ids.{Id, has, same}
-use Rattle.reconfigurator.specs.Targets.{among}
+use Rattle.voting_config.specs.Ids.{Id, has, same, among, some_among}
 use Rattle.exclusions.specs.declared.AddError.{AddError}
 use Rattle.exclusions.specs.declared.AddError.TheVariants.{NotMember, TooMany}
 use Rattle.exclusions.specs.declared.StillMember.{StillMember}
@@ -27,12 +26,12 @@ use Rattle.master_tasks.specs.declared.waiting.Waiting.{Waiting}
 use Rattle.master_tasks.specs.declared.waiting.Outgoing.{Outgoing}
 use Rattle.master_tasks.specs.Queue.{Tasks}
 use Rattle.master_tasks.specs.Replying.{answer_to}
-use Rattle.master_tasks.specs.Answering.{answers_by, left_by, excluded_by, some_among, failed, committed_in, unless_voting, exclusion_done, if_late, timed_out, nothing_new}
+use Rattle.master_tasks.specs.Answering.{answers_by, left_by, excluded_by, failed, committed_in, unless_voting, exclusion_done, if_late, timed_out, nothing_new}
 use Rattle.master_tasks.specs.Processing.{Processing, AnsweredAtOnce, Makes, excluding, clearing, processing, processing_once, Processed, before_all, and_then, with_next}
 use Rattle.master_tasks.specs.NextState.{Leader as NextMaster, value_before, processed_by, next_value, is_accepted, is_nothing_new, next_answers}
 use Rattle.master_tasks.proofs.Sameness.{stays_accepted}
 use Rattle.world_model.specs.Histories.{History}
-use Rattle.world_model.proofs.Guards.{same_is}
+use Rattle.voting_config.proofs.Sets.{same_is}
 use Rattle.world_model.specs.Safety.{Published, IsCommitted}
 use Rattle.client_guarantees.specs.Replies.{HasCommitted}
 use Rattle.client_guarantees.specs.Asked.{MeetsEach, HasNoVoterOf}

@@ -5,11 +5,10 @@ use Rattle.std.specs.declared.cmp.Ordering.TheVariants.{Less, Equal, Greater}
 use Rattle.std.specs.Ordering.{is_eq, nat_cmp, match_ordering}
 use Rattle.std.specs.Cmp.Lexicographic.{slice_cmp}
 use Rattle.std.specs.Str.{bytes_eq}
-use Rattle.voting_config.specs.Ids.{Id, has, same, with_id}
+use Rattle.voting_config.specs.Ids.{Id, has, same, with_id, union}
 use Rattle.voting_config.proofs.Sorted.{has-with_id}
 use Rattle.exclusions.specs.declared.AddError.{AddError}
 use Rattle.exclusions.specs.declared.StillMember.{StillMember}
-use Rattle.exclusions.specs.Sets.{union}
 use Rattle.exclusions.specs.Exclusions.{unless_missing, added_of, cleared_of}
 use Rattle.cluster_state.specs.Fields.{most_settings}
 use Rattle.cluster_state.specs.Settings.{Setting, put_setting, without_key}
@@ -20,8 +19,7 @@ use Rattle.cluster_state.specs.declared.request.Ask.{Ask}
 use Rattle.cluster_state.specs.declared.request.Ask.TheVariants as ask
 use Rattle.cluster_state.specs.declared.reply.Answer.TheVariants as answer
 use Rattle.master_tasks.specs.Processing.{Processing, AnsweredAtOnce, Makes, excluding, clearing, processing}
-use Rattle.world_model.proofs.Guards.{same_is}
-use Rattle.world_model.proofs.Legal.{same_self}
+use Rattle.voting_config.proofs.Sets.{same_is, same_self}
 use Rattle.client_guarantees.specs.Asked.{setting_under, Meets, may_undo, setting_after}
 
 -- ---- settings

@@ -18,7 +18,7 @@ use Rattle.world_model.specs.declared.acts.Outcome.TheVariants.{Answered}
 use Rattle.world_model.specs.declared.acts.Reply.TheVariants.{Taken, Refused, Stopped}
 use Rattle.world_model.specs.declared.acts.Message.TheVariants.{Commit as CommitMessage}
 use Rattle.world_model.specs.Acts.{NodeHistory, Then}
-use Rattle.world_model.specs.NodeState.{NodeState, node_state, term_of, accepted_of, won_of, version_of, acks_of}
+use Rattle.world_model.specs.NodeState.{NodeState, node_state, term_of, accepted_of, election_won_of, published_version_of, publish_votes_of}
 use Rattle.world_model.specs.Replies.{commits, is_taken}
 use Rattle.world_model.specs.Histories.{History, node_history, sent}
 use Rattle.world_model.specs.Safety.{Published, IsCommitted, published, published_by}
@@ -55,22 +55,22 @@ state_of p version config value = record { term = p.term; version = version; con
 -- the node won on a state of an earlier term, and has published none since
 pub record IsNewWinner (p : NodeState) : Type 0 where
   pub older : p.accepted.term < p.term
-  pub none : p.version ≡ p.accepted.version
+  pub none : p.published_version ≡ p.accepted.version
 
 -- the node has accepted the last state that it published
 pub record HasAcceptedLast (p : NodeState) : Type 0 where
   pub term : p.accepted.term ≡ p.term
-  pub version : p.accepted.version ≡ p.version
+  pub version : p.accepted.version ≡ p.published_version
 
 -- a node that takes a commit
 pub record TakesCommit (h : History) (p : NodeState) : Type 0 where
   pub committed : HasCommitted h p.accepted
   pub term : p.accepted.term ≡ p.term
-  pub version : p.won ≡ true → p.accepted.version ≡ p.version
+  pub version : p.election_won ≡ true → p.accepted.version ≡ p.published_version
 
 -- a node that wins
 pub record Wins (p : NodeState) : Type 0 where
-  pub not_yet : p.won ≡ false
+  pub not_yet : p.election_won ≡ false
   pub older : p.accepted.term < p.term
 
 -- a winner that takes a publication
@@ -82,7 +82,7 @@ pub record TakesPublication (p : NodeState) : Type 0 where
 abbrev pub Backs : History → NodeState → Act → Reply → Type 0
 Backs h p (TakeJoin join) reply = wins_now reply ≡ true → Wins p
 Backs h p (Value version config value) reply = is_taken reply ≡ true → IsPublished h (state_of p version config value)
-Backs h p (Publish request) reply = is_taken reply ≡ true → p.won ≡ true → TakesPublication p
+Backs h p (Publish request) reply = is_taken reply ≡ true → p.election_won ≡ true → TakesPublication p
 Backs h p (Response response) reply = commits_now reply ≡ true → HasCommittedId h (published_id p)
 Backs h p (Commit commit) reply = is_taken reply ≡ true → TakesCommit h p
 Backs h p act reply = Unit {0}
@@ -140,7 +140,7 @@ module _ (h : History) (root : ClusterState) (W : IsSystem (node_history h) root
   at_response n g r m w b =
       let f = execution_before (node_history h) root n _ (node_history h n) (W n) b in
       let k = response_guard n g r (Some m) w f.1.follows.follows in
-      let is = commit_is (commits (node_state g) (with_id r.source (acks_of g))) m (record { source = n; term = r.term; version = r.version }) k.sends in
+      let is = commit_is (commits (node_state g) (with_id r.source (publish_votes_of g))) m (record { source = n; term = r.term; version = r.version }) k.sends in
       let s = sent_to h n m (record { before = g; act = Response r; flag = w; is_in = b }) in
       let c = committed_by n r.term r.version (subst (λ (x : Message). Contains (sent h) x) is s) in
       record {
@@ -172,7 +172,7 @@ module _ (h : History) (root : ClusterState) (W : IsSystem (node_history h) root
           let same = (agree_terms (facts_of_system h root W) c.term).one_state q.as_published p.as_published q.is_committed.0 p.is_in q.has_term p_term (q.has_version ∙ sym p_version) in
           record { as_published = q.as_published; is_committed = q.is_committed; is_state = ap (λ (x : Published). x.state) same ∙ p.is_state }
 
-  at_publish : (n : Id) (g : NodeHistory) (r : PublishRequest) (s : Option Message) (w : Bool) → Begins (Then g (Publish r) (ok s w)) (node_history h n) → won_of g ≡ true → TakesPublication (node_state g)
+  at_publish : (n : Id) (g : NodeHistory) (r : PublishRequest) (s : Option Message) (w : Bool) → Begins (Then g (Publish r) (ok s w)) (node_history h n) → election_won_of g ≡ true → TakesPublication (node_state g)
   at_publish n g r s w b won =
       let f = execution_before (node_history h) root n _ (node_history h n) (W n) b in
       let k = publish_guard n g r s w f.1.follows.follows in
@@ -189,7 +189,7 @@ module _ (h : History) (root : ClusterState) (W : IsSystem (node_history h) root
       }
     where
       not_new : IsNewWinner (node_state g) → (before : NodeHistory) → (accepted_of g ≡ accepted_of before) ⊎ ((accepted_of g).term ≡ term_of g)
-          → (accepted_of before).version < r.state.version → r.state.version ≤ version_of g → ⊥
+          → (accepted_of before).version < r.state.version → r.state.version ≤ published_version_of g → ⊥
       not_new a before (inl same) low high =
           let version : (accepted_of g).version ≡ (accepted_of before).version = ap (λ (x : ClusterState). x.version) same in
           absurd (omega (arith, a.none))

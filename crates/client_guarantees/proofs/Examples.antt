@@ -24,7 +24,7 @@ use Rattle.world_model.specs.Acts.{NodeHistory, NoActs, Then}
 use Rattle.world_model.specs.Histories.{History, NoEntries, Next, node_history, IsLegal, IsLocal}
 use Rattle.world_model.specs.Local.{BeginsEmpty, IsSourcedAll}
 use Rattle.world_model.proofs.Assemble.{assembled}
-use Rattle.world_model.proofs.Guards.{same_is}
+use Rattle.voting_config.proofs.Sets.{same_is}
 use Rattle.world_model.specs.Safety.{Published, IsCommitted}
 use Rattle.policy_model.specs.declared.settings.Settings.{Settings}
 use Rattle.policy_model.specs.declared.events.Event.{Event}

@@ -164,7 +164,7 @@ had_folded accepted p done (w ∷ ws) h =
     (ap (λ (v : ClusterValue). (done ++ processed_by_this w x) ++ processed_from accepted v ws) (value_is p w x) ∙ append_assoc done (processed_by_this w x) (processed_from accepted (value_after p.value x) ws))
     rest
 
--- the next value has what each request asks for that is processed into it, unless one behind it may have undone it
+-- the next value has what each request asks for that is processed into it, unless one after it may have undone it
 pub next_meets_each : (l : NextMaster) (t : Tasks) → MeetsEach (next_value l t) (processed_into_next l t)
 unfolding next_value processed_by processed_into_next
 next_meets_each l t = had_folded l.accepted (before_all (value_before l.me t l.accepted.value)) [] t.waiting tt

@@ -47,7 +47,7 @@ pub added_wait : (t : Tasks) (ids : List Id) → (all_to_be_added t ids).waiting
 added_wait t [] = refl
 added_wait t (id ∷ ids) = added_wait (to_be_added t id) ids
 
--- who waits behind the making of a state was among those that were processed
+-- who waits after the making of a state was among those that were processed
 pub each-after : (P : Waiting → Type 0) (l : NextMaster) (t : Tasks) → Each P (processed_by l t).waiting → Each P (tasks_after l t).waiting
 unfolding tasks_after
 each-after P l t e = each-if P (is_nothing_new l t) _ _ (each-left P (nothing_new l.committed (id_of l.accepted)) (processed_by l t).waiting e) e
@@ -114,7 +114,7 @@ module _ (h : History) (U : IsUnique h) (s : Settings) (P : ℕ → Request → 
       each-after (λ w. w.processed ≡ true → IsAmong n.done w) l v.tasks (each-map (IsAmong n.done) (λ w. w.processed ≡ true → IsAmong n.done w) (λ w a t. a) (processed_by l v.tasks).waiting n.wait)
 
   -- the state is published, or the node gives up
-  keeps-publishes : (v : View) (k : List Waiting) → MakesNow v k → Each (Of P) (moved s v (Notes StateMade)).tasks.waiting → doing.is_leader v.mode ≡ true → v.node.won ≡ true → Keeps h s P (moved s v (Notes StateMade)) k (next.publishes s v (moved s v (Notes StateMade))) (Holds h s P)
+  keeps-publishes : (v : View) (k : List Waiting) → MakesNow v k → Each (Of P) (moved s v (Notes StateMade)).tasks.waiting → doing.is_leader v.mode ≡ true → v.node.election_won ≡ true → Keeps h s P (moved s v (Notes StateMade)) k (next.publishes s v (moved s v (Notes StateMade))) (Holds h s P)
   keeps-publishes v k n came l won =
       let made = moved s v (Notes StateMade) in
       let act = next.value_act s v in
@@ -130,7 +130,7 @@ module _ (h : History) (U : IsUnique h) (s : Settings) (P : ℕ → Request → 
       → (is_nothing_new (as_master s v.node) v.tasks ≡ true → IsSettled h (as_master s v.node))
       → (is_nothing_new (as_master s v.node) v.tasks ≡ true → MakesNow v (g ++ processed_into_next (as_master s v.node) v.tasks)
       → Each (Of P) (moved s v (Notes StateMade)).tasks.waiting → Holds h s P (place (moved s v (Notes StateMade)) (g ++ processed_into_next (as_master s v.node) v.tasks)))
-      → doing.is_leader v.mode ≡ true → v.node.won ≡ true → Keeps h s P v g (next.makes_state s v) (Holds h s P)
+      → doing.is_leader v.mode ≡ true → v.node.election_won ≡ true → Keeps h s P v g (next.makes_state s v) (Holds h s P)
   keeps-made v g b shown came c same l won =
       let master = as_master s v.node in
       let k = g ++ processed_into_next master v.tasks in
@@ -205,20 +205,20 @@ module _ (h : History) (U : IsUnique h) (s : Settings) (P : ℕ → Request → 
   keeps-leads v g w =
       keeps-then h s P v g _ (next.goes_on s) (IsReadyToGo h s P) (Holds h s P)
       (keeps-item h s P v g (Turns Leader v.node.term) _ (IsReadyToGo h s P) refl
-      (λ b. keeps-item h s P _ g (Notes (Joined (s.me ∷ v.node.votes))) [] (IsReadyToGo h s P) refl (λ k. keeps-none h s P _ g (IsReadyToGo h s P) ready)))
+      (λ b. keeps-item h s P _ g (Notes (Joined (s.me ∷ v.node.join_votes))) [] (IsReadyToGo h s P) refl (λ k. keeps-none h s P _ g (IsReadyToGo h s P) ready)))
       keeps-goes_on
     where
       nothing : (p : Publication) → v.publication ≡ Some p → v.publication ≡ None → ⊥
       nothing p e n = cc
 
-      ready : IsReadyToGo h s P (place (moved s (moved s v (Turns Leader v.node.term)) (Notes (Joined (s.me ∷ v.node.votes)))) g)
+      ready : IsReadyToGo h s P (place (moved s (moved s v (Turns Leader v.node.term)) (Notes (Joined (s.me ∷ v.node.join_votes)))) g)
       ready = record {
         ready = record {
           leads = record { idle = λ e. cc; won = λ l. w.won; new = λ l n. w.new; done = λ l p e f. absurd (nothing p e w.unpublished) };
-          empty = λ l n m. added_wait (to_be_added v.tasks s.me) v.node.votes ∙ w.empty;
+          empty = λ l n m. added_wait (to_be_added v.tasks s.me) v.node.join_votes ∙ w.empty;
         };
         made = λ l e. absurd (true≢false (sym e ∙ ap is_some w.unpublished));
-        came = subst (Each (Of P)) (sym (added_wait (to_be_added v.tasks s.me) v.node.votes ∙ w.empty)) tt;
+        came = subst (Each (Of P)) (sym (added_wait (to_be_added v.tasks s.me) v.node.join_votes ∙ w.empty)) tt;
       }
 
   pub keeps-takes_member : (v : View) (g : List Waiting) (p : Id) → Holds h s P (place v g) → Keeps h s P v g (joins.takes_member s v p) (Holds h s P)

@@ -151,7 +151,7 @@ module _ (h : History) (s : Settings) (P : ℕ → Request → Type 0) where
   holds-join v g j Stopped e i = holds-refused v g (TakeJoin j) Stopped refl refl i
 
   -- a publication begins, of a value that has what was processed
-  pub holds-value : (v : View) (g older done : List Waiting) (version : ℕ) (config : List Id) (value : ClusterValue) (r : Reply) → is_taken r ≡ true → is_leader v.mode ≡ true → v.node.won ≡ true
+  pub holds-value : (v : View) (g older done : List Waiting) (version : ℕ) (config : List Id) (value : ClusterValue) (r : Reply) → is_taken r ≡ true → is_leader v.mode ≡ true → v.node.election_won ≡ true
       → Backs h v.node (Value version config value) r → g ≡ older ++ done → MeetsEach value done → Each (λ w. w.processed ≡ true → IsAmong done w) v.tasks.waiting → Each (Of P) v.tasks.waiting
       → Holds h s P (place (moved s v (Acts (Value version config value) (Answered r))) g)
   holds-value v g older done version config value (Taken sends wins) t l won b e a w c =

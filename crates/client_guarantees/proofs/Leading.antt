@@ -44,7 +44,7 @@ IsIdle x = is_leader x.mode ≡ false → (x.publication ≡ None) × (x.waiting
 -- a leader has won. Before its first publication its accepted state is of an earlier term; where its publication is finished, that is its accepted state, and it is committed
 pub record Leads (h : History) (x : Standing) : Type 0 where
   pub idle : IsIdle x
-  pub won : is_leader x.mode ≡ true → x.node.won ≡ true
+  pub won : is_leader x.mode ≡ true → x.node.election_won ≡ true
   pub new : is_leader x.mode ≡ true → x.publication ≡ None → IsNewWinner x.node
   pub done : is_leader x.mode ≡ true → (p : Publication) → x.publication ≡ Some p → p.finished ≡ true → IsDone h x.node
 
@@ -65,7 +65,7 @@ pub record IsReady (h : History) (s : Settings) (x : Standing) : Type 0 where
 pub record HasWon (x : Standing) : Type 0 where
   pub unpublished : x.publication ≡ None
   pub empty : x.waiting ≡ []
-  pub won : x.node.won ≡ true
+  pub won : x.node.election_won ≡ true
   pub new : IsNewWinner x.node
 
 -- what cannot be
@@ -180,13 +180,13 @@ module _ (h : History) (s : Settings) where
   stands-commit v c (Refused x) b i = stands-refused v (Commit c) (Refused x) refl refl i
   stands-commit v c Stopped b i = stands-refused v (Commit c) Stopped refl refl i
 
-  new_again : (p q : NodeState) → p.accepted ≡ q.accepted → p.term ≡ q.term → p.version ≡ q.version → IsNewWinner p → IsNewWinner q
+  new_again : (p q : NodeState) → p.accepted ≡ q.accepted → p.term ≡ q.term → p.published_version ≡ q.published_version → IsNewWinner p → IsNewWinner q
   new_again p q a t v n =
       let term : p.accepted.term ≡ q.accepted.term = ap (λ x. x.term) a in
       let version : p.accepted.version ≡ q.accepted.version = ap (λ x. x.version) a in
       record { older = omega (arith, n.older); none = omega (arith, n.none) }
 
-  done_again : (p q : NodeState) → p.accepted ≡ q.accepted → p.term ≡ q.term → p.version ≡ q.version → p.committed ≡ q.committed → IsDone h p → IsDone h q
+  done_again : (p q : NodeState) → p.accepted ≡ q.accepted → p.term ≡ q.term → p.published_version ≡ q.published_version → p.committed ≡ q.committed → IsDone h p → IsDone h q
   done_again p q a t v c d =
       let term : p.accepted.term ≡ q.accepted.term = ap (λ x. x.term) a in
       let version : p.accepted.version ≡ q.accepted.version = ap (λ x. x.version) a in
@@ -241,7 +241,7 @@ module _ (h : History) (s : Settings) where
   won-join v j Stopped e b i = differs (sym e)
 
   -- a publication begins
-  pub stands-value : (v : View) (version : ℕ) (config : List Id) (value : ClusterValue) (r : Reply) → is_taken r ≡ true → is_leader v.mode ≡ true → v.node.won ≡ true
+  pub stands-value : (v : View) (version : ℕ) (config : List Id) (value : ClusterValue) (r : Reply) → is_taken r ≡ true → is_leader v.mode ≡ true → v.node.election_won ≡ true
       → Stands h s (standing (moved s v (Acts (Value version config value) (Answered r))))
   stands-value v version config value (Taken sends wins) t l won =
       record {

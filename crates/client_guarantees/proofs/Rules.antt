@@ -2,9 +2,8 @@
 use Rattle.std.proofs.Common.{◌≡◌, ℕ, Bool, true, false, not, ◌&&◌, Option, None, Some, Result, Ok, Err, List, [], ◌∷◌, ◌++◌, refl, sym, ◌∙◌, ap, subst, ◌<◌, arith}
 use Rattle.std.specs.Prelude.{is_some, nat_le, nat_lt}
 use Rattle.std.proofs.lemmas.Bool.{both_ways, and_parts}
-use Rattle.voting_config.specs.Ids.{Id, same}
+use Rattle.voting_config.specs.Ids.{Id, same, among, has_room}
 use Rattle.bootstrap.specs.Decisions.{decision_of}
-use Rattle.reconfigurator.specs.Targets.{among}
 use Rattle.cluster_state.specs.JoinCheck.{is_empty}
 use Rattle.cluster_state.specs.declared.messages.ApplyCommit.{ApplyCommit}
 use Rattle.cluster_state.specs.declared.messages.Join.{Join}
@@ -99,7 +98,7 @@ module _ (h : History) (U : IsUnique h) (s : Settings) (P : ℕ → Request → 
       let join : Join = joins.join_from p s.me term last in
       let act : Act = TakeJoin join in
       let after = doing.after_act s v act in
-      keeps-if h s P v g (joins.fits v.node.votes p) _ [] (Holds h s P)
+      keeps-if h s P v g (has_room v.node.join_votes p) _ [] (Holds h s P)
       (λ f. keeps-item h s P v g (doing.act_now s v act) _ (Holds h s P) refl
       (λ b. keeps-if h s P after g (joins.wins_now (doing.reply_now s v act)) _ _ (Holds h s P)
       (λ w. keeps-leads h U s P after g (won-join h s v join (doing.reply_now s v act) w b i.stands))
@@ -173,8 +172,8 @@ module _ (h : History) (U : IsUnique h) (s : Settings) (P : ℕ → Request → 
       let act : Act = Response (record { source = p; target = s.me; term = id.term; version = id.version }) in
       let after = doing.after_act s v act in
       let k = holds-response h s P v g (record { source = p; target = s.me; term = id.term; version = id.version }) (doing.reply_now s v act) i in
-      let made : doing.is_leader v.mode && is_some v.publication && joins.fits v.node.acks p ≡ true → IsMade h (place v g) = λ e. let front = and_parts (doing.is_leader v.mode && is_some v.publication) _ e in let parts = and_parts _ _ front.0 in i.made parts.0 parts.1 in
-      keeps-if h s P v g (doing.is_leader v.mode && is_some v.publication && joins.fits v.node.acks p) _ [] (Holds h s P)
+      let made : doing.is_leader v.mode && is_some v.publication && has_room v.node.publish_votes p ≡ true → IsMade h (place v g) = λ e. let front = and_parts (doing.is_leader v.mode && is_some v.publication) _ e in let parts = and_parts _ _ front.0 in i.made parts.0 parts.1 in
+      keeps-if h s P v g (doing.is_leader v.mode && is_some v.publication && has_room v.node.publish_votes p) _ [] (Holds h s P)
       (λ e. keeps-item h s P v g (doing.act_now s v act) _ (Holds h s P) refl
       (λ b. keeps-if h s P after g (publications.commits_now (doing.reply_now s v act)) _ [] (Holds h s P)
       (λ c. keeps-if h s P after g (publications.is_commit_sent v.publication) _ _ (Holds h s P)

@@ -328,7 +328,7 @@ module _ (h : History) (s : Settings) (P : ℕ → Request → Type 0) where
         };
   }
 
-  -- replies that are true of what is processed by the end, and what comes behind them
+  -- replies that are true of what is processed by the end, and what comes after them
   pub keeps-replies : (v : View) (g : List Waiting) (answers : List Outgoing) (rest : List Item) (Q : Place → Type 0) → AllTrue h P (processed_after_all s v g rest) answers → Keeps v g rest Q
       → Keeps v g (doing.reply_all s answers ++ rest) Q
   keeps-replies v g [] rest Q a k = k

@@ -1,4 +1,4 @@
--- What a value has of what clients asked for. Part of the statement.
+-- Part of the statement: what a value has of what clients asked for.
 use Rattle.std.specs.Prelude.{◌≡◌, ℕ, Bool, true, false, Option, None, Some, List, [], ◌∷◌, fold, if◌then◌else◌}
 use Rattle.std.specs.List.{list_any}
 use Rattle.std.specs.Map.{lookup}
@@ -60,7 +60,7 @@ is_undone w later = list_any (λ u. may_undo u.request.ask w.request.ask) later
 abbrev pub MeetsUnlessUndone : ClusterValue → Waiting → List Waiting → Type 0
 MeetsUnlessUndone value w later = is_undone w later ≡ false → Meets value w.request.ask
 
--- each of the requests, in order of processing, unless one behind it may have undone it: so the last one that speaks of a matter is met
+-- each of the requests, in order of processing, unless one after it may have undone it: so the last one that speaks of a matter is met
 abbrev pub MeetsEach : ClusterValue → List Waiting → Type 0
 MeetsEach value [] = Unit {0}
 MeetsEach value (w ∷ later) = MeetsUnlessUndone value w later × MeetsEach value later

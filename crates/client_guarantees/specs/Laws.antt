@@ -1,4 +1,4 @@
--- What a client may rely on, as statements. Part of the statement: the other files here give their words.
+-- Part of the statement: what a client may rely on, as statements. The other files here give their words.
 use Rattle.std.specs.Prelude.{◌≡◌, ℕ, List}
 use Rattle.std.specs.List.{Contains}
 use Rattle.voting_config.specs.Ids.{Id}
@@ -48,7 +48,7 @@ LawProcessedCame =
     (s : Settings) (life : Life) → Follows s life
     → (w : Waiting) → Contains (processed_of s (log_of life)) w → CameIn life w.conn w.request
 
--- the next value has what each request asks for that is processed into it, unless one behind it may have undone it
+-- the next value has what each request asks for that is processed into it, unless one after it may have undone it
 abbrev pub LawNextMeetsEach : Type 0
 LawNextMeetsEach = (l : NextMaster) (t : Tasks) → MeetsEach (next_value l t) (processed_into_next l t)
 

@@ -1,4 +1,4 @@
--- Which requests a node processed into the states that it made, and by which lines requests came. Part of the statement.
+-- Part of the statement: which requests a node processed into the states that it made, and by which lines requests came.
 use Rattle.std.specs.Prelude.{◌≡◌, ◌⊎◌, ℕ, Ok, List, [], ◌∷◌, ◌++◌, true, if◌then◌else◌}
 use Rattle.cluster_state.specs.declared.state.ClusterState.{ClusterState}
 use Rattle.cluster_state.specs.declared.state.ClusterValue.{ClusterValue}
@@ -21,7 +21,7 @@ abbrev pub processed_by_this : Waiting → Processing → List Waiting
 processed_by_this w (AnsweredAtOnce answer) = []
 processed_by_this w (Makes value) = if w.processed then [] else record w { processed = true } ∷ []
 
--- the requests that are processed now, from the front, each on the value so far
+-- the requests that are processed now, from the first on, each on the value so far
 abbrev pub processed_from : ClusterState → ClusterValue → List Waiting → List Waiting
 processed_from accepted value [] = []
 processed_from accepted value (w ∷ ws) =

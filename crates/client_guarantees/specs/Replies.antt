@@ -1,4 +1,4 @@
--- When a reply is true of what its node and all nodes did. Part of the statement.
+-- Part of the statement: when a reply is true of what its node and all nodes did.
 use Rattle.std.specs.Prelude.{◌≡◌, ℕ, List, ◌∷◌, ◌++◌}
 use Rattle.std.specs.List.{All}
 use Rattle.cluster_state.specs.declared.state.ClusterState.{ClusterState}

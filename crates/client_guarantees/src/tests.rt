@@ -1,3 +1,4 @@
+//! The laws can be called: nothing else of them runs.
 use super::*;
 
 // A law is an empty function: its contract says it all, and the call shows that it can be called.

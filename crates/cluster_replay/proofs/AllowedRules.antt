@@ -4,10 +4,9 @@ use Rattle.std.specs.Prelude.{if◌then◌else◌, is_some, nat_lt, nat_le, nat_
 use Rattle.std.specs.List.{list_all, Contains}
 use Rattle.std.proofs.lemmas.Bool.{and_parts, and_from}
 use Rattle.std.proofs.lemmas.List.Elements.{Contains-append_right}
-use Rattle.voting_config.specs.Ids.{Id, is_id, has, same, same_config, with_id, is_quorum_of, most_ids, IsIdSet}
+use Rattle.voting_config.specs.Ids.{Id, is_id, has, same, same_config, with_id, is_quorum_of, most_ids, IsIdSet, among, has_room}
 use Rattle.bootstrap.specs.Decisions.{decision_of}
 use Rattle.peer_finder.specs.Peers.{answered_set}
-use Rattle.reconfigurator.specs.Targets.{among}
 use Rattle.cluster_state.specs.Fields.{ids as ids_field}
 use Rattle.cluster_state.specs.JoinCheck.{is_empty}
 use Rattle.cluster_state.specs.States.{id_of, state as state_field}
@@ -48,7 +47,7 @@ use Rattle.world_model.specs.declared.acts.Outcome.TheVariants.{Answered}
 use Rattle.world_model.specs.NodeState.{NodeState}
 use Rattle.world_model.specs.Replies.{reply_at, is_taken, after_check, start_checked, start_reply, value_reply, publish_reply, response_reply, commits, last_number}
 use Rattle.world_model.specs.Histories.{sent_by}
-use Rattle.world_model.proofs.Guards.{same_is}
+use Rattle.voting_config.proofs.Sets.{same_is}
 use Rattle.policy_model.specs.declared.settings.Settings.{Settings}
 use Rattle.policy_model.specs.declared.events.Mode.{Mode}
 use Rattle.policy_model.specs.declared.events.Mode.TheVariants.{Candidate, Leader, Follower}
@@ -218,9 +217,9 @@ module _ (s : Settings) where
 
 -- ---- what an act sends that is taken
 
-unless-stopped : (b : Bool) (r : Reply) (ns : List Message) → (is_taken r ≡ true → sent_by (Answered r) ≡ ns) → is_taken (cond b Stopped r) ≡ true → sent_by (Answered (cond b Stopped r)) ≡ ns
-unless-stopped true r ns f e = absurd (cc)
-unless-stopped false r ns f e = f e
+unless-halted : (b : Bool) (r : Reply) (ns : List Message) → (is_taken r ≡ true → sent_by (Answered r) ≡ ns) → is_taken (cond b Stopped r) ≡ true → sent_by (Answered (cond b Stopped r)) ≡ ns
+unless-halted true r ns f e = absurd (cc)
+unless-halted false r ns f e = f e
 
 unless-refused : (b : Bool) (c : Cause) (r : Reply) (ns : List Message) → (is_taken r ≡ true → sent_by (Answered r) ≡ ns) → is_taken (cond b (Refused c) r) ≡ true → sent_by (Answered (cond b (Refused c) r)) ≡ ns
 unless-refused true c r ns f e = absurd (cc)
@@ -236,25 +235,25 @@ known ms ns m e = subst (λ (xs : List Message). Contains (ms ++ xs) m) (sym e) 
 start-sends : (me : Id) (p : NodeState) (c : Id) (t : ℕ) → is_taken (reply_at me p (StartJoin c t)) ≡ true → sent_by (Answered (reply_at me p (StartJoin c t))) ≡ JoinMessage (joins.join_from me c t (id_of p.accepted)) ∷ []
 start-sends me p c t e =
     let m : Message = JoinMessage (joins.join_from me c t (id_of p.accepted)) in
-    unless-stopped p.stopped (start_reply me p c t) (m ∷ []) (unless-checked StartRefused (start_checked p t) (Taken (Some m) false) (m ∷ []) (λ h. refl)) e
+    unless-halted p.halted (start_reply me p c t) (m ∷ []) (unless-checked StartRefused (start_checked p t) (Taken (Some m) false) (m ∷ []) (λ h. refl)) e
 
 value-sends : (me : Id) (p : NodeState) (version : ℕ) (config : List Id) (value : ClusterValue) → is_taken (reply_at me p (Value version config value)) ≡ true
     → sent_by (Answered (reply_at me p (Value version config value))) ≡ PublishMessage (record { source = me; state = record { term = p.term; version = version; config = config; committed = p.committed; value = value } }) ∷ []
 value-sends me p version config value e =
     let m : Message = PublishMessage (record { source = me; state = record { term = p.term; version = version; config = config; committed = p.committed; value = value } }) in
     let f : Reply = Taken (Some m) false in
-    let r5 : Reply = cond (not (is_quorum_of config p.votes)) (Refused (ValueRefused value_cause.NoJoinQuorum)) f in
+    let r5 : Reply = cond (not (is_quorum_of config p.join_votes)) (Refused (ValueRefused value_cause.NoJoinQuorum)) f in
     let r4 : Reply = cond (not (same_config config p.accepted.config) && not (same_config p.committed p.accepted.config)) (Refused (ValueRefused value_cause.Reconfiguring)) r5 in
     let r3 : Reply = cond (nat_lt last_number version) (Refused (ValueRefused (value_cause.VersionTooLarge version))) r4 in
-    let r2 : Reply = cond (nat_le version p.version) (Refused (ValueRefused (value_cause.VersionNotGreater p.version version))) r3 in
-    let r1 : Reply = cond (not (nat_eq p.version p.accepted.version)) (Refused (ValueRefused (value_cause.NotAccepted p.version p.accepted.version))) r2 in
-    unless-stopped p.stopped (value_reply me p version config value) (m ∷ [])
-    (unless-refused (not p.won) (ValueRefused value_cause.NotWon) r1 (m ∷ [])
-    (unless-refused (not (nat_eq p.version p.accepted.version)) (ValueRefused (value_cause.NotAccepted p.version p.accepted.version)) r2 (m ∷ [])
-    (unless-refused (nat_le version p.version) (ValueRefused (value_cause.VersionNotGreater p.version version)) r3 (m ∷ [])
+    let r2 : Reply = cond (nat_le version p.published_version) (Refused (ValueRefused (value_cause.VersionNotGreater p.published_version version))) r3 in
+    let r1 : Reply = cond (not (nat_eq p.published_version p.accepted.version)) (Refused (ValueRefused (value_cause.NotAccepted p.published_version p.accepted.version))) r2 in
+    unless-halted p.halted (value_reply me p version config value) (m ∷ [])
+    (unless-refused (not p.election_won) (ValueRefused value_cause.NotWon) r1 (m ∷ [])
+    (unless-refused (not (nat_eq p.published_version p.accepted.version)) (ValueRefused (value_cause.NotAccepted p.published_version p.accepted.version)) r2 (m ∷ [])
+    (unless-refused (nat_le version p.published_version) (ValueRefused (value_cause.VersionNotGreater p.published_version version)) r3 (m ∷ [])
     (unless-refused (nat_lt last_number version) (ValueRefused (value_cause.VersionTooLarge version)) r4 (m ∷ [])
     (unless-refused (not (same_config config p.accepted.config) && not (same_config p.committed p.accepted.config)) (ValueRefused value_cause.Reconfiguring) r5 (m ∷ [])
-    (unless-refused (not (is_quorum_of config p.votes)) (ValueRefused value_cause.NoJoinQuorum) f (m ∷ []) (λ h. refl))))))) e
+    (unless-refused (not (is_quorum_of config p.join_votes)) (ValueRefused value_cause.NoJoinQuorum) f (m ∷ []) (λ h. refl))))))) e
 
 publish-sends : (me : Id) (p : NodeState) (source : Id) (state : ClusterState) → is_taken (reply_at me p (Publish (record { source = source; state = state }))) ≡ true
     → sent_by (Answered (reply_at me p (Publish (record { source = source; state = state })))) ≡ ResponseMessage (record { source = me; target = source; term = state.term; version = state.version }) ∷ []
@@ -262,15 +261,15 @@ publish-sends me p source state e =
     let m : Message = ResponseMessage (record { source = me; target = source; term = state.term; version = state.version }) in
     let f : Reply = Taken (Some m) false in
     let r1 : Reply = cond (nat_eq state.term p.accepted.term && nat_le state.version p.accepted.version) (Refused (PublishRefused (publish_cause.VersionNotGreater p.accepted.version state.version))) f in
-    unless-stopped p.stopped (publish_reply me p (record { source = source; state = state })) (m ∷ [])
+    unless-halted p.halted (publish_reply me p (record { source = source; state = state })) (m ∷ [])
     (unless-refused (not (nat_eq p.term state.term)) (PublishRefused (publish_cause.TermMismatch p.term state.term)) r1 (m ∷ [])
     (unless-refused (nat_eq state.term p.accepted.term && nat_le state.version p.accepted.version) (PublishRefused (publish_cause.VersionNotGreater p.accepted.version state.version)) f (m ∷ []) (λ h. refl))) e
 
 -- a response that commits
 
-commits-stopped : (b : Bool) (r : Reply) (ns : List Message) → (publications.commits_now r ≡ true → sent_by (Answered r) ≡ ns) → publications.commits_now (cond b Stopped r) ≡ true → sent_by (Answered (cond b Stopped r)) ≡ ns
-commits-stopped true r ns f e = absurd (cc)
-commits-stopped false r ns f e = f e
+commits-halted : (b : Bool) (r : Reply) (ns : List Message) → (publications.commits_now r ≡ true → sent_by (Answered r) ≡ ns) → publications.commits_now (cond b Stopped r) ≡ true → sent_by (Answered (cond b Stopped r)) ≡ ns
+commits-halted true r ns f e = absurd (cc)
+commits-halted false r ns f e = f e
 
 commits-refused : (b : Bool) (c : Cause) (r : Reply) (ns : List Message) → (publications.commits_now r ≡ true → sent_by (Answered r) ≡ ns) → publications.commits_now (cond b (Refused c) r) ≡ true → sent_by (Answered (cond b (Refused c) r)) ≡ ns
 commits-refused true c r ns f e = absurd (cc)
@@ -284,16 +283,16 @@ response-sends : (me : Id) (p : NodeState) (source : Id) (id : StateId) → publ
     → sent_by (Answered (reply_at me p (Response (record { source = source; target = me; term = id.term; version = id.version })))) ≡ CommitMessage (record { source = me; term = id.term; version = id.version }) ∷ []
 response-sends me p source id e =
     let m : Message = CommitMessage (record { source = me; term = id.term; version = id.version }) in
-    let f : Reply = Taken (cond (commits p (with_id source p.acks)) (Some m) None) false in
-    let r3 : Reply = cond (not (nat_eq p.version id.version)) (Refused (ResponseRefused (response_cause.VersionMismatch p.version id.version))) f in
+    let f : Reply = Taken (cond (commits p (with_id source p.publish_votes)) (Some m) None) false in
+    let r3 : Reply = cond (not (nat_eq p.published_version id.version)) (Refused (ResponseRefused (response_cause.VersionMismatch p.published_version id.version))) f in
     let r2 : Reply = cond (not (nat_eq p.term id.term)) (Refused (ResponseRefused (response_cause.TermMismatch p.term id.term))) r3 in
-    let r1 : Reply = cond (not p.won) (Refused (ResponseRefused response_cause.NotWon)) r2 in
-    commits-stopped p.stopped (response_reply me p (record { source = source; target = me; term = id.term; version = id.version })) (m ∷ [])
+    let r1 : Reply = cond (not p.election_won) (Refused (ResponseRefused response_cause.NotWon)) r2 in
+    commits-halted p.halted (response_reply me p (record { source = source; target = me; term = id.term; version = id.version })) (m ∷ [])
     (commits-refused (not (same me me)) (ResponseRefused (response_cause.NotForMe me)) r1 (m ∷ [])
-    (commits-refused (not p.won) (ResponseRefused response_cause.NotWon) r2 (m ∷ [])
+    (commits-refused (not p.election_won) (ResponseRefused response_cause.NotWon) r2 (m ∷ [])
     (commits-refused (not (nat_eq p.term id.term)) (ResponseRefused (response_cause.TermMismatch p.term id.term)) r3 (m ∷ [])
-    (commits-refused (not (nat_eq p.version id.version)) (ResponseRefused (response_cause.VersionMismatch p.version id.version)) f (m ∷ [])
-    (commits-some (commits p (with_id source p.acks)) m))))) e
+    (commits-refused (not (nat_eq p.published_version id.version)) (ResponseRefused (response_cause.VersionMismatch p.published_version id.version)) f (m ∷ [])
+    (commits-some (commits p (with_id source p.publish_votes)) m))))) e
 
 -- the first configuration is the initial names, among which the node is
 
@@ -384,9 +383,9 @@ module _ (s : Settings) (mine : is_id s.me ≡ true) (initial : IsIdSet s.initia
   -- joins
   allowed-leads : (ms : List Message) (v : View) → FitView v → IsAllowed s ms v (joins.leads s v)
   allowed-leads ms v f =
-      let all : list_all is_id (s.me ∷ v.node.votes) ≡ true = and_from (is_id s.me) (list_all is_id v.node.votes) mine f.node.votes.each in
+      let all : list_all is_id (s.me ∷ v.node.join_votes) ≡ true = and_from (is_id s.me) (list_all is_id v.node.join_votes) mine f.node.votes.each in
       let g : FitView (turned v Leader v.node.term) = fit-turned v Leader v.node.term f in
-      ByTurn ms v Leader v.node.term _ (ByNote ms _ (Joined (s.me ∷ v.node.votes)) _ all (allowed-goes_on ms _ (fit-noted s (turned v Leader v.node.term) (Joined (s.me ∷ v.node.votes)) g all)))
+      ByTurn ms v Leader v.node.term _ (ByNote ms _ (Joined (s.me ∷ v.node.join_votes)) _ all (allowed-goes_on ms _ (fit-noted s (turned v Leader v.node.term) (Joined (s.me ∷ v.node.join_votes)) g all)))
 
   allowed-takes_member : (ms : List Message) (v : View) (p : Id) → FitView v → is_id p ≡ true → IsAllowed s ms v (joins.takes_member s v p)
   allowed-takes_member ms v p f h =
@@ -400,7 +399,7 @@ module _ (s : Settings) (mine : is_id s.me ≡ true) (initial : IsIdSet s.initia
   allowed-takes_join : (ms : List Message) (v : View) (p : Id) (term : ℕ) (last : StateId) → FitView v → is_id p ≡ true → Contains ms (JoinMessage (joins.join_from p s.me term last)) → IsAllowed s ms v (joins.takes_join s v p term last)
   allowed-takes_join ms v p term last f h sent =
       let act : Act = TakeJoin (joins.join_from p s.me term last) in
-      allowed-when ms v (joins.fits v.node.votes p) _ []
+      allowed-when ms v (has_room v.node.join_votes p) _ []
       (λ e. ByAct ms v act _ refl sent (h, e) (allowed-after_join _ v (doing.after_act s v act) act p (fit-acted s v act (Answered (doing.reply_now s v act)) f (h, e)) h)) (Ended ms v)
 
   allowed-joined : (ms : List Message) (v : View) (p : Id) (term : ℕ) (last : StateId) → FitView v → is_id p ≡ true → Contains ms (JoinMessage (joins.join_from p s.me term last)) → IsAllowed s ms v (joins.is_joined s v p term last)
@@ -437,7 +436,7 @@ module _ (s : Settings) (mine : is_id s.me ≡ true) (initial : IsIdSet s.initia
   allowed-counts_response : (ms : List Message) (v : View) (p : Id) (id : StateId) → Contains ms (ResponseMessage (record { source = p; target = s.me; term = id.term; version = id.version })) → IsAllowed s ms v (publications.counts_response s v p id)
   allowed-counts_response ms v p id sent =
       let act : Act = Response (record { source = p; target = s.me; term = id.term; version = id.version }) in
-      allowed-when ms v (doing.is_leader v.mode && is_some v.publication && joins.fits v.node.acks p) _ []
+      allowed-when ms v (doing.is_leader v.mode && is_some v.publication && has_room v.node.publish_votes p) _ []
       (λ h. ByAct ms v act _ refl sent tt
       (allowed-when _ _ (publications.commits_now (doing.reply_now s v act)) _ []
       (λ e. allowed-sends_commit _ (doing.after_act s v act) (publications.is_commit_sent v.publication) p id (known ms _ _ (response-sends s.me v.node p id e)))

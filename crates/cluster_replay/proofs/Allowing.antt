@@ -5,7 +5,7 @@ use Rattle.std.specs.Prelude.{nat_lt}
 use Rattle.std.specs.List.{list_all, flat_map, AllByRecursion, Contains}
 use Rattle.std.proofs.lemmas.Bool.{and_parts, and_from}
 use Rattle.std.proofs.lemmas.List.Elements.{Contains-append_left}
-use Rattle.voting_config.specs.Ids.{Id, is_id, has, with_id, most_ids, IsIdSet}
+use Rattle.voting_config.specs.Ids.{Id, is_id, has, with_id, most_ids, IsIdSet, has_room}
 use Rattle.cluster_state.specs.Fields.{ids}
 use Rattle.cluster_state.specs.States.{state as state_field, value as value_field}
 use Rattle.cluster_state.specs.Initial.{initial_state}
@@ -34,7 +34,7 @@ use Rattle.policy_model.specs.declared.events.Mode.TheVariants.{Candidate, Leade
 use Rattle.policy_model.specs.declared.events.DropCause.{DropCause}
 use Rattle.policy_model.specs.Events.{Note, Met, Heard, PeersAsked, ElectionOff, ElectionSet, RoundBegun, RoundAnswered, RoundEnded, Joined, FollowersChecked, FollowerAnswered, LeaderChecked, LeaderAnswered, Queued, ExclusionsTimedOut, CommitAcked, ExclusionsAcked, StateMade, HandedOver, Item, Opens, Begins, Acts, Turns, Drops, Sends, Replies, Notes}
 use Rattle.policy_model.specs.Entries.{frames_in}
-use Rattle.policy_model.specs.Joins.{fits, join_from}
+use Rattle.policy_model.specs.Joins.{join_from}
 use Rattle.policy_model.specs.Parts.{all_to_be_added, as_master}
 use Rattle.policy_model.specs.Views.{View}
 use Rattle.policy_model.specs.Moves.{moved, moved_all, acted, turned, noted}
@@ -47,7 +47,7 @@ use Rattle.cluster_replay.proofs.NextFits.{fit-either, fit-initial, fit-state, I
 -- of the acts, what is accepted and who voted
 pub record FitNode (p : NodeState) : Type 0 where
   pub accepted : FitAccepted p.accepted
-  pub votes : IsIdSet p.votes
+  pub votes : IsIdSet p.join_votes
 
 pub record FitView (v : View) : Type 0 where
   pub node : FitNode v.node
@@ -56,7 +56,7 @@ pub record FitView (v : View) : Type 0 where
 -- what an act keeps fits, and whom it counts
 abbrev pub FitAct : NodeState → Act → Type 0
 FitAct p (Bootstrap config) = (ids most_ids).Fits config
-FitAct p (TakeJoin join) = (is_id join.source ≡ true) × (fits p.votes join.source ≡ true)
+FitAct p (TakeJoin join) = (is_id join.source ≡ true) × (has_room p.join_votes join.source ≡ true)
 FitAct p (Value version config value) = (ids most_ids).Fits config × value_field.Fits value
 FitAct p (Publish request) = state_field.Fits request.state
 FitAct p other = Unit {0}
@@ -105,7 +105,7 @@ pub data IsAllowed (s : Settings) : List Message → View → List Item → Type
   ByDrop : (ms : List Message) (v : View) (member : Id) (cause : DropCause) (is : List Item) → IsAllowed s ms (moved s v (Drops member cause)) is → IsAllowed s ms v (Drops member cause ∷ is)
   ByNote : (ms : List Message) (v : View) (note : Note) (is : List Item) → FitNote note → IsAllowed s ms (noted s v note) is → IsAllowed s ms v (Notes note ∷ is)
 
--- the messages that were sent behind them
+-- the messages that were sent after them
 abbrev pub sent_after : List Message → List Item → List Message
 sent_after ms [] = ms
 sent_after ms (Acts act o ∷ is) = sent_after (ms ++ sent_by o) is
@@ -128,7 +128,7 @@ set-either : (b : Bool) (xs ys : List Id) → IsIdSet xs → IsIdSet ys → IsId
 set-either true xs ys f g = f
 set-either false xs ys f g = g
 
-set-counted : (votes : List Id) (x : Id) → IsIdSet votes → is_id x ≡ true → fits votes x ≡ true → IsIdSet (with_id x votes)
+set-counted : (votes : List Id) (x : Id) → IsIdSet votes → is_id x ≡ true → has_room votes x ≡ true → IsIdSet (with_id x votes)
 set-counted votes x s h f = from (has x votes) refl f
   where
     from : (b : Bool) → has x votes ≡ b → (b || nat_lt (length votes) most_ids) ≡ true → IsIdSet (with_id x votes)
@@ -137,8 +137,8 @@ set-counted votes x s h f = from (has x votes) refl f
 
 fit-act : (p : NodeState) (act : Act) (o : Outcome) → FitNode p → FitAct p act → FitNode (node_state_after p act o)
 fit-act p (Bootstrap config) o f a = record { accepted = fit-either (is_effective o) (initial_state config) p.accepted (fit-initial config a) f.accepted; votes = f.votes }
-fit-act p (StartJoin candidate term) o f a = record { accepted = f.accepted; votes = set-either (is_ok o) [] p.votes none_set f.votes }
-fit-act p (TakeJoin join) o f a = record { accepted = f.accepted; votes = set-either (is_ok o) (with_id join.source p.votes) p.votes (set-counted p.votes join.source f.votes a.0 a.1) f.votes }
+fit-act p (StartJoin candidate term) o f a = record { accepted = f.accepted; votes = set-either (is_ok o) [] p.join_votes none_set f.votes }
+fit-act p (TakeJoin join) o f a = record { accepted = f.accepted; votes = set-either (is_ok o) (with_id join.source p.join_votes) p.join_votes (set-counted p.join_votes join.source f.votes a.0 a.1) f.votes }
 fit-act p (Value version config value) o f a = record { accepted = f.accepted; votes = f.votes }
 fit-act p (Publish request) o f a =
     record { accepted = fit-either (is_effective o) request.state p.accepted (fit-state request.state a) f.accepted; votes = f.votes }
@@ -203,7 +203,7 @@ fit-moved s ms v is (ByTurn ms' v' mode term rest a) f = fit-moved s _ _ rest a 
 fit-moved s ms v is (ByDrop ms' v' member cause rest a) f = fit-moved s _ _ rest a (record { node = f.node; tasks = record { additions = f.tasks.additions; waiting = f.tasks.waiting } })
 fit-moved s ms v is (ByNote ms' v' note rest n a) f = fit-moved s _ _ rest a (fit-noted s v' note f n)
 
--- ---- the frames behind them
+-- ---- the frames after them
 
 pub frames-sent : (s : Settings) (ms : List Message) (v : View) (is : List Item) → is_id s.me ≡ true → IsAllowed s ms v is → AllByRecursion (IsGoodFrame (sent_after ms is)) (flat_map frames_in is)
 frames-sent s ms v is me (Ended ms' v') = tt

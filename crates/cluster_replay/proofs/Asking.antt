@@ -11,16 +11,16 @@ use Rattle.serde_json.specs.Data.{Data, Items, no_items, item}
 use Rattle.serde_json.specs.Events.{items_len}
 use Rattle.serde_json.specs.Find.{get, as_str, as_array, as_bool}
 use Rattle.serde_json.specs.Read.{read}
-use Rattle.voting_config.specs.Ids.{Id, is_id, is_id_byte, most_ids, IsIdSet}
+use Rattle.voting_config.specs.Ids.{Id, is_id, is_id_byte, most_ids, IsIdSet, set_of}
 use Rattle.voting_config.specs.Parse.{parsed, all_good}
 use Rattle.voting_config.specs.declared.node_id.IdError.TheVariants.{Empty, TooLong as IdTooLong}
 use Rattle.voting_config.proofs.Parsing.{none_bad}
-use Rattle.reconfigurator.proofs.Kept.{length-set_of-take}
+use Rattle.voting_config.proofs.Sets.{length-set_of-take}
 use Rattle.cluster_state.specs.declared.request.Ask.TheVariants as ask
 use Rattle.cluster_state.specs.declared.request.Request.{Request}
 use Rattle.cluster_state.specs.declared.reply.LineFault.TheVariants.{TooLong}
 use Rattle.client_lines.specs.Reading.{line_request, json_of, value_request, shaped}
-use Rattle.client_lines.specs.Requests.{node_set_of, request_of, id_of, ask_of, put_of, remove_of, exclude_of, clear_of, state_of, has_members, node_ids_of, node_id_of, as_set, are_distinct, set_of, text_at}
+use Rattle.client_lines.specs.Requests.{node_set_of, request_of, id_of, ask_of, put_of, remove_of, exclude_of, clear_of, state_of, has_members, node_ids_of, node_id_of, as_set, are_distinct, text_at}
 use Rattle.cluster_replay.proofs.Fits.{no_ids, ids-fold, few_ids}
 use Rattle.cluster_replay.proofs.JsonTexts.{IsTextData, got, read_text, str_text}
 use Rattle.cluster_replay.proofs.NextFits.{IsGoodAsk}

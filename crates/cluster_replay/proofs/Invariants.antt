@@ -7,7 +7,7 @@ use Rattle.voting_config.specs.Ids.{Id, is_id, has, same, before, IsIdSet}
 use Rattle.wire_frames.specs.declared.frame.Frame.{Frame}
 use Rattle.world_model.specs.declared.acts.Message.{Message}
 use Rattle.world_model.specs.Histories.{sent}
-use Rattle.world_model.proofs.Guards.{same_is}
+use Rattle.voting_config.proofs.Sets.{same_is}
 use Rattle.replay_node.specs.NodeWorld.{NodeWorld, needs_opening}
 use Rattle.replay_node.specs.Worlds.{World, node_world}
 use Rattle.policy_model.specs.declared.settings.Settings.{Settings}
@@ -33,7 +33,7 @@ pub record Ready (s : Settings) (life : Life) : Type 0 where
   pub unstruck : is_struck life ≡ false
   pub view : FitView (view_of s (log_of life))
 
--- a node with this life, of which the history and its disk tell this
+-- a node with this life, of which the history and its disk say this
 pub record SoundNode (s : Settings) (life : Life) (x : NodeWorld) : Type 0 where
   pub follows : Follows s life
   pub acts : acts_of (log_of life) ≡ x.acts
@@ -143,7 +143,7 @@ module _ (s : Settings) (mine : is_id s.me ≡ true) (initial : IsIdSet s.initia
   pub event_plays : Played s w (And (log_of life) (Begins e)) items course
   event_plays = plays s (sent w.history) w (And (log_of life) (Begins e)) (view_of s (And (log_of life) (Begins e))) items allowed refl refl sound waits.acts waits.runs
 
-  -- the look-backs behind the event
+  -- the look-backs after the event
   fit_after : FitView (view_of s (log_of (Lived life (Did e items))))
   fit_after =
       let own = own-answered s (view_of s (And (log_of life) (Begins e))) items (answered-next s (view_of s (And (log_of life) (Begins e))) e) in

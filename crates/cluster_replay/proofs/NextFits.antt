@@ -3,12 +3,11 @@ use Rattle.std.proofs.Common.{◌≡◌, ℕ, ◌+◌, ◌-◌, ◌%◌, ◌≤�
 use Rattle.std.specs.Prelude.{IfSome, if◌then◌else◌}
 use Rattle.std.specs.List.{list_all, AllByRecursion}
 use Rattle.std.proofs.lemmas.Bool.{and_parts, and_from}
-use Rattle.voting_config.specs.Ids.{Id, is_id, has, with_id, without_id, most_ids, same_config, is_quorum_of, union_count_of, IsIdSet}
-use Rattle.reconfigurator.specs.Targets.{among, outside, set_of, odd_of, least_size, size_of, candidates_of, chosen_of, target_of}
-use Rattle.reconfigurator.proofs.Kept.{length-set_of-take}
+use Rattle.voting_config.specs.Ids.{Id, is_id, has, with_id, without_id, most_ids, same_config, is_quorum_of, union_count_of, IsIdSet, among, outside, set_of, union}
+use Rattle.reconfigurator.specs.Targets.{odd_of, least_size, size_of, candidates_of, chosen_of, target_of}
+use Rattle.voting_config.proofs.Sets.{length-set_of-take}
 use Rattle.exclusions.specs.declared.AddError.TheVariants.{TooMany}
 use Rattle.exclusions.specs.declared.StillMember.{StillMember}
-use Rattle.exclusions.specs.Sets.{union}
 use Rattle.exclusions.specs.Exclusions.{most_exclusions, cleared_of, together, unless_missing}
 use Rattle.cluster_state.specs.declared.state.ClusterState.{ClusterState}
 use Rattle.cluster_state.specs.declared.state.ClusterValue.{ClusterValue}

@@ -11,15 +11,15 @@ use Rattle.world_model.specs.declared.acts.Reply.TheVariants.{Taken, Refused, St
 use Rattle.world_model.specs.declared.acts.Outcome.{Outcome}
 use Rattle.world_model.specs.declared.acts.Outcome.TheVariants.{Answered, Disk, Crashed}
 use Rattle.world_model.specs.Acts.{NodeHistory, Then, is_opening}
-use Rattle.world_model.specs.NodeState.{NodeState, node_state, stopped_of}
+use Rattle.world_model.specs.NodeState.{NodeState, node_state, halted_of}
 use Rattle.world_model.specs.Histories.{node_history, sent, sent_by, IsSourced}
 use Rattle.world_model.specs.Replies.{reply_at, reply_of, is_taken, writes, IsOutcome}
-use Rattle.replay_node.specs.NodeDisk.{CallsEnd, Done, Failed, StoppedIn}
-use Rattle.replay_node.specs.NodeWorld.{act_called, after_act, is_stop, needs_opening, outcome_at, outcome_by}
+use Rattle.replay_node.specs.NodeDisk.{CallsEnd, Done, Failed, CrashedIn}
+use Rattle.replay_node.specs.NodeWorld.{act_called, after_act, ends_in_a_crash, needs_opening, outcome_at, outcome_by}
 use Rattle.replay_node.specs.Worlds.{World, node_world, did}
 use Rattle.replay_node.proofs.MayAct.{may_act}
 use Rattle.replay_node.proofs.Moves.{NodeMoves, moves_did, node_history-own}
-use Rattle.replay_node.proofs.StateSteps.{stopped_then, stopped_disk}
+use Rattle.replay_node.proofs.StateSteps.{halted_then, halted_disk}
 use Rattle.replay_node.proofs.NodeSound.{IsFitAct}
 use Rattle.policy_model.specs.declared.settings.Settings.{Settings}
 use Rattle.policy_model.specs.Events.{Item, Opens, Begins, Acts, Turns, Drops, Sends, Replies, Notes, Log, And, added, acts_of}
@@ -85,7 +85,7 @@ pub record Whole (s : Settings) (w : World) (is : List Item) (c : Course) : Type
   pub runs : needs_opening (node_world c.world s.me) ≡ false
   pub sent_is : sent c.world.history ≡ sent_after (sent w.history) is
 
--- an act was struck, nothing was sent, and the node is down or stopped
+-- an act was struck, nothing was sent, and the node is down or halted
 pub record Cut (s : Settings) (is : List Item) (c : Course) : Type 0 where
   pub struck : IsStruck is c.items
   pub stops : needs_opening (node_world c.world s.me) ≡ true
@@ -98,7 +98,7 @@ pub record Played (s : Settings) (w : World) (l : Log) (is : List Item) (c : Cou
   pub covers : Covers (sent w.history) (sent c.world.history)
   pub ends : ((c.struck ≡ false) × Whole s w is c) ⊎ ((c.struck ≡ true) × Cut s is c)
 
--- an item in front, by which the world before came to this one
+-- an item before the others, by which the world before came to this one
 in_front : (s : Settings) (before w : World) (l : Log) (i : Item) (is : List Item) (c : Course) → sent_after (sent w.history) is ≡ sent_after (sent before.history) (i ∷ is)
     → ((m : Id) → same s.me m ≡ false → node_world w m ≡ node_world before m) → Covers (sent before.history) (sent w.history) → Played s w (And l i) is c → Played s before l (i ∷ is) (behind i c)
 in_front s before w l i is c sent_is others covers p = from p.ends
@@ -154,10 +154,10 @@ module _ (s : Settings) (w : World) (act : Act) (sound : SoundWorld s.initial w)
   end_is = (act_called s.me (node_world w s.me) act).ended
 
   up : w.down s.me ≡ false
-  up = (or_false (w.down s.me) (stopped_of g) running).0
+  up = (or_false (w.down s.me) (halted_of g) running).0
 
-  going : stopped_of g ≡ false
-  going = (or_false (w.down s.me) (stopped_of g) running).1
+  going : halted_of g ≡ false
+  going = (or_false (w.down s.me) (halted_of g) running).1
 
   did_sound : SoundWorld s.initial (did w s.me act)
   did_sound = subst (λ (b : Bool). SoundWorld s.initial (if b then w else did w s.me act)) up (acted s.initial w s.me act sound sourced o fit)
@@ -168,8 +168,8 @@ module _ (s : Settings) (w : World) (act : Act) (sound : SoundWorld s.initial w)
   outcome_may : IsOutcome s.me g act (outcome_at s.me (node_world w s.me) act)
   outcome_may = (may_act s.initial w s.me act ((sound.nodes s.me).up up) sourced o).follows.follows
 
-  needs_by : (end : CallsEnd) → end_is ≡ end → needs_opening (node_world (did w s.me act) s.me) ≡ (is_stop end || stopped_of (Then g act (outcome_by end reply)))
-  needs_by end e = ap needs_opening did_moves.own ∙ ap (λ (x : CallsEnd). is_stop x || stopped_of (Then g act (outcome_by x reply))) e
+  needs_by : (end : CallsEnd) → end_is ≡ end → needs_opening (node_world (did w s.me act) s.me) ≡ (ends_in_a_crash end || halted_of (Then g act (outcome_by end reply)))
+  needs_by end e = ap needs_opening did_moves.own ∙ ap (λ (x : CallsEnd). ends_in_a_crash x || halted_of (Then g act (outcome_by x reply))) e
 
   history_by : (end : CallsEnd) → end_is ≡ end → node_history (did w s.me act).history s.me ≡ Then g act (outcome_by end reply)
   history_by end e = node_history-own w.history s.me act _ ∙ ap (λ (x : CallsEnd). Then g act (outcome_by x reply)) e
@@ -182,7 +182,7 @@ module _ (s : Settings) (w : World) (act : Act) (sound : SoundWorld s.initial w)
 
   -- the disk strikes it
   struck_act : (l : Log) (rest : List Item) (end : CallsEnd) (fault : Outcome) → end_is ≡ end → outcome_by end reply ≡ fault → is_fault fault ≡ true → (is_taken reply ≡ true) × (writes act ≡ true)
-      → (is_stop end || stopped_of (Then g act (outcome_by end reply))) ≡ true → acts_of l ≡ g
+      → (ends_in_a_crash end || halted_of (Then g act (outcome_by end reply))) ≡ true → acts_of l ≡ g
       → Played s w l (Acts act (Answered reply) ∷ rest) (record { items = Acts act (outcome_by end reply) ∷ []; world = did w s.me act; struck = true })
   struck_act l rest end fault e is f t stops acts = record {
     sound = did_sound;
@@ -216,12 +216,12 @@ module _ (s : Settings) (w : World) (act : Act) (sound : SoundWorld s.initial w)
           (ap (λ (x : Reply). ms ++ sent_by (Answered x)) same_reply ∙ ap (λ (xs : List Message). xs ++ sent_by (Answered reply)) same_sent ∙ sym (sent_by_end Done e))
           did_sound
           (ap (λ (x : NodeHistory). Then x act (Answered r)) acts ∙ ap (λ (x : Reply). Then g act (Answered x)) same_reply ∙ sym (history_by Done e))
-          (needs_by Done e ∙ stopped_then g act reply o ∙ going)
+          (needs_by Done e ∙ halted_then g act reply o ∙ going)
           in
           in_front s w u l (Acts act (Answered reply)) rest (played s.me u rest) (ap (λ (xs : List Message). sent_after xs rest) (sent_by_end Done e)) did_moves.others did_covers
           (subst (λ (x : Reply). Played s u (And l (Acts act (Answered x))) rest (played s.me u rest)) same_reply there)
-      by_end Failed e = struck_act l rest Failed (Disk false) e refl refl (struck_outcome Failed e) (stopped_disk g act false o) acts
-      by_end (StoppedIn way) e = struck_act l rest (StoppedIn way) (Crashed false) e refl refl (struck_outcome (StoppedIn way) e) refl acts
+      by_end Failed e = struck_act l rest Failed (Disk false) e refl refl (struck_outcome Failed e) (halted_disk g act false o) acts
+      by_end (CrashedIn way) e = struck_act l rest (CrashedIn way) (Crashed false) e refl refl (struck_outcome (CrashedIn way) e) refl acts
 
 -- ---- all items
 

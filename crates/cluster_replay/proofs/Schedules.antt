@@ -20,7 +20,7 @@ use Rattle.world_model.specs.Acts.{NodeHistory, NoActs, Then}
 use Rattle.world_model.specs.NodeState.{durable_of}
 use Rattle.world_model.specs.Histories.{History, node_history, sent, IsLocal, ContinuesUnlessFirst}
 use Rattle.world_model.proofs.Assemble.{legal_is}
-use Rattle.replay_node.specs.NodeDisk.{CallsEnd, Done, Failed, StoppedIn, opening}
+use Rattle.replay_node.specs.NodeDisk.{CallsEnd, Done, Failed, CrashedIn, opening}
 use Rattle.replay_node.specs.NodeLines.{after_stop}
 use Rattle.replay_node.specs.NodeWorld.{NodeWorld, acts_reopened, after_crash, after_opening, after_order, found_at, needs_opening, opened_by as node_opened}
 use Rattle.replay_node.specs.Settled.{is_kept, settled}
@@ -129,7 +129,7 @@ module _ (nodes initial : List Id) (ids : IsIdSet nodes) (set : IsIdSet initial)
       from : (end : CallsEnd) → sent (history_opened end c.world.history n (found_at (node_world c.world n))) ≡ sent c.world.history
       from Done = append-nil _ ∙ settled_sent n _ c.world.history
       from Failed = refl
-      from (StoppedIn way) = refl
+      from (CrashedIn way) = refl
 
   line_restart : (n : Id) (c : Cluster) → has n nodes ≡ true → SoundCluster nodes initial c → SoundCluster nodes initial (after_restart (settings_of nodes initial n) c)
   line_restart n c listed h = from (needs_opening (node_world c.world n)) refl
@@ -218,7 +218,7 @@ module _ (nodes initial : List Id) (ids : IsIdSet nodes) (set : IsIdSet initial)
       by_end : needs_opening (node_world c.world n) ≡ true → (end : CallsEnd) → (opening (node_world c.world n).disk).ended ≡ end → SoundCluster nodes initial (opened_by (settings_of nodes initial n) end c)
       by_end needs Done e = done needs e
       by_end needs Failed e = stays needs ((moves needs).own ∙ ap (λ (end : CallsEnd). node_opened end (node_world c.world n).acts (opening (node_world c.world n).disk).disk found) e)
-      by_end needs (StoppedIn way) e = stays needs ((moves needs).own ∙ ap (λ (end : CallsEnd). node_opened end (node_world c.world n).acts (opening (node_world c.world n).disk).disk found) e)
+      by_end needs (CrashedIn way) e = stays needs ((moves needs).own ∙ ap (λ (end : CallsEnd). node_opened end (node_world c.world n).acts (opening (node_world c.world n).disk).disk found) e)
 
       from : (b : Bool) → needs_opening (node_world c.world n) ≡ b → SoundCluster nodes initial (if b then opened_by (settings_of nodes initial n) (opening (node_world c.world n).disk).ended c else c)
       from false runs = h

@@ -1,4 +1,4 @@
--- What holds of each schedule of whole nodes, as statements. Part of the statement.
+-- For the contracts inside: what holds of each schedule of whole nodes, as statements. The contract of `run` says the same of its schedule.
 use Rattle.std.specs.Prelude.{◌≡◌, true}
 use Rattle.std.specs.List.{AllByRecursion}
 use Rattle.voting_config.specs.Ids.{Id, IsIdSet, has}
@@ -34,7 +34,7 @@ LawLivesFollow =
     (s : Schedule) → IsWellFormed s → (n : Id) → has n s.nodes ≡ true
     → IsLifeIn (replayed_history s) (settings_of s.nodes s.initial n) (replayed_life s n)
 
--- whatever the lines stop, fail and restart, and wherever in a device call
+-- whatever the lines crash, fail and restart, and wherever in a device call
 abbrev pub LawClusterReplayIsLegal : Type 0
 LawClusterReplayIsLegal = (s : Schedule) → IsWellFormed s → IsLegal s.initial (replayed_history s)
 

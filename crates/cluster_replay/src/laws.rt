@@ -1,7 +1,7 @@
 //! What holds of each schedule of whole nodes. The calls do nothing: what they promise is proved.
 ghost use Rattle.cluster_replay.specs.Laws.{LawClusterRepliesAreTrue, LawClusterReplayIsLegal, LawLivesFollow};
 
-/// Wherever its nodes stop and their disks fail, each node of a schedule lives by the policy, and the history has just
+/// Wherever its nodes crash and their disks fail, each node of a schedule lives by the policy, and the history has just
 /// the acts of these lives.
 pub fn law_lives_follow()
     ensures { LawLivesFollow }

@@ -1,4 +1,4 @@
--- Whether a state that is published would be refused.
+-- For the contracts inside: whether a state that is published would be refused.
 use Rattle.std.specs.Prelude.{◌≡◌, true, cond, not, ◌&&◌, Result, Ok, Err, nat_le, nat_eq}
 use Rattle.cluster_state.specs.declared.state.ClusterState.{ClusterState}
 use Rattle.cluster_state.specs.declared.state.Kept.{Kept}
@@ -18,7 +18,7 @@ publish_checked kept s =
     (cond (nat_eq s.term kept.accepted.term && nat_le s.version kept.accepted.version) (Err (VersionNotGreater kept.accepted.version s.version))
     (Ok tt))
 
--- the answer tells whether a publication is taken, and how it is refused
+-- the answer says whether a publication is taken, and how it is refused
 abbrev pub Foretells : Result (Unit {0}) (ActError PublishCause (Unit {0})) → Reply → Type 0
 Foretells (Ok u) reply = is_taken reply ≡ true
 Foretells (Err (error.Stopped u)) reply = reply ≡ Stopped

@@ -1,4 +1,4 @@
--- The answer of a call, as the outcome of the act.
+-- For the contracts inside: the answer of a call, as the outcome of the act.
 use Rattle.std.specs.Prelude.{◌≡◌, false, Option, None, Some, Result, Ok, Err}
 use Rattle.cluster_state.specs.declared.messages.Join.{Join}
 use Rattle.cluster_state.specs.declared.messages.PublishRequest.{PublishRequest}

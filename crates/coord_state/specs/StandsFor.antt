@@ -1,4 +1,4 @@
--- When a node's fields stand for its acts so far, and what an act makes of them.
+-- For the contracts inside: when a node's fields stand for its acts so far, and what an act makes of them.
 use Rattle.std.specs.Prelude.{◌≡◌, ℕ, ◌≤◌, Bool, true, false}
 use Rattle.std.proofs.Common.{subst, sym, ◌∙◌, ap}
 use Rattle.zen_disk.specs.Faults.{Rose}
@@ -12,19 +12,19 @@ use Rattle.world_model.specs.Steps.{node_state_after, node_state-Then, is_openin
 use Rattle.coord_state.specs.declared.coord.CoordState.{CoordState}
 
 module _ {K : Type 0} (record_of : K → Kept) (has_stopped : K → Bool) (faults : K → ℕ) where
-  -- the node's state, as its fields tell it
+  -- the node's state, as its fields show it
   abbrev pub fields_of : CoordState K → NodeState
   fields_of c = record {
     term = (record_of c.keeper).term;
     accepted = (record_of c.keeper).accepted;
     committed = (record_of c.keeper).committed;
-    started = c.started;
-    votes = c.votes;
-    won = c.won;
-    version = c.version;
-    config = c.config;
-    acks = c.acks;
-    stopped = has_stopped c.keeper;
+    started_join = c.started_join;
+    join_votes = c.join_votes;
+    election_won = c.election_won;
+    published_version = c.published_version;
+    published_config = c.published_config;
+    publish_votes = c.publish_votes;
+    halted = has_stopped c.keeper;
   }
 
   -- the fields are what the acts so far make of a node
@@ -46,7 +46,7 @@ module _ {K : Type 0} (record_of : K → Kept) (has_stopped : K → Bool) (fault
     pub answers : (g : NodeHistory) → StandsFor old g → IsOutcome old.me g act outcome
     pub stands : (g : NodeHistory) → StandsFor old g → StandsFor new (Then g act outcome)
 
-  -- what is told by the fields holds of all acts that they stand for
+  -- what is said of the fields holds of all acts that they stand for
   pub acts : (old new : CoordState K) (act : Act) (outcome : Outcome) → is_opening act ≡ false → ActsAt old new act outcome → Acts old new act outcome
   acts old new act outcome h a = record {
     at = a;

@@ -1,4 +1,4 @@
--- What an act writes, and what a crash during it leaves.
+-- Part of the statement: what an act writes, and what a crash during it leaves.
 use Rattle.std.specs.Prelude.{◌≡◌, Bool, true, false, Option, None, Some}
 use Rattle.cluster_state.specs.Initial.{initial_state}
 use Rattle.cluster_state.specs.declared.state.Kept.{Kept}

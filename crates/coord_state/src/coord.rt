@@ -1,3 +1,4 @@
+//! `CoordState`: what one node answers to each of the seven acts, and what it is after them. An act that writes has written before it answers.
 ghost use Rattle.std.specs.Prelude.{◌≡◌, ℕ, ◌<◌, ◌≤◌, ◌^◌, Bool, false, true, ◌&&◌, ◌⊎◌, ◌↔◌, Option, Some, length};
 ghost use Rattle.voting_config.specs.Ids.{Id, has, is_quorum_of, most_ids};
 ghost use Rattle.zen_disk.specs.Moments.{LeavesOnly, Same};
@@ -46,12 +47,12 @@ pub struct Joined {
 pub struct CoordState<K> {
     me: NodeId,
     keeper: K,
-    started: bool,
-    won: bool,
-    votes: JoinVotes,
-    version: u64,
-    config: VotingConfig,
-    acks: JoinVotes,
+    started_join: bool,
+    election_won: bool,
+    join_votes: JoinVotes,
+    published_version: u64,
+    published_config: VotingConfig,
+    publish_votes: JoinVotes,
 }
 
 // Whether the votes are a quorum of the committed and of the accepted configuration.
@@ -122,38 +123,38 @@ impl<K: Keeper> CoordState<K> {
 
     /// Whether the node has started a join since it was opened.
     pub fn started(&self) -> bool
-        ensures { result ≡ self.now.started }
+        ensures { result ≡ self.now.started_join }
     {
-        self.started
+        self.started_join
     }
 
     /// Whether the node has won the election of its current term.
     pub fn won(&self) -> bool
-        ensures { result ≡ self.now.won }
+        ensures { result ≡ self.now.election_won }
     {
-        self.won
+        self.election_won
     }
 
     /// The sources of the joins counted in this round.
     pub fn votes(&self) -> NodeSet
-        ensures { result ≡ self.now.votes }
+        ensures { result ≡ self.now.join_votes }
     {
-        self.votes.sources()
+        self.join_votes.sources()
     }
 
     /// The sources of the responses counted since the last value was published.
     pub fn acks(&self) -> NodeSet
-        ensures { result ≡ self.now.acks }
+        ensures { result ≡ self.now.publish_votes }
     {
-        self.acks.sources()
+        self.publish_votes.sources()
     }
 
     /// The version and the configuration that were published last.
     pub fn published(&self) -> (u64, &VotingConfig)
-        ensures version { result.0 ≡ self.now.version }
-        ensures config { result.1.now ≡ self.now.config }
+        ensures version { result.0 ≡ self.now.published_version }
+        ensures config { result.1.now ≡ self.now.published_config }
     {
-        (self.version, &self.config)
+        (self.published_version, &self.published_config)
     }
 
     /// What keeps the node's record.
@@ -180,12 +181,12 @@ impl<K: Keeper> CoordState<K> {
         CoordState {
             me,
             keeper,
-            started: false,
-            won: false,
-            votes: JoinVotes::new(),
-            version: 0,
-            config: VotingConfig::of(&NodeSet::new()),
-            acks: JoinVotes::new(),
+            started_join: false,
+            election_won: false,
+            join_votes: JoinVotes::new(),
+            published_version: 0,
+            published_config: VotingConfig::of(&NodeSet::new()),
+            publish_votes: JoinVotes::new(),
         }
     }
 
@@ -213,12 +214,12 @@ impl<K: Keeper> CoordState<K> {
         let Ok(()) = self.keeper.set_term(term) else {
             return Err(ActError::Disk);
         };
-        self.started = true;
-        self.won = false;
-        self.votes = JoinVotes::new();
-        self.version = 0;
-        self.config = config;
-        self.acks = JoinVotes::new();
+        self.started_join = true;
+        self.election_won = false;
+        self.join_votes = JoinVotes::new();
+        self.published_version = 0;
+        self.published_config = config;
+        self.publish_votes = JoinVotes::new();
         Ok(Join {
             source: self.me,
             target: from,
@@ -255,7 +256,7 @@ impl<K: Keeper> CoordState<K> {
     /// Counts a join. The node wins the election where it has not won yet and its votes are now a quorum both of the
     /// committed configuration and of the accepted state's.
     pub fn join(&mut self, j: &Join) -> Result<Joined, ActError<JoinCause, ()>>
-        requires { (has j.now.source self.old.votes ≡ true) ⊎ (length self.old.votes < most_ids) }
+        requires { (has j.now.source self.old.join_votes ≡ true) ⊎ (length self.old.join_votes < most_ids) }
         ensures act { Acts K.record_of K.has_stopped K.faults self.old self.new (act.TakeJoin j.now) (join_outcome result) }
         ensures wrote { WritesBy K.writes self.old.keeper (act.TakeJoin j.now) self.new.keeper (join_outcome result) }
         ensures any_moment { K.told → (g : NodeHistory) → StandsFor K.record_of K.has_stopped K.faults self.old g → LeavesOnly K.moment K.left_since self.old.keeper self.new.keeper (IsDuring g (act.TakeJoin j.now)) }
@@ -269,17 +270,17 @@ impl<K: Keeper> CoordState<K> {
             kept.term,
             kept.accepted.id(),
             &kept.accepted.config,
-            self.started,
+            self.started_join,
             j,
         ) {
             return Err(ActError::Refused(cause, ()));
         }
-        self.votes.add(j.source);
-        if self.won || !is_elected(kept, &self.votes) {
+        self.join_votes.add(j.source);
+        if self.election_won || !is_elected(kept, &self.join_votes) {
             return Ok(Joined { won: false });
         }
-        self.version = kept.accepted.version;
-        self.won = true;
+        self.published_version = kept.accepted.version;
+        self.election_won = true;
         Ok(Joined { won: true })
     }
 
@@ -302,18 +303,18 @@ impl<K: Keeper> CoordState<K> {
         }
         let kept = self.keeper.kept();
         let accepted = kept.accepted.version;
-        if !self.won {
+        if !self.election_won {
             return Err(ActError::Refused(ValueCause::NotWon, (config, value)));
         }
-        if self.version != accepted {
+        if self.published_version != accepted {
             return Err(ActError::Refused(
-                ValueCause::NotAccepted(self.version, accepted),
+                ValueCause::NotAccepted(self.published_version, accepted),
                 (config, value),
             ));
         }
-        if version <= self.version {
+        if version <= self.published_version {
             return Err(ActError::Refused(
-                ValueCause::VersionNotGreater(self.version, version),
+                ValueCause::VersionNotGreater(self.published_version, version),
                 (config, value),
             ));
         }
@@ -325,12 +326,12 @@ impl<K: Keeper> CoordState<K> {
         {
             return Err(ActError::Refused(ValueCause::Reconfiguring, (config, value)));
         }
-        if !config.is_quorum(self.votes.ids()) {
+        if !config.is_quorum(self.join_votes.ids()) {
             return Err(ActError::Refused(ValueCause::NoJoinQuorum, (config, value)));
         }
-        self.version = version;
-        self.config = VotingConfig::of(config.members());
-        self.acks = JoinVotes::new();
+        self.published_version = version;
+        self.published_config = VotingConfig::of(config.members());
+        self.publish_votes = JoinVotes::new();
         Ok(PublishRequest {
             source: self.me,
             state: ClusterState {
@@ -392,7 +393,7 @@ impl<K: Keeper> CoordState<K> {
         &mut self,
         r: &PublishResponse,
     ) -> Result<Option<ApplyCommit>, ActError<ResponseCause, ()>>
-        requires { (has r.now.source self.old.acks ≡ true) ⊎ (length self.old.acks < most_ids) }
+        requires { (has r.now.source self.old.publish_votes ≡ true) ⊎ (length self.old.publish_votes < most_ids) }
         ensures act { Acts K.record_of K.has_stopped K.faults self.old self.new (act.Response r.now) (response_outcome result) }
         ensures wrote { WritesBy K.writes self.old.keeper (act.Response r.now) self.new.keeper (response_outcome result) }
         ensures any_moment { K.told → (g : NodeHistory) → StandsFor K.record_of K.has_stopped K.faults self.old g → LeavesOnly K.moment K.left_since self.old.keeper self.new.keeper (IsDuring g (act.Response r.now)) }
@@ -404,20 +405,22 @@ impl<K: Keeper> CoordState<K> {
         if r.target != self.me {
             return Err(ActError::Refused(ResponseCause::NotForMe(r.target), ()));
         }
-        if !self.won {
+        if !self.election_won {
             return Err(ActError::Refused(ResponseCause::NotWon, ()));
         }
         if kept.term != r.term {
             return Err(ActError::Refused(ResponseCause::TermMismatch(kept.term, r.term), ()));
         }
-        if self.version != r.version {
+        if self.published_version != r.version {
             return Err(ActError::Refused(
-                ResponseCause::VersionMismatch(self.version, r.version),
+                ResponseCause::VersionMismatch(self.published_version, r.version),
                 (),
             ));
         }
-        self.acks.add(r.source);
-        if kept.committed.is_quorum(self.acks.ids()) && self.config.is_quorum(self.acks.ids()) {
+        self.publish_votes.add(r.source);
+        if kept.committed.is_quorum(self.publish_votes.ids())
+            && self.published_config.is_quorum(self.publish_votes.ids())
+        {
             Ok(Some(ApplyCommit {
                 source: self.me,
                 term: r.term,
@@ -455,9 +458,9 @@ impl<K: Keeper> CoordState<K> {
                 (),
             ));
         }
-        if self.won && accepted.version != self.version {
+        if self.election_won && accepted.version != self.published_version {
             return Err(ActError::Refused(
-                CommitCause::Publishing(accepted.version, self.version),
+                CommitCause::Publishing(accepted.version, self.published_version),
                 (),
             ));
         }

@@ -1,3 +1,4 @@
+//! A node alone, from its first configuration to a commit. What each act promises is proved; these run it.
 ghost use Rattle.std.specs.Prelude.{◌≤◌, ◌^◌};
 ghost use Rattle.cluster_state.specs.States.{IsFit};
 

@@ -24,7 +24,7 @@ pub showing_all-append : (o : Shown) (xs ys : List Item) → showing_all o (xs +
 showing_all-append o [] ys = refl
 showing_all-append o (x ∷ xs) ys = showing_all-append (showing o x) xs ys
 
--- the items in front of a struck rest, without what they would have sent
+-- the items before a struck rest, without what they would have sent
 abbrev pub behind : List Item → List Item → List Item
 behind [] left = left
 behind (i ∷ is) left = without_output i ++ behind is left

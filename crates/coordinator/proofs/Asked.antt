@@ -22,7 +22,7 @@ use Rattle.coordinator.proofs.Composing.{ends_rule}
 use Rattle.coordinator.proofs.Quiet.{makes_note}
 use Rattle.coordinator.proofs.Foreseen.{has_planned}
 
-pub planned_member : (s : Settings) (v : View) (p : Id) (plan : Option Plan) (term : ℕ) (votes : List Id) (copy tasks : Tasks) → term ≡ v.node.term → votes ≡ v.node.votes → copy ≡ v.tasks → tasks ≡ to_be_added copy p
+pub planned_member : (s : Settings) (v : View) (p : Id) (plan : Option Plan) (term : ℕ) (votes : List Id) (copy tasks : Tasks) → term ≡ v.node.term → votes ≡ v.node.join_votes → copy ≡ v.tasks → tasks ≡ to_be_added copy p
     → HasPlan (leader_of s.me term v.node.accepted v.node.committed votes s.shrink) tasks plan → IsPlanned s (moved_all s v (Notes (Joined (p ∷ [])) ∷ [])) plan
 planned_member s v p plan term votes copy tasks term_is votes_is copy_is tasks_is has =
     has_planned s (moved_all s v (Notes (Joined (p ∷ [])) ∷ [])) (leader_of s.me term v.node.accepted v.node.committed votes s.shrink) tasks plan has
@@ -30,13 +30,13 @@ planned_member s v p plan term votes copy tasks term_is votes_is copy_is tasks_i
     (tasks_is ∙ ap (λ (t : Tasks). to_be_added t p) copy_is)
 
 -- a plan of these tasks is a plan of a node that has them
-pub planned_with : (s : Settings) (v : View) (plan : Option Plan) (tasks : Tasks) → HasPlan (leader_of s.me v.node.term v.node.accepted v.node.committed v.node.votes s.shrink) tasks plan → IsPlanned s (record v { tasks = tasks }) plan
-planned_with s v plan tasks has = has_planned s (record v { tasks = tasks }) (leader_of s.me v.node.term v.node.accepted v.node.committed v.node.votes s.shrink) tasks plan has refl refl
+pub planned_with : (s : Settings) (v : View) (plan : Option Plan) (tasks : Tasks) → HasPlan (leader_of s.me v.node.term v.node.accepted v.node.committed v.node.join_votes s.shrink) tasks plan → IsPlanned s (record v { tasks = tasks }) plan
+planned_with s v plan tasks has = has_planned s (record v { tasks = tasks }) (leader_of s.me v.node.term v.node.accepted v.node.committed v.node.join_votes s.shrink) tasks plan has refl refl
 
-pub same_plan : (s : Settings) (v : View) (plan : Option Plan) (term : ℕ) (votes : List Id) (copy tasks : Tasks) → term ≡ v.node.term → votes ≡ v.node.votes → copy ≡ tasks
-    → HasPlan (leader_of s.me term v.node.accepted v.node.committed votes s.shrink) copy plan → HasPlan (leader_of s.me v.node.term v.node.accepted v.node.committed v.node.votes s.shrink) tasks plan
+pub same_plan : (s : Settings) (v : View) (plan : Option Plan) (term : ℕ) (votes : List Id) (copy tasks : Tasks) → term ≡ v.node.term → votes ≡ v.node.join_votes → copy ≡ tasks
+    → HasPlan (leader_of s.me term v.node.accepted v.node.committed votes s.shrink) copy plan → HasPlan (leader_of s.me v.node.term v.node.accepted v.node.committed v.node.join_votes s.shrink) tasks plan
 same_plan s v plan term votes copy tasks term_is votes_is copy_is has =
-    subst (λ (x : ℕ). HasPlan (leader_of s.me x v.node.accepted v.node.committed v.node.votes s.shrink) tasks plan) term_is
+    subst (λ (x : ℕ). HasPlan (leader_of s.me x v.node.accepted v.node.committed v.node.join_votes s.shrink) tasks plan) term_is
     (subst (λ (x : List Id). HasPlan (leader_of s.me term v.node.accepted v.node.committed x s.shrink) tasks plan) votes_is
     (subst (λ (t : Tasks). HasPlan (leader_of s.me term v.node.accepted v.node.committed votes s.shrink) t plan) copy_is has))
 

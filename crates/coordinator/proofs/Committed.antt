@@ -4,8 +4,7 @@ use Rattle.std.specs.Prelude.{if◌then◌else◌, is_some}
 use Rattle.std.proofs.lemmas.List.{append_assoc}
 use Rattle.state_journal.specs.declared.keeper.Keeper.{Ghosts}
 use Rattle.cluster_state.specs.declared.state.StateId.{StateId}
-use Rattle.voting_config.specs.Ids.{Id}
-use Rattle.reconfigurator.specs.Targets.{among}
+use Rattle.voting_config.specs.Ids.{Id, among, has_room}
 use Rattle.wire_frames.specs.declared.frame.Message.TheVariants as message
 use Rattle.master_tasks.specs.Queue.{Tasks}
 use Rattle.master_tasks.specs.Answering.{answers_by, committed_in, without_answered}
@@ -13,7 +12,6 @@ use Rattle.policy_model.specs.declared.settings.Settings.{Settings}
 use Rattle.policy_model.specs.Events.{Item, Notes, CommitAcked}
 use Rattle.policy_model.specs.Views.{View}
 use Rattle.policy_model.specs.Parts.{published_id}
-use Rattle.policy_model.specs.Joins.{fits}
 use Rattle.policy_model.specs.NextState.{responders_of, targets_of}
 use Rattle.policy_model.specs.Doing.{is_leader, reply_all, send_all, reply_now, act_now, after_act}
 use Rattle.policy_model.specs.Publications.{is_commit_sent, commits_now, sends_commit, sends_first_commit, counts_response}
@@ -91,7 +89,7 @@ module _ {K : Type 0} (k : Ghosts K) where
   response_counts old mid o o1 p id commits did = makes_as k old mid o o1 _ _ did (ap (λ (b : Bool). items_by old p id b) (sym commits))
 
   abbrev counts : Coordinator K → Id → Bool
-  counts c p = is_leader c.mode && is_some c.publication && fits c.core.acks p
+  counts c p = is_leader c.mode && is_some c.publication && has_room c.core.publish_votes p
 
   pub counted_whole : (old new : Coordinator K) (o o0 o1 : Shown) (p : Id) (id : StateId) → o0 ≡ o → counts old p ≡ true → Make old new o0 o1 (takes_response old.settings (view old) p id)
       → Make old new o o1 (counts_response old.settings (view old) p id)

@@ -34,7 +34,7 @@ module _ {K : Type 0} (k : Ghosts K) where
   abbrev End : Bool → (old new : Coordinator K) (sent sent_now : Shown) → List Item → Type 0
   End fine old new sent sent_now is = Ends k fine old new sent sent_now is
 
-  -- the view behind more items
+  -- the view after more items
   view_then : (a b c : Coordinator K) (xs ys : List Item) → Go a b xs → Go b c ys → view c ≡ moved_all a.settings (moved_all a.settings (view a) xs) ys
   view_then a b c xs ys first then =
       then.view ∙ ap (λ (s : Settings). moved_all s (view b) ys) first.settings ∙ ap (λ (v : View). moved_all a.settings v ys) first.view
@@ -82,7 +82,7 @@ module _ {K : Type 0} (k : Ghosts K) where
   ends_then a b c o1 o2 o3 xs ys true first then = makes_then a b c o1 o2 o3 xs ys first then
   ends_then a b c o1 o2 o3 xs ys false first then = fails_behind a b c o1 o2 o3 xs ys first then
 
-  -- a rule at the view behind the first
+  -- a rule at the view after the first
   pub ends_rule : (a b c : Coordinator K) (o1 o2 o3 : Shown) (xs : List Item) (rule : Settings → View → List Item) (fine : Bool) → Make a b o1 o2 xs → End fine b c o2 o3 (rule b.settings (view b))
       → End fine a c o1 o3 (then_rule a.settings (view a) xs (rule a.settings))
   ends_rule a b c o1 o2 o3 xs rule fine first then =

@@ -3,7 +3,7 @@ use Rattle.std.proofs.Common.{◌≡◌, ℕ, Bool, true, false, not, ◌&&◌, 
 use Rattle.state_journal.specs.declared.keeper.Keeper.{Ghosts}
 use Rattle.std.specs.Prelude.{if◌then◌else◌, Option}
 use Rattle.cluster_state.specs.declared.state.StateId.{StateId}
-use Rattle.voting_config.specs.Ids.{Id}
+use Rattle.voting_config.specs.Ids.{Id, has_room}
 use Rattle.world_model.specs.declared.acts.Act.{Act}
 use Rattle.world_model.specs.declared.acts.Act.TheVariants.{TakeJoin}
 use Rattle.policy_model.specs.declared.settings.Settings.{Settings}
@@ -11,7 +11,7 @@ use Rattle.policy_model.specs.Events.{Item, Notes, Joined}
 use Rattle.policy_model.specs.Views.{View}
 use Rattle.policy_model.specs.Moves.{moved_all}
 use Rattle.policy_model.specs.Doing.{is_leader, act_now, after_act, takes, reply_now, raises_term}
-use Rattle.policy_model.specs.Joins.{fits, wins_now, join_from, leads, takes_member, takes_join, is_joined}
+use Rattle.policy_model.specs.Joins.{wins_now, join_from, leads, takes_member, takes_join, is_joined}
 use Rattle.coordinator.specs.Plans.{IsPlanned}
 use Rattle.coordinator.specs.Ahead.{ahead_of, winning, IsPlannedAhead, IsPlannedJoin}
 use Rattle.coordinator.specs.Showing.{Shown}
@@ -50,7 +50,7 @@ module _ {K : Type 0} (k : Ghosts K) where
   abbrev Make : (old new : Coordinator K) (sent sent_now : Shown) → List Item → Type 0
   Make old new sent sent_now is = Makes k old new sent sent_now is
 
-  -- a plan at the view behind an act
+  -- a plan at the view after an act
   pub planned_there : (old mid : Coordinator K) (items : List Item) (plan : Option Plan) (there : Settings → View → View) → Goes k old mid items
       → IsPlanned old.settings (there old.settings (moved_all old.settings (view old) items)) plan → IsPlanned mid.settings (there mid.settings (view mid)) plan
   planned_there old mid items plan there goes is =
@@ -67,7 +67,7 @@ module _ {K : Type 0} (k : Ghosts K) where
       let act = joining c p term last in
       if f then act_now s v act ∷ (if w then leads s (after_act s v act) else if m then takes_member s (after_act s v act) p else []) else []
 
-  pub joined_win : (old mid new : Coordinator K) (o o1 o2 : Shown) (p : Id) (term : ℕ) (last : StateId) → fits (view old).node.votes p ≡ true → wins_now (reply_now old.settings (view old) (joining old p term last)) ≡ true
+  pub joined_win : (old mid new : Coordinator K) (o o1 o2 : Shown) (p : Id) (term : ℕ) (last : StateId) → has_room (view old).node.join_votes p ≡ true → wins_now (reply_now old.settings (view old) (joining old p term last)) ≡ true
       → Make old mid o o1 (act_now old.settings (view old) (joining old p term last) ∷ []) → Make mid new o1 o2 (leads mid.settings (view mid))
       → Make old new o o2 (takes_join old.settings (view old) p term last)
   joined_win old mid new o o1 o2 p term last f w did next =
@@ -80,7 +80,7 @@ module _ {K : Type 0} (k : Ghosts K) where
       ∙ ap (λ (b : Bool). items_by old p term last true b (takes s v act && is_leader (after_act s v act).mode)) (sym w)
       ∙ ap (λ (b : Bool). items_by old p term last b (wins_now (reply_now s v act)) (takes s v act && is_leader (after_act s v act).mode)) (sym f))
 
-  pub joined_member : (old mid new : Coordinator K) (o o1 o2 : Shown) (p : Id) (term : ℕ) (last : StateId) → fits (view old).node.votes p ≡ true → wins_now (reply_now old.settings (view old) (joining old p term last)) ≡ false
+  pub joined_member : (old mid new : Coordinator K) (o o1 o2 : Shown) (p : Id) (term : ℕ) (last : StateId) → has_room (view old).node.join_votes p ≡ true → wins_now (reply_now old.settings (view old) (joining old p term last)) ≡ false
       → (takes old.settings (view old) (joining old p term last) && is_leader mid.mode) ≡ true
       → Make old mid o o1 (act_now old.settings (view old) (joining old p term last) ∷ []) → Make mid new o1 o2 (takes_member mid.settings (view mid) p)
       → Make old new o o2 (takes_join old.settings (view old) p term last)
@@ -96,7 +96,7 @@ module _ {K : Type 0} (k : Ghosts K) where
       ∙ ap (λ (b : Bool). items_by old p term last true b (takes s v act && is_leader (after_act s v act).mode)) (sym w)
       ∙ ap (λ (b : Bool). items_by old p term last b (wins_now (reply_now s v act)) (takes s v act && is_leader (after_act s v act).mode)) (sym f))
 
-  pub joined_none : (old mid : Coordinator K) (o o1 : Shown) (p : Id) (term : ℕ) (last : StateId) → fits (view old).node.votes p ≡ true → wins_now (reply_now old.settings (view old) (joining old p term last)) ≡ false
+  pub joined_none : (old mid : Coordinator K) (o o1 : Shown) (p : Id) (term : ℕ) (last : StateId) → has_room (view old).node.join_votes p ≡ true → wins_now (reply_now old.settings (view old) (joining old p term last)) ≡ false
       → (takes old.settings (view old) (joining old p term last) && is_leader mid.mode) ≡ false
       → Make old mid o o1 (act_now old.settings (view old) (joining old p term last) ∷ [])
       → Make old mid o o1 (takes_join old.settings (view old) p term last)
@@ -110,7 +110,7 @@ module _ {K : Type 0} (k : Ghosts K) where
       ∙ ap (λ (b : Bool). items_by old p term last true b (takes s v act && is_leader (after_act s v act).mode)) (sym w)
       ∙ ap (λ (b : Bool). items_by old p term last b (wins_now (reply_now s v act)) (takes s v act && is_leader (after_act s v act).mode)) (sym f))
 
-  -- the plan of before is the plan behind the raised term
+  -- the plan of before is the plan after the raised term
   pub planned_raised : (old mid : Coordinator K) (p : Id) (term : ℕ) (last : StateId) (plan : Option Plan) → Goes k old mid (raises_term old.settings (view old) old.settings.me term)
       → IsPlannedAhead old.settings (view old) (ahead_of (view old) term) p plan → IsPlannedJoin mid.settings (view mid) p (joining mid p term last) plan
   planned_raised old mid p term last plan goes is =
@@ -118,15 +118,15 @@ module _ {K : Type 0} (k : Ghosts K) where
       (subst (λ (v : View). IsPlannedJoin old.settings v p (TakeJoin (join_from p old.settings.me term last)) plan) (sym goes.view)
       (planned_behind old.settings (view old) term p plan (join_from p old.settings.me term last) refl refl is))
 
-  -- the plan that is needed behind a join that wins, and behind one that is counted by a leader
+  -- the plan that is needed after a join that wins, and after one that is counted by a leader
   pub plan_for_win : (old mid : Coordinator K) (o o1 : Shown) (p : Id) (term : ℕ) (last : StateId) (plan : Option Plan) → IsPlannedJoin old.settings (view old) p (joining old p term last) plan
-      → Make old mid o o1 (act_now old.settings (view old) (joining old p term last) ∷ []) → fits (view old).node.votes p ≡ true → wins_now (reply_now old.settings (view old) (joining old p term last)) ≡ true
+      → Make old mid o o1 (act_now old.settings (view old) (joining old p term last) ∷ []) → has_room (view old).node.join_votes p ≡ true → wins_now (reply_now old.settings (view old) (joining old p term last)) ≡ true
       → IsPlanned mid.settings (moved_all mid.settings (view mid) (winning mid.settings (view mid))) plan
   plan_for_win old mid o o1 p term last plan is did f w =
       planned_there old mid (act_now old.settings (view old) (joining old p term last) ∷ []) plan (λ s v. moved_all s v (winning s v)) did.goes (is.wins f w)
 
   pub plan_for_member : (old mid : Coordinator K) (o o1 : Shown) (p : Id) (term : ℕ) (last : StateId) (plan : Option Plan) → IsPlannedJoin old.settings (view old) p (joining old p term last) plan
-      → Make old mid o o1 (act_now old.settings (view old) (joining old p term last) ∷ []) → fits (view old).node.votes p ≡ true → wins_now (reply_now old.settings (view old) (joining old p term last)) ≡ false
+      → Make old mid o o1 (act_now old.settings (view old) (joining old p term last) ∷ []) → has_room (view old).node.join_votes p ≡ true → wins_now (reply_now old.settings (view old) (joining old p term last)) ≡ false
       → takes old.settings (view old) (joining old p term last) ≡ true → is_leader mid.mode ≡ true
       → IsPlanned mid.settings (moved_all mid.settings (view mid) (Notes (Joined (p ∷ [])) ∷ [])) plan
   plan_for_member old mid o o1 p term last plan is did f w t l =

@@ -73,18 +73,18 @@ own_struck items left (Later i rest left' q) own =
 pub own_next : (s : Settings) (v : View) (event : Event) → are_own (next_of s v event) ≡ true
 own_next s v event = own-answered s v (next_of s v event) (answered-next s v event)
 
-stopped_by : (p : NodeState) (act : Act) (o : Outcome) → writes act ≡ true → is_disk o ≡ true → (node_state_after p act o).stopped ≡ true
-stopped_by p (Bootstrap config) o w d = rw d refl
-stopped_by p (StartJoin candidate term) o w d = rw d refl
-stopped_by p (TakeJoin join) o w d = cc
-stopped_by p (Value version config value) o w d = cc
-stopped_by p (Publish request) o w d = rw d refl
-stopped_by p (Response response) o w d = cc
-stopped_by p (Commit commit) o w d = rw d refl
-stopped_by p (Open found) o w d = cc
+halted_by : (p : NodeState) (act : Act) (o : Outcome) → writes act ≡ true → is_disk o ≡ true → (node_state_after p act o).halted ≡ true
+halted_by p (Bootstrap config) o w d = rw d refl
+halted_by p (StartJoin candidate term) o w d = rw d refl
+halted_by p (TakeJoin join) o w d = cc
+halted_by p (Value version config value) o w d = cc
+halted_by p (Publish request) o w d = rw d refl
+halted_by p (Response response) o w d = cc
+halted_by p (Commit commit) o w d = rw d refl
+halted_by p (Open found) o w d = cc
 
 -- an act that met no fault leaves the node running
-running_by : (p : NodeState) (act : Act) (o : Outcome) → is_fault o ≡ false → (node_state_after p act o).stopped ≡ p.stopped
+running_by : (p : NodeState) (act : Act) (o : Outcome) → is_fault o ≡ false → (node_state_after p act o).halted ≡ p.halted
 running_by p (Bootstrap config) (Answered reply) f = refl
 running_by p (StartJoin candidate term) (Answered reply) f = refl
 running_by p (TakeJoin join) (Answered reply) f = refl
@@ -205,7 +205,7 @@ module _ {K : Type 0} (k : Ghosts K) where
   did_run old new (Begins event ∷ is) f did = absurd did
   did_run old new (Acts act o ∷ is) f did =
       let parts = no_fault (is_fault o) (has_fault is) f in
-      did_run did.0 new is parts.1 did.2 ∙ ap (λ (n : NodeState). n.stopped) did.1.acts.at.after ∙ running_by (fields_of k.record_of k.has_stopped k.faults old) act o parts.0
+      did_run did.0 new is parts.1 did.2 ∙ ap (λ (n : NodeState). n.halted) did.1.acts.at.after ∙ running_by (fields_of k.record_of k.has_stopped k.faults old) act o parts.0
   did_run old new (Turns mode term ∷ is) f did = did_run old new is f did
   did_run old new (Drops member cause ∷ is) f did = did_run old new is f did
   did_run old new (Sends frame ∷ is) f did = did_run old new is f did
@@ -213,19 +213,19 @@ module _ {K : Type 0} (k : Ghosts K) where
   did_run old new (Notes note ∷ is) f did = did_run old new is f did
 
   -- a struck node writes no more
-  pub did_stops : (old new : CoordState K) (items left : List Item) → IsStruck items left → Did old new left → k.has_stopped new.keeper ≡ true
-  did_stops old new items left (Here act sends wins rest fault w f) did =
+  pub did_halts : (old new : CoordState K) (items left : List Item) → IsStruck items left → Did old new left → k.has_stopped new.keeper ≡ true
+  did_halts old new items left (Here act sends wins rest fault w f) did =
       ap (λ (c : CoordState K). k.has_stopped c.keeper) did.2
-      ∙ ap (λ (n : NodeState). n.stopped) did.1.acts.at.after
-      ∙ stopped_by (fields_of k.record_of k.has_stopped k.faults old) act fault w (disk_of fault f did.1.acts.at.runs)
-  did_stops old new items left (Later (Opens found) rest left' q) did = absurd did
-  did_stops old new items left (Later (Begins event) rest left' q) did = absurd did
-  did_stops old new items left (Later (Acts act o) rest left' q) did = did_stops did.0 new rest left' q did.2
-  did_stops old new items left (Later (Turns mode term) rest left' q) did = did_stops old new rest left' q did
-  did_stops old new items left (Later (Drops member cause) rest left' q) did = did_stops old new rest left' q did
-  did_stops old new items left (Later (Sends frame) rest left' q) did = did_stops old new rest left' q did
-  did_stops old new items left (Later (Replies answer) rest left' q) did = did_stops old new rest left' q did
-  did_stops old new items left (Later (Notes note) rest left' q) did = did_stops old new rest left' q did
+      ∙ ap (λ (n : NodeState). n.halted) did.1.acts.at.after
+      ∙ halted_by (fields_of k.record_of k.has_stopped k.faults old) act fault w (disk_of fault f did.1.acts.at.runs)
+  did_halts old new items left (Later (Opens found) rest left' q) did = absurd did
+  did_halts old new items left (Later (Begins event) rest left' q) did = absurd did
+  did_halts old new items left (Later (Acts act o) rest left' q) did = did_halts did.0 new rest left' q did.2
+  did_halts old new items left (Later (Turns mode term) rest left' q) did = did_halts old new rest left' q did
+  did_halts old new items left (Later (Drops member cause) rest left' q) did = did_halts old new rest left' q did
+  did_halts old new items left (Later (Sends frame) rest left' q) did = did_halts old new rest left' q did
+  did_halts old new items left (Later (Replies answer) rest left' q) did = did_halts old new rest left' q did
+  did_halts old new items left (Later (Notes note) rest left' q) did = did_halts old new rest left' q did
 
   -- the rules' items are the event's, from the moment on at which it begins
   passes_of : (old mid new : Coordinator K) (event : Event) (items : List Item) → mid.settings ≡ old.settings → mid.core ≡ old.core → view_in k mid ≡ begun (view_in k old) event

@@ -49,22 +49,22 @@ moved-acks s u =
     let answers = answers_by (exclusion_done u.node.committed (id_of u.node.accepted)) u.tasks.waiting in
     moved_all-append s u (reply_all s answers) (Notes ExclusionsAcked ∷ []) ∙ ap (λ (x : View). moved s x (Notes ExclusionsAcked)) (moved_all-replies s u answers)
 
--- the plan of before is the plan behind the commit
+-- the plan of before is the plan after the commit
 commit_planned : (s : Settings) (v : View) (c : ApplyCommit) (plan : Option Plan) → takes s v (Commit c) ≡ true → is_leader v.mode ≡ true → IsPlannedCommit s v plan
     → IsPlanned s (moved_all s (after_act s v (Commit c)) (acks_exclusions s (after_act s v (Commit c)))) plan
 commit_planned s v c plan t l is =
     let u = after_act s v (Commit c) in
     let committed = committed_after v.node c (reply_now s v (Commit c)) t in
     subst (λ (w : View). IsPlanned s w plan) (sym (moved-acks s u))
-    (has_planned s (moved s u (Notes ExclusionsAcked)) (leader_of s.me v.node.term v.node.accepted v.node.accepted.config v.node.votes s.shrink)
+    (has_planned s (moved s u (Notes ExclusionsAcked)) (leader_of s.me v.node.term v.node.accepted v.node.accepted.config v.node.join_votes s.shrink)
     (without_answered (exclusion_done v.node.accepted.config (id_of v.node.accepted)) v.tasks) plan (is l)
-    (ap (λ (x : List Id). leader_of s.me v.node.term v.node.accepted x v.node.votes s.shrink) (sym committed))
+    (ap (λ (x : List Id). leader_of s.me v.node.term v.node.accepted x v.node.join_votes s.shrink) (sym committed))
     (ap (λ (x : List Id). without_answered (exclusion_done x (id_of v.node.accepted)) v.tasks) (sym committed)))
 
 pub commit_unplanned : (s : Settings) (v : View) → is_leader v.mode ≡ false → IsPlannedCommit s v None
 commit_unplanned s v l = λ h. absurd (differ h l)
 
-pub plan_commit_some : (s : Settings) (v : View) (plan : Plan) (term : ℕ) (accepted : ClusterState) (votes : List Id) (id : StateId) (copy tasks : Tasks) → term ≡ v.node.term → accepted ≡ v.node.accepted → votes ≡ v.node.votes → id ≡ id_of accepted → copy ≡ v.tasks
+pub plan_commit_some : (s : Settings) (v : View) (plan : Plan) (term : ℕ) (accepted : ClusterState) (votes : List Id) (id : StateId) (copy tasks : Tasks) → term ≡ v.node.term → accepted ≡ v.node.accepted → votes ≡ v.node.join_votes → id ≡ id_of accepted → copy ≡ v.tasks
     → tasks ≡ without_answered (exclusion_done accepted.config id) copy → IsPlan (leader_of s.me term accepted accepted.config votes s.shrink) tasks plan → IsPlannedCommit s v (Some plan)
 plan_commit_some s v plan term accepted votes id copy tasks term_is accepted_is votes_is id_is copy_is tasks_is is =
     let tasks_here : tasks ≡ without_answered (exclusion_done accepted.config (id_of accepted)) v.tasks =

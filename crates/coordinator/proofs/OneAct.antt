@@ -113,7 +113,7 @@ module _ {K : Type 0} (k : Ghosts K) where
   ends_told old new act (Disk true) sent sent_now ready did is_told settings moment_is is shown = absurd (true≢false is_told)
   ends_told old new act (Crashed b) sent sent_now ready did is_told settings moment_is is shown = absurd is_told
 
-  -- an act, however it ended: the outcome that was told is the core's
+  -- an act, however it ended: the outcome that was reported is the core's
   pub ends_act : (old new : Coordinator K) (act : Act) (o told : Outcome) (r : Result Bool Struck) (sent sent_now : Shown) → IsReady old → Act1 old.core new.core act o → told ≡ o → IsTold told
       → new.settings ≡ old.settings → new.moment ≡ old.moment → view new ≡ acted old.settings (view old) act o → sent_now ≡ showing sent (Acts act told) → r ≡ verdict told
       → Ends k (is_ok r) old new sent sent_now (act_now old.settings (view old) act ∷ [])
@@ -143,7 +143,7 @@ module _ {K : Type 0} (k : Ghosts K) where
       makes_by old new act reply sent sent_now ready (subst (λ (x : Outcome). Act1 old.core new.core act x) here did) settings moment_is
       (subst (λ (x : Outcome). view new ≡ acted old.settings (view old) act x) here is) (shown ∙ ap (λ (x : Outcome). showing sent (Acts act x)) (same ∙ here))
 
-  -- what is told of the outcome is told of the reply
+  -- what is said of the outcome is said of the reply
   pub taken_now : (old : Coordinator K) (core : CoordState K) (act : Act) (o told : Outcome) (r : Bool) → IsReady old → writes act ≡ false → Act1 old.core core act o → told ≡ o → r ≡ was_taken told → r ≡ takes old.settings (view old) act
   taken_now old core act o told r ready none did same r_is =
       r_is ∙ ap (λ (x : Outcome). was_taken x) (same ∙ answered old core act o ready none did) ∙ taken_so (reply_now old.settings (view old) act)

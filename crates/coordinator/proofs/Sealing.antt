@@ -26,7 +26,7 @@ use Rattle.coordinator.specs.declared.step.Sealed.{Sealed}
 use Rattle.coordinator.specs.declared.step.StepError.{StepError}
 use Rattle.coordinator.specs.declared.step.StepError.TheVariants as step_error
 use Rattle.coordinator.proofs.Appending.{steps-shown, drops-shown}
-use Rattle.coordinator.proofs.Entering.{own_next, own_struck, faultless_next, items_now, enters, did_later, did_rise, did_run, did_stops}
+use Rattle.coordinator.proofs.Entering.{own_next, own_struck, faultless_next, items_now, enters, did_later, did_rise, did_run, did_halts}
 
 frames-shown : (o : Shown) (is : List Item) → (showing_all o is).frames ≡ o.frames ++ flat_map frames_in is
 frames-shown o [] = sym (append-nil o.frames)
@@ -62,15 +62,15 @@ sealed_so event items shown sealed is ordered = record {
   replies = ordered.replies ∙ ap (λ (o : Shown). o.replies) is ∙ replies-shown nothing_shown items;
 }
 
--- an event that was begun is not refused as stopped
-pub sealed_not_stopped : (ended : Result (Unit {0}) EventError) (event : Event) (shown : Shown) (r : Result Sealed StepError) → Seals ended event shown r → r ≡ Err step_error.Stopped → ⊥
-sealed_not_stopped (Ok u) event shown (Ok sealed) seals e = cc
-sealed_not_stopped (Ok u) event shown (Err x) seals e = absurd seals
-sealed_not_stopped (Err error.Struck) event shown (Ok sealed) seals e = absurd seals
-sealed_not_stopped (Err error.Struck) event shown (Err (step_error.Disk entries)) seals e = cc
-sealed_not_stopped (Err error.Struck) event shown (Err step_error.Stopped) seals e = absurd seals
-sealed_not_stopped (Err error.Struck) event shown (Err step_error.Memory) seals e = absurd seals
-sealed_not_stopped (Err error.Memory) event shown r seals e = cc
+-- an event that was begun is not refused as `Stopped`
+pub sealed_not_halted : (ended : Result (Unit {0}) EventError) (event : Event) (shown : Shown) (r : Result Sealed StepError) → Seals ended event shown r → r ≡ Err step_error.Stopped → ⊥
+sealed_not_halted (Ok u) event shown (Ok sealed) seals e = cc
+sealed_not_halted (Ok u) event shown (Err x) seals e = absurd seals
+sealed_not_halted (Err error.Struck) event shown (Ok sealed) seals e = absurd seals
+sealed_not_halted (Err error.Struck) event shown (Err (step_error.Disk entries)) seals e = cc
+sealed_not_halted (Err error.Struck) event shown (Err step_error.Stopped) seals e = absurd seals
+sealed_not_halted (Err error.Struck) event shown (Err step_error.Memory) seals e = absurd seals
+sealed_not_halted (Err error.Memory) event shown r seals e = cc
 
 module _ {K : Type 0} (k : Ghosts K) where
   steps_by : (ended : Result (Unit {0}) EventError) (r : Result Sealed StepError) (old new : Coordinator K) (event : Event) (shown : Shown)
@@ -90,7 +90,7 @@ module _ {K : Type 0} (k : Ghosts K) where
     enters = enters k old new event breaks.left (own_struck _ breaks.left breaks.struck (own_next old.settings (begun (view_in k old) event) event)) breaks.passes;
     entries = record { event = seals.event; steps = seals.steps ∙ breaks.steps; drops = seals.drops ∙ ap (λ (l : List MemberDrop). by_member l) breaks.drops };
     rose = did_rise k old.core new.core _ breaks.left breaks.struck breaks.passes.core;
-    stopped = did_stops k old.core new.core _ breaks.left breaks.struck breaks.passes.core;
+    stopped = did_halts k old.core new.core _ breaks.left breaks.struck breaks.passes.core;
   }
   steps_by (Err error.Struck) (Err step_error.Stopped) old new event shown breaks seals up = absurd seals
   steps_by (Err error.Struck) (Err step_error.Memory) old new event shown breaks seals up = absurd seals
@@ -110,7 +110,7 @@ module _ {K : Type 0} (k : Ghosts K) where
       record {
         goes_on = goes_on old new event breaks.left breaks.passes;
         rose = did_rise k old.core new.core items breaks.left breaks.struck breaks.passes.core;
-        stopped = did_stops k old.core new.core items breaks.left breaks.struck breaks.passes.core;
+        stopped = did_halts k old.core new.core items breaks.left breaks.struck breaks.passes.core;
       }
   stays (Err error.Struck) (Err step_error.Stopped) old new event sent shown items breaks seals = absurd seals
   stays (Err error.Struck) (Err step_error.Memory) old new event sent shown items breaks seals = absurd seals

@@ -66,7 +66,7 @@ moved-checks s u =
     ∙ sym (moved-drops s (record u { tasks = all_removed u.tasks (to_drop_for_checks u.followers.watched u.moment) }) (to_drop_for_lag u.followers.watched u.moment) Lag))
     ∙ moved_all-sends s _ (to_ask u.followers.watched u.moment) (message.FollowerCheck u.node.term)
 
--- the plan of before is the plan behind them
+-- the plan of before is the plan after them
 pub tick_planned : (s : Settings) (v : View) (plan : Option Plan) → IsPlannedTick s v plan → IsPlanned s (moved_all s v (ticks_members s v)) plan
 tick_planned s v plan is =
     let u = moved s v (Notes ExclusionsTimedOut) in
@@ -74,13 +74,13 @@ tick_planned s v plan is =
     moved_all-append s v (times_out_exclusions s v) (checks_followers s (moved_all s v (times_out_exclusions s v)))
     ∙ ap (λ (x : View). moved_all s x (checks_followers s x)) (moved-times s v) ∙ moved-checks s u in
     subst (λ (w : View). IsPlanned s w plan) (sym here)
-    (has_planned s (record u { tasks = tasks_ticked v; followers = followers_ticked u.followers u.moment }) (leader_of s.me v.node.term v.node.accepted v.node.committed v.node.votes s.shrink) (tasks_ticked v) plan is refl refl)
+    (has_planned s (record u { tasks = tasks_ticked v; followers = followers_ticked u.followers u.moment }) (leader_of s.me v.node.term v.node.accepted v.node.committed v.node.join_votes s.shrink) (tasks_ticked v) plan is refl refl)
 
 pub planned_tick : (s : Settings) (v : View) (plan : Option Plan) (t3 t2 t1 copy : Tasks) (checks lag committed : List Id) (fs : Followers) → t3 ≡ all_removed t2 lag → t2 ≡ all_removed t1 checks → t1 ≡ without_answered (timed_out committed v.moment) copy → copy ≡ v.tasks
     → committed ≡ v.node.committed → checks ≡ to_drop_for_checks fs.watched v.moment → lag ≡ to_drop_for_lag fs.watched v.moment → fs ≡ v.followers
-    → HasPlan (leader_of s.me v.node.term v.node.accepted v.node.committed v.node.votes s.shrink) t3 plan → IsPlannedTick s v plan
+    → HasPlan (leader_of s.me v.node.term v.node.accepted v.node.committed v.node.join_votes s.shrink) t3 plan → IsPlannedTick s v plan
 planned_tick s v plan t3 t2 t1 copy checks lag committed fs t3_is t2_is t1_is copy_is committed_is checks_are lag_is fs_are has =
-    subst (λ (t : Tasks). HasPlan (leader_of s.me v.node.term v.node.accepted v.node.committed v.node.votes s.shrink) t plan)
+    subst (λ (t : Tasks). HasPlan (leader_of s.me v.node.term v.node.accepted v.node.committed v.node.join_votes s.shrink) t plan)
     (t3_is ∙ ap (λ (t : Tasks). all_removed t lag) (t2_is ∙ ap (λ (t : Tasks). all_removed t checks) (t1_is ∙ ap (λ (c : List Id). without_answered (timed_out c v.moment) copy) committed_is ∙ ap (λ (t : Tasks). without_answered (timed_out v.node.committed v.moment) t) copy_is))
     ∙ ap (λ (x : List Id). all_removed (all_removed (without_answered (timed_out v.node.committed v.moment) v.tasks) x) lag) (checks_are ∙ ap (λ (f : Followers). to_drop_for_checks f.watched v.moment) fs_are)
     ∙ ap (λ (x : List Id). all_removed (all_removed (without_answered (timed_out v.node.committed v.moment) v.tasks) (to_drop_for_checks v.followers.watched v.moment)) x) (lag_is ∙ ap (λ (f : Followers). to_drop_for_lag f.watched v.moment) fs_are))

@@ -1,4 +1,4 @@
--- What a node does once it has accepted a state.
+-- For the contracts inside: what a node does once it has accepted a state.
 use Rattle.std.specs.Prelude.{List, [], ◌∷◌, if◌then◌else◌}
 use Rattle.voting_config.specs.Ids.{Id, same}
 use Rattle.cluster_state.specs.declared.state.StateId.{StateId}

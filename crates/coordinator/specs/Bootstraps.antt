@@ -1,4 +1,4 @@
--- What is made ready for a bootstrap.
+-- For the contracts inside: what is made ready for a bootstrap.
 use Rattle.std.specs.Prelude.{◌≡◌, not, Option, None, Some, IfSome, List}
 use Rattle.voting_config.specs.Ids.{Id}
 use Rattle.bootstrap.specs.Decisions.{decision_of}

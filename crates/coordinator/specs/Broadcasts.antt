@@ -1,4 +1,4 @@
--- A message to several nodes.
+-- For the contracts inside: a message to several nodes.
 use Rattle.wire_frames.specs.declared.frame.Message.{Message}
 use Rattle.wire_frames.specs.declared.frame.Message.TheVariants as message
 use Rattle.coordinator.specs.declared.sending.Broadcast.{Broadcast}

@@ -1,4 +1,4 @@
--- How a response is counted, and what its commit brings.
+-- For the contracts inside: how a response is counted, and what its commit brings.
 use Rattle.std.specs.Prelude.{List, [], ◌∷◌, ◌++◌, if◌then◌else◌}
 use Rattle.voting_config.specs.Ids.{Id}
 use Rattle.cluster_state.specs.declared.state.StateId.{StateId}

@@ -1,4 +1,4 @@
--- When a node does what a rule says.
+-- For the contracts inside: when a node does what a rule says.
 use Rattle.std.specs.Prelude.{◌≡◌, Bool, true, false, Result, Ok, Err, List, ◌++◌}
 use Rattle.state_journal.specs.declared.keeper.Keeper.{Ghosts}
 use Rattle.std.specs.List.{flat_map}

@@ -1,4 +1,4 @@
--- The kinds of messages, in groups.
+-- For the contracts inside: the kinds of messages, in groups.
 use Rattle.std.specs.Prelude.{Bool, true, false}
 use Rattle.wire_frames.specs.declared.frame.Message.{Message}
 use Rattle.wire_frames.specs.declared.frame.Message.TheVariants as message

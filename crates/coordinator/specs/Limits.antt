@@ -1,4 +1,4 @@
--- The limits of what is sealed.
+-- For the contracts inside: the limits of what is sealed.
 use Rattle.std.specs.Prelude.{◌≤◌, length}
 use Rattle.std.specs.List.{AllByRecursion}
 use Rattle.state_journal.specs.declared.keeper.Keeper.{Ghosts}

@@ -1,4 +1,4 @@
--- When a node stands for a life, and what an event adds to it.
+-- For the contracts inside: when a node stands for a life, and what an event adds to it.
 use Rattle.std.specs.Prelude.{◌≡◌, ◌≤◌, ◌↔◌, Option, Some, Result, Ok, Err, List, [], ◌∷◌, ◌++◌}
 use Rattle.std.specs.List.{flat_map}
 use Rattle.zen_disk.specs.Moments.{LeavesOnly}

@@ -1,4 +1,4 @@
--- Elections, and answers to an open round of pre-votes.
+-- For the contracts inside: elections, and answers to an open round of pre-votes.
 use Rattle.std.specs.Prelude.{ℕ, ◌+◌, Option, None, Some, List, [], ◌∷◌, if◌then◌else◌}
 use Rattle.voting_config.specs.Ids.{Id}
 use Rattle.cluster_state.specs.declared.state.StateId.{StateId}

@@ -1,4 +1,4 @@
--- What a whole event comes to.
+-- For the contracts inside: what a whole event comes to.
 use Rattle.std.specs.Prelude.{◌≡◌, ◌≤◌, ℕ, true, false, Result, Ok, Err, List}
 use Rattle.state_journal.specs.declared.keeper.Keeper.{Ghosts}
 use Rattle.zen_disk.specs.Faults.{Rose}

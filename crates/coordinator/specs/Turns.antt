@@ -1,4 +1,4 @@
--- The acts among the items, as calls of the core one after the other.
+-- Part of the statement: the acts among the items, as calls of the core one after the other.
 use Rattle.std.specs.Prelude.{◌≡◌, Option, Some, List, [], ◌∷◌, ◌⊎◌}
 use Rattle.state_journal.specs.declared.keeper.Keeper.{Ghosts}
 use Rattle.zen_disk.specs.Moments.{LeavesOnly}

@@ -1,4 +1,4 @@
--- A node as the rules see it, by its fields.
+-- For the contracts inside: a node as the rules see it, by its fields.
 use Rattle.std.specs.Prelude.{◌≡◌, ◌≤◌}
 use Rattle.state_journal.specs.declared.keeper.Keeper.{Ghosts}
 use Rattle.coord_state.specs.StandsFor.{fields_of}

@@ -1,10 +1,11 @@
 //! The acts of the core, each with its entry.
-ghost use Rattle.std.specs.Prelude.{◌≡◌, ◌≤◌, ◌+◌, ◌<◌, ◌⊎◌, [], ◌∷◌, true, Some, IfOk, is_ok, length, if◌then◌else◌};
+ghost use Rattle.std.specs.Prelude.{◌≡◌, ◌≤◌, ◌<◌, [], ◌∷◌, true, Some, IfOk, is_ok, if◌then◌else◌};
 ghost use Rattle.cluster_state.specs.Initial.{initial_state};
 ghost use Rattle.policy_model.specs.Parts.{published_at, watched, finished, state_finished, responded};
 ghost use Rattle.world_model.specs.declared.acts.Act.TheVariants as act;
 ghost use Rattle.policy_model.specs.Doing.{act_now, reply_now, takes};
-ghost use Rattle.policy_model.specs.Joins.{fits, wins_now};
+ghost use Rattle.voting_config.specs.Ids.{has_room as has_room_of};
+ghost use Rattle.policy_model.specs.Joins.{wins_now};
 ghost use Rattle.policy_model.specs.Publications.{commits_now};
 ghost use Rattle.coordinator.specs.Does.{Does};
 ghost use Rattle.coordinator.specs.Rooms.{Uses};
@@ -78,7 +79,7 @@ impl<K: Keeper> Coordinator<K> {
     pub(crate) fn act_join(&mut self, out: &mut Output, join: &Join) -> Counted
         requires ready { IsReady self.old }
         requires steps { 1 ≤ out.old.steps.room }
-        requires room { fits self.old.core.votes join.now.source ≡ true }
+        requires room { has_room_of self.old.core.join_votes join.now.source ≡ true }
         ensures does { Does K.Keeper self.old self.new out.old out.new (λ s v. act_now s v (act.TakeJoin join.now) ∷ []) true }
         ensures taken { result.taken ≡ takes self.old.settings (view_in K.Keeper self.old) (act.TakeJoin join.now) }
         ensures wins { result.wins ≡ wins_now (reply_now self.old.settings (view_in K.Keeper self.old) (act.TakeJoin join.now)) }
@@ -163,7 +164,7 @@ impl<K: Keeper> Coordinator<K> {
     pub(crate) fn act_response(&mut self, out: &mut Output, response: &PublishResponse) -> bool
         requires ready { IsReady self.old }
         requires steps { 1 ≤ out.old.steps.room }
-        requires room { fits self.old.core.acks response.now.source ≡ true }
+        requires room { has_room_of self.old.core.publish_votes response.now.source ≡ true }
         ensures does { Does K.Keeper self.old self.new out.old out.new (λ s v. act_now s v (act.Response response.now) ∷ []) true }
         ensures commits { result ≡ commits_now (reply_now self.old.settings (view_in K.Keeper self.old) (act.Response response.now)) }
         ensures uses { Uses out.old out.new 1 0 0 }

@@ -3,8 +3,7 @@ ghost use Rattle.std.specs.Prelude.{◌≡◌, ◌&&◌, true, not, IfOk, if◌t
 ghost use Rattle.policy_model.specs.Doing.{is_candidate};
 ghost use Rattle.master_tasks.specs.Queue.{no_tasks};
 ghost use Rattle.world_model.specs.Replies.{elects};
-ghost use Rattle.voting_config.specs.Ids.{with_id};
-ghost use Rattle.policy_model.specs.Joins.{fits as fits_of};
+ghost use Rattle.voting_config.specs.Ids.{with_id, has_room as has_room_of};
 ghost use Rattle.policy_model.specs.Parts.{all_to_be_added};
 ghost use Rattle.coordinator.specs.Ahead.{ahead_of, HasPlan, IsPlannedAhead};
 ghost use Rattle.master_tasks.specs.NextState.{leader_of};
@@ -16,7 +15,7 @@ use master_tasks::MasterTasks;
 use policy_model::Mode;
 use state_journal::Keeper;
 use std::alloc::{AllocError, Global};
-use voting_config::{MAX_IDS, NodeId, NodeSet};
+use voting_config::{NodeId, NodeSet};
 
 /// What a node will be once its term has risen, as far as the next state is made of it.
 #[derive(Drop)]
@@ -28,23 +27,14 @@ pub struct Ahead {
     pub tasks: MasterTasks,
 }
 
-/// Whether the id is in the set, or there is room for it.
-pub(crate) fn fits(ids: &NodeSet, id: NodeId) -> bool
-    ensures { result ≡ fits_of ids.now id }
-{
-    ids.contains(id) || ids.len() < MAX_IDS
-}
-
 // The set with one more id.
 fn with(ids: &NodeSet, id: NodeId) -> NodeSet
-    requires { fits_of ids.now id ≡ true }
+    requires { has_room_of ids.now id ≡ true }
     ensures { result ≡ with_id id ids.now }
 {
     let mut more = ids.copy();
-    match more.insert(id) {
-        Ok(_) => more,
-        Err(_) => unreachable!(),
-    }
+    more.put(id);
+    more
 }
 
 /// These are to become members.
@@ -131,7 +121,7 @@ impl<K: Keeper> Coordinator<K> {
             leads,
             tasks,
         } = ahead;
-        if !fits(&votes, p) {
+        if !votes.has_room(p) {
             return Ok(None);
         }
         let votes = with(&votes, p);

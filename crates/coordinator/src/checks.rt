@@ -151,7 +151,7 @@ impl<K: Keeper> Coordinator<K> {
         }
     }
 
-    // A member is told whether the node leads it.
+    // A member is answered whether the node leads it.
     pub(crate) fn is_checked_by_follower(&self, out: &mut Output, from: NodeId, term: u64)
         requires frames { 1 ≤ out.old.frames.room }
         ensures does { Does K.Keeper self.now self.now out.old out.new (λ s v. is_checked_by_follower s v from term) true }

@@ -53,7 +53,7 @@ impl<K: Keeper> Coordinator<K> {
             .ack_exclusions(self.core.committed(), id, &mut out.replies);
     }
 
-    // A leader that was told of the commit goes on as planned.
+    // A leader that heard of the commit goes on as planned.
     fn finish_publication(&mut self, out: &mut Output, plan: Option<Plan>)
         requires ready { IsReady self.old }
         requires plan { IsPlanned self.old.settings (moved_all self.old.settings (view_in K.Keeper self.old) (acks_exclusions self.old.settings (view_in K.Keeper self.old))) plan }

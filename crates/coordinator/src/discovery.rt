@@ -45,6 +45,7 @@ pub(crate) fn with(ids: NodeSet, id: NodeId) -> NodeSet
     ensures { result ≡ with_id id ids }
 {
     let mut more = ids;
+    // There is room, so this is no error.
     let _ = more.insert(id);
     more
 }
@@ -95,7 +96,7 @@ impl<K: Keeper> Coordinator<K> {
         self.send_all(out, &known, &ask);
     }
 
-    // Who asks for peers is met, with those that it knows, and is told the leader, the term and all peers.
+    // Who asks for peers is met, with those that it knows, and is answered with the leader, the term and all peers.
     pub(crate) fn is_asked_for_peers(&mut self, out: &mut Output, from: NodeId, known: &NodeSet)
         requires frames { 1 ≤ out.old.frames.room }
         ensures does { Does K.Keeper self.old self.new out.old out.new (λ s v. is_asked_for_peers s v from known.now) true }
@@ -128,7 +129,7 @@ impl<K: Keeper> Coordinator<K> {
         self.send(out, to, answer);
     }
 
-    // A candidate that a master tells of itself joins it.
+    // A candidate that hears of a master from that master joins it.
     pub(crate) fn is_told_peers(
         &mut self,
         out: &mut Output,

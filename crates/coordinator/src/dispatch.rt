@@ -310,6 +310,7 @@ impl<K: Keeper> Coordinator<K> {
         }
     }
 
+    // A frame. `take_frame` does all of it by the kind of the message; this contract is that of an event.
     fn on_frame(&mut self, out: &mut Output, frame: &Frame) -> Result<(), EventError>
         requires ready { IsReady self.old }
         requires fit { IsFitMessage frame.now.message }
@@ -361,7 +362,7 @@ impl<K: Keeper> Coordinator<K> {
         ensures steps { (life : Life) → StandsForLife K.Keeper self.old life → Steps K.Keeper self.old self.new event (items_of self.old.settings (log_of life) event) result }
 
         // Whatever it stood for: its settings stay, and the disk's count of faults never falls. At Disk that count rose, and
-        // the node has stopped; at Memory and Stopped nothing changed.
+        // the node is halted; at Memory and Stopped nothing changed.
         ensures stays { Stays K.Keeper self.old self.new result }
 
         // A crash at any moment of it leaves the record of the acts so far, without the act in hand or with it.
@@ -390,6 +391,7 @@ impl<K: Keeper> Coordinator<K> {
         let Ok(mut output) = new_output(alloc, &event) else {
             return Err(StepError::Memory);
         };
+        // For the proof alone: what the event, the settings in it and the queue are, by their types.
         law_event_holds_settings(&event);
         law_event_holds_set(&event);
         let _ = self.tasks.open_count();

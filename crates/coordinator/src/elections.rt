@@ -19,7 +19,7 @@ use crate::discovery::with;
 use crate::output::Output;
 use crate::sending::Broadcast;
 use cluster_state::LAST_NUMBER;
-use election_clock::{DURATION, delay, due};
+use election_clock::{DURATION_MS, delay, due};
 use exclusions::may_win;
 use pre_vote::PreVotes;
 use state_journal::{Keeper, Ready};
@@ -198,7 +198,7 @@ impl<K: Keeper> Coordinator<K> {
         let round = self.new_round();
         self.round = Some(round);
         self.attempt = attempt;
-        self.deadline = Some(self.moment + delay(attempt, word) + DURATION);
+        self.deadline = Some(self.moment + delay(attempt, word) + DURATION_MS);
     }
 
     // A round of pre-votes, which a node that is a quorum alone ends at once.

@@ -1,19 +1,18 @@
 //! Joins and elections.
-ghost use Rattle.std.specs.Prelude.{◌≡◌, ◌≤◌, ◌+◌, [], ◌∷◌, true, false, length, is_ok, Err, IfOk, OnOk};
+ghost use Rattle.std.specs.Prelude.{◌≡◌, ◌≤◌, [], ◌∷◌, true, false, Err};
 ghost use Rattle.world_model.specs.declared.acts.Act.TheVariants as act;
-ghost use Rattle.policy_model.specs.Doing.{after_act, reply_now, takes, is_leader};
-ghost use Rattle.policy_model.specs.Joins.{is_joined, takes_join, leads, takes_member, fits as fits_of, join_from};
-ghost use Rattle.policy_model.specs.Events.{Turns, Notes, Joined};
+ghost use Rattle.policy_model.specs.Doing.{is_leader};
+ghost use Rattle.policy_model.specs.Joins.{is_joined, takes_join, leads, takes_member, join_from};
+ghost use Rattle.policy_model.specs.Events.{Notes, Joined};
 ghost use Rattle.policy_model.specs.declared.events.Mode.TheVariants.{Leader};
 ghost use Rattle.policy_model.specs.Moves.{moved_all};
 ghost use Rattle.coordinator.specs.Ahead.{winning, IsPlannedJoin};
 ghost use Rattle.coordinator.specs.Does.{Does, DoesAll};
 ghost use Rattle.coordinator.specs.Plans.{IsPlanned, replies_planned};
 ghost use Rattle.coordinator.specs.Rooms.{Uses};
-ghost use Rattle.coordinator.specs.Showing.{shown_in, showing};
 ghost use Rattle.coordinator.specs.Views.{view_in, IsReady};
 
-use crate::ahead::{add_members, fits};
+use crate::ahead::add_members;
 use crate::coordinator::{Coordinator, EventError, Struck};
 use crate::output::Output;
 use crate::plan::Plan;
@@ -88,7 +87,7 @@ impl<K: Keeper> Coordinator<K> {
         requires replies { replies_planned plan ≤ out.old.replies.room }
         ensures does { Does K.Keeper self.old self.new out.old out.new (λ s v. takes_join s v p term last) true }
     {
-        if !fits(&self.core.votes(), p) {
+        if !self.core.votes().has_room(p) {
             return;
         }
         let join = Join {

@@ -23,7 +23,7 @@ use state_journal::Keeper;
 use voting_config::{NodeId, NodeSet};
 
 /// How long after a hand-over the next one may come, in ms.
-pub const HANDOVER_INTERVAL: u64 = 1000;
+pub const HANDOVER_INTERVAL_MS: u64 = 1000;
 
 // The first of these nodes that is among the others.
 fn first_among(ids: &NodeSet, others: &NodeSet) -> Option<NodeId>
@@ -82,6 +82,7 @@ impl<K: Keeper> Coordinator<K> {
             frames,
         } = new;
         let version = self.core.accepted().version + 1;
+        // For the proof alone: a set has 32 ids at most.
         let _ = value.members.len();
         let taken = self.act_value(out, version, config, value, (entry_config, entry_value));
         if taken {
@@ -122,7 +123,7 @@ impl<K: Keeper> Coordinator<K> {
         if !due(self.handover_due, self.moment) {
             return;
         }
-        self.handover_due = self.moment + HANDOVER_INTERVAL;
+        self.handover_due = self.moment + HANDOVER_INTERVAL_MS;
         self.ask_successor(out);
     }
 
@@ -140,6 +141,7 @@ impl<K: Keeper> Coordinator<K> {
         let term = self.core.term() + 1;
         if term <= LAST_NUMBER {
             let targets = publication.targets();
+            // For the proof alone: a set has 32 ids at most.
             let _ = targets.len();
             let join = Broadcast::StartJoin(id, term);
             out.send_all(self.settings.me, targets.as_slice(), &join);

@@ -1,4 +1,4 @@
-//! States that are published to the node.
+//! Accepting the states that a leader publishes.
 ghost use Rattle.std.specs.Prelude.{◌≡◌, ◌≤◌, ◌+◌, true, length, is_ok};
 ghost use Rattle.cluster_state.specs.States.{IsFit};
 ghost use Rattle.policy_model.specs.Publications.{accepts, is_published_to};

@@ -1,10 +1,8 @@
 //! Responses to a publication, and the commit that they come to.
-ghost use Rattle.std.specs.Prelude.{◌≡◌, ◌≤◌, ◌+◌, ◌++◌, ◌&&◌, [], ◌∷◌, true, map, length, is_some};
-ghost use Rattle.voting_config.specs.Ids.{Id};
-ghost use Rattle.reconfigurator.specs.Targets.{among};
+ghost use Rattle.std.specs.Prelude.{◌≡◌, ◌≤◌, ◌+◌, ◌++◌, ◌&&◌, true, map, length, is_some};
+ghost use Rattle.voting_config.specs.Ids.{Id, among, has_room as has_room_of};
 ghost use Rattle.wire_frames.specs.declared.frame.Message.TheVariants as message;
 ghost use Rattle.policy_model.specs.Doing.{is_leader as is_leader_of};
-ghost use Rattle.policy_model.specs.Joins.{fits as fits_of};
 ghost use Rattle.policy_model.specs.NextState.{responders_of, targets_of};
 ghost use Rattle.policy_model.specs.Publications.{is_commit_sent as is_commit_sent_of, counts_response, sends_commit, sends_first_commit};
 ghost use Rattle.coordinator.specs.Commits.{takes_response, acks_commit};
@@ -12,9 +10,8 @@ ghost use Rattle.coordinator.specs.Does.{Does, DoesAll};
 ghost use Rattle.coordinator.specs.Plans.{frame_to};
 ghost use Rattle.coordinator.specs.Rooms.{Uses};
 ghost use Rattle.coordinator.specs.Showing.{shown_in};
-ghost use Rattle.coordinator.specs.Views.{view_in, IsReady};
+ghost use Rattle.coordinator.specs.Views.{IsReady};
 
-use crate::ahead::fits;
 use crate::coordinator::{Coordinator, EventError};
 use crate::output::Output;
 use cluster_state::{PublishResponse, StateId};
@@ -49,9 +46,9 @@ fn send_commits(out: &mut Output, me: NodeId, ids: &[NodeId], others: &NodeSet, 
 impl<K: Keeper> Coordinator<K> {
     // Whether a response of p is counted: by a leader that has published, where it fits.
     fn counts_responses_of(&self, p: NodeId) -> bool
-        ensures { result ≡ (is_leader_of self.now.mode && is_some self.now.publication && fits_of self.now.core.acks p) }
+        ensures { result ≡ (is_leader_of self.now.mode && is_some self.now.publication && has_room_of self.now.core.publish_votes p) }
     {
-        self.is_leader() && self.publication.is_some() && fits(&self.core.acks(), p)
+        self.is_leader() && self.publication.is_some() && self.core.acks().has_room(p)
     }
 
     // The commit goes to each target that has responded.
@@ -64,6 +61,7 @@ impl<K: Keeper> Coordinator<K> {
             return;
         };
         let responders = publication.responders();
+        // For the proof alone: a set has 32 ids at most.
         let _ = responders.len();
         send_commits(
             out,
@@ -114,7 +112,7 @@ impl<K: Keeper> Coordinator<K> {
     // Counts a response of p.
     fn take_response(&mut self, out: &mut Output, p: NodeId, id: StateId)
         requires ready { IsReady self.old }
-        requires room { fits_of self.old.core.acks p ≡ true }
+        requires room { has_room_of self.old.core.publish_votes p ≡ true }
         requires steps { 1 ≤ out.old.steps.room }
         requires frames { 32 ≤ out.old.frames.room }
         requires replies { length self.old.tasks.waiting ≤ out.old.replies.room }

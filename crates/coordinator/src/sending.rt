@@ -74,6 +74,7 @@ impl<K: Keeper> Coordinator<K> {
         ensures does { Does K.Keeper self.now self.now out.old out.new (λ s v. send_all s ids.now (message_of what.now)) true }
         ensures uses { Uses out.old out.new 0 32 0 }
     {
+        // For the proof alone: a set has 32 ids at most.
         let _ = ids.len();
         out.send_all(self.settings.me, ids.as_slice(), what);
     }

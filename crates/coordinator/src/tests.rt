@@ -388,7 +388,7 @@ impl World {
         Ok(lines)
     }
 
-    // Each event of the table, behind `> `, shows the lines that follow it.
+    // Each event of the table, after `> `, shows the lines that follow it.
     fn follows(&mut self, table: &[&str]) -> Result<(), Fail> {
         let mut shown = Shown::of(Vec::new(self.alloc));
         for line in table {
@@ -422,7 +422,7 @@ fn settings_of(alloc: Global, me: NodeId, names: &[&str]) -> Result<Settings, Fa
     })
 }
 
-// What stands before the first space and behind it.
+// What stands before the first space and after it.
 fn halves(text: &str) -> Result<(&str, &str), Fail> {
     match text.split_once(' ') {
         Some(halves) => Ok(halves),

@@ -64,6 +64,7 @@ impl<K: Keeper> Coordinator<K> {
         ensures uses { Uses out.old out.new 0 32 0 }
     {
         let Checked { ask, checks, lag } = self.followers.tick(self.moment);
+        // For the proof alone: each of the sets has 32 ids at most.
         let _ = ask.len();
         let _ = checks.len();
         let _ = lag.len();
@@ -75,7 +76,7 @@ impl<K: Keeper> Coordinator<K> {
         out.send_all(self.settings.me, ask.as_slice(), &check);
     }
 
-    // What going on will take behind these.
+    // What going on will take after these.
     fn plan_tick(&self, alloc: Global) -> Result<Option<Plan>, AllocError>
         ensures { IfOk result (λ plan. IsPlannedTick self.now.settings (view_in K.Keeper self.now) plan) }
     {

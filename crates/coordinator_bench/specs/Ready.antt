@@ -1,4 +1,4 @@
--- That a node is ready holds in one way only.
+-- For the contracts inside: that a node is ready holds in one way only.
 use Rattle.std.proofs.Props.{props}
 use Rattle.coordinator.specs.declared.coordinator.Coordinator.{Coordinator}
 use Rattle.coordinator.specs.Views.{IsReady}

@@ -1,3 +1,4 @@
+//! How much was sealed so far, by kinds.
 use crate::digest::{Digest, add_frame, add_reply, add_step};
 use client_lines::{Answer, Reply};
 use coordinator::Sealed;

@@ -1,3 +1,4 @@
+//! Why a run did not come to its end.
 use std::alloc::{AllocError, AllocFailed};
 use std::io;
 

@@ -38,11 +38,12 @@ fn print(rt: &HostRuntime, counts: &Counts) -> Result<(), Fault> {
     Ok(())
 }
 
-// The status, which tells lack of memory outside a step from all other faults.
+// The status, by which running out of memory outside a step differs from all other faults.
 fn ended(rt: &HostRuntime, ended: Result<(), Fault>) -> ExitCode {
     match ended {
         Ok(()) => ExitCode::from(0),
         Err(fault) => {
+            // The status says it too.
             let _ = eprintln!(rt; "{fault}");
             ExitCode::from(fault.status())
         }

@@ -16,7 +16,7 @@ fn set_next<D: Disks + Drop>(journal: &mut StateJournal<D>) -> Result<()> {
     Ok(())
 }
 
-/// Opens the journal of a folder, and sets so many terms behind the one that it keeps.
+/// Opens the journal of a folder, and sets so many terms after the one that it keeps.
 pub fn set_terms(rt: &HostRuntime, dir: &str, count: u64) -> Result<StateJournal<FileDisks>> {
     let Ok(disk) = FileDisks::open(rt, dir) else {
         bail!("no folder");

@@ -22,7 +22,7 @@ published_by_act g (Response response) o = refl
 published_by_act g (Commit commit) o = refl
 published_by_act g (Open found) o = refl
 
--- the steps of some items tell what the node published last behind them
+-- the steps of some items say what the node published last after them
 pub published_along : (l : Log) (is : List Item) → published_after (last_published (acts_of l)) (steps_of is) ≡ last_published (acts_of (added l is))
 published_along l [] = refl
 published_along l (Acts act o ∷ is) =

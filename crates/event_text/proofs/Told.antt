@@ -1,4 +1,4 @@
--- How steps are told.
+-- How steps are shown.
 use Rattle.std.proofs.Common.{◌≡◌, false, List, [], ◌∷◌, refl, ap, ◌∙◌}
 use Rattle.policy_model.specs.declared.events.Step.{Step}
 use Rattle.policy_model.specs.declared.events.Step.TheVariants as step
@@ -15,7 +15,7 @@ step_as_it_is : (s : Step) → step_told false s ≡ s
 step_as_it_is (step.Act act o) = ap (λ (x : Outcome). step.Act act x) (outcome_as_it_is o)
 step_as_it_is (step.Mode mode term) = refl
 
--- where no node stopped, each step is told as it is
+-- where no node crashed, each step is shown as it is
 pub told_as_it_is : (ss : List Step) → told_as false ss ≡ ss
 told_as_it_is [] = refl
 told_as_it_is (s ∷ ss) = ap (λ (x : Step). x ∷ told_as false ss) (step_as_it_is s) ∙ ap (λ (xs : List Step). s ∷ xs) (told_as_it_is ss)

@@ -1,4 +1,4 @@
--- Part of the statement: the lines of a trace that tell of an event of a node.
+-- Part of the statement: the lines of a trace that show an event of a node.
 use Rattle.std.specs.Prelude.{ℕ, Option, List, ◌++◌, codes}
 use Rattle.std.specs.List.{flat_map}
 use Rattle.voting_config.specs.Ids.{Id}

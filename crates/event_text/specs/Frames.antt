@@ -1,11 +1,11 @@
--- Part of the statement: the lines of a trace that tell of frames.
+-- Part of the statement: the lines of a trace that show frames.
 use Rattle.std.specs.Prelude.{ℕ, ◌+◌, Bool, true, false, Option, None, Some, List, [], ◌∷◌, ◌++◌, codes, decimal}
 use Rattle.voting_config.specs.Ids.{Id}
 use Rattle.cluster_state.specs.declared.state.StateId.{StateId}
 use Rattle.wire_frames.specs.declared.frame.Frame.{Frame}
 use Rattle.wire_frames.specs.declared.frame.Message.{Message}
 use Rattle.wire_frames.specs.declared.frame.Message.TheVariants as message
-use Rattle.schedule_text.specs.Words.{list_text}
+use Rattle.voting_config.specs.Lists.{list_text}
 use Rattle.trace_text.specs.Trace.{id_text, state_text}
 
 abbrev pub answer_text : Bool → List ℕ
@@ -41,7 +41,7 @@ message_text (message.LeaderAnswer good) = codes "leaderanswer " ++ answer_text 
 abbrev pub frame_line : (number : ℕ) → Frame → List ℕ
 frame_line number f = codes "m" ++ decimal number ++ codes " " ++ f.from ++ codes "->" ++ f.to ++ codes " " ++ message_text f.message ++ codes "\n"
 
--- frames, numbered from the one behind so many on
+-- frames, numbered from the one after so many on
 abbrev pub frames_text : (count : ℕ) → List Frame → List ℕ
 frames_text count [] = []
 frames_text count (f ∷ fs) = frame_line (count + 1) f ++ frames_text (count + 1) fs

@@ -6,13 +6,13 @@ use Rattle.policy_model.specs.declared.events.Step.{Step}
 use Rattle.policy_model.specs.declared.events.Step.TheVariants as step
 use Rattle.trace_text.specs.Published.{published_by}
 
--- the state that a node published last, behind a step
+-- the state that a node published last, after a step
 abbrev pub published_in : Option ClusterState → Step → Option ClusterState
 published_in before (step.Act (Value version config value) o) = published_by o before
 published_in before (step.Act act o) = before
 published_in before (step.Mode mode term) = before
 
--- the same, behind all of these
+-- the same, after all of these
 abbrev pub published_after : Option ClusterState → List Step → Option ClusterState
 published_after before [] = before
 published_after before (s ∷ ss) = published_after (published_in before s) ss

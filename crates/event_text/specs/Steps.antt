@@ -1,4 +1,4 @@
--- Part of the statement: the lines of a trace that tell of a node's acts and of its changes of mode.
+-- Part of the statement: the lines of a trace that show a node's acts and its changes of mode.
 use Rattle.std.specs.Prelude.{ℕ, Bool, Option, List, [], ◌∷◌, ◌++◌, codes, decimal, if◌then◌else◌, map}
 use Rattle.voting_config.specs.Ids.{Id}
 use Rattle.cluster_state.specs.declared.state.ClusterState.{ClusterState}
@@ -33,9 +33,9 @@ abbrev pub steps_text : Id → Option ClusterState → List Step → List ℕ
 steps_text n published [] = []
 steps_text n published (s ∷ ss) = step_text n published s ++ steps_text n (published_in published s) ss
 
--- ---- where the node has stopped
+-- ---- where the node has crashed
 
--- How an act is told to have ended: where the disk failed since the node stopped, the act crashed. No further act follows it in an event.
+-- How an act is shown to have ended: where the disk failed since the node crashed, the act is shown as crashed. No further act follows it in an event.
 abbrev pub outcome_told : (crashed : Bool) → Outcome → Outcome
 outcome_told crashed (Answered reply) = Answered reply
 outcome_told crashed (Disk kept) = if crashed then Crashed kept else Disk kept

@@ -1,3 +1,4 @@
+//! The line of an act among the items of an event.
 ghost use Rattle.std.specs.Prelude.{◌≡◌, ◌++◌, OnOk};
 ghost use Rattle.world_model.specs.Acts.{wins};
 ghost use Rattle.world_model.specs.declared.acts.Outcome.TheVariants as outcome;

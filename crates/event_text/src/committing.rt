@@ -1,4 +1,4 @@
-// What an act shows that sends a commit: the state that is committed, which the node published last.
+//! What an act shows that sends a commit: the state that is committed, which the node published last.
 ghost use Rattle.std.specs.Prelude.{◌≡◌, ◌++◌, Bool, OnOk, Some};
 ghost use Rattle.world_model.specs.declared.acts.Outcome.TheVariants as outcome;
 ghost use Rattle.world_model.specs.declared.acts.Reply.TheVariants as reply;

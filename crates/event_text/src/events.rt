@@ -1,3 +1,4 @@
+//! All lines of an event: its acts and changes of mode, then drops, frames and replies.
 ghost use Rattle.std.specs.Prelude.{ℕ, ◌≡◌, ◌<◌, ◌^◌, [], ◌++◌, OnOk};
 ghost use Rattle.event_text.specs.Published.{published_after};
 ghost use Rattle.event_text.specs.Steps.{told_as};
@@ -100,7 +101,7 @@ pub fn write_event(
 }
 
 /// Writes an event at which the disk failed in the last act: its acts and changes of mode, then drops. Nothing was sent
-/// and nobody was answered. Where `crashed`, the disk failed since the node stopped in that act. `published` is as for
+/// and nobody was answered. Where `crashed`, the disk failed since the node crashed in that act. `published` is as for
 /// `write_steps`.
 pub fn write_struck_event(
     text: &mut Text,

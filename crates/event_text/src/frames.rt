@@ -1,5 +1,6 @@
+//! The line of a frame, by the kind of its message.
 ghost use Rattle.std.specs.Prelude.{◌≡◌, ◌<◌, ◌^◌, ◌++◌, OnOk, codes, decimal};
-ghost use Rattle.schedule_text.specs.Words.{list_text};
+ghost use Rattle.voting_config.specs.Lists.{list_text};
 ghost use Rattle.wire_frames.specs.declared.frame.Message.TheVariants as message;
 ghost use Rattle.event_text.specs.Frames.{answer_text, frame_line, frames_text, master_text, message_text, state_id_text};
 
@@ -92,7 +93,7 @@ fn write_follower_answer(
     write_id(text, " ", applied)
 }
 
-/// Writes a message: its word, and its fields with a space in front of each.
+/// Writes a message: its word, and its fields, each after a space.
 pub fn write_message(text: &mut Text, alloc: Global, message: &Message) -> Result<(), AllocError>
     ensures { OnOk result (text.new ≡ text.old ++ message_text message.now) }
 {

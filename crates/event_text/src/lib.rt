@@ -1,4 +1,4 @@
-//! The lines of a trace that tell of one event of a node: its acts and changes of mode, the members that it drops, the
+//! The lines of a trace that show one event of a node: its acts and changes of mode, the members that it drops, the
 //! frames that it sends and the replies to its clients.
 #![tactic(auto)]
 

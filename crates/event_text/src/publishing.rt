@@ -1,4 +1,4 @@
-// Which state a node published last.
+//! Which state a node published last.
 ghost use Rattle.std.specs.Prelude.{◌≡◌, Bool, OnOk, Some};
 ghost use Rattle.world_model.specs.declared.acts.Outcome.TheVariants as outcome;
 ghost use Rattle.world_model.specs.declared.acts.Reply.TheVariants as reply;

@@ -1,3 +1,4 @@
+//! The lines of a node's acts and changes of mode.
 ghost use Rattle.std.specs.Prelude.{◌≡◌, ◌++◌, OnOk, false};
 ghost use Rattle.event_text.specs.Published.{published_after, published_in};
 ghost use Rattle.event_text.specs.Steps.{act_lines, mode_line, mode_text, outcome_told, step_text, step_told, steps_text, told_as};
@@ -100,9 +101,9 @@ fn write_step(
 }
 
 /// Writes a node's acts and changes of mode. `published` is the state that the node published last, and afterwards that
-/// behind these steps; where it is another one, it is a copy.
+/// after these steps; where it is another one, it is a copy.
 ///
-/// Where it answers an error, memory has run out, and `published` is that behind some of the steps.
+/// Where it answers an error, memory has run out, and `published` is that after some of the steps.
 pub fn write_steps(
     text: &mut Text,
     alloc: Global,
@@ -117,7 +118,7 @@ pub fn write_steps(
 }
 
 /// Writes the same, where an act of them may have met a fault of the disk: where `crashed`, the fault was that the node
-/// stopped in the act.
+/// crashed in the act.
 pub fn write_struck_steps(
     text: &mut Text,
     alloc: Global,

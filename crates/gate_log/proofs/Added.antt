@@ -8,7 +8,7 @@ use Rattle.zen_disk.proofs.Files.{torn_refl, torn_written, part_written}
 use Rattle.gate_log.specs.Journal.{header, sized, framed, laid, bodies_of, IsFrame, IsLaid, IsBeforeOrAfter, IsAsBeforeOrNone}
 use Rattle.gate_log.proofs.Laid.{length-sized, length-framed, laid-push, gate_is, nothing_laid, split, stands_for, laid_from}
 
--- whatever a write behind the gate leaves, the bodies stay
+-- whatever a write after the gate leaves, the bodies stay
 pub torn_behind : (bodies : List (List ℕ)) (file c : List ℕ) (gate n : ℕ) → IsLaid bodies file gate → Torn (gate + 1) n file c → IsLaid bodies c gate
 torn_behind bodies file c gate n is torn =
     let same : get_or c gate 0 ≡ get_or file gate 0 =
@@ -23,7 +23,7 @@ torn_behind bodies file c gate n is torn =
       closed = λ one. is.closed (sym same ∙ one);
     }
 
--- a body stands behind the gate
+-- a body stands after the gate
 module _ (bodies : List (List ℕ)) (body frame file : List ℕ) (gate : ℕ) (is : IsLaid bodies file gate) (framing : IsFrame body frame)
     (behind : part (gate + 1) (length frame) file ≡ frame)
     (c : List ℕ) (torn : Torn gate 1 file c) where
@@ -134,7 +134,7 @@ module _ (bodies : List (List ℕ)) (file : List ℕ) (gate : ℕ) (is : IsLaid 
     | inr shut ↦ inr (stands_for [] c 8 (emptied shut))
   ]
 
--- behind the header stands an open gate where there are bodies
+-- after the header stands an open gate where there are bodies
 pub first_is_open : (bodies : List (List ℕ)) (file : List ℕ) (gate : ℕ) → IsLaid bodies file gate → 8 < gate → get_or file 8 0 ≡ 1
 unfolding laid
 first_is_open [] file gate is some = absurd (omega (arith, gate_is [] file gate is))
@@ -150,7 +150,7 @@ first_closed bodies file new gate is done =
     ∙ get_or_at (take 8 file) 0 (drop 9 file) 0 8 (length-take-le 8 file inside) in
     emptied bodies file gate is new torn (λ one. absurd (let e : 0 ≡ 1 = sym zero ∙ one in omega arith))
 
--- a gate behind the header has no body in front
+-- a gate right after the header has no body before it
 pub laid_nothing : (bodies : List (List ℕ)) (file : List ℕ) (gate : ℕ) → IsLaid bodies file gate → gate ≤ 8 → IsLaid [] file 8
 laid_nothing bodies file gate is low =
     let none : bodies ≡ [] = nothing_laid bodies (omega (arith, gate_is bodies file gate is, low)) in

@@ -3,7 +3,7 @@ use Rattle.std.proofs.Common.{◌≡◌, ℕ, ◌<◌, ◌≤◌, List, [], ◌�
 use Rattle.std.specs.Prelude.{nat_le, nat_eq, nat_lt, if◌then◌else◌}
 use Rattle.std.proofs.lemmas.Bool.{lt-leb, le-leb, cond-true, cond-false}
 use Rattle.zen_disk.specs.DeviceCall.{DeviceCall, Len, Read, Write, Sync}
-use Rattle.zen_disk.specs.Runs.{Ran, ran_on, ran_failed}
+use Rattle.zen_disk.specs.Runs.{CallsMade, ran_on, ran_failed}
 use Rattle.zen_disk.specs.declared.side.Side.{Side}
 use Rattle.gate_log.specs.declared.open.SideError.{SideError}
 use Rattle.gate_log.specs.declared.open.SideError.TheVariants as error
@@ -23,47 +23,47 @@ module _ {D : Type 0} (steps : D → DeviceCall → D → Bool → Type 0) (side
   fresh = Write side 0 (header ++ 0 ∷ []) ∷ Sync side ∷ []
 
   -- a file of at most nine bytes gets a header
-  pub fresh_ran : (old mid new : D) (ok : Bool) → length file ≤ 9 → Ran steps (Sync side ∷ Len side ∷ []) old mid true → Ran steps fresh mid new ok
-      → Ran steps (preparing_calls side file) old new ok
+  pub fresh_ran : (old mid new : D) (ok : Bool) → length file ≤ 9 → CallsMade steps (Sync side ∷ Len side ∷ []) old mid true → CallsMade steps fresh mid new ok
+      → CallsMade steps (preparing_calls side file) old new ok
   fresh_ran old mid new ok short first more =
-      subst (λ (calls : List DeviceCall). Ran steps (Sync side ∷ Len side ∷ calls) old new ok)
+      subst (λ (calls : List DeviceCall). CallsMade steps (Sync side ∷ Len side ∷ calls) old new ok)
       (sym (cond-true (nat_le (length file) 9) fresh [] (le-leb (length file) 9 short)))
       (ran_on steps (Sync side ∷ Len side ∷ []) fresh old mid new ok first more)
 
   -- a longer one doesn't
-  pub same_ran : (old new : D) → 9 < length file → Ran steps (Sync side ∷ Len side ∷ []) old new true
-      → Ran steps (preparing_calls side file) old new true
+  pub same_ran : (old new : D) → 9 < length file → CallsMade steps (Sync side ∷ Len side ∷ []) old new true
+      → CallsMade steps (preparing_calls side file) old new true
   same_ran old new long first =
-      subst (λ (calls : List DeviceCall). Ran steps (Sync side ∷ Len side ∷ calls) old new true)
+      subst (λ (calls : List DeviceCall). CallsMade steps (Sync side ∷ Len side ∷ calls) old new true)
       (sym (cond-false (nat_le (length file) 9) fresh [] (lt-leb (length file) 9 long))) first
 
-  pub synced_failed : (old new : D) → Ran steps (Sync side ∷ Len side ∷ []) old new false → Ran steps (preparing_calls side file) old new false
+  pub synced_failed : (old new : D) → CallsMade steps (Sync side ∷ Len side ∷ []) old new false → CallsMade steps (preparing_calls side file) old new false
   synced_failed old new failed = ran_failed steps (Sync side ∷ Len side ∷ []) _ old new failed
 
-  pub prepared_failed : (old new : D) → Ran steps (preparing_calls side file) old new false → Ran steps (opening_calls side file) old new false
+  pub prepared_failed : (old new : D) → CallsMade steps (preparing_calls side file) old new false → CallsMade steps (opening_calls side file) old new false
   prepared_failed old new failed = ran_failed steps (preparing_calls side file) (reading_calls side file) old new failed
 
-  pub brief_ran : (old new : D) → length file ≤ 9 → Ran steps (preparing_calls side file) old new true
-      → Ran steps (opening_calls side file) old new true
+  pub brief_ran : (old new : D) → length file ≤ 9 → CallsMade steps (preparing_calls side file) old new true
+      → CallsMade steps (opening_calls side file) old new true
   brief_ran old new short ran =
       ran_on steps (preparing_calls side file) (reading_calls side file) old new new true ran
-      (subst (λ (calls : List DeviceCall). Ran steps calls new new true)
+      (subst (λ (calls : List DeviceCall). CallsMade steps calls new new true)
       (sym (cond-true (nat_le (length file) 9) [] (Read side 0 (length file) ∷ []) (le-leb (length file) 9 short))) (refl, refl))
 
-  one_ran : (mid new : D) (call : DeviceCall) (ok : Bool) → steps mid call new ok → Ran steps (call ∷ []) mid new ok
+  one_ran : (mid new : D) (call : DeviceCall) (ok : Bool) → steps mid call new ok → CallsMade steps (call ∷ []) mid new ok
   one_ran mid new call true step = inl (new, step, (refl, refl))
   one_ran mid new call false step = inr (step, refl)
 
-  pub read_ran : (old mid new : D) (ok : Bool) → 9 < length file → Ran steps (preparing_calls side file) old mid true
-      → steps mid (Read side 0 (length file)) new ok → Ran steps (opening_calls side file) old new ok
+  pub read_ran : (old mid new : D) (ok : Bool) → 9 < length file → CallsMade steps (preparing_calls side file) old mid true
+      → steps mid (Read side 0 (length file)) new ok → CallsMade steps (opening_calls side file) old new ok
   read_ran old mid new ok long ran step =
       ran_on steps (preparing_calls side file) (reading_calls side file) old mid new ok ran
-      (subst (λ (calls : List DeviceCall). Ran steps calls mid new ok)
+      (subst (λ (calls : List DeviceCall). CallsMade steps calls mid new ok)
       (sym (cond-false (nat_le (length file) 9) [] (Read side 0 (length file) ∷ []) (lt-leb (length file) 9 long)))
       (one_ran mid new (Read side 0 (length file)) ok step))
 
   -- all calls were made, and then the bytes were refused
-  pub refused_ran : (old new : D) (e : SideError) → DidNotFail e → Ran steps (opening_calls side file) old new true
+  pub refused_ran : (old new : D) (e : SideError) → DidNotFail e → CallsMade steps (opening_calls side file) old new true
       → SideRan steps side file old new e
   refused_ran old new (error.Fault fault) calm ran = ran
   refused_ran old new error.Memory calm ran = inr ran
@@ -77,7 +77,7 @@ module _ {D : Type 0} (steps : D → DeviceCall → D → Bool → Type 0) (file
   side_zero_ran old new error.Memory (inr ran) = (opening_calls Zero files.zero, opening_calls One files.one, refl, ran)
   side_zero_ran old new error.Failed ran = ran_failed steps (opening_calls Zero files.zero) (opening_calls One files.one) old new ran
 
-  pub side_one_ran : (old mid new : D) (e : SideError) → Ran steps (opening_calls Zero files.zero) old mid true
+  pub side_one_ran : (old mid new : D) (e : SideError) → CallsMade steps (opening_calls Zero files.zero) old mid true
       → SideRan steps One files.one mid new e → RanUntil steps files old (refusal_of One e new)
   side_one_ran old mid new (error.Fault fault) first ran =
       ran_on steps (opening_calls Zero files.zero) (opening_calls One files.one) old mid new true first ran
@@ -97,7 +97,7 @@ module _ {D : Type 0} (steps : D → DeviceCall → D → Bool → Type 0) (file
   side_one_ran old mid new error.Failed first ran =
       ran_on steps (opening_calls Zero files.zero) (opening_calls One files.one) old mid new false first ran
 
-  pub twin_ran : (old new : D) (why : Why) → Ran steps (both_opening_calls files) old new true → (why ≡ Twin)
+  pub twin_ran : (old new : D) (why : Why) → CallsMade steps (both_opening_calls files) old new true → (why ≡ Twin)
       → RanUntil steps files old (NotAJournal why new)
   twin_ran old new why ran is = subst (λ (w : Why). RanUntil steps files old (NotAJournal w new)) (sym is) ran
 

@@ -57,7 +57,7 @@ tail_push (first ∷ bodies) body plain = by (is_generation first) refl
         cond-false (is_generation first) _ _ is ∙ more (first ∷ bodies)
         ∙ ap (λ (n : ℕ). n + (5 + length body)) (sym (cond-false (is_generation first) _ _ is))
 
--- nothing stands behind the body of a new generation
+-- nothing stands after the body of a new generation
 pub tail_begun : (body : List ℕ) → is_generation body ≡ true → tail_of (body ∷ []) ≡ 0
 unfolding laid
 tail_begun body is = cond-true (is_generation body) _ _ is

@@ -28,7 +28,7 @@ module _ (g : Generations) (files : Files) (outcomes : Files → Type 0) (side :
       let tail : gate - start ≡ tail_of (in_use g) = omega (arith, counted) in
       λ i. placed (active i) (here i) (there i) (has i) (tail i)
 
--- the fields of a journal that has not stopped tell where its files stand
+-- the fields of a journal that is not halted say where its files stand
 pub place_is : {D : Type 0} (disks : Ghosts D) (log : GateLog D disks) → disks.told → log.stopped ≡ false
     → place log ≡ place_of (standing_in (disks.seen log.disk))
 place_is disks log told running =

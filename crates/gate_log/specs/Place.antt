@@ -1,4 +1,4 @@
--- Where a journal stands: the side in use, its closed gate and that of the other side, its epoch and its tail.
+-- Part of the statement: where a journal stands: the side in use, its closed gate and that of the other side, its epoch and its tail.
 use Rattle.std.specs.Prelude.{ℕ, ◌+◌, ◌-◌, ◌^◌, nat_lt, ◌&&◌, Bool, List, length}
 use Rattle.std.specs.Option.{unwrap_or}
 use Rattle.zen_disk.specs.Sides.{on, other}
@@ -15,7 +15,7 @@ pub record Place : Type 0 where
   pub epoch : ℕ
   pub tail : ℕ
 
--- the offset of the closed gate behind these bodies
+-- the offset of the closed gate after these bodies
 abbrev pub gate_behind : List (List ℕ) → ℕ
 gate_behind bodies = 8 + length (laid bodies)
 

@@ -1,6 +1,7 @@
+//! A body added at the end of a side: two writes, each synced, of which the second opens its gate.
 ghost use Rattle.std.specs.Prelude.{◌≡◌, ◌+◌, ◌^◌, ◌≤◌, ◌<◌, [], ◌∷◌, ◌++◌, List, ℕ, length, is_ok, OnOk};
 ghost use Rattle.zen_disk.specs.DeviceCall.{Write, Sync};
-ghost use Rattle.zen_disk.specs.Runs.{Ran};
+ghost use Rattle.zen_disk.specs.Runs.{CallsMade};
 ghost use Rattle.zen_disk.specs.Faults.{HasCause};
 ghost use Rattle.zen_disk.specs.Moments.{Only, LeavesOnly};
 ghost use Rattle.zen_disk.specs.Sides.{on, other, OnlyOn};
@@ -10,7 +11,7 @@ ghost use Rattle.gate_log.specs.Calls.{append_calls, LeavesOn};
 use crate::device::write_through;
 use zen_disk::{Disks, Failed, Side};
 
-// Adds a body, given with its length and a closed gate, behind the closed gate at `gate`, and then opens that gate.
+// Adds a body, given with its length and a closed gate, after the closed gate at `gate`, and then opens that gate.
 pub(crate) fn add_record<D: Disks>(
     disk: &mut D,
     side: Side,
@@ -30,7 +31,7 @@ pub(crate) fn add_record<D: Disks>(
     ensures any_moment { D.told → (bodies : List (List ℕ)) → (body : List ℕ) → IsFrame body frame.now → IsLaid bodies (on side (D.seen disk.old)) gate
         → Only (D.seen disk.old) (D.may_leave disk.old)
         → LeavesOnly D.moment D.left_since disk.old disk.new (LeavesOn side (IsBeforeOrAfter bodies body) (D.seen disk.old)) }
-    ensures ran { Ran D.steps (append_calls side gate frame.now) disk.old disk.new (is_ok result) }
+    ensures ran { CallsMade D.steps (append_calls side gate frame.now) disk.old disk.new (is_ok result) }
     ensures cause { HasCause (D.faults disk.old) (D.faults disk.new) result }
 {
     write_through(disk, side, gate + 1, frame)?;
@@ -51,7 +52,7 @@ pub(crate) fn close_first<D: Disks>(disk: &mut D, side: Side) -> Result<(), Fail
     ensures any_moment { D.told → (bodies : List (List ℕ)) → (gate : ℕ) → 8 < gate → IsLaid bodies (on side (D.seen disk.old)) gate
         → Only (D.seen disk.old) (D.may_leave disk.old)
         → LeavesOnly D.moment D.left_since disk.old disk.new (LeavesOn side (IsAsBeforeOrNone bodies) (D.seen disk.old)) }
-    ensures ran { Ran D.steps (Write side 8 (0 ∷ []) ∷ Sync side ∷ []) disk.old disk.new (is_ok result) }
+    ensures ran { CallsMade D.steps (Write side 8 (0 ∷ []) ∷ Sync side ∷ []) disk.old disk.new (is_ok result) }
     ensures cause { HasCause (D.faults disk.old) (D.faults disk.new) result }
 {
     write_through(disk, side, 8, &[0])?;

@@ -1,3 +1,4 @@
+//! Why a body is not added, and why a journal is not opened.
 use crate::Why;
 use std::fmt::Debug;
 use thiserror::Error;

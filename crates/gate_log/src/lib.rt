@@ -1,6 +1,6 @@
-//! A journal of bodies in two files, each body behind a gate byte that is opened by a write of its own.
+//! A journal of bodies in two files, each body after a gate byte that is opened by a write of its own.
 //!
-//! A file begins with `ZENJRNL1` and a gate. A gate of value 1 is open, any other is closed. Behind an open gate
+//! A file begins with `ZENJRNL1` and a gate. A gate of value 1 is open, any other is closed. After an open gate
 //! stand the body's length in 4 bytes, the body, and the next gate. The bodies of a file are those up to the first closed gate.
 //!
 //! One file is in use, and bodies are added there. A body that begins with a 4 and an epoch of 8 bytes begins a generation:

@@ -1,8 +1,9 @@
+//! `GateLog`: the journal of bodies in two files, open on a disk.
 ghost use Rattle.std.specs.Prelude.{is_ok, Ok, Some, ◌≡◌, ◌+◌, ◌^◌, ◌≤◌, ◌<◌, ◌↔◌, true, false, [], ◌∷◌, ◌++◌, List, ℕ, length, OnOk, IfOk, IfErr, IsErrOf, IsErr};
 ghost use Rattle.gate_log.specs.Generations.{generations_of, standing_in, in_use, is_generation, renewed, tail_of, IsSettled, IsRenewed, IsEitherList, Begins};
 ghost use Rattle.gate_log.specs.Journal.{framed, IsFrame};
 ghost use Rattle.zen_disk.specs.Moments.{LeavesOnly, Same};
-ghost use Rattle.zen_disk.specs.Runs.{Ran};
+ghost use Rattle.zen_disk.specs.Runs.{CallsMade};
 ghost use Rattle.zen_disk.specs.Sides.{on, other};
 
 use crate::add::add_record;
@@ -17,7 +18,7 @@ use zen_disk::{Armable, Disks, Order, Side};
 
 const MAX_BODY: usize = 8_388_608;
 
-// A length in front and a closed gate behind.
+// A length before it and a closed gate after it.
 const MAX_FRAME: usize = MAX_BODY + 5;
 
 /// A journal that is open.
@@ -61,7 +62,7 @@ impl<D: Disks> GateLog<D> {
     /// Opens two files that a crash may have left. One of at most nine bytes has no bodies.
     ///
     /// It makes four device calls for such a file, which gets a header, else three: its bytes are read once. Those on side
-    /// zero come first. `NotAJournal` tells the first fault of the files, `Disk` comes where a call fails, and `Memory` where
+    /// zero come first. `NotAJournal` names the first fault of the files, `Disk` comes where a call fails, and `Memory` where
     /// there is none for a file and its bodies. Each hands the disk back.
     pub fn open(alloc: Global, disk: D) -> Result<Opened<D>, LogError<D>>
         ensures bodies { D.told → IfOk result (λ o. generations_of (D.seen disk) ≡ Ok (generations_in o.log.side o.zero.items o.one.items)) }
@@ -77,7 +78,7 @@ impl<D: Disks> GateLog<D> {
         ensures any_moment_err { D.told → IfErr result (λ e. LeavesOnly D.moment D.left_since disk (handed_back e) (StandsAsSome (D.may_leave disk))) }
 
         // These device calls and no others.
-        ensures ran { D.told → IfOk result (λ o. Ran D.steps (both_opening_calls (D.seen disk)) disk o.log.disk true) }
+        ensures ran { D.told → IfOk result (λ o. CallsMade D.steps (both_opening_calls (D.seen disk)) disk o.log.disk true) }
         ensures ran_err { D.told → IfErr result (RanUntil D.steps (D.seen disk) disk) }
     {
         let mut disk = disk;
@@ -222,7 +223,7 @@ impl<D: Disks> GateLog<D> {
 
         // These device calls and no others.
         ensures ran { CalledDisk result
-            → Ran D.steps (renewal_calls (other self.old.side) self.old.other_gate frame.now) self.old.disk self.new.disk (is_ok result) }
+            → CallsMade D.steps (renewal_calls (other self.old.side) self.old.other_gate frame.now) self.old.disk self.new.disk (is_ok result) }
     {
         if self.stopped {
             return Err(AppendError::Stopped);

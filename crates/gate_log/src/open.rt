@@ -1,3 +1,4 @@
+//! The opening of a side: it is synced, given a header where it has room for no more, and read.
 ghost use Rattle.std.specs.Prelude.{◌≡◌, ◌+◌, ◌^◌, ◌≤◌, ◌<◌, ◌++◌, ◌∷◌, [], List, ℕ, is_ok, length, vec_len, OnOk, IfOk, IfErr, IsErrOf, Ok, true, false, None};
 ghost use Rattle.gate_log.specs.Calls.{preparing_calls, opening_calls};
 ghost use Rattle.gate_log.specs.Generations.{disorder as spec_disorder, StandsAsSome};
@@ -7,7 +8,7 @@ ghost use Rattle.gate_log.specs.Opening.{IsSideFault, DidNotFail, SideRose, Side
 ghost use Rattle.zen_disk.specs.DeviceCall.{Len, Read, Sync};
 ghost use Rattle.zen_disk.specs.Faults.{Rose, HasCause};
 ghost use Rattle.zen_disk.specs.Moments.{Within, LeavesOnly};
-ghost use Rattle.zen_disk.specs.Runs.{Ran};
+ghost use Rattle.zen_disk.specs.Runs.{CallsMade};
 ghost use Rattle.zen_disk.specs.Sides.{on, other, OnlyOn};
 
 use crate::Fault;
@@ -40,7 +41,7 @@ pub(crate) fn synced_len<D: Disks>(disk: &mut D, side: Side) -> Result<u64, Fail
     ensures durable { OnOk result (OnlyOn side (on side (D.seen disk.new)) (D.may_leave disk.new)) }
     ensures within { Within (D.may_leave disk.old) (D.may_leave disk.new) }
     ensures any_moment { LeavesOnly D.moment D.left_since disk.old disk.new (D.may_leave disk.old) }
-    ensures ran { Ran D.steps (Sync side ∷ Len side ∷ []) disk.old disk.new (is_ok result) }
+    ensures ran { CallsMade D.steps (Sync side ∷ Len side ∷ []) disk.old disk.new (is_ok result) }
     ensures cause { HasCause (D.faults disk.old) (D.faults disk.new) result }
 {
     disk.sync(side)?;
@@ -61,7 +62,7 @@ pub(crate) fn prepare<D: Disks>(disk: &mut D, side: Side) -> Result<u64, Failed>
     ensures durable { OnOk result (OnlyOn side (on side (D.seen disk.new)) (D.may_leave disk.new)) }
     ensures still { (file : List ℕ) → OnlyOn (other side) file (D.may_leave disk.old) → OnlyOn (other side) file (D.may_leave disk.new) }
     ensures any_moment { D.told → LeavesOnly D.moment D.left_since disk.old disk.new (StandsAsSome (D.may_leave disk.old)) }
-    ensures ran { D.told → Ran D.steps (preparing_calls side (on side (D.seen disk.old))) disk.old disk.new (is_ok result) }
+    ensures ran { D.told → CallsMade D.steps (preparing_calls side (on side (D.seen disk.old))) disk.old disk.new (is_ok result) }
     ensures cause { HasCause (D.faults disk.old) (D.faults disk.new) result }
 {
     let Ok(len) = synced_len(disk, side) else {
@@ -139,7 +140,7 @@ pub(crate) fn open_side<D: Disks>(
     ensures durable { OnOk result (OnlyOn side (on side (D.seen disk.new)) (D.may_leave disk.new)) }
     ensures still { (file : List ℕ) → OnlyOn (other side) file (D.may_leave disk.old) → OnlyOn (other side) file (D.may_leave disk.new) }
     ensures any_moment { D.told → LeavesOnly D.moment D.left_since disk.old disk.new (StandsAsSome (D.may_leave disk.old)) }
-    ensures ran { D.told → OnOk result (Ran D.steps (opening_calls side (on side (D.seen disk.old))) disk.old disk.new true) }
+    ensures ran { D.told → OnOk result (CallsMade D.steps (opening_calls side (on side (D.seen disk.old))) disk.old disk.new true) }
     ensures ran_err { D.told → IfErr result (SideRan D.steps side (on side (D.seen disk.old)) disk.old disk.new) }
     ensures later { D.faults disk.old ≤ D.faults disk.new }
     ensures cause { IfErr result (SideRose (D.faults disk.old) (D.faults disk.new)) }
@@ -158,6 +159,7 @@ pub(crate) fn open_side<D: Disks>(
         Err(ReadError::Memory) => return Err(SideError::Memory),
         Err(ReadError::Failed) => return Err(SideError::Failed),
     };
+    // The match changes nothing: the proof goes by its two cases.
     match scan_side(alloc, side, &bytes) {
         Ok(scanned) => Ok(scanned),
         Err(error) => Err(error),

@@ -1,3 +1,4 @@
+//! Where a body may stand: a generation is the first body of its file, and side one begins with one.
 ghost use Rattle.std.specs.Prelude.{◌≡◌, ◌+◌, ◌<◌, ◌^◌, ◌≤◌, length, Ok, None};
 ghost use Rattle.gate_log.specs.Generations.{is_generation as spec_is_generation, misplaced_from, epoch_in, has_epoch as spec_has_epoch, may_begin as spec_may_begin, disorder as spec_disorder, epoch_of as spec_epoch_of, chosen_by, tail_of};
 ghost use Rattle.gate_log.specs.Journal.{laid};

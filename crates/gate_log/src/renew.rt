@@ -1,5 +1,6 @@
+//! A generation begun on the side that is not in use.
 ghost use Rattle.std.specs.Prelude.{◌≡◌, ◌+◌, ◌^◌, ◌≤◌, ◌<◌, [], ◌∷◌, List, ℕ, length, is_ok, OnOk};
-ghost use Rattle.zen_disk.specs.Runs.{Ran};
+ghost use Rattle.zen_disk.specs.Runs.{CallsMade};
 ghost use Rattle.zen_disk.specs.Faults.{HasCause};
 ghost use Rattle.zen_disk.specs.Moments.{Only, LeavesOnly};
 ghost use Rattle.zen_disk.specs.Sides.{on, other, OnlyOn};
@@ -21,7 +22,7 @@ fn clear<D: Disks>(disk: &mut D, side: Side, gate: u64) -> Result<(), Failed>
     ensures any_moment { D.told → (bodies : List (List ℕ)) → IsLaid bodies (on side (D.seen disk.old)) gate
         → Only (D.seen disk.old) (D.may_leave disk.old)
         → LeavesOnly D.moment D.left_since disk.old disk.new (LeavesOn side (IsAsBeforeOrNone bodies) (D.seen disk.old)) }
-    ensures ran { Ran D.steps (closing_calls side gate) disk.old disk.new (is_ok result) }
+    ensures ran { CallsMade D.steps (closing_calls side gate) disk.old disk.new (is_ok result) }
     ensures cause { HasCause (D.faults disk.old) (D.faults disk.new) result }
 {
     if gate <= 8 {
@@ -52,7 +53,7 @@ pub(crate) fn write_generation<D: Disks>(
     ensures any_moment { D.told → (bodies : List (List ℕ)) → (body : List ℕ) → IsFrame body frame.now → IsLaid bodies (on side (D.seen disk.old)) gate
         → Only (D.seen disk.old) (D.may_leave disk.old)
         → LeavesOnly D.moment D.left_since disk.old disk.new (LeavesOn side (IsReplaced bodies body) (D.seen disk.old)) }
-    ensures ran { Ran D.steps (renewal_calls side gate frame.now) disk.old disk.new (is_ok result) }
+    ensures ran { CallsMade D.steps (renewal_calls side gate frame.now) disk.old disk.new (is_ok result) }
     ensures cause { HasCause (D.faults disk.old) (D.faults disk.new) result }
 {
     let Ok(()) = clear(disk, side, gate) else {

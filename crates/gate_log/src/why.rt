@@ -1,3 +1,4 @@
+//! Why two files are no journal, as types and as text.
 use std::fmt;
 use thiserror::Error;
 use zen_disk::Side;

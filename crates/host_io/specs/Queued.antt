@@ -1,11 +1,11 @@
--- What waits to be written.
+-- For the contracts inside: what waits to be written.
 use Rattle.std.specs.Prelude.{◌≡◌, ℕ, Bool, true, false, List, ◌++◌, flat_map}
 
--- what is new waits behind what waited, or not at all
+-- what is new waits after what waited, or not at all
 abbrev pub Queued : {A : Type 0} → Bool → List A → List A → List A → Type 0
 Queued true was now more = now ≡ was ++ more
 Queued false was now more = now ≡ was
 
--- the bytes of frames, one behind the other
+-- the bytes of frames, one after the other
 abbrev pub bytes_of : List (List ℕ) → List ℕ
 bytes_of frames = flat_map (λ frame. frame) frames

@@ -1,3 +1,4 @@
+//! Real children: what they write, how they end, and that none is left.
 use crate::{Children, SystemChild};
 use std::alloc::{AllocError, Global};
 use std::fs;

@@ -1,3 +1,4 @@
+//! The children of the process: started, read from while one is waited for, and killed.
 use libc::net::{POLLIN, poll};
 use libc::types::pollfd;
 use std::alloc::{AllocError, Global};
@@ -173,6 +174,7 @@ impl Children {
         };
         if let Err(refused) = self.running.push(running) {
             let mut running = refused.value;
+            // The answer is the error that came first.
             let _ = end(&mut running.process);
             return Err(HostError::Memory);
         }
@@ -193,6 +195,7 @@ impl Children {
                 output: running.output,
             }),
             Err(error) => {
+                // The answer is the error that came first.
                 let _ = end(&mut running.process);
                 Err(error)
             }

@@ -1,3 +1,4 @@
+//! One connection over a socket: what its first bytes say that it is, what came over it, and what waits to be written.
 ghost use Rattle.std.specs.Prelude.{◌≡◌, ◌≤◌, ◌<◌, ◌+◌, IsTrue, IfSome, IsSomeAnd, None, Some};
 
 use crate::framing::Framing;
@@ -25,8 +26,8 @@ const FRONT: usize = 38;
 const LENGTH: u64 = 4;
 
 // The longest time that a client which has ended its writing is kept for its replies, in milliseconds: longer than the
-// publication in flight and the one behind it may take, after which each of its lines has been answered.
-const LINGER: u64 = 65_000;
+// publication in flight and the one after it may take, after which each of its lines has been answered.
+const LINGER_MS: u64 = 65_000;
 
 // Under which a socket is registered. Each wait is followed by a look at all sockets, so nothing asks which one woke it.
 pub(crate) const ANY: Token = Token(0);
@@ -175,7 +176,7 @@ impl Connection {
         self.owes_end
     }
 
-    // It takes the number of one whose end is to be told, or was told.
+    // It takes the number of one whose end is to be reported, or was reported.
     pub(crate) fn set_owes_end(&mut self, owes_end: bool) {
         self.owes_end = owes_end;
     }
@@ -206,7 +207,7 @@ impl Connection {
         }
     }
 
-    // What has come by now, in the order of this count. Where memory is short, nothing is taken.
+    // What has come by now, in the order of this count. Where memory runs out, nothing is taken.
     pub(crate) fn hear<F: Framing>(
         &mut self,
         alloc: Global,
@@ -237,7 +238,7 @@ impl Connection {
     {
         let until = match self.shut_until {
             Some(until) => until,
-            None => now.saturating_add(LINGER),
+            None => now.saturating_add(LINGER_MS),
         };
         self.shut_until = Some(until);
         self.brings_lines() && now < until && (owed > 0 || !self.outgoing.is_empty())
@@ -369,6 +370,7 @@ impl Connection {
     // What waits is dropped with the connection.
     fn end(&mut self) {
         self.over = true;
+        // A socket that is closed already is no error.
         let _ = self.stream.shutdown(Shutdown::Both);
     }
 }

@@ -1,3 +1,4 @@
+//! The files `journal.0` and `journal.1` of a folder as the two sides of a disk.
 ghost use Rattle.std.specs.Prelude.{◌≡◌, [], ⊤, IfOk};
 ghost use Rattle.zen_disk.specs.Faults.{HasCause};
 
@@ -9,7 +10,7 @@ use std::os::unix::fs::FileExt;
 use zen_disk::{Disks, Failed, Side};
 use zen_host::HostError;
 
-// The byte behind which no write ends.
+// The byte after which no write ends.
 const END: u64 = 1 << 62;
 
 // One of the two files. A file that is not there has no bytes.

@@ -1,3 +1,4 @@
+//! Folders and files made so that a crash of the machine loses no name.
 use std::fs::{File, OpenOptions, create_dir};
 use std::io;
 use std::os::fd::AsRawFd;
@@ -22,6 +23,7 @@ fn make_folder(rt: &HostRuntime, path: &str) -> io::Result<()> {
     match create_dir(rt, path) {
         Ok(()) => sync_parent(rt, path),
         Err(error) if error.kind() == io::ErrorKind::AlreadyExists => {
+            // A sync that the system refuses here is no fault: the folder was there before.
             let _ = sync_parent(rt, path);
             Ok(())
         }

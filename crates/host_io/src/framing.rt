@@ -1,3 +1,4 @@
+//! What a link asks of the crate above it: how what a node sends becomes bytes, and who sends the frames of a connection.
 use bytes::Bytes;
 use std::alloc::{AllocError, Global};
 use voting_config::NodeId;
@@ -26,7 +27,7 @@ pub trait Framing {
     /// How many pieces it has.
     fn count(&self, out: &Self::Out) -> usize;
 
-    /// The piece at a place, and None where there is none. The `Err` is want of memory.
+    /// The piece at a place, and None where there is none. The `Err` means that memory ran out.
     fn piece(
         &self,
         alloc: Global,

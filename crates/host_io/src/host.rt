@@ -1,3 +1,4 @@
+//! `SystemHost`: the host that is the system.
 ghost use Rattle.std.specs.Prelude.{◌≡◌, ◌≤◌, None, ⊤};
 ghost use Rattle.zen_disk.specs.Faults.{Rose};
 

@@ -1,3 +1,4 @@
+//! `SocketLink`: a node's link over sockets.
 ghost use Rattle.std.specs.Prelude.{◌≡◌, ℕ, ◌≤◌, IfOk, IfSome, IsTrue, IsErrOf, None, ⊤};
 ghost use Rattle.zen_disk.specs.Faults.{Rose};
 ghost use Rattle.zen_link.specs.Told.{has_low_conn};
@@ -14,10 +15,10 @@ use zen_host::HostError;
 use zen_link::{Input, Link, LinkError, LinkSettings};
 
 // The longest wait for something to come, in milliseconds.
-const WAIT: u64 = 50;
+const WAIT_MS: u64 = 50;
 
 // The longest time without a tick while inputs come, in milliseconds; where an event takes longer, each second input is one.
-const LATE: u64 = 100;
+const LATE_MS: u64 = 100;
 
 /// A link over sockets. It tells nothing.
 #[derive(Drop)]
@@ -73,13 +74,13 @@ impl<R: Net + Clock + RandomSource + Drop, F: Framing + Drop> SocketLink<R, F> {
         let Ok(now) = passed(&self.rt, &self.opened) else {
             return Err(LinkError::Failed);
         };
-        let late = self.ticked.saturating_add(LATE);
+        let late = self.ticked.saturating_add(LATE_MS);
         if now >= late && !self.ticked_last {
             self.sockets.serve(&self.framing, now);
             return Ok(None);
         }
         // where a tick is due again at once, what has come by now goes first
-        let until = now.saturating_add(WAIT).min(late);
+        let until = now.saturating_add(WAIT_MS).min(late);
         self.sockets
             .find(&self.rt, &self.framing, &self.opened, until)
     }

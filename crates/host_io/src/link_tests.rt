@@ -1,3 +1,4 @@
+//! Links over real sockets on this machine, with peers, with clients, and with clients that mean harm.
 use crate::{Framing, Piece, SocketLink, SystemHost, Target};
 use bytes::Bytes;
 use std::alloc::{AllocError, Global};

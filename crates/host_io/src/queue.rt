@@ -1,3 +1,4 @@
+//! The frames that wait to be written to a connection, whole and in order, up to a bound.
 ghost use Rattle.std.specs.Prelude.{◌≡◌, ◌≤◌, ◌==◌, ◌+◌, ◌∷◌, ◌++◌, [], length, nat_le, sum_by, drop, IfOk, OnErr, option_to_list};
 ghost use Rattle.host_io.specs.Queued.{Queued, bytes_of};
 
@@ -11,7 +12,7 @@ use std::marker::Model;
 // The most bytes that wait: a frame of the greatest length.
 const MOST: usize = 8_388_612;
 
-/// Frames that wait, the oldest first. Of the first one, the front may be gone.
+/// Frames that wait, the oldest first. Of the first one, a prefix may be gone.
 #[derive(Drop)]
 pub(crate) struct FrameQueue {
     frames: VecDeque<Bytes>,
@@ -45,7 +46,7 @@ impl FrameQueue {
         self.frames.is_empty()
     }
 
-    /// Puts a frame behind those that wait, where there is room for all of it.
+    /// Puts a frame after those that wait, where there is room for all of it.
     pub(crate) fn put(&mut self, frame: Bytes) -> Result<bool, AllocError>
         ensures whole { IfOk result (λ is_put. Queued is_put self.old self.new (frame ∷ [])) }
         ensures room { IfOk result (λ is_put. is_put ≡ nat_le (sum_by length self.old + length frame) 8388612) }
@@ -70,7 +71,7 @@ impl FrameQueue {
         Some(frame)
     }
 
-    /// Writes from the front of what waits, once.
+    /// Writes what waits, from its start on, once.
     pub(crate) fn write_to<W: Write>(&mut self, writer: &mut W) -> io::Result<usize>
         ensures written { IfOk result (λ count. bytes_of self.new ≡ drop count (bytes_of self.old)) }
         ensures kept { OnErr result (self.new ≡ self.old) }

@@ -1,3 +1,4 @@
+//! All sockets of a link: the listed peers that are dialled, the connections that have a number, and those that wait for one.
 ghost use Rattle.std.specs.Prelude.{◌<◌, IsTrue, IfOk, IfSome};
 ghost use Rattle.zen_link.specs.Told.{has_low_conn};
 
@@ -20,7 +21,7 @@ use zen_host::HostError;
 use zen_link::{CONNECTIONS, Input, LinkError, LinkSettings};
 
 // The shortest time between two dials of a peer, in milliseconds.
-const DIAL: u64 = 500;
+const DIAL_MS: u64 = 500;
 
 // The number under which a node's frames to itself come.
 const OWN: u64 = 0;
@@ -29,7 +30,7 @@ const OWN: u64 = 0;
 const LOBBY: usize = 8;
 
 // The longest wait for a number, in milliseconds: as long as a peer that has just connected may take to show its first frame.
-const ADMISSION: u64 = 1000;
+const ADMISSION_MS: u64 = 1000;
 
 // A listed peer.
 #[derive(Clone, Copy)]
@@ -193,7 +194,7 @@ impl Sockets {
             return Ok(Some(Input::Bytes { conn: OWN, bytes }));
         }
         self.serve(framing, now);
-        if self.is_stopped(framing) {
+        if self.asks_to_stop(framing) {
             return Ok(Some(Input::Stop));
         }
         for _ in 1..CONNECTIONS {
@@ -245,7 +246,7 @@ impl Sockets {
         match self.place() {
             Some(number) => self.put(number, connection),
             None => {
-                let until = now.saturating_add(ADMISSION);
+                let until = now.saturating_add(ADMISSION_MS);
                 return self.put_in_lobby(Guest { connection, until });
             }
         }
@@ -303,7 +304,7 @@ impl Sockets {
     }
 
     // Whether one that waits for a number says that the node is to end.
-    fn is_stopped<F: Framing>(&self, framing: &F) -> bool {
+    fn asks_to_stop<F: Framing>(&self, framing: &F) -> bool {
         self.lobby
             .iter()
             .any(|guest| guest.connection.front(framing) == Front::Stop)
@@ -389,6 +390,7 @@ impl Sockets {
 
     // A new connection, which is reported when something comes.
     fn registered(&mut self, mut stream: TcpStream, peer: Option<NodeId>) -> Option<Connection> {
+        // Where the system refuses it, frames come later, and no less.
         let _ = stream.set_nodelay(true);
         let registry = self.poll.registry();
         if registry
@@ -600,7 +602,7 @@ impl Sockets {
         if now < listed.dial_from {
             return None;
         }
-        listed.dial_from = now.saturating_add(DIAL);
+        listed.dial_from = now.saturating_add(DIAL_MS);
         Some(listed.address)
     }
 

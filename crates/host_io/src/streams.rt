@@ -1,3 +1,4 @@
+//! The standard input as a source, and the standard output as a sink.
 ghost use Rattle.std.specs.Prelude.{None, ⊤};
 
 use std::io::{Read, Stdin, Stdout, Write};

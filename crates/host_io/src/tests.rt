@@ -1,3 +1,4 @@
+//! Real files and folders, and the standard output.
 use crate::{FileDisks, Framing, Piece, StandardOutput, SystemHost};
 use std::alloc::{AllocError, Global};
 use std::fs;

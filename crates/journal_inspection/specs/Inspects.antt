@@ -1,4 +1,4 @@
--- What inspecting a folder does.
+-- Part of the statement: what inspecting a folder does.
 use Rattle.std.specs.Prelude.{◌≡◌, ℕ, ◌⊎◌, true, false, Option, Some, Ok, List, []}
 use Rattle.zen_disk.specs.Faults.{Rose}
 use Rattle.zen_disk.specs.Sides.{Files}
@@ -28,7 +28,7 @@ pub record LeavesLinks {D L : Type 0} (host host_now : HostView D L) : Type 0 wh
   pub ready : host_now.link_ready ≡ host.link_ready
   pub back : host_now.link_back ≡ host.link_back
 
--- the host was asked once for the disk of this folder, and for nothing else; a call that found no memory is not told
+-- the host was asked once for the disk of this folder, and for nothing else; a call that found no memory is not noted
 abbrev pub Asked : (dir : List ℕ) → (was now : Option (List HostCall)) → Inspection → Type 0
 Asked dir was now end.HostFault = now ≡ and_call was (OpensDisk dir true)
 Asked dir was now end.NoMemory = (now ≡ was) ⊎ (now ≡ and_call was (OpensDisk dir false))

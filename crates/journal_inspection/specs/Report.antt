@@ -1,9 +1,9 @@
--- What is written of a journal: seven lines that show what it keeps, or the line that says why it is none.
+-- Part of the statement: what is written of a journal: seven lines that show what it keeps, or the line that says why it is none.
 use Rattle.std.specs.Prelude.{ℕ, List, ◌++◌, codes, decimal}
 use Rattle.hex.specs.Hex.{encode_lower}
 use Rattle.sha2.specs.Sha256.{sha256}
 use Rattle.serde_json.specs.Written.{compact_text}
-use Rattle.schedule_text.specs.Words.{list_text}
+use Rattle.voting_config.specs.Lists.{list_text}
 use Rattle.cluster_state.specs.Json.{state_json}
 use Rattle.cluster_state.specs.States.{state}
 use Rattle.cluster_state.specs.declared.fault.FieldError.{FieldError}

@@ -1,4 +1,4 @@
--- What is shown of the journal on a disk.
+-- Part of the statement: what is shown of the journal on a disk.
 use Rattle.std.specs.Prelude.{◌≡◌, ℕ, Some, Ok, Err, List}
 use Rattle.zen_disk.specs.Faults.{Rose}
 use Rattle.zen_disk.specs.Sides.{Files}

@@ -1,3 +1,4 @@
+//! `inspect`: the disk of a folder opened, shown and given back.
 ghost use Rattle.std.specs.Prelude.{◌≡◌, ◌≤◌};
 ghost use Rattle.journal_inspection.specs.Inspects.{HostView, LeavesLinks, Asked, EndsWith, IsComplete};
 

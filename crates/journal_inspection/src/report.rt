@@ -1,3 +1,4 @@
+//! The seven lines that show a journal, and the line that says why there is none.
 ghost use Rattle.std.specs.Prelude.{◌≡◌, ◌++◌, OnOk, IfOk};
 ghost use Rattle.cluster_state.specs.States.{IsFit};
 ghost use Rattle.journal_inspection.specs.Report.{digest_text, accepted_lines, state_lines, report, field_name, body_fault_text, fault_text, why_text, not_a_journal};

@@ -1,3 +1,4 @@
+//! The journal on a disk opened and shown.
 ghost use Rattle.std.specs.Prelude.{◌≤◌};
 ghost use Rattle.cluster_state.specs.States.{IsFit};
 ghost use Rattle.journal_inspection.specs.Shows.{Shows, Reports, Refuses};

@@ -1,3 +1,4 @@
+//! Journals in memory with the lines that show them, and each way in which an inspection ends.
 use crate::{Inspection, inspect};
 use std::alloc::{AllocError, Global};
 use std::test::Fail;

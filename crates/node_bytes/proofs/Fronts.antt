@@ -1,4 +1,4 @@
--- The first bytes of a frame tell its sender.
+-- The first bytes of a frame say who sends it.
 use Rattle.std.proofs.Common.{◌≡◌, ℕ, suc, ◌+◌, ◌-◌, List, ◌∷◌, ◌++◌, length, take, Some, refl, sym, ap, ◌∙◌, arith, append_assoc, length-append}
 use Rattle.std.proofs.Math.Seq.{take-append-add}
 use Rattle.voting_config.specs.Ids.{Id}
@@ -30,7 +30,7 @@ kind_of_code kind.FollowerAnswer = refl
 kind_of_code kind.LeaderCheck = refl
 kind_of_code kind.LeaderAnswer = refl
 
--- behind a length, the byte of a kind and an id, whatever comes
+-- after a length, the byte of a kind and an id, whatever comes
 named : (size : ℕ) (k : Kind) (from : Id) (rest : List ℕ) → id.Fits from → sender_of (four_bytes size ++ (code k ∷ (id.spelling from ++ rest))) ≡ Some from
 named size k from rest fits =
     let body : List ℕ = code k ∷ (id.spelling from ++ rest) in

@@ -1,4 +1,4 @@
--- The pieces of what a node sends: its frames, and then its replies.
+-- For the contracts inside: the pieces of what a node sends: its frames, and then its replies.
 use Rattle.std.specs.Prelude.{◌≡◌, ℕ, ◌-◌, List, [], ◌∷◌, ◌++◌, length, slice_get, Option, Some, None, IsSome, IfSome, IsSomeAnd}
 use Rattle.host_io.specs.declared.framing.Piece.{Piece}
 use Rattle.host_io.specs.declared.framing.Target.TheVariants.{Node, Connection}

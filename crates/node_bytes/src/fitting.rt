@@ -1,3 +1,4 @@
+//! Whether what a node sends is within the limits of frames.
 ghost use Rattle.std.specs.Prelude.{◌≤◌, ◌^◌, ◌↔◌, IsTrue, map, length};
 ghost use Rattle.std.specs.List.{AllByRecursion};
 ghost use Rattle.cluster_state.specs.Fields.{IsFitSetting, AreFitSettings};

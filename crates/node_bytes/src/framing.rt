@@ -1,3 +1,4 @@
+//! `SealedFrames`: what an event of a node showed, as the bytes of its frames and replies.
 ghost use Rattle.std.specs.Prelude.{◌≡◌, ◌+◌, length, IfOk, IsSomeAnd};
 ghost use Rattle.node_bytes.specs.Pieces.{IsPieceOfFrame, IsPieceOfReply, PieceAt};
 ghost use Rattle.cluster_state.specs.Field.{byte_at};

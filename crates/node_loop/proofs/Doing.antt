@@ -1,4 +1,4 @@
--- What is told of one event, by how far it came.
+-- What is reported of one event, by how far it came.
 use Rattle.std.proofs.Common.{◌≡◌, ℕ, false, Option, None, Some, List, [], ◌∷◌, refl, ap, subst}
 use Rattle.zen_link.specs.Streams.{Appended, AppendedFront}
 use Rattle.policy_model.specs.declared.settings.Settings.{Settings}
@@ -12,7 +12,7 @@ use Rattle.zen_link.specs.Told.{Adds}
 use Rattle.node_loop.specs.Happenings.{Happening, Comes, Makes}
 use Rattle.node_loop.specs.Reports.{Output, IsIdle, StandsFor, moves_in}
 use Rattle.policy_model.specs.Entries.{Entry, Did, Bad, Gone, NoMemory, Unread as UnreadEntry}
-use Rattle.node_loop.specs.Steps.{Does, IsStopped}
+use Rattle.node_loop.specs.Steps.{Does, IsHalted}
 use Rattle.policy_model.specs.Follows.{EntryFollows}
 use Rattle.node_loop.specs.Tells.{Tells, IsUp, says_all, Grows}
 use Rattle.node_loop.proofs.Appending.{front_none}
@@ -43,7 +43,7 @@ module _ {C S : Type 0} (stands_for : C → Settings → Life → Type 0) (outpu
       refl refl does.next does.stands (front_none o (text life (Did event does.items)))
 
 module _ {C S : Type 0} (stands_for : C → Settings → Life → Type 0) (output : S → Output) (text : Life → Entry → List ℕ) (s : Settings) (life : Life) (event : Event) (now : C) (told : Option (List (Traffic S))) where
-  pub struck_said : (lines : List ℕ) (o0 o1 : Option (List ℕ)) → IsStopped stands_for text s life event now (Some lines)
+  pub struck_said : (lines : List ℕ) (o0 o1 : Option (List ℕ)) → IsHalted stands_for text s life event now (Some lines)
       → Appended o0 o1 lines
       → Tells output text s life (Makes (Comes event) ∷ []) (Some ends.Disk) o0 o1 told told (stands_for now s)
   struck_said lines o0 o1 does written =
@@ -52,14 +52,14 @@ module _ {C S : Type 0} (stands_for : C → Settings → Life → Type 0) (outpu
       (subst (λ l. Appended o0 o1 l) does.said written)
       (rw does.fault (grows_none output told told refl)) (λ is. does.fault)
 
-  pub struck_part : (lines : List ℕ) (o0 o1 : Option (List ℕ)) → IsStopped stands_for text s life event now (Some lines)
+  pub struck_part : (lines : List ℕ) (o0 o1 : Option (List ℕ)) → IsHalted stands_for text s life event now (Some lines)
       → AppendedFront o0 o1 lines
       → Tells output text s life (Makes (Comes event) ∷ []) (Some ends.Write) o0 o1 told told (stands_for now s)
   struck_part lines o0 o1 does front =
       says_part output text s life (Comes event) (Did event does.items) ends.Write o0 o1 told (stands_for now s)
       refl refl does.next does.stands (subst (λ l. AppendedFront o0 o1 l) does.said front)
 
-  pub struck_silent : (lines : Option (List ℕ)) (o : Option (List ℕ)) → IsStopped stands_for text s life event now lines
+  pub struck_silent : (lines : Option (List ℕ)) (o : Option (List ℕ)) → IsHalted stands_for text s life event now lines
       → Tells output text s life (Makes (Comes event) ∷ []) (Some ends.Memory) o o told told (stands_for now s)
   struck_silent lines o does =
       says_part output text s life (Comes event) (Did event does.items) ends.Memory o o told (stands_for now s)

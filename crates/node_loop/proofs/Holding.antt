@@ -13,7 +13,7 @@ use Rattle.node_loop.specs.Connections.{reading_of, bytes_of}
 use Rattle.node_loop.specs.Turns.{Reads}
 use Rattle.node_loop.specs.Limits.{HoldsLittle}
 
--- by what stands at the front: less than a length, too long a length, less than a body, or a body
+-- by what stands at the start: less than a length, too long a length, less than a body, or a body
 front_holds : (bytes : List ℕ) (after : List ℕ → Stream) (t1 t2 t3 : Bool) (body : Result Frame FrameFault)
     → nat_lt (length bytes) 4 ≡ t1 → nat_lt most_body (said_length bytes) ≡ t2 → nat_lt (length (drop 4 bytes)) (said_length bytes) ≡ t3
     → frame_of (take (said_length bytes) (drop 4 bytes)) ≡ body

@@ -21,7 +21,7 @@ use Rattle.policy_model.specs.Views.{View, view_of}
 use Rattle.node_loop.specs.declared.lines.Told.{Told}
 use Rattle.node_loop.specs.Crashes.{Holds, IsLeftAlong}
 use Rattle.node_loop.specs.Reporting.{Reports, AreLined, sent_of}
-use Rattle.node_loop.specs.Steps.{Does, IsStopped}
+use Rattle.node_loop.specs.Steps.{Does, IsHalted}
 use Rattle.node_loop.specs.Texts.{entry_text}
 use Rattle.node_loop.proofs.Lasting.{leaves_now, leaves_struck}
 
@@ -144,7 +144,7 @@ module _ {C K : Type 0} (k : Ghosts K)
       → Failed k (node_in old) (node_in new) event (items_of (node_in old).settings (log_of life) event) told
       → Survives k (node_in old) (node_in new) event
       → AreLined s.me (told_in old) told [] [] lines (told_in new)
-      → IsStopped (holds_in old life) (entry_text s) s life event new lines
+      → IsHalted (holds_in old life) (entry_text s) s life event new lines
   broke old new s life event told lines r start runs failed survives lined =
       let items = items_of (node_in old).settings (log_of life) event in
       let whole : has_fault items ≡ false = faultless_next (node_in old).settings (view_of (node_in old).settings (And (log_of life) (Begins event))) event in

@@ -1,4 +1,4 @@
--- How what a node tells grows.
+-- How what a node reports grows.
 use Rattle.std.proofs.Common.{◌≡◌, ℕ, true, false, IsTrue, Option, None, Some, List, [], ◌∷◌, ◌++◌, map, refl, sym, ap, subst, ◌∙◌, inl, inr, append_assoc, append-nil, arith}
 use Rattle.std.proofs.lemmas.List.{map-append}
 use Rattle.std.proofs.lemmas.Grind.{flat_map-append}
@@ -249,7 +249,7 @@ module _ {X : Type 0} (output : X → Output) (text : Life → Entry → List �
     struck = struck;
   }
 
-  -- one thing happens, and a front of it is said
+  -- one thing happens, and a prefix of it is said
   pub says_part : (life : Life) (h : Happening) (r : Entry) (end : End) (o0 o1 : Option (List ℕ)) (w : Option (List (Traffic X))) (stands : Life → Type 0)
       → says_all (Some end) ≡ false → StandsFor r h → EntryFollows s life r → stands (Lived life r) → AppendedFront o0 o1 (text life r)
       → Tells output text s life (Makes h ∷ []) (Some end) o0 o1 w w stands

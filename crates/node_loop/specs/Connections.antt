@@ -1,4 +1,4 @@
--- The bytes of a connection, and what more of them bring.
+-- Part of the statement: the bytes of a connection, and what more of them bring.
 use Rattle.std.specs.Prelude.{ℕ, Bool, true, false, ◌==◌, ◌&&◌, if◌then◌else◌, Option, None, Some, List, [], ◌∷◌, ◌++◌, map, length, drop}
 use Rattle.wire_frames.specs.declared.fault.FrameFault.{FrameFault}
 use Rattle.wire_frames.specs.declared.frame.Frame.{Frame}
@@ -95,7 +95,7 @@ abbrev pub course_from : Intakes → List Intake → List Mark
 course_from before [] = []
 course_from before (i ∷ is) = course_by before i ++ course_from (Then before i) is
 
--- what the reader of a connection holds after these bytes: nothing, what stands behind the frames so far, or a line that has not ended
+-- what the reader of a connection holds after these bytes: nothing, what stands after the frames so far, or a line that has not ended
 abbrev pub reading_of : List ℕ → Connection
 reading_of [] = Fresh
 reading_of (b ∷ bytes) = if b == 0 then Frames (stream (b ∷ bytes)).ending else Lines (rest_of (b ∷ bytes))

@@ -1,4 +1,4 @@
--- What feeding a connection's reader gives.
+-- For the contracts inside: what feeding a connection's reader gives.
 use Rattle.std.specs.Prelude.{◌≡◌, ℕ, Bool, true, false, not, ◌==◌, Option, None, Some, List, [], ◌∷◌, ◌++◌, All}
 use Rattle.wire_frames.specs.declared.fault.FrameFault.{FrameFault}
 use Rattle.wire_frames.specs.Frames.{IsFitFrame}

@@ -1,4 +1,4 @@
--- What the inputs of a node make: its events, and the ends of its connections.
+-- Part of the statement: what the inputs of a node make: its events, and the ends of its connections.
 use Rattle.std.specs.Prelude.{ℕ}
 use Rattle.wire_frames.specs.declared.fault.FrameFault.{FrameFault}
 use Rattle.policy_model.specs.declared.events.Event.{Event}

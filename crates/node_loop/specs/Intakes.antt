@@ -1,4 +1,4 @@
--- What a link gave a node, input by input.
+-- Part of the statement: what a link gave a node, input by input.
 use Rattle.std.specs.Prelude.{ℕ, List, [], ◌∷◌}
 use Rattle.zen_link.specs.declared.link.Input.{Input}
 use Rattle.zen_link.specs.declared.link.Input.TheVariants.{Bytes}

@@ -1,4 +1,4 @@
--- How much a node holds of what comes over a connection.
+-- For the contracts inside: how much a node holds of what comes over a connection.
 use Rattle.std.specs.Prelude.{ℕ, ◌+◌, ◌<◌, ◌≤◌, List, length, get_or}
 use Rattle.wire_frames.specs.Frames.{most_body}
 use Rattle.wire_frames.specs.Streams.{Rest, Fault}

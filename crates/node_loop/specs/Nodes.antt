@@ -1,4 +1,4 @@
--- The words for what a node comes to, by its ghost members.
+-- For the contracts inside: the words for what a node comes to, by its ghost members.
 use Rattle.policy_model.specs.declared.settings.Settings.{Settings}
 use Rattle.policy_model.specs.Entries.{Life}
 use Rattle.node_loop.specs.declared.steps.Steps.{Ghosts}

@@ -20,7 +20,7 @@ use Rattle.node_loop.specs.Reports.{Output, IsIdle}
 use Rattle.node_loop.specs.Steps.{AreLines}
 use Rattle.node_loop.specs.Texts.{IsTold, entry_text}
 
--- The node has these settings and is what its life makes of it; it has stopped exactly where its last event was struck. A crash now
+-- The node has these settings and is what its life makes of it; it is halted exactly where its last event was struck. A crash now
 -- leaves the last record of its life. What it keeps for its lines is right, or lost.
 pub record Reports {K : Type 0} (k : Ghosts K) (node : Coordinator K) (told : Option Told) (s : Settings) (life : Life) : Type 0 where
   pub settings : node.settings ≡ s

@@ -35,7 +35,7 @@ abbrev pub happened_in : Mark → List Happening
 happened_in (Takes input) = []
 happened_in (Makes happening) = happening ∷ []
 
--- the entries stand for a front of what happened, one for one, and this is left of it
+-- the entries stand for a prefix of what happened, one for one, and this is left of it
 abbrev pub Reported : List Happening → List Entry → List Happening → Type 0
 Reported happened [] left = left ≡ happened
 Reported [] (e ∷ es) left = ⊥
@@ -61,7 +61,7 @@ moves_in (Bad conn fault) = Dropped conn ∷ []
 moves_in (entry.Unread conn) = Dropped conn ∷ []
 moves_in e = []
 
--- what goes over a link in the course of a run: each input, and behind it what is given for the entries of what it made
+-- what goes over a link in the course of a run: each input, and after it what is given for the entries of what it made
 abbrev pub moves_of : List Mark → List Entry → List (Traffic Output)
 moves_of [] es = []
 moves_of (Takes input ∷ marks) es = Took input ∷ moves_of marks es

@@ -1,4 +1,4 @@
--- Part of the statement: what a step of a node does, and what it has to say of it.
+-- For the contracts inside: what a step of a node does, and what it has to say of it.
 use Rattle.std.specs.Prelude.{◌≡◌, ℕ, true, false, Option, Some, None, Result, Ok, Err, List}
 use Rattle.policy_model.specs.declared.events.Event.{Event}
 use Rattle.policy_model.specs.declared.settings.Settings.{Settings}
@@ -26,7 +26,7 @@ module _ {C : Type 0} (stands_for : C → Settings → Life → Type 0) (text : 
     pub sends : output done.sealed ≡ output_of items
 
   -- the event was done as far as an act at which the disk failed
-  pub record IsStopped (lines : Option (List ℕ)) : Type 0 where
+  pub record IsHalted (lines : Option (List ℕ)) : Type 0 where
     pub items : List Item
     pub next : IsNext s life event items
     pub fault : has_fault items ≡ true
@@ -37,13 +37,13 @@ module _ {C : Type 0} (stands_for : C → Settings → Life → Type 0) (text : 
   abbrev pub FailsTo : StepError → Type 0
   FailsTo Stopped = is_struck life ≡ true
   FailsTo Memory = stands_for now s life
-  FailsTo (Disk lines) = IsStopped lines
+  FailsTo (Disk lines) = IsHalted lines
 
   abbrev pub StepsTo : {S : Type 0} → (output : S → Output) → Result (Done S) StepError → Type 0
   StepsTo output (Ok done) = Does output done
   StepsTo output (Err error) = FailsTo error
 
--- the disk stopped it
+-- the disk failed in it
 abbrev pub IsDiskError : StepError → Type 0
 IsDiskError Stopped = ⊥
 IsDiskError Memory = ⊥

@@ -1,4 +1,4 @@
--- What a node writes and sends of what happened to it.
+-- Part of the statement: what a node writes and sends of what happened to it.
 use Rattle.std.specs.Prelude.{◌≡◌, ℕ, ◌≤◌, Bool, true, false, IsTrue, Option, None, Some, List, [], ◌++◌, map, length}
 use Rattle.std.specs.List.{flat_map}
 use Rattle.zen_disk.specs.Faults.{Rose}
@@ -64,7 +64,7 @@ pub record GrownBy {X : Type 0} (output : X → Output) (was : Option (List (Tra
 abbrev pub Grows : {X : Type 0} → (X → Output) → Option (List (Traffic X)) → Option (List (Traffic X)) → List (Traffic Output) → Type 0
 Grows output was now moves = (all : List (Traffic _)) → now ≡ Some all → GrownBy output was all moves
 
--- A run of a node that lived so far. All that happened in its course is reported as the policy says, or a front of it where
+-- A run of a node that lived so far. All that happened in its course is reported as the policy says, or a prefix of it where
 -- the run ended within an input. The lines of what is said are written whole, and it is sent; what is unsaid is at most one
 -- entry, which the node lived but of which only a part was written, and nothing is sent for it. A run that the disk ended
 -- ends with an event that the disk struck.

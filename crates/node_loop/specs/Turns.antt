@@ -1,4 +1,4 @@
--- What turns of a node are.
+-- Part of the statement: what turns of a node are.
 use Rattle.std.specs.Prelude.{Bool, true, false, ◌||◌, ◌≡◌, ℕ, ◌<◌, ◌≤◌, IsTrue, Option, None, Some, List, [], ◌∷◌, length, get_or}
 use Rattle.policy_model.specs.declared.settings.Settings.{Settings}
 use Rattle.policy_model.specs.Entries.{Life}
@@ -60,7 +60,7 @@ module _ {X : Type 0} (output : X → Output) (text : Life → Entry → List �
     pub every : IsTrue (goes_on end) → length taken ≡ turns
     pub stop : is_stop end ≡ has_stop taken
 
--- a text was written whole, or a front of it where this is the end
+-- a text was written whole, or a prefix of it where this is the end
 abbrev pub Says : Option End → (out_was out_now : Option (List ℕ)) → List ℕ → Type 0
 Says None out_was out_now text = Appended out_was out_now text
 Says (Some end) out_was out_now text = (is_unsaid end ≡ true) × AppendedFront out_was out_now text

@@ -1,3 +1,4 @@
+//! What reads the bytes of a connection: frames where its first byte is 0, else lines.
 ghost use Rattle.std.specs.Prelude.{◌≡◌, ℕ, ◌<◌, List, [], ◌∷◌, IfOk, OnErr, IsTrue, length, slice_set};
 ghost use Rattle.node_loop.specs.Feeding.{FeedsAt};
 ghost use Rattle.node_loop.specs.Feeds.{Feeds, FeedsFrames, FeedsLines, HasFitFrames, kept_frames};
@@ -25,7 +26,7 @@ pub enum Came {
 }
 
 impl Connection {
-    /// Takes the next bytes of the connection, and gives what they bring. Behind a fault, and where no memory is found, it
+    /// Takes the next bytes of the connection, and gives what they bring. After a fault, and where no memory is found, it
     /// begins anew.
     pub fn feed(&mut self, alloc: Global, bytes: &[u8]) -> Result<Came, AllocError>
         ensures ok { IfOk result (λ came. Feeds self.old bytes.now came self.new) }
@@ -93,6 +94,7 @@ fn feed_lines(reader: LineReader, bytes: &[u8]) -> Result<(Connection, Came), Al
 {
     let mut reader = reader;
     let lines = reader.feed(bytes)?;
+    // For the proof alone: how the bytes were cut makes no difference.
     law_cuts();
     Ok((Connection::Lines(reader), Came::Lines(lines)))
 }

@@ -1,3 +1,4 @@
+//! The lines that a node writes of what came to it, and of what it did.
 ghost use Rattle.std.specs.Prelude.{◌≡◌, ◌++◌, OnOk};
 ghost use Rattle.wire_frames.specs.declared.fault.FrameFault.TheVariants.{UnknownKind, Field};
 ghost use Rattle.policy_model.specs.declared.events.Event.TheVariants.{Tick as TickCame, Frame as FrameCame, Client as LineCame};

@@ -1,3 +1,4 @@
+//! `Node`: a node over its link. Each input becomes events, and each event is done, written and then sent.
 ghost use Rattle.node_loop.specs.Intakes.{Intakes, NoIntakes};
 ghost use Rattle.node_loop.specs.Limits.{LawHoldsLittle};
 ghost use Rattle.node_loop.specs.Turns.{Reads, TakesIn, Turns, Says, ServesOn, Serves, is_stop, is_stop_input};
@@ -17,7 +18,7 @@ ghost use Rattle.node_loop.specs.Feeds.{HasFitFrames, happenings_of};
 ghost use Rattle.node_loop.specs.Happenings.{Comes, Faulty, Ends, Unread, Refused, Makes};
 ghost use Rattle.policy_model.specs.Entries.{Entry, Did, NoMemory, Unread as UnreadEntry};
 ghost use Rattle.node_loop.specs.Nodes.{HoldsBy};
-ghost use Rattle.node_loop.specs.Steps.{Does, IsStopped, FailsTo, IsDiskError};
+ghost use Rattle.node_loop.specs.Steps.{Does, IsHalted, FailsTo, IsDiskError};
 ghost use Rattle.node_loop.specs.Tells.{Tells, HasCauses, IsUp, IsOpened, does_all, goes_on};
 
 use crate::connection::{Came, Connection, close_at, feed_at};
@@ -70,9 +71,9 @@ fn tell_done<S: Steps, L: Link<Out = S::Sealed>, O: Sink>(
     None
 }
 
-// Writes the lines of an event that the disk stopped.
+// Writes the lines of an event in which the disk failed.
 fn tell_struck<S: Steps, O: Sink>(steps: &S, out: &mut O, lines: Option<Text>) -> Option<End>
-    ensures tells { (old : S) (s : Settings) (life : Life) (event : _) (told : Option (List (Traffic S.Sealed))) → IsStopped (λ now s2 new. HoldsBy S.Steps old now s2 life new) (S.text s) s life event steps.now lines
+    ensures tells { (old : S) (s : Settings) (life : Life) (event : _) (told : Option (List (Traffic S.Sealed))) → IsHalted (λ now s2 new. HoldsBy S.Steps old now s2 life new) (S.text s) s life event steps.now lines
         → Tells S.output (S.text s) s life (Makes (Comes event) ∷ []) result (O.written out.old) (O.written out.new) told told (HoldsBy S.Steps old steps.now s life) }
     ensures within { does_all result ≡ goes_on result }
     ensures stop { is_stop result ≡ false }
@@ -107,7 +108,7 @@ fn tell_no_memory<S: Steps, O: Sink>(steps: &S, out: &mut O) -> Option<End>
     None
 }
 
-// Does an event, and tells it.
+// Does an event, and reports it.
 fn tell_event<S: Steps, L: Link<Out = S::Sealed>, O: Sink>(
     steps: &mut S,
     alloc: Global,
@@ -262,7 +263,7 @@ fn tell_lines<S: Steps, L: Link<Out = S::Sealed>, O: Sink>(
     None
 }
 
-// Does the frames that came, and then tells the fault that stands next.
+// Does the frames that came, and then reports the fault that stands next.
 fn tell_fed<S: Steps, L: Link<Out = S::Sealed>, O: Sink>(
     steps: &mut S,
     alloc: Global,
@@ -285,7 +286,7 @@ fn tell_fed<S: Steps, L: Link<Out = S::Sealed>, O: Sink>(
     tell_fault(steps, alloc, link, out, conn, fault)
 }
 
-// Tells the fault, if there is one.
+// Reports the fault, if there is one.
 fn tell_fault<S: Steps, L: Link<Out = S::Sealed>, O: Sink>(
     steps: &S,
     alloc: Global,
@@ -353,7 +354,7 @@ fn take_bytes<S: Steps, L: Link<Out = S::Sealed>, O: Sink>(
     }
 }
 
-// Tells that a connection ended, of which no byte is kept.
+// Reports that a connection ended, of which no byte is kept.
 fn take_closed<S: Steps, L: Link<Out = S::Sealed>, O: Sink>(
     steps: &mut S,
     connections: &mut [Connection],

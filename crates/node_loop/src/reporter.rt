@@ -1,3 +1,4 @@
+//! A coordinator that gives the lines of each of its events.
 ghost use Rattle.std.specs.Prelude.{◌≡◌, ◌≤◌, ℕ, Option, Some, None, false, IfSome};
 ghost use Rattle.world_model.specs.declared.acts.Act.TheVariants.{Open};
 ghost use Rattle.world_model.specs.Histories.{ContinuesUnlessFirst};
@@ -19,7 +20,7 @@ use trace_text::write_record;
 use voting_config::NodeId;
 use wire_frames::{Frame, FrameFault};
 
-/// The coordinator of a node, with what the lines need that tell what it does.
+/// The coordinator of a node, with what the lines need that say what it does.
 #[derive(Drop)]
 pub struct Reporter<K: Keeper> {
     me: NodeId,

@@ -1,3 +1,4 @@
+//! What a node over its link asks of the node that it runs: to do an event and to give its lines.
 ghost use Rattle.std.specs.Prelude.{Option, ◌≡◌, ℕ, ◌≤◌, List, IfOk};
 ghost use Rattle.zen_disk.specs.Faults.{Rose};
 ghost use Rattle.cluster_state.specs.declared.state.Kept.{Kept};

@@ -1,7 +1,7 @@
 -- Each act of a rule is answered as the node's acts so far say.
 use Rattle.std.proofs.Common.{ℕ, Bool, true, false, not, ◌&&◌, Option, None, Some, Result, Ok, Err, List, [], ◌∷◌, ◌++◌, refl}
 use Rattle.std.specs.Prelude.{if◌then◌else◌, is_some, nat_lt}
-use Rattle.voting_config.specs.Ids.{Id, same}
+use Rattle.voting_config.specs.Ids.{Id, same, has_room}
 use Rattle.bootstrap.specs.Decisions.{decision_of}
 use Rattle.peer_finder.specs.Peers.{answered_set}
 use Rattle.cluster_state.specs.JoinCheck.{is_empty}
@@ -186,7 +186,7 @@ module _ (s : Settings) where
   answered-takes_join : (v : View) (p : Id) (term : ℕ) (last : StateId) → IsAnswered s v (joins.takes_join s v p term last)
   answered-takes_join v p term last =
       let act : Act = TakeJoin (joins.join_from p s.me term last) in
-      answered-if v (joins.fits v.node.votes p) _ _ (ByAct v act _ refl (answered-after_join v (doing.after_act s v act) act p)) (Ended v)
+      answered-if v (has_room v.node.join_votes p) _ _ (ByAct v act _ refl (answered-after_join v (doing.after_act s v act) act p)) (Ended v)
 
   answered-joined : (v : View) (p : Id) (term : ℕ) (last : StateId) → IsAnswered s v (joins.is_joined s v p term last)
   answered-joined v p term last =
@@ -211,7 +211,7 @@ module _ (s : Settings) where
   answered-counts_response : (v : View) (p : Id) (id : StateId) → IsAnswered s v (publications.counts_response s v p id)
   answered-counts_response v p id =
       let act : Act = Response (record { source = p; target = s.me; term = id.term; version = id.version }) in
-      answered-if v (doing.is_leader v.mode && is_some v.publication && joins.fits v.node.acks p) _ _
+      answered-if v (doing.is_leader v.mode && is_some v.publication && has_room v.node.publish_votes p) _ _
       (ByAct v act _ refl
       (answered-quiet _ _ (quiet-if _ _ _ (quiet-sends_commit (doing.after_act s v act) (publications.is_commit_sent v.publication) p id) Silent)))
       (Ended v)

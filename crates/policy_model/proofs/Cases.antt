@@ -62,7 +62,7 @@ module _ (v : View) where
     round = Some (started a (state_id 1 3) 4);
   }
 
-  -- an answer that counts makes it stand for election, in the term behind the greatest
+  -- an answer that counts makes it stand for election, in the term after the greatest
   pre_vote_elects : counts_pre_vote three in_round in_round.round b 6 (state_id 1 3)
       ≡ Notes (RoundAnswered b 6 (state_id 1 3)) ∷ Notes RoundEnded ∷ to a (message.StartJoin a 7) ∷ to b (message.StartJoin a 7) ∷ []
   pre_vote_elects = refl
@@ -88,7 +88,7 @@ module _ (v : View) where
   follower_takes_none : is_asked_to_join three (record v { mode = Follower b }) c 4 ≡ []
   follower_takes_none = refl
 
-  -- a candidate asks the master that it is told of by that master for a join
+  -- a candidate that hears of a master from that master asks it for a join
   abbrev seeking : View
   seeking = record v { mode = Candidate; node = record v.node { term = 4 } }
 
@@ -139,7 +139,7 @@ module _ (v : View) where
       ≡ Drops b Checks ∷ Notes FollowersChecked ∷ []
   checks_come_first = refl
 
-  -- a member is told whether the node leads it in its term
+  -- a member is answered whether the node leads it in its term
   member_is_led : is_checked_by_follower three (record leading { publication = Some (published_at (state_id 4 1) (a ∷ b ∷ []) 0) }) b 4 ≡ to b (message.LeaderAnswer true) ∷ []
   member_is_led = refl
 
@@ -173,7 +173,7 @@ module _ (v : View) where
 
   abbrev answering : List Id → ℕ → View
   answering committed now = record v {
-    node = record v.node { term = 1; version = 2; committed = committed };
+    node = record v.node { term = 1; published_version = 2; committed = committed };
     moment = now;
     tasks = record no_tasks { waiting = excluding ∷ [] };
     publication = Some (published_at (state_id 1 2) [] 0);

@@ -1,4 +1,4 @@
--- A life that follows the policy is the one that is made of what it is told.
+-- A life that follows the policy is the one that is made of what comes to it.
 use Rattle.std.proofs.Common.{◌≡◌, ℕ, zero, suc, ◌+◌, Bool, true, false, ◌||◌, ◌⊎◌, inl, inr, Option, None, Some, List, [], ◌∷◌, ◌++◌, refl, sym, ap, ◌∙◌, cond, arith}
 use Rattle.std.specs.Option.{option_map}
 use Rattle.world_model.specs.declared.acts.Outcome.{Outcome}
@@ -11,7 +11,7 @@ use Rattle.policy_model.specs.Follows.{Follows, items_of, is_fault, has_fault, w
 use Rattle.policy_model.specs.Told.{Fault, one_later, fault_in, Told, NothingTold, Found, Came, Passed, told_of}
 use Rattle.policy_model.proofs.Answering.{answered-next}
 
--- what stays of some items where a fault struck the act behind so many
+-- what stays of some items where a fault struck the act after so many
 abbrev left_at : List Item → ℕ → Outcome → List Item
 left_at [] place fault = []
 left_at (Acts act o ∷ is) zero fault = Acts act fault ∷ []

@@ -148,7 +148,7 @@ module _ (s : Settings) (v : View) where
   -- the first commit acknowledges what the state has
   commit_acknowledges : (key text : List ℕ) (id : StateId)
       → sends_first_commit s (record v {
-        node = record v.node { term = 1; version = 2 };
+        node = record v.node { term = 1; published_version = 2 };
         publication = Some (published_at id [] 0);
         tasks = record no_tasks { waiting = record { conn = 5; arrived = 0; request = record { id = 9; ask = ask.Put key text }; processed = true } ∷ [] };
       }) id

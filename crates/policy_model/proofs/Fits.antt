@@ -3,7 +3,7 @@ use Rattle.std.proofs.Common.{◌≡◌, ℕ, ◌+◌, ◌≤◌, ◌^◌, Bool,
 use Rattle.std.specs.Prelude.{if◌then◌else◌, max, is_some, nat_le, nat_lt, nat_eq}
 use Rattle.std.specs.List.{flat_map, AllByRecursion}
 use Rattle.std.proofs.lemmas.Bool.Decides.{nat_tests}
-use Rattle.voting_config.specs.Ids.{Id, before, same, same_config, is_quorum_of}
+use Rattle.voting_config.specs.Ids.{Id, before, same, same_config, is_quorum_of, has_room}
 use Rattle.bootstrap.specs.Decisions.{decision_of}
 use Rattle.election_clock.specs.Delays.{is_due}
 use Rattle.peer_finder.specs.Peers.{answered_set}
@@ -162,9 +162,9 @@ module _ (s : Settings) where
 
 -- ---- acts
 
-unless-stopped : (b : Bool) (r : Reply) (P : Type 0) → (is_taken r ≡ true → P) → is_taken (cond b Stopped r) ≡ true → P
-unless-stopped true r P f e = absurd (cc)
-unless-stopped false r P f e = f e
+unless-halted : (b : Bool) (r : Reply) (P : Type 0) → (is_taken r ≡ true → P) → is_taken (cond b Stopped r) ≡ true → P
+unless-halted true r P f e = absurd (cc)
+unless-halted false r P f e = f e
 
 unless-refused : (b : Bool) (c : Cause) (r : Reply) (P : Type 0) → (b ≡ false → is_taken r ≡ true → P) → is_taken (cond b (Refused c) r) ≡ true → P
 unless-refused true c r P f e = absurd (cc)
@@ -182,7 +182,7 @@ start-checked p t r =
 
 -- a join that is started is of a term within the limits
 pub started-fits : (me : Id) (p : NodeState) (c : Id) (t : ℕ) → is_taken (reply_at me p (StartJoin c t)) ≡ true → t ≤ 2 ^ 62
-started-fits me p c t e = unless-stopped p.stopped (start_reply me p c t) (t ≤ 2 ^ 62) (start-checked p t _) e
+started-fits me p c t e = unless-halted p.halted (start_reply me p c t) (t ≤ 2 ^ 62) (start-checked p t _) e
 
 -- a value that is taken is of a version within the limits
 pub value-fits : (me : Id) (p : NodeState) (version : ℕ) (config : List Id) (value : ClusterValue) → is_taken (reply_at me p (Value version config value)) ≡ true → version ≤ 2 ^ 62
@@ -190,16 +190,16 @@ value-fits me p version config value e =
     let P : Type 0 = version ≤ 2 ^ 62 in
     let r3 : Reply =
     cond (not (same_config config p.accepted.config) && not (same_config p.committed p.accepted.config)) (Refused (ValueRefused value_cause.Reconfiguring))
-    (cond (not (is_quorum_of config p.votes)) (Refused (ValueRefused value_cause.NoJoinQuorum))
+    (cond (not (is_quorum_of config p.join_votes)) (Refused (ValueRefused value_cause.NoJoinQuorum))
     (Taken (Some (published me p version config value)) false))
     in
     let r2 : Reply = cond (nat_lt last_number version) (Refused (ValueRefused (value_cause.VersionTooLarge version))) r3 in
-    let r1 : Reply = cond (nat_le version p.version) (Refused (ValueRefused (value_cause.VersionNotGreater p.version version))) r2 in
-    let r0 : Reply = cond (not (nat_eq p.version p.accepted.version)) (Refused (ValueRefused (value_cause.NotAccepted p.version p.accepted.version))) r1 in
-    unless-stopped p.stopped (value_reply me p version config value) P
-    (unless-refused (not p.won) (ValueRefused value_cause.NotWon) r0 P (λ a.
-    unless-refused (not (nat_eq p.version p.accepted.version)) (ValueRefused (value_cause.NotAccepted p.version p.accepted.version)) r1 P (λ b.
-    unless-refused (nat_le version p.version) (ValueRefused (value_cause.VersionNotGreater p.version version)) r2 P (λ c.
+    let r1 : Reply = cond (nat_le version p.published_version) (Refused (ValueRefused (value_cause.VersionNotGreater p.published_version version))) r2 in
+    let r0 : Reply = cond (not (nat_eq p.published_version p.accepted.version)) (Refused (ValueRefused (value_cause.NotAccepted p.published_version p.accepted.version))) r1 in
+    unless-halted p.halted (value_reply me p version config value) P
+    (unless-refused (not p.election_won) (ValueRefused value_cause.NotWon) r0 P (λ a.
+    unless-refused (not (nat_eq p.published_version p.accepted.version)) (ValueRefused (value_cause.NotAccepted p.published_version p.accepted.version)) r1 P (λ b.
+    unless-refused (nat_le version p.published_version) (ValueRefused (value_cause.VersionNotGreater p.published_version version)) r2 P (λ c.
     unless-refused (nat_lt last_number version) (ValueRefused (value_cause.VersionTooLarge version)) r3 P (λ d taken. grind (arith, nat_tests)))))) e
   where
     published : Id → NodeState → ℕ → List Id → ClusterValue → SentMessage
@@ -464,7 +464,7 @@ module _ (s : Settings) where
   fit-takes_join : (v : View) (p : Id) (term : ℕ) (last : StateId) → IsFitView v → Fit v (joins.takes_join s v p term last)
   fit-takes_join v p term last f =
       let act : Act = TakeJoin (joins.join_from p s.me term last) in
-      fit-if v (joins.fits v.node.votes p) _ _ (λ e. fit-act v act _ f tt (λ g. fit-after_join v (doing.after_act s v act) act p g)) (fit-none v f)
+      fit-if v (has_room v.node.join_votes p) _ _ (λ e. fit-act v act _ f tt (λ g. fit-after_join v (doing.after_act s v act) act p g)) (fit-none v f)
 
   fit-joined : (v : View) (p : Id) (term : ℕ) (last : StateId) → IsFitView v → Fit v (joins.is_joined s v p term last)
   fit-joined v p term last f = fit-then v _ (λ u. joins.takes_join s u p term last) (fit-raises_term v s.me term f) (λ u g. fit-takes_join u p term last g)
@@ -494,7 +494,7 @@ module _ (s : Settings) where
   fit-counts_response : (v : View) (p : Id) (id : StateId) → IsFitView v → IsFitId id → Fit v (publications.counts_response s v p id)
   fit-counts_response v p id f e =
       let act : Act = Response (record { source = p; target = s.me; term = id.term; version = id.version }) in
-      fit-if v (doing.is_leader v.mode && is_some v.publication && joins.fits v.node.acks p) _ _
+      fit-if v (doing.is_leader v.mode && is_some v.publication && has_room v.node.publish_votes p) _ _
       (λ b. fit-act v act _ f tt (λ g.
       fit-sound _ _ g (sound-if _ _ _ (sound-sends_commit (doing.after_act s v act) (publications.is_commit_sent v.publication) p id e) Silent))) (fit-none v f)
 

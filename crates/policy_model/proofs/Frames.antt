@@ -4,7 +4,8 @@ use Rattle.std.specs.Prelude.{if◌then◌else◌, is_some, nat_le, nat_lt, nat_
 use Rattle.std.specs.List.{flat_map}
 use Rattle.std.proofs.lemmas.Bool.Decides.{nat_tests}
 use Rattle.std.proofs.lemmas.List.{length-append, length-map}
-use Rattle.voting_config.specs.Ids.{Id, has, before, same, put, with_id, without_id, most_ids}
+use Rattle.voting_config.specs.Ids.{Id, has, before, same, put, with_id, without_id, most_ids, among, outside, has_room}
+use Rattle.voting_config.proofs.Sorted.{length-put}
 use Rattle.exclusions.specs.declared.AddError.{AddError}
 use Rattle.exclusions.specs.declared.StillMember.{StillMember}
 use Rattle.exclusions.specs.Exclusions.{added_of, cleared_of}
@@ -12,7 +13,6 @@ use Rattle.bootstrap.specs.Decisions.{decision_of}
 use Rattle.election_clock.specs.Delays.{is_due}
 use Rattle.peer_finder.specs.declared.Peer.{Peer}
 use Rattle.peer_finder.specs.Peers.{PeerFinder, after as finder_after, Added, ids_of, is_free, set_of, known_set, free_set, answered_set, most_peers}
-use Rattle.reconfigurator.specs.Targets.{among, outside}
 use Rattle.cluster_state.specs.JoinCheck.{is_empty}
 use Rattle.cluster_state.specs.declared.reply.LineFault.{LineFault}
 use Rattle.cluster_state.specs.declared.request.Ask.{Ask}
@@ -51,7 +51,7 @@ use Rattle.master_tasks.specs.Queue.{Tasks, is_full_of, with_room}
 use Rattle.world_model.specs.declared.acts.Act.{Act}
 use Rattle.world_model.specs.declared.acts.Act.TheVariants.{Bootstrap, StartJoin, TakeJoin, Value, Publish, Response, Commit, Open}
 use Rattle.world_model.specs.Replies.{last_number}
-use Rattle.world_model.proofs.Legal.{same_self}
+use Rattle.voting_config.proofs.Sets.{same_self, length-with_id-le}
 use Rattle.policy_model.specs.declared.settings.Settings.{Settings}
 use Rattle.policy_model.specs.Events.{Mode, Candidate, Leader, Follower, Event, Start, Tick, FrameCame, LineCame, DropCause, Checks, Lag, Note, Met, Heard, PeersAsked, ElectionOff, ElectionSet, RoundBegun, RoundAnswered, RoundEnded, Joined, FollowersChecked, FollowerAnswered, LeaderChecked, LeaderAnswered, Queued, ExclusionsTimedOut, CommitAcked, ExclusionsAcked, StateMade, HandedOver, Item, Opens, Begins, Acts, Turns, Drops, Sends, Replies, Notes}
 use Rattle.policy_model.specs.Entries.{frames_in, put_frame, by_receiver}
@@ -78,23 +78,10 @@ fewer q (x ∷ xs) =
     let rest : length (filter q xs) ≤ length xs = fewer q xs in
     elim (q x) as (λ b. length (cond b (x ∷ filter q xs) (filter q xs)) ≤ suc (length xs)) [ true ↦ omega arith | false ↦ omega arith ]
 
-length-put : (x : Id) (ys : List Id) → length (put x ys) ≡ suc (length ys)
-length-put x [] = refl
-length-put x (y ∷ ys) =
-    elim (before y x) as (λ b. length (cond b (y ∷ put x ys) (x ∷ y ∷ ys)) ≡ suc (suc (length ys))) [
-      | true ↦ ap suc (length-put x ys)
-      | false ↦ refl
-    ]
-
-length-with_id : (x : Id) (ys : List Id) → length (with_id x ys) ≤ suc (length ys)
-length-with_id x ys =
-    let one_more = length-put x ys in
-    elim (has x ys) as (λ b. length (cond b ys (put x ys)) ≤ suc (length ys)) [ true ↦ omega arith | false ↦ omega (arith, one_more) ]
-
 -- a set has at most as many ids as it is made of
 length-set_of : (ids : List Id) → length (set_of ids) ≤ length ids
 length-set_of [] = omega arith
-length-set_of (id ∷ ids) = omega (arith, length-with_id id (set_of ids), length-set_of ids)
+length-set_of (id ∷ ids) = omega (arith, length-with_id-le id (set_of ids), length-set_of ids)
 
 -- a set without an id, which it may have been given before
 without_put : (x : Id) (ys : List Id) → length (without_id x (put x ys)) ≤ length ys
@@ -115,7 +102,7 @@ few-others x ys =
 
 few-with_room : (ids : List Id) (id : Id) → length ids ≤ most_ids → length (with_room ids id) ≤ most_ids
 few-with_room ids id few =
-    let one_more = length-with_id id ids in
+    let one_more = length-with_id-le id ids in
     elim (nat_lt (length ids) most_ids) as (λ b. nat_lt (length ids) most_ids ≡ b → length (if b then with_id id ids else ids) ≤ most_ids) [
       | true ↦ λ room. grind (arith, nat_tests, one_more)
       | false ↦ λ full. few
@@ -509,7 +496,7 @@ module _ (s : Settings) where
 
   few-stands : (u v : View) (term : ℕ) → IsSmallView u → IsSmallView v → Few 32 u (elections.stands_for_election s v term)
   few-stands u v term g f =
-      let all = length-with_id s.me (known_set v.finder) in
+      let all = length-with_id-le s.me (known_set v.finder) in
       let known = few-known v f in
       let most : length (with_id s.me (known_set v.finder)) ≤ 32 = omega (arith, all, known) in
       few-item 32 u _ _ refl g (λ h. few-if 32 _ (nat_le term last_number) _ _ (few-sends 32 _ _ _ most h) (none-within 32 _ h))
@@ -580,7 +567,7 @@ module _ (s : Settings) where
   few-takes_join : (v : View) (p : Id) (term : ℕ) (last : StateId) → IsSmallView v → Few 32 v (joins.takes_join s v p term last)
   few-takes_join v p term last f =
       let act : Act = TakeJoin (joins.join_from p s.me term last) in
-      few-if 32 v (joins.fits v.node.votes p) _ _ (few-act 32 v act _ f tt (λ g. few-after_join v (doing.after_act s v act) act p g)) (none-within 32 v f)
+      few-if 32 v (has_room v.node.join_votes p) _ _ (few-act 32 v act _ f tt (λ g. few-after_join v (doing.after_act s v act) act p g)) (none-within 32 v f)
 
   few-is_joined : (v : View) (p : Id) (term : ℕ) (last : StateId) → IsSmallView v → Few 33 v (joins.is_joined s v p term last)
   few-is_joined v p term last f = few-then 1 32 v _ (λ u. joins.takes_join s u p term last) (few-raises_term v s.me term f) (λ u g. few-takes_join u p term last g)
@@ -615,7 +602,7 @@ module _ (s : Settings) where
   few-counts_response : (v : View) (p : Id) (id : StateId) → IsSmallView v → Few 32 v (publications.counts_response s v p id)
   few-counts_response v p id f =
       let act : Act = Response (record { source = p; target = s.me; term = id.term; version = id.version }) in
-      few-if 32 v (doing.is_leader v.mode && is_some v.publication && joins.fits v.node.acks p) _ _
+      few-if 32 v (doing.is_leader v.mode && is_some v.publication && has_room v.node.publish_votes p) _ _
       (few-act 32 v act _ f tt (λ g.
       few-if 32 _ _ _ _ (few-sends_commit (doing.after_act s v act) (publications.is_commit_sent v.publication) p id g) (none-within 32 _ g))) (none-within 32 v f)
 

@@ -67,7 +67,7 @@ aside-same s l (Notes note) h = record { own = refl; queued = refl; waiting = re
 still-holds : (s : Settings) (l : Log) (i : Item) → IsSame s l i → Holds s l → Holds s (And l i)
 still-holds s l i e h = rw (e.queued, e.waiting, e.replied) h
 
--- answers, before the note behind them
+-- answers, before the note after them
 record AreBehind (s : Settings) (l : Log) (answers : List Outgoing) (rest : List Item) : Type 0 where
   after : Log
   items : added l (reply_all s answers ++ rest) ≡ added after rest
@@ -98,7 +98,7 @@ behind s l (out ∷ answers) rest =
           b.replied parts.1 ∙ ap (λ rs. rs ++ answers) one ∙ append_assoc (replied_in l) (out ∷ []) answers;
     }
 
--- the notes behind answers
+-- the notes after answers
 note-own : (note : Note) → is_own (Notes note) ≡ true
 note-own note = refl
 
@@ -111,7 +111,7 @@ among-nothing ws qs NoneWaits e = refl
 among-nothing ws qs (Waits w p us vs d) e = absurd (cc)
 among-nothing ws qs (IsGone w us vs d) e = absurd (cc)
 
--- who does not lead has no requests, behind an item aside and behind answers
+-- who does not lead has no requests, after an item aside and after answers
 aside-idle : (s : Settings) (v : View) (i : Item) → is_aside i ≡ true → IsIdle v → IsIdle (moved s v i)
 aside-idle s v (Opens found) h idle = absurd (cc)
 aside-idle s v (Begins Start) h idle = idle
@@ -176,7 +176,7 @@ stands-aside s l v i aside h =
       idle = aside-idle s v i aside h.idle;
     }
 
--- some are answered, and a note or a mode line comes behind the answers
+-- some are answered, and a note or a mode line comes after the answers
 stands-behind : (s : Settings) (l : Log) (v : View) (answers : List Outgoing) (i : Item) (rest : List Item) → is_own i ≡ true → ((g : Log) → queued_in (And g i) ≡ queued_in g) → ((g : Log) → replied_in (And g i) ≡ replied_in g) → (IsIdle v → IsStep v.tasks.waiting (moved s v i).tasks.waiting answers) → (IsIdle v → IsIdle (moved s v i)) → Stands s l v → (b : AreBehind s l answers (i ∷ rest)) → Stands s (And b.after i) (moved s v i)
 stands-behind s l v answers i rest own queues replies taken idles h b =
     let then : view_of s (And b.after i) ≡ moved s v i = view_of-And s b.after i own ∙ ap (λ (w : View). moved s w i) (b.view ∙ h.seen) in

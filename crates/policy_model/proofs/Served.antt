@@ -1,7 +1,7 @@
 -- Each rule queues requests and answers those that wait, and those only.
 use Rattle.std.proofs.Common.{◌≡◌, ◌∙◌, ap, sym, subst, append_assoc, ℕ, Bool, true, false, not, ◌&&◌, Option, None, Some, Result, Ok, Err, List, [], ◌∷◌, ◌++◌, refl}
 use Rattle.std.specs.Prelude.{if◌then◌else◌, is_some, nat_lt}
-use Rattle.voting_config.specs.Ids.{Id, same}
+use Rattle.voting_config.specs.Ids.{Id, same, among, has_room}
 use Rattle.bootstrap.specs.Decisions.{decision_of}
 use Rattle.peer_finder.specs.Peers.{answered_set}
 use Rattle.cluster_state.specs.JoinCheck.{is_empty}
@@ -27,7 +27,6 @@ use Rattle.fault_checks.specs.Leaders.{LeaderCheck, leader_tick}
 use Rattle.master_tasks.specs.declared.waiting.Outgoing.{Outgoing}
 use Rattle.master_tasks.specs.Queue.{is_full_of}
 use Rattle.master_tasks.specs.Answering.{answers_by, committed_in, failed}
-use Rattle.reconfigurator.specs.Targets.{among}
 use Rattle.cluster_state.specs.States.{id_of}
 use Rattle.master_tasks.specs.NextState.{next_answers, is_nothing_new}
 use Rattle.world_model.specs.declared.acts.Act.{Act}
@@ -65,7 +64,7 @@ is_aside (Notes ExclusionsAcked) = false
 is_aside (Notes StateMade) = false
 is_aside i = true
 
--- a note behind answers
+-- a note after answers
 abbrev pub is_answering : Note → Bool
 is_answering ExclusionsTimedOut = true
 is_answering CommitAcked = true
@@ -253,7 +252,7 @@ module _ (s : Settings) where
   served-takes_join : (v : View) (p : Id) (term : ℕ) (last : StateId) → IsServed s v (joins.takes_join s v p term last)
   served-takes_join v p term last =
       let act : Act = TakeJoin (joins.join_from p s.me term last) in
-      served-if v (joins.fits v.node.votes p) _ _ (Aside v _ _ refl (served-after_join v (doing.after_act s v act) act p)) (Ended v)
+      served-if v (has_room v.node.join_votes p) _ _ (Aside v _ _ refl (served-after_join v (doing.after_act s v act) act p)) (Ended v)
 
   served-joined : (v : View) (p : Id) (term : ℕ) (last : StateId) → IsServed s v (joins.is_joined s v p term last)
   served-joined v p term last = served-then v _ (λ u. joins.takes_join s u p term last) (served-raises_term v s.me term) (λ u. served-takes_join u p term last)
@@ -287,7 +286,7 @@ module _ (s : Settings) where
   served-counts_response : (v : View) (p : Id) (id : StateId) → IsServed s v (publications.counts_response s v p id)
   served-counts_response v p id =
       let act : Act = Response (record { source = p; target = s.me; term = id.term; version = id.version }) in
-      served-if v (doing.is_leader v.mode && is_some v.publication && joins.fits v.node.acks p) _ _
+      served-if v (doing.is_leader v.mode && is_some v.publication && has_room v.node.publish_votes p) _ _
       (Aside v _ _ refl
       (served-if _ (publications.commits_now (doing.reply_now s v act)) _ _
       (served-sends_commit (doing.after_act s v act) (publications.is_commit_sent v.publication) p id) (Ended _)))

@@ -4,7 +4,7 @@ use Rattle.std.specs.Prelude.{filter, is_none, is_some, fold, nat_le}
 use Rattle.std.specs.List.{list_all, cons_option}
 use Rattle.std.specs.Option.{option_map}
 use Rattle.std.proofs.lemmas.Bool.{and_parts, and_from}
-use Rattle.voting_config.specs.Ids.{Id}
+use Rattle.voting_config.specs.Ids.{Id, among, some_among}
 use Rattle.cluster_state.specs.declared.state.ClusterState.{ClusterState}
 use Rattle.cluster_state.specs.declared.state.ClusterValue.{ClusterValue}
 use Rattle.cluster_state.specs.declared.state.StateId.{StateId}
@@ -14,7 +14,6 @@ use Rattle.exclusions.specs.declared.AddError.{AddError}
 use Rattle.exclusions.specs.declared.AddError.TheVariants.{NotMember, TooMany}
 use Rattle.exclusions.specs.declared.StillMember.{StillMember}
 use Rattle.exclusions.specs.Exclusions.{added_of, cleared_of}
-use Rattle.reconfigurator.specs.Targets.{among}
 use Rattle.cluster_state.specs.declared.request.Ask.{Ask}
 use Rattle.cluster_state.specs.declared.request.Ask.TheVariants as ask
 use Rattle.cluster_state.specs.declared.reply.Answer.{Answer}
@@ -23,7 +22,7 @@ use Rattle.master_tasks.specs.declared.waiting.Waiting.{Waiting}
 use Rattle.master_tasks.specs.declared.waiting.Outgoing.{Outgoing}
 use Rattle.master_tasks.specs.Queue.{Tasks}
 use Rattle.master_tasks.specs.Replying.{answer_to}
-use Rattle.master_tasks.specs.Answering.{failed, answers_by, left_by, committed_in, exclusion_done, timed_out, nothing_new, excluded_by, unless_voting, if_late, some_among, exclusion_span}
+use Rattle.master_tasks.specs.Answering.{failed, answers_by, left_by, committed_in, exclusion_done, timed_out, nothing_new, excluded_by, unless_voting, if_late, exclusion_span}
 use Rattle.master_tasks.specs.Processing.{AnsweredAtOnce, Makes, Processed, processing, processing_once, excluding, clearing, refused, and_then, with_next, before_all}
 use Rattle.master_tasks.specs.NextState.{Leader, processed_by, next_answers, tasks_after, is_nothing_new, acks, unacked, value_before}
 use Rattle.policy_model.specs.Queues.{is_for_line, answers_line, is_from, is_to, how_many, AreAmong, NoneWaits, Waits, IsGone, IsQueue}
@@ -37,7 +36,7 @@ how_many-append p (x ∷ xs) ys =
       | false ↦ rest
     ]
 
--- those that wait behind some answers, of those that waited
+-- those that wait after some answers, of those that waited
 pub record IsStep (ws left : List Waiting) (answers : List Outgoing) : Type 0 where
   pub queue : IsQueue ws left answers
   pub late : list_all (λ (o : Outgoing). not (answers_line o.reply)) answers ≡ true

@@ -5,7 +5,7 @@ use Rattle.std.proofs.lemmas.List.{length-append}
 use Rattle.bootstrap.specs.Decisions.{decision_of}
 use Rattle.election_clock.specs.Delays.{is_due}
 use Rattle.peer_finder.specs.Peers.{answered_set}
-use Rattle.voting_config.specs.Ids.{Id, same}
+use Rattle.voting_config.specs.Ids.{Id, same, has_room}
 use Rattle.cluster_state.specs.JoinCheck.{is_empty}
 use Rattle.cluster_state.specs.declared.reply.LineFault.{LineFault}
 use Rattle.cluster_state.specs.declared.request.Request.{Request}
@@ -238,7 +238,7 @@ module _ (s : Settings) where
   most-leads : (v : View) → AtMost 1 3 (joins.leads s v)
   most-leads v =
       most-turn 1 2 Leader v.node.term _
-      (most-silent 1 2 _ _ refl (most-goes_on (moved_all s v (Turns Leader v.node.term ∷ Notes (Joined (s.me ∷ v.node.votes)) ∷ []))))
+      (most-silent 1 2 _ _ refl (most-goes_on (moved_all s v (Turns Leader v.node.term ∷ Notes (Joined (s.me ∷ v.node.join_votes)) ∷ []))))
 
   most-takes_member : (v : View) (p : Id) → AtMost 1 2 (joins.takes_member s v p)
   most-takes_member v p = most-silent 1 2 _ _ refl (most-goes_on (moved s v (Notes (Joined (p ∷ [])))))
@@ -251,7 +251,7 @@ module _ (s : Settings) where
   most-takes_join : (v : View) (p : Id) (term : ℕ) (last : StateId) → AtMost 2 4 (joins.takes_join s v p term last)
   most-takes_join v p term last =
       let act : Act = TakeJoin (joins.join_from p s.me term last) in
-      most-if 2 4 (joins.fits v.node.votes p) _ _ (most-act 1 3 act _ _ (most-after_join v (doing.after_act s v act) act p)) (most-none 2 4)
+      most-if 2 4 (has_room v.node.join_votes p) _ _ (most-act 1 3 act _ _ (most-after_join v (doing.after_act s v act) act p)) (most-none 2 4)
 
   most-joined : (v : View) (p : Id) (term : ℕ) (last : StateId) → AtMost 3 6 (joins.is_joined s v p term last)
   most-joined v p term last = most-then 1 2 2 4 v _ (λ u. joins.takes_join s u p term last) (most-raises_term v s.me term) (λ u. most-takes_join u p term last)
@@ -280,7 +280,7 @@ module _ (s : Settings) where
   most-counts_response : (v : View) (p : Id) (id : StateId) → AtMost 1 1 (publications.counts_response s v p id)
   most-counts_response v p id =
       let act : Act = Response (record { source = p; target = s.me; term = id.term; version = id.version }) in
-      most-if 1 1 (doing.is_leader v.mode && is_some v.publication && joins.fits v.node.acks p) _ _
+      most-if 1 1 (doing.is_leader v.mode && is_some v.publication && has_room v.node.publish_votes p) _ _
       (most-act 0 0 act _ _ (most-quiet 0 0 _ (silent-if _ _ _ (silent-sends_commit (doing.after_act s v act) (publications.is_commit_sent v.publication) p id) Silent)))
       (most-none 1 1)
 

@@ -6,7 +6,7 @@ use Rattle.std.proofs.lemmas.List.{append_assoc, length-append}
 use Rattle.bootstrap.specs.Decisions.{decision_of}
 use Rattle.election_clock.specs.Delays.{is_due}
 use Rattle.peer_finder.specs.Peers.{answered_set}
-use Rattle.voting_config.specs.Ids.{Id, same}
+use Rattle.voting_config.specs.Ids.{Id, same, among, has_room}
 use Rattle.cluster_state.specs.JoinCheck.{is_empty}
 use Rattle.cluster_state.specs.declared.reply.LineFault.{LineFault}
 use Rattle.cluster_state.specs.declared.request.Request.{Request}
@@ -35,7 +35,6 @@ use Rattle.world_model.specs.declared.acts.Outcome.{Outcome}
 use Rattle.cluster_state.specs.declared.reply.Answer.{Answer}
 use Rattle.cluster_state.specs.declared.reply.Answer.TheVariants as answer
 use Rattle.cluster_state.specs.declared.reply.Reply.TheVariants as reply
-use Rattle.reconfigurator.specs.Targets.{among}
 use Rattle.master_tasks.specs.declared.waiting.Waiting.{Waiting}
 use Rattle.master_tasks.specs.Answering.{answers_by, left_by, failed, timed_out, committed_in, exclusion_done}
 use Rattle.master_tasks.specs.Queue.{Tasks, most_open, is_full_of, arriving, to_be_added}
@@ -139,7 +138,7 @@ module _ (s : Settings) where
 
 -- ---- who is answered waits no more
 
--- replies of items, and who waits behind them, by who waited before
+-- replies of items, and who waits after them, by who waited before
 record Spends (s : Settings) (v : View) (is : List Item) : Type 0 where
   pub all : length (replies_of is) + open_in (moved_all s v is) ≤ open_in v
 
@@ -306,7 +305,7 @@ module _ (s : Settings) where
   spends-leads : (v : View) → Spends s v (joins.leads s v)
   spends-leads v =
       spends-item v (Turns Leader v.node.term) _ refl
-      (spends-item _ (Notes (Joined (s.me ∷ v.node.votes))) _ refl (spends-goes_on (moved_all s v (Turns Leader v.node.term ∷ Notes (Joined (s.me ∷ v.node.votes)) ∷ []))))
+      (spends-item _ (Notes (Joined (s.me ∷ v.node.join_votes))) _ refl (spends-goes_on (moved_all s v (Turns Leader v.node.term ∷ Notes (Joined (s.me ∷ v.node.join_votes)) ∷ []))))
 
   spends-takes_member : (v : View) (p : Id) → Spends s v (joins.takes_member s v p)
   spends-takes_member v p = spends-item v (Notes (Joined (p ∷ []))) _ refl (spends-goes_on (moved s v (Notes (Joined (p ∷ [])))))
@@ -319,7 +318,7 @@ module _ (s : Settings) where
   spends-takes_join : (v : View) (p : Id) (term : ℕ) (last : StateId) → Spends s v (joins.takes_join s v p term last)
   spends-takes_join v p term last =
       let act : Act = TakeJoin (joins.join_from p s.me term last) in
-      spends-if v (joins.fits v.node.votes p) _ _ (spends-item v (doing.act_now s v act) _ refl (spends-after_join v (doing.after_act s v act) act p)) (spends-none v)
+      spends-if v (has_room v.node.join_votes p) _ _ (spends-item v (doing.act_now s v act) _ refl (spends-after_join v (doing.after_act s v act) act p)) (spends-none v)
 
   spends-joined : (v : View) (p : Id) (term : ℕ) (last : StateId) → Spends s v (joins.is_joined s v p term last)
   spends-joined v p term last = spends-then v _ (λ u. joins.takes_join s u p term last) (spends-raises_term v s.me term) (λ u. spends-takes_join u p term last)
@@ -356,7 +355,7 @@ module _ (s : Settings) where
   spends-counts_response v p id =
       let act : Act = Response (record { source = p; target = s.me; term = id.term; version = id.version }) in
       let after : View = doing.after_act s v act in
-      spends-if v (doing.is_leader v.mode && is_some v.publication && joins.fits v.node.acks p) _ _
+      spends-if v (doing.is_leader v.mode && is_some v.publication && has_room v.node.publish_votes p) _ _
       (spends-item v (doing.act_now s v act) _ refl
       (spends-if after (publications.commits_now (doing.reply_now s v act)) _ _
       (spends-if after (publications.is_commit_sent v.publication) _ _ (spends-calm after _ (Also _ _ refl Silent)) (spends-first_commit after id)) (spends-none after)))

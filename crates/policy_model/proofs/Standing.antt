@@ -50,7 +50,7 @@ event_moves s life event =
     view_of-added s l items (own-answered s (view_of s l) items (answered-next s (view_of s l) event))
     ∙ ap (λ (v : View). moved_all s v items) (view_of-And s (log_of life) (Begins event) refl)
 
--- a record that was kept tells the node
+-- a record that was kept determines the node
 node_state-opened : (g : NodeHistory) (found : Kept) → ContinuesUnlessFirst g (Open found) → node_state (Then g (Open found) (Answered (Taken None false))) ≡ node_state (opened_acts found)
 node_state-opened NoActs found h = refl
 node_state-opened (Then g a o) found h = rw h refl

@@ -1,4 +1,4 @@
--- How much a node does at one event at most.
+-- For the contracts inside: how much a node does at one event at most.
 use Rattle.std.specs.Prelude.{ℕ, ◌+◌, ◌≤◌, Option, List, [], ◌∷◌, length}
 use Rattle.voting_config.specs.Ids.{most_ids}
 use Rattle.cluster_state.specs.declared.state.Kept.{Kept}

@@ -1,4 +1,4 @@
--- How leaders and followers check each other.
+-- Part of the statement: how leaders and followers check each other.
 use Rattle.std.specs.Prelude.{ℕ, Bool, true, false, ◌&&◌, Option, None, Some, List, [], ◌∷◌, ◌++◌, map, nat_lt, nat_eq, if◌then◌else◌}
 use Rattle.voting_config.specs.Ids.{Id, has}
 use Rattle.cluster_state.specs.declared.state.StateId.{StateId}
@@ -50,7 +50,7 @@ module _ (s : Settings) where
       if nat_lt term v.node.term then answers_leader v p false
       else then_rule s v (raises_term s v p term) (λ v'. follows_checker v' p)
 
-  -- a member is told whether the node leads it
+  -- a member is answered whether the node leads it
   abbrev pub is_checked_by_follower : View → Id → ℕ → List Item
   is_checked_by_follower v p term =
       send s p (message.LeaderAnswer (is_leader v.mode && nat_eq term v.node.term && has p (targets_of v.publication))) ∷ []

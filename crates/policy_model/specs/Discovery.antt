@@ -1,4 +1,4 @@
--- How nodes find each other, and a master to join.
+-- Part of the statement: how nodes find each other, and a master to join.
 use Rattle.std.specs.Prelude.{ℕ, Bool, false, Option, None, Some, List, [], ◌∷◌, nat_lt, if◌then◌else◌}
 use Rattle.voting_config.specs.Ids.{Id, same, with_id}
 use Rattle.wire_frames.specs.declared.frame.Message.TheVariants as message
@@ -25,14 +25,14 @@ module _ (s : Settings) where
       then Notes PeersAsked ∷ send_all s (known_set v.finder) (message.PeersAsk (known_set v.finder))
       else []
 
-  -- who asks for peers is met, with those that it knows, and is told the leader, the term and all peers
+  -- who asks for peers is met, with those that it knows, and is answered with the leader, the term and all peers
   abbrev pub tells_peers : View → Id → List Item
   tells_peers v p = send s p (message.PeersAnswer (leader_of s.me v.mode) v.node.term (with_id s.me (known_set v.finder))) ∷ []
 
   abbrev pub is_asked_for_peers : View → Id → List Id → List Item
   is_asked_for_peers v p known = then_rule s v (Notes (Met (p ∷ known)) ∷ []) (λ v'. tells_peers v' p)
 
-  -- a candidate that is told of a master by that master joins it: at once where its term is greater, else it asks for a join
+  -- a candidate that hears of a master from that master joins it: at once where its term is greater, else it asks for a join
   abbrev pub seeks_master : View → Id → Option Id → ℕ → List Item
   seeks_master v p master term =
       if is_node master p

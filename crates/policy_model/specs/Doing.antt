@@ -1,4 +1,5 @@
--- What the rules are made of: acts with their answers, frames and replies, and the changes of mode. Each says which items a node adds that is v.
+-- Part of the statement: what the rules are made of: acts with their answers, frames and replies, and the changes of mode. Each says which items a
+-- node adds that is v.
 use Rattle.std.specs.Prelude.{ℕ, Bool, true, false, Option, None, Some, List, [], ◌∷◌, ◌++◌, map, nat_lt, if◌then◌else◌}
 use Rattle.voting_config.specs.Ids.{Id, same}
 use Rattle.wire_frames.specs.declared.frame.Message.{Message}
@@ -39,11 +40,11 @@ leader_of me Leader = Some me
 leader_of me (Follower leader) = Some leader
 
 module _ (s : Settings) where
-  -- one rule, and then the next, at the view behind the first
+  -- one rule, and then the next, at the view after the first
   abbrev pub then_rule : View → List Item → (View → List Item) → List Item
   then_rule v items rule = items ++ rule (moved_all s v items)
 
-  -- an act with the answer that it gets, and the view behind it
+  -- an act with the answer that it gets, and the view after it
   abbrev pub reply_now : View → Act → Reply
   reply_now v act = reply_at s.me v.node act
 

@@ -1,4 +1,4 @@
--- How a candidate comes to be elected: the first configuration, the wait for an election, pre-votes.
+-- Part of the statement: how a candidate comes to be elected: the first configuration, the wait for an election, pre-votes.
 use Rattle.std.specs.Prelude.{ℕ, ◌+◌, not, ◌&&◌, Option, None, Some, List, [], ◌∷◌, ◌++◌, nat_le, if◌then◌else◌}
 use Rattle.voting_config.specs.Ids.{Id, with_id, without_id}
 use Rattle.cluster_state.specs.declared.state.StateId.{StateId}

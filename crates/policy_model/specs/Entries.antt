@@ -1,4 +1,4 @@
--- A node's life, event by event, and what each event shows.
+-- Part of the statement: a node's life, event by event, and what each event shows.
 use Rattle.std.specs.Prelude.{ℕ, List, [], ◌∷◌, if◌then◌else◌}
 use Rattle.std.specs.List.{flat_map}
 use Rattle.voting_config.specs.Ids.{before}
@@ -47,7 +47,7 @@ abbrev pub drops_in : Item → List MemberDrop
 drops_in (Drops member cause) = record { member = member; cause = cause } ∷ []
 drops_in i = []
 
--- a drop in front of those whose members come later
+-- a drop before those whose members come later
 abbrev pub put_drop : MemberDrop → List MemberDrop → List MemberDrop
 put_drop d [] = d ∷ []
 put_drop d (e ∷ es) = if before e.member d.member then e ∷ put_drop d es else d ∷ e ∷ es
@@ -63,7 +63,7 @@ abbrev pub frames_in : Item → List Frame
 frames_in (Sends frame) = frame ∷ []
 frames_in i = []
 
--- a frame in front of those whose receivers come later, and of those with its own receiver
+-- a frame that comes first of those whose receivers come later, and of those with its own receiver
 abbrev pub put_frame : Frame → List Frame → List Frame
 put_frame f [] = f ∷ []
 put_frame f (g ∷ gs) = if before g.to f.to then g ∷ put_frame f gs else f ∷ g ∷ gs

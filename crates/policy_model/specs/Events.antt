@@ -1,4 +1,4 @@
--- What one node saw and did, item by item.
+-- Part of the statement: what one node saw and did, item by item.
 use Rattle.std.specs.Prelude.{ℕ, Bool, false, Option, None, List, [], ◌∷◌}
 use Rattle.voting_config.specs.Ids.{Id}
 use Rattle.cluster_state.specs.declared.state.Kept.{Kept}

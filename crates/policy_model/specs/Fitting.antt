@@ -1,4 +1,4 @@
--- What is within the limits: numbers of at most 2^62, states and settings as they can be spelled.
+-- For the contracts inside: what is within the limits: numbers of at most 2^62, states and settings as they can be spelled.
 use Rattle.std.specs.Prelude.{◌≤◌, ◌^◌, Option, None, Some, List}
 use Rattle.std.specs.List.{AllByRecursion}
 use Rattle.cluster_state.specs.declared.state.Kept.{Kept}

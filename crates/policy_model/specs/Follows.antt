@@ -1,4 +1,4 @@
--- When a node's life follows the policy.
+-- Part of the statement: when a node's life follows the policy.
 use Rattle.std.specs.Prelude.{◌≡◌, Bool, true, false, ◌||◌, ◌⊎◌, Option, List, [], ◌∷◌, ◌++◌}
 use Rattle.world_model.specs.declared.acts.Act.{Act}
 use Rattle.world_model.specs.declared.acts.Act.TheVariants.{Open}

@@ -1,6 +1,6 @@
--- How a node is joined, wins an election, and takes members.
-use Rattle.std.specs.Prelude.{ℕ, Bool, false, not, ◌&&◌, ◌||◌, List, [], ◌∷◌, length, nat_le, nat_lt, if◌then◌else◌}
-use Rattle.voting_config.specs.Ids.{Id, has, most_ids}
+-- Part of the statement: how a node is joined, wins an election, and takes members.
+use Rattle.std.specs.Prelude.{ℕ, Bool, false, not, ◌&&◌, List, [], ◌∷◌, nat_le, if◌then◌else◌}
+use Rattle.voting_config.specs.Ids.{Id, has_room}
 use Rattle.cluster_state.specs.declared.messages.Join.{Join}
 use Rattle.cluster_state.specs.declared.state.StateId.{StateId}
 use Rattle.world_model.specs.declared.acts.Act.{Act}
@@ -12,10 +12,6 @@ use Rattle.policy_model.specs.Events.{Leader, Item, Turns, Notes, Joined}
 use Rattle.policy_model.specs.Views.{View}
 use Rattle.policy_model.specs.Doing.{is_leader, then_rule, reply_now, act_now, after_act, takes, starts_join, raises_term}
 use Rattle.policy_model.specs.NextState.{goes_on}
-
--- an id is in a set, or there is room for it
-abbrev pub fits : List Id → Id → Bool
-fits ids id = has id ids || nat_lt (length ids) most_ids
 
 -- a join wins the election
 abbrev pub wins_now : Reply → Bool
@@ -29,13 +25,13 @@ join_from p me term last = record { source = p; target = me; term = term; last_t
 module _ (s : Settings) where
   -- the winner leads, with all who voted as members
   abbrev pub leads : View → List Item
-  leads v = then_rule s v (Turns Leader v.node.term ∷ Notes (Joined (s.me ∷ v.node.votes)) ∷ []) (goes_on s)
+  leads v = then_rule s v (Turns Leader v.node.term ∷ Notes (Joined (s.me ∷ v.node.join_votes)) ∷ []) (goes_on s)
 
   -- a node is to become a member
   abbrev pub takes_member : View → Id → List Item
   takes_member v p = then_rule s v (Notes (Joined (p ∷ [])) ∷ []) (goes_on s)
 
-  -- a node that is v takes the join, and is after behind it
+  -- a node that is v takes the join, and is `after` then
   abbrev pub after_join : View → View → Act → Id → List Item
   after_join v after act p =
       if wins_now (reply_now s v act) then leads after
@@ -45,7 +41,7 @@ module _ (s : Settings) where
   abbrev pub takes_join : View → Id → ℕ → StateId → List Item
   takes_join v p term last =
       let act = TakeJoin (join_from p s.me term last) in
-      if fits v.node.votes p then act_now s v act ∷ after_join v (after_act s v act) act p else []
+      if has_room v.node.join_votes p then act_now s v act ∷ after_join v (after_act s v act) act p else []
 
   -- a join from p, by which the node's own term may rise
   abbrev pub is_joined : View → Id → ℕ → StateId → List Item

@@ -1,4 +1,4 @@
--- The laws of lives that follow the policy, as statements.
+-- For the contracts inside: the laws of lives that follow the policy, as statements.
 use Rattle.std.specs.Prelude.{◌≡◌}
 use Rattle.cluster_state.specs.declared.state.Kept.{Kept}
 use Rattle.world_model.specs.declared.acts.Act.TheVariants.{Open}

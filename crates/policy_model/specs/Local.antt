@@ -1,4 +1,4 @@
--- When each act among some items is answered as the node's acts so far say.
+-- For the contracts inside: when each act among some items is answered as the node's acts so far say.
 use Rattle.std.specs.Prelude.{◌≡◌, Bool, true, false, List, [], ◌∷◌}
 use Rattle.world_model.specs.declared.acts.Act.{Act}
 use Rattle.world_model.specs.declared.acts.Outcome.TheVariants.{Answered}

@@ -1,4 +1,4 @@
--- What a node is after what it saw and did: each field is looked up on its own.
+-- Part of the statement: what a node is after what it saw and did: each field is looked up on its own.
 use Rattle.std.specs.Prelude.{ℕ, ◌+◌, max, min, Bool, false, Option, None, Some, is_some, if◌then◌else◌}
 use Rattle.cluster_state.specs.declared.state.StateId.{StateId}
 use Rattle.world_model.specs.declared.acts.Act.TheVariants.{Value, Response, Commit}

@@ -1,4 +1,4 @@
--- What one more item makes of a node, told by what the node was.
+-- Part of the statement: what one more item makes of a node, told by what the node was.
 use Rattle.std.specs.Prelude.{◌≡◌, ℕ, ◌+◌, max, min, Bool, true, false, not, ◌&&◌, None, Some, List, [], ◌∷◌, if◌then◌else◌, refl}
 use Rattle.cluster_state.specs.declared.state.Kept.{Kept}
 use Rattle.world_model.specs.declared.acts.Act.{Act}

@@ -1,4 +1,4 @@
--- What a leader does that has no publication in flight: it makes the next state, or hands over.
+-- Part of the statement: what a leader does that has no publication in flight: it makes the next state, or hands over.
 use Rattle.std.specs.Prelude.{◌+◌, Bool, false, not, ◌&&◌, Option, None, Some, List, [], ◌∷◌, ◌++◌, find, nat_le, if◌then◌else◌}
 use Rattle.voting_config.specs.Ids.{Id, has}
 use Rattle.cluster_state.specs.declared.state.ClusterState.{ClusterState}

@@ -1,4 +1,4 @@
--- What a node's log tells each of its parts: the part's calls, from which the part looks back.
+-- For the contracts inside: what a node's log gives each of its parts: the part's calls, from which the part looks back.
 use Rattle.std.specs.Prelude.{Bool, false, not, ◌&&◌, Option, None, Some, List, [], ◌∷◌, if◌then◌else◌}
 use Rattle.std.specs.Option.{option_map}
 use Rattle.voting_config.specs.Ids.{Id, without_id}

@@ -1,4 +1,4 @@
--- That what a node knows of a part is what the part looks back to, from the calls that the node's log tells it.
+-- For the contracts inside: that what a node knows of a part is what the part looks back to, from the calls that the node's log gives it.
 use Rattle.std.specs.Prelude.{◌≡◌}
 use Rattle.std.specs.Option.{option_map}
 use Rattle.peer_finder.specs.Peers as finder

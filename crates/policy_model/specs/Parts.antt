@@ -1,4 +1,4 @@
--- What is made of the parts of a node, in the words of each part.
+-- Part of the statement: what is made of the parts of a node, in the words of each part.
 use Rattle.std.specs.Prelude.{ℕ, ◌+◌, ◌^◌, min, Bool, Option, None, Some, List, [], ◌∷◌, if◌then◌else◌}
 use Rattle.voting_config.specs.Ids.{Id, without_id}
 use Rattle.cluster_state.specs.declared.state.StateId.{StateId}
@@ -129,8 +129,8 @@ all_to_be_added t (id ∷ ids) = all_to_be_added (to_be_added t id) ids
 
 -- the node as the master that makes the next state
 abbrev pub as_master : Settings → NodeState → NextMaster
-as_master s node = next_master s.me node.term node.accepted node.committed node.votes s.shrink
+as_master s node = next_master s.me node.term node.accepted node.committed node.join_votes s.shrink
 
 -- the id of the last published state
 abbrev pub published_id : NodeState → StateId
-published_id node = record { term = node.term; version = node.version }
+published_id node = record { term = node.term; version = node.published_version }

@@ -1,11 +1,10 @@
--- How a state is accepted, responded to and committed.
+-- Part of the statement: how a state is accepted, responded to and committed.
 use Rattle.std.specs.Prelude.{Bool, false, ◌&&◌, Option, None, Some, List, [], ◌∷◌, ◌++◌, is_some, if◌then◌else◌}
-use Rattle.voting_config.specs.Ids.{Id, same}
+use Rattle.voting_config.specs.Ids.{Id, same, among, has_room}
 use Rattle.cluster_state.specs.declared.state.ClusterState.{ClusterState}
 use Rattle.cluster_state.specs.declared.state.StateId.{StateId}
 use Rattle.wire_frames.specs.declared.frame.Message.TheVariants as message
 use Rattle.publication.specs.Publications.{Publication}
-use Rattle.reconfigurator.specs.Targets.{among}
 use Rattle.master_tasks.specs.Answering.{answers_by, committed_in, exclusion_done}
 use Rattle.world_model.specs.declared.acts.Act.TheVariants.{Publish, Response, Commit}
 use Rattle.world_model.specs.declared.acts.Reply.{Reply}
@@ -17,7 +16,6 @@ use Rattle.policy_model.specs.Parts.{published_id}
 use Rattle.policy_model.specs.Views.{View}
 use Rattle.policy_model.specs.Doing.{is_leader, then_rule, reply_now, act_now, after_act, takes, send, send_all, reply_all, raises_term, becomes_follower}
 use Rattle.policy_model.specs.NextState.{targets_of, responders_of, goes_on}
-use Rattle.policy_model.specs.Joins.{fits}
 
 -- its commit was sent
 abbrev pub is_commit_sent : Option Publication → Bool
@@ -58,7 +56,7 @@ module _ (s : Settings) where
   abbrev pub counts_response : View → Id → StateId → List Item
   counts_response v p id =
       let act = Response (record { source = p; target = s.me; term = id.term; version = id.version }) in
-      if is_leader v.mode && is_some v.publication && fits v.node.acks p
+      if is_leader v.mode && is_some v.publication && has_room v.node.publish_votes p
       then act_now s v act
       ∷ (if commits_now (reply_now s v act) then sends_commit (after_act s v act) (is_commit_sent v.publication) p id else [])
       else []

@@ -1,4 +1,4 @@
--- What became of the requests that a leader queued.
+-- For the contracts inside: what became of the requests that a leader queued.
 use Rattle.std.specs.Prelude.{◌≡◌, ℕ, ◌+◌, Bool, true, false, ◌&&◌, List, [], ◌∷◌, ◌++◌, length, filter, nat_eq, if◌then◌else◌}
 use Rattle.cluster_state.specs.declared.reply.Answer.{Answer}
 use Rattle.cluster_state.specs.declared.reply.Answer.TheVariants as answer

@@ -1,4 +1,4 @@
--- What a client's line is answered, and the answers that come with time.
+-- Part of the statement: what a client's line is answered, and the answers that come with time.
 use Rattle.std.specs.Prelude.{ℕ, Option, None, Some, Result, Ok, Err, List, [], ◌∷◌, ◌++◌, if◌then◌else◌}
 use Rattle.cluster_state.specs.declared.reply.LineFault.{LineFault}
 use Rattle.cluster_state.specs.declared.request.Request.{Request}

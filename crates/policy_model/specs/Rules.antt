@@ -1,4 +1,4 @@
--- What a node does at an event: one rule after another, by the event and the mode.
+-- Part of the statement: what a node does at an event: one rule after another, by the event and the mode.
 use Rattle.std.specs.Prelude.{ℕ, Bool, true, false, Option, None, Some, List, [], if◌then◌else◌}
 use Rattle.voting_config.specs.Ids.{Id, same}
 use Rattle.wire_frames.specs.declared.frame.Frame.{Frame}

@@ -1,4 +1,4 @@
--- What a node's life is told from outside: what each opening found, the events, and the faults that struck.
+-- For the contracts inside: what comes to a node's life from outside: what each opening found, the events, and the faults that struck.
 use Rattle.std.specs.Prelude.{◌≡◌, ℕ, ◌+◌, Option, None, Some, List, [], ◌∷◌, if◌then◌else◌}
 use Rattle.std.specs.Option.{option_map}
 use Rattle.cluster_state.specs.declared.state.Kept.{Kept}
@@ -36,7 +36,7 @@ told_of (Opened life found) = Found (told_of life) found
 told_of (Lived life (Did event items)) = Came (told_of life) event (fault_in items)
 told_of (Lived life entry) = Passed (told_of life) entry
 
--- what a node does is determined: two lives that follow the policy and are told the same are the same
+-- what a node does is determined: two lives that follow the policy, and to which the same comes, are the same
 abbrev pub LawDetermined : Type 0
 LawDetermined =
     (s : Settings) (life other : Life)

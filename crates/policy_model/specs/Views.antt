@@ -1,4 +1,4 @@
--- A node after what it saw and did: all that the rules speak of.
+-- Part of the statement: a node after what it saw and did: all that the rules speak of.
 use Rattle.std.specs.Prelude.{ℕ, Option}
 use Rattle.cluster_state.specs.declared.state.StateId.{StateId}
 use Rattle.world_model.specs.NodeState.{NodeState}

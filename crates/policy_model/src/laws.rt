@@ -17,7 +17,7 @@ pub fn law_event_moves()
     ensures { LawEventMoves }
 {}
 
-/// What a node is after an opening is told by the record that it found.
+/// What a node is after an opening is determined by the record that it found.
 pub fn law_opening_moves()
     ensures { LawOpeningMoves }
 {}
@@ -39,6 +39,7 @@ pub fn law_event_holds_settings(event: &Event)
 {
     if let Event::Frame(frame) = event {
         if let Message::Publish(state) = &frame.message {
+            // The contract of this call is the law.
             let _ = state.value.settings.texts();
         }
     }
@@ -76,6 +77,7 @@ pub fn law_event_holds_set(event: &Event)
 {
     if let Event::Frame(frame) = event {
         if let Message::Publish(state) = &frame.message {
+            // The contract of this call is the law.
             let _ = state.value.members.len();
         }
     }

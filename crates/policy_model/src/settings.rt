@@ -1,3 +1,4 @@
+//! What a node knows before its start: its id, its peers, and the first voters.
 use std::marker::Model;
 use voting_config::{NodeId, NodeSet};
 
@@ -37,7 +38,7 @@ impl NodeIds {
     }
 }
 
-/// What a node is told before its start.
+/// What a node is given before its start.
 #[derive(Drop)]
 pub struct Settings {
     /// The node itself.

@@ -1,3 +1,4 @@
+//! The laws can be called, and listed peers keep their order.
 use super::*;
 use std::test::*;
 use voting_config::{NodeId, NodeSet};

@@ -2,7 +2,7 @@
 use Rattle.std.proofs.Common.{inl, inr, le_refl, ◌≡◌, ◌∷◌, ◌<◌, ℕ, ◌+◌, List, [], ◌++◌, length, refl, sym, ◌∙◌, ap, take, get_or}
 use Rattle.std.proofs.lemmas.List.{take_more, take_all}
 use Rattle.voting_config.specs.Ids.{Id, most_ids}
-use Rattle.world_model.specs.NodeState.{NodeState, node_state, votes_of, acks_of}
+use Rattle.world_model.specs.NodeState.{NodeState, node_state, join_votes_of, publish_votes_of}
 use Rattle.reference_model.specs.declared.no_answer.NoAnswer.{NoAnswer}
 use Rattle.reference_model.specs.declared.no_answer.NoAnswer.TheVariants.{Memory, Full}
 use Rattle.reference_model.specs.declared.node_now.NodeNow.{NodeNow}
@@ -34,5 +34,5 @@ full_at sources_of xs i v is full = (i, ap (λ (l : List Id). length l) (sym is)
 -- a node that is full is full after its entries
 pub excused : (xs : List Entry) (n : NodeNow) (e : NoAnswer) → seen n ≡ node_state (history_of xs) → ExcusesNode n e → Excuses xs e
 excused xs n Memory is h = tt
-excused xs n Full is (inl h) = inl (full_at votes_of xs (length xs) n.votes (ap (λ (p : NodeState). p.votes) is ∙ whole_take votes_of xs) h)
-excused xs n Full is (inr h) = inr (full_at acks_of xs (length xs) n.acks (ap (λ (p : NodeState). p.acks) is ∙ whole_take acks_of xs) h)
+excused xs n Full is (inl h) = inl (full_at join_votes_of xs (length xs) n.votes (ap (λ (p : NodeState). p.join_votes) is ∙ whole_take join_votes_of xs) h)
+excused xs n Full is (inr h) = inr (full_at publish_votes_of xs (length xs) n.acks (ap (λ (p : NodeState). p.publish_votes) is ∙ whole_take publish_votes_of xs) h)

@@ -1,8 +1,8 @@
--- A list of entries as the acts of a node, and what the program sees of a node as the node's state.
+-- For the contracts inside: a list of entries as the acts of a node, and what the program sees of a node as the node's state.
 use Rattle.std.specs.Prelude.{◌≡◌, ℕ, ◌⊎◌, List, [], ◌∷◌, length, take}
 use Rattle.voting_config.specs.Ids.{Id, most_ids}
 use Rattle.world_model.specs.Acts.{NodeHistory, NoActs, Then}
-use Rattle.world_model.specs.NodeState.{NodeState, votes_of, acks_of}
+use Rattle.world_model.specs.NodeState.{NodeState, join_votes_of, publish_votes_of}
 use Rattle.reference_model.specs.declared.entry.Entry.{Entry}
 use Rattle.reference_model.specs.declared.no_answer.NoAnswer.{NoAnswer}
 use Rattle.reference_model.specs.declared.no_answer.NoAnswer.TheVariants.{Memory, Full}
@@ -23,13 +23,13 @@ seen n = record {
   term = n.term;
   accepted = n.accepted;
   committed = n.committed;
-  started = n.started;
-  votes = n.votes;
-  won = n.won;
-  version = n.version;
-  config = n.config;
-  acks = n.acks;
-  stopped = n.stopped;
+  started_join = n.started;
+  join_votes = n.votes;
+  election_won = n.won;
+  published_version = n.version;
+  published_config = n.config;
+  publish_votes = n.acks;
+  halted = n.stopped;
 }
 
 -- at some moment there were as many sources as a set holds
@@ -39,7 +39,7 @@ WereFull sources_of entries = (i : ℕ) × (length (sources_of (history_of (take
 -- why no answer may be given over the entries
 abbrev pub Excuses : List Entry → NoAnswer → Type 0
 Excuses entries Memory = Unit {0}
-Excuses entries Full = WereFull votes_of entries ⊎ WereFull acks_of entries
+Excuses entries Full = WereFull join_votes_of entries ⊎ WereFull publish_votes_of entries
 
 -- why a node may give none
 abbrev pub ExcusesNode : NodeNow → NoAnswer → Type 0

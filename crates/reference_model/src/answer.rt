@@ -1,5 +1,6 @@
+//! The reply of a node to an act, by its acts so far.
 ghost use Rattle.std.specs.Prelude.{◌≡◌, IfOk, IfErr};
-ghost use Rattle.world_model.specs.Replies.{reply_at, reply_of, unless_stopped};
+ghost use Rattle.world_model.specs.Replies.{reply_at, reply_of, unless_halted};
 ghost use Rattle.reference_model.specs.Model.{history_of, seen, Excuses, ExcusesNode};
 
 use crate::entry::Entry;
@@ -10,8 +11,8 @@ use voting_config::NodeId;
 use world_model::{Act, Reply};
 
 impl NodeNow {
-    fn unless_stopped(&self, reply: Reply) -> Reply
-        ensures { result ≡ unless_stopped (seen self.now) reply }
+    fn unless_halted(&self, reply: Reply) -> Reply
+        ensures { result ≡ unless_halted (seen self.now) reply }
     {
         if self.stopped { Reply::Stopped } else { reply }
     }
@@ -31,7 +32,7 @@ impl NodeNow {
             Act::Commit(commit) => self.commit_reply(commit),
             Act::Open(_) => return Ok(Reply::Taken(None, false)),
         };
-        Ok(self.unless_stopped(reply))
+        Ok(self.unless_halted(reply))
     }
 }
 

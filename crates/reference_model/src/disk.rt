@@ -1,14 +1,14 @@
-//! Whether a node stopped at a fault of its disk, looked up among its entries.
+//! Whether a node is halted by a fault of its disk, looked up among its entries.
 ghost use Rattle.std.specs.Prelude.{◌≡◌};
 ghost use Rattle.world_model.specs.Acts.{NodeHistory, Then};
-ghost use Rattle.world_model.specs.NodeState.{stopped_of};
+ghost use Rattle.world_model.specs.NodeState.{halted_of};
 ghost use Rattle.reference_model.specs.Model.{history_of};
 
 use crate::entry::Entry;
 use world_model::Act;
 
-fn stopped_after(stopped: bool, entry: &Entry) -> bool
-    ensures { (g : NodeHistory) → stopped ≡ stopped_of g → result ≡ stopped_of (Then g entry.now.act entry.now.outcome) }
+fn halted_after(stopped: bool, entry: &Entry) -> bool
+    ensures { (g : NodeHistory) → stopped ≡ halted_of g → result ≡ halted_of (Then g entry.now.act entry.now.outcome) }
 {
     match &entry.act {
         Act::Open(_) => false,
@@ -24,11 +24,11 @@ fn stopped_after(stopped: bool, entry: &Entry) -> bool
 
 /// Whether the disk failed since the node was last opened.
 pub fn stopped(entries: &[Entry]) -> bool
-    ensures { result ≡ stopped_of (history_of entries.now) }
+    ensures { result ≡ halted_of (history_of entries.now) }
 {
     let mut stopped = false;
     for entry in entries {
-        stopped = stopped_after(stopped, entry);
+        stopped = halted_after(stopped, entry);
     }
     stopped
 }

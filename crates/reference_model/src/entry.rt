@@ -1,3 +1,4 @@
+//! An entry: an act of a node, and how it ended.
 ghost use Rattle.std.specs.Prelude.{◌≡◌};
 ghost use Rattle.world_model.specs.Acts.{is_ok, is_effective, is_disk, wins};
 ghost use Rattle.world_model.specs.declared.acts.Outcome.TheVariants as ending;

@@ -1,3 +1,4 @@
+//! Why nothing is looked up.
 ghost use Rattle.std.specs.Prelude.{◌≡◌};
 ghost use Rattle.reference_model.specs.declared.no_answer.NoAnswer.TheVariants as cause;
 

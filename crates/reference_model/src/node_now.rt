@@ -1,3 +1,4 @@
+//! What a node is after its acts, looked up in all of them.
 ghost use Rattle.std.specs.Prelude.{◌≡◌, IfOk, IfErr};
 ghost use Rattle.world_model.specs.NodeState.{node_state};
 ghost use Rattle.reference_model.specs.Model.{history_of, seen, Excuses};

@@ -2,7 +2,7 @@
 ghost use Rattle.std.specs.Prelude.{◌≡◌, IfOk, OnErr, cond, [], length};
 ghost use Rattle.voting_config.specs.Ids.{most_ids};
 ghost use Rattle.world_model.specs.Acts.{NodeHistory, Then};
-ghost use Rattle.world_model.specs.NodeState.{accepted_of, started_of, votes_of, won_of, version_of, config_of, acks_of};
+ghost use Rattle.world_model.specs.NodeState.{accepted_of, started_join_of, join_votes_of, election_won_of, published_version_of, published_config_of, publish_votes_of};
 ghost use Rattle.reference_model.specs.Model.{history_of, WereFull};
 
 use crate::durable::accepted_after;
@@ -13,7 +13,7 @@ use voting_config::{Full, NodeSet, VotingConfig};
 use world_model::Act;
 
 fn started_after(started: bool, entry: &Entry) -> bool
-    ensures { (g : NodeHistory) → started ≡ started_of g → result ≡ started_of (Then g entry.now.act entry.now.outcome) }
+    ensures { (g : NodeHistory) → started ≡ started_join_of g → result ≡ started_join_of (Then g entry.now.act entry.now.outcome) }
 {
     match &entry.act {
         Act::StartJoin(_, _) => entry.is_ok() || started,
@@ -29,7 +29,7 @@ fn started_after(started: bool, entry: &Entry) -> bool
 
 /// Whether the node is in a round: one begins when it starts a join, and ends when it is opened.
 pub fn started(entries: &[Entry]) -> bool
-    ensures { result ≡ started_of (history_of entries.now) }
+    ensures { result ≡ started_join_of (history_of entries.now) }
 {
     let mut started = false;
     for entry in entries {
@@ -46,7 +46,7 @@ fn emptied(set: NodeSet, is_emptied: bool) -> NodeSet
 }
 
 fn votes_after(mut votes: NodeSet, entry: &Entry) -> Result<NodeSet, Full>
-    ensures value { IfOk result (λ v. (g : NodeHistory) → votes ≡ votes_of g → v ≡ votes_of (Then g entry.now.act entry.now.outcome)) }
+    ensures value { IfOk result (λ v. (g : NodeHistory) → votes ≡ join_votes_of g → v ≡ join_votes_of (Then g entry.now.act entry.now.outcome)) }
     ensures full { OnErr result (length votes ≡ most_ids) }
 {
     match &entry.act {
@@ -69,8 +69,8 @@ fn votes_after(mut votes: NodeSet, entry: &Entry) -> Result<NodeSet, Full>
 /// The sources of the joins that were taken in this round. `Full` only where at some moment they
 /// were as many as a set holds.
 pub fn votes(entries: &[Entry]) -> Result<NodeSet, Full>
-    ensures value { IfOk result (λ v. v ≡ votes_of (history_of entries.now)) }
-    ensures full { OnErr result (WereFull votes_of entries.now) }
+    ensures value { IfOk result (λ v. v ≡ join_votes_of (history_of entries.now)) }
+    ensures full { OnErr result (WereFull join_votes_of entries.now) }
 {
     let mut votes = NodeSet::new();
     for entry in entries {
@@ -80,7 +80,7 @@ pub fn votes(entries: &[Entry]) -> Result<NodeSet, Full>
 }
 
 fn won_after(won: bool, entry: &Entry) -> bool
-    ensures { (g : NodeHistory) → won ≡ won_of g → result ≡ won_of (Then g entry.now.act entry.now.outcome) }
+    ensures { (g : NodeHistory) → won ≡ election_won_of g → result ≡ election_won_of (Then g entry.now.act entry.now.outcome) }
 {
     match &entry.act {
         Act::StartJoin(_, _) => { if entry.is_ok() { false } else { won } }
@@ -96,7 +96,7 @@ fn won_after(won: bool, entry: &Entry) -> bool
 
 /// Whether a join of this round won.
 pub fn won(entries: &[Entry]) -> bool
-    ensures { result ≡ won_of (history_of entries.now) }
+    ensures { result ≡ election_won_of (history_of entries.now) }
 {
     let mut won = false;
     for entry in entries {
@@ -106,7 +106,7 @@ pub fn won(entries: &[Entry]) -> bool
 }
 
 fn version_after(version: u64, accepted: &ClusterState, entry: &Entry) -> u64
-    ensures { (g : NodeHistory) → version ≡ version_of g → accepted.now ≡ accepted_of g → result ≡ version_of (Then g entry.now.act entry.now.outcome) }
+    ensures { (g : NodeHistory) → version ≡ published_version_of g → accepted.now ≡ accepted_of g → result ≡ published_version_of (Then g entry.now.act entry.now.outcome) }
 {
     match &entry.act {
         Act::StartJoin(_, _) => { if entry.is_ok() { 0 } else { version } }
@@ -128,7 +128,7 @@ fn version_after(version: u64, accepted: &ClusterState, entry: &Entry) -> u64
 
 /// The version of the round's last value; without one, the accepted version at the join that won, and 0 before it.
 pub fn version(alloc: Global, entries: &[Entry]) -> Result<u64, AllocError>
-    ensures { IfOk result (λ v. v ≡ version_of (history_of entries.now)) }
+    ensures { IfOk result (λ v. v ≡ published_version_of (history_of entries.now)) }
 {
     let mut version = 0;
     let mut accepted = ClusterState::initial(alloc, &NodeSet::new());
@@ -142,7 +142,7 @@ pub fn version(alloc: Global, entries: &[Entry]) -> Result<u64, AllocError>
 }
 
 fn config_after(config: VotingConfig, accepted: &ClusterState, entry: &Entry) -> VotingConfig
-    ensures { (g : NodeHistory) → config ≡ config_of g → accepted.now ≡ accepted_of g → result ≡ config_of (Then g entry.now.act entry.now.outcome) }
+    ensures { (g : NodeHistory) → config ≡ published_config_of g → accepted.now ≡ accepted_of g → result ≡ published_config_of (Then g entry.now.act entry.now.outcome) }
 {
     match &entry.act {
         Act::StartJoin(_, _) => {
@@ -170,7 +170,7 @@ fn config_after(config: VotingConfig, accepted: &ClusterState, entry: &Entry) ->
 
 /// The configuration of the round's last value; without one, the accepted configuration at the round's start.
 pub fn config(alloc: Global, entries: &[Entry]) -> Result<VotingConfig, AllocError>
-    ensures { IfOk result (λ c. c ≡ config_of (history_of entries.now)) }
+    ensures { IfOk result (λ c. c ≡ published_config_of (history_of entries.now)) }
 {
     let mut config = VotingConfig::of(&NodeSet::new());
     let mut accepted = ClusterState::initial(alloc, &NodeSet::new());
@@ -184,7 +184,7 @@ pub fn config(alloc: Global, entries: &[Entry]) -> Result<VotingConfig, AllocErr
 }
 
 fn acks_after(mut acks: NodeSet, entry: &Entry) -> Result<NodeSet, Full>
-    ensures value { IfOk result (λ v. (g : NodeHistory) → acks ≡ acks_of g → v ≡ acks_of (Then g entry.now.act entry.now.outcome)) }
+    ensures value { IfOk result (λ v. (g : NodeHistory) → acks ≡ publish_votes_of g → v ≡ publish_votes_of (Then g entry.now.act entry.now.outcome)) }
     ensures full { OnErr result (length acks ≡ most_ids) }
 {
     match &entry.act {
@@ -207,8 +207,8 @@ fn acks_after(mut acks: NodeSet, entry: &Entry) -> Result<NodeSet, Full>
 /// The sources of the responses that were taken since the round's last value, or in the round where there is none. `Full`
 /// only where at some moment they were as many as a set holds.
 pub fn acks(entries: &[Entry]) -> Result<NodeSet, Full>
-    ensures value { IfOk result (λ v. v ≡ acks_of (history_of entries.now)) }
-    ensures full { OnErr result (WereFull acks_of entries.now) }
+    ensures value { IfOk result (λ v. v ≡ publish_votes_of (history_of entries.now)) }
+    ensures full { OnErr result (WereFull publish_votes_of entries.now) }
 {
     let mut acks = NodeSet::new();
     for entry in entries {

@@ -1,3 +1,4 @@
+//! The core and the model, act for act: each answer of the core is the reply of the model.
 use crate::{Entry, reply};
 use cluster_state::{
     ApplyCommit, ClusterState, ClusterValue, CommitCause, InitialCause, Join, JoinCause, Kept,

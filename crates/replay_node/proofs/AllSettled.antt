@@ -8,7 +8,7 @@ use Rattle.world_model.specs.declared.acts.Outcome.TheVariants.{Answered, Disk, 
 use Rattle.world_model.specs.Acts.{NodeHistory, Then}
 use Rattle.world_model.specs.Histories.{History, NoEntries, Next, node_history, sent, sent_by, is_opening, IsSourced, IsLocal, IsLegal}
 use Rattle.world_model.specs.Local.{BeginsEmpty, IsSourcedAll}
-use Rattle.world_model.proofs.Guards.{same_is}
+use Rattle.voting_config.proofs.Sets.{same_is}
 use Rattle.world_model.proofs.Assemble.{legal_is}
 use Rattle.replay_node.specs.Settled.{settled, IsUnstruck, settled_entry, settled_for}
 use Rattle.replay_node.proofs.SettledLocal.{settled_local, settled_begins, unsettled_local, unsettled_begins}

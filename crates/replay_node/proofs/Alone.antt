@@ -1,8 +1,8 @@
--- What a node does of some items is told by the node alone.
+-- What a node does of some items depends on the node alone.
 use Rattle.std.proofs.Common.{◌≡◌, Bool, false, List, [], ◌∷◌, ◌++◌, refl, ◌∙◌, ap, if◌then◌else◌}
 use Rattle.voting_config.specs.Ids.{Id, same}
 use Rattle.world_model.specs.declared.acts.Act.{Act}
-use Rattle.replay_node.specs.NodeDisk.{CallsEnd, Done, Failed, StoppedIn}
+use Rattle.replay_node.specs.NodeDisk.{CallsEnd, Done, Failed, CrashedIn}
 use Rattle.replay_node.specs.NodeWorld.{NodeWorld, act_called, after_act, outcome_at}
 use Rattle.replay_node.specs.Worlds.{World, node_world, did}
 use Rattle.replay_node.proofs.Moves.{NodeMoves, moves_did}
@@ -10,7 +10,7 @@ use Rattle.policy_model.specs.Events.{Item, Opens, Begins, Acts, Turns, Drops, S
 use Rattle.policy_model.specs.Follows.{without_output}
 use Rattle.replay_node.specs.Course.{Course, NodeCourse, act_then, behind, played, node_act_then, node_behind, node_played}
 
--- What is done of some items, and what becomes of the node, is told by the node alone. The other nodes stay.
+-- What is done of some items, and what becomes of the node, depends on the node alone. The other nodes stay.
 pub record PlaysAlone (n : Id) (w : World) (c : Course) (d : NodeCourse) : Type 0 where
   pub items : c.items ≡ d.items
   pub struck : c.struck ≡ d.struck
@@ -41,7 +41,7 @@ module _ (n : Id) (w : World) (act : Act) where
         others = λ m other. there.others m other ∙ moves.others m other;
       })
   act_alone rest more Failed there = record { items = refl; struck = refl; node = moves.own; others = moves.others }
-  act_alone rest more (StoppedIn way) there = record { items = refl; struck = refl; node = moves.own; others = moves.others }
+  act_alone rest more (CrashedIn way) there = record { items = refl; struck = refl; node = moves.own; others = moves.others }
 
 pub plays_alone : (n : Id) (w : World) (is : List Item) → PlaysAlone n w (played n w is) (node_played n (node_world w n) is)
 plays_alone n w [] = record { items = refl; struck = refl; node = refl; others = λ m other. refl }

@@ -6,7 +6,7 @@ use Rattle.zen_disk.specs.DeviceCall.{DeviceCall, Len, Read, Write, Sync}
 use Rattle.zen_disk.specs.FileState.{FileState, after, both_left_by}
 use Rattle.zen_disk.specs.Fuse.{FuseArms, FuseSteps, StepsAt, StopsIn}
 use Rattle.zen_disk.specs.MemDisks.{MemSteps, files_of}
-use Rattle.zen_disk.specs.Runs.{Ran}
+use Rattle.zen_disk.specs.Runs.{CallsMade}
 use Rattle.zen_disk.specs.Sides.{Sides}
 use Rattle.zen_disk.specs.declared.memory.MemDisks.{MemDisks}
 use Rattle.zen_disk.specs.declared.orders.Armed.{Armed}
@@ -14,9 +14,9 @@ use Rattle.zen_disk.specs.declared.orders.Order.{Order}
 use Rattle.zen_disk.specs.declared.orders.Struck.{Struck}
 use Rattle.zen_disk.specs.declared.orders.Struck.TheVariants.{Stop, Fault}
 use Rattle.zen_disk.specs.declared.orders.Way.{Way}
-use Rattle.replay_node.specs.NodeDisk.{NodeDisk, CallsEnd, Done, Failed, StoppedIn, Called, MemFuse, DiskStands, EndsAs, Restarted, placed, call_by, call_once, go_on, calls_made, stopped_by, with_order}
+use Rattle.replay_node.specs.NodeDisk.{NodeDisk, CallsEnd, Done, Failed, CrashedIn, Called, MemFuse, DiskStands, EndsAs, Restarted, placed, call_by, call_once, go_on, calls_made, crashed_by, with_order}
 
--- the only call of such a fuse that fails with nothing told to have struck is one that found no memory
+-- the only call of such a fuse that fails with nothing said to have struck is one that found no memory
 abbrev pub FoundMemory : MemFuse → Bool → Type 0
 FoundMemory fuse ok = ok ≡ false → fuse.struck ≡ None → ⊥
 
@@ -46,14 +46,14 @@ goes_on : (end : CallsEnd) (mid g : MemFuse) (d : NodeDisk) (ok : Bool) (more : 
     → EndsAs (go_on end d more).ended g (go_on end d more).disk ok
 goes_on Done mid g d ok more said then = then said.1
 goes_on Failed mid g d ok more said then = absurd (cc said.0)
-goes_on (StoppedIn way) mid g d ok more said then = absurd (cc said.0)
+goes_on (CrashedIn way) mid g d ok more said then = absurd (cc said.0)
 
 ends_here : (end : CallsEnd) (g : MemFuse) (d : NodeDisk) (more : NodeDisk → Called) → EndsAs end g d false → EndsAs (go_on end d more).ended g (go_on end d more).disk false
 ends_here Done g d more said = absurd (cc said.0)
 ends_here Failed g d more said = said
-ends_here (StoppedIn way) g d more said = said
+ends_here (CrashedIn way) g d more said = said
 
-pub as_said : (calls : List DeviceCall) (f g : MemFuse) (d : NodeDisk) (ok : Bool) → DiskStands f d → Ran (FuseSteps MemSteps) calls f g ok → FoundMemory g ok → EndsAs (calls_made d calls).ended g (calls_made d calls).disk ok
+pub as_said : (calls : List DeviceCall) (f g : MemFuse) (d : NodeDisk) (ok : Bool) → DiskStands f d → CallsMade (FuseSteps MemSteps) calls f g ok → FoundMemory g ok → EndsAs (calls_made d calls).ended g (calls_made d calls).disk ok
 as_said [] f g d ok stands ran memory = (ran.1, subst (λ (h : MemFuse). DiskStands h d) (sym ran.0) stands)
 as_said (call ∷ calls) f g d ok stands (inl done) memory =
     let first = one f done.0 d call true stands done.1 (λ failing struck. absurd (cc failing)) in
@@ -65,7 +65,7 @@ as_said (call ∷ calls) f g d ok stands (inr failed) memory =
 -- this fuse has stopped, and a restart gives this disk
 pub record StopLeaves (end : CallsEnd) (g : MemFuse) (d : NodeDisk) : Type 0 where
   pub way : Way
-  pub ended : end ≡ StoppedIn way
+  pub ended : end ≡ CrashedIn way
   pub down : g.down ≡ Some way
   pub files : both_left_by way (files_of g.disk) ≡ d.files
   pub armed : g.armed ≡ d.armed
@@ -74,33 +74,33 @@ pub record StopLeaves (end : CallsEnd) (g : MemFuse) (d : NodeDisk) : Type 0 whe
 ends_done : (end : CallsEnd) (g : MemFuse) (d : NodeDisk) (ok : Bool) → EndsAs end g d ok → ok ≡ true → (end ≡ Done) × DiskStands g d
 ends_done Done g d ok said passed = (refl, said.1)
 ends_done Failed g d ok said passed = absurd (cc said.0)
-ends_done (StoppedIn way) g d ok said passed = absurd (cc said.0)
+ends_done (CrashedIn way) g d ok said passed = absurd (cc said.0)
 
 ends_failed : (end : CallsEnd) (g : MemFuse) (d : NodeDisk) (ok : Bool) → EndsAs end g d ok → ok ≡ false → g.struck ≡ Some Fault → (end ≡ Failed) × DiskStands g d
 ends_failed Done g d ok said failing struck = absurd (cc said.0)
 ends_failed Failed g d ok said failing struck = (refl, said.2)
-ends_failed (StoppedIn way) g d ok said failing struck = absurd (cc said.1)
+ends_failed (CrashedIn way) g d ok said failing struck = absurd (cc said.1)
 
-ends_stopped : (end : CallsEnd) (g : MemFuse) (d : NodeDisk) (ok : Bool) → EndsAs end g d ok → ok ≡ false → g.struck ≡ Some Stop → StopLeaves end g d
-ends_stopped Done g d ok said failing struck = absurd (cc said.0)
-ends_stopped Failed g d ok said failing struck = absurd (cc said.1)
-ends_stopped (StoppedIn way) g d ok said failing struck = record { way = way; ended = refl; down = said.2; files = said.3; armed = said.4 }
+ends_crashed : (end : CallsEnd) (g : MemFuse) (d : NodeDisk) (ok : Bool) → EndsAs end g d ok → ok ≡ false → g.struck ≡ Some Stop → StopLeaves end g d
+ends_crashed Done g d ok said failing struck = absurd (cc said.0)
+ends_crashed Failed g d ok said failing struck = absurd (cc said.1)
+ends_crashed (CrashedIn way) g d ok said failing struck = record { way = way; ended = refl; down = said.2; files = said.3; armed = said.4 }
 
-module _ (calls : List DeviceCall) (f g : MemFuse) (d : NodeDisk) (ok : Bool) (stands : DiskStands f d) (ran : Ran (FuseSteps MemSteps) calls f g ok) where
+module _ (calls : List DeviceCall) (f g : MemFuse) (d : NodeDisk) (ok : Bool) (stands : DiskStands f d) (ran : CallsMade (FuseSteps MemSteps) calls f g ok) where
   pub said_done : ok ≡ true → ((calls_made d calls).ended ≡ Done) × DiskStands g (calls_made d calls).disk
   said_done passed = ends_done (calls_made d calls).ended g (calls_made d calls).disk ok (as_said calls f g d ok stands ran (λ failing none. absurd (cc (passed, failing)))) passed
 
   pub said_failed : ok ≡ false → g.struck ≡ Some Fault → ((calls_made d calls).ended ≡ Failed) × DiskStands g (calls_made d calls).disk
   said_failed failing struck = ends_failed (calls_made d calls).ended g (calls_made d calls).disk ok (as_said calls f g d ok stands ran (λ failing none. absurd (cc (struck, none)))) failing struck
 
-  pub said_stopped : ok ≡ false → g.struck ≡ Some Stop → StopLeaves (calls_made d calls).ended g (calls_made d calls).disk
-  said_stopped failing struck = ends_stopped (calls_made d calls).ended g (calls_made d calls).disk ok (as_said calls f g d ok stands ran (λ failing none. absurd (cc (struck, none)))) failing struck
+  pub said_crashed : ok ≡ false → g.struck ≡ Some Stop → StopLeaves (calls_made d calls).ended g (calls_made d calls).disk
+  said_crashed failing struck = ends_crashed (calls_made d calls).ended g (calls_made d calls).disk ok (as_said calls f g d ok stands ran (λ failing none. absurd (cc (struck, none)))) failing struck
 
 pub restarted_stands : (end : CallsEnd) (g new : MemFuse) (d : NodeDisk) → StopLeaves end g d → Restarted g new → DiskStands new d
 restarted_stands end g new d left again = record { files = again.files left.way left.down ∙ left.files; armed = again.armed ∙ left.armed; up = again.up }
 
-pub stopped_stands : (f new : MemFuse) (d : NodeDisk) (way : Way) → DiskStands f d → new.armed ≡ f.armed → new.down ≡ None → files_of new.disk ≡ both_left_by way (files_of f.disk) → DiskStands new (stopped_by way d)
-stopped_stands f new d way stands armed up files = record { files = files ∙ ap (both_left_by way) stands.files; armed = armed ∙ stands.armed; up = up }
+pub crashed_stands : (f new : MemFuse) (d : NodeDisk) (way : Way) → DiskStands f d → new.armed ≡ f.armed → new.down ≡ None → files_of new.disk ≡ both_left_by way (files_of f.disk) → DiskStands new (crashed_by way d)
+crashed_stands f new d way stands armed up files = record { files = files ∙ ap (both_left_by way) stands.files; armed = armed ∙ stands.armed; up = up }
 
 pub ordered_stands : (f g : MemFuse) (d : NodeDisk) (order : Order) → DiskStands f d → FuseArms f order g → DiskStands g (with_order order d)
 ordered_stands f g d order stands arms = record { files = ap files_of arms.disk ∙ stands.files; armed = arms.armed ∙ ap (armed_with order) stands.armed; up = arms.down ∙ stands.up }

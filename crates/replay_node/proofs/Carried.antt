@@ -1,4 +1,4 @@
--- What a coordinator must tell of an event, so that a replay over its code can follow the disk: for each act the step of the core, with what it
+-- What a coordinator must report of an event, so that a replay over its code can follow the disk: for each act the step of the core, with what it
 -- wrote. From that the node stands for what the definitions make of it.
 use Rattle.std.proofs.Common.{◌≡◌, Bool, true, false, Some, List, [], ◌∷◌, ◌++◌, refl, sym, ◌∙◌, ap, subst, if◌then◌else◌}
 use Rattle.voting_config.specs.Ids.{Id}
@@ -10,7 +10,7 @@ use Rattle.world_model.specs.declared.acts.Outcome.TheVariants.{Answered, Disk}
 use Rattle.world_model.specs.Histories.{is_opening}
 use Rattle.world_model.specs.Replies.{reply_of}
 use Rattle.replay_node.specs.Did.{outcome_of}
-use Rattle.replay_node.specs.NodeDisk.{CallsEnd, Done, Failed, StoppedIn}
+use Rattle.replay_node.specs.NodeDisk.{CallsEnd, Done, Failed, CrashedIn}
 use Rattle.replay_node.specs.NodeWorld.{NodeWorld, act_called, after_act, outcome_at, outcome_by}
 use Rattle.replay_node.specs.Stands.{Journal, OpenStands}
 use Rattle.replay_node.specs.StateDoes.{IsToldBy, StandsAfter, StateDid}
@@ -41,7 +41,7 @@ pub data Carries : CoordState Journal → CoordState Journal → List Item → L
   ByOther : (old new : CoordState Journal) (i : Item) (is done : List Item) (e : Ending) → is_quiet i ≡ true → Carries old new is done e
       → Carries old new (i ∷ is) ((if is_struck e then without_output i else i ∷ []) ++ done) e
 
--- the state stands for the node behind them
+-- the state stands for the node after them
 abbrev pub StandsBehind : Id → CoordState Journal → NodeWorld → Ending → Type 0
 StandsBehind me new x All = OpenStands me new x
 StandsBehind me new x (Struck d) = StandsAfter me new x d
@@ -81,13 +81,13 @@ act_front me new i c done e keeps h =
 done_is : (end : CallsEnd) (r reply : Reply) → Answered reply ≡ outcome_by end r → end ≡ Done
 done_is Done r reply h = refl
 done_is Failed r reply h = absurd (cc)
-done_is (StoppedIn way) r reply h = absurd (cc)
+done_is (CrashedIn way) r reply h = absurd (cc)
 
 -- one that the disk struck did not
 struck_course : (me : Id) (new : CoordState Journal) (x : NodeWorld) (act : Act) (rest : NodeWorld → NodeCourse) (d : Did) (end : CallsEnd) (r : Reply) → IsToldBy new did.Disk d → outcome_of d ≡ Some (outcome_by end r) → StandsAfter me new x d
     → Carried me new (node_act_then end (Acts act (outcome_by end r)) x rest) (Acts act (outcome_by end r) ∷ []) (Struck d)
 struck_course me new x act rest d Failed r told is stands = record { items = refl; struck = refl; stands = stands }
-struck_course me new x act rest d (StoppedIn way) r told is stands = record { items = refl; struck = refl; stands = stands }
+struck_course me new x act rest d (CrashedIn way) r told is stands = record { items = refl; struck = refl; stands = stands }
 struck_course me new x act rest did.Disk Done r told is stands = absurd (cc)
 struck_course me new x act rest did.Crashed Done r told is stands = absurd (cc)
 struck_course me new x act rest d Done r told is stands = absurd told

@@ -1,4 +1,4 @@
--- What a crash may leave is told by the state of each file, so files in the same state may leave the same.
+-- What a crash may leave depends on the state of each file alone, so files in the same state may leave the same.
 use Rattle.std.proofs.Common.{◌≡◌, ℕ, ◌+◌, ◌≤◌, max, List, [], ◌∷◌, ◌++◌, length, take, drop, sym, ◌∙◌, ap, subst, inl, inr, arith, append_assoc, length-append, length-drop}
 use Rattle.std.proofs.lemmas.Bool.{cases_lt}
 use Rattle.std.proofs.lemmas.List.{length-take-le, take_at, drop_at, drop_all}

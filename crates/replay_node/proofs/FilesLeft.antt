@@ -12,7 +12,7 @@ use Rattle.zen_disk.specs.declared.side.Side.TheVariants.{Zero, One}
 use Rattle.zen_disk.specs.declared.orders.Way.{Way}
 use Rattle.zen_disk.specs.declared.orders.Way.TheVariants.{Lost, Kept, Torn as TornTo}
 use Rattle.zen_disk.proofs.Files.{torn_refl, torn_written, length-written}
-use Rattle.replay_node.specs.NodeDisk.{NodeDisk, CallsEnd, Done, Failed, StoppedIn, Called, bytes_read, call_by, call_once, calls_made, go_on, placed}
+use Rattle.replay_node.specs.NodeDisk.{NodeDisk, CallsEnd, Done, Failed, CrashedIn, Called, bytes_read, call_by, call_once, calls_made, go_on, placed}
 
 -- what was done on a file since its last sync: nothing, or one write
 pub data Since : Type 0 where
@@ -66,35 +66,35 @@ over old at bytes again inside same =
     }
 
 -- a file after a stop
-abbrev stopped : Way → Since → Since
-stopped Kept since = since
-stopped Lost (Nothing bytes) = Nothing bytes
-stopped Lost (OneWrite old at bytes inside) = Nothing old
-stopped (TornTo x) (Nothing bytes) = Nothing bytes
-stopped (TornTo x) (OneWrite old at bytes inside) = Nothing (written (written old at bytes) at (replicate (length bytes) x))
+abbrev crashed : Way → Since → Since
+crashed Kept since = since
+crashed Lost (Nothing bytes) = Nothing bytes
+crashed Lost (OneWrite old at bytes inside) = Nothing old
+crashed (TornTo x) (Nothing bytes) = Nothing bytes
+crashed (TornTo x) (OneWrite old at bytes inside) = Nothing (written (written old at bytes) at (replicate (length bytes) x))
 
-stopped_state : (way : Way) (since : Since) → left_by way (state_since since) ≡ state_since (stopped way since)
-stopped_state Kept since = refl
-stopped_state Lost (Nothing bytes) = refl
-stopped_state Lost (OneWrite old at bytes inside) = refl
-stopped_state (TornTo x) (Nothing bytes) = refl
-stopped_state (TornTo x) (OneWrite old at bytes inside) = refl
+crashed_state : (way : Way) (since : Since) → left_by way (state_since since) ≡ state_since (crashed way since)
+crashed_state Kept since = refl
+crashed_state Lost (Nothing bytes) = refl
+crashed_state Lost (OneWrite old at bytes inside) = refl
+crashed_state (TornTo x) (Nothing bytes) = refl
+crashed_state (TornTo x) (OneWrite old at bytes inside) = refl
 
-stopped_may : (way : Way) (since : Since) (c : List ℕ) → MayBe (stopped way since) c → MayBe since c
-stopped_may Kept since c may = may
-stopped_may Lost (Nothing bytes) c may = may
-stopped_may Lost (OneWrite old at bytes inside) c may =
+crashed_may : (way : Way) (since : Since) (c : List ℕ) → MayBe (crashed way since) c → MayBe since c
+crashed_may Kept since c may = may
+crashed_may Lost (Nothing bytes) c may = may
+crashed_may Lost (OneWrite old at bytes inside) c may =
     subst (λ (l : List ℕ). Torn at (length bytes) old l) (sym may) (torn_refl at (length bytes) old)
-stopped_may (TornTo x) (Nothing bytes) c may = may
-stopped_may (TornTo x) (OneWrite old at bytes inside) c may =
+crashed_may (TornTo x) (Nothing bytes) c may = may
+crashed_may (TornTo x) (OneWrite old at bytes inside) c may =
     subst (λ (l : List ℕ). Torn at (length bytes) old l) (sym may)
     (over old at bytes (replicate (length bytes) x) inside (length-replicate (length bytes) x))
 
 pub leaves_stop : (way : Way) (files : Sides FileState) (P : Files → Type 0) → Leaves files P → Leaves (both_left_by way files) P
 leaves_stop way files P l = record {
-  since = record { zero = stopped way l.since.zero; one = stopped way l.since.one };
-  is = ap (both_left_by way) l.is ∙ (λ i. record { zero = stopped_state way l.since.zero i; one = stopped_state way l.since.one i });
-  left = λ c zero one. l.left c (stopped_may way l.since.zero c.zero zero) (stopped_may way l.since.one c.one one);
+  since = record { zero = crashed way l.since.zero; one = crashed way l.since.one };
+  is = ap (both_left_by way) l.is ∙ (λ i. record { zero = crashed_state way l.since.zero i; one = crashed_state way l.since.one i });
+  left = λ c zero one. l.left c (crashed_may way l.since.zero c.zero zero) (crashed_may way l.since.one c.one one);
 }
 
 -- ---- one side and the other
@@ -142,7 +142,7 @@ sync_pair One here there = refl
 abbrev pub EndsIn : CallsEnd → Sides FileState → (done cut : Sides FileState → Type 0) → Type 0
 EndsIn Done files D C = D files
 EndsIn Failed files D C = C files
-EndsIn (StoppedIn way) files D C = C files
+EndsIn (CrashedIn way) files D C = C files
 
 abbrev pub Ends : Called → (done cut : Sides FileState → Type 0) → Type 0
 Ends called D C = EndsIn called.ended called.disk.files D C
@@ -150,15 +150,15 @@ Ends called D C = EndsIn called.ended called.disk.files D C
 one_call : (stop : Option Way) (fault : Bool) (disk : NodeDisk) (call : DeviceCall) (D C : Sides FileState → Type 0) → C disk.files
     → D (after disk.files call) → ((way : Way) → C (both_left_by way (placed disk.files call)))
     → Ends (call_by stop fault disk call) D C
-one_call (Some way) fault disk call D C failed done stopped = stopped way
-one_call None true disk call D C failed done stopped = failed
-one_call None false disk call D C failed done stopped = done
+one_call (Some way) fault disk call D C failed done crashed = crashed way
+one_call None true disk call D C failed done crashed = failed
+one_call None false disk call D C failed done crashed = done
 
 then_calls : (end : CallsEnd) (disk : NodeDisk) (more : NodeDisk → Called) (M D C : Sides FileState → Type 0) → EndsIn end disk.files M C
     → (M disk.files → Ends (more disk) D C) → Ends (go_on end disk more) D C
 then_calls Done disk more M D C here then = then here
 then_calls Failed disk more M D C here then = here
-then_calls (StoppedIn way) disk more M D C here then = here
+then_calls (CrashedIn way) disk more M D C here then = here
 
 -- one call and then others: what is left has P all the time
 call_leaves : (disk : NodeDisk) (call : DeviceCall) (calls : List DeviceCall) (was next : Sides FileState) (P : Files → Type 0)

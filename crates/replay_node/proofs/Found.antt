@@ -1,4 +1,4 @@
--- The record that is found tells whether the act that was struck was kept.
+-- The record that is found says whether the act that was struck was kept.
 use Rattle.std.proofs.Common.{◌≡◌, true, false, refl, sym, ◌∙◌, ap, subst, ◌⊎◌, inl, inr}
 use Rattle.voting_config.specs.Ids.{Id}
 use Rattle.cluster_state.specs.declared.state.Kept.{Kept}
@@ -14,7 +14,7 @@ use Rattle.world_model.specs.Histories.{is_opening, IsLocal, MayFollow}
 use Rattle.replay_node.specs.Settled.{settled, shows_as, is_kept}
 use Rattle.replay_node.proofs.Settling.{unstruck}
 use Rattle.replay_node.proofs.Struck.{durable_refused, durable_lost, durable_lost_crash, durable_kept, closed_of_writes, shown_same, kept_choice}
-use Rattle.replay_node.proofs.SettledLocal.{IsStill, still, stopped_reply}
+use Rattle.replay_node.proofs.SettledLocal.{IsStill, still, halted_reply}
 
 -- where two records show the same, they are the same
 abbrev pub Tells : Kept → Kept → Type 0
@@ -33,7 +33,7 @@ then_tells : (me : Id) (g : NodeHistory) (act : Act) (reply : Reply) → is_open
     → Tells (durable_of (Then (settled false g) act (Answered reply))) (durable_of (Then (settled true g) act (Answered reply)))
 then_tells me g act reply o f (inl u) t = λ e. ap (λ (x : NodeHistory). durable_of (Then x act (Answered reply))) (unstruck g false u ∙ sym (unstruck g true u))
 then_tells me g act reply o f (inr (inl stopped)) t =
-    let reply_is : reply ≡ Stopped = f.follows ∙ stopped_reply me g act o stopped in
+    let reply_is : reply ≡ Stopped = f.follows ∙ halted_reply me g act o stopped in
     let refused : is_taken reply ≡ false = ap is_taken reply_is in
     tells_of _ _ _ _ (durable_refused (settled false g) act reply o refused) (durable_refused (settled true g) act reply o refused) t
 then_tells me g act reply o f (inr (inr down)) t = let up = f.up down in cc

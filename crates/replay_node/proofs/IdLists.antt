@@ -5,7 +5,7 @@ use Rattle.std.proofs.lemmas.Bool.{and_parts}
 use Rattle.std.proofs.lemmas.Bool.Decides.{nat_tests}
 use Rattle.voting_config.specs.Ids.{Id, is_id, comes_after, most_ids, IsIdSet}
 use Rattle.voting_config.proofs.Sorted.{IsIdSet-push}
-use Rattle.schedule_text.specs.Words.{may_follow, are_ids_after}
+use Rattle.voting_config.specs.Lists.{may_follow, are_ids_after}
 
 pub none_set : IsIdSet []
 none_set = record { ascending = refl; each = refl; fits = omega arith }

@@ -35,7 +35,7 @@ use Rattle.state_journal.specs.Keeping.{generation_after, keeping_calls, writing
 use Rattle.state_journal.specs.declared.change.Change.{Change}
 use Rattle.state_journal.proofs.Folds.{folded-push, makes, fold_end}
 use Rattle.state_journal.proofs.Found.{appended_reads, in_use_read, on_side_ok, renewed_reads}
-use Rattle.state_journal.proofs.Sizes.{ids_short, length-eight, state_short}
+use Rattle.cluster_state.proofs.Sizes.{ids_short, length-eight, state_short}
 use Rattle.state_journal.proofs.Writing.{begun, next_epoch}
 use Rattle.replay_node.specs.NodeDisk.{NodeDisk, bytes_read, calls_made}
 use Rattle.replay_node.proofs.FilesLeft.{Since, Nothing, MayBe, Leaves, Ends, Rest, state_since, no_calls, pair, pair_here, pair_there, writes}
@@ -304,7 +304,7 @@ module _ (files : Sides FileState) (kept next : Kept) (runs : Runs files kept) w
               renewal_left c d (inl (inr (stands_for [] c 8 none))) (inr ([], 8, none)) same
         ]
 
-    -- and while the body is added behind it
+    -- and while the body is added after it
     refill_left : (c d : List ℕ) → IsEitherLaid [] body c → d ≡ used → P (pair (other side) c d)
     refill_left c d (inl before) same = renewal_left c d (inl (inr (stands_for [] c before.0 before.1))) (inr ([], before.0, before.1)) same
     refill_left c d (inr after) same = renewal_left c d (inr (stands_for (body ∷ []) c after.0 after.1)) (inr (body ∷ [], after.0, after.1)) same

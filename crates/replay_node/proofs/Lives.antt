@@ -104,7 +104,7 @@ faultless_ends (Sends frame ∷ is) e = faultless_ends is e
 faultless_ends (Replies answer ∷ is) e = faultless_ends is e
 faultless_ends (Notes note ∷ is) e = faultless_ends is e
 
--- the items behind the first one have no fault either
+-- the items after the first one have no fault either
 later_fault : (i : Item) (is : List Item) → has_fault (i ∷ is) ≡ false → has_fault is ≡ false
 later_fault (Acts act o) is e = (or_parts (is_fault o) (has_fault is) e).1
 later_fault (Opens found) is e = e

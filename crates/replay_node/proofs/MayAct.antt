@@ -15,7 +15,7 @@ use Rattle.world_model.specs.Acts.{NodeHistory}
 use Rattle.world_model.specs.NodeState.{durable_of}
 use Rattle.world_model.specs.Histories.{node_history, sent, is_down, is_opening, Continues, IsSourced, MayHappen}
 use Rattle.world_model.specs.Replies.{reply_of, is_taken, writes, IsOutcome}
-use Rattle.replay_node.specs.NodeDisk.{NodeDisk, CallsEnd, Done, Failed, StoppedIn, bytes_read, calls_made}
+use Rattle.replay_node.specs.NodeDisk.{NodeDisk, CallsEnd, Done, Failed, CrashedIn, bytes_read, calls_made}
 use Rattle.replay_node.specs.NodeWorld.{NodeWorld, act_called, act_calls, outcome_at, outcome_by}
 use Rattle.replay_node.specs.Sent.{taking}
 use Rattle.replay_node.specs.Worlds.{World, node_world}
@@ -37,8 +37,8 @@ outcome_is : (me : Id) (g : NodeHistory) (act : Act) (end : CallsEnd) → (end �
 outcome_is me g act Done w = refl
 outcome_is me g act Failed (inl e) = absurd (cc)
 outcome_is me g act Failed (inr w) = w
-outcome_is me g act (StoppedIn way) (inl e) = absurd (cc)
-outcome_is me g act (StoppedIn way) (inr w) = w
+outcome_is me g act (CrashedIn way) (inl e) = absurd (cc)
+outcome_is me g act (CrashedIn way) (inr w) = w
 
 outcome_may : (me : Id) (w : NodeWorld) (act : Act) → IsOutcome me w.acts act (outcome_at me w act)
 outcome_may me w act = outcome_is me w.acts act (act_called me w act).ended (ends_well w.disk (reply_of me w.acts act) act (durable_of w.acts) (bytes_read w.disk.files))

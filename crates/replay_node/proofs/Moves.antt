@@ -13,7 +13,7 @@ use Rattle.world_model.specs.declared.acts.Outcome.TheVariants.{Answered}
 use Rattle.world_model.specs.Acts.{NodeHistory, Then}
 use Rattle.world_model.specs.Histories.{History, Next, node_history}
 use Rattle.replay_node.specs.Did.{after_unless_down}
-use Rattle.replay_node.specs.NodeDisk.{NodeDisk, CallsEnd, Done, Failed, StoppedIn, opening}
+use Rattle.replay_node.specs.NodeDisk.{NodeDisk, CallsEnd, Done, Failed, CrashedIn, opening}
 use Rattle.replay_node.specs.NodeLines.{after_stop, after_restart}
 use Rattle.replay_node.specs.NodeWorld.{NodeWorld, outcome_at, after_act, after_crash, after_order, after_opening, opened_by, found_at, needs_opening}
 use Rattle.replay_node.specs.Settled.{is_kept, settled_for}
@@ -89,14 +89,14 @@ own_opened Done h n disk found =
     let k : Bool = is_kept (node_history h n) found in
     node_history-own (settled_for n k h) n (Open found) (Answered (Taken None false)) ∙ ap (λ (g : NodeHistory). Then g (Open found) (Answered (Taken None false))) (settled_own n k h)
 own_opened Failed h n disk found = refl
-own_opened (StoppedIn way) h n disk found = refl
+own_opened (CrashedIn way) h n disk found = refl
 
 other_opened : (end : CallsEnd) (h : History) (n : Id) (found : Kept) (m : Id) → same n m ≡ false → node_history (history_opened end h n found) m ≡ node_history h m
 other_opened Done h n found m other =
     let k : Bool = is_kept (node_history h n) found in
     node_history-other (settled_for n k h) n m (Open found) (Answered (Taken None false)) other ∙ settled_other n m k h other
 other_opened Failed h n found m other = refl
-other_opened (StoppedIn way) h n found m other = refl
+other_opened (CrashedIn way) h n found m other = refl
 
 pub moves_opened : (n : Id) (w : World) → NodeMoves n w (after_opening (node_world w n)) (opened w n)
 moves_opened n w =

@@ -24,7 +24,7 @@ use Rattle.state_journal.specs.Keeping.{keeping_calls}
 use Rattle.state_journal.specs.declared.change.Change.{Change}
 use Rattle.state_journal.specs.declared.change.Change.TheVariants.{Term, Accepted, Committed}
 use Rattle.state_journal.specs.declared.why.Why.{Why}
-use Rattle.state_journal.proofs.Sizes.{state_short}
+use Rattle.cluster_state.proofs.Sizes.{state_short}
 use Rattle.state_journal.proofs.Spelled.{reads_term, reads_state, reads_committed, state_is}
 use Rattle.coord_state.specs.Writes.{change_of, kept_after}
 use Rattle.world_model.specs.declared.acts.Act.{Act}
@@ -34,19 +34,19 @@ use Rattle.world_model.specs.declared.acts.Reply.{Reply}
 use Rattle.world_model.specs.declared.acts.Reply.TheVariants.{Taken, Refused, Stopped}
 use Rattle.world_model.specs.declared.acts.Outcome.TheVariants.{Answered, Disk, Crashed}
 use Rattle.world_model.specs.Acts.{NodeHistory, NoActs, Then}
-use Rattle.world_model.specs.NodeState.{term_of, accepted_of, committed_of, durable_of, stopped_of}
+use Rattle.world_model.specs.NodeState.{term_of, accepted_of, committed_of, durable_of, halted_of}
 use Rattle.world_model.specs.Histories.{is_down, is_opening, IsLocal}
 use Rattle.world_model.specs.Replies.{reply_of, writes}
 use Rattle.world_model.proofs.Guards.{start_guard, publish_guard}
-use Rattle.replay_node.specs.NodeDisk.{NodeDisk, CallsEnd, Done, Failed, StoppedIn, Called, bytes_read, calls_made, no_files, opening}
+use Rattle.replay_node.specs.NodeDisk.{NodeDisk, CallsEnd, Done, Failed, CrashedIn, Called, bytes_read, calls_made, no_files, opening}
 use Rattle.replay_node.specs.NodeLines.{after_stop}
-use Rattle.replay_node.specs.NodeWorld.{NodeWorld, act_calls, acts_reopened, after_act, after_crash, after_opening, after_order, found_at, fresh_node, is_stop, needs_opening, opened_by, outcome_by}
+use Rattle.replay_node.specs.NodeWorld.{NodeWorld, act_calls, acts_reopened, after_act, after_crash, after_opening, after_order, found_at, fresh_node, ends_in_a_crash, needs_opening, opened_by, outcome_by}
 use Rattle.replay_node.specs.Settled.{settled, is_kept, IsUnstruck}
 use Rattle.replay_node.proofs.Found.{found_is}
 use Rattle.replay_node.proofs.Reopened.{IsFound}
-use Rattle.replay_node.proofs.SettledLocal.{stopped_reply}
+use Rattle.replay_node.proofs.SettledLocal.{halted_reply}
 use Rattle.replay_node.proofs.Settling.{settled_then, unstruck, unstruck_then}
-use Rattle.replay_node.proofs.StateSteps.{stopped_then, stopped_disk}
+use Rattle.replay_node.proofs.StateSteps.{halted_then, halted_disk}
 use Rattle.replay_node.proofs.Struck.{durable_kept, durable_lost, durable_lost_crash, durable_refused}
 use Rattle.replay_node.proofs.FilesLeft.{Nothing, Leaves, EndsIn, leaves_stop}
 use Rattle.replay_node.proofs.JournalLeft.{StandsWith, StandsWithEither, Runs, MayKeep, keep_ends, runs_leaves}
@@ -167,7 +167,7 @@ keeps me g (Open found) sends wins is w fits kept = absurd (cc)
 abbrev pub LeavesActs : Sides FileState → NodeHistory → Type 0
 LeavesActs files g = Leaves files (StandsWithEither (durable_of (settled false g)) (durable_of (settled true g)))
 
--- a node that runs has the record of its acts; of one that is stopped or down, an opening finds the record without the act that was struck or with it
+-- a node that runs has the record of its acts; of one that is halted or down, an opening finds the record without the act that was struck or with it
 pub record Sound (w : NodeWorld) : Type 0 where
   pub up : w.down ≡ false → is_down w.acts ≡ false
   pub fit : (kept : Bool) → MayBegin (durable_of (settled kept w.acts))
@@ -175,7 +175,7 @@ pub record Sound (w : NodeWorld) : Type 0 where
   pub runs : needs_opening w ≡ false → Runs w.disk.files (durable_of w.acts)
   pub left : needs_opening w ≡ true → LeavesActs w.disk.files w.acts
 
-running_sound : (g : NodeHistory) (disk : NodeDisk) → is_down g ≡ false → stopped_of g ≡ false → IsUnstruck g → MayBegin (durable_of g) → Runs disk.files (durable_of g) → Sound (record { acts = g; disk = disk; down = false })
+running_sound : (g : NodeHistory) (disk : NodeDisk) → is_down g ≡ false → halted_of g ≡ false → IsUnstruck g → MayBegin (durable_of g) → Runs disk.files (durable_of g) → Sound (record { acts = g; disk = disk; down = false })
 running_sound g disk up going free fit runs = record {
   up = λ d. up;
   fit = λ k. subst (λ (h : NodeHistory). MayBegin (durable_of h)) (sym (unstruck g k free)) fit;
@@ -184,8 +184,8 @@ running_sound g disk up going free fit runs = record {
   left = λ n. absurd (cc (going, n));
 }
 
-stopped_sound : (g : NodeHistory) (disk : NodeDisk) (down : Bool) → (down || stopped_of g) ≡ true → (down ≡ false → is_down g ≡ false) → ((kept : Bool) → MayBegin (durable_of (settled kept g))) → LeavesActs disk.files g → Sound (record { acts = g; disk = disk; down = down })
-stopped_sound g disk down needs up fit left = record { up = up; fit = fit; unstruck = λ n. absurd (cc (needs, n)); runs = λ n. absurd (cc (needs, n)); left = λ n. left }
+halted_sound : (g : NodeHistory) (disk : NodeDisk) (down : Bool) → (down || halted_of g) ≡ true → (down ≡ false → is_down g ≡ false) → ((kept : Bool) → MayBegin (durable_of (settled kept g))) → LeavesActs disk.files g → Sound (record { acts = g; disk = disk; down = down })
+halted_sound g disk down needs up fit left = record { up = up; fit = fit; unstruck = λ n. absurd (cc (needs, n)); runs = λ n. absurd (cc (needs, n)); left = λ n. left }
 
 leaves_acts : (w : NodeWorld) → Sound w → LeavesActs w.disk.files w.acts
 leaves_acts w s = from (needs_opening w) refl
@@ -201,7 +201,7 @@ leaves_acts w s = from (needs_opening w) refl
 -- one that changes nothing that is kept
 quiet_sound : (w : NodeWorld) (act : Act) (reply : Reply) → is_opening act ≡ false → ((g : NodeHistory) → durable_of (Then g act (Answered reply)) ≡ durable_of g) → Sound w → w.down ≡ false → Sound (record { acts = Then w.acts act (Answered reply); disk = w.disk; down = false })
 quiet_sound w act reply o same s up =
-    let needs : stopped_of (Then w.acts act (Answered reply)) ≡ needs_opening w = stopped_then w.acts act reply o ∙ sym (ap (λ (b : Bool). b || stopped_of w.acts) up) in
+    let needs : halted_of (Then w.acts act (Answered reply)) ≡ needs_opening w = halted_then w.acts act reply o ∙ sym (ap (λ (b : Bool). b || halted_of w.acts) up) in
     let own : (k : Bool) → durable_of (settled k (Then w.acts act (Answered reply))) ≡ durable_of (settled k w.acts) = λ k. ap durable_of (settled_then k w.acts act reply o) ∙ same (settled k w.acts) in
     record {
       up = λ d. refl;
@@ -215,9 +215,9 @@ quiet_sound w act reply o same s up =
 
 -- one that keeps a change, by how its calls ended
 abbrev acted_by : CallsEnd → NodeDisk → NodeHistory → Act → Reply → NodeWorld
-acted_by end disk g act reply = record { acts = Then g act (outcome_by end reply); disk = disk; down = is_stop end }
+acted_by end disk g act reply = record { acts = Then g act (outcome_by end reply); disk = disk; down = ends_in_a_crash end }
 
-module _ (g : NodeHistory) (act : Act) (o : is_opening act ≡ false) (k : Keeps g act) (free : IsUnstruck g) (going : stopped_of g ≡ false) (fit : MayBegin (durable_of g)) where
+module _ (g : NodeHistory) (act : Act) (o : is_opening act ≡ false) (k : Keeps g act) (free : IsUnstruck g) (going : halted_of g ≡ false) (fit : MayBegin (durable_of g)) where
   abbrev next : Kept
   next = changed (durable_of g) k.change
 
@@ -234,17 +234,17 @@ module _ (g : NodeHistory) (act : Act) (o : is_opening act ≡ false) (k : Keeps
   kept_sound Done disk sends wins runs =
       let h : NodeHistory = Then g act (Answered (Taken sends wins)) in
       let is : durable_of h ≡ next = kept_after g act (Answered (Taken sends wins)) refl ∙ k.with_it in
-      running_sound h disk refl (stopped_then g act (Taken sends wins) o ∙ going) (unstruck_then g act (Taken sends wins) free) (subst MayBegin (sym is) k.may.begins) (subst (λ (x : Kept). Runs disk.files x) (sym is) runs)
+      running_sound h disk refl (halted_then g act (Taken sends wins) o ∙ going) (unstruck_then g act (Taken sends wins) free) (subst MayBegin (sym is) k.may.begins) (subst (λ (x : Kept). Runs disk.files x) (sym is) runs)
   kept_sound Failed disk sends wins left =
       let h : NodeHistory = Then g act (Disk false) in
       let lost : durable_of (settled false h) ≡ durable_of g = durable_lost g act o in
       let kept : durable_of (settled true h) ≡ next = durable_kept g act ∙ k.with_it in
-      stopped_sound h disk false (stopped_disk g act false o) (λ d. refl) (struck_fit h lost kept) (struck_left disk.files h lost kept left)
-  kept_sound (StoppedIn way) disk sends wins left =
+      halted_sound h disk false (halted_disk g act false o) (λ d. refl) (struck_fit h lost kept) (struck_left disk.files h lost kept left)
+  kept_sound (CrashedIn way) disk sends wins left =
       let h : NodeHistory = Then g act (Crashed false) in
       let lost : durable_of (settled false h) ≡ durable_of g = durable_lost_crash g act o in
       let kept : durable_of (settled true h) ≡ next = k.with_it in
-      stopped_sound h disk true refl (λ d. absurd (cc)) (struck_fit h lost kept) (struck_left disk.files h lost kept left)
+      halted_sound h disk true refl (λ d. absurd (cc)) (struck_fit h lost kept) (struck_left disk.files h lost kept left)
 
 -- an act by its reply
 abbrev after_reply : NodeWorld → Act → Reply → NodeWorld
@@ -263,9 +263,9 @@ unwritten (Commit commit) sends wins e o = absurd (cc)
 unwritten (Open found) sends wins e o = absurd (cc)
 
 module _ (me : Id) (w : NodeWorld) (act : Act) (s : Sound w) (up : w.down ≡ false) (o : is_opening act ≡ false) (fits : IsFitAct act) where
-  writing : (sends : Option Message) (wins : Bool) → Taken sends wins ≡ reply_of me w.acts act → writes act ≡ true → stopped_of w.acts ≡ false → Sound (after_reply w act (Taken sends wins))
+  writing : (sends : Option Message) (wins : Bool) → Taken sends wins ≡ reply_of me w.acts act → writes act ≡ true → halted_of w.acts ≡ false → Sound (after_reply w act (Taken sends wins))
   writing sends wins is w_act going =
-      let needs : needs_opening w ≡ false = ap (λ (b : Bool). b || stopped_of w.acts) up ∙ going in
+      let needs : needs_opening w ≡ false = ap (λ (b : Bool). b || halted_of w.acts) up ∙ going in
       let free = s.unstruck needs in
       let fit : MayBegin (durable_of w.acts) = subst (λ (h : NodeHistory). MayBegin (durable_of h)) (unstruck w.acts false free) (s.fit false) in
       let k : Keeps w.acts act = keeps me w.acts act sends wins is w_act fits fit in
@@ -274,24 +274,24 @@ module _ (me : Id) (w : NodeWorld) (act : Act) (s : Sound w) (up : w.down ≡ fa
       kept_sound w.acts act o k free going fit called.ended called.disk sends wins (keep_ends w.disk (durable_of w.acts) k.change (s.runs needs) k.may) in
       subst (λ (c : Option Change). let called : Called = calls_made w.disk (act_calls (Taken sends wins) c (durable_of w.acts) (bytes_read w.disk.files)) in Sound (acted_by called.ended called.disk w.acts act (Taken sends wins))) (sym k.is) there
 
-  taking : (sends : Option Message) (wins : Bool) → Taken sends wins ≡ reply_of me w.acts act → (b : Bool) → writes act ≡ b → stopped_of w.acts ≡ false → Sound (after_reply w act (Taken sends wins))
+  taking : (sends : Option Message) (wins : Bool) → Taken sends wins ≡ reply_of me w.acts act → (b : Bool) → writes act ≡ b → halted_of w.acts ≡ false → Sound (after_reply w act (Taken sends wins))
   taking sends wins is true e going = writing sends wins is e going
   taking sends wins is false e going =
       let none = unwritten act sends wins e o in
       subst (λ (c : Option Change). let called : Called = calls_made w.disk (act_calls (Taken sends wins) c (durable_of w.acts) (bytes_read w.disk.files)) in Sound (acted_by called.ended called.disk w.acts act (Taken sends wins))) (sym none.0)
       (quiet_sound w act (Taken sends wins) o none.1 s up)
 
-  by_reply : (reply : Reply) → reply ≡ reply_of me w.acts act → stopped_of w.acts ≡ false → Sound (after_reply w act reply)
+  by_reply : (reply : Reply) → reply ≡ reply_of me w.acts act → halted_of w.acts ≡ false → Sound (after_reply w act reply)
   by_reply (Taken sends wins) is going = taking sends wins is (writes act) refl going
   by_reply (Refused cause) is going = quiet_sound w act (Refused cause) o (λ g. durable_refused g act (Refused cause) o refl) s up
   by_reply Stopped is going = quiet_sound w act Stopped o (λ g. durable_refused g act Stopped o refl) s up
 
   pub act_sound : Sound (after_act me w act)
-  act_sound = from (stopped_of w.acts) refl
+  act_sound = from (halted_of w.acts) refl
     where
-      from : (b : Bool) → stopped_of w.acts ≡ b → Sound (after_act me w act)
+      from : (b : Bool) → halted_of w.acts ≡ b → Sound (after_act me w act)
       from false going = by_reply (reply_of me w.acts act) refl going
-      from true stopped = subst (λ (r : Reply). Sound (after_reply w act r)) (sym (stopped_reply me w.acts act o stopped)) (quiet_sound w act Stopped o (λ g. durable_refused g act Stopped o refl) s up)
+      from true stopped = subst (λ (r : Reply). Sound (after_reply w act r)) (sym (halted_reply me w.acts act o stopped)) (quiet_sound w act Stopped o (λ g. durable_refused g act Stopped o refl) s up)
 
 -- ---- other lines
 
@@ -332,8 +332,8 @@ module _ (me : Id) (w : NodeWorld) (l : IsLocal me w.acts) (s : Sound w) (needs 
       let g : NodeHistory = acts_reopened w.acts (found_at w) in
       let kept : durable_of g ≡ found_at w = reopened_record (settled k w.acts) (found_at w) is in
       running_sound g disk refl refl tt (subst MayBegin (sym (kept ∙ is)) (s.fit k)) (subst (λ (x : Kept). Runs disk.files x) (sym (kept ∙ found_record)) runs)
-  opened_sound Failed disk left = stopped_sound w.acts disk true refl (λ d. absurd (cc)) s.fit left
-  opened_sound (StoppedIn way) disk left = stopped_sound w.acts disk true refl (λ d. absurd (cc)) s.fit left
+  opened_sound Failed disk left = halted_sound w.acts disk true refl (λ d. absurd (cc)) s.fit left
+  opened_sound (CrashedIn way) disk left = halted_sound w.acts disk true refl (λ d. absurd (cc)) s.fit left
 
   pub opening_sound : Sound (after_opening w)
   opening_sound = opened_sound (opening w.disk).ended (opening w.disk).disk o.ends

@@ -33,7 +33,7 @@ use Rattle.replay_node.specs.declared.did.Did.TheVariants as did
 use Rattle.replay_node.specs.declared.node.ReplayNode.{ReplayNode}
 use Rattle.replay_node.specs.declared.node.Slot.{Slot}
 use Rattle.replay_node.specs.declared.node.Slot.TheVariants.{Open, Down}
-use Rattle.replay_node.proofs.AsSaid.{stopped_stands}
+use Rattle.replay_node.proofs.AsSaid.{crashed_stands}
 use Rattle.replay_node.proofs.Settling.{unstruck}
 
 pub leaves_less : (old new : MemFuse) (g : NodeHistory) → ((files : Files) → MayLeave new files → MayLeave old files) → LeavesActs old g → LeavesActs new g
@@ -54,7 +54,7 @@ closes me s (Open state) w did.Crashed stands closing = absurd closing
 closes me s slot w did.Down stands closing = absurd stands
 closes me s slot w d stands closing = subst (λ (x : Slot). SlotStands me x w) (sym closing) stands
 
--- what the node published last is told by the act
+-- what the node published last follows from the act
 abbrev pub Publishes : ReplayNode → ReplayNode → Act → Did → Type 0
 Publishes old new act d = (g : NodeHistory) (o : Outcome) → outcome_of d ≡ Some o → state_published old.published ≡ last_published g → state_published new.published ≡ last_published (Then g act o)
 
@@ -88,7 +88,7 @@ taking_none (Publish r) g o = refl
 taking_none (Response r) g o = refl
 taking_none (Commit c) g o = refl
 
--- a stop between two acts
+-- a crash between two acts
 
 kept_is : (s : CoordState Journal) (g : NodeHistory) → StandsFor record_of has_stopped faults s g → s.keeper.kept ≡ durable_of g
 kept_is s g stands = let kept : NodeState → Kept = λ n. record { term = n.term; accepted = n.accepted; committed = n.committed } in ap kept stands
@@ -107,13 +107,13 @@ open_leaves me s w stands = from s.keeper.log.stopped refl
     from true stopped = stands.stopped stopped
 
 -- a disk that was stopped so
-pub record StoppedAs (old new : MemFuse) (way : Way) : Type 0 where
+pub record CrashedAs (old new : MemFuse) (way : Way) : Type 0 where
   pub armed : new.armed ≡ old.armed
   pub up : new.down ≡ None
   pub files : files_of new.disk ≡ both_left_by way (files_of old.disk)
   pub left : (c : Files) → MayLeave new c → MayLeave old c
 
-pub crash_open : (old : ReplayNode) (s : CoordState Journal) (way : Way) (fuse : MemFuse) (was now : List ℕ) → old.slot ≡ Open s → StoppedAs s.keeper.log.disk fuse way → now ≡ was ++ crashed_line old.me
+pub crash_open : (old : ReplayNode) (s : CoordState Journal) (way : Way) (fuse : MemFuse) (was now : List ℕ) → old.slot ≡ Open s → CrashedAs s.keeper.log.disk fuse way → now ≡ was ++ crashed_line old.me
     → DoesLine old (record old { slot = Down fuse }) (after_stop way) (stop_text old.me) was now
 crash_open old s way fuse was now slot stopped text =
     let open_stands : (w : NodeWorld) → NodeStands old w → OpenStands old.me s w = λ w stands. subst (λ (x : Slot). SlotStands old.me x w) slot stands.slot in
@@ -123,7 +123,7 @@ crash_open old s way fuse was now slot stopped text =
           let o = open_stands w stands in
           let down : DownStands fuse (after_crash way w) = record {
             down = refl;
-            disk = stopped_stands s.keeper.log.disk fuse w.disk way o.disk stopped.armed stopped.up stopped.files;
+            disk = crashed_stands s.keeper.log.disk fuse w.disk way o.disk stopped.armed stopped.up stopped.files;
             left = leaves_less s.keeper.log.disk fuse w.acts stopped.left (open_leaves old.me s w o);
           } in
           let crashed : NodeStands (record old { slot = Down fuse }) (after_crash way w) = record { slot = down; published = stands.published } in

@@ -9,7 +9,7 @@ use Rattle.zen_disk.specs.Armed.{nothing_armed}
 use Rattle.zen_disk.specs.Fuse.{FuseSteps}
 use Rattle.zen_disk.specs.MemDisks.{MemSteps, files_of, past_of, read_of}
 use Rattle.zen_disk.specs.Moments.{LeavesOnly}
-use Rattle.zen_disk.specs.Runs.{Ran}
+use Rattle.zen_disk.specs.Runs.{CallsMade}
 use Rattle.zen_disk.specs.Sides.{Files}
 use Rattle.zen_disk.specs.UndoOrder.{WereImages, only-last, were-are}
 use Rattle.zen_disk.specs.declared.orders.Struck.{Struck}
@@ -27,9 +27,9 @@ use Rattle.world_model.specs.declared.acts.Reply.TheVariants.{Taken}
 use Rattle.world_model.specs.declared.acts.Outcome.TheVariants.{Answered}
 use Rattle.world_model.specs.Acts.{NodeHistory, NoActs, Then}
 use Rattle.world_model.specs.Histories.{is_down}
-use Rattle.world_model.specs.NodeState.{NodeState, node_state, durable_of, opened, stopped_of}
+use Rattle.world_model.specs.NodeState.{NodeState, node_state, durable_of, opened, halted_of}
 use Rattle.trace_text.specs.Trace.{crashed_line, disk_line, record_line, up_line}
-use Rattle.replay_node.specs.NodeDisk.{NodeDisk, CallsEnd, Done, Failed, StoppedIn, calls_made, opening, bytes_read, no_files, MemFuse, MayLeave, DiskStands, Restarted}
+use Rattle.replay_node.specs.NodeDisk.{NodeDisk, CallsEnd, Done, Failed, CrashedIn, calls_made, opening, bytes_read, no_files, MemFuse, MayLeave, DiskStands, Restarted}
 use Rattle.replay_node.specs.NodeWorld.{NodeWorld, fresh_node, after_opening, found_at, needs_opening, opened_by, opening_text}
 use Rattle.replay_node.specs.NodeLines.{after_restart, restart_text, DoesLine}
 use Rattle.replay_node.specs.Opens.{ClosedStands, Opens, StaysDown}
@@ -40,7 +40,7 @@ use Rattle.replay_node.specs.Stands.{Journal, record_of, has_stopped, faults, Le
 use Rattle.replay_node.specs.declared.node.ReplayNode.{ReplayNode}
 use Rattle.replay_node.specs.declared.node.Slot.{Slot}
 use Rattle.replay_node.specs.declared.node.Slot.TheVariants.{Open, Down}
-use Rattle.replay_node.proofs.AsSaid.{StopLeaves, said_done, said_failed, said_stopped, restarted_stands}
+use Rattle.replay_node.proofs.AsSaid.{StopLeaves, said_done, said_failed, said_crashed, restarted_stands}
 use Rattle.replay_node.proofs.Crashed.{images_within}
 use Rattle.replay_node.proofs.Nodes.{leaves_less}
 use Rattle.replay_node.proofs.Settling.{settled_published}
@@ -56,7 +56,7 @@ left_of f = WereImages (reverse f.disk.order.items) (past_of f.disk) (read_of f.
 reopened_state : (g : NodeHistory) (found : Kept) → found ≡ durable_of g → node_state (opened found) ≡ node_state (Then g (OpenAct found) (Answered (Taken None false)))
 reopened_state NoActs found is = refl
 reopened_state (Then g act o) found is =
-    let state : Kept → NodeState = λ k. record { term = k.term; accepted = k.accepted; committed = k.committed; started = false; votes = []; won = false; version = 0; config = []; acks = []; stopped = false } in
+    let state : Kept → NodeState = λ k. record { term = k.term; accepted = k.accepted; committed = k.committed; started_join = false; join_votes = []; election_won = false; published_version = 0; published_config = []; publish_votes = []; halted = false } in
     ap state is
 
 some_either : (a b k : Kept) (found : Option Kept) → found ≡ Some k → IsEither a b found → (k ≡ a) ⊎ (k ≡ b)
@@ -71,7 +71,7 @@ none_either a b found is (inr e) = cc
 pub record JustOpened (fuse : MemFuse) (j : Journal) : Type 0 where
   pub found : found_of (read_of fuse.disk) ≡ Ok j.kept
   pub runs : j.log.stopped ≡ false
-  pub ran : Ran (FuseSteps MemSteps) (both_opening_calls (read_of fuse.disk)) fuse j.log.disk true
+  pub ran : CallsMade (FuseSteps MemSteps) (both_opening_calls (read_of fuse.disk)) fuse j.log.disk true
 
 -- a node that was just opened over this journal
 pub record JustOver (me : Id) (j : Journal) (s : CoordState Journal) : Type 0 where
@@ -141,7 +141,7 @@ module _ (me : Id) (fuse : MemFuse) (w : NodeWorld) (c : ClosedStands fuse w) wh
       leaves : (files : Files) → MayLeave g files → IsEither (durable_of (settled false w.acts)) (durable_of (settled true w.acts)) (record_of_files files)
       leaves files may = found_before files (run.since (moment_of fuse) files (omega arith) (were-are (reverse g.disk.order.items) (past_of g.disk) (read_of g.disk) (moment_of fuse) files may))
 
-  module _ (g : MemFuse) (run : LeavesOnly moment_of left_of fuse g (FoundAsSome (MayLeave fuse))) (ran : Ran (FuseSteps MemSteps) (both_opening_calls (read_of fuse.disk)) fuse g false) (was now : List ℕ) where
+  module _ (g : MemFuse) (run : LeavesOnly moment_of left_of fuse g (FoundAsSome (MayLeave fuse))) (ran : CallsMade (FuseSteps MemSteps) (both_opening_calls (read_of fuse.disk)) fuse g false) (was now : List ℕ) where
     failed : g.struck ≡ Some Fault → now ≡ was ++ disk_line me → Opens me fuse (Down g) was now w
     failed struck text =
         let made = subst (λ (files : Files). ((calls_made w.disk (both_opening_calls files)).ended ≡ Failed) × DiskStands g (calls_made w.disk (both_opening_calls files)).disk) read_is (said_failed (both_opening_calls (read_of fuse.disk)) fuse g w.disk false c.disk ran refl struck) in
@@ -154,7 +154,7 @@ module _ (me : Id) (fuse : MemFuse) (w : NodeWorld) (c : ClosedStands fuse w) wh
 
     stopped : (again : MemFuse) → g.struck ≡ Some Stop → Restarted g again → now ≡ was ++ crashed_line me → Opens me fuse (Down again) was now w
     stopped again struck restarts text =
-        let said = subst (λ (files : Files). StopLeaves (calls_made w.disk (both_opening_calls files)).ended g (calls_made w.disk (both_opening_calls files)).disk) read_is (said_stopped (both_opening_calls (read_of fuse.disk)) fuse g w.disk false c.disk ran refl struck) in
+        let said = subst (λ (files : Files). StopLeaves (calls_made w.disk (both_opening_calls files)).ended g (calls_made w.disk (both_opening_calls files)).disk) read_is (said_crashed (both_opening_calls (read_of fuse.disk)) fuse g w.disk false c.disk ran refl struck) in
         let down : DownStands again (record { acts = w.acts; disk = (opening w.disk).disk; down = true }) = record {
           down = refl;
           disk = restarted_stands (opening w.disk).ended g again (opening w.disk).disk said restarts;
@@ -190,7 +190,7 @@ pub new_stands : (me : Id) (f : MemFuse) (j : Journal) (s : CoordState Journal) 
 new_stands me f j s empty is over =
     let disk : NodeDisk = record { files = no_files; armed = nothing_armed } in
     let began : DiskStands f disk = record { files = empty.files; armed = empty.armed; up = empty.up } in
-    let ran = subst (λ (files : Files). Ran (FuseSteps MemSteps) (both_opening_calls files) f j.log.disk true) empty.seen is.ran in
+    let ran = subst (λ (files : Files). CallsMade (FuseSteps MemSteps) (both_opening_calls files) f j.log.disk true) empty.seen is.ran in
     let made = said_done (both_opening_calls (bytes_read no_files)) f j.log.disk disk true began ran refl in
     just_stands me j s NoActs (opening disk).disk over is.runs refl tt (ap (λ (x : Kept). node_state (opened x)) (empty_found (read_of f.disk) j.kept empty.seen is.found)) made.1
 
@@ -199,7 +199,7 @@ new_stands me f j s empty is over =
 published_by_end : (e : CallsEnd) (g : NodeHistory) (disk : NodeDisk) (found : Kept) → last_published (opened_by e g disk found).acts ≡ last_published g
 published_by_end Done g disk found = settled_published (is_kept g found) g
 published_by_end Failed g disk found = refl
-published_by_end (StoppedIn way) g disk found = refl
+published_by_end (CrashedIn way) g disk found = refl
 
 module _ (old new : ReplayNode) (fuse : MemFuse) (was now : List ℕ) (same_me : new.me ≡ old.me) (same_published : new.published ≡ old.published) (needs : (w : NodeWorld) → NodeStands old w → (needs_opening w ≡ true) × ClosedStands fuse w)
     (done : (w : NodeWorld) → ClosedStands fuse w → Opens old.me fuse new.slot was now w) where
@@ -217,11 +217,11 @@ module _ (old new : ReplayNode) (fuse : MemFuse) (was now : List ℕ) (same_me :
 pub down_needs : (old : ReplayNode) (fuse : MemFuse) → old.slot ≡ Down fuse → (w : NodeWorld) → NodeStands old w → (needs_opening w ≡ true) × ClosedStands fuse w
 down_needs old fuse slot w stands =
     let d : DownStands fuse w = subst (λ (x : Slot). SlotStands old.me x w) slot stands.slot in
-    (ap (λ (b : Bool). b || stopped_of w.acts) d.down, record { disk = d.disk; left = d.left })
+    (ap (λ (b : Bool). b || halted_of w.acts) d.down, record { disk = d.disk; left = d.left })
 
--- a node that is up needs it once its journal has stopped
+-- a node that is up needs it once its journal is halted
 open_asks : (me : Id) (s : CoordState Journal) (w : NodeWorld) → OpenStands me s w → needs_opening w ≡ s.keeper.log.stopped
-open_asks me s w o = ap (λ (b : Bool). b || stopped_of w.acts) o.up ∙ sym (ap (λ (n : NodeState). n.stopped) o.acts)
+open_asks me s w o = ap (λ (b : Bool). b || halted_of w.acts) o.up ∙ sym (ap (λ (n : NodeState). n.halted) o.acts)
 
 pub open_needs : (old : ReplayNode) (s : CoordState Journal) → old.slot ≡ Open s → s.keeper.log.stopped ≡ true → (w : NodeWorld) → NodeStands old w → (needs_opening w ≡ true) × ClosedStands s.keeper.log.disk w
 open_needs old s slot stopped w stands =

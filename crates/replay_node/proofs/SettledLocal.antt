@@ -8,21 +8,21 @@ use Rattle.world_model.specs.declared.acts.Reply.TheVariants.{Stopped}
 use Rattle.world_model.specs.declared.acts.Outcome.{Outcome}
 use Rattle.world_model.specs.declared.acts.Outcome.TheVariants.{Answered, Disk, Crashed}
 use Rattle.world_model.specs.Acts.{NodeHistory, NoActs, Then}
-use Rattle.world_model.specs.NodeState.{stopped_of}
+use Rattle.world_model.specs.NodeState.{halted_of}
 use Rattle.world_model.specs.Replies.{reply_of, writes}
 use Rattle.world_model.specs.Histories.{is_opening, is_down, ContinuesUnlessFirst, MayFollow, IsLocal}
 use Rattle.world_model.specs.Local.{BeginsEmpty}
 use Rattle.replay_node.specs.Settled.{settled, IsUnstruck}
-use Rattle.replay_node.proofs.Settling.{unstruck, settled_stopped, settled_down}
+use Rattle.replay_node.proofs.Settling.{unstruck, settled_halted, settled_down}
 
--- after an act that was struck, the node is stopped or down
+-- after an act that was struck, the node is halted or down
 
-stopped_by_disk : (g : NodeHistory) (act : Act) (kept : Bool) → writes act ≡ true → stopped_of (Then g act (Disk kept)) ≡ true
-stopped_by_disk g (Open found) kept w = cc
-stopped_by_disk g act kept w = refl
+halted_by_disk : (g : NodeHistory) (act : Act) (kept : Bool) → writes act ≡ true → halted_of (Then g act (Disk kept)) ≡ true
+halted_by_disk g (Open found) kept w = cc
+halted_by_disk g act kept w = refl
 
 abbrev pub IsStill : NodeHistory → Type 0
-IsStill g = IsUnstruck g ⊎ ((stopped_of g ≡ true) ⊎ (is_down g ≡ true))
+IsStill g = IsUnstruck g ⊎ ((halted_of g ≡ true) ⊎ (is_down g ≡ true))
 
 still_then : (me : Id) (g : NodeHistory) (act : Act) (reply : Reply) → MayFollow me g act (Answered reply) → IsStill g → IsStill (Then g act (Answered reply))
 still_then me g (Open found) reply f s = inl tt
@@ -32,14 +32,14 @@ still_then me g act reply f (inr (inr e)) = let up = f.up e in cc
 
 pub still : (me : Id) (g : NodeHistory) → IsLocal me g → IsStill g
 still me NoActs l = inl tt
-still me (Then g act (Disk was)) l = inr (inl (stopped_by_disk g act was l.1.follows.1))
+still me (Then g act (Disk was)) l = inr (inl (halted_by_disk g act was l.1.follows.1))
 still me (Then g act (Crashed was)) l = inr (inr refl)
 still me (Then g act (Answered reply)) l = still_then me g act reply l.1 (still me g l.0)
 
--- a node that is stopped answers that it is
-pub stopped_reply : (me : Id) (g : NodeHistory) (act : Act) → is_opening act ≡ false → stopped_of g ≡ true → reply_of me g act ≡ Stopped
-stopped_reply me g (Open found) o e = cc
-stopped_reply me g act o e = rw e refl
+-- a node that is halted answers that it is
+pub halted_reply : (me : Id) (g : NodeHistory) (act : Act) → is_opening act ≡ false → halted_of g ≡ true → reply_of me g act ≡ Stopped
+halted_reply me g (Open found) o e = cc
+halted_reply me g act o e = rw e refl
 
 -- so whether the act was kept, its answers are the same
 pub settled_reply : (me : Id) (k : Bool) (g : NodeHistory) (act : Act) → IsLocal me g → is_opening act ≡ false → is_down g ≡ false → reply_of me (settled k g) act ≡ reply_of me g act
@@ -47,7 +47,7 @@ settled_reply me k g act l o d = from (still me g l)
   where
     from : IsStill g → reply_of me (settled k g) act ≡ reply_of me g act
     from (inl u) = ap (λ (x : NodeHistory). reply_of me x act) (unstruck g k u)
-    from (inr (inl e)) = stopped_reply me (settled k g) act o (settled_stopped k g ∙ e) ∙ sym (stopped_reply me g act o e)
+    from (inr (inl e)) = halted_reply me (settled k g) act o (settled_halted k g ∙ e) ∙ sym (halted_reply me g act o e)
     from (inr (inr e)) = cc
 
 continues_any : (g : NodeHistory) (act : Act) → is_opening act ≡ false → ContinuesUnlessFirst g act

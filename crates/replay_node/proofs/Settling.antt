@@ -7,7 +7,7 @@ use Rattle.world_model.specs.declared.acts.Reply.{Reply}
 use Rattle.world_model.specs.declared.acts.Outcome.{Outcome}
 use Rattle.world_model.specs.declared.acts.Outcome.TheVariants.{Answered, Disk, Crashed}
 use Rattle.world_model.specs.Acts.{NodeHistory, NoActs, Then, is_disk}
-use Rattle.world_model.specs.NodeState.{stopped_of}
+use Rattle.world_model.specs.NodeState.{halted_of}
 use Rattle.world_model.specs.Histories.{is_opening, is_down}
 use Rattle.replay_node.specs.Settled.{settled, IsUnstruck}
 use Rattle.replay_node.specs.Takes.{TakesFrom}
@@ -51,18 +51,18 @@ settled_again j k (Then g act (Crashed was)) = refl
 settled_again j k (Then g (Open found) (Answered reply)) = refl
 settled_again j k (Then g act (Answered reply)) = ap (λ (x : NodeHistory). Then x act (Answered reply)) (settled_again j k g)
 
--- the node is stopped or down as it was
+-- the node is halted or down as it was
 
-stopped_by : (g : NodeHistory) (act : Act) (o p : Outcome) → is_disk o ≡ is_disk p → stopped_of (Then g act o) ≡ stopped_of (Then g act p)
-stopped_by g (Open found) o p e = refl
-stopped_by g act o p e = cc
+crashed_by : (g : NodeHistory) (act : Act) (o p : Outcome) → is_disk o ≡ is_disk p → halted_of (Then g act o) ≡ halted_of (Then g act p)
+crashed_by g (Open found) o p e = refl
+crashed_by g act o p e = cc
 
-pub settled_stopped : (k : Bool) (g : NodeHistory) → stopped_of (settled k g) ≡ stopped_of g
-settled_stopped k NoActs = refl
-settled_stopped k (Then g act (Disk was)) = stopped_by g act (Disk k) (Disk was) refl
-settled_stopped k (Then g act (Crashed was)) = stopped_by g act (Crashed k) (Crashed was) refl
-settled_stopped k (Then g (Open found) (Answered reply)) = refl
-settled_stopped k (Then g act (Answered reply)) = settled_stopped k g
+pub settled_halted : (k : Bool) (g : NodeHistory) → halted_of (settled k g) ≡ halted_of g
+settled_halted k NoActs = refl
+settled_halted k (Then g act (Disk was)) = crashed_by g act (Disk k) (Disk was) refl
+settled_halted k (Then g act (Crashed was)) = crashed_by g act (Crashed k) (Crashed was) refl
+settled_halted k (Then g (Open found) (Answered reply)) = refl
+settled_halted k (Then g act (Answered reply)) = settled_halted k g
 
 pub settled_down : (k : Bool) (g : NodeHistory) → is_down (settled k g) ≡ is_down g
 settled_down k NoActs = refl

@@ -12,7 +12,7 @@ use Rattle.zen_disk.specs.FileState.{FileState}
 use Rattle.zen_disk.specs.Fuse.{FuseSteps}
 use Rattle.zen_disk.specs.MemDisks.{MemSteps, past_of, read_of}
 use Rattle.zen_disk.specs.Moments.{LeavesOnly, quiet}
-use Rattle.zen_disk.specs.Runs.{Ran}
+use Rattle.zen_disk.specs.Runs.{CallsMade}
 use Rattle.zen_disk.specs.Sides.{Sides, Files}
 use Rattle.zen_disk.specs.UndoOrder.{AreImages, WereImages, only-last, were-are}
 use Rattle.zen_disk.specs.declared.orders.Struck.TheVariants.{Stop, Fault}
@@ -40,19 +40,19 @@ use Rattle.world_model.specs.declared.acts.Outcome.{Outcome}
 use Rattle.world_model.specs.declared.acts.Outcome.TheVariants.{Answered, Disk, Crashed}
 use Rattle.world_model.specs.Acts.{NodeHistory, Then}
 use Rattle.world_model.specs.Histories.{is_opening, is_down}
-use Rattle.world_model.specs.NodeState.{NodeState, durable_of, stopped_of}
+use Rattle.world_model.specs.NodeState.{NodeState, durable_of, halted_of}
 use Rattle.world_model.specs.Replies.{reply_of, reply_at, is_taken, writes}
 use Rattle.replay_node.specs.Did.{outcome_of}
-use Rattle.replay_node.specs.NodeDisk.{NodeDisk, CallsEnd, Done, Failed, StoppedIn, Called, MemFuse, MayLeave, DiskStands, bytes_read, calls_made}
-use Rattle.replay_node.specs.NodeWorld.{NodeWorld, act_calls, act_called, after_act, is_stop, outcome_at, outcome_by}
+use Rattle.replay_node.specs.NodeDisk.{NodeDisk, CallsEnd, Done, Failed, CrashedIn, Called, MemFuse, MayLeave, DiskStands, bytes_read, calls_made}
+use Rattle.replay_node.specs.NodeWorld.{NodeWorld, act_calls, act_called, after_act, ends_in_a_crash, outcome_at, outcome_by}
 use Rattle.replay_node.specs.Settled.{settled, IsUnstruck}
 use Rattle.replay_node.specs.Stands.{Journal, LeavesActs, OpenStands, CrashedStands, fuse_ghosts, record_of, has_stopped, faults}
 use Rattle.replay_node.specs.StateDoes.{IsToldBy, StandsAfter, StateDid, StateDoes}
 use Rattle.replay_node.specs.declared.did.Did.{Did}
 use Rattle.replay_node.specs.declared.did.Did.TheVariants as did
-use Rattle.replay_node.proofs.AsSaid.{said_done, said_failed, said_stopped, StopLeaves}
+use Rattle.replay_node.proofs.AsSaid.{said_done, said_failed, said_crashed, StopLeaves}
 use Rattle.replay_node.proofs.Found.{struck_tells, tells_of, Tells}
-use Rattle.replay_node.proofs.SettledLocal.{stopped_reply}
+use Rattle.replay_node.proofs.SettledLocal.{halted_reply}
 use Rattle.replay_node.proofs.Settling.{settled_then, unstruck_then}
 use Rattle.replay_node.proofs.Struck.{closed_of_writes, durable_kept, durable_lost, durable_lost_crash, durable_refused, taken_is}
 
@@ -65,9 +65,9 @@ abbrev pub left_since : Journal → ℕ → Option Kept → Type 0
 left_since j = StoodFor (WereImages (reverse j.log.disk.disk.order.items) (past_of j.log.disk.disk) (read_of j.log.disk.disk))
 
 abbrev pub journal_writes : Journal → Change → Journal → Bool → Type 0
-journal_writes j change k ok = Ran (FuseSteps MemSteps) (keeping_calls (place j.log) j.kept change) j.log.disk k.log.disk ok
+journal_writes j change k ok = CallsMade (FuseSteps MemSteps) (keeping_calls (place j.log) j.kept change) j.log.disk k.log.disk ok
 
--- what coord_state tells of an act
+-- what coord_state says of an act
 pub record Step (old new : CoordState Journal) (act : Act) (o : Outcome) : Type 0 where
   pub acts : Acts record_of has_stopped faults old new act o
   pub wrote : WritesBy journal_writes old.keeper act new.keeper o
@@ -87,7 +87,7 @@ CallsDone new called = (called.ended ≡ Done) × DiskStands new.log.disk called
 module _ (old new : Journal) (d : NodeDisk) (kept : Kept) (stands : DiskStands old.log.disk d) (same : old.kept ≡ kept) where
   taken_done : (change : Option Change) (sends : Option Message) (wins : Bool) → old.log.stopped ≡ false → Wrote journal_writes old change new true → CallsDone new (calls_made d (act_calls (Taken sends wins) change kept (bytes_read d.files)))
   taken_done (Some change) sends wins running wrote =
-      let ran = subst (λ (calls : List DeviceCall). Ran (FuseSteps MemSteps) calls old.log.disk new.log.disk true) (calls_are old d kept change stands running same) wrote in
+      let ran = subst (λ (calls : List DeviceCall). CallsMade (FuseSteps MemSteps) calls old.log.disk new.log.disk true) (calls_are old d kept change stands running same) wrote in
       said_done (keeping_calls (place_of (standing_in (bytes_read d.files))) kept change) old.log.disk new.log.disk d true stands ran refl
   taken_done None sends wins running wrote = (refl, subst (λ (j : Journal). DiskStands j.log.disk d) (sym wrote) stands)
 
@@ -96,18 +96,18 @@ module _ (old new : Journal) (d : NodeDisk) (kept : Kept) (stands : DiskStands o
   answered_done act (Refused cause) running wrote = (refl, subst (λ (j : Journal). DiskStands j.log.disk d) (sym wrote) stands)
   answered_done act Stopped running wrote = (refl, subst (λ (j : Journal). DiskStands j.log.disk d) (sym wrote) stands)
 
--- ---- the journal has stopped as the acts say
+-- ---- the journal is halted as the acts say
 
-pub stopped_then : (g : NodeHistory) (act : Act) (reply : Reply) → is_opening act ≡ false → stopped_of (Then g act (Answered reply)) ≡ stopped_of g
-stopped_then g (Open found) reply o = cc
-stopped_then g act reply o = refl
+pub halted_then : (g : NodeHistory) (act : Act) (reply : Reply) → is_opening act ≡ false → halted_of (Then g act (Answered reply)) ≡ halted_of g
+halted_then g (Open found) reply o = cc
+halted_then g act reply o = refl
 
-pub stopped_disk : (g : NodeHistory) (act : Act) (kept : Bool) → is_opening act ≡ false → stopped_of (Then g act (Disk kept)) ≡ true
-stopped_disk g (Open found) kept o = cc
-stopped_disk g act kept o = refl
+pub halted_disk : (g : NodeHistory) (act : Act) (kept : Bool) → is_opening act ≡ false → halted_of (Then g act (Disk kept)) ≡ true
+halted_disk g (Open found) kept o = cc
+halted_disk g act kept o = refl
 
-stands_stopped : (c : CoordState Journal) (g : NodeHistory) → StandsFor record_of has_stopped faults c g → c.keeper.log.stopped ≡ stopped_of g
-stands_stopped c g s = ap (λ (p : NodeState). p.stopped) s
+stands_halted : (c : CoordState Journal) (g : NodeHistory) → StandsFor record_of has_stopped faults c g → c.keeper.log.stopped ≡ halted_of g
+stands_halted c g s = ap (λ (p : NodeState). p.halted) s
 
 stands_durable : (c : CoordState Journal) (g : NodeHistory) → StandsFor record_of has_stopped faults c g → c.keeper.kept ≡ durable_of g
 stands_durable c g s = ap (λ (p : NodeState). record { term = p.term; accepted = p.accepted; committed = p.committed }) s
@@ -119,13 +119,13 @@ runs_of me c g act o s taken = from c.keeper.log.stopped refl
     from : (b : Bool) → c.keeper.log.stopped ≡ b → c.keeper.log.stopped ≡ false
     from false e = e
     from true e =
-        let stopped = stopped_reply me g act o (sym (stands_stopped c g s) ∙ e) in
+        let stopped = halted_reply me g act o (sym (stands_halted c g s) ∙ e) in
         absurd (cc (taken, ap is_taken stopped))
 
 -- ---- an act that is answered
 
-leaves_stopped : (fuse : MemFuse) (g : NodeHistory) (act : Act) (reply : Reply) → is_opening act ≡ false → is_taken reply ≡ false → LeavesActs fuse g → LeavesActs fuse (Then g act (Answered reply))
-leaves_stopped fuse g act reply o refused leaves =
+leaves_halted : (fuse : MemFuse) (g : NodeHistory) (act : Act) (reply : Reply) → is_opening act ≡ false → is_taken reply ≡ false → LeavesActs fuse g → LeavesActs fuse (Then g act (Answered reply))
+leaves_halted fuse g act reply o refused leaves =
     let same : (k : Bool) → durable_of (settled k (Then g act (Answered reply))) ≡ durable_of (settled k g) = λ k. ap durable_of (settled_then k g act reply o) ∙ durable_refused (settled k g) act reply o refused in
     record {
       left = λ files may. subst (λ (a : Kept). IsEither a (durable_of (settled true (Then g act (Answered reply)))) (record_of_files files)) (sym (same false))
@@ -146,24 +146,24 @@ module _ (old new : CoordState Journal) (act : Act) (reply : Reply) (step : Step
   pub answered_at : Answered reply ≡ outcome_at old.me w act
   answered_at = ap Answered reply_is ∙ sym (ap (λ (e : CallsEnd). outcome_by e (reply_of old.me w.acts act)) answered_calls.0)
 
-  same_stopped : new.keeper.log.stopped ≡ old.keeper.log.stopped
-  same_stopped = stands_stopped new (Then w.acts act (Answered reply)) (step.acts.stands w.acts stands.acts) ∙ stopped_then w.acts act reply o ∙ sym (stands_stopped old w.acts stands.acts)
+  same_halted : new.keeper.log.stopped ≡ old.keeper.log.stopped
+  same_halted = stands_halted new (Then w.acts act (Answered reply)) (step.acts.stands w.acts stands.acts) ∙ halted_then w.acts act reply o ∙ sym (stands_halted old w.acts stands.acts)
 
-  answered_stopped : old.keeper.log.stopped ≡ true → LeavesActs new.keeper.log.disk (Then w.acts act (Answered reply))
-  answered_stopped stopped =
-      let stopped_is : reply ≡ Stopped = reply_is ∙ stopped_reply old.me w.acts act o (sym (stands_stopped old w.acts stands.acts) ∙ stopped) in
-      let same : new.keeper ≡ old.keeper = subst (λ (r : Reply). WritesBy journal_writes old.keeper act new.keeper (Answered r)) stopped_is step.wrote in
-      subst (λ (j : Journal). LeavesActs j.log.disk (Then w.acts act (Answered reply))) (sym same) (leaves_stopped old.keeper.log.disk w.acts act reply o (ap is_taken stopped_is) (stands.stopped stopped))
+  answered_halted : old.keeper.log.stopped ≡ true → LeavesActs new.keeper.log.disk (Then w.acts act (Answered reply))
+  answered_halted stopped =
+      let halted_is : reply ≡ Stopped = reply_is ∙ halted_reply old.me w.acts act o (sym (stands_halted old w.acts stands.acts) ∙ stopped) in
+      let same : new.keeper ≡ old.keeper = subst (λ (r : Reply). WritesBy journal_writes old.keeper act new.keeper (Answered r)) halted_is step.wrote in
+      subst (λ (j : Journal). LeavesActs j.log.disk (Then w.acts act (Answered reply))) (sym same) (leaves_halted old.keeper.log.disk w.acts act reply o (ap is_taken halted_is) (stands.stopped stopped))
 
   pub answered_stands : OpenStands old.me new (after_act old.me w act)
   answered_stands = record {
     me_is = step.acts.at.me;
-    up = ap is_stop answered_calls.0;
+    up = ap ends_in_a_crash answered_calls.0;
     not_crashed = subst (λ (p : Outcome). is_down (Then w.acts act p) ≡ false) answered_at refl;
     acts = subst (λ (p : Outcome). StandsFor record_of has_stopped faults new (Then w.acts act p)) answered_at (step.acts.stands w.acts stands.acts);
     disk = answered_calls.1;
-    running = λ runs. subst (λ (p : Outcome). IsUnstruck (Then w.acts act p)) answered_at (unstruck_then w.acts act reply (stands.running (sym same_stopped ∙ runs)));
-    stopped = λ stopped. subst (λ (p : Outcome). LeavesActs new.keeper.log.disk (Then w.acts act p)) answered_at (answered_stopped (sym same_stopped ∙ stopped));
+    running = λ runs. subst (λ (p : Outcome). IsUnstruck (Then w.acts act p)) answered_at (unstruck_then w.acts act reply (stands.running (sym same_halted ∙ runs)));
+    stopped = λ stopped. subst (λ (p : Outcome). LeavesActs new.keeper.log.disk (Then w.acts act p)) answered_at (answered_halted (sym same_halted ∙ stopped));
   }
 
 -- ---- an act that was struck
@@ -218,10 +218,10 @@ module _ (old new : CoordState Journal) (act : Act) (step : Step old new act (Di
   abbrev calls : List DeviceCall
   calls = keeping_calls (place_of (standing_in (bytes_read w.disk.files))) (durable_of w.acts) change.0
 
-  struck_ran : Ran (FuseSteps MemSteps) calls old.keeper.log.disk new.keeper.log.disk false
+  struck_ran : CallsMade (FuseSteps MemSteps) calls old.keeper.log.disk new.keeper.log.disk false
   struck_ran =
       let wrote : Wrote journal_writes old.keeper (Some change.0) new.keeper false = subst (λ (c : Option Change). Wrote journal_writes old.keeper c new.keeper false) change.1 step.wrote in
-      subst (λ (made : List DeviceCall). Ran (FuseSteps MemSteps) made old.keeper.log.disk new.keeper.log.disk false) (calls_are old.keeper w.disk (durable_of w.acts) change.0 stands.disk struck_runs (stands_durable old w.acts stands.acts)) wrote
+      subst (λ (made : List DeviceCall). CallsMade (FuseSteps MemSteps) made old.keeper.log.disk new.keeper.log.disk false) (calls_are old.keeper w.disk (durable_of w.acts) change.0 stands.disk struck_runs (stands_durable old w.acts stands.acts)) wrote
 
   struck_calls : act_called old.me w act ≡ calls_made w.disk calls
   struck_calls =
@@ -241,30 +241,30 @@ module _ (old new : CoordState Journal) (act : Act) (step : Step old new act (Di
     pub failed_at : Disk false ≡ outcome_at old.me w act
     failed_at = ended_at Failed failed_calls.0
 
-    failed_stopped : new.keeper.log.stopped ≡ true
-    failed_stopped = stands_stopped new (Then w.acts act (Disk false)) (step.acts.stands w.acts stands.acts) ∙ stopped_disk w.acts act false struck_closed
+    failed_halted : new.keeper.log.stopped ≡ true
+    failed_halted = stands_halted new (Then w.acts act (Disk false)) (step.acts.stands w.acts stands.acts) ∙ halted_disk w.acts act false struck_closed
 
     pub failed_stands : OpenStands old.me new (after_act old.me w act)
     failed_stands = record {
       me_is = step.acts.at.me;
-      up = ap is_stop (ap (λ (c : Called). c.ended) struck_calls ∙ failed_calls.0);
+      up = ap ends_in_a_crash (ap (λ (c : Called). c.ended) struck_calls ∙ failed_calls.0);
       not_crashed = subst (λ (p : Outcome). is_down (Then w.acts act p) ≡ false) failed_at refl;
       acts = subst (λ (p : Outcome). StandsFor record_of has_stopped faults new (Then w.acts act p)) failed_at (step.acts.stands w.acts stands.acts);
       disk = subst (λ (c : Called). DiskStands new.keeper.log.disk c.disk) (sym struck_calls) failed_calls.1;
-      running = λ runs. absurd (cc (runs, failed_stopped));
+      running = λ runs. absurd (cc (runs, failed_halted));
       stopped = λ stopped. subst (λ (p : Outcome). LeavesActs new.keeper.log.disk (Then w.acts act p)) failed_at (leaves (Then w.acts act (Disk false)) (durable_lost w.acts act struck_closed) (durable_kept w.acts act));
     }
 
   module _ (struck : new.keeper.log.disk.struck ≡ Some Stop) where
     stop : StopLeaves (calls_made w.disk calls).ended new.keeper.log.disk (calls_made w.disk calls).disk
-    stop = said_stopped calls old.keeper.log.disk new.keeper.log.disk w.disk false stands.disk struck_ran refl struck
+    stop = said_crashed calls old.keeper.log.disk new.keeper.log.disk w.disk false stands.disk struck_ran refl struck
 
     pub crashed_at : Crashed false ≡ outcome_at old.me w act
-    crashed_at = ended_at (StoppedIn stop.way) stop.ended
+    crashed_at = ended_at (CrashedIn stop.way) stop.ended
 
     pub crashed_stands : CrashedStands old.me new (after_act old.me w act)
     crashed_stands = record {
-      down = ap is_stop (ap (λ (c : Called). c.ended) struck_calls ∙ stop.ended);
+      down = ap ends_in_a_crash (ap (λ (c : Called). c.ended) struck_calls ∙ stop.ended);
       way = stop.way;
       stopped = stop.down;
       files = stop.files ∙ ap (λ (c : Called). c.disk.files) (sym struck_calls);
@@ -272,7 +272,7 @@ module _ (old new : CoordState Journal) (act : Act) (step : Step old new act (Di
       left = subst (λ (p : Outcome). LeavesActs new.keeper.log.disk (Then w.acts act p)) crashed_at (leaves (Then w.acts act (Crashed false)) (durable_lost_crash w.acts act struck_closed) refl);
     }
 
--- ---- an act, by what is told of it
+-- ---- an act, by what is said of it
 
 answered_after : (me : Id) (state : CoordState Journal) (w : NodeWorld) (d : Did) (reply : Reply) → outcome_of d ≡ Some (Answered reply) → OpenStands me state w → StandsAfter me state w d
 answered_after me state w did.Crashed reply is stands = absurd (cc is)

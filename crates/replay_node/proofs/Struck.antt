@@ -1,4 +1,4 @@
--- What an act makes of a node's record, and what the record that is found later tells of it.
+-- What an act makes of a node's record, and what the record that is found later says of it.
 use Rattle.std.proofs.Common.{◌≡◌, ℕ, Bool, true, false, ◌&&◌, Option, List, [], ◌∷◌, refl, sym, ◌∙◌, ap, subst, arith, ◌⊎◌, inl, inr}
 use Rattle.std.proofs.lemmas.Bool.{and_parts, eqb-true, eq-eqb}
 use Rattle.voting_config.specs.Ids.{Id, same_config}
@@ -13,8 +13,8 @@ use Rattle.world_model.specs.Acts.{NodeHistory, Then}
 use Rattle.world_model.specs.NodeState.{term_of, accepted_of, committed_of, node_state, durable_of}
 use Rattle.world_model.specs.Histories.{is_opening}
 use Rattle.world_model.specs.Replies.{reply_of, is_taken, writes}
-use Rattle.world_model.proofs.Guards.{same_is, boot_guard, publish_guard}
-use Rattle.world_model.proofs.Legal.{same_self}
+use Rattle.voting_config.proofs.Sets.{same_self, same_config_is}
+use Rattle.world_model.proofs.Guards.{boot_guard, publish_guard}
 use Rattle.replay_node.specs.Settled.{settled, shows_as, is_kept}
 
 -- an act that is not taken changes nothing
@@ -54,16 +54,6 @@ closed_of_writes act e = cc
 both : (x y : Bool) → x ≡ true → y ≡ true → (x && y) ≡ true
 both true y e f = f
 both false y e f = cc
-
-same_config_is : (xs ys : List Id) → same_config xs ys ≡ true → xs ≡ ys
-same_config_is [] [] h = refl
-same_config_is [] (y ∷ ys) h = cc
-same_config_is (x ∷ xs) [] h = cc
-same_config_is (x ∷ xs) (y ∷ ys) h =
-    let parts = and_parts _ _ h in
-    let heads = same_is x y parts.0 in
-    let tails = same_config_is xs ys parts.1 in
-    cc
 
 pub record Shown (a b : Kept) : Type 0 where
   pub term : a.term ≡ b.term
@@ -122,7 +112,7 @@ shown_same me g (Commit commit) o t e = ap (λ (x : List Id). record { term = te
 shown_same me g (Open found) o t e = cc
 shown_same me g act o t e = refl
 
--- what is found tells whether the act was kept
+-- what is found says whether the act was kept
 pub kept_choice : (g : NodeHistory) (found : Kept) → (found ≡ durable_of (settled false g)) ⊎ (found ≡ durable_of (settled true g))
     → (shows_as (durable_of (settled false g)) (durable_of (settled true g)) ≡ true → durable_of (settled false g) ≡ durable_of (settled true g)) → found ≡ durable_of (settled (is_kept g found) g)
 kept_choice g found (inr e) same =

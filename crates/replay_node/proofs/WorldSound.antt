@@ -19,14 +19,15 @@ use Rattle.world_model.specs.declared.acts.Reply.{Reply}
 use Rattle.world_model.specs.declared.acts.Reply.TheVariants.{Taken, Refused, Stopped}
 use Rattle.world_model.specs.declared.acts.Outcome.TheVariants.{Answered}
 use Rattle.world_model.specs.Acts.{NodeHistory}
-use Rattle.world_model.specs.NodeState.{durable_of, stopped_of}
+use Rattle.world_model.specs.NodeState.{durable_of, halted_of}
 use Rattle.world_model.specs.Histories.{History, node_history, sent, sent_by, is_opening, IsLegal, IsLocal, IsSourced}
 use Rattle.world_model.specs.Replies.{reply_of}
 use Rattle.world_model.proofs.Assemble.{legal_is}
-use Rattle.world_model.proofs.Guards.{same_is, value_guard}
+use Rattle.voting_config.proofs.Sets.{same_is}
+use Rattle.world_model.proofs.Guards.{value_guard}
 use Rattle.world_model.proofs.System.{Origin, PublishBy, origin}
 use Rattle.replay_node.specs.Did.{after_unless_down}
-use Rattle.replay_node.specs.NodeDisk.{CallsEnd, Done, Failed, StoppedIn, opening}
+use Rattle.replay_node.specs.NodeDisk.{CallsEnd, Done, Failed, CrashedIn, opening}
 use Rattle.replay_node.specs.NodeLines.{after_restart}
 use Rattle.replay_node.specs.NodeWorld.{NodeWorld, act_called, after_act, after_opening, found_at, needs_opening, outcome_at, outcome_by}
 use Rattle.replay_node.specs.Sent.{taking}
@@ -80,9 +81,9 @@ taking_fits (ResponseMessage r) f = tt
 taking_fits (CommitMessage c) f = tt
 
 -- the record of a node that is up and runs
-running_fit : (w : NodeWorld) → Sound w → w.down ≡ false → stopped_of w.acts ≡ false → MayBegin (durable_of w.acts)
+running_fit : (w : NodeWorld) → Sound w → w.down ≡ false → halted_of w.acts ≡ false → MayBegin (durable_of w.acts)
 running_fit w s up going =
-    let needs : needs_opening w ≡ false = ap (λ (b : Bool). b || stopped_of w.acts) up ∙ going in
+    let needs : needs_opening w ≡ false = ap (λ (b : Bool). b || halted_of w.acts) up ∙ going in
     subst (λ (g : NodeHistory). MayBegin (durable_of g)) (unstruck w.acts false (s.unstruck needs)) (s.fit false)
 
 published_fits : (me : Id) (w : NodeWorld) (act : Act) (r : PublishRequest) (wins : Bool) → Sound w → w.down ≡ false → IsFitAct act → Taken (Some (PublishMessage r)) wins ≡ reply_of me w.acts act → PublishBy me w.acts r act → state.Fits r.state
@@ -110,7 +111,7 @@ reply_fits me w act Stopped s up fits is = tt
 outcome_fits : (end : CallsEnd) (reply : Reply) → AllByRecursion IsFitMessage (sent_by (Answered reply)) → AllByRecursion IsFitMessage (sent_by (outcome_by end reply))
 outcome_fits Done reply f = f
 outcome_fits Failed reply f = tt
-outcome_fits (StoppedIn way) reply f = tt
+outcome_fits (CrashedIn way) reply f = tt
 
 -- ---- an act
 
@@ -168,7 +169,7 @@ record SoundHistory (initial : List Id) (h : History) : Type 0 where
 
 opened_history : (initial : List Id) (h : History) (n : Id) (found : Kept) (end : CallsEnd) → SoundHistory initial h → IsFound (node_history h n) found → SoundHistory initial (history_opened end h n found)
 opened_history initial h n found Failed s f = s
-opened_history initial h n found (StoppedIn way) s f = s
+opened_history initial h n found (CrashedIn way) s f = s
 opened_history initial h n found Done s f =
     let k : Bool = is_kept (node_history h n) found in
     let same_sent : sent h ≡ sent (settled_for n k h) ++ [] = sym (append-nil (sent (settled_for n k h)) ∙ settled_sent n k h) in

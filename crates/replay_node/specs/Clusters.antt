@@ -1,4 +1,4 @@
--- Whole nodes, which do what the policy says: their one history, the life of each and the frames that they sent. Part of the statement.
+-- Part of the statement: whole nodes, which do what the policy says: their one history, the life of each and the frames that they sent.
 use Rattle.std.specs.Prelude.{◌-◌, ℕ, true, cond, Option, None, Some, List, [], ◌∷◌, ◌++◌, slice_get, if◌then◌else◌}
 use Rattle.voting_config.specs.Ids.{Id, same, without_id}
 use Rattle.cluster_state.specs.declared.state.Kept.{Kept}
@@ -8,7 +8,7 @@ use Rattle.schedule_text.specs.declared.schedule.Line.{Line}
 use Rattle.schedule_text.specs.declared.schedule.Line.TheVariants as line
 use Rattle.schedule_text.specs.declared.schedule.Schedule.{Schedule}
 use Rattle.world_model.specs.Histories.{History}
-use Rattle.replay_node.specs.NodeDisk.{CallsEnd, Done, Failed, StoppedIn, opening}
+use Rattle.replay_node.specs.NodeDisk.{CallsEnd, Done, Failed, CrashedIn, opening}
 use Rattle.replay_node.specs.NodeWorld.{NodeWorld, found_at, needs_opening}
 use Rattle.replay_node.specs.Settled.{is_kept}
 use Rattle.replay_node.specs.Worlds.{World, fresh_world, node_world, crashed, ordered, opened}
@@ -25,7 +25,7 @@ pub record Cluster : Type 0 where
   pub lives : Id → Life
   pub frames : List Frame
 
--- a node is told all others, in ascending order, and the initial names
+-- a node knows all others, in ascending order, and the initial names
 abbrev pub settings_of : List Id → List Id → Id → Settings
 settings_of nodes initial n = record { me = n; peers = without_id n nodes; initial = initial; shrink = true }
 
@@ -35,7 +35,7 @@ with_life lives n life = λ m. cond (same n m) life (lives m)
 -- ---- what one node does; its settings name it
 
 module _ (s : Settings) where
-  -- the node as the acts and its disk tell it
+  -- the node as the acts and its disk show it
   abbrev pub own_world : Cluster → NodeWorld
   own_world c = node_world c.world s.me
 
@@ -54,7 +54,7 @@ module _ (s : Settings) where
   abbrev pub after_event : Cluster → Event → Cluster
   after_event c event = event_done c event (event_course c event)
 
-  -- a node that is down or stopped does nothing
+  -- a node that is down or halted does nothing
   abbrev pub after_event_if_up : Cluster → Event → Cluster
   after_event_if_up c event = if needs_opening (own_world c) then c else after_event c event
 
@@ -76,7 +76,7 @@ module _ (s : Settings) where
   abbrev pub opened_by : CallsEnd → Cluster → Cluster
   opened_by Done c = after_event (with_opened c) Start
   opened_by Failed c = record c { world = opened c.world s.me }
-  opened_by (StoppedIn way) c = record c { world = opened c.world s.me }
+  opened_by (CrashedIn way) c = record c { world = opened c.world s.me }
 
   abbrev pub after_restart : Cluster → Cluster
   after_restart c = if needs_opening (own_world c) then opened_by (opening (own_world c).disk).ended c else c

@@ -1,8 +1,8 @@
--- What its disk lets a node do of an event, and what a later opening tells of it. Part of the statement.
+-- Part of the statement: what its disk lets a node do of an event, and what a later opening says of it.
 use Rattle.std.specs.Prelude.{Bool, true, false, List, [], ◌∷◌, ◌++◌, map, if◌then◌else◌}
 use Rattle.voting_config.specs.Ids.{Id}
 use Rattle.world_model.specs.declared.acts.Outcome.TheVariants.{Disk, Crashed}
-use Rattle.replay_node.specs.NodeDisk.{CallsEnd, Done, Failed, StoppedIn}
+use Rattle.replay_node.specs.NodeDisk.{CallsEnd, Done, Failed, CrashedIn}
 use Rattle.replay_node.specs.NodeWorld.{NodeWorld, act_called, after_act, outcome_at}
 use Rattle.replay_node.specs.Worlds.{World, node_world, did}
 use Rattle.policy_model.specs.Events.{Item, Opens, Begins, Acts, Turns, Drops, Sends, Replies, Notes}
@@ -15,7 +15,7 @@ pub record Course : Type 0 where
   pub world : World
   pub struck : Bool
 
--- an item in front: where an act behind it is struck, what it sends is gone
+-- an item before the others: where an act after it is struck, what it sends is gone
 abbrev pub behind : Item → Course → Course
 behind i c = record c { items = (if c.struck then without_output i else i ∷ []) ++ c.items }
 
@@ -23,7 +23,7 @@ behind i c = record c { items = (if c.struck then without_output i else i ∷ []
 abbrev pub act_then : CallsEnd → Item → World → (World → Course) → Course
 act_then Done i w rest = behind i (rest w)
 act_then Failed i w rest = record { items = i ∷ []; world = w; struck = true }
-act_then (StoppedIn way) i w rest = record { items = i ∷ []; world = w; struck = true }
+act_then (CrashedIn way) i w rest = record { items = i ∷ []; world = w; struck = true }
 
 -- the node does these, one after the other; each act has the outcome that its disk lets it have
 abbrev pub played : Id → World → List Item → Course
@@ -50,7 +50,7 @@ node_behind i d = record d { items = (if d.struck then without_output i else i �
 abbrev pub node_act_then : CallsEnd → Item → NodeWorld → (NodeWorld → NodeCourse) → NodeCourse
 node_act_then Done i x rest = node_behind i (rest x)
 node_act_then Failed i x rest = record { items = i ∷ []; node = x; struck = true }
-node_act_then (StoppedIn way) i x rest = record { items = i ∷ []; node = x; struck = true }
+node_act_then (CrashedIn way) i x rest = record { items = i ∷ []; node = x; struck = true }
 
 abbrev pub node_played : Id → NodeWorld → List Item → NodeCourse
 node_played n x [] = record { items = []; node = x; struck = false }
@@ -63,7 +63,7 @@ node_played n x (Sends frame ∷ is) = node_behind (Sends frame) (node_played n 
 node_played n x (Replies answer ∷ is) = node_behind (Replies answer) (node_played n x is)
 node_played n x (Notes note ∷ is) = node_behind (Notes note) (node_played n x is)
 
--- ---- what a later opening tells
+-- ---- what a later opening says
 
 -- an act that the disk failed or stopped in was kept, or was not
 abbrev pub settled_item : Bool → Item → Item
@@ -71,7 +71,7 @@ settled_item kept (Acts act (Disk was)) = Acts act (Disk kept)
 settled_item kept (Acts act (Crashed was)) = Acts act (Crashed kept)
 settled_item kept i = i
 
--- it is among the items of the last entry, since nothing but an opening comes behind it
+-- it is among the items of the last entry, since nothing but an opening comes after it
 abbrev pub settled_entry : Bool → Entry → Entry
 settled_entry kept (Did event items) = Did event (map (settled_item kept) items)
 settled_entry kept other = other

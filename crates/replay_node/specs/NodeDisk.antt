@@ -1,4 +1,4 @@
--- A node's disk in a replay, of two files, moved by each device call.
+-- Part of the statement: a node's disk in a replay, of two files, moved by each device call.
 use Rattle.std.specs.Prelude.{◌≡◌, List, [], ◌∷◌, Bool, true, false, Option, None, Some, if◌then◌else◌}
 use Rattle.zen_disk.specs.Armed.{armed_later, armed_with, nothing_armed, stop_due, is_fault_due}
 use Rattle.zen_disk.specs.DeviceCall.{DeviceCall, Write}
@@ -23,7 +23,7 @@ pub record NodeDisk : Type 0 where
 pub data CallsEnd : Type 0 where
   Done : CallsEnd
   Failed : CallsEnd
-  StoppedIn : (way : Way) → CallsEnd
+  CrashedIn : (way : Way) → CallsEnd
 
 pub record Called : Type 0 where
   pub disk : NodeDisk
@@ -36,7 +36,7 @@ placed files other = files
 
 -- A call, where this stop falls on it or none, and whether a fault does. Where both fall on it, it is stopped.
 abbrev pub call_by : Option Way → Bool → NodeDisk → DeviceCall → Called
-call_by (Some way) fault disk call = record { disk = record { files = both_left_by way (placed disk.files call); armed = armed_later disk.armed }; ended = StoppedIn way }
+call_by (Some way) fault disk call = record { disk = record { files = both_left_by way (placed disk.files call); armed = armed_later disk.armed }; ended = CrashedIn way }
 call_by None fault disk call =
     if fault then record { disk = record { files = disk.files; armed = armed_later disk.armed }; ended = Failed }
     else record { disk = record { files = after disk.files call; armed = armed_later disk.armed }; ended = Done }
@@ -47,7 +47,7 @@ call_once disk call = call_by (stop_due disk.armed.stop) (is_fault_due disk.arme
 abbrev pub go_on : CallsEnd → NodeDisk → (NodeDisk → Called) → Called
 go_on Done disk more = more disk
 go_on Failed disk more = record { disk = disk; ended = Failed }
-go_on (StoppedIn way) disk more = record { disk = disk; ended = StoppedIn way }
+go_on (CrashedIn way) disk more = record { disk = disk; ended = CrashedIn way }
 
 -- these calls, up to the first that is struck
 abbrev pub calls_made : NodeDisk → List DeviceCall → Called
@@ -72,8 +72,8 @@ fresh_disk = (opening (record { files = no_files; armed = nothing_armed })).disk
 abbrev pub with_order : Order → NodeDisk → NodeDisk
 with_order order disk = record disk { armed = armed_with order disk.armed }
 
-abbrev pub stopped_by : Way → NodeDisk → NodeDisk
-stopped_by way disk = record disk { files = both_left_by way disk.files }
+abbrev pub crashed_by : Way → NodeDisk → NodeDisk
+crashed_by way disk = record disk { files = both_left_by way disk.files }
 
 -- ---- the disk that a replay holds
 
@@ -101,4 +101,4 @@ pub record Restarted (old new : MemFuse) : Type 0 where
 abbrev pub EndsAs : CallsEnd → MemFuse → NodeDisk → Bool → Type 0
 EndsAs Done fuse disk ok = (ok ≡ true) × DiskStands fuse disk
 EndsAs Failed fuse disk ok = (ok ≡ false) × (fuse.struck ≡ Some Fault) × DiskStands fuse disk
-EndsAs (StoppedIn way) fuse disk ok = (ok ≡ false) × (fuse.struck ≡ Some Stop) × (fuse.down ≡ Some way) × (both_left_by way (files_of fuse.disk) ≡ disk.files) × (fuse.armed ≡ disk.armed)
+EndsAs (CrashedIn way) fuse disk ok = (ok ≡ false) × (fuse.struck ≡ Some Stop) × (fuse.down ≡ Some way) × (both_left_by way (files_of fuse.disk) ≡ disk.files) × (fuse.armed ≡ disk.armed)

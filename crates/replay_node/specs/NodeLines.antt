@@ -1,4 +1,4 @@
--- What a line that is no act makes of a node, and what it writes.
+-- Part of the statement: what a line that is no act makes of a node, and what it writes.
 use Rattle.std.specs.Prelude.{◌≡◌, true, List, ℕ, ◌++◌, if◌then◌else◌}
 use Rattle.voting_config.specs.Ids.{Id}
 use Rattle.zen_disk.specs.declared.orders.Way.{Way}
@@ -10,7 +10,7 @@ use Rattle.replay_node.specs.Settled.{settled, is_kept}
 use Rattle.replay_node.specs.Stands.{NodeStands}
 use Rattle.replay_node.specs.declared.node.ReplayNode.{ReplayNode}
 
--- a stop between two acts; a node that is down stays as it is
+-- a crash between two acts; a node that is down stays as it is
 abbrev pub after_stop : Way → NodeWorld → NodeWorld
 after_stop way w = if w.down then w else after_crash way w
 

@@ -1,4 +1,4 @@
--- What an opening of a node's journal makes of the node.
+-- For the contracts inside: what an opening of a node's journal makes of the node.
 use Rattle.std.specs.Prelude.{◌≡◌, ℕ, Option, None, Some, List, ◌++◌}
 use Rattle.voting_config.specs.Ids.{Id}
 use Rattle.zen_disk.specs.declared.orders.Struck.{Struck}

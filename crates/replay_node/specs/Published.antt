@@ -1,10 +1,10 @@
--- What a node of a replay has published.
+-- For the contracts inside: what a node of a replay has published.
 use Rattle.std.specs.Prelude.{Option, None, Some}
 use Rattle.std.specs.declared.rc.Rc.{Rc}
 use Rattle.std.specs.declared.alloc.Global.{Global}
 use Rattle.cluster_state.specs.declared.state.ClusterState.{ClusterState}
-use Rattle.replay_node.specs.declared.message.Publication.{Publication}
+use Rattle.replay_node.specs.declared.message.FitPublishRequest.{FitPublishRequest}
 
-abbrev pub state_published : Option (Rc Publication Global) → Option ClusterState
+abbrev pub state_published : Option (Rc FitPublishRequest Global) → Option ClusterState
 state_published None = None
 state_published (Some r) = Some r.value.request.state

@@ -1,4 +1,4 @@
--- The messages that a replay holds.
+-- Part of the statement: the messages that a replay holds.
 use Rattle.std.specs.Prelude.{Bool, Option, None, Some, List, [], ◌∷◌}
 use Rattle.std.specs.List.{list_all}
 use Rattle.voting_config.specs.Ids.{Id, has}

@@ -1,4 +1,4 @@
--- What a later opening tells of an act that the disk failed or stopped in.
+-- Part of the statement: what a later opening says of an act that the disk failed or stopped in.
 use Rattle.std.specs.Prelude.{Bool, true, cond, ◌&&◌, nat_eq, if◌then◌else◌}
 use Rattle.voting_config.specs.Ids.{Id, same, same_config}
 use Rattle.cluster_state.specs.declared.state.Kept.{Kept}
@@ -38,7 +38,7 @@ is_kept g found = shows_as found (durable_of (settled true g))
 
 -- The same in a history of all nodes.
 
--- an entry of the node, behind these entries, and behind the same with the act that was struck kept or not
+-- an entry of the node, after these entries, and after the same with the act that was struck kept or not
 abbrev pub settled_entry : Bool → (before settled_before : History) → Id → Act → Outcome → History
 settled_entry kept before settled_before n act (Disk was) = Next before n act (Disk kept)
 settled_entry kept before settled_before n act (Crashed was) = Next before n act (Crashed kept)

@@ -1,4 +1,4 @@
--- When a node of a replay stands for what it did and for its disk.
+-- For the contracts inside: when a node of a replay stands for what it did and for its disk.
 use Rattle.std.specs.Prelude.{◌≡◌, ◌<◌, ◌⊎◌, ℕ, ◌+◌, true, false, Bool, Some, length}
 use Rattle.voting_config.specs.Ids.{Id, has, most_ids}
 use Rattle.cluster_state.specs.declared.state.Kept.{Kept}
@@ -96,15 +96,15 @@ pub record NodeDid (old new : ReplayNode) (w : NodeWorld) (act : Act) (d : Did) 
   pub stands : NodeStands new (after_unless_down old.me w act)
   pub text : (count : ℕ) → act_results count old.me w act ≡ did_text count old.me (act_text act) d
 
--- one act of a node: whatever it stood for, what it did is told, and it stands for that with the act
+-- one act of a node: whatever it stood for, what it did is reported, and it stands for that with the act
 pub record NodeDoes (old new : ReplayNode) (act : Act) (d : Did) : Type 0 where
   pub me : new.me ≡ old.me
   pub does : (w : NodeWorld) → NodeStands old w → NodeDid old new w act d
 
 -- there is room for the source of the message among those that the node has counted
 abbrev pub HasRoomIn : CoordState Journal → Message → Type 0
-HasRoomIn state (JoinMessage j) = (has j.source state.votes ≡ true) ⊎ (length state.votes < most_ids)
-HasRoomIn state (ResponseMessage r) = (has r.source state.acks ≡ true) ⊎ (length state.acks < most_ids)
+HasRoomIn state (JoinMessage j) = (has j.source state.join_votes ≡ true) ⊎ (length state.join_votes < most_ids)
+HasRoomIn state (ResponseMessage r) = (has r.source state.publish_votes ≡ true) ⊎ (length state.publish_votes < most_ids)
 HasRoomIn state (PublishMessage r) = Unit {0}
 HasRoomIn state (CommitMessage c') = Unit {0}
 

@@ -1,4 +1,4 @@
--- What an act makes of a node whose journal is open, and of its slot.
+-- For the contracts inside: what an act makes of a node whose journal is open, and of its slot.
 use Rattle.std.specs.Prelude.{◌≡◌, ℕ, Option, Some}
 use Rattle.voting_config.specs.Ids.{Id}
 use Rattle.cluster_state.specs.declared.state.ClusterState.{ClusterState}
@@ -33,7 +33,7 @@ pub record StateDid (me : Id) (new : CoordState Journal) (w : NodeWorld) (act : 
   pub outcome : outcome_of d ≡ Some (outcome_at me w act)
   pub stands : StandsAfter me new (after_act me w act) d
 
--- one act of an open node: whatever it stood for, what it did is told, and it stands for that with the act
+-- one act of an open node: whatever it stood for, what it did is reported, and it stands for that with the act
 pub record StateDoes (old new : CoordState Journal) (act : Act) (d : Did) : Type 0 where
   pub me : new.me ≡ old.me
   pub does : (w : NodeWorld) → OpenStands old.me old w → StateDid old.me new w act d

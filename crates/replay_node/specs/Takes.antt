@@ -1,4 +1,4 @@
--- From which nodes a node took messages.
+-- For the contracts inside: from which nodes a node took messages.
 use Rattle.std.specs.Prelude.{◌≡◌, true, List}
 use Rattle.voting_config.specs.Ids.{Id, has}
 use Rattle.world_model.specs.declared.acts.Act.TheVariants.{TakeJoin, Response}

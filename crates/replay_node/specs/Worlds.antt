@@ -1,4 +1,4 @@
--- All nodes of a replay: what a node's act, crash, restart or order makes of them. Part of the statement.
+-- Part of the statement: all nodes of a replay: what a node's act, crash, restart or order makes of them.
 use Rattle.std.specs.Prelude.{Bool, false, cond, None, if◌then◌else◌}
 use Rattle.voting_config.specs.Ids.{Id, same}
 use Rattle.cluster_state.specs.declared.state.Kept.{Kept}
@@ -9,7 +9,7 @@ use Rattle.world_model.specs.declared.acts.Act.TheVariants.{Open}
 use Rattle.world_model.specs.declared.acts.Reply.TheVariants.{Taken}
 use Rattle.world_model.specs.declared.acts.Outcome.TheVariants.{Answered}
 use Rattle.world_model.specs.Histories.{History, NoEntries, Next, node_history}
-use Rattle.replay_node.specs.NodeDisk.{NodeDisk, CallsEnd, Done, Failed, StoppedIn, fresh_disk, opening}
+use Rattle.replay_node.specs.NodeDisk.{NodeDisk, CallsEnd, Done, Failed, CrashedIn, fresh_disk, opening}
 use Rattle.replay_node.specs.NodeWorld.{NodeWorld, outcome_at, after_act, after_crash, after_order, after_opening, found_at, needs_opening}
 use Rattle.replay_node.specs.Settled.{is_kept, settled_for}
 
@@ -56,7 +56,7 @@ ordered w n order = with_node w n w.history (after_order order (node_world w n))
 abbrev pub history_opened : CallsEnd → History → Id → Kept → History
 history_opened Done h n found = Next (settled_for n (is_kept (node_history h n) found) h) n (Open found) (Answered (Taken None false))
 history_opened Failed h n found = h
-history_opened (StoppedIn way) h n found = h
+history_opened (CrashedIn way) h n found = h
 
 abbrev pub opened : World → Id → World
 opened w n = with_node w n (history_opened (opening (w.disks n)).ended w.history n (found_at (node_world w n))) (after_opening (node_world w n))

@@ -1,8 +1,9 @@
+//! What an act of a node did, in the form that its trace needs.
 ghost use Rattle.std.specs.Prelude.{◌≡◌, Some, if◌then◌else◌};
 ghost use Rattle.coord_state.specs.Outcomes.{initial_outcome, start_outcome, join_outcome, publish_outcome, commit_outcome};
 ghost use Rattle.replay_node.specs.Did.{outcome_of, ending_by, IsPlain, WinsIn};
 
-use crate::message::{Publication, SentMessage};
+use crate::message::{FitPublishRequest, SentMessage};
 use cluster_state::{
     CommitCause, InitialCause, Join, JoinCause, PublishCause, PublishResponse, StartCause,
 };
@@ -18,7 +19,7 @@ pub struct Effects {
     /// The term whose election the node has won.
     pub won: Option<u64>,
     /// The publication that is committed.
-    pub committed: Option<Rc<Publication>>,
+    pub committed: Option<Rc<FitPublishRequest>>,
     pub sends: Option<SentMessage>,
 }
 
@@ -31,7 +32,7 @@ pub enum Did {
     Stopped,
     /// The disk failed.
     Disk,
-    /// The node stopped inside the act.
+    /// The node crashed inside the act.
     Crashed,
     /// The node is down, and did nothing.
     Down,

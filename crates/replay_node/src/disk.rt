@@ -1,3 +1,4 @@
+//! A node's disk: two files in memory under a fuse, from empty to stopped and running again.
 ghost use Rattle.std.specs.Prelude.{◌≡◌, None};
 ghost use Rattle.zen_disk.specs.Armed.{nothing_armed};
 ghost use Rattle.zen_disk.specs.FileState.{both_left_by};
@@ -63,7 +64,7 @@ pub fn restarted(fuse: Fuse<MemDisks>) -> Fuse<MemDisks>
 }
 
 /// The running disk, stopped between two calls and running again.
-pub fn stopped(fuse: Fuse<MemDisks>, way: Way) -> Fuse<MemDisks>
+pub fn crashed(fuse: Fuse<MemDisks>, way: Way) -> Fuse<MemDisks>
     ensures armed { result.armed ≡ fuse.armed }
     ensures up { result.down ≡ None }
     ensures files { files_of result.disk ≡ both_left_by way (files_of fuse.disk) }

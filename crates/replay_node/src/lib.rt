@@ -11,7 +11,7 @@ mod tests;
 pub mod writing;
 
 pub use did::{Did, Effects};
-pub use message::{Publication, SentMessage};
+pub use message::{FitPublishRequest, SentMessage};
 pub use node::{ReplayNode, Slot};
 pub use state::OpenNode;
 pub use writing::{write_did, write_taking};

@@ -1,3 +1,4 @@
+//! The messages of a replay. A published state is shared, and not copied for each that is sent it.
 ghost use Rattle.std.specs.Prelude.{◌≡◌, IfOk};
 ghost use Rattle.cluster_state.specs.States.{IsFit};
 ghost use Rattle.state_journal.specs.Fit.{IsFit-prop};
@@ -8,18 +9,18 @@ use std::rc::Rc;
 
 /// A publish request whose state is within the limits.
 #[derive(Drop)]
-pub struct Publication {
+pub struct FitPublishRequest {
     pub request: PublishRequest,
     ghost fit: { IsFit request.state } by { IsFit-prop request.state },
 }
 
-impl Publication {
+impl FitPublishRequest {
     /// This request, whose state is within the limits.
-    pub fn new(request: PublishRequest) -> Publication
+    pub fn new(request: PublishRequest) -> FitPublishRequest
         requires { IsFit request.state }
         ensures { result.request ≡ request }
     {
-        Publication { request }
+        FitPublishRequest { request }
     }
 }
 
@@ -27,7 +28,7 @@ impl Publication {
 #[derive(Drop)]
 pub enum SentMessage {
     Join(Join),
-    Publish(Rc<Publication>),
+    Publish(Rc<FitPublishRequest>),
     Response(PublishResponse),
     Commit(ApplyCommit),
 }

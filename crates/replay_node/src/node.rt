@@ -1,3 +1,4 @@
+//! `ReplayNode`: one node of a replay. It is open, or down with its disk.
 ghost use Rattle.std.specs.Prelude.{◌≡◌, ◌++◌, Bool, Some, IfOk, IfSome, OnOk};
 ghost use Rattle.cluster_state.specs.States.{IsFitValue};
 ghost use Rattle.world_model.specs.declared.acts.Act.TheVariants as act;
@@ -15,8 +16,8 @@ ghost use Rattle.replay_node.specs.Stands.{HasRoom, NodeDoes, NodeStands};
 ghost use Rattle.replay_node.specs.StateDoes.{Closes, ClosesTo};
 
 use crate::did::Did;
-use crate::disk::{empty_disk, restarted, stopped};
-use crate::message::{Publication, SentMessage};
+use crate::disk::{crashed, empty_disk, restarted};
+use crate::message::{FitPublishRequest, SentMessage};
 use crate::state;
 use crate::state::OpenNode;
 use cluster_state::ClusterValue;
@@ -43,7 +44,7 @@ pub enum Slot {
 pub struct ReplayNode {
     pub me: NodeId,
     pub slot: Slot,
-    pub published: Option<Rc<Publication>>,
+    pub published: Option<Rc<FitPublishRequest>>,
 }
 
 // Takes a slot out, and leaves a node that is down on an empty disk.
@@ -65,7 +66,7 @@ fn closed(slot: Slot) -> Slot
 
 // Keeps what was published, where this message publishes.
 fn keep_sent(
-    published: &mut Option<Rc<Publication>>,
+    published: &mut Option<Rc<FitPublishRequest>>,
     sends: &Option<SentMessage>,
 ) -> Result<(), AllocError>
     ensures { OnOk result ((wins : Bool) → state_published published.new ≡ published_by (outcome.Answered (reply.Taken (message_of_some sends.now) wins)) (state_published published.old)) }
@@ -77,7 +78,7 @@ fn keep_sent(
 }
 
 fn keep_publication(
-    published: &mut Option<Rc<Publication>>,
+    published: &mut Option<Rc<FitPublishRequest>>,
     message: &SentMessage,
 ) -> Result<(), AllocError>
     ensures { OnOk result ((wins : Bool) → state_published published.new ≡ published_by (outcome.Answered (reply.Taken (Some (message_of message.now)) wins)) (state_published published.old)) }
@@ -139,13 +140,13 @@ impl ReplayNode {
     }
 
     /// The node takes the initial configuration.
-    pub fn boot(&mut self, alloc: Global, initial: &NodeSet) -> Result<Did, AllocError>
+    pub fn set_initial(&mut self, alloc: Global, initial: &NodeSet) -> Result<Did, AllocError>
         ensures { IfOk result (λ did. NodeDoes self.old self.new (act.Bootstrap initial.now) did) }
     {
         let Slot::Open(state) = &mut self.slot else {
             return Ok(Did::Down);
         };
-        let did = state::boot(state, alloc, initial)?;
+        let did = state::set_initial(state, alloc, initial)?;
         self.close(alloc, &did);
         Ok(did)
     }
@@ -168,7 +169,7 @@ impl ReplayNode {
     }
 
     /// The node publishes a client's value.
-    pub fn publish(
+    pub fn client_value(
         &mut self,
         alloc: Global,
         version: u64,
@@ -181,7 +182,7 @@ impl ReplayNode {
         let Slot::Open(state) = &mut self.slot else {
             return Ok(Did::Down);
         };
-        let did = state::publish(state, alloc, version, config, value)?;
+        let did = state::client_value(state, alloc, version, config, value)?;
         self.remember(&did)?;
         self.close(alloc, &did);
         Ok(did)
@@ -200,19 +201,19 @@ impl ReplayNode {
     }
 
     /// The node takes a message.
-    pub fn take(&mut self, alloc: Global, message: &SentMessage) -> Result<Did, AllocError>
+    pub fn deliver(&mut self, alloc: Global, message: &SentMessage) -> Result<Did, AllocError>
         requires { HasRoom self.old (message_of message.now) }
         ensures { IfOk result (λ did. NodeDoes self.old self.new (taking (message_of message.now)) did) }
     {
         let Slot::Open(state) = &mut self.slot else {
             return Ok(Did::Down);
         };
-        let did = state::take(state, alloc, message, &self.published)?;
+        let did = state::deliver(state, alloc, message, &self.published)?;
         self.close(alloc, &did);
         Ok(did)
     }
 
-    /// The node stops between two acts, and so does its disk. Writes `crashed` and the node, or `down` where it was down.
+    /// The node crashes between two acts: its disk stops. Writes `crashed` and the node, or `down` where it was down.
     pub fn crash(&mut self, alloc: Global, way: Way, text: &mut Text) -> Result<(), AllocError>
         ensures { OnOk result (DoesLine self.old self.new (after_stop way) (stop_text self.old.me) text.old text.new) }
     {
@@ -222,7 +223,7 @@ impl ReplayNode {
                 write_down(text, self.me)
             }
             Slot::Open(state) => {
-                self.slot = Slot::Down(stopped(state.into_keeper().into_disk(), way));
+                self.slot = Slot::Down(crashed(state.into_keeper().into_disk(), way));
                 write_crashed(text, self.me)
             }
         }
@@ -281,7 +282,7 @@ impl ReplayNode {
         }
     }
 
-    // What the fuse tells of an opening that met a fault of the disk. A fault that no order has made is want of memory.
+    // What the fuse says of an opening that met a fault of the disk. A fault that no order has made means that memory ran out.
     fn stay_down(&mut self, fuse: Fuse<MemDisks>, text: &mut Text) -> Result<(), AllocError>
         ensures me { self.new.me ≡ self.old.me }
         ensures published { self.new.published ≡ self.old.published }

@@ -1,3 +1,4 @@
+//! The acts of a node whose journal is open, each with what it did.
 ghost use Rattle.std.specs.Prelude.{◌≡◌, IfOk, Some, Err, Ok, Option};
 ghost use Rattle.cluster_state.specs.States.{IsFitValue};
 ghost use Rattle.cluster_state.specs.declared.state.ClusterState.{ClusterState as State};
@@ -10,7 +11,7 @@ ghost use Rattle.replay_node.specs.Stands.{HasRoomIn};
 ghost use Rattle.replay_node.specs.StateDoes.{IsToldBy, StateDoes, WritesText};
 
 use crate::did::{Did, Effects, commit_did, initial_did, join_did, publish_did, start_did};
-use crate::message::{Publication, SentMessage};
+use crate::message::{FitPublishRequest, SentMessage};
 use cluster_state::{
     ApplyCommit, ClusterValue, Join, PublishCause, PublishRequest, PublishResponse, ResponseCause,
     ValueCause,
@@ -26,7 +27,7 @@ use zen_disk::{Fuse, MemDisks, Struck};
 /// A node whose journal is open on a memory disk under a fuse.
 pub type OpenNode = CoordState<StateJournal<Fuse<MemDisks>>>;
 
-// What the fuse tells of an act that met a fault of the disk. A fault that no order has made is want of memory.
+// What the fuse says of an act that met a fault of the disk. A fault that no order has made means that memory ran out.
 fn told(state: &OpenNode, did: Did) -> Result<Did, AllocError>
     ensures { IfOk result (λ d. IsToldBy state.now did d) }
 {
@@ -73,7 +74,9 @@ fn response_refused(error: ActError<ResponseCause, ()>) -> Did
     }
 }
 
-fn share(published: &Option<Rc<Publication>>) -> Result<Option<Rc<Publication>>, AllocError>
+fn share(
+    published: &Option<Rc<FitPublishRequest>>,
+) -> Result<Option<Rc<FitPublishRequest>>, AllocError>
     ensures { IfOk result (λ shared. state_published shared ≡ state_published published.now) }
 {
     match published {
@@ -88,7 +91,7 @@ fn share(published: &Option<Rc<Publication>>) -> Result<Option<Rc<Publication>>,
 // What counting a response did that sends this commit, or none.
 fn responded(
     sends: Option<ApplyCommit>,
-    published: &Option<Rc<Publication>>,
+    published: &Option<Rc<FitPublishRequest>>,
 ) -> Result<Did, AllocError>
     ensures outcome { IfOk result (λ did. outcome_of did ≡ Some (response_outcome {T = Unit {0}} (Ok sends))) }
     ensures committed { IfOk result (λ did. CommitsLast (state_published published.now) did) }
@@ -111,7 +114,11 @@ fn responded(
 }
 
 /// The node takes the initial configuration.
-pub fn boot(state: &mut OpenNode, alloc: Global, initial: &NodeSet) -> Result<Did, AllocError>
+pub fn set_initial(
+    state: &mut OpenNode,
+    alloc: Global,
+    initial: &NodeSet,
+) -> Result<Did, AllocError>
     ensures does { IfOk result (λ did. StateDoes state.old state.new (act.Bootstrap initial.now) did) }
     ensures text { IfOk result (λ did. (published : Option State) → WritesText (act.Bootstrap initial.now) published did) }
 {
@@ -140,7 +147,7 @@ pub fn join(state: &mut OpenNode, join: &Join) -> Result<Did, AllocError>
 }
 
 /// The node publishes a client's value. Answers the publication too, where there is one.
-pub fn publish(
+pub fn client_value(
     state: &mut OpenNode,
     alloc: Global,
     version: u64,
@@ -151,11 +158,12 @@ pub fn publish(
     ensures does { IfOk result (λ did. StateDoes state.old state.new (act.Value version config value) did) }
     ensures text { IfOk result (λ did. (published : Option State) → WritesText (act.Value version config value) published did) }
 {
+    // For the proof alone: what is kept is within the limits of a state.
     let _ = state.keeper().kept();
     match state.client_value(version, config, value) {
         Err(error) => told(state, value_refused(error)),
         Ok(request) => {
-            let Ok(publication) = Rc::new(alloc, Publication::new(request)) else {
+            let Ok(publication) = Rc::new(alloc, FitPublishRequest::new(request)) else {
                 return Err(AllocError);
             };
             Ok(Did::Taken(Effects {
@@ -168,10 +176,10 @@ pub fn publish(
 }
 
 /// The node accepts a published state. One that it refuses is not copied.
-pub fn accept(
+pub fn publish_request(
     state: &mut OpenNode,
     alloc: Global,
-    publication: &Publication,
+    publication: &FitPublishRequest,
 ) -> Result<Did, AllocError>
     ensures does { IfOk result (λ did. StateDoes state.old state.new (act.Publish publication.now.request) did) }
     ensures text { IfOk result (λ did. (published : Option State) → WritesText (act.Publish publication.now.request) published did) }
@@ -189,10 +197,10 @@ pub fn accept(
 }
 
 /// The node counts a response. Where it sends a commit, it commits what it has published last.
-pub fn respond(
+pub fn publish_response(
     state: &mut OpenNode,
     response: &PublishResponse,
-    published: &Option<Rc<Publication>>,
+    published: &Option<Rc<FitPublishRequest>>,
 ) -> Result<Did, AllocError>
     requires { HasRoomIn state.old (message_of (SentMessage.Response response.now)) }
     ensures does { IfOk result (λ did. StateDoes state.old state.new (act.Response response.now) did) }
@@ -217,11 +225,11 @@ pub fn commit(state: &mut OpenNode, commit: &ApplyCommit) -> Result<Did, AllocEr
 }
 
 /// The node takes a message.
-pub fn take(
+pub fn deliver(
     state: &mut OpenNode,
     alloc: Global,
     message: &SentMessage,
-    published: &Option<Rc<Publication>>,
+    published: &Option<Rc<FitPublishRequest>>,
 ) -> Result<Did, AllocError>
     requires { HasRoomIn state.old (message_of message.now) }
     ensures does { IfOk result (λ did. StateDoes state.old state.new (taking (message_of message.now)) did) }
@@ -229,8 +237,8 @@ pub fn take(
 {
     match message {
         SentMessage::Join(sent) => join(state, sent),
-        SentMessage::Publish(publication) => accept(state, alloc, publication),
-        SentMessage::Response(response) => respond(state, response, published),
+        SentMessage::Publish(publication) => publish_request(state, alloc, publication),
+        SentMessage::Response(response) => publish_response(state, response, published),
         SentMessage::Commit(sent) => commit(state, sent),
     }
 }

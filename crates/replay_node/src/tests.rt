@@ -1,8 +1,9 @@
-use crate::disk::{empty_disk, restarted, stopped};
+//! What a stop leaves on both sides of a node's disk.
+use crate::disk::{crashed, empty_disk, restarted};
 use std::test::Fail;
 use zen_disk::{Armable, Armed, Disks, Fuse, MemDisks, Order, Side, Way};
 
-// A disk with stable bytes on each side, and bytes behind them that are not.
+// A disk with stable bytes on each side, and bytes after them that are not.
 fn half_synced(rt: &HostRuntime) -> Result<Fuse<MemDisks>, Fail> {
     let mut fuse = empty_disk(rt.alloc());
     fuse.write_at(Side::Zero, 0, b"ab")?;
@@ -29,7 +30,7 @@ fn a_restarted_disk_holds_what_the_stop_left_on_both_sides(rt: HostRuntime) -> R
         (Way::Torn(b'q'), b"abqq".as_slice(), b"xqz".as_slice()),
     ];
     for (way, zero, one) in table {
-        let mut between = stopped(half_synced(&rt)?, way);
+        let mut between = crashed(half_synced(&rt)?, way);
         assert_eq!(&rt; content(&rt, &mut between, Side::Zero)?.as_slice(), zero);
         assert_eq!(&rt; content(&rt, &mut between, Side::One)?.as_slice(), one);
 

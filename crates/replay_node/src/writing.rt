@@ -1,3 +1,4 @@
+//! What an act did, written as its lines of the trace.
 ghost use Rattle.std.specs.Prelude.{◌≡◌, ◌+◌, ◌<◌, ◌^◌, ◌++◌, OnOk};
 ghost use Rattle.replay_node.specs.Did.{did_text, effects_text, won_by, committed_by, sends_by};
 ghost use Rattle.replay_node.specs.Sent.{message_of};
@@ -5,7 +6,7 @@ ghost use Rattle.trace_text.specs.Trace.{act_text, message_line};
 ghost use Rattle.replay_node.specs.Sent.{taking};
 
 use crate::did::{Did, Effects};
-use crate::message::{Publication, SentMessage};
+use crate::message::{FitPublishRequest, SentMessage};
 use schedule_text::Text;
 use std::alloc::{AllocError, Global};
 use std::rc::Rc;
@@ -51,7 +52,7 @@ fn write_sends(
 fn write_committed_by(
     text: &mut Text,
     alloc: Global,
-    committed: &Option<Rc<Publication>>,
+    committed: &Option<Rc<FitPublishRequest>>,
 ) -> Result<(), AllocError>
     ensures { OnOk result (text.new ≡ text.old ++ committed_by committed.now) }
 {

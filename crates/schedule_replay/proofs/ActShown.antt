@@ -18,7 +18,7 @@ use Rattle.trace_text.specs.Endings.{ending_of}
 use Rattle.event_text.specs.Steps.{act_lines}
 use Rattle.trace_text.specs.Trace.{act_line, outcome_line, won_line, won_text, committed_line, committed_text, sent_line, results}
 use Rattle.replay_node.specs.Did.{is_won, won_by}
-use Rattle.replay_node.specs.NodeDisk.{CallsEnd, Done, Failed, StoppedIn}
+use Rattle.replay_node.specs.NodeDisk.{CallsEnd, Done, Failed, CrashedIn}
 use Rattle.replay_node.specs.NodeWorld.{outcome_by}
 use Rattle.schedule_replay.specs.Steps.{sends_text, shown_text}
 use Rattle.schedule_replay.specs.Told.{message_in, outcome_shown}
@@ -82,7 +82,7 @@ reply_shown me g act Stopped shut h number = refl
 pub outcome_shows : (me : Id) (g : NodeHistory) (act : Act) (end : CallsEnd) → is_opening act ≡ false → ShowsOutcome me act (outcome_by end (reply_of me g act))
 outcome_shows me g act Done shut = reply_shown me g act (reply_of me g act) shut refl
 outcome_shows me g act Failed shut = λ number. refl
-outcome_shows me g act (StoppedIn way) shut = λ number. refl
+outcome_shows me g act (CrashedIn way) shut = λ number. refl
 
 -- ---- of whole nodes, where frames are shown in place of the message
 

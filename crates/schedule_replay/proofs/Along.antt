@@ -14,7 +14,7 @@ use Rattle.schedule_replay.specs.Steps.{ActShown, Step, Echo, Did, Opened, WasDo
 use Rattle.schedule_replay.specs.Told.{outcome_shown, told_by, told_from, some_numbered, numbered_in, messages_of, numbered}
 use Rattle.schedule_replay.specs.ActShown.{message_sent, act_shown}
 
--- P holds of each step behind the history that the steps before it tell
+-- P holds of each step after the history that the steps before it tell
 abbrev pub Along : (History → Step → Type 0) → History → List Step → Type 0
 Along P h [] = Unit {0}
 Along P h (x ∷ xs) = P h x × Along P (told_by h x) xs
@@ -32,7 +32,7 @@ grows list show P step h (x ∷ xs) a =
     ∙ ap (λ l. l ++ flat_map show xs) (step h x a.0)
     ∙ grows list show P step (told_by h x) xs a.1
 
--- the step of an act shows what the act did, behind this history
+-- the step of an act shows what the act did, after this history
 pub record RightAct (h : History) (x : ActShown) : Type 0 where
   pub outcome : Outcome
   pub is_shown : x ≡ act_shown (length (sent h)) (last_published (node_history h x.node)) x.node x.act outcome
@@ -43,7 +43,7 @@ abbrev pub IsRight : History → Step → Type 0
 IsRight h (Did x) = RightAct h x
 IsRight h other = Unit {0}
 
--- the step is right, and the history is legal before it and behind it
+-- the step is right, and the history is legal before it and after it
 pub record IsSound (initial : List Id) (h : History) (x : Step) : Type 0 where
   pub right : IsRight h x
   pub before : IsLegal initial h

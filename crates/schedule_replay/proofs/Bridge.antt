@@ -1,4 +1,4 @@
--- From what the coordinator's step tells of an event to what the node and its disk then are.
+-- From what the coordinator's step says of an event to what the node and its disk then are.
 use Rattle.std.proofs.Common.{◌≡◌, Bool, true, false, ◌||◌, Some, List, [], ◌∷◌, map, refl, sym, ◌∙◌, ap, subst}
 use Rattle.voting_config.specs.Ids.{Id}
 use Rattle.coord_state.specs.declared.coord.CoordState.{CoordState}
@@ -27,7 +27,7 @@ use Rattle.coordinator.specs.Lives.{StandsForLife}
 use Rattle.coordinator.specs.Steps.{IsSealed}
 use Rattle.coordinator.specs.Turns.{Acted, CoreDid}
 use Rattle.std.specs.List.{flat_map}
-use Rattle.world_model.specs.NodeState.{NodeState, stopped_of}
+use Rattle.world_model.specs.NodeState.{NodeState, halted_of}
 use Rattle.replay_node.specs.NodeWorld.{NodeWorld, needs_opening}
 use Rattle.replay_node.specs.Stands.{OpenStands}
 use Rattle.policy_model.specs.declared.events.Event.{Event}
@@ -190,9 +190,9 @@ no_replies is left (Later (Notes note) rest left' q) = no_replies rest left' q
 
 -- ---- a node at an event
 
--- an open node is opened again once its journal has stopped
+-- an open node is opened again once its journal is halted
 pub open_asks : (me : Id) (c : CoordState Journal) (x : NodeWorld) → OpenStands me c x → needs_opening x ≡ c.keeper.log.stopped
-open_asks me c x o = ap (λ (b : Bool). b || stopped_of x.acts) o.up ∙ sym (ap (λ (n : NodeState). n.stopped) o.acts)
+open_asks me c x o = ap (λ (b : Bool). b || halted_of x.acts) o.up ∙ sym (ap (λ (n : NodeState). n.halted) o.acts)
 
 module _ (s : Settings) (life : Life) (x : NodeWorld) (event : Event) (old new : Node) (stands : OpenFor s old life x) (ready : IsReady new) (running : old.core.keeper.log.stopped ≡ false) where
   abbrev items : List Item
@@ -267,4 +267,4 @@ module _ (s : Settings) (life : Life) (x : NodeWorld) (event : Event) (old new :
         let done : List Item = map (as_told (Crashed false)) failed.left in
         let got = node_carried done (Struck did.Crashed) (struck_carries s old.core new.core items failed.left _ did.Crashed (Crashed false) answered failed.struck failed.enters.core by refl) in
         let struck : IsStruck items done = crashed_struck s items failed.left _ answered failed.struck in
-        (struck_event true done refl got.items struck (ap (λ (b : Bool). b || stopped_of (node_played s.me x items).node.acts) got.stands.down), got.stands)
+        (struck_event true done refl got.items struck (ap (λ (b : Bool). b || halted_of (node_played s.me x items).node.acts) got.stands.down), got.stands)

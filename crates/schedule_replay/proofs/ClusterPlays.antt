@@ -22,7 +22,7 @@ use Rattle.policy_model.specs.Follows.{without_output}
 use Rattle.policy_model.specs.Local.{IsAnswered, ByAct, ByQuiet, Ended, is_quiet}
 use Rattle.policy_model.specs.Views.{View}
 use Rattle.replay_node.specs.Course.{Course, act_then, behind, played}
-use Rattle.replay_node.specs.NodeDisk.{CallsEnd, Done, Failed, StoppedIn}
+use Rattle.replay_node.specs.NodeDisk.{CallsEnd, Done, Failed, CrashedIn}
 use Rattle.replay_node.specs.NodeWorld.{act_called, outcome_at}
 use Rattle.replay_node.specs.Worlds.{World, node_world, did}
 use Rattle.replay_node.proofs.Moves.{node_history-own}
@@ -86,7 +86,7 @@ act_leads : (n : Id) (w : World) (act : Act) (is : List Item) (end : CallsEnd) �
     (act_then end (Acts act (outcome_at n (node_world w n) act)) (did w n act) (λ (v : World). played n v is)).world.history
 act_leads n w act is Done shut shows l = leads_behind n w.history (Acts act (outcome_at n (node_world w n) act)) (played n (did w n act) is) (shut, shows, l)
 act_leads n w act is Failed shut shows l = (shut, shows, refl)
-act_leads n w act is (StoppedIn way) shut shows l = (shut, shows, refl)
+act_leads n w act is (CrashedIn way) shut shows l = (shut, shows, refl)
 
 pub plays_lead : (n : Id) (w : World) (is : List Item) → AllByRecursion IsShut is → LeadTo n w.history (steps_of (played n w is).items) (played n w is).world.history
 plays_lead n w [] s = refl

@@ -6,7 +6,7 @@ use Rattle.master_tasks.specs.declared.waiting.Outgoing.{Outgoing}
 use Rattle.wire_frames.specs.declared.frame.Frame.{Frame}
 use Rattle.world_model.specs.declared.acts.Outcome.TheVariants.{Answered, Disk, Crashed}
 use Rattle.world_model.specs.Histories.{History, Next}
-use Rattle.world_model.proofs.Guards.{same_is}
+use Rattle.voting_config.proofs.Sets.{same_is}
 use Rattle.schedule_text.specs.declared.schedule.Line.{Line}
 use Rattle.schedule_text.specs.declared.schedule.Line.TheVariants as line
 use Rattle.policy_model.specs.declared.settings.Settings.{Settings}
@@ -18,7 +18,7 @@ use Rattle.policy_model.specs.declared.events.MemberDrop.{MemberDrop}
 use Rattle.policy_model.specs.Events.{Item, Opens, Begins, Acts, Turns, Drops, Sends, Replies, Notes}
 use Rattle.policy_model.specs.Entries.{Life, NotBegun, Opened, Lived, Did, Gone, Bad, NoMemory, Unread, steps_of, drops_of, frames_of, replies_of}
 use Rattle.replay_node.specs.Course.{settled_item, settled_life}
-use Rattle.replay_node.specs.NodeDisk.{CallsEnd, Done, Failed, StoppedIn, opening}
+use Rattle.replay_node.specs.NodeDisk.{CallsEnd, Done, Failed, CrashedIn, opening}
 use Rattle.replay_node.specs.NodeWorld.{found_at, needs_opening}
 use Rattle.replay_node.specs.Settled.{is_kept}
 use Rattle.replay_node.specs.Clusters.{Cluster, after, after_event, after_event_if_up, after_frame, after_restart, event_course, fresh_cluster, frame_at, life_opened, opened_by, own_world, replayed_from, settings_of, with_life, with_opened}
@@ -154,7 +154,7 @@ module _ (m : Id) (s : Settings) where
   start_goes : (c : Cluster) (end : CallsEnd) → Goes m c (opened_by s end c) (start_steps s end c)
   start_goes c Done = goes m c (with_opened s c) (after_event s (with_opened s c) Start) [] (event_steps s (with_opened s c) Start) (opened_goes c) (event_goes (with_opened s c) Start)
   start_goes c Failed = append-nil (life_replies (c.lives m))
-  start_goes c (StoppedIn way) = append-nil (life_replies (c.lives m))
+  start_goes c (CrashedIn way) = append-nil (life_replies (c.lives m))
 
   restart_goes : (c : Cluster) → Goes m c (after_restart s c) (restart_steps s c)
   restart_goes c = from (needs_opening (own_world s c))

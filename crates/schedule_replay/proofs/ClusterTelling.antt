@@ -19,7 +19,7 @@ use Rattle.policy_model.specs.Entries.{log_of, steps_of, drops_of, frames_of, re
 use Rattle.policy_model.specs.Follows.{items_of}
 use Rattle.policy_model.specs.Views.{view_of}
 use Rattle.policy_model.proofs.Answering.{answered-next}
-use Rattle.replay_node.specs.NodeDisk.{CallsEnd, Done, Failed, StoppedIn, opening}
+use Rattle.replay_node.specs.NodeDisk.{CallsEnd, Done, Failed, CrashedIn, opening}
 use Rattle.replay_node.specs.NodeWorld.{found_at, needs_opening, opening_text, after_crash}
 use Rattle.replay_node.specs.Worlds.{World, history_opened, node_world, with_node}
 use Rattle.replay_node.specs.Clusters.{Cluster, after, after_event, after_event_if_up, after_frame, after_restart, event_course, frame_at, opened_by, own_world, replayed_from, settings_of, with_opened}
@@ -86,7 +86,7 @@ module _ (s : Settings) where
   opening_text_is : (n : Id) (end : CallsEnd) (found : Kept) → opening_text end n found ≡ shared_text (opening_step end n found)
   opening_text_is n Done found = refl
   opening_text_is n Failed found = refl
-  opening_text_is n (StoppedIn way) found = refl
+  opening_text_is n (CrashedIn way) found = refl
 
   opening_piece : (h : History) (fs : List Frame) (n : Id) (end : CallsEnd) (found : Kept) → Piece h fs (history_opened end h n found) fs (opening_text end n found) [] (Shared (opening_step end n found) ∷ [])
   opening_piece h fs n end found =
@@ -97,7 +97,7 @@ module _ (s : Settings) where
   start_piece : (c : Cluster) (end : CallsEnd) → PieceOf (with_opened s c) (opened_by s end c) (start_shown s end c) [] (start_steps s end c)
   start_piece c Done = event_piece (with_opened s c) Start
   start_piece c Failed = nothing _ c.frames
-  start_piece c (StoppedIn way) = nothing _ c.frames
+  start_piece c (CrashedIn way) = nothing _ c.frames
 
   restart_by : (c : Cluster) (end : CallsEnd) (found : Kept) → end ≡ (opening (c.world.disks s.me)).ended → found ≡ found_at (node_world c.world s.me) → (b : Bool)
       → PieceOf c (if b then opened_by s end c else c)

@@ -16,7 +16,7 @@ use Rattle.world_model.specs.declared.acts.Reply.TheVariants.{Taken}
 use Rattle.world_model.specs.declared.acts.Outcome.{Outcome}
 use Rattle.world_model.specs.declared.acts.Outcome.TheVariants.{Answered}
 use Rattle.world_model.specs.Acts.{NodeHistory, Then}
-use Rattle.world_model.specs.NodeState.{accepted_of, term_of, version_of, initial_state}
+use Rattle.world_model.specs.NodeState.{accepted_of, term_of, published_version_of, initial_state}
 use Rattle.world_model.specs.Histories.{History, Next, node_history, sent, sent_by, is_opening, IsLegal}
 use Rattle.world_model.specs.Safety.{Published, published, published_by}
 use Rattle.world_model.proofs.Moments.{begins_self, IsSent, sent_later}
@@ -69,7 +69,7 @@ module _ (root : ClusterState) (h : History) (W : IsSystem (node_history h) root
 
   -- what the node had published last
   last_of : (g : NodeHistory) (act : Act) (c : ApplyCommit) (w : Bool) → node_history h n ≡ Then g act (ok (Some (CommitMessage c)) w) → IsExecution (node_history h) root n (Then g act (ok (Some (CommitMessage c)) w)) → CommitBy n g c act
-      → HasPublished g (term_of g) (version_of g)
+      → HasPublished g (term_of g) (published_version_of g)
   last_of g act c w e f by =
       let sends : IsSent (node_history h n) (CommitMessage c) = subst (λ (x : NodeHistory). IsSent x (CommitMessage c)) (sym e) (record { before = g; act = act; flag = w; is_in = begins_self (Then g act (ok (Some (CommitMessage c)) w)) }) in
       let value = commit_is_value (node_history h) root W n c sends in
@@ -79,7 +79,7 @@ module _ (root : ClusterState) (h : History) (W : IsSystem (node_history h) root
       last_state (node_history h) root W n g f.0 up by.won value.request before (value.term_is ∙ by.term_is)
 
   commits_by : (g : NodeHistory) (act : Act) (c : ApplyCommit) (w : Bool) → node_history h n ≡ Then g act (ok (Some (CommitMessage c)) w) → Contains (sent h) (CommitMessage c) → CommitBy n g c act
-      → HasPublished g (term_of g) (version_of g) → Commits g h n c
+      → HasPublished g (term_of g) (published_version_of g) → Commits g h n c
   commits_by g act c w e is_sent by last =
       let here : IsSent (node_history h n) (PublishMessage last.request) = subst (λ (x : NodeHistory). IsSent x (PublishMessage last.request)) (sym e) (sent_later g (Then g act (ok (Some (CommitMessage c)) w)) _ (inr (begins_self g)) last.is_sent) in
       record {

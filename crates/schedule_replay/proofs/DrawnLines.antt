@@ -61,6 +61,6 @@ pub more_lines : (number step sent : ℕ) (line : Line) → line ≡ line_at num
 more_lines number step sent line is held =
     rw add-one (ap (λ (l : Line). lines_to number step ++ l ∷ []) (sym (is ∙ ap (λ (k : ℕ). line_at number step k) held)))
 
--- behind the last line the tally is that of the trace
+-- after the last line the tally is that of the trace
 pub summed_up : (ids initial : List Id) (nodes : List ReplayNode) (messages : List SentMessage) (tally : Tally) (number steps : ℕ) → initial ≡ first_nodes → Tallied Tallies ids initial nodes messages tally (lines_to number steps) → Tallies tally (trace (generated number steps))
 summed_up ids initial nodes messages tally number steps e m = subst (λ (x : List Id). Tallies tally (trace_from x fresh_world (lines_to number steps))) e m.tallies

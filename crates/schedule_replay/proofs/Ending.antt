@@ -8,7 +8,7 @@ use Rattle.event_text.specs.Events.{cause_text}
 use Rattle.event_text.specs.Frames.{message_text as frame_text}
 use Rattle.event_text.specs.Steps.{mode_text}
 use Rattle.schedule_text.specs.Lines.{line_text}
-use Rattle.schedule_text.specs.Words.{list_text}
+use Rattle.voting_config.specs.Lists.{list_text}
 use Rattle.schedule_text.specs.declared.schedule.Line.{Line}
 use Rattle.trace_text.specs.Trace.{act_line, act_text, address_text, committed_text, ending_text, id_text, message_text, state_text}
 use Rattle.replay_node.specs.Did.{won_by}

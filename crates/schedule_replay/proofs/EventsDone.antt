@@ -1,4 +1,4 @@
--- A node behind an event, by how the event ended.
+-- A node after an event, by how the event ended.
 use Rattle.std.proofs.Common.{◌≡◌, Bool, true, false, ◌⊎◌, inl, inr, Option, ℕ, List, [], ◌++◌, append-nil, length, refl, sym, ◌∙◌, ap, subst, if◌then◌else◌}
 use Rattle.std.specs.List.{AllByRecursion}
 use Rattle.voting_config.specs.Ids.{Id}
@@ -37,7 +37,7 @@ use Rattle.schedule_replay.specs.declared.cluster.node.Slot.TheVariants.{Open, D
 use Rattle.replay_node.proofs.Lives.{no_fault}
 use Rattle.schedule_replay.proofs.Playing.{played_acts, told_published}
 
--- a node that is down or stopped does nothing; its start does not come next
+-- a node that is down or halted does nothing; its start does not come next
 pub down_done : (s : Settings) (own : Own) (event : Event) (old : ClusterNode) (frames : List Frame) (was now : List ℕ) → NodeFor s old own (is_start event) → needs_opening own.node ≡ true → now ≡ was ++ down_line old.me
     → OwnDone s old (own_event_if_up s event own) frames frames (own_frames_if_up s event own) was now (own_results_if_up s event (length frames) own)
 down_done s own event old frames was now stands needs written = by (needs_opening own.node) needs
@@ -80,7 +80,7 @@ module _ (s : Settings) (own : Own) (event : Event) (old new : ClusterNode) (sta
       ∙ published_along (And (log_of own.life) (Begins event)) items
       ∙ ap last_published life.acts
 
-  -- what is told of a node that ran
+  -- what is said of a node that ran
   run_done : (frames frames_now : List Frame) (was now : List ℕ) → needs_opening own.node ≡ false → NodeFor s new after false → frames_now ≡ frames ++ frames_of items → now ≡ was ++ own_results s (length frames) own event → AllByRecursion IsFitFrame (frames_of items)
       → OwnDone s new (own_event_if_up s event own) frames frames_now (own_frames_if_up s event own) was now (own_results_if_up s event (length frames) own)
   run_done frames frames_now was now runs there sent written fit = by (needs_opening own.node) runs

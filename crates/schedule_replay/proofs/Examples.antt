@@ -38,7 +38,7 @@ one_commit : states_of (steps alone) ≡ record { term = 1; version = 1; config 
 unfolding join_checked eight_bytes two_bytes sized framed laid size_at bodies_from bodies_of generations_of misplaced_from epoch_in body_of change_tagged with_body folded_from
 one_commit = refl
 
--- a node stops inside the write that keeps a term; its record shows that it was kept, and settles it
+-- a node crashes inside the write that keeps a term; its record shows that it was kept, and settles it
 abbrev front : List Line
 front = Boot a ∷ Fuse a 3 Kept ∷ StartJoin a a 1 ∷ []
 

@@ -4,12 +4,12 @@ use Rattle.std.specs.Prelude.{codes}
 use Rattle.std.specs.Str.{is_utf8}
 use Rattle.std.proofs.lemmas.Bool.{and_parts}
 use Rattle.std.proofs.lemmas.Str.{is_utf8-from_IsUtf8}
-use Rattle.voting_config.specs.Ids.{Id, is_id, most_ids, IsIdSet}
+use Rattle.voting_config.specs.Ids.{Id, is_id, most_ids, IsIdSet, are_among}
 use Rattle.voting_config.proofs.Ascii.{IsUtf8-id}
 use Rattle.cluster_state.specs.Fields.{ids}
 use Rattle.cluster_state.specs.States.{value as value_field}
 use Rattle.cluster_state.proofs.Fitting.{fits_id, fits_ids}
-use Rattle.schedule_text.specs.Words.{are_ids_after, are_among}
+use Rattle.voting_config.specs.Lists.{are_ids_after}
 use Rattle.replay_node.proofs.IdLists.{ids_set}
 use Rattle.schedule_replay.specs.Replayed.{value_with}
 

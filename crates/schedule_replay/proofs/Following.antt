@@ -1,4 +1,4 @@
--- Behind the echo of each line stands what the line asks for.
+-- After the echo of each line stands what the line asks for.
 use Rattle.std.proofs.Common.{◌≡◌, Bool, true, false, cond, Option, None, Some, List, [], ◌∷◌, refl, sym, ◌∙◌, ap, subst, inl, inr, if◌then◌else◌}
 use Rattle.std.specs.Prelude.{◌||◌}
 use Rattle.voting_config.specs.Ids.{Id, same}
@@ -12,15 +12,15 @@ use Rattle.world_model.specs.declared.acts.Message.{Message}
 use Rattle.world_model.specs.declared.acts.Reply.{Reply}
 use Rattle.world_model.specs.declared.acts.Reply.TheVariants.{Taken, Refused, Stopped}
 use Rattle.world_model.specs.Acts.{NodeHistory}
-use Rattle.world_model.specs.NodeState.{stopped_of}
+use Rattle.world_model.specs.NodeState.{halted_of}
 use Rattle.world_model.specs.Replies.{reply_of}
 use Rattle.world_model.specs.Histories.{History, node_history}
-use Rattle.world_model.proofs.Guards.{same_is}
+use Rattle.voting_config.proofs.Sets.{same_is}
 use Rattle.schedule_text.specs.declared.schedule.Line.{Line}
 use Rattle.schedule_text.specs.declared.schedule.Line.TheVariants as line
 use Rattle.trace_text.specs.Endings.{ending_of}
-use Rattle.replay_node.specs.NodeDisk.{NodeDisk, CallsEnd, Done, Failed, StoppedIn, opening}
-use Rattle.replay_node.specs.NodeWorld.{act_called, found_at, is_stop, needs_opening, opened_by, outcome_by}
+use Rattle.replay_node.specs.NodeDisk.{NodeDisk, CallsEnd, Done, Failed, CrashedIn, opening}
+use Rattle.replay_node.specs.NodeWorld.{act_called, found_at, ends_in_a_crash, needs_opening, opened_by, outcome_by}
 use Rattle.replay_node.specs.Sent.{taking}
 use Rattle.replay_node.specs.Worlds.{World, crashed, did, did_unless_down, node_world, opened, ordered}
 use Rattle.schedule_replay.specs.Replayed.{after, message_at, took_some, value_with}
@@ -35,12 +35,12 @@ Knows down w = (n : Id) → down n ≡ w.down n
 
 -- ---- an act
 
-crash_is : (end : CallsEnd) (reply : Reply) → is_crash (ending_of (outcome_by end reply)) ≡ is_stop end
+crash_is : (end : CallsEnd) (reply : Reply) → is_crash (ending_of (outcome_by end reply)) ≡ ends_in_a_crash end
 crash_is Done (Taken s w) = refl
 crash_is Done (Refused c) = refl
 crash_is Done Stopped = refl
 crash_is Failed reply = refl
-crash_is (StoppedIn way) reply = refl
+crash_is (CrashedIn way) reply = refl
 
 act_shows : (w : World) (n : Id) (act : Act) (down : Id → Bool) → Knows down w → ShowsAct (down n) n act (act_steps w n act)
 act_shows w n act down k = subst (λ (b : Bool). ShowsAct b n act (act_steps w n act)) (sym (k n)) (from (w.down n))
@@ -71,7 +71,7 @@ delivery_knows : (w : World) (n : Id) (message : Option Message) (down : Id → 
 delivery_knows w n None down k m = quiet (w.down n) (WasDown n) Unsent down m refl refl ∙ k m
 delivery_knows w n (Some message) down k m = act_knows w n (taking message) down k m
 
--- ---- a stop between two acts, and orders
+-- ---- a crash between two acts, and orders
 
 crash_knows : (w : World) (n : Id) (way : Way) (down : Id → Bool) → Knows down w → Knows (down_by down (if w.down n then WasDown n else WentDown n)) (crashed w n way)
 crash_knows w n way down k m = from (w.down n) _ refl
@@ -92,17 +92,17 @@ order_knows w n order down k m = k m ∙ from (same n m) refl
 opening_shows : (end : CallsEnd) (n : Id) (found : Kept) → ShowsOpening n (opening_step end n found ∷ [])
 opening_shows Done n found = inl (found, refl)
 opening_shows Failed n found = inr (inl refl)
-opening_shows (StoppedIn way) n found = inr (inr refl)
+opening_shows (CrashedIn way) n found = inr (inr refl)
 
 opening_down : (end : CallsEnd) (n m : Id) (found : Kept) (g : NodeHistory) (disk : NodeDisk) (down : Id → Bool) (is_down : Bool) → down m ≡ is_down
     → down_by down (opening_step end n found) m ≡ cond (same n m) (opened_by end g disk found).down is_down
 opening_down Done n m found g disk down is_down e = ap (λ (x : Bool). cond (same n m) false x) e
 opening_down Failed n m found g disk down is_down e = ap (λ (x : Bool). cond (same n m) true x) e
-opening_down (StoppedIn way) n m found g disk down is_down e = ap (λ (x : Bool). cond (same n m) true x) e
+opening_down (CrashedIn way) n m found g disk down is_down e = ap (λ (x : Bool). cond (same n m) true x) e
 
-restart_shows : (initial : List Id) (w : World) (n : Id) (down : Id → Bool) → Knows down w → ShowsRestart (down n || stopped_of (node_history w.history n)) n (line_steps initial w (line.Restart n))
+restart_shows : (initial : List Id) (w : World) (n : Id) (down : Id → Bool) → Knows down w → ShowsRestart (down n || halted_of (node_history w.history n)) n (line_steps initial w (line.Restart n))
 restart_shows initial w n down k =
-    subst (λ (b : Bool). ShowsRestart (b || stopped_of (node_history w.history n)) n (line_steps initial w (line.Restart n))) (sym (k n)) (from (needs_opening (node_world w n)))
+    subst (λ (b : Bool). ShowsRestart (b || halted_of (node_history w.history n)) n (line_steps initial w (line.Restart n))) (sym (k n)) (from (needs_opening (node_world w n)))
   where
     from : (b : Bool) → ShowsRestart b n ((if b then opening_step (opening (w.disks n)).ended n (found_at (node_world w n)) else WasUp n) ∷ [])
     from true = opening_shows (opening (w.disks n)).ended n (found_at (node_world w n))

@@ -6,7 +6,7 @@ use Rattle.zen_disk.specs.declared.orders.Order.{Order}
 use Rattle.zen_disk.specs.declared.orders.Way.{Way}
 use Rattle.trace_text.specs.Trace.{down_line}
 use Rattle.replay_node.specs.Clusters.{Cluster, after_event, after_event_if_up, after_restart, event_course, life_opened, opened_by, own_world, with_life, with_opened}
-use Rattle.replay_node.specs.NodeDisk.{CallsEnd, Done, Failed, StoppedIn, opening}
+use Rattle.replay_node.specs.NodeDisk.{CallsEnd, Done, Failed, CrashedIn, opening}
 use Rattle.replay_node.specs.NodeLines.{restart_text, stop_text}
 use Rattle.replay_node.specs.NodeWorld.{NodeWorld, after_opening, needs_opening}
 use Rattle.replay_node.specs.Worlds.{World, crashed, node_world, opened, ordered}
@@ -96,7 +96,7 @@ module _ (s : Settings) where
   opening_goes : (c : Cluster) (end : CallsEnd)
       → GoesAs s.me c (opened_by s end c) (own_opened_by s end (own_in c s.me)) (own_started_frames s end (own_in c s.me)) (start_shown s end c) (own_started_results s end (length c.frames) (own_in c s.me))
   opening_goes c Failed = record { goes = moved_world s.me c (opened c.world s.me) _ (moves_opened s.me c.world); frames = append-nil c.frames; shows = refl }
-  opening_goes c (StoppedIn way) = record { goes = moved_world s.me c (opened c.world s.me) _ (moves_opened s.me c.world); frames = append-nil c.frames; shows = refl }
+  opening_goes c (CrashedIn way) = record { goes = moved_world s.me c (opened c.world s.me) _ (moves_opened s.me c.world); frames = append-nil c.frames; shows = refl }
   opening_goes c Done =
       let first : GoesOn s.me c (own_opened (own_in c s.me)) (with_opened s c) = opened_goes c in
       let second = event_goes (with_opened s c) Start in

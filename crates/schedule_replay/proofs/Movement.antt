@@ -1,15 +1,13 @@
 -- One node moves, the others stay.
-use Rattle.std.proofs.Common.{◌≡◌, ℕ, zero, suc, ◌<◌, true, false, Some, List, [], ◌∷◌, length, ◌++◌, refl, sym, ◌∙◌, subst, arith, slice_get, slice_set, get_or}
+use Rattle.std.proofs.Common.{◌≡◌, ℕ, zero, suc, ◌<◌, true, false, Some, List, [], ◌∷◌, length, ◌++◌, sym, ◌∙◌, subst, arith, slice_get, slice_set, get_or}
 use Rattle.std.specs.Prelude.{Result, IfOk, OnOk}
 use Rattle.std.specs.declared.alloc.AllocError.{AllocError}
 use Rattle.std.proofs.lemmas.Result.{IfOk-weaker, on_ok_weaker}
 use Rattle.std.proofs.lemmas.Option.{slice_get-get_or, slice_get_within}
 use Rattle.std.proofs.lemmas.Bool.{and_parts}
-use Rattle.std.specs.Ordering.{is_lt, is_eq}
-use Rattle.std.specs.declared.cmp.Ordering.{Ordering}
-use Rattle.std.specs.declared.cmp.Ordering.TheVariants.{Less, Equal, Greater}
-use Rattle.std.specs.Cmp.Lexicographic.{texts_ties, nat_list_eq_equiv}
+use Rattle.std.specs.Cmp.Lexicographic.{nat_list_eq_equiv}
 use Rattle.voting_config.specs.Ids.{Id, ascends, is_below, before, same}
+use Rattle.voting_config.proofs.Sorted.{before-not_same}
 use Rattle.zen_disk.specs.declared.orders.Order.{Order}
 use Rattle.world_model.specs.declared.acts.Act.{Act}
 use Rattle.replay_node.specs.Did.{outcome_of, did_text, outcome_unless_down, after_unless_down, act_results}
@@ -23,15 +21,6 @@ use Rattle.replay_node.proofs.Moves.{NodeMoves, moves_did_unless_down, moves_ord
 use Rattle.schedule_replay.specs.WorldStands.{AllStand, DoesAct, Moves}
 use Rattle.trace_text.specs.Trace.{act_text}
 
-not_equal : (o : Ordering) → is_lt o ≡ true → is_eq o ≡ false
-not_equal Less h = refl
-not_equal Equal h = cc
-not_equal Greater h = cc
-
--- an id that is before another is another
-pub before-other : (x y : Id) → before x y ≡ true → same x y ≡ false
-before-other x y h = texts_ties x y ∙ not_equal _ h
-
 other_flip : (x y : Id) → same x y ≡ false → same y x ≡ false
 other_flip x y h = nat_list_eq_equiv.symm y x ∙ h
 
@@ -42,7 +31,7 @@ all_stay [] (c ∷ cs) n w x v moves e s = s
 all_stay (i ∷ is) [] n w x v moves e s = s
 all_stay (i ∷ is) (c ∷ cs) n w x v moves e s =
     let parts = and_parts _ _ e in
-    (s.0, subst (λ (y : NodeWorld). NodeStands c y) (sym (moves.others i (before-other n i parts.0))) s.1, all_stay is cs n w x v moves parts.1 s.2)
+    (s.0, subst (λ (y : NodeWorld). NodeStands c y) (sym (moves.others i (before-not_same i n parts.0))) s.1, all_stay is cs n w x v moves parts.1 s.2)
 
 -- an id that stands at a place is above all ids that the first is above
 below_at : (i : Id) (is : List Id) (place : ℕ) (n : Id) → is_below i is ≡ true → slice_get is place ≡ Some n → before i n ≡ true
@@ -74,7 +63,7 @@ all_after (i ∷ is) (y ∷ ys) w n zero c x v a g m moves d s =
 all_after (i ∷ is) (y ∷ ys) w n (suc k) c x v a g m moves d s =
     let parts = and_parts _ _ a in
     let less = below_at i is k n parts.0 g in
-    (s.0, subst (λ (z : NodeWorld). NodeStands y z) (sym (moves.others i (other_flip i n (before-other i n less)))) s.1, all_after is ys w n k c x v parts.1 g m moves d s.2)
+    (s.0, subst (λ (z : NodeWorld). NodeStands y z) (sym (moves.others i (other_flip i n (before-not_same n i less)))) s.1, all_after is ys w n k c x v parts.1 g m moves d s.2)
 
 -- ---- where the node of an id moves, in the words of a function that looks the place up
 

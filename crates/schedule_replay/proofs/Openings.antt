@@ -1,4 +1,4 @@
--- A node that is opened, and what a stop between two events makes of it.
+-- A node that is opened, and what a crash between two events makes of it.
 use Rattle.std.proofs.Common.{◌≡◌, ℕ, Bool, true, false, ◌||◌, None, Ok, List, [], ◌++◌, append-nil, append_assoc, length, refl, sym, ◌∙◌, ap, subst, inl, if◌then◌else◌}
 use Rattle.std.specs.Prelude.{Result}
 use Rattle.std.specs.Result.{result_unwrap_or}
@@ -18,9 +18,9 @@ use Rattle.world_model.specs.declared.acts.Reply.TheVariants.{Taken}
 use Rattle.world_model.specs.declared.acts.Outcome.TheVariants.{Answered}
 use Rattle.world_model.specs.Acts.{NodeHistory, NoActs, Then}
 use Rattle.world_model.specs.Histories.{ContinuesUnlessFirst}
-use Rattle.world_model.specs.NodeState.{durable_of, stopped_of}
+use Rattle.world_model.specs.NodeState.{durable_of, halted_of}
 use Rattle.trace_text.specs.Trace.{crashed_line, down_line, record_line, up_line}
-use Rattle.replay_node.specs.NodeDisk.{NodeDisk, CallsEnd, Done, Failed, StoppedIn, bytes_read, no_files, opening, MemFuse}
+use Rattle.replay_node.specs.NodeDisk.{NodeDisk, CallsEnd, Done, Failed, CrashedIn, bytes_read, no_files, opening, MemFuse}
 use Rattle.replay_node.specs.NodeLines.{stop_text}
 use Rattle.replay_node.specs.NodeWorld.{NodeWorld, after_crash, after_opening, found_at, fresh_node, needs_opening, opened_by, opening_text}
 use Rattle.replay_node.specs.Opens.{Opens}
@@ -28,8 +28,8 @@ use Rattle.trace_text.specs.Published.{last_published}
 use Rattle.replay_node.specs.Settled.{is_kept, settled}
 use Rattle.replay_node.specs.Stands.{Journal, DownStands, OpenStands}
 use Rattle.replay_node.specs.declared.node.Slot.TheVariants.{Open as CoreOpen, Down as CoreDown}
-use Rattle.replay_node.proofs.AsSaid.{stopped_stands}
-use Rattle.replay_node.proofs.Nodes.{leaves_less, open_leaves, StoppedAs}
+use Rattle.replay_node.proofs.AsSaid.{crashed_stands}
+use Rattle.replay_node.proofs.Nodes.{leaves_less, open_leaves, CrashedAs}
 use Rattle.replay_node.proofs.Opened.{JustOpened, JustOver, opens, new_stands, IsEmptyDisk}
 use Rattle.replay_node.proofs.Settling.{settled_published}
 use Rattle.policy_model.specs.declared.settings.Settings.{Settings}
@@ -50,16 +50,16 @@ use Rattle.schedule_replay.specs.declared.cluster.node.Slot.TheVariants.{Open, D
 use Rattle.schedule_replay.proofs.Bridge.{open_asks}
 use Rattle.replay_node.proofs.Lives.{settled_acts, settled_follows}
 
--- ---- a stop between two events
+-- ---- a crash between two events
 
-pub crash_done : (s : Settings) (own : Own) (way : Way) (old : ClusterNode) (node : Node) (fuse : MemFuse) (frames : List Frame) (was now : List ℕ) → old.slot ≡ Open node → StoppedAs node.core.keeper.log.disk fuse way → now ≡ was ++ crashed_line old.me
+pub crash_done : (s : Settings) (own : Own) (way : Way) (old : ClusterNode) (node : Node) (fuse : MemFuse) (frames : List Frame) (was now : List ℕ) → old.slot ≡ Open node → CrashedAs node.core.keeper.log.disk fuse way → now ≡ was ++ crashed_line old.me
     → NodeFor s old own false → OwnDone s (record old { slot = Down fuse }) (own_crash way own) frames frames [] was now (stop_text s.me own.node)
 crash_done s own way old node fuse frames was now slot stopped written stands =
     let here : OpenFor s node own.life own.node = subst (λ (x : Slot). SlotFor s x own) slot stands.slot in
     let o : OpenStands s.me node.core own.node = here.core in
     let down : DownStands fuse (after_crash way own.node) = record {
       down = refl;
-      disk = stopped_stands node.core.keeper.log.disk fuse own.node.disk way o.disk stopped.armed stopped.up stopped.files;
+      disk = crashed_stands node.core.keeper.log.disk fuse own.node.disk way o.disk stopped.armed stopped.up stopped.files;
       left = leaves_less node.core.keeper.log.disk fuse own.node.acts stopped.left (open_leaves s.me node.core own.node o);
     } in
     let there : NodeFor s (record old { slot = Down fuse }) (record own { node = after_crash way own.node }) false = record {
@@ -80,7 +80,7 @@ crash_done s own way old node fuse frames was now slot stopped written stands =
 ended_open : (e : CallsEnd) (g : NodeHistory) (disk : NodeDisk) (found : Kept) → (opened_by e g disk found).down ≡ false → e ≡ Done
 ended_open Done g disk found up = refl
 ended_open Failed g disk found up = absurd (cc)
-ended_open (StoppedIn way) g disk found up = absurd (cc)
+ended_open (CrashedIn way) g disk found up = absurd (cc)
 
 -- a record that continues the acts
 continues : (g : NodeHistory) (found : Kept) → found ≡ durable_of g → ContinuesUnlessFirst g (OpenAct found)
@@ -195,7 +195,7 @@ module _ (s : Settings) (old : ClusterNode) (fuse : MemFuse) (own : Own) (closed
           follows = closed.life.follows;
           acts = closed.life.acts ∙ sym same;
           starts_is = closed.life.starts_is;
-          unstruck = λ r. absurd (let needs : needs_opening x ≡ true = ap (λ (b : Bool). b || stopped_of x.acts) down.down in cc);
+          unstruck = λ r. absurd (let needs : needs_opening x ≡ true = ap (λ (b : Bool). b || halted_of x.acts) down.down in cc);
           opened = λ starts. absurd (cc);
         };
       }
@@ -209,10 +209,10 @@ module _ (s : Settings) (old : ClusterNode) (fuse : MemFuse) (own : Own) (closed
         written = text ∙ ap (λ (x : CallsEnd). was ++ opening_text x s.me found) e ∙ ap (λ (t : List ℕ). was ++ t) (sym (append-nil (opening_text Failed s.me found)));
         fit = tt;
       })
-      by (StoppedIn way) e down text = restart_by new frames frames was now (StoppedIn way) e (record {
+      by (CrashedIn way) e down text = restart_by new frames frames was now (CrashedIn way) e (record {
         stands = there (after_opening own.node) (ap (λ (x : CallsEnd). (opened_by x own.node.acts (opening own.node.disk).disk found).acts) e) down;
         sent_is = sym (append-nil frames);
-        written = text ∙ ap (λ (x : CallsEnd). was ++ opening_text x s.me found) e ∙ ap (λ (t : List ℕ). was ++ t) (sym (append-nil (opening_text (StoppedIn way) s.me found)));
+        written = text ∙ ap (λ (x : CallsEnd). was ++ opening_text x s.me found) e ∙ ap (λ (t : List ℕ). was ++ t) (sym (append-nil (opening_text (CrashedIn way) s.me found)));
         fit = tt;
       })
 
@@ -221,7 +221,7 @@ module _ (s : Settings) (old : ClusterNode) (fuse : MemFuse) (own : Own) (closed
 pub down_closed : (s : Settings) (own : Own) (old : ClusterNode) (fuse : MemFuse) → old.slot ≡ Down fuse → NodeFor s old own false → ClosedFor s old fuse own
 down_closed s own old fuse slot stands =
     let d : DownStands fuse own.node = subst (λ (x : Slot). SlotFor s x own) slot stands.slot in
-    record { me_is = stands.me_is; closed = record { disk = d.disk; left = d.left }; needs = ap (λ (b : Bool). b || stopped_of own.node.acts) d.down; published = stands.published; life = stands.life }
+    record { me_is = stands.me_is; closed = record { disk = d.disk; left = d.left }; needs = ap (λ (b : Bool). b || halted_of own.node.acts) d.down; published = stands.published; life = stands.life }
 
 pub open_closed : (s : Settings) (own : Own) (old : ClusterNode) (node : Node) → old.slot ≡ Open node → node.core.keeper.log.stopped ≡ true → NodeFor s old own false → ClosedFor s old node.core.keeper.log.disk own
 open_closed s own old node slot stopped stands =

@@ -3,11 +3,9 @@ use Rattle.std.proofs.Common.{◌≡◌, ℕ, zero, suc, ◌<◌, true, false, S
 use Rattle.std.proofs.lemmas.Option.{slice_get-get_or, slice_get_within}
 use Rattle.std.proofs.lemmas.Bool.{and_parts}
 use Rattle.std.proofs.lemmas.List.{take_more}
-use Rattle.std.specs.Ordering.{is_lt, is_eq}
-use Rattle.std.specs.declared.cmp.Ordering.{Ordering}
-use Rattle.std.specs.declared.cmp.Ordering.TheVariants.{Less, Equal, Greater}
-use Rattle.std.specs.Cmp.Lexicographic.{texts_ties, nat_list_eq_equiv}
+use Rattle.std.specs.Cmp.Lexicographic.{nat_list_eq_equiv}
 use Rattle.voting_config.specs.Ids.{Id, ascends, is_below, before, same}
+use Rattle.voting_config.proofs.Sorted.{before-not_same}
 use Rattle.wire_frames.specs.declared.frame.Frame.{Frame}
 use Rattle.replay_node.specs.Clusters.{Cluster, settings_of}
 use Rattle.policy_model.specs.declared.settings.Settings.{Settings}
@@ -15,14 +13,6 @@ use Rattle.schedule_replay.specs.ClusterStands.{AllFor, GoesOn, NodesDo}
 use Rattle.schedule_replay.specs.OwnStands.{NodeFor, OwnDoes, OwnDone}
 use Rattle.schedule_replay.specs.Own.{Own, own_in}
 use Rattle.schedule_replay.specs.declared.cluster.node.ClusterNode.{ClusterNode}
-
-not_equal : (o : Ordering) → is_lt o ≡ true → is_eq o ≡ false
-not_equal Less h = refl
-not_equal Equal h = cc
-not_equal Greater h = cc
-
-before-other : (x y : Id) → before x y ≡ true → same x y ≡ false
-before-other x y h = texts_ties x y ∙ not_equal _ h
 
 other_flip : (x y : Id) → same x y ≡ false → same y x ≡ false
 other_flip x y h = nat_list_eq_equiv.symm y x ∙ h
@@ -47,7 +37,7 @@ module _ (nodes initial : List Id) (n : Id) (c : Cluster) (own : Own) (later : C
   all_stay (i ∷ is) [] e s = s
   all_stay (i ∷ is) (x ∷ xs) e s =
       let parts = and_parts _ _ e in
-      (subst (λ (o : Own). NodeFor (settings_of nodes initial i) x o false) (sym (goes.others i (before-other n i parts.0))) s.0, all_stay is xs parts.1 s.1)
+      (subst (λ (o : Own). NodeFor (settings_of nodes initial i) x o false) (sym (goes.others i (before-not_same i n parts.0))) s.0, all_stay is xs parts.1 s.1)
 
   -- where the node at a place has moved, all stand
   all_after : (ids : List Id) (old : List ClusterNode) (place : ℕ) (d : ClusterNode) → ascends ids ≡ true → slice_get ids place ≡ Some n → NodeFor (settings_of nodes initial n) d own false → AllFor nodes initial ids old c
@@ -63,7 +53,7 @@ module _ (nodes initial : List Id) (n : Id) (c : Cluster) (own : Own) (later : C
   all_after (i ∷ is) (y ∷ ys) (suc k) d a g moved s =
       let parts = and_parts _ _ a in
       let less = below_at i is k n parts.0 g in
-      (subst (λ (o : Own). NodeFor (settings_of nodes initial i) y o false) (sym (goes.others i (other_flip i n (before-other i n less)))) s.0, all_after is ys k d parts.1 g moved s.1)
+      (subst (λ (o : Own). NodeFor (settings_of nodes initial i) y o false) (sym (goes.others i (other_flip i n (before-not_same n i less)))) s.0, all_after is ys k d parts.1 g moved s.1)
 
 -- the node at a place is the one of the id there
 node_at : (nodes initial ids : List Id) (old : List ClusterNode) (c : Cluster) (n : Id) (place : ℕ) (x : ClusterNode) → slice_get ids place ≡ Some n → slice_get old place ≡ Some x → AllFor nodes initial ids old c → NodeFor (settings_of nodes initial n) x (own_in c n) false

@@ -7,7 +7,7 @@ use Rattle.world_model.specs.declared.acts.Act.TheVariants.{Bootstrap, StartJoin
 use Rattle.world_model.specs.declared.acts.Outcome.{Outcome}
 use Rattle.world_model.specs.declared.acts.Outcome.TheVariants.{Answered, Disk, Crashed}
 use Rattle.world_model.specs.Acts.{NodeHistory, Then}
-use Rattle.replay_node.specs.NodeDisk.{CallsEnd, Done, Failed, StoppedIn}
+use Rattle.replay_node.specs.NodeDisk.{CallsEnd, Done, Failed, CrashedIn}
 use Rattle.replay_node.specs.NodeWorld.{NodeWorld, act_called, after_act, outcome_at}
 use Rattle.trace_text.specs.Published.{published_by}
 use Rattle.policy_model.specs.declared.settings.Settings.{Settings}
@@ -71,7 +71,7 @@ act_front g act o Done y rest is h l e = from (rest y).struck
     from true = h (And l (Acts act o)) (ap (λ (k : NodeHistory). Then k act o) e ∙ sym is)
     from false = h (And l (Acts act o)) (ap (λ (k : NodeHistory). Then k act o) e ∙ sym is)
 act_front g act o Failed y rest is h l e = ap (λ (k : NodeHistory). Then k act o) e ∙ sym is
-act_front g act o (StoppedIn way) y rest is h l e = ap (λ (k : NodeHistory). Then k act o) e ∙ sym is
+act_front g act o (CrashedIn way) y rest is h l e = ap (λ (k : NodeHistory). Then k act o) e ∙ sym is
 
 -- the acts of a life with the event are those that the node did
 pub played_acts : (s : Settings) (v : View) (me : Id) (x : NodeWorld) (is : List Item) → IsAnswered s v is → (l : Log) → acts_of l ≡ x.acts → acts_of (added l (node_played me x is).items) ≡ (node_played me x is).node.acts
@@ -100,7 +100,7 @@ told_in crashed before (step.Act (Commit commit) o) = refl
 told_in crashed before (step.Act (Open found) o) = refl
 told_in crashed before (step.Mode mode term) = refl
 
--- how an act is told that the disk struck does not matter here
+-- how an act that the disk struck is shown does not matter here
 pub told_published : (crashed : Bool) (before : Option ClusterState) (xs : List Step) → published_after before (told_as crashed xs) ≡ published_after before xs
 told_published crashed before [] = refl
 told_published crashed before (x ∷ xs) = ap (λ (p : Option ClusterState). published_after p (told_as crashed xs)) (told_in crashed before x) ∙ told_published crashed (published_in before x) xs

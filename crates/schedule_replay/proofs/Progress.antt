@@ -72,7 +72,7 @@ module _ (ids initial : List Id) (nodes : List ReplayNode) (messages : List Sent
       in
       subst (λ (t : List ℕ). Appended was later t) whole (appended_more was now later m.front bytes m.written h)
 
--- an error tells no more than that a prefix was written
+-- an error says no more than that a prefix was written
 pub front_at_err : {A E : Type 0} (r : Result A E) (was now : Option (List ℕ)) (all : List ℕ) → IsErr r → AppendedFront was now all → WritesTrace was now all r
 front_at_err (Ok x) was now all is f = absurd (cc)
 front_at_err (Err e) was now all is f = f

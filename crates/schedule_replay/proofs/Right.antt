@@ -12,7 +12,7 @@ use Rattle.schedule_text.specs.declared.schedule.Line.TheVariants as line
 use Rattle.schedule_text.specs.declared.schedule.Schedule.{Schedule}
 use Rattle.schedule_text.specs.declared.level.Level.TheVariants.{Core}
 use Rattle.schedule_text.specs.Lines.{FitsLine}
-use Rattle.replay_node.specs.NodeDisk.{CallsEnd, Done, Failed, StoppedIn, opening}
+use Rattle.replay_node.specs.NodeDisk.{CallsEnd, Done, Failed, CrashedIn, opening}
 use Rattle.replay_node.specs.NodeWorld.{act_called, found_at, needs_opening, outcome_at}
 use Rattle.replay_node.specs.Sent.{taking}
 use Rattle.replay_node.specs.Worlds.{World, fresh_world, node_world}
@@ -42,7 +42,7 @@ act_right w n act shut = from (w.down n)
 pub opening_right : (h : History) (n : Id) (end : CallsEnd) (found : Kept) → IsRight h (opening_step end n found)
 opening_right h n Done found = tt
 opening_right h n Failed found = tt
-opening_right h n (StoppedIn way) found = tt
+opening_right h n (CrashedIn way) found = tt
 
 if_right : (h : History) (b : Bool) (x y : Step) → IsRight h x → IsRight h y → IsRight h (if b then x else y)
 if_right h true x y p q = p
@@ -87,7 +87,7 @@ sound_one : (initial : List Id) (h : History) (xs : List Step) → IsOne h xs �
 sound_one initial h _ NoStep l m = tt
 sound_one initial h _ (OneStep x r) l m = (record { right = r; before = l; behind = m }, tt)
 
--- the history is legal behind each prefix of the lines
+-- the history is legal after each prefix of the lines
 abbrev IsLegalAll : List Id → World → List Line → Type 0
 IsLegalAll initial w ls = (front back : List Line) → ls ≡ front ++ back → IsLegal initial (replayed_from initial w front).history
 

@@ -1,15 +1,15 @@
 -- There is room for each vote and for each response.
-use Rattle.std.proofs.Common.{◌≡◌, ◌+◌, ◌≤◌, ◌<◌, Bool, true, false, cond, ◌||◌, ◌⊎◌, inl, inr, List, [], ◌∷◌, length, refl, sym, ap, subst, arith}
+use Rattle.std.proofs.Common.{◌≡◌, ◌≤◌, ◌<◌, Bool, true, false, cond, ◌||◌, ◌⊎◌, inl, inr, List, [], ◌∷◌, length, refl, sym, ap, subst, arith}
 use Rattle.std.proofs.lemmas.Bool.{and_parts, and_from}
 use Rattle.std.specs.List.{list_all}
 use Rattle.std.specs.Cmp.Lexicographic.{same_text}
 use Rattle.voting_config.specs.Ids.{Id, ascends, is_below, before, same, has, put, with_id, most_ids}
-use Rattle.voting_config.proofs.Sorted.{ascends-with_id, ascends-put, is_below-before}
+use Rattle.voting_config.proofs.Sorted.{length-put, ascends-with_id, ascends-put, is_below-before, before-not_same}
 use Rattle.world_model.specs.declared.acts.Act.TheVariants.{Bootstrap, StartJoin, TakeJoin, Value, Publish, Response, Commit, Open}
 use Rattle.world_model.specs.Acts.{NodeHistory, NoActs, Then, is_ok}
 use Rattle.world_model.specs.declared.acts.Message.{Message}
 use Rattle.world_model.specs.declared.acts.Message.TheVariants.{Join as JoinMessage, Publish as PublishMessage, Response as ResponseMessage, Commit as CommitMessage}
-use Rattle.world_model.specs.NodeState.{NodeState, votes_of, acks_of}
+use Rattle.world_model.specs.NodeState.{NodeState, join_votes_of, publish_votes_of}
 use Rattle.replay_node.specs.NodeWorld.{NodeWorld}
 use Rattle.replay_node.specs.Sent.{source_of}
 use Rattle.replay_node.specs.Stands.{NodeStands, SlotStands, HasRoom, HasRoomAt}
@@ -17,7 +17,6 @@ use Rattle.replay_node.specs.Takes.{TakesFrom}
 use Rattle.replay_node.specs.declared.node.ReplayNode.{ReplayNode}
 use Rattle.replay_node.specs.declared.node.Slot.{Slot}
 use Rattle.replay_node.specs.declared.node.Slot.TheVariants.{Open as OpenSlot, Down}
-use Rattle.schedule_replay.proofs.Movement.{before-other}
 
 abbrev subset : List Id → List Id → Bool
 subset xs ys = list_all (λ x. has x ys) xs
@@ -36,7 +35,7 @@ drop_head y [] ys b s = refl
 drop_head y (z ∷ zs) ys b s =
     let below = and_parts (before y z) (is_below y zs) b in
     let inside = and_parts (has z (y ∷ ys)) (subset zs (y ∷ ys)) s in
-    let apart : same y z ≡ false = before-other y z below.0 in
+    let apart : same y z ≡ false = before-not_same z y below.0 in
     let rest : has z ys ≡ true = subst (λ (t : Bool). (t || has z ys) ≡ true) apart inside.0 in
     and_from (has z ys) (subset zs ys) rest (drop_head y zs ys below.1 inside.1)
 
@@ -57,11 +56,6 @@ length-subset (x ∷ xs) (y ∷ ys) a b s =
           let rest = length-subset (x ∷ xs) ys a vp.1 (and_from _ _ k (drop_head y xs ys (is_below-before y x xs less up.0) inside.1)) in
           omega arith
     ] refl inside.0
-
-length-put : (x : Id) (ys : List Id) → length (put x ys) ≡ length ys + 1
-length-put x [] = refl
-length-put x (y ∷ ys) =
-    elim (before y x) as (λ b. length (cond b (y ∷ put x ys) (x ∷ y ∷ ys)) ≡ length (y ∷ ys) + 1) [ true ↦ omega (arith, length-put x ys) | false ↦ omega arith ]
 
 subset-put : (x : Id) (ys ids : List Id) → has x ids ≡ true → subset ys ids ≡ true → subset (put x ys) ids ≡ true
 subset-put x [] ids h s = and_from _ _ h refl
@@ -90,10 +84,10 @@ emptied : (ids votes : List Id) (b : Bool) → IsSound ids votes → IsSound ids
 emptied ids votes true sound = none_sound ids
 emptied ids votes false sound = sound
 
-votes_sound : (ids : List Id) (g : NodeHistory) → TakesFrom ids g → IsSound ids (votes_of g)
+votes_sound : (ids : List Id) (g : NodeHistory) → TakesFrom ids g → IsSound ids (join_votes_of g)
 votes_sound ids NoActs l = none_sound ids
-votes_sound ids (Then g (StartJoin candidate term) o) l = emptied ids (votes_of g) (is_ok o) (votes_sound ids g l)
-votes_sound ids (Then g (TakeJoin j) o) l = counted ids (votes_of g) j.source (is_ok o) l.1 (votes_sound ids g l.0)
+votes_sound ids (Then g (StartJoin candidate term) o) l = emptied ids (join_votes_of g) (is_ok o) (votes_sound ids g l)
+votes_sound ids (Then g (TakeJoin j) o) l = counted ids (join_votes_of g) j.source (is_ok o) l.1 (votes_sound ids g l.0)
 votes_sound ids (Then g (Open found) o) l = none_sound ids
 votes_sound ids (Then g (Bootstrap config) o) l = votes_sound ids g l
 votes_sound ids (Then g (Value version config value) o) l = votes_sound ids g l
@@ -101,15 +95,15 @@ votes_sound ids (Then g (Publish request) o) l = votes_sound ids g l
 votes_sound ids (Then g (Response response) o) l = votes_sound ids g l.0
 votes_sound ids (Then g (Commit commit) o) l = votes_sound ids g l
 
-acks_sound : (ids : List Id) (g : NodeHistory) → TakesFrom ids g → IsSound ids (acks_of g)
+acks_sound : (ids : List Id) (g : NodeHistory) → TakesFrom ids g → IsSound ids (publish_votes_of g)
 acks_sound ids NoActs l = none_sound ids
-acks_sound ids (Then g (StartJoin candidate term) o) l = emptied ids (acks_of g) (is_ok o) (acks_sound ids g l)
+acks_sound ids (Then g (StartJoin candidate term) o) l = emptied ids (publish_votes_of g) (is_ok o) (acks_sound ids g l)
 acks_sound ids (Then g (TakeJoin j) o) l = acks_sound ids g l.0
 acks_sound ids (Then g (Open found) o) l = none_sound ids
 acks_sound ids (Then g (Bootstrap config) o) l = acks_sound ids g l
-acks_sound ids (Then g (Value version config value) o) l = emptied ids (acks_of g) (is_ok o) (acks_sound ids g l)
+acks_sound ids (Then g (Value version config value) o) l = emptied ids (publish_votes_of g) (is_ok o) (acks_sound ids g l)
 acks_sound ids (Then g (Publish request) o) l = acks_sound ids g l
-acks_sound ids (Then g (Response response) o) l = counted ids (acks_of g) response.source (is_ok o) l.1 (acks_sound ids g l.0)
+acks_sound ids (Then g (Response response) o) l = counted ids (publish_votes_of g) response.source (is_ok o) l.1 (acks_sound ids g l.0)
 acks_sound ids (Then g (Commit commit) o) l = acks_sound ids g l
 
 -- a node of these is counted already, or there is room for it
@@ -124,11 +118,11 @@ room_in ids votes x sound h few a =
 
 room_in_slot : (ids : List Id) (me : Id) (slot : Slot) (w : NodeWorld) (m : Message) → SlotStands me slot w → TakesFrom ids w.acts → has (source_of m) ids ≡ true → length ids ≤ most_ids → ascends ids ≡ true → HasRoomAt slot m
 room_in_slot ids me (OpenSlot state) w (JoinMessage j) s l h few a =
-    let votes : state.votes ≡ votes_of w.acts = ap (λ (p : NodeState). p.votes) s.acts in
-    rw votes (room_in ids (votes_of w.acts) j.source (votes_sound ids w.acts l) h few a)
+    let votes : state.join_votes ≡ join_votes_of w.acts = ap (λ (p : NodeState). p.join_votes) s.acts in
+    rw votes (room_in ids (join_votes_of w.acts) j.source (votes_sound ids w.acts l) h few a)
 room_in_slot ids me (OpenSlot state) w (ResponseMessage r) s l h few a =
-    let acks : state.acks ≡ acks_of w.acts = ap (λ (p : NodeState). p.acks) s.acts in
-    rw acks (room_in ids (acks_of w.acts) r.source (acks_sound ids w.acts l) h few a)
+    let acks : state.publish_votes ≡ publish_votes_of w.acts = ap (λ (p : NodeState). p.publish_votes) s.acts in
+    rw acks (room_in ids (publish_votes_of w.acts) r.source (acks_sound ids w.acts l) h few a)
 room_in_slot ids me (OpenSlot state) w (PublishMessage r) s l h few a = tt
 room_in_slot ids me (OpenSlot state) w (CommitMessage c) s l h few a = tt
 room_in_slot ids me (Down fuse) w m s l h few a = tt

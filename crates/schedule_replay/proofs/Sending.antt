@@ -13,7 +13,7 @@ use Rattle.schedule_text.specs.declared.schedule.Line.{Line}
 use Rattle.schedule_text.specs.declared.schedule.Line.TheVariants as line
 use Rattle.schedule_generator.proofs.Spelling.{all_spelled}
 use Rattle.schedule_generator.specs.Generated.{generated_from}
-use Rattle.replay_node.specs.NodeDisk.{CallsEnd, Done, Failed, StoppedIn, opening}
+use Rattle.replay_node.specs.NodeDisk.{CallsEnd, Done, Failed, CrashedIn, opening}
 use Rattle.replay_node.specs.NodeWorld.{found_at, needs_opening, outcome_at}
 use Rattle.replay_node.specs.Settled.{is_kept, settled_for}
 use Rattle.replay_node.specs.Sent.{taking}
@@ -51,7 +51,7 @@ opening_sends Done h n found =
     let same = ap (λ (ms : List Message). length ms) (settled_sent n (is_kept (node_history h n) found) h) in
     omega (arith, same, length-append (sent (settled_for n (is_kept (node_history h n) found) h)) [])
 opening_sends Failed h n found = omega arith
-opening_sends (StoppedIn way) h n found = omega arith
+opening_sends (CrashedIn way) h n found = omega arith
 
 pub line_sends : (initial : List Id) (w : World) (l : Line) → count_in (after initial w l) ≤ count_in w + 1
 line_sends initial w (line.Boot n) = act_sends w n (Bootstrap initial)

@@ -1,5 +1,5 @@
 -- What a legal history lists by the acts that were taken stays the same when an act that was struck is found to be kept or not: its node took
--- nothing behind it.
+-- nothing after it.
 use Rattle.std.proofs.Common.{◌≡◌, Bool, true, false, cond, Some, List, [], ◌∷◌, ◌++◌, refl, sym, ◌∙◌, ap, subst, append-nil, ◌⊎◌, inl, inr, if◌then◌else◌}
 use Rattle.std.proofs.lemmas.Bool.{both_ways}
 use Rattle.voting_config.specs.Ids.{Id, same}
@@ -10,16 +10,15 @@ use Rattle.world_model.specs.declared.acts.Reply.TheVariants.{Taken, Refused, St
 use Rattle.world_model.specs.declared.acts.Outcome.{Outcome}
 use Rattle.world_model.specs.declared.acts.Outcome.TheVariants.{Answered, Disk, Crashed}
 use Rattle.world_model.specs.Acts.{NodeHistory, is_ok, wins}
-use Rattle.world_model.specs.NodeState.{term_of, accepted_of, stopped_of}
+use Rattle.world_model.specs.NodeState.{term_of, accepted_of, halted_of}
 use Rattle.world_model.specs.Histories.{History, NoEntries, Next, node_history, is_opening, is_down, MayFollow, IsLocal, IsLegal}
 use Rattle.world_model.specs.Safety.{Win, winners, Published, published, published_by}
 use Rattle.world_model.proofs.Assemble.{legal_is}
-use Rattle.world_model.proofs.Guards.{same_is}
-use Rattle.world_model.proofs.Legal.{same_self}
+use Rattle.voting_config.proofs.Sets.{same_is, same_self}
 use Rattle.replay_node.specs.Settled.{settled_entry, settled_for, IsUnstruck}
 use Rattle.replay_node.proofs.AllSettled.{settled_own, settled_other}
 use Rattle.replay_node.proofs.Settling.{unstruck}
-use Rattle.replay_node.proofs.SettledLocal.{still, stopped_reply}
+use Rattle.replay_node.proofs.SettledLocal.{still, halted_reply}
 
 differs : (x y : Id) → same x y ≡ false → same y x ≡ false
 differs x y e = from (same y x) refl
@@ -37,9 +36,9 @@ not_taken Stopped e k = cc
 taken_unstruck : (me : Id) (g : NodeHistory) (act : Act) (reply : Reply) → IsLocal me g → MayFollow me g act (Answered reply) → is_opening act ≡ false → is_ok (Answered reply) ≡ true → IsUnstruck g
 taken_unstruck me g act reply l f shut k = from (still me g l)
   where
-    from : IsUnstruck g ⊎ ((stopped_of g ≡ true) ⊎ (is_down g ≡ true)) → IsUnstruck g
+    from : IsUnstruck g ⊎ ((halted_of g ≡ true) ⊎ (is_down g ≡ true)) → IsUnstruck g
     from (inl u) = u
-    from (inr (inl e)) = not_taken reply (f.follows ∙ stopped_reply me g act shut e) k
+    from (inr (inl e)) = not_taken reply (f.follows ∙ halted_reply me g act shut e) k
     from (inr (inr e)) = absurd (both_ways _ shut (f.up e))
 
 -- the acts that are taken add to the list

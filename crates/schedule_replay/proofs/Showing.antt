@@ -1,4 +1,4 @@
--- Steps that are right behind legal histories show the wins and the commits of the history that they tell. Nothing here is of a schedule.
+-- Steps that are right after legal histories show the wins and the commits of the history that they tell. Nothing here is of a schedule.
 use Rattle.std.proofs.Common.{◌≡◌, List, sym, ◌∙◌, ap, subst, ◌⊎◌, inl, inr}
 use Rattle.std.specs.Prelude.{Contains}
 use Rattle.voting_config.specs.Ids.{Id}

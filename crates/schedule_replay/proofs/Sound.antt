@@ -1,4 +1,4 @@
--- Steps that are right, and tell a history that is legal, were told behind legal histories all along: what an opening settles does not make a
+-- Steps that are right, and tell a history that is legal, were told after legal histories all along: what an opening settles does not make a
 -- history legal that was none before.
 use Rattle.std.proofs.Common.{List, [], ◌∷◌}
 use Rattle.voting_config.specs.Ids.{Id}

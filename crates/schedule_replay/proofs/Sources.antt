@@ -15,7 +15,7 @@ use Rattle.world_model.specs.Acts.{NodeHistory, NoActs, Then}
 use Rattle.world_model.specs.Replies.{reply_of}
 use Rattle.world_model.proofs.System.{Origin, origin}
 use Rattle.world_model.specs.Histories.{History, Next, node_history, sent_by}
-use Rattle.replay_node.specs.NodeDisk.{CallsEnd, Done, Failed, StoppedIn}
+use Rattle.replay_node.specs.NodeDisk.{CallsEnd, Done, Failed, CrashedIn}
 use Rattle.replay_node.specs.NodeWorld.{NodeWorld, act_called, outcome_at, outcome_by}
 use Rattle.replay_node.specs.Sent.{source_of, are_from}
 use Rattle.replay_node.specs.Takes.{TakesFrom}
@@ -40,7 +40,7 @@ reply_from ids me g act listed = from (reply_of me g act) refl
 outcome_from : (ids : List Id) (end : CallsEnd) (reply : Reply) → are_from ids (sent_by (Answered reply)) ≡ true → are_from ids (sent_by (outcome_by end reply)) ≡ true
 outcome_from ids Done reply f = f
 outcome_from ids Failed reply f = refl
-outcome_from ids (StoppedIn way) reply f = refl
+outcome_from ids (CrashedIn way) reply f = refl
 
 pub more_from : (ids : List Id) (me : Id) (messages : List Message) (w : NodeWorld) (act : Act) → has me ids ≡ true → are_from ids messages ≡ true → are_from ids (messages ++ sent_by (outcome_at me w act)) ≡ true
 more_from ids me messages w act listed f =

@@ -18,7 +18,7 @@ use Rattle.schedule_replay.specs.Tallied.{Tallied, ClusterTallied}
 use Rattle.schedule_replay.specs.declared.cluster.node.ClusterNode.{ClusterNode}
 use Rattle.schedule_replay.proofs.Ending.{trace_ends, cluster_trace_ends}
 
--- a piece was added behind whole lines
+-- a piece was added after whole lines
 abbrev pub Adds : {T : Type 0} → (saw : T → List ℕ → Type 0) → T → T → List ℕ → Type 0
 Adds saw old new piece = (text : List ℕ) → EndsLine text → saw old text → saw new (text ++ piece)
 
@@ -59,7 +59,7 @@ same_header saw ids initial new_ids new_initial nodes messages tally done e f m 
     subst (λ (x : List Id). Tallied saw x new_initial nodes messages tally done) (sym e)
     (subst (λ (x : List Id). Tallied saw ids x nodes messages tally done) (sym f) m)
 
--- behind all lines the tally is that of the whole trace
+-- after all lines the tally is that of the whole trace
 pub whole_tallied : {T : Type 0} (saw : T → List ℕ → Type 0) (ids initial header : List Id) (nodes : List ReplayNode) (messages : List SentMessage) (tally : T) (lines all : List Line) (i : ℕ) → initial ≡ header → lines ≡ all → length lines ≤ i
     → Tallied saw ids initial nodes messages tally (take i lines) → saw tally (trace_from header fresh_world all)
 whole_tallied saw ids initial header nodes messages tally lines all i e f past m =

@@ -11,7 +11,7 @@ use Rattle.world_model.specs.Histories.{History, Next, node_history, sent, is_op
 use Rattle.schedule_text.specs.declared.schedule.Line.{Line}
 use Rattle.schedule_text.specs.declared.schedule.Line.TheVariants as line
 use Rattle.trace_text.specs.Trace.{down_line, up_line, results}
-use Rattle.replay_node.specs.NodeDisk.{CallsEnd, Done, Failed, StoppedIn, opening}
+use Rattle.replay_node.specs.NodeDisk.{CallsEnd, Done, Failed, CrashedIn, opening}
 use Rattle.replay_node.specs.NodeWorld.{act_called, found_at, needs_opening, opening_text, outcome_at}
 use Rattle.trace_text.specs.Published.{last_published}
 use Rattle.replay_node.specs.Sent.{taking}
@@ -48,7 +48,7 @@ taken_told w n (Some m) = act_told w n (taking m) (taking_shut m)
 pub opening_told : (h : History) (n : Id) (end : CallsEnd) (found : Kept) → told_by h (opening_step end n found) ≡ history_opened end h n found
 opening_told h n Done found = refl
 opening_told h n Failed found = refl
-opening_told h n (StoppedIn way) found = refl
+opening_told h n (CrashedIn way) found = refl
 
 restart_told : (initial : List Id) (w : World) (n : Id) → told_from w.history (line_steps initial w (line.Restart n)) ≡ (after initial w (line.Restart n)).history
 restart_told initial w n = from (needs_opening (node_world w n))
@@ -109,7 +109,7 @@ taken_text w n (Some m) = act_text_is w n (taking m) (taking_shut m)
 opening_text_is : (n : Id) (end : CallsEnd) (found : Kept) → opening_text end n found ≡ step_text (opening_step end n found)
 opening_text_is n Done found = refl
 opening_text_is n Failed found = refl
-opening_text_is n (StoppedIn way) found = refl
+opening_text_is n (CrashedIn way) found = refl
 
 restart_text_is : (initial : List Id) (w : World) (n : Id) → line_results initial w (line.Restart n) ≡ text_of (line_steps initial w (line.Restart n))
 restart_text_is initial w n = from (needs_opening (node_world w n)) ∙ sym (one_text _)
@@ -148,7 +148,7 @@ if_no_line false x y p q = append-nil (line_in y) ∙ q
 pub opening_no_line : (end : CallsEnd) (n : Id) (found : Kept) → line_in (opening_step end n found) ≡ []
 opening_no_line Done n found = refl
 opening_no_line Failed n found = refl
-opening_no_line (StoppedIn way) n found = refl
+opening_no_line (CrashedIn way) n found = refl
 
 delivery_no_line : (w : World) (n : Id) (m : Option Message) → lines_of (delivery_steps w n m) ≡ []
 delivery_no_line w n None = if_no_line (w.down n) _ _ refl refl

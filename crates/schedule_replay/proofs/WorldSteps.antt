@@ -13,7 +13,7 @@ use Rattle.world_model.specs.declared.acts.Outcome.TheVariants.{Answered}
 use Rattle.world_model.specs.Acts.{NodeHistory, NoActs, Then}
 use Rattle.world_model.specs.Histories.{History, node_history, sent, sent_by}
 use Rattle.replay_node.specs.Did.{outcome_of}
-use Rattle.replay_node.specs.NodeDisk.{CallsEnd, Done, Failed, StoppedIn, opening}
+use Rattle.replay_node.specs.NodeDisk.{CallsEnd, Done, Failed, CrashedIn, opening}
 use Rattle.replay_node.specs.NodeWorld.{found_at, needs_opening, outcome_at}
 use Rattle.replay_node.specs.Sent.{message_of, are_from, sent_some}
 use Rattle.replay_node.specs.Settled.{is_kept, settled, settled_for}
@@ -26,7 +26,7 @@ use Rattle.schedule_replay.specs.WorldStands.{ActDone, AllStand, Stands}
 use Rattle.replay_node.proofs.AllSettled.{settled_own, settled_other, settled_sent}
 use Rattle.replay_node.proofs.Settling.{settled_takes}
 use Rattle.schedule_replay.proofs.Sources.{more_from, takes_next}
-use Rattle.world_model.proofs.Guards.{same_is}
+use Rattle.voting_config.proofs.Sets.{same_is}
 
 pub acted : (ids : List Id) (old new : List ReplayNode) (messages more : List SentMessage) (w : World) (n : Id) (act : Act) (d : Did) → Stands ids old messages w → ActDone ids new w n act d
     → map message_of more ≡ map message_of messages ++ sent_some (outcome_of d) → has n ids ≡ true → TakesFrom ids (Then NoActs act (Answered Stopped))
@@ -95,7 +95,7 @@ record StandsSent (ids : List Id) (messages : List SentMessage) (h : History) : 
 
 sent_opened : (ids : List Id) (messages : List SentMessage) (h : History) (n : Id) (found : Kept) (end : CallsEnd) → StandsSent ids messages h → StandsSent ids messages (history_opened end h n found)
 sent_opened ids messages h n found Failed s = s
-sent_opened ids messages h n found (StoppedIn way) s = s
+sent_opened ids messages h n found (CrashedIn way) s = s
 sent_opened ids messages h n found Done s =
     let k : Bool = is_kept (node_history h n) found in
     let same_sent : sent h ≡ sent (settled_for n k h) ++ [] = sym (append-nil (sent (settled_for n k h)) ∙ settled_sent n k h) in

@@ -1,4 +1,5 @@
--- The step of an act, from its outcome. Not part of the statement: TraceLaws says of the steps what they show, by Told and Showing.
+-- Part of the statement: the step of an act, from its outcome. It need not be read: TraceLaws says of the steps what they show, by Told and
+-- Showing.
 use Rattle.std.specs.Prelude.{ℕ, ◌+◌, cond, Option, None, Some}
 use Rattle.voting_config.specs.Ids.{Id}
 use Rattle.cluster_state.specs.declared.state.ClusterState.{ClusterState}

@@ -1,4 +1,4 @@
--- What the trace of a schedule of whole nodes tells of its history, as statements. Part of the statement.
+-- Part of the statement: what the trace of a schedule of whole nodes tells of its history, as statements.
 use Rattle.std.specs.Prelude.{◌≡◌, List, ◌++◌}
 use Rattle.voting_config.specs.Ids.{Id}
 use Rattle.world_model.specs.Histories.{IsLegal, sent}

@@ -1,4 +1,4 @@
--- Where a replay of whole nodes stands between two lines. Not part of the statement.
+-- For the contracts inside: where a replay of whole nodes stands between two lines.
 use Rattle.std.specs.Prelude.{◌≡◌, ℕ, Option, List, ◌++◌}
 use Rattle.voting_config.specs.Ids.{Id}
 use Rattle.wire_frames.specs.declared.frame.Frame.{Frame}

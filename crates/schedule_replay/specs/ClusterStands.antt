@@ -1,4 +1,4 @@
--- When the nodes of a replay stand for a cluster, and what a line makes of them. Not part of the statement.
+-- For the contracts inside: when the nodes of a replay stand for a cluster, and what a line makes of them.
 use Rattle.std.specs.Prelude.{◌≡◌, false, true, ℕ, List, [], ◌∷◌, ◌++◌, length}
 use Rattle.std.specs.List.{AllByRecursion}
 use Rattle.voting_config.specs.Ids.{Id, ascends, same}
@@ -44,7 +44,7 @@ pub record ClusterFor (nodes initial : List Id) (all : List ClusterNode) (frames
   pub fit : AllByRecursion IsFitFrame frames
   pub ascending : ascends nodes ≡ true
 
--- a line, or what of it stands behind its echo
+-- a line, or what of it stands after its echo
 pub record LineDone (nodes initial : List Id) (new : List ClusterNode) (frames : List Frame) (after_it : Cluster) (results was now : List ℕ) : Type 0 where
   pub stands : ClusterFor nodes initial new frames after_it
   pub written : now ≡ was ++ results

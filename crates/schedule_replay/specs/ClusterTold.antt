@@ -1,4 +1,4 @@
--- What the steps of a trace of whole nodes tell. Part of the statement. Its steps of level core tell the lines, the history, the wins and the
+-- Part of the statement: what the steps of a trace of whole nodes tell. Its steps of level core tell the lines, the history, the wins and the
 -- committed states, as Told and Showing say of them; and its other steps the frames and the replies.
 use Rattle.std.specs.Prelude.{ℕ, ◌+◌, List, [], ◌∷◌, ◌++◌, if◌then◌else◌}
 use Rattle.std.specs.List.{flat_map}

@@ -1,4 +1,4 @@
--- The trace of a schedule of whole nodes. Part of the statement.
+-- Part of the statement: the trace of a schedule of whole nodes.
 use Rattle.std.specs.Prelude.{ℕ, Option, None, Some, List, [], ◌∷◌, ◌++◌, length, codes, if◌then◌else◌}
 use Rattle.voting_config.specs.Ids.{Id, same}
 use Rattle.wire_frames.specs.declared.frame.Frame.{Frame}
@@ -10,7 +10,7 @@ use Rattle.schedule_text.specs.declared.schedule.Schedule.{Schedule}
 use Rattle.trace_text.specs.Published.{last_published}
 use Rattle.trace_text.specs.Trace.{down_line}
 use Rattle.replay_node.specs.Clusters.{Cluster, after, event_course, frame_at, fresh_cluster, own_world, settings_of, with_opened}
-use Rattle.replay_node.specs.NodeDisk.{CallsEnd, Done, Failed, StoppedIn, opening}
+use Rattle.replay_node.specs.NodeDisk.{CallsEnd, Done, Failed, CrashedIn, opening}
 use Rattle.replay_node.specs.NodeLines.{restart_text, stop_text}
 use Rattle.replay_node.specs.NodeWorld.{needs_opening}
 use Rattle.replay_node.specs.Worlds.{node_world}
@@ -29,7 +29,7 @@ module _ (s : Settings) where
   abbrev pub event_shown : Cluster → Event → List ℕ
   event_shown c event = items_text (length c.frames) s.me (own_world s c).acts (event_course s c event).items
 
-  -- a node that is down or stopped takes nothing
+  -- a node that is down or halted takes nothing
   abbrev pub event_shown_if_up : Cluster → Event → List ℕ
   event_shown_if_up c event = if needs_opening (own_world s c) then down_line s.me else event_shown c event
 
@@ -40,11 +40,11 @@ module _ (s : Settings) where
       if needs_opening (own_world s c) then down_line s.me
       else (if same frame.to s.me then event_shown c (FrameCame frame) else codes "misrouted\n")
 
-  -- what the first event writes behind an opening that ended so
+  -- what the first event writes after an opening that ended so
   abbrev pub start_shown : CallsEnd → Cluster → List ℕ
   start_shown Done c = event_shown (with_opened s c) Start
   start_shown Failed c = []
-  start_shown (StoppedIn way) c = []
+  start_shown (CrashedIn way) c = []
 
   abbrev pub restart_shown : Cluster → List ℕ
   restart_shown c =
@@ -52,7 +52,7 @@ module _ (s : Settings) where
       ++ (if needs_opening (own_world s c) then start_shown (opening (own_world s c).disk).ended c else [])
 
 module _ (nodes initial : List Id) where
-  -- what a line writes behind its echo; a line of level core, which no schedule of level node has, writes nothing
+  -- what a line writes after its echo; a line of level core, which no schedule of level node has, writes nothing
   abbrev pub line_shown : Cluster → Line → List ℕ
   line_shown c (line.Tick n now word) = event_shown_if_up (settings_of nodes initial n) c (Tick now word)
   line_shown c (line.Client n bytes) = event_shown_if_up (settings_of nodes initial n) c (LineCame 0 bytes)

@@ -1,4 +1,4 @@
--- The steps of the trace of a schedule of whole nodes. Not part of the statement but for the name `cluster_steps`: ClusterLaws says what they are.
+-- Part of the statement: the steps of the trace of a schedule of whole nodes. They need not be read: ClusterLaws says what `cluster_steps` are.
 use Rattle.std.specs.Prelude.{ℕ, Option, None, Some, List, [], ◌∷◌, ◌++◌, length, map, if◌then◌else◌}
 use Rattle.voting_config.specs.Ids.{Id, same}
 use Rattle.wire_frames.specs.declared.frame.Frame.{Frame}
@@ -14,7 +14,7 @@ use Rattle.policy_model.specs.declared.events.Step.{Step}
 use Rattle.policy_model.specs.declared.events.Step.TheVariants as step
 use Rattle.policy_model.specs.Events.{Item}
 use Rattle.policy_model.specs.Entries.{steps_of, drops_of, frames_of, replies_of}
-use Rattle.replay_node.specs.NodeDisk.{CallsEnd, Done, Failed, StoppedIn, opening}
+use Rattle.replay_node.specs.NodeDisk.{CallsEnd, Done, Failed, CrashedIn, opening}
 use Rattle.replay_node.specs.NodeWorld.{needs_opening}
 use Rattle.replay_node.specs.Clusters.{Cluster, after, event_course, frame_at, fresh_cluster, own_world, settings_of, with_opened}
 use Rattle.schedule_replay.specs.Steps.{Echo, Did, WasDown, WentDown, Unsent}
@@ -55,7 +55,7 @@ module _ (s : Settings) where
   abbrev pub start_steps : CallsEnd → Cluster → List ClusterStep
   start_steps Done c = event_steps (with_opened s c) Start
   start_steps Failed c = []
-  start_steps (StoppedIn way) c = []
+  start_steps (CrashedIn way) c = []
 
   abbrev pub restart_steps : Cluster → List ClusterStep
   restart_steps c =

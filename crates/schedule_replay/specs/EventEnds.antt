@@ -1,4 +1,4 @@
--- How an event of a node ends: what the node stands for then, and what it has to show.
+-- For the contracts inside: how an event of a node ends: what the node stands for then, and what it has to show.
 use Rattle.std.specs.Prelude.{◌≡◌, Bool, true, false, []}
 use Rattle.std.specs.List.{AllByRecursion}
 use Rattle.wire_frames.specs.Frames.{IsFitFrame}

@@ -1,4 +1,4 @@
--- The schedules of a number. Part of the statement.
+-- Part of the statement: the schedules of a number.
 use Rattle.std.specs.Prelude.{ℕ, ◌≤◌, List, length}
 use Rattle.schedule_text.specs.Spelled.{Spells, schedule_text}
 use Rattle.schedule_text.specs.declared.level.Level.TheVariants.{Core}

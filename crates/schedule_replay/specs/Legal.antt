@@ -1,4 +1,4 @@
--- The history of a schedule is legal, as a statement. Not part of the statement of `run`, which says it of its schedule.
+-- For the contracts inside: that the history of a schedule is legal. The contract of `run` says it of its schedule.
 use Rattle.std.specs.Prelude.{◌≡◌, []}
 use Rattle.std.specs.List.{AllByRecursion}
 use Rattle.voting_config.specs.Ids.{IsIdSet}
@@ -15,6 +15,6 @@ pub record IsWellFormed (s : Schedule) : Type 0 where
   pub fit : AllByRecursion (FitsLine Core s.nodes) s.lines
   pub named : s.initial ≡ [] → s.lines ≡ []
 
--- whatever the lines stop, fail and restart, and wherever in a device call
+-- whatever the lines crash, fail and restart, and wherever in a device call
 abbrev pub LawReplayIsLegal : Type 0
 LawReplayIsLegal = (s : Schedule) → IsWellFormed s → IsLegal s.initial (replayed s)

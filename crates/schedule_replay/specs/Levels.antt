@@ -1,4 +1,4 @@
--- The trace of a schedule, by its level. Part of the statement.
+-- Part of the statement: the trace of a schedule, by its level.
 use Rattle.std.specs.Prelude.{ℕ, List}
 use Rattle.schedule_text.specs.declared.level.Level.{Level}
 use Rattle.schedule_text.specs.declared.level.Level.TheVariants.{Core, Node}

@@ -1,12 +1,12 @@
--- What stands behind the echo of each line. The statement of `law_trace_follows`, and no part of that of `run`. It is told by the history and by
--- which nodes are down, and these by the steps before. Only how an act or an opening ended is left open here: that is the disk's.
+-- For the contracts inside: what stands after the echo of each line. It is the statement of `law_trace_follows`. The history and which nodes are
+-- down give it, and these come from the steps before. Only how an act or an opening ended is left open here: that is the disk's.
 use Rattle.std.specs.Prelude.{◌≡◌, ◌-◌, Bool, true, false, cond, ◌||◌, ◌⊎◌, Option, None, Some, List, [], ◌∷◌, ◌++◌, slice_get, if◌then◌else◌}
 use Rattle.voting_config.specs.Ids.{Id, same}
 use Rattle.cluster_state.specs.declared.state.Kept.{Kept}
 use Rattle.world_model.specs.declared.acts.Act.{Act}
 use Rattle.world_model.specs.declared.acts.Act.TheVariants.{Bootstrap, StartJoin, Value}
 use Rattle.world_model.specs.declared.acts.Message.{Message}
-use Rattle.world_model.specs.NodeState.{stopped_of}
+use Rattle.world_model.specs.NodeState.{halted_of}
 use Rattle.world_model.specs.Histories.{History, node_history, sent}
 use Rattle.schedule_text.specs.declared.schedule.Line.{Line}
 use Rattle.schedule_text.specs.declared.schedule.Line.TheVariants as line
@@ -23,7 +23,7 @@ abbrev pub is_crash : Ending → Bool
 is_crash ending.Crashed = true
 is_crash other = false
 
--- a node goes down as it stops, in an act, between two acts or in an opening, and by an opening that fails; it comes up by one that succeeds
+-- a node goes down as it crashes, in an act, between two acts or in an opening, and by an opening that fails; it comes up by one that succeeds
 abbrev pub down_by : (Id → Bool) → Step → Id → Bool
 down_by down (Did x) n = cond (same x.node n) (is_crash x.ending) (down n)
 down_by down (Opened node found) n = cond (same node n) false (down n)
@@ -61,13 +61,13 @@ ShowsLine initial h down (line.StartJoin n candidate term) xs = ShowsAct (down n
 ShowsLine initial h down (line.Value n version text config) xs = ShowsAct (down n) n (Value version config (value_with text)) xs
 ShowsLine initial h down (line.Deliver n number) xs = ShowsDelivery (down n) n (slice_get (sent h) (number - 1)) xs
 ShowsLine initial h down (line.Crash n way) xs = xs ≡ (if down n then WasDown n else WentDown n) ∷ []
-ShowsLine initial h down (line.Restart n) xs = ShowsRestart (down n || stopped_of (node_history h n)) n xs
+ShowsLine initial h down (line.Restart n) xs = ShowsRestart (down n || halted_of (node_history h n)) n xs
 ShowsLine initial h down (line.Fuse n count way) xs = xs ≡ []
 ShowsLine initial h down (line.Fail n count) xs = xs ≡ []
 ShowsLine initial h down (line.Tick n now word) xs = xs ≡ []
 ShowsLine initial h down (line.Client n bytes) xs = xs ≡ []
 
--- the steps are the echo of the first line and what stands behind it, and then those of the lines that are left
+-- the steps are the echo of the first line and what stands after it, and then those of the lines that are left
 pub record Begins (ShowsFirst : List Step → Type 0) (ShowsRest : (first rest : List Step) → Type 0) (l : Line) (xs : List Step) : Type 0 where
   pub first : List Step
   pub rest : List Step

@@ -1,4 +1,4 @@
--- When a node stands for its life, for what it did and for its disk.
+-- For the contracts inside: when a node stands for its life, for what it did and for its disk.
 use Rattle.std.specs.Prelude.{◌≡◌, false}
 use Rattle.zen_disk.specs.contracts.fuse.Fuse as FuseRow
 use Rattle.zen_disk.specs.contracts.fuse.FuseDisks.TheImpl as FuseDisks

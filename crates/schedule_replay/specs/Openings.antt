@@ -1,4 +1,4 @@
--- What an opening of a node's journal makes of the node.
+-- For the contracts inside: what an opening of a node's journal makes of the node.
 use Rattle.std.specs.Prelude.{◌≡◌, false, true, ℕ, Option, List, length}
 use Rattle.cluster_state.specs.Initial.{empty_record}
 use Rattle.wire_frames.specs.declared.frame.Frame.{Frame}

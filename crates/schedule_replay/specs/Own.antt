@@ -1,11 +1,11 @@
--- One node of a cluster by itself: its life, what it did and its disk; what each line makes of it, sends and writes.
+-- For the contracts inside: one node of a cluster by itself: its life, what it did and its disk; what each line makes of it, sends and writes.
 use Rattle.std.specs.Prelude.{ℕ, List, [], ◌++◌, if◌then◌else◌}
 use Rattle.voting_config.specs.Ids.{Id}
 use Rattle.zen_disk.specs.declared.orders.Order.{Order}
 use Rattle.zen_disk.specs.declared.orders.Way.{Way}
 use Rattle.wire_frames.specs.declared.frame.Frame.{Frame}
 use Rattle.trace_text.specs.Trace.{down_line}
-use Rattle.replay_node.specs.NodeDisk.{CallsEnd, Done, Failed, StoppedIn, opening}
+use Rattle.replay_node.specs.NodeDisk.{CallsEnd, Done, Failed, CrashedIn, opening}
 use Rattle.replay_node.specs.NodeLines.{after_stop, restart_text}
 use Rattle.replay_node.specs.NodeWorld.{NodeWorld, after_opening, after_order, found_at, needs_opening}
 use Rattle.replay_node.specs.Settled.{is_kept}
@@ -34,7 +34,7 @@ own_opened own = record {
   node = after_opening own.node;
 }
 
--- ---- a stop between two events, and orders
+-- ---- a crash between two events, and orders
 
 abbrev pub own_crash : Way → Own → Own
 own_crash way own = record own { node = after_stop way own.node }
@@ -68,17 +68,17 @@ module _ (s : Settings) where
   abbrev pub own_opened_by : CallsEnd → Own → Own
   own_opened_by Done own = own_event (own_opened own) Start
   own_opened_by Failed own = record own { node = after_opening own.node }
-  own_opened_by (StoppedIn way) own = record own { node = after_opening own.node }
+  own_opened_by (CrashedIn way) own = record own { node = after_opening own.node }
 
   abbrev pub own_started_frames : CallsEnd → Own → List Frame
   own_started_frames Done own = frames_of (own_items (own_opened own) Start)
   own_started_frames Failed own = []
-  own_started_frames (StoppedIn way) own = []
+  own_started_frames (CrashedIn way) own = []
 
   abbrev pub own_started_results : CallsEnd → (count : ℕ) → Own → List ℕ
   own_started_results Done count own = own_results count (own_opened own) Start
   own_started_results Failed count own = []
-  own_started_results (StoppedIn way) count own = []
+  own_started_results (CrashedIn way) count own = []
 
   abbrev pub own_restart : Own → Own
   own_restart own = if needs_opening own.node then own_opened_by (opening own.node.disk).ended own else own

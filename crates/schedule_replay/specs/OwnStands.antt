@@ -1,4 +1,5 @@
--- When a node of a cluster, open or down, stands for its life, for what it did and for its disk; and what a line makes of it.
+-- For the contracts inside: when a node of a cluster, open or down, stands for its life, for what it did and for its disk; and what a line makes
+-- of it.
 use Rattle.std.specs.Prelude.{◌≡◌, Bool, true, false, ℕ, List, ◌++◌, length}
 use Rattle.std.specs.List.{AllByRecursion}
 use Rattle.wire_frames.specs.declared.frame.Frame.{Frame}

@@ -1,4 +1,4 @@
--- The one history of a schedule. Part of the statement.
+-- Part of the statement: the one history of a schedule.
 use Rattle.std.specs.Prelude.{◌-◌, ℕ, Option, None, Some, List, [], ◌∷◌, slice_get, codes}
 use Rattle.voting_config.specs.Ids.{Id}
 use Rattle.cluster_state.specs.declared.state.ClusterValue.{ClusterValue}

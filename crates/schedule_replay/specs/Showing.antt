@@ -1,4 +1,4 @@
--- When the steps of a trace show the wins and the committed states of a history. Part of the statement.
+-- Part of the statement: when the steps of a trace show the wins and the committed states of a history.
 use Rattle.std.specs.Prelude.{◌≡◌, List, Contains}
 use Rattle.std.specs.List.{AllByRecursion}
 use Rattle.cluster_state.specs.declared.state.ClusterState.{ClusterState}

@@ -1,4 +1,4 @@
--- Where a replay stands between two lines. Not part of the statement.
+-- For the contracts inside: where a replay stands between two lines.
 use Rattle.std.specs.Prelude.{◌≡◌, ℕ, Option, Result, Ok, Err, List, ◌++◌}
 use Rattle.voting_config.specs.Ids.{Id}
 use Rattle.schedule_text.specs.declared.schedule.Line.{Line}

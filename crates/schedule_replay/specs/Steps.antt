@@ -1,5 +1,5 @@
--- The steps of a trace, and their text. Part of the statement. A step is an act with all that its lines show, or one other line. It holds what
--- its text shows and nothing else, but for the value of a record's accepted state, of which the text shows the id and the configuration.
+-- Part of the statement: the steps of a trace, and their text. A step is an act with all that its lines show, or one other line. It holds what its
+-- text shows and nothing else, but for the value of a record's accepted state, of which the text shows the id and the configuration.
 use Rattle.std.specs.Prelude.{ℕ, Option, None, Some, List, [], ◌++◌, codes}
 use Rattle.std.specs.List.{flat_map}
 use Rattle.voting_config.specs.Ids.{Id}
@@ -37,7 +37,7 @@ pub data Step : Type 0 where
   -- `down`: a node took nothing, as it was down; `up`: it was not opened, as it was up
   WasDown : (node : Id) → Step
   WasUp : (node : Id) → Step
-  -- `crashed`: a node stopped, between two acts or as it opened its journal; `disk`: its disk failed as it opened its journal
+  -- `crashed`: a node crashed, between two acts or as it opened its journal; `disk`: its disk failed as it opened its journal
   WentDown : (node : Id) → Step
   DiskFailed : (node : Id) → Step
   -- `unsent`: no message of this number was sent

@@ -1,4 +1,4 @@
--- Where a replay and what observes its trace stand behind some lines. Not part of the statement.
+-- For the contracts inside: where a replay and what observes its trace stand after some lines.
 use Rattle.std.specs.Prelude.{ℕ, List}
 use Rattle.voting_config.specs.Ids.{Id}
 use Rattle.wire_frames.specs.declared.frame.Frame.{Frame}

@@ -1,5 +1,5 @@
--- What the steps of a trace tell: a history, the lines, the messages, the wins and the committed states. Part of the statement. Nothing here
--- looks at a schedule, a disk or a program.
+-- Part of the statement: what the steps of a trace tell: a history, the lines, the messages, the wins and the committed states. Nothing here looks
+-- at a schedule, a disk or a program.
 use Rattle.std.specs.Prelude.{◌≡◌, ℕ, ◌+◌, false, Option, None, Some, List, [], ◌∷◌}
 use Rattle.std.specs.List.{flat_map}
 use Rattle.voting_config.specs.Ids.{Id}

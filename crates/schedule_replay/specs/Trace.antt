@@ -1,4 +1,4 @@
--- The trace of a schedule. Part of the statement.
+-- Part of the statement: the trace of a schedule.
 use Rattle.std.specs.Prelude.{ℕ, Option, None, Some, List, [], ◌∷◌, ◌++◌, length, codes, if◌then◌else◌}
 use Rattle.voting_config.specs.Ids.{Id}
 use Rattle.world_model.specs.declared.acts.Act.{Act}
@@ -25,7 +25,7 @@ abbrev pub delivery_results : World → Id → Option Message → List ℕ
 delivery_results w n None = if w.down n then down_line n else codes "unsent\n"
 delivery_results w n (Some message) = results_of w n (taking message)
 
--- what a line writes behind its echo; a line of level node, which no schedule of level core has, writes nothing
+-- what a line writes after its echo; a line of level node, which no schedule of level core has, writes nothing
 abbrev pub line_results : List Id → World → Line → List ℕ
 line_results initial w (line.Boot n) = results_of w n (Bootstrap initial)
 line_results initial w (line.StartJoin n candidate term) = results_of w n (StartJoin candidate term)

@@ -1,4 +1,4 @@
--- What the trace of a schedule tells of its history, as statements. Part of the statement of `run`, which cites these records of its schedule.
+-- Part of the statement: what the trace of a schedule tells of its history, as statements. `run` cites these records of its schedule.
 use Rattle.std.specs.Prelude.{◌≡◌, false, List, ◌++◌}
 use Rattle.world_model.specs.Histories.{NoEntries, sent}
 use Rattle.schedule_text.specs.declared.schedule.Line.{Line}
@@ -27,7 +27,7 @@ LawTraceTells = (s : Schedule) → Tells s (steps s)
 abbrev pub LawStepsGoOn : Type 0
 LawStepsGoOn = (s : Schedule) (more : List Line) → (rest : List Step) × (steps (record s { lines = s.lines ++ more }) ≡ steps s ++ rest)
 
--- behind the echo of each line stands what the line asks for; at first all nodes are up, and none has done anything
+-- after the echo of each line stands what the line asks for; at first all nodes are up, and none has done anything
 abbrev pub LawTraceFollows : Type 0
 LawTraceFollows = (s : Schedule) → ShowsLines s.initial NoEntries (λ n. false) s.lines (steps s)
 

@@ -1,4 +1,4 @@
--- The steps of the trace of a schedule. Not part of the statement but for the name `steps`: TraceLaws says what they are.
+-- Part of the statement: the steps of the trace of a schedule. They need not be read: TraceLaws says what `steps` are.
 use Rattle.std.specs.Prelude.{Option, None, Some, List, [], ◌∷◌, ◌++◌, length, if◌then◌else◌}
 use Rattle.voting_config.specs.Ids.{Id}
 use Rattle.cluster_state.specs.declared.state.Kept.{Kept}
@@ -9,7 +9,7 @@ use Rattle.world_model.specs.Histories.{node_history, sent}
 use Rattle.schedule_text.specs.declared.schedule.Line.{Line}
 use Rattle.schedule_text.specs.declared.schedule.Line.TheVariants as line
 use Rattle.schedule_text.specs.declared.schedule.Schedule.{Schedule}
-use Rattle.replay_node.specs.NodeDisk.{CallsEnd, Done, Failed, StoppedIn, opening}
+use Rattle.replay_node.specs.NodeDisk.{CallsEnd, Done, Failed, CrashedIn, opening}
 use Rattle.replay_node.specs.NodeWorld.{outcome_at, found_at, needs_opening}
 use Rattle.trace_text.specs.Published.{last_published}
 use Rattle.replay_node.specs.Sent.{taking}
@@ -32,7 +32,7 @@ delivery_steps w n (Some message) = act_steps w n (taking message)
 abbrev pub opening_step : CallsEnd → Id → Kept → Step
 opening_step Done n found = Opened n found
 opening_step Failed n found = DiskFailed n
-opening_step (StoppedIn way) n found = WentDown n
+opening_step (CrashedIn way) n found = WentDown n
 
 abbrev pub restart_step : World → Id → Step
 restart_step w n =

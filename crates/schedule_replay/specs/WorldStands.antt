@@ -1,4 +1,4 @@
--- When a replay stands for what its nodes did. Not part of the statement.
+-- For the contracts inside: when a replay stands for what its nodes did.
 use Rattle.std.specs.Prelude.{◌≡◌, ◌≤◌, true, List, [], ◌∷◌, ◌++◌, map, length, ℕ}
 use Rattle.voting_config.specs.Ids.{Id, ascends, most_ids}
 use Rattle.world_model.specs.declared.acts.Act.{Act}
@@ -32,7 +32,7 @@ pub record Stands (ids : List Id) (nodes : List ReplayNode) (messages : List Sen
   pub few : length ids ≤ most_ids
   pub ascending : ascends ids ≡ true
 
--- an act of a node: whatever the nodes stood for, what it did is told, and they stand for that with the act
+-- an act of a node: whatever the nodes stood for, what it did is reported, and they stand for that with the act
 pub record ActDone (ids : List Id) (new : List ReplayNode) (w : World) (n : Id) (act : Act) (d : Did) : Type 0 where
   pub outcome : outcome_of d ≡ outcome_unless_down n (node_world w n) act
   pub stand : AllStand ids new (did_unless_down w n act)
@@ -49,7 +49,7 @@ pub record Moved (ids : List Id) (new : List ReplayNode) (after_it : World) (res
 abbrev pub Moves : List Id → (old new : List ReplayNode) → (World → World) → (World → List ℕ) → (was now : List ℕ) → Type 0
 Moves ids old new after_it results was now = (w : World) → AllStand ids old w → Moved ids new (after_it w) (results w) was now
 
--- a line, or what of it stands behind its echo: whatever a replay stood for, it stands for that after the line, and the results were written
+-- a line, or what of it stands after its echo: whatever a replay stood for, it stands for that after the line, and the results were written
 pub record LineDone (ids : List Id) (new : List ReplayNode) (messages : List SentMessage) (after_it : World) (results was now : List ℕ) : Type 0 where
   pub stands : Stands ids new messages after_it
   pub written : now ≡ was ++ results

@@ -1,3 +1,4 @@
+//! A generated schedule replayed line by line, each drawn after those before it were replayed.
 ghost use Rattle.std.specs.Prelude.{◌≡◌, ◌≤◌, IfOk};
 ghost use Rattle.schedule_text.specs.declared.level.Level.TheVariants.{Core};
 ghost use Rattle.schedule_generator.specs.Laws.{most_steps};
@@ -12,7 +13,7 @@ use std::alloc::{AllocError, Global};
 use trace_summary::{Summary, Tally};
 
 /// Replays so many lines of a number's schedule, at most `schedule_generator::MAX_STEPS`, and sums up their trace. No line is
-/// kept, and nothing of the trace. The error is want of memory.
+/// kept, and nothing of the trace. The error means that memory ran out.
 pub fn generate(alloc: Global, number: u64, steps: u64) -> Result<Summary, AllocError>
     requires few { steps ≤ most_steps }
     ensures { IfOk result (λ s. s ≡ summary_of (trace_at Core (generated number steps))) }

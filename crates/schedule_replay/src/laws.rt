@@ -4,7 +4,7 @@ ghost use Rattle.schedule_replay.specs.Generated.{LawGenerated};
 ghost use Rattle.schedule_replay.specs.Legal.{LawReplayIsLegal};
 ghost use Rattle.schedule_replay.specs.TraceLaws.{LawStepsGoOn, LawTraceAgrees, LawTraceFollows, LawTraceShows, LawTraceTells};
 
-/// The history of a schedule is legal, wherever its nodes stop and their disks fail: of each schedule whose lines are of
+/// The history of a schedule is legal, wherever its nodes crash and their disks fail: of each schedule whose lines are of
 /// level core and of its nodes, and whose initial configuration is a set of ids, which is not empty unless there is no line.
 pub fn law_replay_is_legal()
     ensures { LawReplayIsLegal }
@@ -21,7 +21,7 @@ pub fn law_steps_go_on()
     ensures { LawStepsGoOn }
 {}
 
-/// Behind the echo of each line stands what the line asks for, as told by the steps before it.
+/// After the echo of each line stands what the line asks for, as told by the steps before it.
 pub fn law_trace_follows()
     ensures { LawTraceFollows }
 {}

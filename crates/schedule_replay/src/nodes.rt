@@ -1,3 +1,4 @@
+//! All nodes of a replay at level core, each found by its id.
 ghost use Rattle.std.specs.Prelude.{◌≡◌, List, true, length, slice_get, Some, IfOk, OnOk};
 ghost use Rattle.voting_config.specs.Ids.{Id, has};
 ghost use Rattle.cluster_state.specs.States.{IsFitValue};
@@ -29,7 +30,7 @@ fn place_of(ids: &[NodeId], n: NodeId) -> usize
 }
 
 /// The node takes the initial configuration.
-pub fn boot(
+pub fn set_initial(
     ids: &NodeSet,
     nodes: &mut [ReplayNode],
     n: NodeId,
@@ -41,7 +42,7 @@ pub fn boot(
     ensures { IfOk result (λ did. DoesAct ids.now nodes.old nodes.new n (act.Bootstrap initial.now) did) }
 {
     let place = place_of(ids.as_slice(), n);
-    nodes[place].boot(alloc, initial)
+    nodes[place].set_initial(alloc, initial)
 }
 
 /// The node starts a join.
@@ -62,7 +63,7 @@ pub fn start_join(
 }
 
 /// The node publishes a client's value.
-pub fn publish(
+pub fn client_value(
     ids: &NodeSet,
     nodes: &mut [ReplayNode],
     n: NodeId,
@@ -77,11 +78,11 @@ pub fn publish(
     ensures { IfOk result (λ did. DoesAct ids.now nodes.old nodes.new n (act.Value version config value) did) }
 {
     let place = place_of(ids.as_slice(), n);
-    nodes[place].publish(alloc, version, config, value)
+    nodes[place].client_value(alloc, version, config, value)
 }
 
 /// The node takes a message.
-pub fn take(
+pub fn deliver(
     ids: &NodeSet,
     nodes: &mut [ReplayNode],
     n: NodeId,
@@ -94,10 +95,10 @@ pub fn take(
     ensures { IfOk result (λ did. DoesAct ids.now nodes.old nodes.new n (taking (message_of message.now)) did) }
 {
     let place = place_of(ids.as_slice(), n);
-    nodes[place].take(alloc, message)
+    nodes[place].deliver(alloc, message)
 }
 
-/// The node stops between two acts, and so does its disk.
+/// The node crashes between two acts: its disk stops.
 pub fn crash(
     ids: &NodeSet,
     nodes: &mut [ReplayNode],

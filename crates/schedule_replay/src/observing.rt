@@ -1,3 +1,4 @@
+//! What watches a trace while it is written, as its summary does.
 ghost use Rattle.std.specs.Prelude.{ℕ, List, ◌++◌, OnOk};
 ghost use Rattle.trace_summary.specs.Tallies.{EndsLine, Tallies};
 
@@ -9,7 +10,7 @@ pub trait Observer {
     /// What was shown so far is this text.
     ghost saw: { Self → List ℕ → Type 0 };
 
-    /// Takes a piece behind whole lines. The error is want of memory, or a count that has passed 2^64, and the observer is of no use then.
+    /// Takes a piece after whole lines. The error means that memory ran out, or that a count has passed 2^64, and the observer is of no use then.
     fn observe(&mut self, piece: &[u8]) -> Result<(), AllocError>
         ensures { OnOk result ((text : List ℕ) → EndsLine text → saw self.old text → saw self.new (text ++ piece.now)) };
 }

@@ -1,3 +1,4 @@
+//! `Replayer`: the nodes of a schedule of level core, and the messages that they have sent.
 ghost use Rattle.std.specs.Prelude.{◌≡◌, ◌<◌, ◌++◌, OnOk, IfOk, ℕ, List, [], None, true, length, map};
 ghost use Rattle.voting_config.specs.Ids.{Id, has};
 ghost use Rattle.cluster_state.specs.States.{IsFitValue};
@@ -43,6 +44,7 @@ impl Replayer {
         let ids = ids.copy();
         let initial = initial.copy();
         let nodes = fresh_nodes(alloc, ids.as_slice())?;
+        // For the proof alone: a set ascends and has 32 ids at most.
         let _ = ids.len();
         Ok(Replayer {
             ids,
@@ -65,12 +67,12 @@ impl Replayer {
         text.line(line)?;
         text.word("\n")?;
         match line {
-            Line::Boot(n) => self.boot(alloc, *n, text)?,
+            Line::Boot(n) => self.set_initial(alloc, *n, text)?,
             Line::StartJoin(n, candidate, term) => {
                 self.start_join(alloc, *n, *candidate, *term, text)?
             }
             Line::Value(n, version, setting, config) => {
-                self.publish(alloc, *n, *version, *setting, config, text)?
+                self.client_value(alloc, *n, *version, *setting, config, text)?
             }
             Line::Deliver(n, ordinal) => self.deliver(alloc, *n, *ordinal, text)?,
             Line::Crash(n, way) => self.crash(alloc, *n, *way, text)?,
@@ -120,7 +122,7 @@ impl Replayer {
         nodes::arm(&self.ids, self.nodes.as_mut_slice(), n, order);
     }
 
-    fn boot(&mut self, alloc: Global, n: NodeId, text: &mut Text) -> Result<(), AllocError>
+    fn set_initial(&mut self, alloc: Global, n: NodeId, text: &mut Text) -> Result<(), AllocError>
         requires listed { has n self.old.ids ≡ true }
         requires stands { (w : World) × Stands self.old.ids self.old.nodes.items self.old.sent.items w }
         ensures ids { self.new.ids ≡ self.old.ids }
@@ -129,7 +131,7 @@ impl Replayer {
     {
         self.act.clear();
         write_boot(&mut self.act, &self.initial)?;
-        let did = nodes::boot(
+        let did = nodes::set_initial(
             &self.ids,
             self.nodes.as_mut_slice(),
             n,
@@ -168,7 +170,7 @@ impl Replayer {
         Ok(())
     }
 
-    fn publish(
+    fn client_value(
         &mut self,
         alloc: Global,
         n: NodeId,
@@ -187,7 +189,7 @@ impl Replayer {
         let value = value_of(alloc, setting)?;
         self.act.clear();
         write_value(&mut self.act, alloc, version, &config, &value)?;
-        let did = nodes::publish(
+        let did = nodes::client_value(
             &self.ids,
             self.nodes.as_mut_slice(),
             n,
@@ -218,13 +220,13 @@ impl Replayer {
             None => self.unsent(n, text),
             Some(message) => {
                 let message = message.share()?;
-                self.take(alloc, n, &message, text)?;
+                self.hand_over(alloc, n, &message, text)?;
                 Ok(())
             }
         }
     }
 
-    fn take(
+    fn hand_over(
         &mut self,
         alloc: Global,
         n: NodeId,
@@ -240,7 +242,7 @@ impl Replayer {
     {
         self.act.clear();
         write_taking(&mut self.act, alloc, message)?;
-        let did = nodes::take(&self.ids, self.nodes.as_mut_slice(), n, alloc, message)?;
+        let did = nodes::deliver(&self.ids, self.nodes.as_mut_slice(), n, alloc, message)?;
         self.finish(alloc, n, did, text)?;
         Ok(())
     }
@@ -308,6 +310,7 @@ fn value_of(alloc: Global, setting: SettingText) -> Result<ClusterValue, AllocEr
     ensures fit { IfOk result IsFitValue }
 {
     let mut settings = Settings::new(alloc);
+    // For the proof alone: the text of a setting has 1 to 32 bytes.
     let _ = setting.as_bytes();
     settings.push("v", setting.as_str())?;
     Ok(ClusterValue {

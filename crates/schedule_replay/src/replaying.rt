@@ -1,3 +1,4 @@
+//! `replay`: a schedule of either level replayed line by line, and its trace written in pieces.
 ghost use Rattle.std.specs.Prelude.{◌≡◌, ◌≤◌, [], IfOk, OnOk};
 ghost use Rattle.std.specs.List.{AllByRecursion};
 ghost use Rattle.zen_disk.specs.Faults.{Rose};
@@ -154,7 +155,7 @@ fn replay_shown<T: Observer, S: Sink>(
 /// Replays a schedule of this level and writes the trace of its one history. `Write` only where the count of faults of the sink rose; a
 /// prefix of the trace is written then, and at `Memory` too.
 ///
-/// At level core the laws of this crate tell of the history, at level node those of `cluster_replay`.
+/// At level core the laws of this crate speak of the history, at level node those of `cluster_replay`.
 pub fn write_trace<S: Sink>(
     alloc: Global,
     schedule: &Schedule,

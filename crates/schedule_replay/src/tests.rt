@@ -1,3 +1,4 @@
+//! Schedules of whole nodes with their traces, and generated schedules with their summaries.
 mod rows;
 
 use crate::{generate, replay, write_trace};

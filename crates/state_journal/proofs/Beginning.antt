@@ -15,7 +15,7 @@ use Rattle.state_journal.specs.Bodies.{body_of}
 use Rattle.state_journal.specs.Drafts.{Drafted, IsDraft, generation_body}
 use Rattle.state_journal.specs.Keeping.{record_with}
 use Rattle.state_journal.specs.declared.change.Change.TheVariants.{Renewed}
-use Rattle.state_journal.proofs.Sizes.{length-eight, ids_short}
+use Rattle.cluster_state.proofs.Sizes.{length-eight, ids_short}
 use Rattle.state_journal.proofs.Spelled.{draft_short, renewed_is}
 
 pub length-generation : (epoch t : ℕ) (accepted : List ℕ) (committed : List Id) → length (generation_body epoch t accepted committed) ≡ 17 + length accepted + length ((ids most_ids).spelling committed)

@@ -8,7 +8,7 @@ use Rattle.zen_disk.specs.declared.side.Side.{Side}
 use Rattle.zen_disk.specs.declared.side.Side.TheVariants.{Zero, One}
 use Rattle.cluster_state.specs.declared.state.Kept.{Kept}
 use Rattle.zen_disk.specs.DeviceCall.{DeviceCall}
-use Rattle.zen_disk.specs.Runs.{Ran}
+use Rattle.zen_disk.specs.Runs.{CallsMade}
 use Rattle.gate_log.specs.Opening.{RanPartly}
 use Rattle.gate_log.specs.Folded.{both_read, read_on, found_by}
 use Rattle.gate_log.specs.Generations.{Generations, generations_of, in_use, no_generations, appended, renewed, StandsAsSome}
@@ -82,5 +82,5 @@ pub counts : (files : Files) (g : Generations) → generations_of files ≡ Ok g
 counts files g is = ap (λ (r : Result Generations LogWhy). length (in_use (result_unwrap_or r no_generations))) (sym is)
 
 -- all the calls were made
-pub ran_all : {D : Type 0} (steps : D → DeviceCall → D → Bool → Type 0) (calls : List DeviceCall) (old new now : D) → now ≡ new → Ran steps calls old new true → RanPartly steps calls old now
-ran_all steps calls old new now same ran = (calls, [], append-nil calls, subst (λ d. Ran steps calls old d true) (sym same) ran)
+pub ran_all : {D : Type 0} (steps : D → DeviceCall → D → Bool → Type 0) (calls : List DeviceCall) (old new now : D) → now ≡ new → CallsMade steps calls old new true → RanPartly steps calls old now
+ran_all steps calls old new now same ran = (calls, [], append-nil calls, subst (λ d. CallsMade steps calls old d true) (sym same) ran)

@@ -1,4 +1,4 @@
--- Bytes that are put in front of others and behind them.
+-- Bytes that are put before others and after them.
 use Rattle.std.proofs.Common.{◌≡◌, ℕ, ◌+◌, ◌-◌, ◌≤◌, List, ◌++◌, length, take, drop, sym, ◌∙◌, ap, arith, length-append, append_assoc}
 use Rattle.std.proofs.lemmas.List.{take_at, drop_at, take-append-drop, length-take, length-drop}
 use Rattle.zen_disk.specs.Disk.{part, written}

@@ -6,6 +6,5 @@ pub mod Laying
 mod Reading
 mod Refused
 mod Same
-pub mod Sizes
 pub mod Spelled
 pub mod Writing

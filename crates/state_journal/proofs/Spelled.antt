@@ -12,7 +12,7 @@ use Rattle.cluster_state.proofs.Whole.{whole_again}
 use Rattle.gate_log.specs.Generations.{is_generation}
 use Rattle.state_journal.specs.Bodies.{body_of, change_at, change_by, change_tagged, generation}
 use Rattle.state_journal.specs.Drafts.{Drafted, HasSpelling, IsDraft, MayBegin, generation_body}
-use Rattle.state_journal.proofs.Sizes.{state_short}
+use Rattle.cluster_state.proofs.Sizes.{state_short}
 use Rattle.state_journal.specs.declared.change.Change.TheVariants.{Term, Accepted, Committed, Renewed}
 
 pub generation_law : IsField generation

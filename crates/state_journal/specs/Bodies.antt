@@ -1,4 +1,4 @@
--- A change as a body of a journal.
+-- Part of the statement: a change as a body of a journal.
 use Rattle.std.specs.Prelude.{ℕ, ◌==◌, List, [], ◌∷◌, length, Result, Ok, Err, if◌then◌else◌}
 use Rattle.cluster_state.specs.declared.fault.StateFault.{StateFault}
 use Rattle.cluster_state.specs.declared.fault.StateFault.TheVariants as fault

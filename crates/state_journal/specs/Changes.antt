@@ -1,4 +1,4 @@
--- What a change makes of what a node keeps.
+-- Part of the statement: what a change makes of what a node keeps.
 use Rattle.std.specs.Prelude.{◌≡◌, ◌⊎◌, Option, Some}
 use Rattle.cluster_state.specs.declared.state.Kept.{Kept}
 use Rattle.state_journal.specs.declared.change.Change.{Change}

@@ -1,4 +1,4 @@
--- The bytes of a state from which its frames are made.
+-- For the contracts inside: the bytes of a state from which its frames are made.
 use Rattle.std.specs.Prelude.{◌≡◌, ℕ, ◌≤◌, ◌^◌, ◌++◌, ◌∷◌, List}
 use Rattle.voting_config.specs.Ids.{Id, most_ids}
 use Rattle.cluster_state.specs.Fields.{term, version, ids}

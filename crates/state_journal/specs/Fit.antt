@@ -1,4 +1,4 @@
--- That a state is within the limits holds in one way only.
+-- For the contracts inside: that a state is within the limits holds in one way only.
 use Rattle.std.specs.Prelude.{List, [], ◌∷◌, Option, Some, None, IfSome}
 use Rattle.std.specs.List.{AllByRecursion}
 use Rattle.std.specs.Coded.{×_prop, Unit-prop}

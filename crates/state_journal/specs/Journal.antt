@@ -1,4 +1,4 @@
--- The record that a journal stands for.
+-- Part of the statement: the record that a journal stands for.
 use Rattle.std.specs.Prelude.{◌≡◌, ℕ, ◌+◌, List, [], ◌∷◌, length, nat_lt, nat_le, Bool, true, Option, Some, Result, Ok, Err, if◌then◌else◌}
 use Rattle.std.specs.Result.{result_ok}
 use Rattle.std.proofs.Common.{◌∙◌, ap, sym}

@@ -1,4 +1,4 @@
--- The device calls that keep a change.
+-- Part of the statement: the device calls that keep a change.
 use Rattle.std.specs.Prelude.{ℕ, ◌+◌, Bool, true, false, List, if◌then◌else◌}
 use Rattle.voting_config.specs.Ids.{Id}
 use Rattle.cluster_state.specs.declared.state.ClusterState.{ClusterState}

@@ -1,8 +1,8 @@
--- What a refused opening says.
+-- Part of the statement: what a refused opening says.
 use Rattle.std.specs.Prelude.{◌≡◌, List, ℕ, Bool, true, false, Result, Ok, Err}
 use Rattle.zen_disk.specs.DeviceCall.{DeviceCall}
 use Rattle.zen_disk.specs.Faults.{Rose}
-use Rattle.zen_disk.specs.Runs.{Ran}
+use Rattle.zen_disk.specs.Runs.{CallsMade}
 use Rattle.zen_disk.specs.Sides.{Files}
 use Rattle.zen_disk.specs.declared.side.Side.TheVariants.{Zero, One}
 use Rattle.gate_log.specs.Calls.{opening_calls, both_opening_calls}
@@ -43,8 +43,8 @@ calls_until (Ok generations) files = both_opening_calls files
 
 -- The calls of an opening were made up to the one that failed. Memory may be wanting before each read or after it.
 abbrev pub RanUntil : {D : Type 0} → (D → DeviceCall → D → Bool → Type 0) → Files → D → OpenError D → Type 0
-RanUntil steps files disk (NotAJournal why d) = Ran steps (calls_until (generations_of files) files) disk d true
-RanUntil steps files disk (Disk d) = Ran steps (both_opening_calls files) disk d false
+RanUntil steps files disk (NotAJournal why d) = CallsMade steps (calls_until (generations_of files) files) disk d true
+RanUntil steps files disk (Disk d) = CallsMade steps (both_opening_calls files) disk d false
 RanUntil steps files disk (Memory d) = RanPartly steps (both_opening_calls files) disk d
 
 -- the same refusal

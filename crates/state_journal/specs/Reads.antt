@@ -1,4 +1,4 @@
--- What reading bodies gives, unless memory ran out.
+-- For the contracts inside: what reading bodies gives, unless memory ran out.
 use Rattle.std.specs.Prelude.{◌≡◌, ℕ, ◌≤◌, ◌^◌, Result, Ok, Err}
 use Rattle.cluster_state.specs.States.{IsFit}
 use Rattle.cluster_state.specs.declared.fault.StateFault.{StateFault}

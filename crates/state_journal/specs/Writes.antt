@@ -1,4 +1,4 @@
--- How a write of a keeper ends.
+-- For the contracts inside: how a write of a keeper ends.
 use Rattle.std.specs.Prelude.{ℕ, ◌≡◌, Bool, true, false, Result, Ok, Err}
 use Rattle.zen_disk.specs.Faults.{Rose}
 use Rattle.state_journal.specs.declared.keeper.KeepError.{KeepError}

@@ -1,3 +1,4 @@
+//! A keeper whose disk takes orders.
 ghost use Rattle.std.specs.Prelude.{◌≡◌, ℕ, Option};
 ghost use Rattle.zen_disk.specs.Moments.{Same};
 ghost use Rattle.zen_disk.specs.declared.orders.Order.{Order as DiskOrder};

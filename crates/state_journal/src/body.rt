@@ -1,4 +1,4 @@
-// Changes as bodies of a journal.
+//! Changes as bodies of a journal.
 ghost use Rattle.std.specs.Prelude.{◌≡◌, ◌==◌, length, Ok, Err, IfOk, if◌then◌else◌};
 ghost use Rattle.cluster_state.specs.Fields.{term as term_field};
 ghost use Rattle.cluster_state.specs.States.{whole, state as state_field};
@@ -112,7 +112,7 @@ fn read_committed(bytes: &[u8]) -> Result<Change, BodyError>
     Ok(Change::Committed)
 }
 
-// A generation and nothing else, as its fields are spelled.
+// A generation and nothing else, as its fields are spelled. `read_generation` only calls it, and adds that what is read fits.
 fn whole_generation(alloc: Global, bytes: &[u8]) -> Result<Change, BodyError>
     ensures { ReadsChange result (change_by change.Renewed (whole (generation_field.at bytes.now))) }
 {

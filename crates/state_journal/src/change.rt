@@ -1,3 +1,4 @@
+//! The changes of a record, and what a generation begins with.
 use cluster_state::{ClusterState, Kept};
 
 /// What a generation of the journal begins with: its epoch, and the record so far.

@@ -1,4 +1,4 @@
-// The bytes of a state, laid out so that it can be framed in no memory.
+//! The bytes of a state, laid out so that it can be framed in no memory.
 ghost use Rattle.std.specs.Prelude.{◌≡◌, ◌≤◌, ◌+◌, ◌-◌, ◌++◌, ◌∷◌, [], length, IfOk};
 ghost use Rattle.arrayvec.specs.ArrayVec.{array_vec_len};
 ghost use Rattle.cluster_state.specs.Fields.{id, ids};
@@ -15,13 +15,13 @@ use std::alloc::{AllocError, Global};
 use std::marker::Model;
 use voting_config::{NodeId, NodeSet, VotingConfig};
 
-// Where the state begins: behind the length, the tag, the epoch and the term of a generation.
+// Where the state begins: after the length, the tag, the epoch and the term of a generation.
 const STATE_AT: usize = 21;
 
-// A committed configuration takes 1,057 bytes at most, and the closed gate behind it one.
+// A committed configuration takes 1,057 bytes at most, and the closed gate after it one.
 const ROOM: usize = 1058;
 
-// A state's bytes with room in front and behind, and the frame that was last laid around them.
+// A state's bytes with room before and after them, and the frame that was last laid around them.
 #[derive(Drop)]
 pub(crate) struct Draft {
     bytes: Vec<u8>,
@@ -44,7 +44,7 @@ impl Model for Draft {
     ghost invariant = { λ d. (vec_len d.bytes ≡ 21 + d.size + 1058) × (d.start + d.len ≤ vec_len d.bytes) };
 }
 
-// An id behind those that stand there.
+// An id after those that stand there.
 fn put_id(out: &mut ArrayVec<u8, 1058>, node: NodeId)
     requires { array_vec_len out.old + 33 ≤ 1058 }
     ensures items { out.new.items ≡ out.old.items ++ id.spelling node }
@@ -58,7 +58,7 @@ fn put_id(out: &mut ArrayVec<u8, 1058>, node: NodeId)
     }
 }
 
-// A set of ids with a closed gate behind it.
+// A set of ids with a closed gate after it.
 fn set_and_gate(set: &NodeSet) -> ArrayVec<u8, 1058>
     ensures items { result.items ≡ (ids most_ids).spelling set.now ++ 0 ∷ [] }
     ensures fits { (ids most_ids).Fits set.now }
@@ -82,7 +82,7 @@ fn put(bytes: &mut [u8], at: usize, with: &[u8])
     bytes[at..at + with.len()].copy_from_slice(with);
 }
 
-// Puts bytes in front of those from 21 to `end`, and others behind them.
+// Puts bytes before those from 21 to `end`, and others after them.
 fn surround(bytes: &mut [u8], head: &[u8], end: usize, tail: &[u8])
     requires head { length head.now ≤ 21 }
     requires end { 21 ≤ end }

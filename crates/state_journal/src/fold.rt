@@ -1,4 +1,4 @@
-// The record that the bodies of a journal make.
+//! The record that the bodies of a journal make.
 ghost use Rattle.std.specs.Prelude.{◌≡◌, Ok, IfOk};
 ghost use Rattle.cluster_state.specs.Initial.{empty_record};
 ghost use Rattle.gate_log.specs.Folded.{found_by};

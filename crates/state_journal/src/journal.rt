@@ -1,3 +1,4 @@
+//! `StateJournal`: the keeper over a journal of changes in two files.
 ghost use Rattle.std.specs.Prelude.{◌≡◌, ◌^◌, ◌≤◌, true, false, length, Ok, IfOk, IfErr};
 ghost use Rattle.cluster_state.specs.States.{IsFit};
 ghost use Rattle.gate_log.specs.Calls.{both_opening_calls};
@@ -5,7 +6,7 @@ ghost use Rattle.gate_log.specs.Generations.{in_use};
 ghost use Rattle.gate_log.specs.Opened.{generations_in};
 ghost use Rattle.gate_log.specs.Place.{place};
 ghost use Rattle.zen_disk.specs.Moments.{LeavesOnly};
-ghost use Rattle.zen_disk.specs.Runs.{Ran};
+ghost use Rattle.zen_disk.specs.Runs.{CallsMade};
 ghost use Rattle.state_journal.specs.Drafts.{IsDraft};
 ghost use Rattle.state_journal.specs.Fit.{IsFit-prop, IsDraft-prop};
 ghost use Rattle.state_journal.specs.Keeping.{keeping_calls};
@@ -25,7 +26,7 @@ use zen_disk::{Armable, Disks, Order, Side};
 
 /// A keeper over a journal in two generations, in which each change is a body.
 ///
-/// Where a change would make the bodies behind the record that a generation began with take more than 65,536 bytes, the record with
+/// Where a change would make the bodies after the record that a generation began with take more than 65,536 bytes, the record with
 /// the change begins the next generation, in the other file.
 #[derive(Drop)]
 pub struct StateJournal<D: Disks> {
@@ -77,7 +78,7 @@ impl<D: Disks> StateJournal<D> {
         ensures any_moment_err { D.told → IfErr result (λ e. LeavesOnly D.moment D.left_since disk (handed_back e) (FoundAsSome (D.may_leave disk))) }
 
         // These device calls and no others.
-        ensures ran { D.told → IfOk result (λ j. Ran D.steps (both_opening_calls (D.seen disk)) disk j.log.disk true) }
+        ensures ran { D.told → IfOk result (λ j. CallsMade D.steps (both_opening_calls (D.seen disk)) disk j.log.disk true) }
         ensures ran_err { D.told → IfErr result (RanUntil D.steps (D.seen disk) disk) }
     {
         let opened = match GateLog::open(alloc, disk) {
@@ -138,7 +139,7 @@ impl<D: Disks> Keeper for StateJournal<D> {
 
     ghost left_since = { λ j. StoodFor (D.left_since j.log.disk) };
 
-    ghost writes = { λ j change k ok. Ran D.steps (keeping_calls (place j.log) j.kept change) j.log.disk k.log.disk ok };
+    ghost writes = { λ j change k ok. CallsMade D.steps (keeping_calls (place j.log) j.kept change) j.log.disk k.log.disk ok };
 
     ghost only_kept = { λ j found told running left.
         only_record (D.seen j.log.disk) (D.left_since j.log.disk (D.moment j.log.disk)) (D.may_leave j.log.disk) j.kept found (D.only_now j.log.disk) (j.log.settled told running).durable (j.stands told running) left };

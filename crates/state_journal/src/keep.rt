@@ -1,4 +1,4 @@
-// How a body is kept: it is appended to the side in use, or the record with it begins a generation on the other side.
+//! How a body is kept: it is appended to the side in use, or the record with it begins a generation on the other side.
 ghost use Rattle.std.specs.Prelude.{◌≡◌, ◌+◌, ◌-◌, ◌<◌, ◌≤◌, ◌^◌, true, false, ℕ, List, length, is_ok, IsErr, IsErrOf, OnOk, min};
 ghost use Rattle.cluster_state.specs.Fields.{ids};
 ghost use Rattle.cluster_state.specs.declared.state.ClusterState.{ClusterState};
@@ -13,7 +13,7 @@ ghost use Rattle.state_journal.specs.declared.change.Change.TheVariants as chang
 ghost use Rattle.voting_config.specs.Ids.{most_ids};
 ghost use Rattle.zen_disk.specs.Faults.{Rose};
 ghost use Rattle.zen_disk.specs.Moments.{LeavesOnly};
-ghost use Rattle.zen_disk.specs.Runs.{Ran};
+ghost use Rattle.zen_disk.specs.Runs.{CallsMade};
 ghost use Rattle.zen_disk.specs.Sides.{other};
 
 use crate::draft::Draft;
@@ -21,7 +21,7 @@ use gate_log::{AppendError, GateLog};
 use voting_config::VotingConfig;
 use zen_disk::Disks;
 
-// How many bytes the bodies behind a generation take at most.
+// How many bytes the bodies after a generation take at most.
 const MAX_TAIL: u64 = 65_536;
 
 const LAST_EPOCH: u64 = 1 << 62;
@@ -70,7 +70,7 @@ fn begin<D: Disks>(
         LeavesOnly D.moment D.left_since log.old.disk log.new.disk (IsRenewed (standing_in (D.seen log.old.disk)) body) }
     ensures ran { (s : ClusterState) → IsDraft s draft.old
         → let body = generation_after (place log.old) (record_with term s committed.now) in
-        Ran D.steps (renewal_calls (other log.old.side) log.old.other_gate (framed body)) log.old.disk log.new.disk (is_ok result) }
+        CallsMade D.steps (renewal_calls (other log.old.side) log.old.other_gate (framed body)) log.old.disk log.new.disk (is_ok result) }
     ensures fits { (ids most_ids).Fits committed.now }
     ensures same { draft.new.state ≡ draft.old.state }
 {
@@ -105,7 +105,7 @@ pub(crate) fn keep_small<D: Disks>(
         (IsWritten (renews p body.now) (standing_in (D.seen log.old.disk)) body.now (generation_after p next)) }
     ensures ran { (s : ClusterState) → IsDraft s draft.old
         → let p = place log.old in let next = record_with term s committed.now in
-        Ran D.steps (writing_calls (renews p body.now) p body.now (generation_after p next)) log.old.disk log.new.disk (is_ok result) }
+        CallsMade D.steps (writing_calls (renews p body.now) p body.now (generation_after p next)) log.old.disk log.new.disk (is_ok result) }
     ensures fits { renews (place log.old) body.now ≡ true → (ids most_ids).Fits committed.now }
     ensures same { draft.new.state ≡ draft.old.state }
 {
@@ -139,7 +139,7 @@ pub(crate) fn keep_state<D: Disks>(
         (IsWritten (renews p body) (standing_in (D.seen log.old.disk)) body (generation_after p next)) }
     ensures ran { (s : ClusterState) → IsDraft s draft.old
         → let p = place log.old in let body = body_of (change.Accepted s) in let next = record_with term s committed.now in
-        Ran D.steps (writing_calls (renews p body) p body (generation_after p next)) log.old.disk log.new.disk (is_ok result) }
+        CallsMade D.steps (writing_calls (renews p body) p body (generation_after p next)) log.old.disk log.new.disk (is_ok result) }
     ensures same { draft.new.state ≡ draft.old.state }
 {
     if begins(log, draft.len() + 1) {

@@ -1,3 +1,4 @@
+//! The trait `Keeper`: what keeps a node's record, and what a crash inside a write leaves.
 ghost use Rattle.std.specs.Prelude.{◌≡◌, ℕ, ◌<◌, ◌≤◌, ◌^◌, Bool, true, false, is_ok, Option, Some};
 ghost use Rattle.zen_disk.specs.Moments.{LeavesOnly};
 ghost use Rattle.cluster_state.specs.States.{IsFit};

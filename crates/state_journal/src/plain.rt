@@ -1,3 +1,4 @@
+//! A keeper in memory, which never fails.
 ghost use Rattle.std.specs.Prelude.{◌≡◌, ◌≤◌, ◌^◌, ⊤, false, true, refl, Some};
 ghost use Rattle.cluster_state.specs.Initial.{empty_record};
 ghost use Rattle.cluster_state.specs.States.{IsFit};

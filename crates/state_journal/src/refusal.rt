@@ -1,3 +1,4 @@
+//! The error of two files that are no journal of changes.
 ghost use Rattle.std.specs.Prelude.{◌≡◌};
 ghost use Rattle.state_journal.specs.Journal.{fault_by, why_by};
 ghost use Rattle.state_journal.specs.Opening.{error_by};

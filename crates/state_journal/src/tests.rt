@@ -1,3 +1,4 @@
+//! Journals byte by byte, what an opening finds, and each device call of a renewal struck in turn.
 use crate::{ArmKeeper, KeepError, Keeper, OpenError, PlainKeeper, Ready, StateJournal, Why};
 use std::test::Fail;
 use voting_config::{NodeId, NodeSet, VotingConfig};

@@ -1,3 +1,4 @@
+//! Why two files are no journal of changes, as types and as text.
 use cluster_state::FieldError;
 use std::fmt;
 use thiserror::Error;

@@ -1,4 +1,4 @@
--- How an act ended, as a trace shows it: without the message that it sends and without what is kept.
+-- Part of the statement: how an act ended, as a trace shows it: without the message that it sends and without what is kept.
 use Rattle.world_model.specs.declared.acts.Outcome.{Outcome}
 use Rattle.world_model.specs.declared.acts.Outcome.TheVariants.{Answered, Disk, Crashed}
 use Rattle.world_model.specs.declared.acts.Reply.{Reply}

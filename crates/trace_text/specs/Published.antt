@@ -1,4 +1,4 @@
--- What a node has published.
+-- Part of the statement: what a node has published.
 use Rattle.std.specs.Prelude.{Option, None, Some}
 use Rattle.cluster_state.specs.declared.state.ClusterState.{ClusterState}
 use Rattle.world_model.specs.declared.acts.Outcome.{Outcome}

@@ -1,4 +1,4 @@
--- The lines of a trace.
+-- Part of the statement: the lines of a trace.
 use Rattle.std.specs.Prelude.{ℕ, ◌+◌, Bool, cond, Option, None, Some, List, [], ◌++◌, codes, decimal}
 use Rattle.serde_json.specs.Written.{compact_text}
 use Rattle.voting_config.specs.Ids.{Id}
@@ -28,7 +28,7 @@ use Rattle.world_model.specs.declared.acts.Reply.TheVariants.{Taken}
 use Rattle.world_model.specs.declared.acts.Outcome.{Outcome}
 use Rattle.world_model.specs.declared.acts.Outcome.TheVariants.{Answered}
 use Rattle.world_model.specs.Acts.{wins}
-use Rattle.schedule_text.specs.Words.{list_text}
+use Rattle.voting_config.specs.Lists.{list_text}
 use Rattle.trace_text.specs.declared.ending.Ending.{Ending}
 use Rattle.trace_text.specs.declared.ending.Ending.TheVariants as ending
 use Rattle.trace_text.specs.Endings.{ending_of}
@@ -138,7 +138,7 @@ down_line n = codes "down " ++ n ++ codes "\n"
 abbrev pub up_line : Id → List ℕ
 up_line n = codes "up " ++ n ++ codes "\n"
 
--- a node has stopped, between two acts or as it opened its journal
+-- a node has crashed, between two acts or as it opened its journal
 abbrev pub crashed_line : Id → List ℕ
 crashed_line n = codes "crashed " ++ n ++ codes "\n"
 

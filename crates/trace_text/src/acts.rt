@@ -1,3 +1,4 @@
+//! The line of an act: how it ended, and its fields.
 ghost use Rattle.std.specs.Prelude.{◌≡◌, ◌++◌, OnOk, codes, decimal};
 ghost use Rattle.world_model.specs.declared.acts.Act.TheVariants as act;
 ghost use Rattle.trace_text.specs.Trace.{act_text, ending_text, id_text, state_text};
@@ -32,7 +33,7 @@ pub fn write_state_json(
     text.bytes(json.as_slice())
 }
 
-/// Writes the front of an act's line: `act`, the node, and how the act ended.
+/// Writes the first part of an act's line: `act`, the node, and how the act ended.
 pub fn write_act_head(text: &mut Text, node: NodeId, ending: Ending) -> Result<(), AllocError>
     ensures { OnOk result (text.new ≡ text.old ++ (codes "act " ++ node ++ codes " " ++ ending_text ending ++ codes " ")) }
 {

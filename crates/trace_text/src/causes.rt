@@ -1,3 +1,4 @@
+//! The causes of refusals as text, each with its values, the node's own first.
 ghost use Rattle.std.specs.Prelude.{◌≡◌, ◌++◌, OnOk};
 ghost use Rattle.trace_text.specs.Trace.{one as one_text, two as two_text, named as named_text, initial_text, start_text, join_text, value_text, publish_text, response_text, commit_text, cause_text, ending_text};
 

@@ -1,3 +1,4 @@
+//! How an act ended, as a trace shows it.
 use world_model::Cause;
 
 /// How an act ended, as a trace shows it.
@@ -9,6 +10,6 @@ pub enum Ending {
     Stopped,
     /// The disk failed.
     Disk,
-    /// The node stopped inside the act.
+    /// The node crashed inside the act.
     Crashed,
 }

@@ -1,3 +1,4 @@
+//! The lines of messages, of wins and of commits.
 ghost use Rattle.std.specs.Prelude.{◌≡◌, ◌++◌, OnOk, Some, codes, decimal};
 ghost use Rattle.world_model.specs.declared.acts.Message.TheVariants as message;
 ghost use Rattle.trace_text.specs.Trace.{message_line, message_text, won_text, committed_text};

@@ -1,3 +1,4 @@
+//! The lines of nodes that crash, are down or up, and open their journals.
 ghost use Rattle.std.specs.Prelude.{◌≡◌, ◌++◌, OnOk};
 ghost use Rattle.trace_text.specs.Trace.{down_line, up_line, crashed_line, disk_line, record_line};
 
@@ -25,7 +26,7 @@ pub fn write_up(text: &mut Text, node: NodeId) -> Result<(), AllocError>
     text.word("\n")
 }
 
-/// Writes that a node has stopped, between two acts or as it opened its journal.
+/// Writes that a node has crashed, between two acts or as it opened its journal.
 pub fn write_crashed(text: &mut Text, node: NodeId) -> Result<(), AllocError>
     ensures { OnOk result (text.new ≡ text.old ++ crashed_line node) }
 {

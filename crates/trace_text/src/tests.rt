@@ -1,3 +1,4 @@
+//! Acts and messages with their lines. Their forms are those of docs/formats.md.
 use crate::{
     Ending, write_act_head, write_boot, write_cause, write_commit, write_commit_message,
     write_committed, write_crashed, write_disk, write_down, write_join, write_join_message,

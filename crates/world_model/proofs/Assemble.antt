@@ -4,7 +4,7 @@ use Rattle.voting_config.specs.Ids.{Id, same}
 use Rattle.world_model.specs.Acts.{Act, Outcome, NodeHistory, Bootstrap, Open, NoActs, Then}
 use Rattle.world_model.specs.Histories.{History, NoEntries, Next, node_history, Continues, ContinuesUnlessFirst, IsLocal, MayHappen, IsLegal}
 use Rattle.world_model.specs.Local.{BeginsEmpty, IsSourcedAll}
-use Rattle.world_model.proofs.Guards.{same_is}
+use Rattle.voting_config.proofs.Sets.{same_is}
 use Rattle.world_model.proofs.Legal.{own_deeds}
 
 -- an opening continues what the node keeps, also where it is the first act

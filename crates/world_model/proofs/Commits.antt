@@ -9,7 +9,7 @@ use Rattle.cluster_state.specs.declared.messages.PublishRequest.{PublishRequest}
 use Rattle.cluster_state.specs.declared.messages.PublishResponse.{PublishResponse}
 use Rattle.cluster_state.specs.declared.messages.ApplyCommit.{ApplyCommit}
 use Rattle.world_model.specs.Acts.{Act, Outcome, NodeHistory, Message, TakeJoin, Value, Publish, Response, Commit, NoActs, Then, Taken, Answered, PublishMessage, ResponseMessage, CommitMessage}
-use Rattle.world_model.specs.NodeState.{NodeState, node_state, term_of, accepted_of, committed_of, started_of, won_of, version_of, config_of, acks_of}
+use Rattle.world_model.specs.NodeState.{NodeState, node_state, term_of, accepted_of, committed_of, started_join_of, election_won_of, published_version_of, published_config_of, publish_votes_of}
 use Rattle.world_model.specs.Histories.{is_opening}
 use Rattle.world_model.proofs.Guards.{Joined, Valued, Accepts, Responded, Commits, response_guard}
 use Rattle.world_model.proofs.Moments.{Begins, begins_self, begins_before, IsSent, sent_later, sent_cases}
@@ -35,7 +35,7 @@ Holds D root n g accepted committed r =
 -- so it is for the last value of a round, where nobody else published in its term
 abbrev pub HoldsLast : (Id → NodeHistory) → ClusterState → Id → NodeHistory → NodeState → Type 0
 HoldsLast D root n g p =
-    Begins g (D n) → IsAloneIn D n p.term → p.won ≡ true → (r : PublishRequest) → IsSent g (PublishMessage r) → r.state.term ≡ p.term → r.state.version ≡ p.version
+    Begins g (D n) → IsAloneIn D n p.term → p.election_won ≡ true → (r : PublishRequest) → IsSent g (PublishMessage r) → r.state.term ≡ p.term → r.state.version ≡ p.published_version
     → Holds D root n g p.accepted p.committed r
 
 holds_later : (D : Id → NodeHistory) (root : ClusterState) (n : Id) (g : NodeHistory) (a : Act) (o : Outcome) (accepted : ClusterState) (committed : List Id) (r : PublishRequest)
@@ -88,7 +88,7 @@ module _ (D : Id → NodeHistory) (root : ClusterState) (W : IsSystem D root) wh
       let t = response_is_taken by.response.source by.response both.1.sourced.is_sent in
       let target : by.response.target ≡ n = ap (λ (x : PublishResponse). x.target) by.response_is in
       let term : by.response.term ≡ term_of at.before = ap (λ (x : PublishResponse). x.term) by.response_is in
-      let version : by.response.version ≡ version_of at.before = ap (λ (x : PublishResponse). x.version) by.response_is in
+      let version : by.response.version ≡ published_version_of at.before = ap (λ (x : PublishResponse). x.version) by.response_is in
       record {
         request = t.request;
         is_sent = subst (λ (k : Id). IsSent (D k) (PublishMessage t.request)) target t.is_sent;
@@ -99,18 +99,18 @@ module _ (D : Id → NodeHistory) (root : ClusterState) (W : IsSystem D root) wh
 module _ (D : Id → NodeHistory) (root : ClusterState) (W : IsSystem D root) (n : Id) where
   -- where an act changes nothing of this
   hold_later : (g : NodeHistory) (a : Act) (o : Outcome) → IsExecution D root n (Then g a o) → ((v : ℕ) (c : List Id) (x : ClusterValue) → a ≡ Value v c x → ⊥) → HoldsLast D root n g (node_state g)
-      → Begins (Then g a o) (D n) → IsAloneIn D n (term_of g) → won_of g ≡ true → (r : PublishRequest) → IsSent (Then g a o) (PublishMessage r) → r.state.term ≡ term_of g → r.state.version ≡ version_of g
+      → Begins (Then g a o) (D n) → IsAloneIn D n (term_of g) → election_won_of g ≡ true → (r : PublishRequest) → IsSent (Then g a o) (PublishMessage r) → r.state.term ≡ term_of g → r.state.version ≡ published_version_of g
       → Holds D root n (Then g a o) (accepted_of g) (committed_of g) r
   hold_later g a o f other i b alone h r s e d =
       let before = other_request D root W n g a o r f (λ y z. absurd (other _ _ _ y)) (λ x. x) s in
       holds_later D root n g a o (accepted_of g) (committed_of g) r (i (begins_before _ _ _ _ b) alone h r before e d)
 
-  hold_join : (g : NodeHistory) (j : Join) (s : Option Message) (w : Bool) → IsExecution D root n (Then g (TakeJoin j) (ok s w)) → Joined n g j s w → IsUp g → started_of g ≡ true → HoldsLast D root n g (node_state g)
-      → Begins (Then g (TakeJoin j) (ok s w)) (D n) → IsAloneIn D n (term_of g) → (w || won_of g) ≡ true → (r : PublishRequest) → IsSent (Then g (TakeJoin j) (ok s w)) (PublishMessage r)
-      → r.state.term ≡ term_of g → r.state.version ≡ cond w (accepted_of g).version (version_of g) → Holds D root n (Then g (TakeJoin j) (ok s w)) (accepted_of g) (committed_of g) r
+  hold_join : (g : NodeHistory) (j : Join) (s : Option Message) (w : Bool) → IsExecution D root n (Then g (TakeJoin j) (ok s w)) → Joined n g j s w → IsUp g → started_join_of g ≡ true → HoldsLast D root n g (node_state g)
+      → Begins (Then g (TakeJoin j) (ok s w)) (D n) → IsAloneIn D n (term_of g) → (w || election_won_of g) ≡ true → (r : PublishRequest) → IsSent (Then g (TakeJoin j) (ok s w)) (PublishMessage r)
+      → r.state.term ≡ term_of g → r.state.version ≡ cond w (accepted_of g).version (published_version_of g) → Holds D root n (Then g (TakeJoin j) (ok s w)) (accepted_of g) (committed_of g) r
   hold_join g j s false f k u st i b alone h r x e d = hold_later g (TakeJoin j) (ok s false) f (λ v c y z. cc) i b alone h r x e d
   hold_join g j s true f k u st i b alone h r x e d =
-      let lost : won_of g ≡ false = not-true _ (and_parts _ _ (sym k.flag)).0 in
+      let lost : election_won_of g ≡ false = not-true _ (and_parts _ _ (sym k.flag)).0 in
       let before = other_request D root W n g (TakeJoin j) (ok s true) r f (λ y z. cc) (λ y. y) x in
       let less = (fresh D root W n g f.0 u st lost).1 r before in
       absurd (omega arith)
@@ -132,8 +132,8 @@ module _ (D : Id → NodeHistory) (root : ClusterState) (W : IsSystem D root) (n
           absurd (omega (arith, q.1, k.above))
 
   hold_publish : (g : NodeHistory) (x : PublishRequest) (s : Option Message) (w : Bool) → IsExecution D root n (Then g (Publish x) (ok s w)) → Accepts n g x s w → IsUp g → HoldsLast D root n g (node_state g)
-      → Begins (Then g (Publish x) (ok s w)) (D n) → IsAloneIn D n (term_of g) → won_of g ≡ true → (r : PublishRequest) → IsSent (Then g (Publish x) (ok s w)) (PublishMessage r)
-      → r.state.term ≡ term_of g → r.state.version ≡ version_of g → Holds D root n (Then g (Publish x) (ok s w)) x.state x.state.committed r
+      → Begins (Then g (Publish x) (ok s w)) (D n) → IsAloneIn D n (term_of g) → election_won_of g ≡ true → (r : PublishRequest) → IsSent (Then g (Publish x) (ok s w)) (PublishMessage r)
+      → r.state.term ≡ term_of g → r.state.version ≡ published_version_of g → Holds D root n (Then g (Publish x) (ok s w)) x.state x.state.committed r
   hold_publish g x s w f k u i b alone h r y e d =
       let before = other_request D root W n g _ _ r f (λ a z. cc) (λ a. a) y in
       let mine = f.1.sourced.own (alone x.source x f.1.sourced.is_sent k.now) in
@@ -170,8 +170,8 @@ module _ (D : Id → NodeHistory) (root : ClusterState) (W : IsSystem D root) (n
           absurd (omega arith)
 
   hold_commit : (g : NodeHistory) (c : ApplyCommit) (s : Option Message) (w : Bool) → IsExecution D root n (Then g (Commit c) (ok s w)) → Commits g c s w → IsUp g → HoldsLast D root n g (node_state g)
-      → Begins (Then g (Commit c) (ok s w)) (D n) → IsAloneIn D n (term_of g) → won_of g ≡ true → (r : PublishRequest) → IsSent (Then g (Commit c) (ok s w)) (PublishMessage r)
-      → r.state.term ≡ term_of g → r.state.version ≡ version_of g → Holds D root n (Then g (Commit c) (ok s w)) (accepted_of g) (accepted_of g).config r
+      → Begins (Then g (Commit c) (ok s w)) (D n) → IsAloneIn D n (term_of g) → election_won_of g ≡ true → (r : PublishRequest) → IsSent (Then g (Commit c) (ok s w)) (PublishMessage r)
+      → r.state.term ≡ term_of g → r.state.version ≡ published_version_of g → Holds D root n (Then g (Commit c) (ok s w)) (accepted_of g) (accepted_of g).config r
   hold_commit g c s w f k u i b alone h r y e d =
       from (i (begins_before _ _ _ _ b) alone h r (other_request D root W n g _ _ r f (λ a z. cc) (λ a. a) y) e d)
     where
@@ -207,8 +207,8 @@ module _ (D : Id → NodeHistory) (root : ClusterState) (W : IsSystem D root) (n
     boots = λ g c s w f k u st i b alone h. absurd ((won_has_win D root W n g f.0 u h).named k.empty);
   }
 
-  pub publisher_config : (g : NodeHistory) → IsExecution D root n g → IsUp g → Begins g (D n) → IsAloneIn D n (term_of g) → won_of g ≡ true → (r : PublishRequest) → IsSent g (PublishMessage r)
-      → r.state.term ≡ term_of g → r.state.version ≡ version_of g → Holds D root n g (accepted_of g) (committed_of g) r
+  pub publisher_config : (g : NodeHistory) → IsExecution D root n g → IsUp g → Begins g (D n) → IsAloneIn D n (term_of g) → election_won_of g ≡ true → (r : PublishRequest) → IsSent g (PublishMessage r)
+      → r.state.term ≡ term_of g → r.state.version ≡ published_version_of g → Holds D root n g (accepted_of g) (committed_of g) r
   publisher_config g f u b alone h = in_round D root n (HoldsLast D root n) hold_steps g f u (won_starts D root n g f h) b alone h
 
 -- n published a state of this id, which a quorum of both its configurations has accepted
@@ -225,7 +225,7 @@ pub record CommitIn (D : Id → NodeHistory) (n : Id) (term version : ℕ) : Typ
 module _ (D : Id → NodeHistory) (root : ClusterState) (W : IsSystem D root) (n : Id) where
   -- r, which the sender of a commit published last, was taken by each node that acknowledged it
   took_last : (g : NodeHistory) (p : PublishResponse) (s : Option Message) (flag : Bool) → IsExecution D root n (Then g (Response p) (ok s flag)) → Responded n g p s flag → (r : PublishRequest) → IsSent (D n) (PublishMessage r)
-      → r.state.term ≡ term_of g → r.state.version ≡ version_of g → (m : Id) → has m (with_id p.source (acks_of g)) ≡ true → Took (D m) r
+      → r.state.term ≡ term_of g → r.state.version ≡ published_version_of g → (m : Id) → has m (with_id p.source (publish_votes_of g)) ≡ true → Took (D m) r
   took_last g p s flag f k r t e d m h =
       let acked = acks_are_responses D root W n (Then g (Response p) (ok s flag)) f (record { runs = k.runs; alive = refl }) (won_starts D root n g f.0 k.won) m h in
       let x = response_is_taken D root W m _ acked.1 in
@@ -233,18 +233,18 @@ module _ (D : Id → NodeHistory) (root : ClusterState) (W : IsSystem D root) (n
       subst (λ (q : PublishRequest). Took (D m) q) one.1 x.took
 
   -- the sender of a commit has published its state, in this round and last
-  is_last : (g : NodeHistory) → IsExecution D root n g → IsUp g → Begins g (D n) → won_of g ≡ true → (r : PublishRequest) → IsSent (D n) (PublishMessage r) → r.state.term ≡ term_of g → r.state.version ≡ version_of g
-      → IsSent g (PublishMessage r) × (config_of g ≡ r.state.config)
+  is_last : (g : NodeHistory) → IsExecution D root n g → IsUp g → Begins g (D n) → election_won_of g ≡ true → (r : PublishRequest) → IsSent (D n) (PublishMessage r) → r.state.term ≡ term_of g → r.state.version ≡ published_version_of g
+      → IsSent g (PublishMessage r) × (published_config_of g ≡ r.state.config)
   is_last g f u b won r t e d = from w (last_values D root W n g f u won w.before w.won w.same_term)
     where
       w : WonIn g (term_of g) (accepted_of g)
       w = won_has_win D root W n g f u won
 
-      from : (w : WonIn g (term_of g) (accepted_of g)) → LastValue g w.before (term_of g) (version_of g) (config_of g) → IsSent g (PublishMessage r) × (config_of g ≡ r.state.config)
+      from : (w : WonIn g (term_of g) (accepted_of g)) → LastValue g w.before (term_of g) (published_version_of g) (published_config_of g) → IsSent g (PublishMessage r) × (published_config_of g ≡ r.state.config)
       from w l = last l.last
         where
-          last : (version_of g ≡ (accepted_of w.before).version) ⊎ ((q : PublishRequest) × IsSent g (PublishMessage q) × (q.state.term ≡ term_of g) × (q.state.version ≡ version_of g) × (q.state.config ≡ config_of g))
-              → IsSent g (PublishMessage r) × (config_of g ≡ r.state.config)
+          last : (published_version_of g ≡ (accepted_of w.before).version) ⊎ ((q : PublishRequest) × IsSent g (PublishMessage q) × (q.state.term ≡ term_of g) × (q.state.version ≡ published_version_of g) × (q.state.config ≡ published_config_of g))
+              → IsSent g (PublishMessage r) × (published_config_of g ≡ r.state.config)
           last (inl z) =
               let more = value_above_win D root W n w.before r (won_later w.before g (D n) b w.won) t (e ∙ sym w.same_term) in
               absurd (omega arith)
@@ -269,23 +269,23 @@ module _ (D : Id → NodeHistory) (root : ClusterState) (W : IsSystem D root) (n
       now : IsExecution D root n (Then g (Response by.response) (ok (Some (CommitMessage c)) flag))
       now = subst (λ (x : Act). IsExecution D root n (Then g x (ok (Some (CommitMessage c)) flag))) by.act_is f
 
-      quorums : (is_quorum_of (committed_of g) (with_id by.response.source (acks_of g)) ≡ true) × (is_quorum_of (config_of g) (with_id by.response.source (acks_of g)) ≡ true)
+      quorums : (is_quorum_of (committed_of g) (with_id by.response.source (publish_votes_of g)) ≡ true) × (is_quorum_of (published_config_of g) (with_id by.response.source (publish_votes_of g)) ≡ true)
       quorums = and_parts _ _ by.quorum
 
-      direct : (v : IsValueOf D n c.term c.version) → config_of g ≡ v.request.state.config → committed_of g ≡ v.request.state.committed → CommitIn D n c.term c.version
+      direct : (v : IsValueOf D n c.term c.version) → published_config_of g ≡ v.request.state.config → committed_of g ≡ v.request.state.committed → CommitIn D n c.term c.version
       direct v e d =
           record {
             request = v.request;
             is_sent = v.is_sent;
             term_is = v.term_is;
             version_is = v.version_is;
-            acks = with_id by.response.source (acks_of g);
-            config_quorum = subst (λ (x : List Id). is_quorum_of x (with_id by.response.source (acks_of g)) ≡ true) e quorums.1;
-            committed_quorum = subst (λ (x : List Id). is_quorum_of x (with_id by.response.source (acks_of g)) ≡ true) d quorums.0;
+            acks = with_id by.response.source (publish_votes_of g);
+            config_quorum = subst (λ (x : List Id). is_quorum_of x (with_id by.response.source (publish_votes_of g)) ≡ true) e quorums.1;
+            committed_quorum = subst (λ (x : List Id). is_quorum_of x (with_id by.response.source (publish_votes_of g)) ≡ true) d quorums.0;
             took_it = took_last g by.response (Some (CommitMessage c)) flag now (response_guard n g by.response _ _ now.1.follows.follows) v.request v.is_sent (v.term_is ∙ by.term_is) (v.version_is ∙ by.version_is);
           }
 
-      from : (v : IsValueOf D n c.term c.version) → config_of g ≡ v.request.state.config → Holds D root n g (accepted_of g) (committed_of g) v.request → CommitIn D n c.term c.version
+      from : (v : IsValueOf D n c.term c.version) → published_config_of g ≡ v.request.state.config → Holds D root n g (accepted_of g) (committed_of g) v.request → CommitIn D n c.term c.version
       from v e (inl h) = direct v e h.2
       from v e (inr h) = held h.1
         where

@@ -6,7 +6,7 @@ use Rattle.cluster_state.specs.declared.state.ClusterState.{ClusterState}
 use Rattle.cluster_state.specs.declared.messages.Join.{Join}
 use Rattle.cluster_state.specs.declared.messages.PublishRequest.{PublishRequest}
 use Rattle.world_model.specs.Acts.{Act, NodeHistory, Message, TakeJoin, Value, Then, PublishMessage}
-use Rattle.world_model.specs.NodeState.{node_state, term_of, accepted_of, votes_of, won_of}
+use Rattle.world_model.specs.NodeState.{node_state, term_of, accepted_of, join_votes_of, election_won_of}
 use Rattle.world_model.specs.Replies.{elects}
 use Rattle.world_model.proofs.Guards.{Joined, join_guard}
 use Rattle.world_model.proofs.Moments.{Begins, begins_before, acts_order, IsSent}
@@ -23,8 +23,8 @@ pub record Winning (D : Id → NodeHistory) (root : ClusterState) (n : Id) (b : 
   pub now : IsExecution D root n (Then b (TakeJoin join) (ok sends flag))
   pub up : IsUp b
   pub guard : Joined n b join sends flag
-  pub not_yet : won_of b ≡ false
-  pub quorums : elects (node_state b) (with_id join.source (votes_of b)) ≡ true
+  pub not_yet : election_won_of b ≡ false
+  pub quorums : elects (node_state b) (with_id join.source (join_votes_of b)) ≡ true
 
 -- the moment before a state was published, with what is known then
 pub record Valuing (D : Id → NodeHistory) (root : ClusterState) (n : Id) (r : PublishRequest) : Type 0 where

@@ -151,7 +151,7 @@ pub record IsCommitOf (h : History) (node : Id) (term version : ℕ) : Type 0 wh
 pub record Facts (h : History) (root : ClusterState) : Type 0 where
   -- a node joins one candidate in a term
   pub join_once : (j k : Join) → Contains (sent h) (JoinMessage j) → Contains (sent h) (JoinMessage k) → j.source ≡ k.source → j.term ≡ k.term → j.target ≡ k.target
-  -- a join tells of each state of an earlier term that its node ever accepts, or of a later one
+  -- a join reports each state of an earlier term that its node ever accepts, or a later one
   pub join_carries : (a : Acceptance) (j : Join) → Contains (took h) a → Contains (sent h) (JoinMessage j) → a.node ≡ j.source → a.state.term < j.term → IsIdAtMost a.state.term a.state.version j.last_term j.last_version
   pub win_facts : (e : Election) → Contains (elections h) e → WinFacts h root e
   -- a node wins a term once

@@ -6,7 +6,7 @@ use Rattle.cluster_state.specs.declared.state.ClusterState.{ClusterState}
 use Rattle.cluster_state.specs.declared.messages.Join.{Join}
 use Rattle.cluster_state.specs.declared.messages.PublishRequest.{PublishRequest}
 use Rattle.world_model.specs.Acts.{Act, Outcome, NodeHistory, Message, Bootstrap, StartJoin, TakeJoin, Value, Publish, Response, Commit, Open, Then, Taken, Answered, JoinMessage, PublishMessage, CommitMessage, is_ok, wins}
-use Rattle.world_model.specs.NodeState.{term_of, accepted_of, committed_of, votes_of, empty_state}
+use Rattle.world_model.specs.NodeState.{term_of, accepted_of, committed_of, join_votes_of, empty_state}
 use Rattle.world_model.specs.Replies.{IsOutcome}
 use Rattle.world_model.proofs.Facts.{IsIdAtMost}
 use Rattle.world_model.proofs.Guards.{boot_guard, start_guard, value_guard, publish_guard, response_guard, commit_guard}
@@ -286,7 +286,7 @@ module _ (h : History) (root : ClusterState) (W : IsSystem (node_history h) root
           let quorums = and_parts _ _ w.quorums in
           record {
             committed = committed_of b;
-            votes = with_id w.join.source (votes_of b);
+            votes = with_id w.join.source (join_votes_of b);
             accepted_quorum = quorums.1;
             committed_quorum = quorums.0;
             voted = λ m k. joined h root W m n (term_of b) (accepted_of b)
@@ -309,7 +309,7 @@ module _ (h : History) (root : ClusterState) (W : IsSystem (node_history h) root
           let above = root_below_wins (node_history h) root W n w.before won in
           record {
             election = record { node = n; term = term_of w.before; base = accepted_of w.before };
-            votes = votes_of v.before;
+            votes = join_votes_of v.before;
             is_election = election_to h root W n w.before won;
             same_node = refl;
             same_term = w.same_term ∙ sym v.by.term_is;

@@ -1,16 +1,16 @@
 -- What an act that was taken says of the node that took it: each test of its reply, told once.
 use Rattle.std.proofs.Common.{◌≡◌, ◌≢◌, ℕ, ◌≤◌, ◌<◌, Bool, true, false, cond, not, ◌&&◌, Option, None, Some, Result, Ok, Err, List, [], ◌∷◌, refl, sym, arith, ◌⊎◌, inl, inr, nat_le, nat_lt, nat_eq}
-use Rattle.std.proofs.lemmas.Bool.{and_parts, and_cases, not-false, leb-false, ltb-false, eqb-true}
+use Rattle.std.proofs.lemmas.Bool.{and_cases, not-false, leb-false, ltb-false, eqb-true}
 use Rattle.std.proofs.lemmas.Bool.Decides.{nat_tests}
-use Rattle.std.specs.Cmp.Lexicographic.{bytes_decides}
-use Rattle.voting_config.specs.Ids.{Id, same, with_id, is_quorum_of, same_config}
+use Rattle.voting_config.specs.Ids.{Id, with_id, is_quorum_of, same_config}
+use Rattle.voting_config.proofs.Sets.{same_is, same_config_is}
 use Rattle.cluster_state.specs.declared.state.ClusterValue.{ClusterValue}
 use Rattle.cluster_state.specs.declared.messages.Join.{Join}
 use Rattle.cluster_state.specs.declared.messages.PublishRequest.{PublishRequest}
 use Rattle.cluster_state.specs.declared.messages.PublishResponse.{PublishResponse}
 use Rattle.cluster_state.specs.declared.messages.ApplyCommit.{ApplyCommit}
 use Rattle.world_model.specs.Acts.{Act, Outcome, NodeHistory, Reply, Message, Cause, Bootstrap, StartJoin, TakeJoin, Value, Publish, Response, Commit, Taken, Refused, Stopped, Answered, Disk, Crashed, JoinMessage, PublishMessage, ResponseMessage, StartRefused, JoinRefused, is_effective}
-use Rattle.world_model.specs.NodeState.{node_state, term_of, accepted_of, committed_of, started_of, votes_of, won_of, version_of, stopped_of}
+use Rattle.world_model.specs.NodeState.{node_state, term_of, accepted_of, committed_of, started_join_of, join_votes_of, election_won_of, published_version_of, halted_of}
 use Rattle.world_model.proofs.Facts.{IsIdAtMost}
 use Rattle.world_model.specs.Replies.{last_number, is_empty, elects, reply_of, is_taken, join_checked, after_check, IsOutcome, commit_sent}
 
@@ -19,7 +19,7 @@ past : (b : Bool) (c : Cause) (r : Reply) (s : Option Message) (w : Bool) → Ta
 past true c r s w h = cc
 past false c r s w h = (refl, h)
 
--- past the test for a stopped disk
+-- past the test for a halted node
 running : (b : Bool) (r : Reply) (s : Option Message) (w : Bool) → Taken s w ≡ cond b Stopped r → (b ≡ false) × (Taken s w ≡ r)
 running true r s w h = cc
 running false r s w h = (refl, h)
@@ -47,9 +47,6 @@ some_is : (ids : List Id) → is_empty ids ≡ false → ids ≢ []
 some_is [] h e = cc
 some_is (x ∷ xs) h e = cc
 
-pub same_is : (x y : Id) → same x y ≡ true → x ≡ y
-same_is x y h = (bytes_decides x y).0 h
-
 -- an act that was kept would be taken
 pub kept_is_taken : (me : Id) (g : NodeHistory) (act : Act) (o : Outcome) → IsOutcome me g act o → is_effective o ≡ true → (s : Option Message) × (w : Bool) × (Taken s w ≡ reply_of me g act)
 kept_is_taken me g act (Answered (Taken s w)) h k = (s, w, h)
@@ -70,7 +67,7 @@ kept_is_taken me g act (Crashed kept) h k = as_taken _ h.0
 
 pub record Booted (g : NodeHistory) (config : List Id) (s : Option Message) (w : Bool) : Type 0 where
   pub flag : w ≡ false
-  pub runs : stopped_of g ≡ false
+  pub runs : halted_of g ≡ false
   pub sends : s ≡ None
   pub empty : (accepted_of g).config ≡ []
   pub named : config ≢ []
@@ -84,7 +81,7 @@ boot_guard me g config s w h =
 
 pub record Started (me : Id) (g : NodeHistory) (candidate : Id) (term : ℕ) (s : Option Message) (w : Bool) : Type 0 where
   pub flag : w ≡ false
-  pub runs : stopped_of g ≡ false
+  pub runs : halted_of g ≡ false
   pub above : term_of g < term
   pub below : term ≤ last_number
   pub sends : s ≡ Some (JoinMessage (record { source = me; target = candidate; term = term; last_term = (accepted_of g).term; last_version = (accepted_of g).version }))
@@ -98,14 +95,14 @@ start_guard me g candidate term s w h =
     record { flag = flag_is _ _ _ _ b.1; runs = a.0; above = leb-false _ _ c.0; below = ltb-false _ _ d.0; sends = sends_is _ _ _ _ b.1 }
 
 pub record Joined (me : Id) (g : NodeHistory) (j : Join) (s : Option Message) (w : Bool) : Type 0 where
-  pub runs : stopped_of g ≡ false
+  pub runs : halted_of g ≡ false
   pub mine : j.target ≡ me
   pub now : j.term ≡ term_of g
-  pub started : started_of g ≡ true
+  pub started : started_join_of g ≡ true
   pub older : IsIdAtMost j.last_term j.last_version (accepted_of g).term (accepted_of g).version
   pub named : (accepted_of g).config ≢ []
   pub sends : s ≡ None
-  pub flag : w ≡ (not (won_of g) && elects (node_state g) (with_id j.source (votes_of g)))
+  pub flag : w ≡ (not (election_won_of g) && elects (node_state g) (with_id j.source (join_votes_of g)))
 
 older_is : (a b v w : ℕ) → nat_lt a b ≡ false → (nat_eq a b && nat_lt v w) ≡ false → (b < a) ⊎ ((a ≡ b) × (w ≤ v))
 older_is a b v w h k = grind (arith, nat_tests)
@@ -134,24 +131,14 @@ join_guard me g j s w h =
 
 pub record Valued (me : Id) (g : NodeHistory) (version : ℕ) (config : List Id) (value : ClusterValue) (s : Option Message) (w : Bool) : Type 0 where
   pub flag : w ≡ false
-  pub runs : stopped_of g ≡ false
-  pub won : won_of g ≡ true
-  pub settled : version_of g ≡ (accepted_of g).version
-  pub above : version_of g < version
+  pub runs : halted_of g ≡ false
+  pub won : election_won_of g ≡ true
+  pub settled : published_version_of g ≡ (accepted_of g).version
+  pub above : published_version_of g < version
   pub below : version ≤ last_number
   pub steady : (config ≡ (accepted_of g).config) ⊎ (committed_of g ≡ (accepted_of g).config)
-  pub quorum : is_quorum_of config (votes_of g) ≡ true
+  pub quorum : is_quorum_of config (join_votes_of g) ≡ true
   pub sends : s ≡ Some (PublishMessage (record { source = me; state = record { term = term_of g; version = version; config = config; committed = committed_of g; value = value } }))
-
-same_config_is : (xs ys : List Id) → same_config xs ys ≡ true → xs ≡ ys
-same_config_is [] [] h = refl
-same_config_is [] (y ∷ ys) h = cc
-same_config_is (x ∷ xs) [] h = cc
-same_config_is (x ∷ xs) (y ∷ ys) h =
-    let parts = and_parts _ _ h in
-    let heads = same_is x y parts.0 in
-    let tails = same_config_is xs ys parts.1 in
-    cc
 
 steady_is : (c a k : List Id) → (not (same_config c a) && not (same_config k a)) ≡ false → (c ≡ a) ⊎ (k ≡ a)
 steady_is c a k h = from (and_cases _ _ h)
@@ -183,7 +170,7 @@ value_guard me g version config value s w h =
 
 pub record Accepts (me : Id) (g : NodeHistory) (r : PublishRequest) (s : Option Message) (w : Bool) : Type 0 where
   pub flag : w ≡ false
-  pub runs : stopped_of g ≡ false
+  pub runs : halted_of g ≡ false
   pub now : r.state.term ≡ term_of g
   pub newer : r.state.term ≡ (accepted_of g).term → (accepted_of g).version < r.state.version
   pub sends : s ≡ Some (ResponseMessage (record { source = me; target = r.source; term = r.state.term; version = r.state.version }))
@@ -206,11 +193,11 @@ publish_guard me g r s w h =
 
 pub record Responded (me : Id) (g : NodeHistory) (r : PublishResponse) (s : Option Message) (w : Bool) : Type 0 where
   pub flag : w ≡ false
-  pub runs : stopped_of g ≡ false
+  pub runs : halted_of g ≡ false
   pub mine : r.target ≡ me
-  pub won : won_of g ≡ true
+  pub won : election_won_of g ≡ true
   pub now : r.term ≡ term_of g
-  pub current : r.version ≡ version_of g
+  pub current : r.version ≡ published_version_of g
   pub sends : s ≡ commit_sent me (node_state g) r
 
 pub response_guard : (me : Id) (g : NodeHistory) (r : PublishResponse) (s : Option Message) (w : Bool) → Taken s w ≡ reply_of me g (Response r) → Responded me g r s w
@@ -232,12 +219,12 @@ response_guard me g r s w h =
 
 pub record Commits (g : NodeHistory) (c : ApplyCommit) (s : Option Message) (w : Bool) : Type 0 where
   pub flag : w ≡ false
-  pub runs : stopped_of g ≡ false
+  pub runs : halted_of g ≡ false
   pub sends : s ≡ None
   pub now : c.term ≡ term_of g
   pub accepted_term : c.term ≡ (accepted_of g).term
   pub accepted_version : c.version ≡ (accepted_of g).version
-  pub settled : won_of g ≡ true → (accepted_of g).version ≡ version_of g
+  pub settled : election_won_of g ≡ true → (accepted_of g).version ≡ published_version_of g
 
 settled_is : (b : Bool) (v w : ℕ) → (b && not (nat_eq v w)) ≡ false → b ≡ true → v ≡ w
 settled_is true v w h k = eqb-true _ _ (not-false _ h)

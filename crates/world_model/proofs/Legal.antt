@@ -10,13 +10,9 @@ use Rattle.world_model.proofs.System.{IsGround, IsFrom, IsExecution, IsSystem, s
 use Rattle.std.proofs.Common.{◌++◌, length}
 use Rattle.std.proofs.lemmas.List.Elements.{Contains-append_cases, Contains-append_left, Contains-append_right}
 use Rattle.std.specs.Prelude.{Contains, slice_index_or, zero, suc}
-use Rattle.std.specs.Cmp.Lexicographic.{bytes_decides}
 use Rattle.world_model.specs.Histories.{MayFollow, History, NoEntries, Next, node_history, sent, sent_by, Continues, IsSourced, IsLegal, IsPrefix}
-use Rattle.world_model.proofs.Guards.{same_is}
+use Rattle.voting_config.proofs.Sets.{same_is, same_self}
 use Rattle.world_model.proofs.System.{Opens, Sourced, Origin}
-
-pub same_self : (n : Id) → same n n ≡ true
-same_self n = (bytes_decides n n).1 refl
 
 pub one_of : {X : Type 0} (y x : X) → Contains (y ∷ []) x → y ≡ x
 one_of {X} y x c = from c.0 c.1 c.2

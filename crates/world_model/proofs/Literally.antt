@@ -5,10 +5,10 @@ use Rattle.std.specs.Option.{unwrap_or}
 use Rattle.voting_config.specs.Ids.{Id, has, same, with_id}
 use Rattle.voting_config.proofs.Sorted.{has-with_id}
 use Rattle.world_model.specs.Acts.{Act, NodeHistory, Bootstrap, StartJoin, TakeJoin, Value, Publish, Response, Commit, Open, NoActs, Then, Taken, Answered, Disk, Crashed, is_ok, is_disk}
-use Rattle.world_model.specs.NodeState.{node_state, durable_of, term_of, accepted_of, committed_of, started_of, votes_of, won_of, version_of, config_of, acks_of, stopped_of}
+use Rattle.world_model.specs.NodeState.{node_state, durable_of, term_of, accepted_of, committed_of, started_join_of, join_votes_of, election_won_of, published_version_of, published_config_of, publish_votes_of, halted_of}
 use Rattle.world_model.specs.Replies.{reply_of, reply_at}
 use Rattle.world_model.specs.Histories.{History, node_history, IsLocal, IsLegal}
-use Rattle.world_model.specs.Literal.{any, after_last, last, all, has_a, set_of, winning_join, ok_join, ok_response, ok_value, Proposal, has_round, round_of, literal_term, literal_accepted, literal_committed, literal_votes, literal_won, literal_published, literal_acks, literal_stopped, literal_durable, literal_state, KeepsLiterally}
+use Rattle.world_model.specs.Literal.{any, after_last, last, all, has_a, set_of, winning_join, ok_join, ok_response, ok_value, Proposal, has_round, round_of, literal_term, literal_accepted, literal_committed, literal_join_votes, literal_election_won, literal_published, literal_publish_votes, literal_halted, literal_durable, literal_state, KeepsLiterally}
 use Rattle.world_model.proofs.Assemble.{legal_is}
 use Rattle.world_model.proofs.Guards.{join_guard, value_guard, response_guard}
 
@@ -18,16 +18,16 @@ has-set_of x (y ∷ ys) = has-with_id x y (set_of ys) ∙ ap (λ b. same y x || 
 
 -- Of any acts.
 
-pub started_is : (g : NodeHistory) → started_of g ≡ has_round g
+pub started_is : (g : NodeHistory) → started_join_of g ≡ has_round g
 started_is NoActs = refl
 started_is (Then g (StartJoin c t) o) = ap (λ b. is_ok o || b) (started_is g)
 started_is (Then g (Open found) o) = refl
 started_is (Then g a o) = started_is g
 
-pub stopped_is : (g : NodeHistory) → stopped_of g ≡ literal_stopped g
-stopped_is NoActs = refl
-stopped_is (Then g (Open found) o) = refl
-stopped_is (Then g a o) = ap (λ b. is_disk o || b) (stopped_is g)
+pub halted_is : (g : NodeHistory) → halted_of g ≡ literal_halted g
+halted_is NoActs = refl
+halted_is (Then g (Open found) o) = refl
+halted_is (Then g a o) = ap (λ b. is_disk o || b) (halted_is g)
 
 one_more_term : (t m r s : ℕ) → m ≡ max r s → max t m ≡ max r (max t s)
 one_more_term t m r s h = omega arith
@@ -72,7 +72,7 @@ pub durable_is : (g : NodeHistory) → durable_of g ≡ literal_durable g
 durable_is g = λ i. record { term = term_is g i; accepted = accepted_is g i; committed = committed_is g i }
 
 pub keeps_literally : (g : NodeHistory) → KeepsLiterally g
-keeps_literally g = record { durable = durable_is g; started = started_is g; stopped = stopped_is g }
+keeps_literally g = record { durable = durable_is g; started_join = started_is g; halted = halted_is g }
 
 -- Of acts that follow each other. What is looked up of a round is only taken in a round.
 
@@ -85,21 +85,21 @@ one_more_source : (s : Id) (ids sources : List Id) (b : Bool) → b ≡ true →
 one_more_source s ids sources true h k = ap (λ x. with_id s x) k
 one_more_source s ids sources false h k = cc
 
-pub votes_is : (me : Id) (g : NodeHistory) → IsLocal me g → votes_of g ≡ literal_votes g
+pub votes_is : (me : Id) (g : NodeHistory) → IsLocal me g → join_votes_of g ≡ literal_join_votes g
 votes_is me NoActs f = refl
 votes_is me (Then g (StartJoin c t) (Answered (Taken s w))) f = refl
 votes_is me (Then g (TakeJoin j) (Answered (Taken s w))) f =
     let guard = join_guard me g j s w f.1.follows in
-    one_more_source j.source (votes_of g) (all ok_join (round_of g)) (has_round g) (sym (started_is g) ∙ guard.started) (votes_is me g f.0)
+    one_more_source j.source (join_votes_of g) (all ok_join (round_of g)) (has_round g) (sym (started_is g) ∙ guard.started) (votes_is me g f.0)
 votes_is me (Then g (Open found) o) f = refl
 votes_is me (Then g a o) f = votes_is me g f.0
 
-pub won_is : (me : Id) (g : NodeHistory) → IsLocal me g → won_of g ≡ literal_won g
+pub won_is : (me : Id) (g : NodeHistory) → IsLocal me g → election_won_of g ≡ literal_election_won g
 won_is me NoActs f = refl
 won_is me (Then g (StartJoin c t) (Answered (Taken s w))) f = refl
 won_is me (Then g (TakeJoin j) (Answered (Taken s w))) f =
     let guard = join_guard me g j s w f.1.follows in
-    from w (won_of g) (any winning_join (round_of g)) (has_round g) (sym (started_is g) ∙ guard.started) (won_is me g f.0)
+    from w (election_won_of g) (any winning_join (round_of g)) (has_round g) (sym (started_is g) ∙ guard.started) (won_is me g f.0)
   where
     from : (w v r b : Bool) → b ≡ true → v ≡ (b && r) → (w || v) ≡ (b && (w || r))
     from w v r true h k = ap (λ t. w || t) k
@@ -108,11 +108,11 @@ won_is me (Then g (Open found) o) f = refl
 won_is me (Then g a o) f = won_is me g f.0
 
 -- who won is in a round
-won_in_round : (me : Id) (g : NodeHistory) → IsLocal me g → won_of g ≡ true → has_round g ≡ true
+won_in_round : (me : Id) (g : NodeHistory) → IsLocal me g → election_won_of g ≡ true → has_round g ≡ true
 won_in_round me g f h = (and_parts _ _ (sym (won_is me g f) ∙ h)).0
 
 -- no value without a win
-no_value : (me : Id) (g : NodeHistory) → IsLocal me g → won_of g ≡ false → last ok_value (round_of g) ≡ None
+no_value : (me : Id) (g : NodeHistory) → IsLocal me g → election_won_of g ≡ false → last ok_value (round_of g) ≡ None
 no_value me NoActs f h = refl
 no_value me (Then g (StartJoin c t) (Answered (Taken s w))) f h = refl
 no_value me (Then g (TakeJoin j) (Answered (Taken s w))) f h = no_value me g f.0 (or_parts _ _ h).1
@@ -121,7 +121,7 @@ no_value me (Then g (Open found) o) f h = refl
 no_value me (Then g a o) f h = no_value me g f.0 h
 
 abbrev pub published_of : NodeHistory → Proposal
-published_of g = record { version = version_of g; config = config_of g }
+published_of g = record { version = published_version_of g; config = published_config_of g }
 
 pub published_is : (me : Id) (g : NodeHistory) → IsLocal me g → published_of g ≡ literal_published g
 published_is me NoActs f = refl
@@ -143,7 +143,7 @@ published_is me (Then g (Value v c x) (Answered (Taken s w))) f =
 published_is me (Then g (Open found) o) f = refl
 published_is me (Then g a o) f = published_is me g f.0
 
-pub acks_is : (me : Id) (g : NodeHistory) → IsLocal me g → acks_of g ≡ literal_acks g
+pub acks_is : (me : Id) (g : NodeHistory) → IsLocal me g → publish_votes_of g ≡ literal_publish_votes g
 acks_is me NoActs f = refl
 acks_is me (Then g (StartJoin c t) (Answered (Taken s w))) f = refl
 acks_is me (Then g (Value v c y) (Answered (Taken s w))) f =
@@ -151,7 +151,7 @@ acks_is me (Then g (Value v c y) (Answered (Taken s w))) f =
     in_round (has_round g) [] [] (won_in_round me g f.0 guard.won)
 acks_is me (Then g (Response r) (Answered (Taken s w))) f =
     let guard = response_guard me g r s w f.1.follows in
-    one_more_source r.source (acks_of g) (all ok_response (after_last (has_a ok_value) (round_of g))) (has_round g) (won_in_round me g f.0 guard.won) (acks_is me g f.0)
+    one_more_source r.source (publish_votes_of g) (all ok_response (after_last (has_a ok_value) (round_of g))) (has_round g) (won_in_round me g f.0 guard.won) (acks_is me g f.0)
 acks_is me (Then g (Open found) o) f = refl
 acks_is me (Then g a o) f = acks_is me g f.0
 
@@ -162,13 +162,13 @@ literal_is me g f =
       term = term_is g i;
       accepted = accepted_is g i;
       committed = committed_is g i;
-      started = started_is g i;
-      votes = votes_is me g f i;
-      won = won_is me g f i;
-      version = (published i).version;
-      config = (published i).config;
-      acks = acks_is me g f i;
-      stopped = stopped_is g i;
+      started_join = started_is g i;
+      join_votes = votes_is me g f i;
+      election_won = won_is me g f i;
+      published_version = (published i).version;
+      published_config = (published i).config;
+      publish_votes = acks_is me g f i;
+      halted = halted_is g i;
     }
 
 -- so each reply is over the literal definitions
@@ -184,8 +184,8 @@ has_in_round : (b : Bool) (x : Id) (ids : List Id) → has x (cond b (set_of ids
 has_in_round true x ids = has-set_of x ids
 has_in_round false x ids = refl
 
-pub vote_is : (me : Id) (g : NodeHistory) → IsLocal me g → (x : Id) → has x (votes_of g) ≡ (has_round g && has x (all ok_join (round_of g)))
+pub vote_is : (me : Id) (g : NodeHistory) → IsLocal me g → (x : Id) → has x (join_votes_of g) ≡ (has_round g && has x (all ok_join (round_of g)))
 vote_is me g f x = ap (λ ids. has x ids) (votes_is me g f) ∙ has_in_round _ x _
 
-pub ack_is : (me : Id) (g : NodeHistory) → IsLocal me g → (x : Id) → has x (acks_of g) ≡ (has_round g && has x (all ok_response (after_last (has_a ok_value) (round_of g))))
+pub ack_is : (me : Id) (g : NodeHistory) → IsLocal me g → (x : Id) → has x (publish_votes_of g) ≡ (has_round g && has x (all ok_response (after_last (has_a ok_value) (round_of g))))
 ack_is me g f x = ap (λ ids. has x ids) (acks_is me g f) ∙ has_in_round _ x _

@@ -10,11 +10,12 @@ use Rattle.cluster_state.specs.declared.messages.PublishRequest.{PublishRequest}
 use Rattle.cluster_state.specs.declared.messages.PublishResponse.{PublishResponse}
 use Rattle.cluster_state.specs.declared.messages.ApplyCommit.{ApplyCommit}
 use Rattle.world_model.specs.Acts.{Act, Outcome, NodeHistory, Reply, Message, Bootstrap, StartJoin, TakeJoin, Value, Publish, Response, Commit, Open, NoActs, Then, Taken, Refused, Stopped, Answered, Disk, Crashed, JoinMessage, PublishMessage, ResponseMessage, is_ok, is_first, wins}
-use Rattle.world_model.specs.NodeState.{NodeState, node_state, term_of, accepted_of, committed_of, started_of, votes_of, won_of, version_of, config_of, acks_of, initial_state}
+use Rattle.world_model.specs.NodeState.{NodeState, node_state, term_of, accepted_of, committed_of, started_join_of, join_votes_of, election_won_of, published_version_of, published_config_of, publish_votes_of, initial_state}
 use Rattle.world_model.specs.Replies.{IsOutcome}
 use Rattle.world_model.specs.Histories.{is_down, is_opening, MayFollow}
 use Rattle.world_model.proofs.Facts.{IsIdAtMost, IsAtMost}
-use Rattle.world_model.proofs.Guards.{Booted, Started, Joined, Valued, Accepts, Responded, Commits, boot_guard, start_guard, join_guard, value_guard, publish_guard, response_guard, commit_guard, same_is}
+use Rattle.voting_config.proofs.Sets.{same_is}
+use Rattle.world_model.proofs.Guards.{Booted, Started, Joined, Valued, Accepts, Responded, Commits, boot_guard, start_guard, join_guard, value_guard, publish_guard, response_guard, commit_guard}
 use Rattle.world_model.proofs.Moments.{Begins, begins_self, begins_trans, IsSent, sent_later, sent_cases}
 use Rattle.world_model.proofs.System.{IsExecution, IsSystem, IsUp, PublishBy, sent_at, origin}
 use Rattle.world_model.proofs.Durable.{term_grows, request_named, accepted_grows}
@@ -40,22 +41,22 @@ pub record RoundSteps (D : Id → NodeHistory) (root : ClusterState) (me : Id) (
   pub quiet : (g : NodeHistory) (a : Act) (o : Outcome) (p : NodeState) → is_ok o ≡ false → P g p → P (Then g a o) p
   pub starts : (g : NodeHistory) (c : Id) (t : ℕ) (s : Option Message) (w : Bool) → IsExecution D root me (Then g (StartJoin c t) (ok s w)) → Started me g c t s w
       → P (Then g (StartJoin c t) (ok s w)) (node_state (Then g (StartJoin c t) (ok s w)))
-  pub joins : (g : NodeHistory) (j : Join) (s : Option Message) (w : Bool) → IsExecution D root me (Then g (TakeJoin j) (ok s w)) → Joined me g j s w → IsUp g → started_of g ≡ true → P g (node_state g)
+  pub joins : (g : NodeHistory) (j : Join) (s : Option Message) (w : Bool) → IsExecution D root me (Then g (TakeJoin j) (ok s w)) → Joined me g j s w → IsUp g → started_join_of g ≡ true → P g (node_state g)
       → P (Then g (TakeJoin j) (ok s w)) (node_state (Then g (TakeJoin j) (ok s w)))
-  pub values : (g : NodeHistory) (v : ℕ) (c : List Id) (x : ClusterValue) (s : Option Message) (w : Bool) → IsExecution D root me (Then g (Value v c x) (ok s w)) → Valued me g v c x s w → IsUp g → started_of g ≡ true → P g (node_state g)
+  pub values : (g : NodeHistory) (v : ℕ) (c : List Id) (x : ClusterValue) (s : Option Message) (w : Bool) → IsExecution D root me (Then g (Value v c x) (ok s w)) → Valued me g v c x s w → IsUp g → started_join_of g ≡ true → P g (node_state g)
       → P (Then g (Value v c x) (ok s w)) (node_state (Then g (Value v c x) (ok s w)))
-  pub publishes : (g : NodeHistory) (r : PublishRequest) (s : Option Message) (w : Bool) → IsExecution D root me (Then g (Publish r) (ok s w)) → Accepts me g r s w → IsUp g → started_of g ≡ true → P g (node_state g)
+  pub publishes : (g : NodeHistory) (r : PublishRequest) (s : Option Message) (w : Bool) → IsExecution D root me (Then g (Publish r) (ok s w)) → Accepts me g r s w → IsUp g → started_join_of g ≡ true → P g (node_state g)
       → P (Then g (Publish r) (ok s w)) (node_state (Then g (Publish r) (ok s w)))
-  pub responds : (g : NodeHistory) (r : PublishResponse) (s : Option Message) (w : Bool) → IsExecution D root me (Then g (Response r) (ok s w)) → Responded me g r s w → IsUp g → started_of g ≡ true → P g (node_state g)
+  pub responds : (g : NodeHistory) (r : PublishResponse) (s : Option Message) (w : Bool) → IsExecution D root me (Then g (Response r) (ok s w)) → Responded me g r s w → IsUp g → started_join_of g ≡ true → P g (node_state g)
       → P (Then g (Response r) (ok s w)) (node_state (Then g (Response r) (ok s w)))
-  pub commits : (g : NodeHistory) (c : ApplyCommit) (s : Option Message) (w : Bool) → IsExecution D root me (Then g (Commit c) (ok s w)) → Commits g c s w → IsUp g → started_of g ≡ true → P g (node_state g)
+  pub commits : (g : NodeHistory) (c : ApplyCommit) (s : Option Message) (w : Bool) → IsExecution D root me (Then g (Commit c) (ok s w)) → Commits g c s w → IsUp g → started_join_of g ≡ true → P g (node_state g)
       → P (Then g (Commit c) (ok s w)) (node_state (Then g (Commit c) (ok s w)))
-  pub boots : (g : NodeHistory) (c : List Id) (s : Option Message) (w : Bool) → IsExecution D root me (Then g (Bootstrap c) (ok s w)) → Booted g c s w → IsUp g → started_of g ≡ true → P g (node_state g)
+  pub boots : (g : NodeHistory) (c : List Id) (s : Option Message) (w : Bool) → IsExecution D root me (Then g (Bootstrap c) (ok s w)) → Booted g c s w → IsUp g → started_join_of g ≡ true → P g (node_state g)
       → P (Then g (Bootstrap c) (ok s w)) (node_state (Then g (Bootstrap c) (ok s w)))
 
 -- so it holds in every round
 pub in_round : (D : Id → NodeHistory) (root : ClusterState) (me : Id) (P : NodeHistory → NodeState → Type 0) → RoundSteps D root me P
-    → (g : NodeHistory) → IsExecution D root me g → IsUp g → started_of g ≡ true → P g (node_state g)
+    → (g : NodeHistory) → IsExecution D root me g → IsUp g → started_join_of g ≡ true → P g (node_state g)
 in_round D root me P S NoActs f u h = cc
 in_round D root me P S (Then g (Open found) o) f u h = cc
 in_round D root me P S (Then g (StartJoin c t) (Answered (Taken s w))) f u h =
@@ -86,18 +87,18 @@ in_round D root me P S (Then g a (Disk kept)) f u h = absurd (both_ways _ u.runs
 in_round D root me P S (Then g a (Crashed kept)) f u h = absurd (both_ways _ u.alive refl)
 
 -- A node that won has started.
-pub won_starts : (D : Id → NodeHistory) (root : ClusterState) (me : Id) (g : NodeHistory) → IsExecution D root me g → won_of g ≡ true → started_of g ≡ true
+pub won_starts : (D : Id → NodeHistory) (root : ClusterState) (me : Id) (g : NodeHistory) → IsExecution D root me g → election_won_of g ≡ true → started_join_of g ≡ true
 won_starts D root me NoActs f h = cc
 won_starts D root me (Then g (StartJoin c t) o) f h = from (is_ok o) h (won_starts D root me g f.0)
   where
-    from : (b : Bool) → cond b false (won_of g) ≡ true → (won_of g ≡ true → started_of g ≡ true) → (b || started_of g) ≡ true
+    from : (b : Bool) → cond b false (election_won_of g) ≡ true → (election_won_of g ≡ true → started_join_of g ≡ true) → (b || started_join_of g) ≡ true
     from true k i = refl
     from false k i = i k
 won_starts D root me (Then g (TakeJoin j) (Answered (Taken s w))) f h = (join_guard me g j s w f.1.follows.follows).started
 won_starts D root me (Then g (Open found) o) f h = cc
 won_starts D root me (Then g a o) f h = won_starts D root me g f.0 h
 
-not_first : (g : NodeHistory) → started_of g ≡ true → is_first g ≡ false
+not_first : (g : NodeHistory) → started_join_of g ≡ true → is_first g ≡ false
 not_first NoActs h = cc
 not_first (Then g a o) h = refl
 
@@ -170,18 +171,18 @@ voted_above D voter me term s t h v =
 
 -- each vote was joined
 abbrev pub Votes : (Id → NodeHistory) → Id → NodeHistory → NodeState → Type 0
-Votes D me g p = (m : Id) → has m p.votes ≡ true → VotedIn D m me p.term p.accepted
+Votes D me g p = (m : Id) → has m p.join_votes ≡ true → VotedIn D m me p.term p.accepted
 
 module _ (D : Id → NodeHistory) (root : ClusterState) (W : IsSystem D root) (me : Id) where
   -- the accepted state after one more act
-  more_accepted : (g : NodeHistory) (a : Act) (o : Outcome) → IsExecution D root me (Then g a o) → started_of g ≡ true → IsAtMost (accepted_of g) (accepted_of (Then g a o))
+  more_accepted : (g : NodeHistory) (a : Act) (o : Outcome) → IsExecution D root me (Then g a o) → started_join_of g ≡ true → IsAtMost (accepted_of g) (accepted_of (Then g a o))
   more_accepted g a o f h = accepted_grows D root W me g (Then g a o) f (inr (begins_self g)) (not_first g h)
 
   vote_steps : RoundSteps D root me (Votes D me)
   vote_steps = record {
     quiet = λ g a o p k i. i;
     starts = λ g c t s w f k m h. cc;
-    joins = λ g j s w f k u st i m h. from g j f k i m (or_cases _ _ (sym (has-with_id m j.source (votes_of g)) ∙ h));
+    joins = λ g j s w f k u st i m h. from g j f k i m (or_cases _ _ (sym (has-with_id m j.source (join_votes_of g)) ∙ h));
     values = λ g v c x s w f k u st i. i;
     publishes = λ g r s w f k u st i m h. voted_above D m me _ (accepted_of g) r.state (more_accepted g _ _ f st) (i m h);
     responds = λ g r s w f k u st i. i;
@@ -190,13 +191,13 @@ module _ (D : Id → NodeHistory) (root : ClusterState) (W : IsSystem D root) (m
   }
     where
       from : (g : NodeHistory) (j : Join) {s : Option Message} {w : Bool} → IsExecution D root me (Then g (TakeJoin j) (ok s w)) → Joined me g j s w → Votes D me g (node_state g)
-          → (m : Id) → (same j.source m ≡ true) ⊎ (has m (votes_of g) ≡ true) → VotedIn D m me (term_of g) (accepted_of g)
+          → (m : Id) → (same j.source m ≡ true) ⊎ (has m (join_votes_of g) ≡ true) → VotedIn D m me (term_of g) (accepted_of g)
       from g j f k i m (inl e) =
           let is = same_is j.source m e in
           record { join = j; is_sent = subst (λ (x : Id). IsSent (D x) (JoinMessage j)) is f.1.sourced.is_sent; has_source = is; has_target = k.mine; has_term = k.now; not_above = k.older }
       from g j f k i m (inr h) = i m h
 
-  pub votes_are_joins : (g : NodeHistory) → IsExecution D root me g → IsUp g → started_of g ≡ true → Votes D me g (node_state g)
+  pub votes_are_joins : (g : NodeHistory) → IsExecution D root me g → IsUp g → started_join_of g ≡ true → Votes D me g (node_state g)
   votes_are_joins = in_round D root me (Votes D me) vote_steps
 
 -- the round has a win, on a state that is the accepted one still, or that was followed by one of this term
@@ -208,11 +209,11 @@ pub record WonIn (g : NodeHistory) (term : ℕ) (accepted : ClusterState) : Type
   pub follows : (accepted ≡ accepted_of before) ⊎ (accepted.term ≡ term)
 
 abbrev pub HasWin : NodeHistory → NodeState → Type 0
-HasWin g p = p.won ≡ true → WonIn g p.term p.accepted
+HasWin g p = p.election_won ≡ true → WonIn g p.term p.accepted
 
 -- without a win the node has neither won nor published in this term
 abbrev pub IsFresh : NodeHistory → NodeState → Type 0
-IsFresh g p = p.won ≡ false → ((b : NodeHistory) → WonAt b g → term_of b < p.term) × ((r : PublishRequest) → IsSent g (PublishMessage r) → r.state.term < p.term)
+IsFresh g p = p.election_won ≡ false → ((b : NodeHistory) → WonAt b g → term_of b < p.term) × ((r : PublishRequest) → IsSent g (PublishMessage r) → r.state.term < p.term)
 
 win_later : (g : NodeHistory) (a : Act) (o : Outcome) (term : ℕ) (s : ClusterState) → WonIn g term s → WonIn (Then g a o) term s
 win_later g a o term s w = record { before = w.before; won = won_later w.before g (Then g a o) (inr (begins_self g)) w.won; same_term = w.same_term; named = w.named; follows = w.follows }
@@ -238,13 +239,13 @@ module _ (D : Id → NodeHistory) (root : ClusterState) (W : IsSystem D root) (m
     boots = λ g c s w f k u st i h. absurd ((i h).named k.empty);
   }
     where
-      from : (g : NodeHistory) (j : Join) (s : Option Message) (w : Bool) → Joined me g j s w → HasWin g (node_state g) → (w ≡ true) ⊎ (won_of g ≡ true)
+      from : (g : NodeHistory) (j : Join) (s : Option Message) (w : Bool) → Joined me g j s w → HasWin g (node_state g) → (w ≡ true) ⊎ (election_won_of g ≡ true)
           → WonIn (Then g (TakeJoin j) (ok s w)) (term_of g) (accepted_of g)
       from g j s w k i (inl e) =
           record { before = g; won = record { join = j; sends = s; flag = w; is_in = inl refl; is_win = e }; same_term = refl; named = k.named; follows = inl refl }
       from g j s w k i (inr h) = win_later g _ _ (term_of g) (accepted_of g) (i h)
 
-  pub won_has_win : (g : NodeHistory) → IsExecution D root me g → IsUp g → won_of g ≡ true → WonIn g (term_of g) (accepted_of g)
+  pub won_has_win : (g : NodeHistory) → IsExecution D root me g → IsUp g → election_won_of g ≡ true → WonIn g (term_of g) (accepted_of g)
   won_has_win g f u h = in_round D root me HasWin win_steps g f u (won_starts D root me g f h) h
 
   -- terms of wins and of publications are at most the term
@@ -294,7 +295,7 @@ module _ (D : Id → NodeHistory) (root : ClusterState) (W : IsSystem D root) (m
     boots = λ g c s w f k u st i h. ((λ b. other_win b g _ _ (λ j e. cc) ((i h).0 b)), (λ q. other_request g _ _ q f (λ e y. cc) ((i h).1 q)));
   }
     where
-      from : (g : NodeHistory) (j : Join) (s : Option Message) (w : Bool) → IsExecution D root me (Then g (TakeJoin j) (ok s w)) → (w ≡ false) × (won_of g ≡ false) → IsFresh g (node_state g)
+      from : (g : NodeHistory) (j : Join) (s : Option Message) (w : Bool) → IsExecution D root me (Then g (TakeJoin j) (ok s w)) → (w ≡ false) × (election_won_of g ≡ false) → IsFresh g (node_state g)
           → ((b : NodeHistory) → WonAt b (Then g (TakeJoin j) (ok s w)) → term_of b < term_of g) × ((r : PublishRequest) → IsSent (Then g (TakeJoin j) (ok s w)) (PublishMessage r) → r.state.term < term_of g)
       from g j s w f h i = ((λ b v. wins_by b (won_cases b g _ _ v)), (λ q. other_request g _ _ q f (λ e y. cc) ((i h.1).1 q)))
         where
@@ -302,7 +303,7 @@ module _ (D : Id → NodeHistory) (root : ClusterState) (W : IsSystem D root) (m
           wins_by b (inl e) = absurd (both_ways _ h.0 e.2)
           wins_by b (inr v) = (i h.1).0 b v
 
-  pub fresh : (g : NodeHistory) → IsExecution D root me g → IsUp g → started_of g ≡ true → IsFresh g (node_state g)
+  pub fresh : (g : NodeHistory) → IsExecution D root me g → IsUp g → started_join_of g ≡ true → IsFresh g (node_state g)
   fresh = in_round D root me IsFresh fresh_steps
 
 -- what the round's last value says: b is the moment of the round's win
@@ -312,7 +313,7 @@ pub record LastValue (g : NodeHistory) (b : NodeHistory) (term version : ℕ) (c
   pub last : (version ≡ (accepted_of b).version) ⊎ ((r : PublishRequest) × IsSent g (PublishMessage r) × (r.state.term ≡ term) × (r.state.version ≡ version) × (r.state.config ≡ config))
 
 abbrev pub HasLast : NodeHistory → NodeState → Type 0
-HasLast g p = p.won ≡ true → (b : NodeHistory) → WonAt b g → term_of b ≡ p.term → LastValue g b p.term p.version p.config
+HasLast g p = p.election_won ≡ true → (b : NodeHistory) → WonAt b g → term_of b ≡ p.term → LastValue g b p.term p.published_version p.published_config
 
 module _ (D : Id → NodeHistory) (root : ClusterState) (W : IsSystem D root) (me : Id) where
   -- one more act that is no value changes nothing
@@ -327,23 +328,23 @@ module _ (D : Id → NodeHistory) (root : ClusterState) (W : IsSystem D root) (m
       from (inr e) = inr (e.0, sent_later g (Then g a o) _ (inr (begins_self g)) e.1, e.2, e.3, e.4)
 
   -- at a join: the one that wins begins the count of versions
-  last_join : (g : NodeHistory) (j : Join) (s : Option Message) (w : Bool) → IsExecution D root me (Then g (TakeJoin j) (ok s w)) → Joined me g j s w → IsUp g → started_of g ≡ true → HasLast g (node_state g)
-      → (w || won_of g) ≡ true → (b : NodeHistory) → WonAt b (Then g (TakeJoin j) (ok s w)) → term_of b ≡ term_of g
-      → LastValue (Then g (TakeJoin j) (ok s w)) b (term_of g) (cond w (accepted_of g).version (version_of g)) (config_of g)
+  last_join : (g : NodeHistory) (j : Join) (s : Option Message) (w : Bool) → IsExecution D root me (Then g (TakeJoin j) (ok s w)) → Joined me g j s w → IsUp g → started_join_of g ≡ true → HasLast g (node_state g)
+      → (w || election_won_of g) ≡ true → (b : NodeHistory) → WonAt b (Then g (TakeJoin j) (ok s w)) → term_of b ≡ term_of g
+      → LastValue (Then g (TakeJoin j) (ok s w)) b (term_of g) (cond w (accepted_of g).version (published_version_of g)) (published_config_of g)
   last_join g j s false f k u st i h b v e = from (won_cases b g _ _ v)
     where
-      from : ((b ≡ g) × ((j' : Join) × (TakeJoin j ≡ TakeJoin j')) × (false ≡ true)) ⊎ WonAt b g → LastValue (Then g (TakeJoin j) (ok s false)) b (term_of g) (version_of g) (config_of g)
+      from : ((b ≡ g) × ((j' : Join) × (TakeJoin j ≡ TakeJoin j')) × (false ≡ true)) ⊎ WonAt b g → LastValue (Then g (TakeJoin j) (ok s false)) b (term_of g) (published_version_of g) (published_config_of g)
       from (inl x) = cc (x.2)
-      from (inr x) = last_later g _ _ b (term_of g) (version_of g) (config_of g) (λ q. other_request D root W me g _ _ q f (λ y z. cc) (λ y. y)) (i h b x e)
+      from (inr x) = last_later g _ _ b (term_of g) (published_version_of g) (published_config_of g) (λ q. other_request D root W me g _ _ q f (λ y z. cc) (λ y. y)) (i h b x e)
   last_join g j s true f k u st i h b v e = from (won_cases b g _ _ v)
     where
       none : IsFresh g (node_state g)
       none = fresh D root W me g f.0 u st
 
-      lost : won_of g ≡ false
+      lost : election_won_of g ≡ false
       lost = not-true _ (and_parts _ _ (sym k.flag)).0
 
-      from : ((b ≡ g) × ((j' : Join) × (TakeJoin j ≡ TakeJoin j')) × (true ≡ true)) ⊎ WonAt b g → LastValue (Then g (TakeJoin j) (ok s true)) b (term_of g) (accepted_of g).version (config_of g)
+      from : ((b ≡ g) × ((j' : Join) × (TakeJoin j ≡ TakeJoin j')) × (true ≡ true)) ⊎ WonAt b g → LastValue (Then g (TakeJoin j) (ok s true)) b (term_of g) (accepted_of g).version (published_config_of g)
       from (inl x) =
           let same : (accepted_of g).version ≡ (accepted_of b).version = ap (λ (y : NodeHistory). (accepted_of y).version) (sym x.0) in
           record {
@@ -370,7 +371,7 @@ module _ (D : Id → NodeHistory) (root : ClusterState) (W : IsSystem D root) (m
         );
       }
     where
-      from : (l : LastValue g b (term_of g) (version_of g) (config_of g)) (r : PublishRequest) → r.state.term ≡ term_of g → (PublishBy me g r (Value v c x) × ((flag : Bool) × (ok s w ≡ ok (Some (PublishMessage r)) flag))) ⊎ IsSent g (PublishMessage r)
+      from : (l : LastValue g b (term_of g) (published_version_of g) (published_config_of g)) (r : PublishRequest) → r.state.term ≡ term_of g → (PublishBy me g r (Value v c x) × ((flag : Bool) × (ok s w ≡ ok (Some (PublishMessage r)) flag))) ⊎ IsSent g (PublishMessage r)
           → ((accepted_of b).version < r.state.version) × (r.state.version ≤ v)
       from l r d (inl p) =
           let same : v ≡ r.state.version = cc (p.0.act_is) in
@@ -379,26 +380,26 @@ module _ (D : Id → NodeHistory) (root : ClusterState) (W : IsSystem D root) (m
 
   last_steps : RoundSteps D root me HasLast
   last_steps = record {
-    quiet = λ g a o p k i h b v e. last_later g a o b p.term p.version p.config (λ r. sent_quiet g a o _ k) (i h b (won_quiet b g a o k v) e);
+    quiet = λ g a o p k i h b v e. last_later g a o b p.term p.published_version p.published_config (λ r. sent_quiet g a o _ k) (i h b (won_quiet b g a o k v) e);
     starts = λ g c t s w f k h. cc;
     joins = λ g j s w f k u st i h b v e. last_join g j s w f k u st i h b v e;
     values = λ g v c x s w f k u st i h b y e. last_value g v c x s w f k i b y e;
     publishes = λ g r s w f k u st i h b v e.
-        last_later g _ _ b (term_of g) (version_of g) (config_of g) (λ q. other_request D root W me g _ _ q f (λ y z. cc) (λ x. x)) (i h b (other_win D root W me b g _ _ (λ j y. cc) (λ x. x) v) e);
+        last_later g _ _ b (term_of g) (published_version_of g) (published_config_of g) (λ q. other_request D root W me g _ _ q f (λ y z. cc) (λ x. x)) (i h b (other_win D root W me b g _ _ (λ j y. cc) (λ x. x) v) e);
     responds = λ g r s w f k u st i h b v e.
-        last_later g _ _ b (term_of g) (version_of g) (config_of g) (λ q. other_request D root W me g _ _ q f (λ y z. cc) (λ x. x)) (i h b (other_win D root W me b g _ _ (λ j y. cc) (λ x. x) v) e);
+        last_later g _ _ b (term_of g) (published_version_of g) (published_config_of g) (λ q. other_request D root W me g _ _ q f (λ y z. cc) (λ x. x)) (i h b (other_win D root W me b g _ _ (λ j y. cc) (λ x. x) v) e);
     commits = λ g c s w f k u st i h b v e.
-        last_later g _ _ b (term_of g) (version_of g) (config_of g) (λ q. other_request D root W me g _ _ q f (λ y z. cc) (λ x. x)) (i h b (other_win D root W me b g _ _ (λ j y. cc) (λ x. x) v) e);
+        last_later g _ _ b (term_of g) (published_version_of g) (published_config_of g) (λ q. other_request D root W me g _ _ q f (λ y z. cc) (λ x. x)) (i h b (other_win D root W me b g _ _ (λ j y. cc) (λ x. x) v) e);
     boots = λ g c s w f k u st i h b v e.
-        last_later g _ _ b (term_of g) (version_of g) (config_of g) (λ q. other_request D root W me g _ _ q f (λ y z. cc) (λ x. x)) (i h b (other_win D root W me b g _ _ (λ j y. cc) (λ x. x) v) e);
+        last_later g _ _ b (term_of g) (published_version_of g) (published_config_of g) (λ q. other_request D root W me g _ _ q f (λ y z. cc) (λ x. x)) (i h b (other_win D root W me b g _ _ (λ j y. cc) (λ x. x) v) e);
   }
 
-  pub last_values : (g : NodeHistory) → IsExecution D root me g → IsUp g → won_of g ≡ true → (b : NodeHistory) → WonAt b g → term_of b ≡ term_of g → LastValue g b (term_of g) (version_of g) (config_of g)
+  pub last_values : (g : NodeHistory) → IsExecution D root me g → IsUp g → election_won_of g ≡ true → (b : NodeHistory) → WonAt b g → term_of b ≡ term_of g → LastValue g b (term_of g) (published_version_of g) (published_config_of g)
   last_values g f u h = in_round D root me HasLast last_steps g f u (won_starts D root me g f h) h
 
 -- each acknowledgement of the round's last value was sent to the node
 abbrev pub Acks : (Id → NodeHistory) → Id → NodeHistory → NodeState → Type 0
-Acks D me g p = (m : Id) → has m p.acks ≡ true → (p.won ≡ true) × IsSent (D m) (ResponseMessage (record { source = m; target = me; term = p.term; version = p.version }))
+Acks D me g p = (m : Id) → has m p.publish_votes ≡ true → (p.election_won ≡ true) × IsSent (D m) (ResponseMessage (record { source = m; target = me; term = p.term; version = p.published_version }))
 
 module _ (D : Id → NodeHistory) (root : ClusterState) (W : IsSystem D root) (me : Id) where
   ack_steps : RoundSteps D root me (Acks D me)
@@ -408,28 +409,28 @@ module _ (D : Id → NodeHistory) (root : ClusterState) (W : IsSystem D root) (m
     joins = λ g j s w f k u st i m h. at_join g j s w k i m h;
     values = λ g v c x s w f k u st i m h. cc;
     publishes = λ g r s w f k u st i. i;
-    responds = λ g r s w f k u st i m h. from g r f k i m (or_cases _ _ (sym (has-with_id m r.source (acks_of g)) ∙ h));
+    responds = λ g r s w f k u st i m h. from g r f k i m (or_cases _ _ (sym (has-with_id m r.source (publish_votes_of g)) ∙ h));
     commits = λ g c s w f k u st i. i;
     boots = λ g c s w f k u st i. i;
   }
     where
-      at_join : (g : NodeHistory) (j : Join) (s : Option Message) (w : Bool) → Joined me g j s w → Acks D me g (node_state g) → (m : Id) → has m (acks_of g) ≡ true
-          → ((w || won_of g) ≡ true) × IsSent (D m) (ResponseMessage (record { source = m; target = me; term = term_of g; version = cond w (accepted_of g).version (version_of g) }))
+      at_join : (g : NodeHistory) (j : Join) (s : Option Message) (w : Bool) → Joined me g j s w → Acks D me g (node_state g) → (m : Id) → has m (publish_votes_of g) ≡ true
+          → ((w || election_won_of g) ≡ true) × IsSent (D m) (ResponseMessage (record { source = m; target = me; term = term_of g; version = cond w (accepted_of g).version (published_version_of g) }))
       at_join g j s false k i m h = i m h
       at_join g j s true k i m h = absurd (both_ways _ (not-true _ (and_parts _ _ (sym k.flag)).0) (i m h).0)
 
       from : (g : NodeHistory) (r : PublishResponse) {s : Option Message} {w : Bool} → IsExecution D root me (Then g (Response r) (ok s w)) → Responded me g r s w → Acks D me g (node_state g) → (m : Id)
-          → (same r.source m ≡ true) ⊎ (has m (acks_of g) ≡ true) → (won_of g ≡ true) × IsSent (D m) (ResponseMessage (record { source = m; target = me; term = term_of g; version = version_of g }))
+          → (same r.source m ≡ true) ⊎ (has m (publish_votes_of g) ≡ true) → (election_won_of g ≡ true) × IsSent (D m) (ResponseMessage (record { source = m; target = me; term = term_of g; version = published_version_of g }))
       from g r f k i m (inl e) =
-          let is = response_is r m me (term_of g) (version_of g) (same_is r.source m e) k.mine k.now k.current in
+          let is = response_is r m me (term_of g) (published_version_of g) (same_is r.source m e) k.mine k.now k.current in
           (k.won, subst (λ (x : PublishResponse). IsSent (D x.source) (ResponseMessage x)) is f.1.sourced.is_sent)
       from g r f k i m (inr h) = i m h
 
-  pub acks_are_responses : (g : NodeHistory) → IsExecution D root me g → IsUp g → started_of g ≡ true → Acks D me g (node_state g)
+  pub acks_are_responses : (g : NodeHistory) → IsExecution D root me g → IsUp g → started_join_of g ≡ true → Acks D me g (node_state g)
   acks_are_responses = in_round D root me (Acks D me) ack_steps
 
 -- a round has a term above 0
-pub started_above : (D : Id → NodeHistory) (root : ClusterState) (me : Id) (g : NodeHistory) → IsExecution D root me g → IsUp g → started_of g ≡ true → 0 < term_of g
+pub started_above : (D : Id → NodeHistory) (root : ClusterState) (me : Id) (g : NodeHistory) → IsExecution D root me g → IsUp g → started_join_of g ≡ true → 0 < term_of g
 started_above D root me = in_round D root me (λ g p. 0 < p.term) (record {
   quiet = λ g a o p k i. i;
   starts = λ g c t s w f k. omega (arith, k.above);

@@ -16,13 +16,13 @@ opened k = record {
   term = k.term;
   accepted = k.accepted;
   committed = k.committed;
-  started = false;
-  votes = [];
-  won = false;
-  version = 0;
-  config = [];
-  acks = [];
-  stopped = false;
+  started_join = false;
+  join_votes = [];
+  election_won = false;
+  published_version = 0;
+  published_config = [];
+  publish_votes = [];
+  halted = false;
 }
 
 abbrev kept_of : NodeState → Kept
@@ -43,7 +43,7 @@ same_part g (Then (Then r b u) (Publish q) o) w = ap (λ (p : NodeState). node_s
 same_part g (Then (Then r b u) (Response q) o) w = ap (λ (p : NodeState). node_state_after p (Response q) o) (same_part g (Then r b u) w)
 same_part g (Then (Then r b u) (Commit c) o) w = ap (λ (p : NodeState). node_state_after p (Commit c) o) (same_part g (Then r b u) w)
 
--- whether a node is down is told by its last act alone
+-- its last act alone says whether a node is down
 same_down : (x y : NodeHistory) (a : Act) (o : Outcome) → is_down (Then x a o) ≡ true → is_down (Then y a o) ≡ true
 same_down x y a (Answered r) h = h
 same_down x y a (Disk k) h = h

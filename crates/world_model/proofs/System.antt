@@ -8,7 +8,7 @@ use Rattle.cluster_state.specs.declared.messages.PublishRequest.{PublishRequest}
 use Rattle.cluster_state.specs.declared.messages.PublishResponse.{PublishResponse}
 use Rattle.cluster_state.specs.declared.messages.ApplyCommit.{ApplyCommit}
 use Rattle.world_model.specs.Acts.{Act, Outcome, NodeHistory, Message, Bootstrap, StartJoin, TakeJoin, Value, Publish, Response, Commit, Open, NoActs, Then, Taken, Answered, JoinMessage, PublishMessage, ResponseMessage, CommitMessage, is_first}
-use Rattle.world_model.specs.NodeState.{node_state, term_of, accepted_of, committed_of, votes_of, won_of, version_of, acks_of, stopped_of, durable_of, initial_state, empty_state}
+use Rattle.world_model.specs.NodeState.{node_state, term_of, accepted_of, committed_of, join_votes_of, election_won_of, published_version_of, publish_votes_of, halted_of, durable_of, initial_state, empty_state}
 use Rattle.world_model.specs.Replies.{commits, reply_of}
 use Rattle.world_model.specs.Histories.{is_down, is_opening, MayFollow}
 use Rattle.world_model.proofs.Guards.{Responded, boot_guard, start_guard, join_guard, value_guard, publish_guard, response_guard, commit_guard}
@@ -68,11 +68,11 @@ execution_before D root me p (Then g act o) f (inr h) = execution_before D root 
 
 -- the node runs: its disk has not failed and it has not crashed, or it was opened since
 pub record IsUp (g : NodeHistory) : Type 0 where
-  pub runs : stopped_of g ≡ false
+  pub runs : halted_of g ≡ false
   pub alive : is_down g ≡ false
 
 -- a node that takes an act, other than an opening, runs
-pub taken_up : (me : Id) (g : NodeHistory) (act : Act) (o : Outcome) → MayFollow me g act o → is_opening act ≡ false → stopped_of g ≡ false → IsUp g
+pub taken_up : (me : Id) (g : NodeHistory) (act : Act) (o : Outcome) → MayFollow me g act o → is_opening act ≡ false → halted_of g ≡ false → IsUp g
 taken_up me g act o m h runs =
     let alive : is_down g ≡ false = true_or (is_down g) m.up in
     record { runs = runs; alive = alive }
@@ -86,7 +86,7 @@ taken_up me g act o m h runs =
 pub record JoinBy (me : Id) (g : NodeHistory) (j : Join) (act : Act) : Type 0 where
   pub act_is : act ≡ StartJoin j.target j.term
   pub source_is : j.source ≡ me
-  pub runs : stopped_of g ≡ false
+  pub runs : halted_of g ≡ false
   pub above : term_of g < j.term
   pub last_term_is : j.last_term ≡ (accepted_of g).term
   pub last_version_is : j.last_version ≡ (accepted_of g).version
@@ -94,20 +94,20 @@ pub record JoinBy (me : Id) (g : NodeHistory) (j : Join) (act : Act) : Type 0 wh
 pub record PublishBy (me : Id) (g : NodeHistory) (r : PublishRequest) (act : Act) : Type 0 where
   pub act_is : act ≡ Value r.state.version r.state.config r.state.value
   pub source_is : r.source ≡ me
-  pub runs : stopped_of g ≡ false
+  pub runs : halted_of g ≡ false
   pub term_is : r.state.term ≡ term_of g
   pub committed_is : r.state.committed ≡ committed_of g
-  pub won : won_of g ≡ true
-  pub settled : version_of g ≡ (accepted_of g).version
-  pub above : version_of g < r.state.version
+  pub won : election_won_of g ≡ true
+  pub settled : published_version_of g ≡ (accepted_of g).version
+  pub above : published_version_of g < r.state.version
   pub steady : (r.state.config ≡ (accepted_of g).config) ⊎ (committed_of g ≡ (accepted_of g).config)
-  pub quorum : is_quorum_of r.state.config (votes_of g) ≡ true
+  pub quorum : is_quorum_of r.state.config (join_votes_of g) ≡ true
 
 pub record ResponseBy (me : Id) (g : NodeHistory) (r : PublishResponse) (act : Act) : Type 0 where
   pub request : PublishRequest
   pub act_is : act ≡ Publish request
   pub source_is : r.source ≡ me
-  pub runs : stopped_of g ≡ false
+  pub runs : halted_of g ≡ false
   pub target_is : r.target ≡ request.source
   pub term_is : r.term ≡ request.state.term
   pub version_is : r.version ≡ request.state.version
@@ -116,12 +116,12 @@ pub record CommitBy (me : Id) (g : NodeHistory) (c : ApplyCommit) (act : Act) : 
   pub response : PublishResponse
   pub act_is : act ≡ Response response
   pub source_is : c.source ≡ me
-  pub runs : stopped_of g ≡ false
+  pub runs : halted_of g ≡ false
   pub term_is : c.term ≡ term_of g
-  pub version_is : c.version ≡ version_of g
-  pub won : won_of g ≡ true
-  pub response_is : response ≡ record { source = response.source; target = me; term = term_of g; version = version_of g }
-  pub quorum : commits (node_state g) (with_id response.source (acks_of g)) ≡ true
+  pub version_is : c.version ≡ published_version_of g
+  pub won : election_won_of g ≡ true
+  pub response_is : response ≡ record { source = response.source; target = me; term = term_of g; version = published_version_of g }
+  pub quorum : commits (node_state g) (with_id response.source (publish_votes_of g)) ≡ true
 
 abbrev pub Origin : Id → NodeHistory → Act → Message → Type 0
 Origin me g act (JoinMessage j) = JoinBy me g j act
@@ -156,9 +156,9 @@ origin me g (Publish r) m w h =
     (record { request = r; act_is = refl; source_is = refl; runs = k.runs; target_is = refl; term_is = refl; version_is = refl })
 origin me g (Response r) m w h =
     let k = response_guard me g r _ w h in
-    committed (commits (node_state g) (with_id r.source (acks_of g))) refl k k.sends
+    committed (commits (node_state g) (with_id r.source (publish_votes_of g))) refl k k.sends
   where
-    committed : (b : Bool) → commits (node_state g) (with_id r.source (acks_of g)) ≡ b → Responded me g r (Some m) w
+    committed : (b : Bool) → commits (node_state g) (with_id r.source (publish_votes_of g)) ≡ b → Responded me g r (Some m) w
         → Some m ≡ cond b (Some (CommitMessage (record { source = me; term = r.term; version = r.version }))) None → Origin me g (Response r) m
     committed true e k s =
         subst (λ (y : Message). Origin me g (Response r) y) (some_is _ _ s)
@@ -170,7 +170,7 @@ origin me g (Response r) m w h =
           term_is = k.now;
           version_is = k.current;
           won = k.won;
-          response_is = response_is r me (term_of g) (version_of g) k.mine k.now k.current;
+          response_is = response_is r me (term_of g) (published_version_of g) k.mine k.now k.current;
           quorum = e;
         })
     committed false e k s = unsent m s

@@ -1,4 +1,4 @@
--- What one node did: its acts, each with its outcome, the oldest first.
+-- Part of the statement: what one node did: its acts, each with its outcome, the oldest first.
 use Rattle.std.specs.Prelude.{Bool, true, false}
 pub use Rattle.world_model.specs.declared.acts.Act.{Act}
 pub use Rattle.world_model.specs.declared.acts.Act.TheVariants.{Bootstrap, StartJoin, TakeJoin, Value, Publish, Response, Commit, Open}

@@ -1,4 +1,4 @@
--- What all nodes did, the oldest first, and when that is legal.
+-- Part of the statement: what all nodes did, the oldest first, and when that is legal.
 use Rattle.std.specs.Prelude.{◌≡◌, ◌≢◌, Bool, true, false, cond, None, Some, List, [], ◌∷◌, ◌++◌, Contains, ◌⊎◌}
 use Rattle.voting_config.specs.Ids.{Id, same}
 use Rattle.world_model.specs.Acts.{Act, Outcome, NodeHistory, Message, Bootstrap, StartJoin, TakeJoin, Value, Publish, Response, Commit, Open, NoActs, Then, Taken, Refused, Stopped, Answered, Disk, Crashed, JoinMessage, PublishMessage, ResponseMessage, CommitMessage, wins}

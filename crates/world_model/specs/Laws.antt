@@ -1,4 +1,4 @@
--- The laws of legal histories, as statements.
+-- For the contracts inside: the laws of legal histories, as statements.
 use Rattle.std.specs.Prelude.{◌≡◌, ◌↔◌, List}
 use Rattle.voting_config.specs.Ids.{Id}
 use Rattle.world_model.specs.Acts.{NodeHistory, NoActs}

@@ -1,11 +1,12 @@
--- What a node is after its acts, defined word by word: the last, the greatest, the sources of. The look-backs of NodeState are this.
+-- For the contracts inside: what a node is after its acts, defined word by word: the last, the greatest, the sources of. The look-backs of
+-- NodeState are this.
 use Rattle.std.specs.Prelude.{◌≡◌, ℕ, max, Bool, true, false, cond, ◌&&◌, ◌||◌, Option, None, Some, List, [], ◌∷◌}
 use Rattle.std.specs.Option.{unwrap_or, option_or, option_map_or, is_some}
 use Rattle.voting_config.specs.Ids.{Id, has, with_id}
 use Rattle.cluster_state.specs.declared.state.ClusterState.{ClusterState}
 use Rattle.cluster_state.specs.declared.state.Kept.{Kept}
 use Rattle.world_model.specs.Acts.{Act, Outcome, NodeHistory, Bootstrap, StartJoin, TakeJoin, Value, Publish, Response, Commit, Open, NoActs, Then, is_ok, is_effective, wins, is_disk, is_first}
-use Rattle.world_model.specs.NodeState.{NodeState, node_state, durable_of, initial_state, empty_record, started_of, stopped_of}
+use Rattle.world_model.specs.NodeState.{NodeState, node_state, durable_of, initial_state, empty_record, started_join_of, halted_of}
 use Rattle.world_model.specs.Histories.{IsLocal}
 
 -- Words for the acts of a node. A test passes an act with its outcome or not, and a reader finds something in it or not.
@@ -133,16 +134,16 @@ abbrev pub round_of : NodeHistory → NodeHistory
 round_of g = after_last ok_start (live_of g)
 
 -- the sources of the round's Ok Joins
-abbrev pub literal_votes : NodeHistory → List Id
-literal_votes g = cond (has_round g) (set_of (all ok_join (round_of g))) []
+abbrev pub literal_join_votes : NodeHistory → List Id
+literal_join_votes g = cond (has_round g) (set_of (all ok_join (round_of g))) []
 
 -- a Join of the round has the wins flag
-abbrev pub literal_won : NodeHistory → Bool
-literal_won g = has_round g && any winning_join (round_of g)
+abbrev pub literal_election_won : NodeHistory → Bool
+literal_election_won g = has_round g && any winning_join (round_of g)
 
 -- the accepted version at the round's winning Join, 0 before it
 abbrev pub version_at_win : NodeHistory → ℕ
-version_at_win g = cond (literal_won g) (literal_accepted (before_last winning_join g)).version 0
+version_at_win g = cond (literal_election_won g) (literal_accepted (before_last winning_join g)).version 0
 
 -- the accepted configuration at the round's StartJoin
 abbrev pub config_at_start : NodeHistory → List Id
@@ -156,12 +157,12 @@ literal_published g =
     (record { version = 0; config = [] })
 
 -- the sources of the round's Ok Responses after its last Ok Value, or of all where there is none
-abbrev pub literal_acks : NodeHistory → List Id
-literal_acks g = cond (has_round g) (set_of (all ok_response (after_last (has_a ok_value) (round_of g)))) []
+abbrev pub literal_publish_votes : NodeHistory → List Id
+literal_publish_votes g = cond (has_round g) (set_of (all ok_response (after_last (has_a ok_value) (round_of g)))) []
 
 -- there is a live Disk outcome
-abbrev pub literal_stopped : NodeHistory → Bool
-literal_stopped g = any disk_fault (live_of g)
+abbrev pub literal_halted : NodeHistory → Bool
+literal_halted g = any disk_fault (live_of g)
 
 abbrev pub literal_durable : NodeHistory → Kept
 literal_durable g = record { term = literal_term g; accepted = literal_accepted g; committed = literal_committed g }
@@ -171,13 +172,13 @@ literal_state g = record {
   term = literal_term g;
   accepted = literal_accepted g;
   committed = literal_committed g;
-  started = has_round g;
-  votes = literal_votes g;
-  won = literal_won g;
-  version = (literal_published g).version;
-  config = (literal_published g).config;
-  acks = literal_acks g;
-  stopped = literal_stopped g;
+  started_join = has_round g;
+  join_votes = literal_join_votes g;
+  election_won = literal_election_won g;
+  published_version = (literal_published g).version;
+  published_config = (literal_published g).config;
+  publish_votes = literal_publish_votes g;
+  halted = literal_halted g;
 }
 
 -- The laws.
@@ -185,8 +186,8 @@ literal_state g = record {
 -- of any acts at all
 pub record KeepsLiterally (g : NodeHistory) : Type 0 where
   pub durable : durable_of g ≡ literal_durable g
-  pub started : started_of g ≡ has_round g
-  pub stopped : stopped_of g ≡ literal_stopped g
+  pub started_join : started_join_of g ≡ has_round g
+  pub halted : halted_of g ≡ literal_halted g
 
 abbrev pub LawLiteralKept : Type 0
 LawLiteralKept = (g : NodeHistory) → KeepsLiterally g

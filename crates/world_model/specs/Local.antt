@@ -1,4 +1,4 @@
--- What can be said of the acts of one node alone, and what joins such lists to a history.
+-- For the contracts inside: what can be said of the acts of one node alone, and what joins such lists to a history.
 use Rattle.std.specs.Prelude.{◌≡◌, ◌≢◌, true, List, [], ◌∷◌}
 use Rattle.voting_config.specs.Ids.{Id}
 use Rattle.world_model.specs.Acts.{NodeHistory, Publish, Open, NoActs, Then, is_effective}

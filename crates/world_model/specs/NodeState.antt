@@ -1,4 +1,4 @@
--- What a node is after its acts: its term, its accepted state, its votes and the like, each looked up among the acts.
+-- Part of the statement: what a node is after its acts: its term, its accepted state, its votes and the like, each looked up among the acts.
 use Rattle.std.specs.Prelude.{ℕ, Bool, false, cond, ◌||◌, None, List, []}
 pub use Rattle.cluster_state.specs.Initial.{empty_value, initial_state, empty_state, empty_record}
 use Rattle.std.specs.Prelude.{max}
@@ -32,85 +32,85 @@ committed_of (Then g (Open found) o) = cond (is_first g) found.committed (commit
 committed_of (Then g a o) = committed_of g
 
 -- a round begins when the node starts a join, and ends when it is opened
-abbrev pub started_of : NodeHistory → Bool
-started_of NoActs = false
-started_of (Then g (StartJoin candidate term) o) = is_ok o || started_of g
-started_of (Then g (Open found) o) = false
-started_of (Then g a o) = started_of g
+abbrev pub started_join_of : NodeHistory → Bool
+started_join_of NoActs = false
+started_join_of (Then g (StartJoin candidate term) o) = is_ok o || started_join_of g
+started_join_of (Then g (Open found) o) = false
+started_join_of (Then g a o) = started_join_of g
 
 -- the sources of the joins that were taken in this round
-abbrev pub votes_of : NodeHistory → List Id
-votes_of NoActs = []
-votes_of (Then g (StartJoin candidate term) o) = cond (is_ok o) [] (votes_of g)
-votes_of (Then g (TakeJoin join) o) = cond (is_ok o) (with_id join.source (votes_of g)) (votes_of g)
-votes_of (Then g (Open found) o) = []
-votes_of (Then g a o) = votes_of g
+abbrev pub join_votes_of : NodeHistory → List Id
+join_votes_of NoActs = []
+join_votes_of (Then g (StartJoin candidate term) o) = cond (is_ok o) [] (join_votes_of g)
+join_votes_of (Then g (TakeJoin join) o) = cond (is_ok o) (with_id join.source (join_votes_of g)) (join_votes_of g)
+join_votes_of (Then g (Open found) o) = []
+join_votes_of (Then g a o) = join_votes_of g
 
 -- whether a join of this round won
-abbrev pub won_of : NodeHistory → Bool
-won_of NoActs = false
-won_of (Then g (StartJoin candidate term) o) = cond (is_ok o) false (won_of g)
-won_of (Then g (TakeJoin join) o) = wins o || won_of g
-won_of (Then g (Open found) o) = false
-won_of (Then g a o) = won_of g
+abbrev pub election_won_of : NodeHistory → Bool
+election_won_of NoActs = false
+election_won_of (Then g (StartJoin candidate term) o) = cond (is_ok o) false (election_won_of g)
+election_won_of (Then g (TakeJoin join) o) = wins o || election_won_of g
+election_won_of (Then g (Open found) o) = false
+election_won_of (Then g a o) = election_won_of g
 
 -- the version of the round's last value; without one, the accepted version at the join that won, and 0 before it
-abbrev pub version_of : NodeHistory → ℕ
-version_of NoActs = 0
-version_of (Then g (StartJoin candidate term) o) = cond (is_ok o) 0 (version_of g)
-version_of (Then g (TakeJoin join) o) = cond (wins o) (accepted_of g).version (version_of g)
-version_of (Then g (Value version config value) o) = cond (is_ok o) version (version_of g)
-version_of (Then g (Open found) o) = 0
-version_of (Then g a o) = version_of g
+abbrev pub published_version_of : NodeHistory → ℕ
+published_version_of NoActs = 0
+published_version_of (Then g (StartJoin candidate term) o) = cond (is_ok o) 0 (published_version_of g)
+published_version_of (Then g (TakeJoin join) o) = cond (wins o) (accepted_of g).version (published_version_of g)
+published_version_of (Then g (Value version config value) o) = cond (is_ok o) version (published_version_of g)
+published_version_of (Then g (Open found) o) = 0
+published_version_of (Then g a o) = published_version_of g
 
 -- the configuration of the round's last value; without one, the accepted configuration at the round's start
-abbrev pub config_of : NodeHistory → List Id
-config_of NoActs = []
-config_of (Then g (StartJoin candidate term) o) = cond (is_ok o) (accepted_of g).config (config_of g)
-config_of (Then g (Value version config value) o) = cond (is_ok o) config (config_of g)
-config_of (Then g (Open found) o) = []
-config_of (Then g a o) = config_of g
+abbrev pub published_config_of : NodeHistory → List Id
+published_config_of NoActs = []
+published_config_of (Then g (StartJoin candidate term) o) = cond (is_ok o) (accepted_of g).config (published_config_of g)
+published_config_of (Then g (Value version config value) o) = cond (is_ok o) config (published_config_of g)
+published_config_of (Then g (Open found) o) = []
+published_config_of (Then g a o) = published_config_of g
 
 -- the sources of the responses that were taken since the round's last value, or in the round where there is none
-abbrev pub acks_of : NodeHistory → List Id
-acks_of NoActs = []
-acks_of (Then g (StartJoin candidate term) o) = cond (is_ok o) [] (acks_of g)
-acks_of (Then g (Value version config value) o) = cond (is_ok o) [] (acks_of g)
-acks_of (Then g (Response response) o) = cond (is_ok o) (with_id response.source (acks_of g)) (acks_of g)
-acks_of (Then g (Open found) o) = []
-acks_of (Then g a o) = acks_of g
+abbrev pub publish_votes_of : NodeHistory → List Id
+publish_votes_of NoActs = []
+publish_votes_of (Then g (StartJoin candidate term) o) = cond (is_ok o) [] (publish_votes_of g)
+publish_votes_of (Then g (Value version config value) o) = cond (is_ok o) [] (publish_votes_of g)
+publish_votes_of (Then g (Response response) o) = cond (is_ok o) (with_id response.source (publish_votes_of g)) (publish_votes_of g)
+publish_votes_of (Then g (Open found) o) = []
+publish_votes_of (Then g a o) = publish_votes_of g
 
 -- whether the disk failed since the node was last opened
-abbrev pub stopped_of : NodeHistory → Bool
-stopped_of NoActs = false
-stopped_of (Then g (Open found) o) = false
-stopped_of (Then g a o) = is_disk o || stopped_of g
+abbrev pub halted_of : NodeHistory → Bool
+halted_of NoActs = false
+halted_of (Then g (Open found) o) = false
+halted_of (Then g a o) = is_disk o || halted_of g
 
 -- a node after its acts: all of these
 pub record NodeState : Type 0 where
   pub term : ℕ
   pub accepted : ClusterState
   pub committed : List Id
-  pub started : Bool
-  pub votes : List Id
-  pub won : Bool
-  pub version : ℕ
-  pub config : List Id
-  pub acks : List Id
-  pub stopped : Bool
+  pub started_join : Bool
+  pub join_votes : List Id
+  pub election_won : Bool
+  pub published_version : ℕ
+  pub published_config : List Id
+  pub publish_votes : List Id
+  pub halted : Bool
 
 abbrev pub node_state : NodeHistory → NodeState
 node_state g = record {
   term = term_of g;
   accepted = accepted_of g;
   committed = committed_of g;
-  started = started_of g;
-  votes = votes_of g;
-  won = won_of g;
-  version = version_of g;
-  config = config_of g;
-  acks = acks_of g;
-  stopped = stopped_of g;
+  started_join = started_join_of g;
+  join_votes = join_votes_of g;
+  election_won = election_won_of g;
+  published_version = published_version_of g;
+  published_config = published_config_of g;
+  publish_votes = publish_votes_of g;
+  halted = halted_of g;
 }
 
 -- what the node keeps durably

@@ -1,4 +1,4 @@
--- What an act answers: the first cause that refuses it, or what it sends.
+-- Part of the statement: what an act answers: the first cause that refuses it, or what it sends.
 use Rattle.std.specs.Prelude.{◌≡◌, ℕ, ◌^◌, Bool, true, false, cond, not, ◌&&◌, Option, None, Some, Result, Ok, Err, List, nat_le, nat_lt, nat_eq}
 use Rattle.voting_config.specs.Ids.{Id, with_id, same, is_quorum_of, same_config}
 pub use Rattle.cluster_state.specs.JoinCheck.{is_empty}
@@ -29,7 +29,7 @@ elects p votes = is_quorum_of p.committed votes && is_quorum_of p.accepted.confi
 
 -- a quorum that commits: of the committed configuration and of the published one
 abbrev pub commits : NodeState → List Id → Bool
-commits p acks = is_quorum_of p.committed acks && is_quorum_of p.config acks
+commits p acks = is_quorum_of p.committed acks && is_quorum_of p.published_config acks
 
 abbrev pub bootstrap_reply : NodeState → List Id → Reply
 bootstrap_reply p config =
@@ -57,17 +57,17 @@ start_reply me p candidate term = after_check StartRefused (start_checked p term
 
 abbrev pub join_reply : Id → NodeState → Join → Reply
 join_reply me p j =
-    after_check JoinRefused (join_checked me p.term (id_of p.accepted) p.accepted.config p.started j)
-    (Taken None (not p.won && elects p (with_id j.source p.votes)))
+    after_check JoinRefused (join_checked me p.term (id_of p.accepted) p.accepted.config p.started_join j)
+    (Taken None (not p.election_won && elects p (with_id j.source p.join_votes)))
 
 abbrev pub value_reply : Id → NodeState → ℕ → List Id → ClusterValue → Reply
 value_reply me p version config value =
-    cond (not p.won) (Refused (ValueRefused value_cause.NotWon))
-    (cond (not (nat_eq p.version p.accepted.version)) (Refused (ValueRefused (value_cause.NotAccepted p.version p.accepted.version)))
-    (cond (nat_le version p.version) (Refused (ValueRefused (value_cause.VersionNotGreater p.version version)))
+    cond (not p.election_won) (Refused (ValueRefused value_cause.NotWon))
+    (cond (not (nat_eq p.published_version p.accepted.version)) (Refused (ValueRefused (value_cause.NotAccepted p.published_version p.accepted.version)))
+    (cond (nat_le version p.published_version) (Refused (ValueRefused (value_cause.VersionNotGreater p.published_version version)))
     (cond (nat_lt last_number version) (Refused (ValueRefused (value_cause.VersionTooLarge version)))
     (cond (not (same_config config p.accepted.config) && not (same_config p.committed p.accepted.config)) (Refused (ValueRefused value_cause.Reconfiguring))
-    (cond (not (is_quorum_of config p.votes)) (Refused (ValueRefused value_cause.NoJoinQuorum))
+    (cond (not (is_quorum_of config p.join_votes)) (Refused (ValueRefused value_cause.NoJoinQuorum))
     (Taken (Some (PublishMessage (record { source = me; state = record { term = p.term; version = version; config = config; committed = p.committed; value = value } }))) false))))))
 
 abbrev pub publish_reply : Id → NodeState → PublishRequest → Reply
@@ -78,14 +78,14 @@ publish_reply me p r =
 
 abbrev pub commit_sent : Id → NodeState → PublishResponse → Option Message
 commit_sent me p r =
-    cond (commits p (with_id r.source p.acks)) (Some (CommitMessage (record { source = me; term = r.term; version = r.version }))) None
+    cond (commits p (with_id r.source p.publish_votes)) (Some (CommitMessage (record { source = me; term = r.term; version = r.version }))) None
 
 abbrev pub response_reply : Id → NodeState → PublishResponse → Reply
 response_reply me p r =
     cond (not (same r.target me)) (Refused (ResponseRefused (response_cause.NotForMe r.target)))
-    (cond (not p.won) (Refused (ResponseRefused response_cause.NotWon))
+    (cond (not p.election_won) (Refused (ResponseRefused response_cause.NotWon))
     (cond (not (nat_eq p.term r.term)) (Refused (ResponseRefused (response_cause.TermMismatch p.term r.term)))
-    (cond (not (nat_eq p.version r.version)) (Refused (ResponseRefused (response_cause.VersionMismatch p.version r.version)))
+    (cond (not (nat_eq p.published_version r.version)) (Refused (ResponseRefused (response_cause.VersionMismatch p.published_version r.version)))
     (Taken (commit_sent me p r) false))))
 
 abbrev pub commit_reply : NodeState → ApplyCommit → Reply
@@ -93,21 +93,21 @@ commit_reply p c =
     cond (not (nat_eq p.term c.term)) (Refused (CommitRefused (commit_cause.TermMismatch p.term c.term)))
     (cond (not (nat_eq p.accepted.term c.term)) (Refused (CommitRefused (commit_cause.AcceptedTermMismatch p.accepted.term c.term)))
     (cond (not (nat_eq p.accepted.version c.version)) (Refused (CommitRefused (commit_cause.VersionMismatch p.accepted.version c.version)))
-    (cond (p.won && not (nat_eq p.accepted.version p.version)) (Refused (CommitRefused (commit_cause.Publishing p.accepted.version p.version)))
+    (cond (p.election_won && not (nat_eq p.accepted.version p.published_version)) (Refused (CommitRefused (commit_cause.Publishing p.accepted.version p.published_version)))
     (Taken None false))))
 
-abbrev pub unless_stopped : NodeState → Reply → Reply
-unless_stopped p reply = cond p.stopped Stopped reply
+abbrev pub unless_halted : NodeState → Reply → Reply
+unless_halted p reply = cond p.halted Stopped reply
 
 -- what a node that is this answers to an act
 abbrev pub reply_at : Id → NodeState → Act → Reply
-reply_at me p (Bootstrap config) = unless_stopped p (bootstrap_reply p config)
-reply_at me p (StartJoin candidate term) = unless_stopped p (start_reply me p candidate term)
-reply_at me p (TakeJoin join) = unless_stopped p (join_reply me p join)
-reply_at me p (Value version config value) = unless_stopped p (value_reply me p version config value)
-reply_at me p (Publish request) = unless_stopped p (publish_reply me p request)
-reply_at me p (Response response) = unless_stopped p (response_reply me p response)
-reply_at me p (Commit commit) = unless_stopped p (commit_reply p commit)
+reply_at me p (Bootstrap config) = unless_halted p (bootstrap_reply p config)
+reply_at me p (StartJoin candidate term) = unless_halted p (start_reply me p candidate term)
+reply_at me p (TakeJoin join) = unless_halted p (join_reply me p join)
+reply_at me p (Value version config value) = unless_halted p (value_reply me p version config value)
+reply_at me p (Publish request) = unless_halted p (publish_reply me p request)
+reply_at me p (Response response) = unless_halted p (response_reply me p response)
+reply_at me p (Commit commit) = unless_halted p (commit_reply p commit)
 reply_at me p (Open found) = Taken None false
 
 -- what a node answers to an act after its acts so far

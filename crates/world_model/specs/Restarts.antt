@@ -1,4 +1,4 @@
--- Histories that begin with one node, restarted from what it kept, and with others that kept no state.
+-- For the contracts inside: histories that begin with one node, restarted from what it kept, and with others that kept no state.
 use Rattle.std.specs.Prelude.{◌≡◌, ◌≤◌, cond, List, [], ◌∷◌, Contains}
 use Rattle.voting_config.specs.Ids.{Id, same}
 use Rattle.cluster_state.specs.declared.state.Kept.{Kept}

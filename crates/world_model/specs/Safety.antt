@@ -1,4 +1,4 @@
--- What is promised of every legal history.
+-- Part of the statement: what is promised of every legal history.
 use Rattle.std.specs.Prelude.{◌≡◌, ℕ, ◌<◌, ◌≤◌, cond, ◌⊎◌, Some, List, [], ◌∷◌, ◌++◌, Contains}
 use Rattle.voting_config.specs.Ids.{Id}
 use Rattle.cluster_state.specs.declared.state.ClusterState.{ClusterState}

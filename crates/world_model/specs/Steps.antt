@@ -1,4 +1,4 @@
--- What one more act makes of a node, told from what the node was.
+-- Part of the statement: what one more act makes of a node, told from what the node was.
 use Rattle.std.specs.Prelude.{◌≡◌, max, Bool, true, false, cond, ◌||◌, [], refl}
 use Rattle.voting_config.specs.Ids.{with_id}
 use Rattle.world_model.specs.Acts.{Act, Outcome, NodeHistory, Bootstrap, StartJoin, TakeJoin, Value, Publish, Response, Commit, Open, Then, is_ok, is_effective, wins, is_disk}
@@ -10,42 +10,42 @@ abbrev pub node_state_after : NodeState → Act → Outcome → NodeState
 node_state_after p (Bootstrap config) o = record p {
   accepted = cond (is_effective o) (initial_state config) p.accepted;
   committed = cond (is_effective o) config p.committed;
-  stopped = is_disk o || p.stopped;
+  halted = is_disk o || p.halted;
 }
 node_state_after p (StartJoin candidate term) o = record p {
   term = cond (is_effective o) (max term p.term) p.term;
-  started = is_ok o || p.started;
-  votes = cond (is_ok o) [] p.votes;
-  won = cond (is_ok o) false p.won;
-  version = cond (is_ok o) 0 p.version;
-  config = cond (is_ok o) p.accepted.config p.config;
-  acks = cond (is_ok o) [] p.acks;
-  stopped = is_disk o || p.stopped;
+  started_join = is_ok o || p.started_join;
+  join_votes = cond (is_ok o) [] p.join_votes;
+  election_won = cond (is_ok o) false p.election_won;
+  published_version = cond (is_ok o) 0 p.published_version;
+  published_config = cond (is_ok o) p.accepted.config p.published_config;
+  publish_votes = cond (is_ok o) [] p.publish_votes;
+  halted = is_disk o || p.halted;
 }
 node_state_after p (TakeJoin join) o = record p {
-  votes = cond (is_ok o) (with_id join.source p.votes) p.votes;
-  won = wins o || p.won;
-  version = cond (wins o) p.accepted.version p.version;
-  stopped = is_disk o || p.stopped;
+  join_votes = cond (is_ok o) (with_id join.source p.join_votes) p.join_votes;
+  election_won = wins o || p.election_won;
+  published_version = cond (wins o) p.accepted.version p.published_version;
+  halted = is_disk o || p.halted;
 }
 node_state_after p (Value version config value) o = record p {
-  version = cond (is_ok o) version p.version;
-  config = cond (is_ok o) config p.config;
-  acks = cond (is_ok o) [] p.acks;
-  stopped = is_disk o || p.stopped;
+  published_version = cond (is_ok o) version p.published_version;
+  published_config = cond (is_ok o) config p.published_config;
+  publish_votes = cond (is_ok o) [] p.publish_votes;
+  halted = is_disk o || p.halted;
 }
 node_state_after p (Publish request) o = record p {
   accepted = cond (is_effective o) request.state p.accepted;
   committed = cond (is_effective o) request.state.committed p.committed;
-  stopped = is_disk o || p.stopped;
+  halted = is_disk o || p.halted;
 }
 node_state_after p (Response response) o = record p {
-  acks = cond (is_ok o) (with_id response.source p.acks) p.acks;
-  stopped = is_disk o || p.stopped;
+  publish_votes = cond (is_ok o) (with_id response.source p.publish_votes) p.publish_votes;
+  halted = is_disk o || p.halted;
 }
 node_state_after p (Commit commit) o = record p {
   committed = cond (is_effective o) p.accepted.config p.committed;
-  stopped = is_disk o || p.stopped;
+  halted = is_disk o || p.halted;
 }
 node_state_after p (Open found) o = p
 

@@ -1,4 +1,4 @@
--- What a node is told by the words.
+-- What the words give a node.
 use Rattle.std.proofs.Common.{◌≡◌, Bool, List, [], ◌∷◌, map, refl, sym, ap, ◌∙◌}
 use Rattle.voting_config.specs.Ids.{Id}
 use Rattle.zen_link.specs.declared.link.Peer.{Peer}

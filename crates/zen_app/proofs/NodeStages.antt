@@ -47,7 +47,7 @@ view_by calls disk_ready disk_back link_ready link_back running faults h =
 pub rose_within : (before start end after : ℕ) → before ≤ start → Rose start end → after ≡ end → Rose before after
 rose_within before start end after le rose same none = rw same (rose (omega (arith, le, none, same)))
 
--- what was told of a refused opening of a link
+-- what was noted of a refused opening of a link
 pub link_noted : (T : Type 0) (was was2 now now2 : Option (List HostCall)) (t t2 : ToldSettings) (e : HostError) → was ≡ was2 → now2 ≡ now → t ≡ t2 → Notes {T = T} was now (OpensLink t) (Err e) → Notes {T = T} was2 now2 (OpensLink t2) (Err e)
 link_noted T was was2 now now2 t t2 host_error.Failed same_was same_now same_call notes =
     same_now ∙ notes ∙ ap (λ (w : Option (List HostCall)). and_call w (OpensLink t true)) same_was ∙ ap (λ (x : ToldSettings). and_call was2 (OpensLink x true)) same_call
@@ -164,7 +164,7 @@ module _ {D L : Type 0} (d : Disks D) (l : Links L Sealed) (w : NodeWords) (host
 
 -- ---- which faults were met
 
--- a status tells of no fault but these
+-- a status names no fault but these
 abbrev Other : Status → Status → Type 0
 Other status other = status ≡ other → ⊥
 

@@ -1,4 +1,4 @@
--- The exit status that stands for each end of a run. This is the statement of `Status::code`.
+-- Part of the statement: the exit status that stands for each end of a run. It is also the statement of `Status::code`.
 use Rattle.std.specs.Prelude.{ℕ}
 use Rattle.node_trial.specs.declared.running.TrialEnd.{TrialEnd}
 use Rattle.node_trial.specs.declared.running.TrialEnd.TheVariants as trial

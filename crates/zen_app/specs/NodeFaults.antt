@@ -1,4 +1,4 @@
--- What the parts of a run of `node` say of faults.
+-- Part of the statement: what the parts of a run of `node` say of faults.
 use Rattle.std.specs.Prelude.{◌≡◌, ◌≤◌, ℕ, Option, Some}
 use Rattle.zen_disk.specs.Faults.{Rose}
 use Rattle.zen_host.specs.declared.host.HostError.{HostError}

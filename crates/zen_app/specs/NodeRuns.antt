@@ -1,4 +1,4 @@
--- What a run of `node` does. Part of the statement of `run`.
+-- Part of the statement: what a run of `node` does.
 use Rattle.std.specs.Prelude.{◌≡◌, ◌≤◌, ◌⊎◌, ℕ, true, false, Option, Some, Ok, List, [], map, codes}
 use Rattle.zen_disk.specs.Faults.{Rose}
 use Rattle.zen_disk.specs.Moments.{LeavesOnly}
@@ -36,7 +36,7 @@ use Rattle.zen_app.specs.declared.status.Status.TheVariants as exit
 abbrev pub turns_line : List ℕ
 turns_line = codes "zen: turns\n"
 
--- what a node is told by the words
+-- what the words give a node
 abbrev pub settings_by : NodeWords → Settings
 settings_by w = record { me = w.link.me; peers = map (λ (p : ToldPeer). p.id) w.link.peers; initial = w.initial; shrink = w.shrink }
 
@@ -49,7 +49,7 @@ status_after ends.Disk = exit.DiskFault
 status_after ends.Link = exit.LinkFault
 status_after ends.Memory = exit.NoMemory
 
--- a line was written whole, with this status, or a front of it
+-- a line was written whole, with this status, or a prefix of it
 abbrev pub SaysLine : List ℕ → Status → (was now : Option (List ℕ)) → Status → Type 0
 SaysLine line whole was now exit.WriteFault = AppendedFront was now line
 SaysLine line whole was now exit.NoMemory = Appended was now []

@@ -1,4 +1,4 @@
--- How a run of the program ends. This is the statement of `run`.
+-- Part of the statement: how a run of the program ends. `Ran` is the contract of `run`.
 use Rattle.std.specs.Prelude.{◌≡◌, ℕ, ◌≤◌, ◌⊎◌, Option, None, Some, List, [], codes}
 use Rattle.zen_disk.specs.Faults.{Rose}
 use Rattle.zen_disk.specs.declared.disks.Disks.{Ghosts as Disks}

@@ -1,4 +1,4 @@
--- What is read of the input. Its first part, down to ReadsAtMost, is part of the statement of `run`.
+-- Part of the statement: what is read of the input. What follows ReadsAtMost is for the contracts inside.
 use Rattle.std.specs.Prelude.{◌≡◌, ℕ, ◌+◌, ◌≤◌, Option, None, Some, List, [], ◌++◌, length, take, drop}
 use Rattle.schedule_text.specs.Limits.{most_bytes}
 

@@ -1,4 +1,4 @@
--- How writing the line of a bad schedule ends. Not part of the statement.
+-- For the contracts inside: how writing the line of a bad schedule ends.
 use Rattle.std.specs.Prelude.{◌≡◌, ℕ, ◌≤◌, ◌⊎◌, Option, List, []}
 use Rattle.zen_disk.specs.Faults.{Rose}
 use Rattle.zen_link.specs.Streams.{Appended, AppendedFront}

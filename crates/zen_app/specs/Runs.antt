@@ -1,4 +1,4 @@
--- What the parts of `run` say. Not part of the statement.
+-- For the contracts inside: what the parts of `run` say.
 use Rattle.std.specs.Prelude.{◌≡◌, ℕ, ◌≤◌, Option, List}
 use Rattle.zen_disk.specs.Faults.{Rose}
 use Rattle.schedule_text.specs.declared.level.Level.{Level}

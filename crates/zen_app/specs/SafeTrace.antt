@@ -1,4 +1,4 @@
--- What is said of the trace of a schedule, at each level. Part of the statement of `run`.
+-- Part of the statement: what is said of the trace of a schedule, at each level.
 use Rattle.std.specs.Prelude.{◌≡◌, true, List, ◌++◌}
 use Rattle.voting_config.specs.Ids.{Id, has}
 use Rattle.world_model.specs.Histories.{IsLegal}

@@ -1,4 +1,4 @@
--- What a run of `trial` does. Part of the statement of `run`.
+-- Part of the statement: what a run of `trial` does.
 use Rattle.std.specs.Prelude.{◌≡◌}
 use Rattle.command_line.specs.declared.command.TrialWords.{TrialWords}
 use Rattle.journal_inspection.specs.Inspects.{HostView, LeavesLinks}

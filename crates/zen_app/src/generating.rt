@@ -1,3 +1,4 @@
+//! The command `generate`.
 ghost use Rattle.std.specs.Prelude.{◌≡◌, ◌≤◌};
 ghost use Rattle.zen_disk.specs.Faults.{Rose};
 ghost use Rattle.schedule_generator.specs.Laws.{most_steps};

@@ -1,3 +1,4 @@
+//! The input read to its end, as far as a schedule may go.
 ghost use Rattle.std.specs.Prelude.{◌≡◌, ◌<◌, ◌≤◌, IfOk, OnErr};
 ghost use Rattle.zen_disk.specs.Faults.{Rose};
 ghost use Rattle.zen_app.specs.Reading.{IsInput, IsReadOn, ReadsAtMost, most_read};

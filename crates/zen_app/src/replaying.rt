@@ -1,3 +1,4 @@
+//! The command `replay`.
 ghost use Rattle.std.specs.Prelude.{◌≡◌};
 ghost use Rattle.schedule_text.specs.Printed.{bad_line};
 ghost use Rattle.zen_app.specs.Refusing.{Refusal};

@@ -1,3 +1,4 @@
+//! `run`, the one call of the program: its words read, and the command done that they are.
 ghost use Rattle.std.specs.Prelude.{◌≡◌, map, string_bytes};
 ghost use Rattle.journal_inspection.specs.Inspects.{HostView};
 ghost use Rattle.zen_app.specs.Codes.{status_of};
@@ -41,7 +42,7 @@ fn refuse_words<S: Sink>(out: &mut S) -> Status
 /// Runs the program: `words` are those after its name. `replay --level core` reads a schedule of single acts and writes its
 /// trace, `replay --level node` a schedule of whole nodes. `inspect --dir D` opens the journal in a folder and writes what
 /// it keeps. `node` runs one node over the journal in a folder and a link, and writes its history. The clause says what
-/// each status tells.
+/// each status means.
 pub fn run<L: Link<Out = Sealed> + Drop, H: Host<Link = L>>(
     alloc: Global,
     words: &[String],

@@ -31,7 +31,7 @@ fn ids(alloc: Global, peers: &[Peer]) -> Result<Vec<NodeId>, AllocError>
     Ok(ids)
 }
 
-// What a node is told by the words.
+// What the words give a node.
 fn settings(alloc: Global, words: &NodeWords) -> Result<Settings, AllocError>
     ensures { IfOk result (λ s. s ≡ settings_by words.now) }
 {

@@ -1,3 +1,5 @@
+//! The exit statuses.
+
 /// How a run of the program ends.
 #[derive(Clone, Copy, Debug, PartialEq, Eq)]
 pub enum Status {

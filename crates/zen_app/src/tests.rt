@@ -1,3 +1,4 @@
+//! Whole runs of the program in memory: schedules with their traces, and each way in which a run ends.
 mod nodes;
 mod random;
 mod rows;

@@ -1,3 +1,4 @@
+//! The command `trial`.
 ghost use Rattle.std.specs.Prelude.{◌≡◌, ◌≤◌};
 ghost use Rattle.zen_disk.specs.Faults.{Rose};
 ghost use Rattle.journal_inspection.specs.Inspects.{HostView};

@@ -1,4 +1,4 @@
--- What two files in memory may leave after a crash, by the log of each and the order of their records, the newest first.
+-- For the contracts inside: what two files in memory may leave after a crash, by the log of each and the order of their records, the newest first.
 use Rattle.std.specs.Prelude.{◌⊎◌, ℕ, ◌≤◌, List, [], ◌∷◌, length}
 use Rattle.std.proofs.Common.{inl, inr, arith}
 use Rattle.zen_disk.specs.Sides.{Sides, Files, on, put}

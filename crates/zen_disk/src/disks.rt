@@ -1,3 +1,4 @@
+//! The trait `Disks`: two files, by what a read gives and by what a crash may leave of both.
 ghost use Rattle.std.specs.Prelude.{◌≡◌, ◌+◌, ◌^◌, ◌≤◌, List, ℕ, length, is_ok, Bool, IfOk, OnOk};
 ghost use Rattle.zen_disk.specs.Disk.{written, part, Torn};
 ghost use Rattle.zen_disk.specs.Faults.{HasCause};

@@ -1,3 +1,4 @@
+//! A disk in memory, which says all that it holds.
 ghost use Rattle.std.specs.Prelude.{◌≡◌, ◌+◌, ◌^◌, ◌≤◌, [], ◌∷◌, ◌++◌, length, reverse, OnOk, OnErr, ⊤, vec_len};
 ghost use Rattle.zen_disk.specs.Disk.{written, part};
 ghost use Rattle.zen_disk.specs.Faults.{Rose};
@@ -40,7 +41,7 @@ pub struct MemDisks {
     faults: u64,
 }
 
-// Counts a call, and tells whether it is one of those that fail.
+// Counts a call, and says whether it is one of those that fail.
 fn count_call(made: &mut u64, failing: &[u64]) -> bool
     ensures made { made.new ≡ next_number made.old }
     ensures listed { result ≡ is_listed failing.now made.new }

@@ -1,4 +1,4 @@
--- The calls of a host that may be refused, with their arguments and answers.
+-- Part of the statement: the calls of a host that may be refused, with their arguments and answers.
 use Rattle.std.specs.Prelude.{◌≡◌, ℕ, Bool, true, false, Option, None, Some, Result, Ok, Err, List, [], ◌∷◌, ◌++◌, length, map, string_bytes}
 use Rattle.voting_config.specs.Ids.{Id}
 use Rattle.zen_link.specs.declared.link.Peer.{Peer}
@@ -32,7 +32,7 @@ pub record ToldEnd : Type 0 where
 abbrev pub told_end : Ended → ToldEnd
 told_end ended = record { status = ended.status; output = ended.output.items }
 
--- A call, and whether it was refused as Failed; a wait is told with how the child ended, unless it was refused. A child is told by the number of
+-- A call, and whether it was refused as Failed; a wait is noted with how the child ended, unless it was refused. A child is named by the number of
 -- the call that spawned it.
 pub data HostCall : Type 0 where
   OpensDisk : (dir : List ℕ) → (refused : Bool) → HostCall

@@ -1,4 +1,4 @@
--- Which calls of a host in memory fail, and how its children end.
+-- For the contracts inside: which calls of a host in memory fail, and how its children end.
 use Rattle.std.specs.Prelude.{◌≡◌, ◌⊎◌, ◌-◌, ◌^◌, ℕ, true, false, Option, None, Some, List, [], ◌∷◌, Result, Ok, Err, IfOk, is_ok}
 use Rattle.zen_disk.specs.Numbered.{next_number, is_listed}
 use Rattle.zen_host.specs.declared.host.Ended.{Ended}

@@ -1,3 +1,4 @@
+//! The trait `Host`: what a program has outside itself, and how it is opened.
 ghost use Rattle.std.specs.Prelude.{◌≡◌, ℕ, ◌+◌, ◌-◌, ◌≤◌, Option, Some, Result, List, IfOk, OnErr, IsErrOf, map, string_bytes};
 ghost use Rattle.zen_disk.specs.Faults.{Rose};
 ghost use Rattle.zen_host.specs.HostCalls.{HostCall, OpensDisk, OpensLink, Spawns, Kills, Notes, NotesWait, IsNumber, told_settings};

@@ -1,3 +1,4 @@
+//! A host in memory, whose calls fail as it was made to.
 ghost use Rattle.std.specs.Prelude.{◌≡◌, ◌≤◌, true, [], ◌∷◌, ◌++◌, Some, None, map, string_bytes, IfOk, OnOk, OnErr};
 ghost use Rattle.std.specs.Option.{ForSome};
 ghost use Rattle.zen_disk.specs.Faults.{Rose};
@@ -42,17 +43,17 @@ pub enum Asked {
     },
 }
 
-/// A child of a host in memory. It ends as the host was told.
+/// A child of a host in memory. It ends as was said when the host was made.
 #[derive(Drop)]
 pub struct MemChild {
     number: usize,
     ended: Ended,
 }
 
-/// A host whose parts are in memory. It gives its disk and its link once, and its children end as it was told when it was
+/// A host whose parts are in memory. It gives its disk and its link once, and its children end as was said when it was
 /// made, in the order in which they are spawned. A call that may be refused is so where its number is in the list that the
 /// host was made with, and where there is nothing to give or 2^64 - 1 children run; and a call that finds no memory in which
-/// to be told answers `Memory`.
+/// to be noted answers `Memory`.
 #[derive(Drop)]
 pub struct MemHost<D: Disks + Drop, L: Link + Drop = MemLink<()>> {
     alloc: Global,
@@ -203,7 +204,7 @@ fn note(asked: &mut Vec<Asked>, call: Asked) -> Result<(), AllocError>
     Ok(())
 }
 
-// Tells of a call to open the disk in a folder.
+// Notes a call to open the disk in a folder.
 fn tell(alloc: Global, asked: &mut Vec<Asked>, dir: &str, refused: bool) -> Result<(), AllocError>
     ensures told { OnOk result (map call_of asked.new.items ≡ map call_of asked.old.items ++ OpensDisk dir.now refused ∷ []) }
     ensures kept { OnErr result (asked.new.items ≡ asked.old.items) }
@@ -252,7 +253,7 @@ fn copy_settings(alloc: Global, settings: &LinkSettings) -> Result<LinkSettings,
     })
 }
 
-// Tells of a call to open a link with these settings.
+// Notes a call to open a link with these settings.
 fn tell_link(
     alloc: Global,
     asked: &mut Vec<Asked>,
@@ -295,7 +296,7 @@ fn copy_words(alloc: Global, words: &[String]) -> Result<Vec<String>, AllocError
     Ok(copies)
 }
 
-// Tells of a call to run a program with these words.
+// Notes a call to run a program with these words.
 fn tell_spawn(
     alloc: Global,
     asked: &mut Vec<Asked>,
@@ -348,7 +349,7 @@ fn copy_end(alloc: Global, ended: &Ended) -> Result<Ended, AllocError>
     })
 }
 
-// Tells of a wait for the child that this call spawned, which ended so.
+// Notes a wait for the child that this call spawned, which ended so.
 fn tell_end(
     alloc: Global,
     asked: &mut Vec<Asked>,
@@ -368,7 +369,7 @@ fn tell_end(
     )
 }
 
-// Refuses a call that is told so, and counts a fault.
+// Refuses a call that was noted so, and counts a fault.
 fn refuse_told(asked: &mut Vec<Asked>, faults: &mut u64, call: Asked) -> HostError
     ensures told { result ≡ HostError.Failed → map call_of asked.new.items ≡ map call_of asked.old.items ++ call_of call ∷ [] }
     ensures kept { result ≡ HostError.Memory → asked.new.items ≡ asked.old.items }

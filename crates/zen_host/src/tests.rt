@@ -1,3 +1,4 @@
+//! A host in memory: its disk, its link and its children.
 use crate::{Asked, Ended, Host, HostError, MemHost};
 use std::alloc::{AllocError, Global};
 use std::test::Fail;

@@ -16,11 +16,11 @@ pub appended_none : (a : Option (List ℕ)) → Appended a a []
 appended_none None = λ i. None
 appended_none (Some was) = ap (λ (l : List ℕ). Some l) (sym (append-nil was))
 
--- nothing is a front of anything
+-- nothing is a prefix of anything
 pub front_none : (a : Option (List ℕ)) (bytes : List ℕ) → AppendedFront a a bytes
 front_none a bytes = record { front = []; rest = bytes; whole = λ i. bytes; appended = appended_none a }
 
--- a piece, and then a front of what follows it
+-- a piece, and then a prefix of what follows it
 pub front_after : (a b c : Option (List ℕ)) (piece rest : List ℕ) → Appended a b piece → AppendedFront b c rest → AppendedFront a c (piece ++ rest)
 front_after a b c piece rest g h = record {
   front = piece ++ h.front;
@@ -29,7 +29,7 @@ front_after a b c piece rest g h = record {
   appended = appended_more a b c piece h.front g h.appended;
 }
 
--- a front of a front
+-- a prefix of a prefix
 pub front_within : (a b : Option (List ℕ)) (piece rest all : List ℕ) → piece ++ rest ≡ all → AppendedFront a b piece → AppendedFront a b all
 front_within a b piece rest all e h = record {
   front = h.front;

@@ -1,4 +1,4 @@
--- What a link in memory tells, what it gives, and which of its calls fail.
+-- For the contracts inside: what a link in memory tells, what it gives, and which of its calls fail.
 use Rattle.std.specs.Prelude.{◌≡◌, Bool, true, false, Option, Some, None, Result, Ok, Err, List, if◌then◌else◌, IfOk, is_ok}
 use Rattle.zen_disk.specs.Numbered.{next_number, is_listed}
 use Rattle.zen_link.specs.Told.{scripted_at}

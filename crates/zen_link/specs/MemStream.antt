@@ -1,4 +1,4 @@
--- Which calls of a source and a sink in memory fail.
+-- For the contracts inside: which calls of a source and a sink in memory fail.
 use Rattle.std.specs.Prelude.{◌≡◌, ◌⊎◌, ℕ, ◌+◌, ◌<◌, min, vec_len, vec_capacity, length, List, true, false, not, Result, IfOk, is_ok}
 use Rattle.zen_disk.specs.Numbered.{next_number, is_listed}
 use Rattle.zen_link.specs.declared.stream.Failed.{Failed}

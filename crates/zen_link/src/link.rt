@@ -1,3 +1,4 @@
+//! The trait `Link`: what comes to a node, and what it sends.
 ghost use Rattle.std.specs.Prelude.{◌≡◌, ℕ, ◌≤◌, Option, List, Result, IsTrue, IfOk, IsErrOf};
 ghost use Rattle.zen_disk.specs.Faults.{Rose};
 ghost use Rattle.zen_link.specs.Told.{Takes, Adds, has_low_conn};

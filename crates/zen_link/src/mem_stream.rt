@@ -1,3 +1,4 @@
+//! A source and a sink in memory, whose calls fail as they were made to.
 ghost use Rattle.std.specs.Prelude.{◌≡◌, ◌<◌, ◌≤◌, [], Some, drop};
 ghost use Rattle.zen_disk.specs.Faults.{Rose};
 

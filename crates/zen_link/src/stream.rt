@@ -1,3 +1,4 @@
+//! The traits `Source` and `Sink`, and a write of all bytes.
 ghost use Rattle.std.specs.Prelude.{◌≡◌, ℕ, ◌<◌, ◌≤◌, List, Option, Result};
 ghost use Rattle.zen_disk.specs.Faults.{HasCause};
 ghost use Rattle.zen_link.specs.Streams.{Reads, Writes, WritesAll};
@@ -22,7 +23,7 @@ pub trait Source {
     /// Whether a read with this result leads from one to the other, as far as the source tells.
     ghost steps: { Self → Self → Result ℕ Failed → Type 0 };
 
-    /// Reads the next bytes into a front of the buffer, and says how many. Zero into a buffer that is not empty is
+    /// Reads the next bytes into a prefix of the buffer, and says how many. Zero into a buffer that is not empty is
     /// the end of input. `Failed` only where the count of faults rose; nothing is taken then.
     fn read(&mut self, into: &mut [u8]) -> Result<usize, Failed>
         ensures reads { Reads (left self.old) (left self.new) into.new result }
@@ -43,7 +44,7 @@ pub trait Sink {
     /// Whether a write of these bytes with this result leads from one to the other, as far as the sink tells.
     ghost steps: { Self → List ℕ → Self → Result ℕ Failed → Type 0 };
 
-    /// Writes a front of the bytes, and says how many: at least one of a piece that is not empty. `Failed` only where
+    /// Writes a prefix of the bytes, and says how many: at least one of a piece that is not empty. `Failed` only where
     /// the count of faults rose; nothing is written then.
     fn write(&mut self, bytes: &[u8]) -> Result<usize, Failed>
         ensures writes { Writes (written self.old) (written self.new) bytes.now result }
@@ -51,7 +52,7 @@ pub trait Sink {
         ensures steps { steps self.old bytes.now self.new result };
 }
 
-/// Writes all of the bytes. `Failed` only where the sink's count of faults rose; a front of them is written then.
+/// Writes all of the bytes. `Failed` only where the sink's count of faults rose; a prefix of them is written then.
 pub fn write_all<S: Sink>(out: &mut S, bytes: &[u8]) -> Result<(), Failed>
     ensures writes { WritesAll (S.written out.old) (S.written out.new) bytes.now result }
     ensures cause { HasCause (S.faults out.old) (S.faults out.new) result }

@@ -1,3 +1,4 @@
+//! `ClusterNode`: one whole node of a replay. It is open, or down with its disk.
 ghost use Rattle.std.specs.Prelude.{◌≡◌, ◌++◌, IfOk, OnOk, ℕ, List, [], false, not, length};
 ghost use Rattle.policy_model.specs.declared.settings.Settings.{Settings as SettingsOf};
 ghost use Rattle.policy_model.specs.Fitting.{IsFitEvent};
@@ -18,7 +19,7 @@ use cluster_state::ClusterState;
 use coordinator::{Coordinator, Entries, Sealed};
 use event_text::{write_event, write_struck_event};
 use policy_model::{Event, NodeIds, Settings};
-use replay_node::disk::{empty_disk, restarted, stopped};
+use replay_node::disk::{crashed, empty_disk, restarted};
 use schedule_text::Text;
 use state_journal::{Keeper, OpenError, StateJournal};
 use std::alloc::{AllocError, Global};
@@ -187,7 +188,7 @@ impl ClusterNode {
         }
     }
 
-    /// The node stops between two events, and so does its disk. Writes `crashed` and the node, or `down` where it was down.
+    /// The node crashes between two events: its disk stops. Writes `crashed` and the node, or `down` where it was down.
     pub fn crash(&mut self, alloc: Global, way: Way, text: &mut Text) -> Result<(), AllocError>
         ensures { OnOk result ((frames : List FrameOf) → OwnDoes self.old self.new false frames frames text.old text.new (λ s own. own_crash way own) (λ s own. []) (λ s count own. stop_text s.me own.node)) }
     {
@@ -197,7 +198,7 @@ impl ClusterNode {
                 write_down(text, self.me)
             }
             Slot::Open(node) => {
-                self.slot = Slot::Down(stopped(node.into_keeper().into_disk(), way));
+                self.slot = Slot::Down(crashed(node.into_keeper().into_disk(), way));
                 write_crashed(text, self.me)
             }
         }
@@ -265,7 +266,7 @@ impl ClusterNode {
         }
     }
 
-    // What the fuse tells of an opening that met a fault of the disk. A fault that no order has made is want of memory.
+    // What the fuse says of an opening that met a fault of the disk. A fault that no order has made means that memory ran out.
     fn stay_down(&mut self, fuse: Fuse<MemDisks>, text: &mut Text) -> Result<(), AllocError>
         ensures me { self.new.me ≡ self.old.me }
         ensures published { self.new.published ≡ self.old.published }
@@ -285,7 +286,7 @@ impl ClusterNode {
     }
 }
 
-// What the node is told before its start.
+// What the node is given before its start.
 fn settings_of(
     alloc: Global,
     me: NodeId,

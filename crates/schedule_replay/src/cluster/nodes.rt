@@ -1,3 +1,4 @@
+//! All whole nodes of a replay, each found by its id.
 ghost use Rattle.std.specs.Prelude.{◌≡◌, ℕ, List, [], true, false, not, length, slice_get, Some, OnOk};
 ghost use Rattle.voting_config.specs.Ids.{Id, has};
 ghost use Rattle.wire_frames.specs.declared.frame.Frame.{Frame as FrameOf};
@@ -61,7 +62,7 @@ pub fn event(
     nodes[place].event(alloc, event, frames, text)
 }
 
-/// The node stops between two events, and so does its disk.
+/// The node crashes between two events: its disk stops.
 pub fn crash(
     ids: &NodeSet,
     nodes: &mut [ClusterNode],

@@ -1,3 +1,4 @@
+//! `ClusterReplayer`: the nodes of a schedule of level node, and the frames that they have sent.
 ghost use Rattle.std.specs.Prelude.{◌≡◌, ◌<◌, OnOk, IfOk, ℕ, List, [], length, true, false, slice_get, Some};
 ghost use Rattle.voting_config.specs.Ids.{Id, has};
 ghost use Rattle.schedule_text.specs.Lines.{FitsLine};
@@ -45,6 +46,7 @@ impl ClusterReplayer {
         let ids = ids.copy();
         let initial = initial.copy();
         let nodes = fresh_nodes(alloc, &ids, &initial)?;
+        // For the proof alone: a set ascends and has 32 ids at most.
         let _ = ids.as_slice();
         Ok(ClusterReplayer {
             ids,

@@ -1,3 +1,4 @@
+//! One event of an open node, as far as its disk lets it.
 ghost use Rattle.std.specs.Prelude.{IfOk};
 ghost use Rattle.policy_model.specs.Fitting.{IsFitEvent};
 ghost use Rattle.coordinator.specs.Views.{IsReady};
@@ -19,13 +20,13 @@ pub enum Ended {
     Whole(Sealed),
     /// The disk failed at the last of these acts, by an order.
     Failed(Entries),
-    /// The disk stopped inside the last of these acts, and the node with it.
+    /// The disk stopped inside the last of these acts, so the node crashed.
     Crashed(Entries),
     /// The disk had failed before, and nothing was done.
     Stopped,
 }
 
-/// The node does what its policy says at an event, as far as its disk lets it. The error is want of memory; a fault of the
+/// The node does what its policy says at an event, as far as its disk lets it. The error means that memory ran out; a fault of the
 /// disk that no order has made is one too.
 pub fn step(node: &mut OpenNode, alloc: Global, event: Event) -> Result<Ended, AllocError>
     requires ready { IsReady node.old }

@@ -1,5 +1,5 @@
-// Schedules of whole nodes with their traces: the two lines of the header, and then the trace, which echoes the other lines of the schedule. The
-// traces were made by an independent program.
+//! Schedules of whole nodes with their traces: the two lines of the header, and then the trace, which echoes the other lines of the schedule. The
+//! traces were made by an independent program.
 
 pub type Row = (&'static str, &'static [&'static str]);
 

@@ -1,3 +1,4 @@
+//! Schedules that are drawn at random.
 use rand_core::utils::NextWord;
 use rand_pcg::Pcg32;
 use schedule_text::{IdList, Line, Lines, MAX_ORDINAL, Schedule, SettingText};
@@ -23,7 +24,7 @@ fn node(draws: &mut Pcg32, nodes: &NodeSet) -> Option<NodeId> {
     nodes.get((draws.next_word() % 5) as usize)
 }
 
-// Small numbers are drawn most, since terms and versions that meet tell most.
+// Small numbers are drawn most, since terms and versions that meet show most.
 fn number(draws: &mut Pcg32) -> u64 {
     match draws.next_word() % 32 {
         0 => u64::MAX,

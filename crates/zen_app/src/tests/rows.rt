@@ -1,4 +1,4 @@
-//! Schedules with their traces, a line an element: the two lines of the header, and then the trace, whose lines behind `> ` are
+//! Schedules with their traces, a line an element: the two lines of the header, and then the trace, whose lines after `> ` are
 //! those of the schedule.
 //!
 //! Where they come from: each trace was worked out from docs/protocol.md, docs/formats.md and the definitions of `world_model` by a second

@@ -1,7 +1,6 @@
 use Rattle.std.proofs.Common.{arith, List, map, ap, ◌++◌, ◌∙◌}
 use Rattle.std.proofs.lemmas.List.{take_all}
-use Rattle.voting_config.specs.Ids.{Id}
-use Rattle.reconfigurator.specs.Targets.{among}
+use Rattle.voting_config.specs.Ids.{Id, among}
 use Rattle.wire_frames.specs.declared.frame.Message.TheVariants as message
 use Rattle.coordinator.specs.Plans.{frame_to}
 use Rattle.coordinator.specs.Showing.{shown_in}

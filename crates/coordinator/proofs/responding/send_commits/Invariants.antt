@@ -1,6 +1,5 @@
 use Rattle.std.proofs.Common.{◌≡◌, ◌++◌, map, take}
-use Rattle.voting_config.specs.Ids.{Id}
-use Rattle.reconfigurator.specs.Targets.{among}
+use Rattle.voting_config.specs.Ids.{Id, among}
 use Rattle.wire_frames.specs.declared.frame.Frame.{Frame}
 use Rattle.wire_frames.specs.declared.frame.Message.TheVariants as message
 use Rattle.coordinator.specs.Plans.{frame_to}

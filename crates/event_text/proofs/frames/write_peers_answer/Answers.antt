@@ -1,6 +1,6 @@
 use Rattle.std.proofs.Common.{codes, decimal}
 use Rattle.event_text.specs.Frames.{master_text}
-use Rattle.schedule_text.specs.Words.{list_text}
+use Rattle.voting_config.specs.Lists.{list_text}
 use Rattle.event_text.proofs.Written.{three_fields}
 use Rattle.event_text.proofs.frames.write_peers_answer.Goals as goal
 

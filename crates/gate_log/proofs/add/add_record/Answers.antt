@@ -1,7 +1,7 @@
 use Rattle.std.proofs.Common.{◌+◌, length, ◌∷◌, [], ◌≡◌, subst, refl}
 use Rattle.zen_disk.specs.Moments.{joins, leaves_also}
 use Rattle.zen_disk.specs.DeviceCall.{Write, Sync}
-use Rattle.zen_disk.specs.Runs.{Ran, ran_on}
+use Rattle.zen_disk.specs.Runs.{CallsMade, ran_on}
 use Rattle.zen_disk.specs.Sides.{on, other}
 use Rattle.gate_log.specs.Journal.{IsBeforeOrAfter}
 use Rattle.gate_log.specs.Calls.{LeavesOn}
@@ -69,7 +69,7 @@ returns-in_err-write_through-2-clause-ran g c =
     let failed = c.in_err-write_through-2.ensures.ran in
     let error = c.from_residual-in_err-write_through-2.ensures in
     subst
-    (λ ok. Ran g.D.Disks.steps
+    (λ ok. CallsMade g.D.Disks.steps
     (Write side (c.args.gate + 1) c.args.frame.now ∷ Sync side ∷ Write side c.args.gate (1 ∷ []) ∷ Sync side ∷ []) c.args.disk.now
     c.write_through-2.new.disk ok) (err_is c.from_residual-in_err-write_through-2.result error.0)
     (ran_on g.D.Disks.steps first then c.args.disk.now c.write_through.new.disk c.write_through-2.new.disk _ c.in_ok-write_through.ensures.ran failed)

@@ -2,7 +2,7 @@ use Rattle.std.proofs.Common.{◌∙◌, [], ◌∷◌, List, refl, sym, subst, 
 use Rattle.std.specs.Prelude.{nat_lt}
 use Rattle.std.proofs.lemmas.Bool.{lt-ltb, le-ltb, cond-true, cond-false}
 use Rattle.zen_disk.specs.DeviceCall.{DeviceCall, Write, Sync}
-use Rattle.zen_disk.specs.Runs.{Ran}
+use Rattle.zen_disk.specs.Runs.{CallsMade}
 use Rattle.zen_disk.specs.Sides.{on, other}
 use Rattle.gate_log.proofs.Added.{laid_nothing, room}
 use Rattle.gate_log.proofs.Both.{only_both, only_there}
@@ -20,7 +20,7 @@ returns-then-gate-le8-clause-emptied g c told =
 pub returns-then-gate-le8-clause-ran : goal.returns-then-gate-le8-clause-ran
 returns-then-gate-le8-clause-ran g c =
     let side = c.args.side in
-    subst (λ (calls : List DeviceCall). Ran g.D.Disks.steps calls c.args.disk.now c.args.disk.now true)
+    subst (λ (calls : List DeviceCall). CallsMade g.D.Disks.steps calls c.args.disk.now c.args.disk.now true)
     (sym (cond-false (nat_lt 8 c.args.gate) (Write side 8 (0 ∷ []) ∷ Sync side ∷ []) [] (le-ltb 8 c.args.gate (omega (arith, c.if-gate-le8.true)))))
     (refl, refl)
 
@@ -46,13 +46,13 @@ returns-clause-any_moment g c told bodies laid only =
 pub returns-in_default-clause-ran : goal.returns-in_default-clause-ran
 returns-in_default-clause-ran g c =
     let side = c.args.side in
-    subst (λ (calls : List DeviceCall). Ran g.D.Disks.steps calls c.args.disk.now c.close_first.new.disk false)
+    subst (λ (calls : List DeviceCall). CallsMade g.D.Disks.steps calls c.args.disk.now c.close_first.new.disk false)
     (sym (cond-true (nat_lt 8 c.args.gate) (Write side 8 (0 ∷ []) ∷ Sync side ∷ []) [] (lt-ltb 8 c.args.gate (omega (arith, c.if-gate-le8.false)))))
     c.in_default.ensures.ran
 
 pub returns-clause-ran : goal.returns-clause-ran
 returns-clause-ran g c =
     let side = c.args.side in
-    subst (λ (calls : List DeviceCall). Ran g.D.Disks.steps calls c.args.disk.now c.close_first.new.disk true)
+    subst (λ (calls : List DeviceCall). CallsMade g.D.Disks.steps calls c.args.disk.now c.close_first.new.disk true)
     (sym (cond-true (nat_lt 8 c.args.gate) (Write side 8 (0 ∷ []) ∷ Sync side ∷ []) [] (lt-ltb 8 c.args.gate (omega (arith, c.if-gate-le8.false)))))
     c.in-Ok.ensures.ran

@@ -1,6 +1,6 @@
 use Rattle.std.proofs.Common.{◌≡◌, ◌+◌, ◌≤◌, ◌∙◌, ℕ, List, length, ap, subst, arith}
 use Rattle.std.specs.Prelude.{is_ok}
-use Rattle.zen_disk.specs.Runs.{Ran}
+use Rattle.zen_disk.specs.Runs.{CallsMade}
 use Rattle.zen_disk.specs.Sides.{other}
 use Rattle.gate_log.specs.Calls.{renewal_calls}
 use Rattle.gate_log.specs.Journal.{framed}
@@ -53,4 +53,4 @@ returns-clause-ran g c = λ s is.
     let framed_is = c.frame.ensures ∙ c.lay_generation.ensures.frame ∙ ap framed same in
     let size : length c.frame.result.now ≤ 8388608 + 5 = frame_short epoch c.epoch.result c.args.term s c.args.draft.now c.args.committed.now is c.epoch.ensures.value c.frame.result.now c.lay_generation.ensures.fits (c.frame.ensures ∙ c.lay_generation.ensures.frame) in
     let ran = c.renew.ensures.ran (called c.renew.result (λ is. let stopped = c.renew.ensures.answers.stopped.0 is in absurd (cc (stopped, c.requires.runs))) (λ is. let long = c.renew.ensures.too_long.0 is in absurd (omega (arith, long.1, size))) c.renew.ensures.only) in
-    subst (λ (frame : List ℕ). Ran g.D.Disks.steps (renewal_calls (other log.side) log.other_gate frame) log.disk c.renew.new.self.disk (is_ok c.renew.result)) framed_is ran
+    subst (λ (frame : List ℕ). CallsMade g.D.Disks.steps (renewal_calls (other log.side) log.other_gate frame) log.disk c.renew.new.self.disk (is_ok c.renew.result)) framed_is ran

@@ -3,7 +3,7 @@ use Rattle.std.specs.Prelude.{Option}
 use Rattle.cluster_state.specs.declared.state.Kept.{Kept}
 use Rattle.coordinator.proofs.Entering.{event_ready, event_leaves, life_leaves}
 use Rattle.coordinator.proofs.Limiting.{within, few}
-use Rattle.coordinator.proofs.Sealing.{steps, stays, lasting, sealed_fine, sealed_not_stopped}
+use Rattle.coordinator.proofs.Sealing.{steps, stays, lasting, sealed_fine, sealed_not_halted}
 use Rattle.coordinator.proofs.coordinator.Coordinator.step.Goals as goal
 
 pub returns-clause-steps : goal.returns-clause-steps
@@ -28,7 +28,7 @@ returns-clause-within g c =
 
 pub returns-clause-stopped : goal.returns-clause-stopped
 returns-clause-stopped g c =
-    (λ e. absurd (sealed_not_stopped c.take_event-ended.result c.args.event _ c.seal.result c.seal.ensures e), λ stopped. absurd (true≢false (sym stopped ∙ ap (λ x. g.K.Keeper.has_stopped x) (sym c.keeper.ensures) ∙ sym c.stopped.ensures ∙ c.if-stopped.false)))
+    (λ e. absurd (sealed_not_halted c.take_event-ended.result c.args.event _ c.seal.result c.seal.ensures e), λ stopped. absurd (true≢false (sym stopped ∙ ap (λ x. g.K.Keeper.has_stopped x) (sym c.keeper.ensures) ∙ sym c.stopped.ensures ∙ c.if-stopped.false)))
 
 pub returns-clause-durable : goal.returns-clause-durable
 returns-clause-durable g c =

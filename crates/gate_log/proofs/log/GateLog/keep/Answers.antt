@@ -1,6 +1,6 @@
 use Rattle.std.proofs.Common.{◌+◌, ◌≡◌, length, [], ◌∷◌, ◌++◌, arith, refl, subst, sym, ◌∙◌, ap, true, false, List, ℕ}
 use Rattle.zen_disk.specs.Moments.{leaves_also}
-use Rattle.zen_disk.specs.Runs.{Ran}
+use Rattle.zen_disk.specs.Runs.{CallsMade}
 use Rattle.zen_disk.specs.Sides.{on, other}
 use Rattle.gate_log.specs.Calls.{append_calls}
 use Rattle.gate_log.specs.Generations.{standing_in, in_use, tail_of, IsAppended}
@@ -74,7 +74,7 @@ returns-in_default-clause-appends g c body framing plain =
           (c.add_record.ensures.any_moment told (on self.side (standing_in seen).bodies) body framing was.here was.durable)
           (append_leaves (standing_in seen) seen (g.D.Disks.may_leave self.disk) self.side self.gate self.other_gate self.epoch was body plain);
       ran = λ called.
-          subst (λ (l : List ℕ). Ran g.D.Disks.steps (append_calls self.side self.gate l) self.disk c.add_record.new.disk false) framing.bytes
+          subst (λ (l : List ℕ). CallsMade g.D.Disks.steps (append_calls self.side self.gate l) self.disk c.add_record.new.disk false) framing.bytes
           c.in_default.ensures.ran;
     }
 
@@ -104,6 +104,6 @@ returns-clause-appends g c body framing plain =
           (c.add_record.ensures.any_moment told (on self.side before.bodies) body framing was.here was.durable)
           (append_leaves before seen (g.D.Disks.may_leave self.disk) self.side self.gate self.other_gate self.epoch was body plain);
       ran = λ called.
-          subst (λ (l : List ℕ). Ran g.D.Disks.steps (append_calls self.side self.gate l) self.disk c.add_record.new.disk true) framing.bytes
+          subst (λ (l : List ℕ). CallsMade g.D.Disks.steps (append_calls self.side self.gate l) self.disk c.add_record.new.disk true) framing.bytes
           c.in-Ok.ensures.ran;
     }

@@ -1,7 +1,7 @@
 use Rattle.std.proofs.Common.{◌≡◌, ◌∙◌, length, arith, List, ℕ, ap, sym, subst, Ok, Some, true}
 use Rattle.std.specs.Option.{unwrap_or}
 use Rattle.zen_disk.specs.Moments.{LeavesOnly}
-use Rattle.zen_disk.specs.Runs.{Ran, ran_on}
+use Rattle.zen_disk.specs.Runs.{CallsMade, ran_on}
 use Rattle.zen_disk.specs.Sides.{Sides, on}
 use Rattle.zen_disk.specs.declared.side.Side.TheVariants.{Zero, One}
 use Rattle.gate_log.specs.Calls.{opening_calls}
@@ -184,7 +184,7 @@ returns-in-Zero-clause-ran g c told =
     let files = g.D.Disks.seen c.args.disk in
     ran_on g.D.Disks.steps (opening_calls Zero files.zero) (opening_calls One files.one) c.args.disk c.open_side.new.disk c.open_side-2.new.disk true
     (c.in-Ok.ensures.ran told)
-    (subst (λ (l : List ℕ). Ran g.D.Disks.steps (opening_calls One l) c.open_side.new.disk c.open_side-2.new.disk true) c.open_side.ensures.elsewhere
+    (subst (λ (l : List ℕ). CallsMade g.D.Disks.steps (opening_calls One l) c.open_side.new.disk c.open_side-2.new.disk true) c.open_side.ensures.elsewhere
     (c.in-Ok-open_side.ensures.ran told))
 
 pub invariant_of-result-in-One : goal.invariant_of-result-in-One
@@ -305,7 +305,7 @@ returns-in-One-clause-ran g c told =
     let files = g.D.Disks.seen c.args.disk in
     ran_on g.D.Disks.steps (opening_calls Zero files.zero) (opening_calls One files.one) c.args.disk c.open_side.new.disk c.open_side-2.new.disk true
     (c.in-Ok.ensures.ran told)
-    (subst (λ (l : List ℕ). Ran g.D.Disks.steps (opening_calls One l) c.open_side.new.disk c.open_side-2.new.disk true) c.open_side.ensures.elsewhere
+    (subst (λ (l : List ℕ). CallsMade g.D.Disks.steps (opening_calls One l) c.open_side.new.disk c.open_side-2.new.disk true) c.open_side.ensures.elsewhere
     (c.in-Ok-open_side.ensures.ran told))
 
 pub returns-in-Err-clause-ran_err : goal.returns-in-Err-clause-ran_err
@@ -330,7 +330,7 @@ returns-in-Err-chosen-clause-ran_err g c told =
     let ran =
     ran_on g.D.Disks.steps (opening_calls Zero files.zero) (opening_calls One files.one) c.args.disk c.open_side.new.disk c.open_side-2.new.disk true
     (c.in-Ok.ensures.ran told)
-    (subst (λ (l : List ℕ). Ran g.D.Disks.steps (opening_calls One l) c.open_side.new.disk c.open_side-2.new.disk true) c.open_side.ensures.elsewhere
+    (subst (λ (l : List ℕ). CallsMade g.D.Disks.steps (opening_calls One l) c.open_side.new.disk c.open_side-2.new.disk true) c.open_side.ensures.elsewhere
     (c.in-Ok-open_side.ensures.ran told)) in
     twin_ran g.D.Disks.steps files c.args.disk c.open_side-2.new.disk c.in-Err-chosen.why ran
     (why_is_twin c.epoch_of-zero_epoch.result c.epoch_of-one_epoch.result c.in-Err-chosen.why (sym c.chosen.ensures ∙ c.in-Err-chosen.is))

@@ -1,6 +1,6 @@
 use Rattle.std.proofs.Common.{◌≡◌, ◌∙◌, ◌+◌, [], ◌∷◌, length, ap, sym, subst, arith, true, false}
 use Rattle.zen_disk.specs.Moments.{leaves_also}
-use Rattle.zen_disk.specs.Runs.{Ran}
+use Rattle.zen_disk.specs.Runs.{CallsMade}
 use Rattle.zen_disk.specs.Sides.{on, other}
 use Rattle.zen_disk.specs.declared.side.Side.{Side}
 use Rattle.gate_log.specs.Journal.{IsLaid, IsReplaced}
@@ -135,12 +135,12 @@ pub returns-in_default-clause-ran : goal.returns-in_default-clause-ran
 returns-in_default-clause-ran g c called =
     let self = c.args.self.now in
     subst
-    (λ (s : Side). Ran g.D.Disks.steps (renewal_calls s self.other_gate c.args.frame.now) self.disk c.write_generation.new.disk false)
+    (λ (s : Side). CallsMade g.D.Disks.steps (renewal_calls s self.other_gate c.args.frame.now) self.disk c.write_generation.new.disk false)
     c.other-side.ensures c.in_default.ensures.ran
 
 pub returns-clause-ran : goal.returns-clause-ran
 returns-clause-ran g c called =
     let self = c.args.self.now in
     subst
-    (λ (s : Side). Ran g.D.Disks.steps (renewal_calls s self.other_gate c.args.frame.now) self.disk c.write_generation.new.disk true)
+    (λ (s : Side). CallsMade g.D.Disks.steps (renewal_calls s self.other_gate c.args.frame.now) self.disk c.write_generation.new.disk true)
     c.other-side.ensures c.in-Ok.ensures.ran

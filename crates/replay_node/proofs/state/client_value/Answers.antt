@@ -15,7 +15,7 @@ use Rattle.world_model.specs.NodeState.{NodeState}
 use Rattle.world_model.specs.Replies.{reply_at, last_number}
 use Rattle.replay_node.specs.Stands.{Journal, record_of, has_stopped, faults}
 use Rattle.replay_node.proofs.StateSteps.{told_does}
-use Rattle.replay_node.proofs.state.publish.Goals as goal
+use Rattle.replay_node.proofs.state.client_value.Goals as goal
 
 -- past a test, where the act was taken
 
@@ -34,13 +34,13 @@ same_state request by h = cc
 value_fits : (me : Id) (p : NodeState) (version : ℕ) (config : List Id) (value : ClusterValue) (request : PublishRequest)
     → Taken (Some (PublishMessage request)) false ≡ reply_at me p (act.Value version config value) → p.term ≤ 2 ^ 62 → IsFitValue value → IsFit request.state
 value_fits me p version config value request h small fit =
-    let a = running p.stopped _ _ _ h in
-    let b = past (not p.won) _ _ _ _ a in
-    let c = past (not (nat_eq p.version p.accepted.version)) _ _ _ _ b.1 in
-    let d = past (nat_le version p.version) _ _ _ _ c.1 in
+    let a = running p.halted _ _ _ h in
+    let b = past (not p.election_won) _ _ _ _ a in
+    let c = past (not (nat_eq p.published_version p.accepted.version)) _ _ _ _ b.1 in
+    let d = past (nat_le version p.published_version) _ _ _ _ c.1 in
     let e = past (nat_lt last_number version) _ _ _ _ d.1 in
     let f = past (not (same_config config p.accepted.config) && not (same_config p.committed p.accepted.config)) _ _ _ _ e.1 in
-    let i = past (not (is_quorum_of config p.votes)) _ _ _ _ f.1 in
+    let i = past (not (is_quorum_of config p.join_votes)) _ _ _ _ f.1 in
     subst IsFit (sym (same_state _ _ i.1)) (record { term = small; version = ltb-false _ _ e.0; value = fit })
 
 pub new-requires : goal.new-requires

@@ -10,7 +10,7 @@ use Rattle.replay_node.specs.declared.node.ReplayNode.{ReplayNode}
 use Rattle.schedule_replay.proofs.Fresh.{as_many}
 use Rattle.schedule_replay.proofs.Movement.{Looked, place_inside, here, does_at_ok}
 use Rattle.schedule_replay.proofs.Room.{has_room}
-use Rattle.schedule_replay.proofs.nodes.take.Goals as goal
+use Rattle.schedule_replay.proofs.nodes.deliver.Goals as goal
 
 looked : (ids l : List Id) (old : List ReplayNode) (sent : List SentMessage) (w : World) (n : Id) (place : ℕ) → l ≡ ids → slice_get l place ≡ Some n → Stands ids old sent w → Looked ids l old n place
 looked ids l old sent w n place e g s = record { is = e; ascending = s.ascending; found = g; many = as_many ids old w s.nodes_stand }
@@ -23,10 +23,10 @@ fits ids l old sent w n place c m e g s source =
 pub bounds-nodes-place : goal.bounds-nodes-place
 bounds-nodes-place c = let s = c.requires.stands in place_inside _ _ _ _ _ (looked _ _ _ s.0 s.1 _ _ c.as_slice.ensures.value c.place_of-place.ensures s.2)
 
-pub take-requires : goal.take-requires
-take-requires c = let s = c.requires.stands in fits _ _ _ s.0 s.1 _ _ _ _ c.as_slice.ensures.value c.place_of-place.ensures s.2 c.requires.source
+pub deliver-requires : goal.deliver-requires
+deliver-requires c = let s = c.requires.stands in fits _ _ _ s.0 s.1 _ _ _ _ c.as_slice.ensures.value c.place_of-place.ensures s.2 c.requires.source
 
 pub returns : goal.returns
 returns c =
     let s = c.requires.stands in
-    does_at_ok _ _ _ _ _ c.index-nodes-place.result (looked _ _ _ s.0 s.1 _ _ c.as_slice.ensures.value c.place_of-place.ensures s.2) _ _ _ c.take.ensures
+    does_at_ok _ _ _ _ _ c.index-nodes-place.result (looked _ _ _ s.0 s.1 _ _ c.as_slice.ensures.value c.place_of-place.ensures s.2) _ _ _ c.deliver.ensures

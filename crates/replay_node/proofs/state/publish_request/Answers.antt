@@ -3,7 +3,7 @@ use Rattle.cluster_state.specs.declared.state.ClusterState.{ClusterState}
 use Rattle.coord_state.specs.Outcomes.{publish_outcome}
 use Rattle.world_model.specs.declared.acts.Act.TheVariants as act
 use Rattle.replay_node.proofs.StateSteps.{Step, told_does, refused_does}
-use Rattle.replay_node.proofs.state.accept.Goals as goal
+use Rattle.replay_node.proofs.state.publish_request.Goals as goal
 
 pub returns-in-Err-clause-does : goal.returns-in-Err-clause-does
 returns-in-Err-clause-does c = refused_does c.args.state.now c.args.publication.now.request c.in-Err.error c.publish_refused.result c.publish_refused.ensures.outcome (c.in-Err.ensures c.args.publication.now.request.source)

@@ -4,7 +4,7 @@ use Rattle.cluster_state.specs.declared.state.ClusterState.{ClusterState}
 use Rattle.coord_state.specs.Outcomes.{initial_outcome}
 use Rattle.world_model.specs.declared.acts.Act.TheVariants as act
 use Rattle.replay_node.proofs.StateSteps.{Step, told_does}
-use Rattle.replay_node.proofs.state.boot.Goals as goal
+use Rattle.replay_node.proofs.state.set_initial.Goals as goal
 
 pub returns-clause-does : goal.returns-clause-does
 returns-clause-does c =

@@ -7,7 +7,7 @@ use Rattle.replay_node.specs.Published.{state_published}
 use Rattle.replay_node.specs.StateDoes.{Closes}
 use Rattle.replay_node.specs.declared.node.Slot.{Slot}
 use Rattle.replay_node.proofs.Nodes.{Publishes, open_does}
-use Rattle.replay_node.proofs.node.ReplayNode.publish.Goals as goal
+use Rattle.replay_node.proofs.node.ReplayNode.client_value.Goals as goal
 
 pub returns : goal.returns
 returns c =
@@ -22,4 +22,4 @@ returns c =
     let publishes : Publishes old new act d = λ g o is was.
     let published = subst (λ (x : Option Outcome). IfSome x (λ (p : Outcome). state_published c.remember.new.self.published ≡ published_by p (state_published old.published))) is kept.published in
     ap state_published closed.published ∙ published ∙ ap (published_by o) was in
-    open_does old new c.in-Open.state c.publish.new.state act d (closed.me ∙ kept.me) closing (did.text (state_published old.published)) publishes c.in-Open.is did.does
+    open_does old new c.in-Open.state c.client_value.new.state act d (closed.me ∙ kept.me) closing (did.text (state_published old.published)) publishes c.in-Open.is did.does

@@ -1,7 +1,7 @@
 use Rattle.std.proofs.Common.{refl}
 use Rattle.world_model.specs.declared.acts.Act.TheVariants as act
 use Rattle.replay_node.proofs.StateSteps.{told_does}
-use Rattle.replay_node.proofs.state.respond.Goals as goal
+use Rattle.replay_node.proofs.state.publish_response.Goals as goal
 
 pub returns-in-Err-clause-does : goal.returns-in-Err-clause-does
 returns-in-Err-clause-does c =
