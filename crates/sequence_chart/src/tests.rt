@@ -30,7 +30,7 @@ fn an_election_is_drawn(rt: HostRuntime) -> Result<(), Fail> {
     assert!(rt;
         has(
             picture,
-            "<path class='arrow' marker-end='url(#head)' d='M350 72L186 82'><title>m1 b-&gt;a join 1 0/0</title></path>"
+            "<path class='arrow' marker-end='url(#head)' d='M324 72L186 82'><title>m1 b-&gt;a join 1 0/0</title></path>"
         )
     );
     assert!(rt;
