@@ -1,5 +1,5 @@
 -- What the facts of a history give of it: one winner a term, one committed state a version, one line of them.
-use Rattle.std.proofs.Common.{◌≡◌, ◌<◌, ◌≤◌, List, ◌⊎◌, ◌↔◌, inl, inr, Bool, true, false, cond, [], ◌∷◌, ◌++◌, refl, sym, ◌∙◌, ap, subst, arith}
+use Rattle.std.proofs.Common.{◌≡◌, ◌<◌, ◌≤◌, ◌⊎◌, ◌↔◌, inl, inr, Bool, true, false, cond, [], ◌∷◌, ◌++◌, refl, sym, ◌∙◌, ap, subst, arith}
 use Rattle.std.specs.List.{Contains}
 use Rattle.std.proofs.lemmas.List.Elements.{Contains-append_left, Contains-push, Contains-push_cases}
 use Rattle.voting_config.specs.Ids.{Id}
@@ -120,24 +120,6 @@ module _ {h : History} {root : ClusterState} (facts : Facts h root) where
       from (inl low) at_most = absurd (omega (arith, c_above, at_most_term c.state s at_most))
       from (inr is_published) at_most =
           published_all (λ x. IsAtMost c.state x → Descends h c.state x) (λ p p_in a. published_descends p c p_in is_committed a) s is_published at_most
-
--- All of it.
-pub record IsAgreed (h : History) (root : ClusterState) : Type 0 where
-  pub one_winner : (v w : Win) → Contains (winners h) v → Contains (winners h) w → v.term ≡ w.term → v.node ≡ w.node
-  pub one_state : (p q : Published) → IsCommitted h p → IsCommitted h q → p.state.version ≡ q.state.version → p.state ≡ q.state
-  pub one_line : (p q : Published) → IsCommitted h p → IsCommitted h q → p.state.version < q.state.version → Descends h p.state q.state
-  pub from_root : (p : Published) → IsCommitted h p → Descends h root p.state
-  -- each state that is root, empty or published descends from just those committed states that are at most it
-  pub descends : (s : ClusterState) → (s.term ≤ root.term) ⊎ IsPublished h s → (c : Published) → IsCommitted h c → Descends h c.state s ↔ IsAtMost c.state s
-
-pub kernel_agree : (h : History) (root : ClusterState) → Facts h root → IsAgreed h root
-kernel_agree h root facts = record {
-  one_winner = agree_winner facts;
-  one_state = agree_state facts;
-  one_line = agree_line facts;
-  from_root = agree_root facts;
-  descends = accepted_descends facts;
-}
 
 -- What is promised of each legal history, from its facts and from what each node keeps.
 pub safe_from_facts : (root : ClusterState) (h : History) → Facts h root → HoldsAnswers h → IsSafeFrom root h

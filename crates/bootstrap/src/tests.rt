@@ -2,29 +2,22 @@
 use super::*;
 use std::test::*;
 
-// The ids that are the letters of a text.
-fn letters(text: &str) -> NodeSet {
-    let mut ids = NodeSet::new();
-    for letter in text.as_bytes() {
-        if let Some(id) = NodeId::from_bytes(&[*letter]) {
-            let _ = ids.insert(id);
-        }
-    }
-    ids
+fn set(text: &str) -> NodeSet {
+    NodeSet::parse(text).unwrap_or(NodeSet::new())
 }
 
 #[test]
 fn a_listed_node_that_knows_more_than_half_bootstraps(rt: HostRuntime) -> Result<(), Fail> {
-    let names = letters("abc");
+    let names = set("a,b,c");
     let rows = [
-        ("a", "", false, false),
+        ("a", "_", false, false),
         ("a", "b", false, true),
-        ("d", "abc", false, false),
-        ("a", "bc", true, false),
+        ("d", "a,b,c", false, false),
+        ("a", "b,c", true, false),
     ];
     for (me, known, has_config, taken) in rows {
         let me = NodeId::parse(me).ok().ok_or("a letter is an id")?;
-        let decision = decide(&names, &letters(known), me, has_config);
+        let decision = decide(&names, &set(known), me, has_config);
         assert_eq!(rt; decision.is_some(), taken, "{me} knows {known}");
         if let Some(config) = decision {
             assert!(rt; config.is_same(&VotingConfig::of(&names)));

@@ -112,9 +112,6 @@ module _ (h : History) (s : Settings) where
     barred = λ l. absurd (both_ways _ e l);
   }
 
-  pub idle-stands : (x : Standing) → is_leader x.mode ≡ false → IsIdle x → Stands h s x
-  idle-stands x e i = stands-idle x e (i e).0 (i e).1
-
   pub ready-stands : (x : Standing) → Stands h s x → IsReady h s x
   ready-stands x i = record { leads = i.leads; empty = λ l n m. absurd (both_ways _ (i.barred l n) m) }
 

@@ -156,10 +156,6 @@ pub processed-append : (s : Settings) (v : View) (g : List Waiting) (xs ys : Lis
 processed-append s v g [] ys = refl
 processed-append s v g (x ∷ xs) ys = processed-append s (moved s v x) (processed_after s v g x) xs ys
 
-processed-replies : (s : Settings) (v : View) (g : List Waiting) (answers : List Outgoing) → processed_after_all s v g (doing.reply_all s answers) ≡ g
-processed-replies s v g [] = refl
-processed-replies s v g (x ∷ xs) = processed-replies s v g xs
-
 past : (s : Settings) (v : View) (g : List Waiting) (outs : List Outgoing) (rest : List Item) → processed_after_all s v g (doing.reply_all s outs ++ rest) ≡ processed_after_all s v g rest
 past s v g [] rest = refl
 past s v g (x ∷ xs) rest = past s v g xs rest

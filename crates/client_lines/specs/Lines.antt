@@ -1,6 +1,7 @@
 -- Part of the statement: lines of bytes.
-use Rattle.std.specs.Prelude.{ℕ, ◌≤◌, ◌==◌, not, if◌then◌else◌, List, [], ◌∷◌, length, map, take, IsTrue}
+use Rattle.std.specs.Prelude.{ℕ, ◌≤◌, ◌==◌, not, if◌then◌else◌, List, [], ◌∷◌, length, map, take, IsTrue, ◌+◌}
 use Rattle.std.specs.List.{list_all}
+use Rattle.voting_config.specs.Lists.{line_feed}
 
 -- bytes cut at their line feeds: what stands before each of them, and what stands after the last one
 pub record Cut : Type 0 where
@@ -15,12 +16,16 @@ in_front b (line ∷ lines) rest = record { ended = (b ∷ line) ∷ lines; rest
 abbrev pub cut : List ℕ → Cut
 cut [] = record { ended = []; rest = [] }
 cut (b ∷ bytes) =
-    if b == 10 then record { ended = [] ∷ (cut bytes).ended; rest = (cut bytes).rest }
+    if b == line_feed then record { ended = [] ∷ (cut bytes).ended; rest = (cut bytes).rest }
     else in_front b (cut bytes).ended (cut bytes).rest
 
--- a line keeps its first 8193 bytes, one more than a good one has
+-- how many bytes a good line has at most
+abbrev pub most_line : ℕ
+most_line = 8192
+
+-- a line keeps one byte more than a good one has
 abbrev pub kept : List ℕ → List ℕ
-kept line = take 8193 line
+kept line = take (most_line + 1) line
 
 -- the lines that end in the bytes
 abbrev pub lines_of : List ℕ → List (List ℕ)
@@ -32,5 +37,5 @@ rest_of bytes = kept (cut bytes).rest
 
 -- what a reader may hold: the first bytes of a line
 pub record IsHeld (held : List ℕ) : Type 0 where
-  pub no_line_feed : IsTrue (list_all (λ b. not (b == 10)) held)
-  pub short : length held ≤ 8193
+  pub no_line_feed : IsTrue (list_all (λ b. not (b == line_feed)) held)
+  pub short : length held ≤ most_line + 1

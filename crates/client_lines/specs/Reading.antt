@@ -1,6 +1,7 @@
 -- Part of the statement: which request a line is, or why it is none.
 use Rattle.std.specs.Prelude.{◌≡◌, ℕ, if◌then◌else◌, List, length, nat_lt, Option, Some, None, ok_or, Result, Ok, Err}
 use Rattle.std.specs.Str.{is_utf8}
+use Rattle.client_lines.specs.Lines.{most_line}
 use Rattle.serde_json.specs.Data.{Data}
 use Rattle.serde_json.specs.Read.{read}
 use Rattle.serde_json.specs.View.{view}
@@ -25,7 +26,7 @@ value_request (Some d) = shaped (request_of d)
 
 -- the request that the line is, or the first fault
 unfoldable pub line_request : List ℕ → Result Request LineFault
-line_request line = if nat_lt 8192 (length line) then Err TooLong else value_request (json_of line)
+line_request line = if nat_lt most_line (length line) then Err TooLong else value_request (json_of line)
 
 -- What was read is what there is to read, unless memory ran out.
 abbrev pub FailsToRead : {X : Type 0} → LineError → Result X LineFault → Type 0

@@ -1,7 +1,8 @@
 -- Part of the statement: which request a JSON value is.
-use Rattle.std.specs.Prelude.{ℕ, ◌^◌, ◌==◌, ◌&&◌, Bool, true, false, not, if◌then◌else◌, List, [], ◌∷◌, length, codes, nat_le, Option, Some, None, option_map, option_and_then}
+use Rattle.std.specs.Prelude.{ℕ, ◌==◌, ◌&&◌, Bool, true, false, not, if◌then◌else◌, List, [], ◌∷◌, length, codes, nat_le, Option, Some, None, option_map, option_and_then}
 use Rattle.std.specs.Option.{option_map_or}
 use Rattle.std.specs.Result.{result_ok}
+use Rattle.cluster_state.specs.Field.{last_number}
 use Rattle.serde_json.specs.Data.{Data, Items, no_items, item}
 use Rattle.serde_json.specs.Events.{members_len, items_len}
 use Rattle.serde_json.specs.Find.{get, as_number, as_u64, as_str, as_bool, as_array, as_object}
@@ -23,7 +24,7 @@ has_members count d = option_map_or (λ ms. members_len ms == count) (as_object 
 
 -- from 0 to 2^62
 abbrev pub request_number : ℕ → Option ℕ
-request_number n = if nat_le n (2 ^ 62) then Some n else None
+request_number n = if nat_le n last_number then Some n else None
 
 abbrev pub id_of : Data → Option ℕ
 id_of d = get (codes "id") d >>= as_number >>= as_u64 >>= request_number

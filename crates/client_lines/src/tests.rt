@@ -45,15 +45,8 @@ fn id(text: &str) -> NodeId {
     NodeId::parse(text).unwrap_or_default()
 }
 
-// The ids that are the letters of a text.
-fn letters(text: &str) -> NodeSet {
-    let mut ids = NodeSet::new();
-    for letter in text.as_bytes() {
-        if let Some(id) = NodeId::from_bytes(&[*letter]) {
-            let _ = ids.insert(id);
-        }
-    }
-    ids
+fn set(text: &str) -> NodeSet {
+    NodeSet::parse(text).unwrap_or(NodeSet::new())
 }
 
 #[test]
@@ -362,7 +355,7 @@ fn each_answer_has_this_text(rt: HostRuntime) -> Result<(), Fail> {
             "{\"failed_to_commit\":18446744073709551615,\"id\":65}",
         ),
         (
-            Answer::ExclusionTimeout(letters("cb")),
+            Answer::ExclusionTimeout(set("b,c")),
             "{\"exclusion_timeout\":[\"b\",\"c\"],\"id\":65}",
         ),
     ] {
@@ -377,7 +370,7 @@ const STATE: &str =
 
 #[test]
 fn an_answered_state_has_this_text(rt: HostRuntime) -> Result<(), Fail> {
-    let mut state = ClusterState::initial(rt.alloc(), &letters("ba"));
+    let mut state = ClusterState::initial(rt.alloc(), &set("a,b"));
     state.value.settings.put("k", "\n")?;
     let answer = Answer::State(state);
     let text = write_reply(rt.alloc(), &Reply::To { id: 0, answer })?;

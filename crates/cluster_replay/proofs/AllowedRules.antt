@@ -4,6 +4,7 @@ use Rattle.std.specs.Prelude.{if◌then◌else◌, is_some, nat_lt, nat_le, nat_
 use Rattle.std.specs.List.{list_all, Contains}
 use Rattle.std.proofs.lemmas.Bool.{and_parts, and_from}
 use Rattle.std.proofs.lemmas.List.Elements.{Contains-append_right}
+use Rattle.cluster_state.specs.Field.{last_number}
 use Rattle.voting_config.specs.Ids.{Id, is_id, has, same, same_config, with_id, is_quorum_of, most_ids, IsIdSet, among, has_room}
 use Rattle.bootstrap.specs.Decisions.{decision_of}
 use Rattle.peer_finder.specs.Peers.{answered_set}
@@ -45,7 +46,7 @@ use Rattle.world_model.specs.declared.acts.Reply.{Reply}
 use Rattle.world_model.specs.declared.acts.Reply.TheVariants.{Taken, Refused, Stopped}
 use Rattle.world_model.specs.declared.acts.Outcome.TheVariants.{Answered}
 use Rattle.world_model.specs.NodeState.{NodeState}
-use Rattle.world_model.specs.Replies.{reply_at, is_taken, after_check, start_checked, start_reply, value_reply, publish_reply, response_reply, commits, last_number}
+use Rattle.world_model.specs.Replies.{reply_at, is_taken, after_check, start_checked, start_reply, value_reply, publish_reply, response_reply, commits}
 use Rattle.world_model.specs.Histories.{sent_by}
 use Rattle.voting_config.proofs.Sets.{same_is}
 use Rattle.policy_model.specs.declared.settings.Settings.{Settings}

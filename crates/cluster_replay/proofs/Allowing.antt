@@ -38,7 +38,7 @@ use Rattle.policy_model.specs.Joins.{join_from}
 use Rattle.policy_model.specs.Parts.{all_to_be_added, as_master}
 use Rattle.policy_model.specs.Views.{View}
 use Rattle.policy_model.specs.Moves.{moved, moved_all, acted, turned, noted}
-use Rattle.replay_node.proofs.IdLists.{none_set}
+use Rattle.trace_text.proofs.IdLists.{none_set}
 use Rattle.cluster_replay.proofs.Fits.{set-with, set-with_known}
 use Rattle.cluster_replay.proofs.NextFits.{fit-either, fit-initial, fit-state, IsGoodRequest, FitTasks, FitAccepted, each-with, good-left, set-rooms, fit-after}
 

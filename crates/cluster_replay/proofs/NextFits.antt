@@ -31,7 +31,7 @@ use Rattle.master_tasks.specs.NextState.{Leader, config_for, is_nothing_new, nex
 use Rattle.master_tasks.specs.Processing.{Processing, AnsweredAtOnce, Makes, Processed, and_then, before_all, clearing, excluding, processing, processing_once, putting, value_after, with_next}
 use Rattle.master_tasks.specs.Queue.{Tasks, with_room}
 use Rattle.master_tasks.proofs.Limits.{fits_next}
-use Rattle.replay_node.proofs.IdLists.{none_set}
+use Rattle.trace_text.proofs.IdLists.{none_set}
 use Rattle.cluster_replay.proofs.Fits.{AreIds, no_ids, ids-fold, few_ids, each-filter, each-append, each-take, fewer, set-fits, set-filter, set-with}
 
 -- ---- what clients ask

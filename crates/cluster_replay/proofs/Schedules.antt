@@ -46,7 +46,7 @@ use Rattle.cluster_replay.specs.Laws.{IsWellFormed, node_of, LawClusterRepliesAr
 use Rattle.cluster_replay.proofs.Allowing.{FitView, fit-none, IsGoodFrame, IsSentBy}
 use Rattle.cluster_replay.proofs.AllowedRules.{MayCome}
 use Rattle.cluster_replay.proofs.Asking.{good-asks}
-use Rattle.replay_node.proofs.IdLists.{none_set}
+use Rattle.trace_text.proofs.IdLists.{none_set}
 use Rattle.cluster_replay.proofs.NextFits.{FitAccepted, empty_accepted}
 use Rattle.cluster_replay.proofs.Invariants.{SoundNode, SoundCluster, Waits, all-at, contained, listed-id, each-stays, event_sound}
 use Rattle.replay_node.proofs.Lives.{settled_acts, settled_follows}

@@ -8,7 +8,7 @@ use Rattle.schedule_text.specs.declared.schedule.Line.TheVariants as line
 use Rattle.schedule_text.specs.declared.schedule.Schedule.{Schedule}
 use Rattle.schedule_text.specs.Lines.{FitsLine}
 use Rattle.schedule_text.specs.Spelled.{Spells, Nothing, Text}
-use Rattle.replay_node.proofs.IdLists.{none_set, ids_set}
+use Rattle.trace_text.proofs.IdLists.{none_set, ids_set}
 use Rattle.cluster_replay.specs.Laws.{IsWellFormed, node_of}
 
 is_listed : (nodes : List Id) (l : Line) → FitsLine Node nodes l → has (node_of l) nodes ≡ true

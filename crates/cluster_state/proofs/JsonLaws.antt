@@ -84,6 +84,3 @@ Shown-more all s rest old new settings so_far step =
       split = append_assoc so_far.front (s ∷ []) rest ∙ so_far.split;
       shown = step ∙ ap (put s.0 (string s.1)) so_far.shown ∙ put_last so_far.front s.0 s.1 (all_before so_far.front s rest ascending);
     }
-
-pub Shown-all : (all : List Setting) (object : Members) → Shown all [] object → object ≡ setting_members all
-Shown-all all object s = s.shown ∙ ap setting_members (sym (append-nil s.front) ∙ s.split)

@@ -1,20 +1,16 @@
 -- Part of the statement: a state as bytes.
-use Rattle.std.specs.Prelude.{◌≡◌, ℕ, ◌≤◌, ◌^◌, ◌==◌, List, length, Option, Result, Ok, Err, if◌then◌else◌}
-use Rattle.voting_config.specs.Ids.{Id, most_ids}
+use Rattle.std.specs.Prelude.{◌≡◌, ℕ, ◌≤◌, ◌==◌, List, length, Result, Ok, Err, if◌then◌else◌}
+use Rattle.voting_config.specs.Ids.{most_ids}
 use Rattle.cluster_state.specs.declared.fault.FieldError.{FieldError}
 use Rattle.cluster_state.specs.declared.fault.StateFault.{StateFault}
 use Rattle.cluster_state.specs.declared.fault.StateFault.TheVariants as fault
 use Rattle.cluster_state.specs.declared.state.ClusterState.{ClusterState}
 use Rattle.cluster_state.specs.declared.state.ClusterValue.{ClusterValue}
 use Rattle.cluster_state.specs.declared.state.StateId.{StateId}
-use Rattle.cluster_state.specs.Field.{Field, optional, ◌then◌, shaped}
+use Rattle.cluster_state.specs.Field.{Field, optional, ◌then◌, shaped, last_number}
 use Rattle.cluster_state.specs.Fields.{term, version, id, ids, most_exclusions, settings, AreFitSettings}
-use Rattle.cluster_state.specs.Settings.{Setting}
 
 -- the fields of a value, and of a state, one after the other
-abbrev pub ValueParts : Type 0
-ValueParts = (Option Id) × ((List Id) × ((List Id) × (List Setting)))
-
 abbrev pub value : Field ClusterValue
 value = shaped
     (λ p. record { master = p.0; members = p.1.0; exclusions = p.1.1.0; settings = p.1.1.1 })
@@ -42,8 +38,8 @@ pub record IsFitValue (v : ClusterValue) : Type 0 where
   pub settings : AreFitSettings v.settings
 
 pub record IsFit (s : ClusterState) : Type 0 where
-  pub term : s.term ≤ 2 ^ 62
-  pub version : s.version ≤ 2 ^ 62
+  pub term : s.term ≤ last_number
+  pub version : s.version ≤ last_number
   pub value : IsFitValue s.value
 
 abbrev pub id_of : ClusterState → StateId

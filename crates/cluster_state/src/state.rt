@@ -153,12 +153,25 @@ impl ClusterState {
     pub fn copy(&self) -> Result<ClusterState, AllocError>
         ensures { IfOk result (λ s. s ≡ self.now) }
     {
-        Ok(ClusterState {
+        let settings = self.value.settings.copy()?;
+        Ok(self.with_settings(settings))
+    }
+
+    /// The same state with these settings, which takes no memory.
+    pub fn with_settings(&self, settings: Settings) -> ClusterState
+        ensures { result ≡ record (self.now) { value = record (self.now.value) { settings = settings } } }
+    {
+        ClusterState {
             term: self.term,
             version: self.version,
             config: VotingConfig::of(self.config.members()),
             committed: VotingConfig::of(self.committed.members()),
-            value: self.value.copy()?,
-        })
+            value: ClusterValue {
+                master: self.value.master,
+                members: self.value.members.copy(),
+                exclusions: self.value.exclusions.copy(),
+                settings,
+            },
+        }
     }
 }

@@ -11,7 +11,7 @@ use Rattle.clap.specs.Walk.{Row, Walk, Names, idle, after_step, subcommand_or_ot
 use Rattle.clap.specs.Simple.{App, Shape, new_shape, label_of, names_of, entered, rows_at}
 use Rattle.clap.specs.Takes.{is_given}
 use Rattle.clap.specs.Faults.{turn_fault, other_fault, step_fault, walk_fault, settle_fault, level_fault, default_fault, defaults_fault, check_fault, entered_fault, built_fault}
-use Rattle.command_line.specs.Given.{Text, Named, option, flag, Given, given_from, is_fresh, given, Entry, chosen, words_given}
+use Rattle.command_line.specs.Given.{Text, Named, option, flag, Given, given_from, is_fresh, given, CommandForm, chosen, words_given}
 use Rattle.command_line.proofs.Walks.{rule, rules_of, leaf, rows, at, ends, checked, Runs, AreFair, IsFair, fair_empty, fair_plain, fair_long, not_short, left_empty, runs}
 
 -- ---- a level
@@ -85,28 +85,28 @@ top_shape = record (new_shape (codes "zen")) {
   is_built = true;
 }
 
-abbrev pub leaf_of : Entry → Shape
+abbrev pub leaf_of : CommandForm → Shape
 leaf_of c = leaf c.0 c.1
 
-abbrev pub top : List Entry → App
+abbrev pub top : List CommandForm → App
 top cs = record { top = top_shape; subs = map leaf_of cs }
 
-find_name : (cs : List Entry) (w : Text) → option_map (λ s. s.0) (find (answers_to w) (names_of (top cs))) ≡ option_map (λ c. c.0) (chosen cs w)
+find_name : (cs : List CommandForm) (w : Text) → option_map (λ s. s.0) (find (answers_to w) (names_of (top cs))) ≡ option_map (λ c. c.0) (chosen cs w)
 find_name [] w = refl
 find_name (c ∷ cs) w =
     elim (bytes_eq c.0 w) as (λ b. option_map (λ s. s.0) (cond (b || false) (Some (c.0, [])) (find (answers_to w) (names_of (top cs)))) ≡ option_map (λ d. d.0) (cond b (Some c) (chosen cs w))) [ true ↦ refl | false ↦ find_name cs w ]
 
-find_sub : (cs : List Entry) (w : Text) → find (λ s. answers_to w (label_of s)) (map leaf_of cs) ≡ option_map leaf_of (chosen cs w)
+find_sub : (cs : List CommandForm) (w : Text) → find (λ s. answers_to w (label_of s)) (map leaf_of cs) ≡ option_map leaf_of (chosen cs w)
 find_sub [] w = refl
 find_sub (c ∷ cs) w =
     elim (bytes_eq c.0 w) as (λ b. cond (b || false) (Some (leaf_of c)) (find (λ s. answers_to w (label_of s)) (map leaf_of cs)) ≡ option_map leaf_of (cond b (Some c) (chosen cs w))) [ true ↦ refl | false ↦ find_sub cs w ]
 
-chosen_name : (cs : List Entry) (w : Text) (c : Entry) → chosen cs w ≡ Some c → c.0 ≡ w
+chosen_name : (cs : List CommandForm) (w : Text) (c : CommandForm) → chosen cs w ≡ Some c → c.0 ≡ w
 chosen_name [] w c e = absurd (cc)
 chosen_name (d ∷ cs) w c e =
     let go : (b : Bool) → bytes_eq d.0 w ≡ b → cond b (Some d) (chosen cs w) ≡ Some c → c.0 ≡ w =
     λ b. elim b as (λ b. bytes_eq d.0 w ≡ b → cond b (Some d) (chosen cs w) ≡ Some c → c.0 ≡ w) [
-      | true ↦ λ x z. let same : d ≡ c = cc in ap (λ (f : Entry). f.0) (sym same) ∙ (bytes_eq-Decides d.0 w).0 x
+      | true ↦ λ x z. let same : d ≡ c = cc in ap (λ (f : CommandForm). f.0) (sym same) ∙ (bytes_eq-Decides d.0 w).0 x
       | false ↦ λ x z. chosen_name cs w c z
     ] in
     go (bytes_eq d.0 w) refl e
@@ -124,10 +124,10 @@ top_turn o word = or_else (other_fault top_shape o word nothing_held) (let met =
 abbrev top_walked : Option Text → Text → Walk
 top_walked o word = let met = subcommand_or_other [] o idle 1 word nothing_held in after_step [] word start met.0 met.1
 
-turn_top : (cs : List Entry) (w : Text) → turn_fault top_shape (names_of (top cs)) start w ≡ top_turn (option_map (λ c. c.0) (chosen cs w)) w
+turn_top : (cs : List CommandForm) (w : Text) → turn_fault top_shape (names_of (top cs)) start w ≡ top_turn (option_map (λ c. c.0) (chosen cs w)) w
 turn_top cs w = ap (λ (o : Option Text). top_turn o w) (find_name cs w)
 
-walked_top : (cs : List Entry) (w : Text) → walked [] (names_of (top cs)) start w ≡ top_walked (option_map (λ c. c.0) (chosen cs w)) w
+walked_top : (cs : List CommandForm) (w : Text) → walked [] (names_of (top cs)) start w ≡ top_walked (option_map (λ c. c.0) (chosen cs w)) w
 unfolding walked
 walked_top cs w = ap (λ (o : Option Text). top_walked o w) (find_name cs w)
 
@@ -157,33 +157,33 @@ top_checks : (b : Bool) (rs : List Row) → check_fault top_shape rs b ≡ []
 top_checks true rs = refl
 top_checks false rs = refl
 
-known_walk : (cs : List Entry) (w : Text) (ws : List Text) (c : Entry) → chosen cs w ≡ Some c → fold (walked [] (names_of (top cs))) start (w ∷ ws) ≡ stopped_at c.0 ws
+known_walk : (cs : List CommandForm) (w : Text) (ws : List Text) (c : CommandForm) → chosen cs w ≡ Some c → fold (walked [] (names_of (top cs))) start (w ∷ ws) ≡ stopped_at c.0 ws
 known_walk cs w ws c e =
-    ap (λ (v : Walk). fold (walked [] (names_of (top cs))) v ws) (walked_top cs w ∙ ap (λ (o : Option Entry). top_walked (option_map (λ c. c.0) o) w) e)
+    ap (λ (v : Walk). fold (walked [] (names_of (top cs))) v ws) (walked_top cs w ∙ ap (λ (o : Option CommandForm). top_walked (option_map (λ c. c.0) o) w) e)
     ∙ rest_walk (names_of (top cs)) c.0 [] ws
 
-known_passes : (cs : List Entry) (w : Text) (ws : List Text) (c : Entry) → chosen cs w ≡ Some c → walk_fault top_shape (names_of (top cs)) start (w ∷ ws) ≡ []
+known_passes : (cs : List CommandForm) (w : Text) (ws : List Text) (c : CommandForm) → chosen cs w ≡ Some c → walk_fault top_shape (names_of (top cs)) start (w ∷ ws) ≡ []
 unfolding walk_fault
 known_passes cs w ws c e =
-    let t : turn_fault top_shape (names_of (top cs)) start w ≡ [] = turn_top cs w ∙ ap (λ (o : Option Entry). top_turn (option_map (λ c. c.0) o) w) e ∙ name_turn c.0 w in
-    let v : walked [] (names_of (top cs)) start w ≡ stopped_at c.0 [] = walked_top cs w ∙ ap (λ (o : Option Entry). top_walked (option_map (λ c. c.0) o) w) e in
+    let t : turn_fault top_shape (names_of (top cs)) start w ≡ [] = turn_top cs w ∙ ap (λ (o : Option CommandForm). top_turn (option_map (λ c. c.0) o) w) e ∙ name_turn c.0 w in
+    let v : walked [] (names_of (top cs)) start w ≡ stopped_at c.0 [] = walked_top cs w ∙ ap (λ (o : Option CommandForm). top_walked (option_map (λ c. c.0) o) w) e in
     rw t (ap (λ (x : Walk). walk_fault top_shape (names_of (top cs)) x ws) v ∙ rest_passes (names_of (top cs)) c.0 [] ws)
 
-known_again : (cs : List Entry) (w : Text) (c : Entry) → chosen cs w ≡ Some c → chosen cs c.0 ≡ Some c
+known_again : (cs : List CommandForm) (w : Text) (c : CommandForm) → chosen cs w ≡ Some c → chosen cs c.0 ≡ Some c
 known_again cs w c e = ap (chosen cs) (chosen_name cs w c e) ∙ e
 
 -- what fails of a line, from where its walk ended
-abbrev line_from : List Entry → Kinds → Walk → Kinds
+abbrev line_from : List CommandForm → Kinds → Walk → Kinds
 line_from cs before v =
     or_else before (or_else (entered_fault (top cs) v.stopped) (or_else (settle_fault [] false v.held) (or_else (defaults_fault (settled [] v.held).rows []) (check_fault top_shape (finished [] v.held) (is_some (entered (top cs) v.stopped))))))
 
-line_is : (cs : List Entry) (words : List Text) → built_fault (top cs) nothing_held words ≡ line_from cs (walk_fault top_shape (names_of (top cs)) start words) (fold (walked [] (names_of (top cs))) start words)
+line_is : (cs : List CommandForm) (words : List Text) → built_fault (top cs) nothing_held words ≡ line_from cs (walk_fault top_shape (names_of (top cs)) start words) (fold (walked [] (names_of (top cs))) start words)
 line_is cs words = refl
 
-sub_fault : (cs : List Entry) (ws : List Text) (c : Entry) → chosen cs c.0 ≡ Some c → entered_fault (top cs) (Some (c.0, ws)) ≡ level_fault (leaf_of c) [] nothing_held ws false []
+sub_fault : (cs : List CommandForm) (ws : List Text) (c : CommandForm) → chosen cs c.0 ≡ Some c → entered_fault (top cs) (Some (c.0, ws)) ≡ level_fault (leaf_of c) [] nothing_held ws false []
 sub_fault cs ws c e = ap (λ (o : Option Shape). option_map_or (λ s. level_fault s [] nothing_held ws false []) o []) (find_sub cs c.0 ∙ ap (option_map leaf_of) e)
 
-known_fault : (cs : List Entry) (w : Text) (ws : List Text) (c : Entry) → chosen cs w ≡ Some c → built_fault (top cs) nothing_held (w ∷ ws) ≡ level_fault (leaf_of c) [] nothing_held ws false []
+known_fault : (cs : List CommandForm) (w : Text) (ws : List Text) (c : CommandForm) → chosen cs w ≡ Some c → built_fault (top cs) nothing_held (w ∷ ws) ≡ level_fault (leaf_of c) [] nothing_held ws false []
 unfolding defaults_fault
 known_fault cs w ws c e =
     line_is cs (w ∷ ws)
@@ -193,37 +193,37 @@ known_fault cs w ws c e =
     ∙ or_else_none (entered_fault (top cs) (Some (c.0, ws)))
     ∙ sub_fault cs ws c (known_again cs w c e)
 
-known_entered : (cs : List Entry) (w : Text) (ws : List Text) (c : Entry) → chosen cs w ≡ Some c → entered (top cs) (stop_after [] (names_of (top cs)) (w ∷ ws)) ≡ Some (c.0, rows_after (rules_of c.1) [] ws)
+known_entered : (cs : List CommandForm) (w : Text) (ws : List Text) (c : CommandForm) → chosen cs w ≡ Some c → entered (top cs) (stop_after [] (names_of (top cs)) (w ∷ ws)) ≡ Some (c.0, rows_after (rules_of c.1) [] ws)
 known_entered cs w ws c e =
     ap (λ (v : Walk). entered (top cs) v.stopped) (known_walk cs w ws c e)
     ∙ ap (λ (o : Option Shape). option_map (λ s. rows_at s ws) o) (find_sub cs c.0 ∙ ap (option_map leaf_of) (known_again cs w c e))
 
-unknown_fault : (cs : List Entry) (w : Text) (ws : List Text) → IsFair w → chosen cs w ≡ None → ¬ (built_fault (top cs) nothing_held (w ∷ ws) ≡ [])
+unknown_fault : (cs : List CommandForm) (w : Text) (ws : List Text) → IsFair w → chosen cs w ≡ None → ¬ (built_fault (top cs) nothing_held (w ∷ ws) ≡ [])
 unfolding walk_fault
 unknown_fault cs w ws fair e h =
     let t : turn_fault top_shape (names_of (top cs)) start w ≡ [] = left_empty _ _ (left_empty _ _ h) in
-    other_turn w fair (sym (turn_top cs w ∙ ap (λ (o : Option Entry). top_turn (option_map (λ c. c.0) o) w) e) ∙ t)
+    other_turn w fair (sym (turn_top cs w ∙ ap (λ (o : Option CommandForm). top_turn (option_map (λ c. c.0) o) w) e) ∙ t)
 
 -- A line that gives nothing is refused, or enters no command. One that gives something is taken, and enters its command.
-pub record Enters (cs : List Entry) (words : List Text) (p : Entry × List Given) : Type 0 where
+pub record Enters (cs : List CommandForm) (words : List Text) (p : CommandForm × List Given) : Type 0 where
   pub passes : built_fault (top cs) nothing_held words ≡ []
   pub enters : entered (top cs) (stop_after [] (names_of (top cs)) words) ≡ Some (p.0.0, all_rows p.0.1 p.1)
 
-abbrev pub Line : List Entry → List Text → Option (Entry × List Given) → Type 0
+abbrev pub Line : List CommandForm → List Text → Option (CommandForm × List Given) → Type 0
 Line cs words None = (words ≡ []) ⊎ ¬ (built_fault (top cs) nothing_held words ≡ [])
 Line cs words (Some p) = Enters cs words p
 
-line_entry : (cs : List Entry) (w : Text) (ws : List Text) (c : Entry) (o : Option (List Given)) → chosen cs w ≡ Some c → Level c.0 c.1 ws o → Line cs (w ∷ ws) (option_map (λ gs. (c, gs)) o)
+line_entry : (cs : List CommandForm) (w : Text) (ws : List Text) (c : CommandForm) (o : Option (List Given)) → chosen cs w ≡ Some c → Level c.0 c.1 ws o → Line cs (w ∷ ws) (option_map (λ gs. (c, gs)) o)
 line_entry cs w ws c None e h = inr (λ z. h (sym (known_fault cs w ws c e) ∙ z))
 line_entry cs w ws c (Some gs) e h = record {
   passes = known_fault cs w ws c e ∙ h.0;
   enters = known_entered cs w ws c e ∙ ap (λ (rs : List Row). Some (c.0, rs)) h.1;
 }
 
-line_word : (cs : List Entry) (w : Text) (ws : List Text) (o : Option Entry) → IsFair w → AreFair ws → chosen cs w ≡ o → Line cs (w ∷ ws) (option_and_then (λ c. option_map (λ gs. (c, gs)) (given c.1 ws)) o)
+line_word : (cs : List CommandForm) (w : Text) (ws : List Text) (o : Option CommandForm) → IsFair w → AreFair ws → chosen cs w ≡ o → Line cs (w ∷ ws) (option_and_then (λ c. option_map (λ gs. (c, gs)) (given c.1 ws)) o)
 line_word cs w ws None fair rest e = inr (unknown_fault cs w ws fair e)
 line_word cs w ws (Some c) fair rest e = line_entry cs w ws c (given c.1 ws) e (level c.0 c.1 ws rest)
 
-pub line : (cs : List Entry) (words : List Text) → AreFair words → Line cs words (words_given cs words)
+pub line : (cs : List CommandForm) (words : List Text) → AreFair words → Line cs words (words_given cs words)
 line cs [] fair = inl refl
 line cs (w ∷ ws) fair = line_word cs w ws (chosen cs w) fair.0 fair.1 refl

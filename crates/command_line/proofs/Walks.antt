@@ -142,10 +142,6 @@ pub left_empty : (a b : Kinds) → or_else a b ≡ [] → a ≡ []
 left_empty [] b e = refl
 left_empty (k ∷ a) b e = absurd (cc)
 
-right_empty : (a b : Kinds) → or_else a b ≡ [] → b ≡ []
-right_empty [] b e = e
-right_empty (k ∷ a) b e = absurd (cc)
-
 ends_step : (name : Text) (ks : List Named) (w next : Walk) (word : Text) (words : List Text) → turn_fault (leaf name ks) [] w word ≡ [] → walked (rules_of ks) [] w word ≡ next → ends name ks w (word ∷ words) ≡ ends name ks next words
 unfolding walk_fault
 ends_step name ks w next word words t e = rw t (ap (λ (v : Walk). ends name ks v words) e)

@@ -15,7 +15,7 @@ use Rattle.clap.specs.Simple.{App, names_of, entered}
 use Rattle.clap.specs.declared.builder.value_parser.Reading.TheVariants as reading
 use Rattle.clap.specs.declared.parser.matches.ValueSource.TheVariants.{DefaultValue}
 use Rattle.clap.specs.Faults.{built_fault}
-use Rattle.command_line.specs.Given.{Text, Named, option, flag, Given, value, set, is_hyphened, long_given, word_given, given_from, given, value_in, Entry, chosen, words_given, unless_given, look}
+use Rattle.command_line.specs.Given.{Text, Named, option, flag, Given, value, set, is_hyphened, long_given, word_given, given_from, given, value_in, CommandForm, chosen, words_given, unless_given, look}
 use Rattle.command_line.specs.Program.{program_app, commands}
 use Rattle.command_line.specs.Commands.{command_by, command_of, entered_command, is_fair, FailsToParse}
 use Rattle.command_line.specs.Answers.{Fails}
@@ -136,7 +136,7 @@ unfair_words ks (w ∷ ws) h = go (is_fair w) (λ e. unfair_words ks ws e) refl 
 first_unfair : (w : Text) (ws : List Text) → IsUnfair w → words_given commands (w ∷ ws) ≡ None
 first_unfair w ws u = rw u.is refl
 
-rest_unfair : (w : Text) (ws : List Text) (o : Option Entry) → list_all is_fair ws ≡ false → option_and_then (λ c. option_map {U = Entry × List Given} (λ gs. (c, gs)) (given c.1 ws)) o ≡ None
+rest_unfair : (w : Text) (ws : List Text) (o : Option CommandForm) → list_all is_fair ws ≡ false → option_and_then (λ c. option_map {U = CommandForm × List Given} (λ gs. (c, gs)) (given c.1 ws)) o ≡ None
 rest_unfair w ws None h = refl
 rest_unfair w ws (Some c) h = rw (unfair_words c.1 ws h None) refl
 
@@ -145,8 +145,8 @@ unfair_none [] h = refl
 unfair_none (w ∷ ws) h = go (is_fair w) refl h
   where
     go : (b : Bool) → is_fair w ≡ b → (b && list_all is_fair ws) ≡ false → command_of (w ∷ ws) ≡ None
-    go true e h = ap (option_and_then (λ (p : Entry × List Given). command_by p.0.0 (look p.0.1 p.1))) (rest_unfair w ws (chosen commands w) h)
-    go false e h = ap (option_and_then (λ (p : Entry × List Given). command_by p.0.0 (look p.0.1 p.1))) (first_unfair w ws (unfair_of w e))
+    go true e h = ap (option_and_then (λ (p : CommandForm × List Given). command_by p.0.0 (look p.0.1 p.1))) (rest_unfair w ws (chosen commands w) h)
+    go false e h = ap (option_and_then (λ (p : CommandForm × List Given). command_by p.0.0 (look p.0.1 p.1))) (first_unfair w ws (unfair_of w e))
 
 -- ---- the values of a command
 
@@ -247,7 +247,7 @@ sub_is words = ap (λ (a : App). entered a (stop_after a.top.rules (names_of a) 
 pub taken_is : (words : List Text) → list_all is_fair words ≡ true → fault_of program_app words ≡ [] → entered_command (subcommand_of program_app words) ≡ command_of words
 taken_is words fair none = ap entered_command (sub_is words) ∙ go (words_given commands words) (line commands words (are_fair_of words fair))
   where
-    go : (o : Option (Entry × List Given)) → Line commands words o → entered_command (entered (top commands) (stop_after [] (names_of (top commands)) words)) ≡ option_and_then (λ (p : Entry × List Given). command_by p.0.0 (look p.0.1 p.1)) o
+    go : (o : Option (CommandForm × List Given)) → Line commands words o → entered_command (entered (top commands) (stop_after [] (names_of (top commands)) words)) ≡ option_and_then (λ (p : CommandForm × List Given). command_by p.0.0 (look p.0.1 p.1)) o
     go None (inl e) = rw e refl
     go None (inr f) = absurd (f (sym (fault_is words) ∙ none))
     go (Some p) h = ap entered_command h.enters ∙ ap (command_by p.0.0) (looks p.0.1 p.1)
@@ -255,7 +255,7 @@ taken_is words fair none = ap entered_command (sub_is words) ∙ go (words_given
 pub refused_is : (words : List Text) → list_all is_fair words ≡ true → ¬ (fault_of program_app words ≡ []) → command_of words ≡ None
 refused_is words fair fails = go (words_given commands words) (line commands words (are_fair_of words fair))
   where
-    go : (o : Option (Entry × List Given)) → Line commands words o → option_and_then (λ (p : Entry × List Given). command_by p.0.0 (look p.0.1 p.1)) o ≡ None
+    go : (o : Option (CommandForm × List Given)) → Line commands words o → option_and_then (λ (p : CommandForm × List Given). command_by p.0.0 (look p.0.1 p.1)) o ≡ None
     go None h = refl
     go (Some p) h = absurd (fails (fault_is words ∙ h.passes))
 

@@ -5,7 +5,7 @@ use Rattle.clap.specs.Simple.{new_shape}
 use Rattle.clap.specs.declared.builder.action.ArgAction.TheVariants.{SetTrue}
 use Rattle.clap.specs.declared.builder.command.Command.{Command}
 use Rattle.clap.specs.declared.builder.command.Command.TheViews.{out-Command}
-use Rattle.command_line.specs.Given.{Text, Named, option, flag, Entry}
+use Rattle.command_line.specs.Given.{Text, Named, option, flag, CommandForm}
 
 -- what each command takes
 abbrev pub replay_takes : List Named
@@ -25,7 +25,7 @@ generate_takes = option (codes "number") ∷ option (codes "steps") ∷ []
 abbrev pub trial_takes : List Named
 trial_takes = option (codes "program") ∷ option (codes "dir") ∷ option (codes "port") ∷ option (codes "turns") ∷ []
 
-abbrev pub commands : List Entry
+abbrev pub commands : List CommandForm
 commands =
     (codes "replay", replay_takes) ∷ (codes "inspect", inspect_takes) ∷ (codes "node", node_takes)
     ∷ (codes "generate", generate_takes) ∷ (codes "trial", trial_takes) ∷ []
@@ -47,7 +47,7 @@ pub record IsLeaf (name : Text) (ks : List Named) (c : Command) : Type 0 where
   pub app : app_of c ≡ raw_app name ks
   pub globals : (out-Command c).has_globals ≡ false
 
-abbrev pub raw_of : Entry → Shape
+abbrev pub raw_of : CommandForm → Shape
 raw_of e = (raw_app e.0 e.1).top
 
 abbrev pub program_app : App

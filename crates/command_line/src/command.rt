@@ -2,44 +2,13 @@
 ghost use Rattle.std.specs.Prelude.{◌≡◌};
 ghost use Rattle.command_line.specs.declared.command.WordsError.TheVariants as error;
 
+use cluster_state::Text;
 use schedule_text::Level;
 use std::alloc::AllocError;
 use std::marker::Model;
 use thiserror::Error;
 use voting_config::NodeSet;
 use zen_link::LinkSettings;
-
-/// A text, seen as its bytes.
-#[derive(Drop)]
-pub struct Text {
-    text: String,
-}
-
-impl Model for Text {
-    ghost use Rattle.std.specs.Prelude.{ℕ, List, string_bytes};
-
-    ghost Value = { List ℕ };
-
-    ghost view = { λ t. string_bytes t.text };
-}
-
-impl Text {
-    ghost use Rattle.std.specs.Prelude.{◌≡◌, string_bytes};
-
-    /// The text that this string is.
-    pub fn of(text: String) -> Text
-        ensures { result ≡ string_bytes text }
-    {
-        Text { text }
-    }
-
-    /// The text.
-    pub fn as_str(&self) -> &str
-        ensures { result.now ≡ self.now }
-    {
-        self.text.as_str()
-    }
-}
 
 /// With what a node's link is to be opened, seen as what a host is told of it.
 #[derive(Drop)]

@@ -10,6 +10,6 @@ mod tests;
 pub mod values;
 
 pub use command::{
-    LinkWords, MAX_PORT, MAX_STEPS, NodeWords, ProgramCommand, Text, TrialWords, WordsError,
+    LinkWords, MAX_PORT, MAX_STEPS, NodeWords, ProgramCommand, TrialWords, WordsError,
 };
 pub use reading::read_words;

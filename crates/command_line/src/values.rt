@@ -6,8 +6,9 @@ ghost use Rattle.clap.specs.Words.{first_value, found_of};
 ghost use Rattle.command_line.specs.Answers.{Gives};
 ghost use Rattle.command_line.specs.Values.{plain_text, text_at, is_set as is_set_at, id_of, address_of, number_of, number_within as within};
 
-use crate::{Text, WordsError};
+use crate::WordsError;
 use clap::ArgMatches;
+use cluster_state::Text;
 use std::alloc::Global;
 use voting_config::NodeId;
 

@@ -1,8 +1,8 @@
 -- For the contracts inside: when a node's fields stand for its acts so far, and what an act makes of them.
-use Rattle.std.specs.Prelude.{◌≡◌, ℕ, ◌≤◌, Bool, true, false}
+use Rattle.std.specs.Prelude.{◌≡◌, ◌≤◌, true, false}
 use Rattle.std.proofs.Common.{subst, sym, ◌∙◌, ap}
 use Rattle.zen_disk.specs.Faults.{Rose}
-use Rattle.cluster_state.specs.declared.state.Kept.{Kept}
+use Rattle.state_journal.specs.declared.keeper.Keeper.{Ghosts}
 use Rattle.world_model.specs.declared.acts.Act.{Act}
 use Rattle.world_model.specs.declared.acts.Outcome.{Outcome}
 use Rattle.world_model.specs.Acts.{NodeHistory, Then, is_disk, is_crashed}
@@ -11,20 +11,20 @@ use Rattle.world_model.specs.Replies.{IsOutcome, IsOutcomeAt}
 use Rattle.world_model.specs.Steps.{node_state_after, node_state-Then, is_opening}
 use Rattle.coord_state.specs.declared.coord.CoordState.{CoordState}
 
-module _ {K : Type 0} (record_of : K → Kept) (has_stopped : K → Bool) (faults : K → ℕ) where
+module _ {K : Type 0} (k : Ghosts K) where
   -- the node's state, as its fields show it
   abbrev pub fields_of : CoordState K → NodeState
   fields_of c = record {
-    term = (record_of c.keeper).term;
-    accepted = (record_of c.keeper).accepted;
-    committed = (record_of c.keeper).committed;
+    term = (k.record_of c.keeper).term;
+    accepted = (k.record_of c.keeper).accepted;
+    committed = (k.record_of c.keeper).committed;
     started_join = c.started_join;
     join_votes = c.join_votes;
     election_won = c.election_won;
     published_version = c.published_version;
     published_config = c.published_config;
     publish_votes = c.publish_votes;
-    halted = has_stopped c.keeper;
+    halted = k.has_stopped c.keeper;
   }
 
   -- the fields are what the acts so far make of a node
@@ -37,8 +37,8 @@ module _ {K : Type 0} (record_of : K → Kept) (has_stopped : K → Bool) (fault
     pub answers : IsOutcomeAt old.me (fields_of old) act outcome
     pub after : fields_of new ≡ node_state_after (fields_of old) act outcome
     pub runs : is_crashed outcome ≡ false
-    pub later : faults old.keeper ≤ faults new.keeper
-    pub fault : is_disk outcome ≡ true → Rose (faults old.keeper) (faults new.keeper)
+    pub later : k.faults old.keeper ≤ k.faults new.keeper
+    pub fault : is_disk outcome ≡ true → Rose (k.faults old.keeper) (k.faults new.keeper)
 
   -- one act: whatever acts the node stood for, the outcome is the reply to it, and the node stands for them with it
   pub record Acts (old new : CoordState K) (act : Act) (outcome : Outcome) : Type 0 where

@@ -5,6 +5,7 @@ use Rattle.cluster_state.specs.declared.state.Kept.{Kept}
 use Rattle.state_journal.specs.Changes.{IsEither}
 use Rattle.state_journal.specs.declared.change.Change.{Change}
 use Rattle.state_journal.specs.declared.change.Change.TheVariants.{Term, Accepted, Committed}
+use Rattle.state_journal.specs.declared.keeper.Keeper.{Ghosts}
 use Rattle.world_model.specs.declared.acts.Act.{Act}
 use Rattle.world_model.specs.declared.acts.Act.TheVariants.{Bootstrap, StartJoin, TakeJoin, Value, Publish, Response, Commit, Open}
 use Rattle.world_model.specs.declared.acts.Reply.TheVariants.{Taken, Refused, Stopped}
@@ -24,18 +25,19 @@ change_of (Value version config value) = None
 change_of (Response response) = None
 change_of (Open found) = None
 
--- the keeper wrote this change with this answer, and where there is none it made no call
-abbrev pub Wrote : {K : Type 0} → (writes : K → Change → K → Bool → Type 0) → (old : K) → Option Change → (new : K) → (ok : Bool) → Type 0
-Wrote writes old (Some change) new ok = writes old change new ok
-Wrote writes old None new ok = new ≡ old
+module _ {K : Type 0} (k : Ghosts K) where
+  -- the keeper wrote this change with this answer, and where there is none it made no call
+  abbrev pub Wrote : (old : K) → Option Change → (new : K) → (ok : Bool) → Type 0
+  Wrote old (Some change) new ok = k.writes old change new ok
+  Wrote old None new ok = new ≡ old
 
--- the keeper wrote the act's change where it was taken or the disk failed, and where it was refused it made no call
-abbrev pub WritesBy : {K : Type 0} → (writes : K → Change → K → Bool → Type 0) → (old : K) → Act → (new : K) → Outcome → Type 0
-WritesBy writes old act new (Answered (Taken sends wins)) = Wrote writes old (change_of act) new true
-WritesBy writes old act new (Answered (Refused cause)) = new ≡ old
-WritesBy writes old act new (Answered Stopped) = new ≡ old
-WritesBy writes old act new (Disk kept) = Wrote writes old (change_of act) new false
-WritesBy writes old act new (Crashed kept) = ⊥
+  -- the keeper wrote the act's change where it was taken or the disk failed, and where it was refused it made no call
+  abbrev pub WritesBy : (old : K) → Act → (new : K) → Outcome → Type 0
+  WritesBy old act new (Answered (Taken sends wins)) = Wrote old (change_of act) new true
+  WritesBy old act new (Answered (Refused cause)) = new ≡ old
+  WritesBy old act new (Answered Stopped) = new ≡ old
+  WritesBy old act new (Disk kept) = Wrote old (change_of act) new false
+  WritesBy old act new (Crashed kept) = ⊥
 
 -- what is kept of the acts so far, without the act in hand or with it
 abbrev pub IsDuring : NodeHistory → Act → Option Kept → Type 0

@@ -1,5 +1,6 @@
 //! `CoordState`: what one node answers to each of the seven acts, and what it is after them. An act that writes has written before it answers.
-ghost use Rattle.std.specs.Prelude.{◌≡◌, ℕ, ◌<◌, ◌≤◌, ◌^◌, Bool, false, true, ◌&&◌, ◌⊎◌, ◌↔◌, Option, Some, length};
+ghost use Rattle.std.specs.Prelude.{◌≡◌, ℕ, ◌<◌, ◌≤◌, Bool, false, true, ◌&&◌, ◌⊎◌, ◌↔◌, Option, Some, length};
+ghost use Rattle.cluster_state.specs.Field.{last_number};
 ghost use Rattle.voting_config.specs.Ids.{Id, has, is_quorum_of, most_ids};
 ghost use Rattle.zen_disk.specs.Moments.{LeavesOnly, Same};
 ghost use Rattle.world_model.specs.declared.acts.Act.TheVariants as act;
@@ -88,7 +89,7 @@ impl<K: Keeper> CoordState<K> {
     /// What the node keeps durably: a term of at most 2^62, and a state within the limits and of no greater term.
     pub fn kept(&self) -> &Kept
         ensures kept { result.now ≡ K.record_of self.now.keeper }
-        ensures bounded { (K.record_of self.now.keeper).term ≤ 2 ^ 62 }
+        ensures bounded { (K.record_of self.now.keeper).term ≤ last_number }
         ensures fit { IsFit (K.record_of self.now.keeper).accepted }
         ensures older { (K.record_of self.now.keeper).accepted.term ≤ (K.record_of self.now.keeper).term }
 
@@ -101,7 +102,7 @@ impl<K: Keeper> CoordState<K> {
     /// The node's current term, which is at most 2^62.
     pub fn term(&self) -> u64
         ensures term { result ≡ (K.record_of self.now.keeper).term }
-        ensures bounded { result ≤ 2 ^ 62 }
+        ensures bounded { result ≤ last_number }
     {
         self.keeper.kept().term
     }
@@ -176,7 +177,7 @@ impl<K: Keeper> CoordState<K> {
         requires { K.has_stopped keeper ≡ false }
         ensures me { result.me ≡ me }
         ensures keeper { result.keeper ≡ keeper }
-        ensures stands { StandsFor K.record_of K.has_stopped K.faults result (opened (K.record_of keeper)) }
+        ensures stands { StandsFor K.Keeper result (opened (K.record_of keeper)) }
     {
         CoordState {
             me,
@@ -193,9 +194,9 @@ impl<K: Keeper> CoordState<K> {
     /// Starts a join for the candidate `from` in a term, which must be greater than the current one. All votes are dropped.
     /// Answers the join that is to be sent, with the id of the accepted state.
     pub fn start_join(&mut self, from: NodeId, term: u64) -> Result<Join, ActError<StartCause, ()>>
-        ensures act { Acts K.record_of K.has_stopped K.faults self.old self.new (act.StartJoin from term) (start_outcome result) }
-        ensures wrote { WritesBy K.writes self.old.keeper (act.StartJoin from term) self.new.keeper (start_outcome result) }
-        ensures any_moment { K.told → (g : NodeHistory) → StandsFor K.record_of K.has_stopped K.faults self.old g → LeavesOnly K.moment K.left_since self.old.keeper self.new.keeper (IsDuring g (act.StartJoin from term)) }
+        ensures act { Acts K.Keeper self.old self.new (act.StartJoin from term) (start_outcome result) }
+        ensures wrote { WritesBy K.Keeper self.old.keeper (act.StartJoin from term) self.new.keeper (start_outcome result) }
+        ensures any_moment { K.told → (g : NodeHistory) → StandsFor K.Keeper self.old g → LeavesOnly K.moment K.left_since self.old.keeper self.new.keeper (IsDuring g (act.StartJoin from term)) }
     {
         if self.keeper.stopped() {
             return Err(ActError::Stopped(()));
@@ -232,9 +233,9 @@ impl<K: Keeper> CoordState<K> {
     /// Takes the initial configuration, where the node has none. Elasticsearch calls this bootstrapping.
     pub fn set_initial(&mut self, initial: Ready) -> Result<(), ActError<InitialCause, Ready>>
         requires { initial.state ≡ initial_state initial.state.config }
-        ensures act { Acts K.record_of K.has_stopped K.faults self.old self.new (act.Bootstrap initial.state.config) (initial_outcome result) }
-        ensures wrote { WritesBy K.writes self.old.keeper (act.Bootstrap initial.state.config) self.new.keeper (initial_outcome result) }
-        ensures any_moment { K.told → (g : NodeHistory) → StandsFor K.record_of K.has_stopped K.faults self.old g → LeavesOnly K.moment K.left_since self.old.keeper self.new.keeper (IsDuring g (act.Bootstrap initial.state.config)) }
+        ensures act { Acts K.Keeper self.old self.new (act.Bootstrap initial.state.config) (initial_outcome result) }
+        ensures wrote { WritesBy K.Keeper self.old.keeper (act.Bootstrap initial.state.config) self.new.keeper (initial_outcome result) }
+        ensures any_moment { K.told → (g : NodeHistory) → StandsFor K.Keeper self.old g → LeavesOnly K.moment K.left_since self.old.keeper self.new.keeper (IsDuring g (act.Bootstrap initial.state.config)) }
         ensures back { HandsBack initial result }
     {
         if self.keeper.stopped() {
@@ -244,7 +245,7 @@ impl<K: Keeper> CoordState<K> {
         if !kept.accepted.config.is_empty() {
             return Err(ActError::Refused(InitialCause::AlreadySet, initial));
         }
-        if initial.state.config.is_empty() {
+        if initial.state().config.is_empty() {
             return Err(ActError::Refused(InitialCause::EmptyConfig, initial));
         }
         match self.keeper.set_accepted(initial) {
@@ -257,9 +258,9 @@ impl<K: Keeper> CoordState<K> {
     /// committed configuration and of the accepted state's.
     pub fn join(&mut self, j: &Join) -> Result<Joined, ActError<JoinCause, ()>>
         requires { (has j.now.source self.old.join_votes ≡ true) ⊎ (length self.old.join_votes < most_ids) }
-        ensures act { Acts K.record_of K.has_stopped K.faults self.old self.new (act.TakeJoin j.now) (join_outcome result) }
-        ensures wrote { WritesBy K.writes self.old.keeper (act.TakeJoin j.now) self.new.keeper (join_outcome result) }
-        ensures any_moment { K.told → (g : NodeHistory) → StandsFor K.record_of K.has_stopped K.faults self.old g → LeavesOnly K.moment K.left_since self.old.keeper self.new.keeper (IsDuring g (act.TakeJoin j.now)) }
+        ensures act { Acts K.Keeper self.old self.new (act.TakeJoin j.now) (join_outcome result) }
+        ensures wrote { WritesBy K.Keeper self.old.keeper (act.TakeJoin j.now) self.new.keeper (join_outcome result) }
+        ensures any_moment { K.told → (g : NodeHistory) → StandsFor K.Keeper self.old g → LeavesOnly K.moment K.left_since self.old.keeper self.new.keeper (IsDuring g (act.TakeJoin j.now)) }
     {
         if self.keeper.stopped() {
             return Err(ActError::Stopped(()));
@@ -293,9 +294,9 @@ impl<K: Keeper> CoordState<K> {
         config: VotingConfig,
         value: ClusterValue,
     ) -> Result<PublishRequest, ActError<ValueCause, (VotingConfig, ClusterValue)>>
-        ensures act { Acts K.record_of K.has_stopped K.faults self.old self.new (act.Value version config value) (value_outcome result) }
-        ensures wrote { WritesBy K.writes self.old.keeper (act.Value version config value) self.new.keeper (value_outcome result) }
-        ensures any_moment { K.told → (g : NodeHistory) → StandsFor K.record_of K.has_stopped K.faults self.old g → LeavesOnly K.moment K.left_since self.old.keeper self.new.keeper (IsDuring g (act.Value version config value)) }
+        ensures act { Acts K.Keeper self.old self.new (act.Value version config value) (value_outcome result) }
+        ensures wrote { WritesBy K.Keeper self.old.keeper (act.Value version config value) self.new.keeper (value_outcome result) }
+        ensures any_moment { K.told → (g : NodeHistory) → StandsFor K.Keeper self.old g → LeavesOnly K.moment K.left_since self.old.keeper self.new.keeper (IsDuring g (act.Value version config value)) }
         ensures back { HandsBack (record { 0 = config; 1 = value }) result }
     {
         if self.keeper.stopped() {
@@ -346,7 +347,7 @@ impl<K: Keeper> CoordState<K> {
 
     /// Whether `publish_request` would refuse this state, from whichever node, without taking it. Never answers `Disk`.
     pub fn check_publish(&self, state: &ClusterState) -> Result<(), ActError<PublishCause, ()>>
-        ensures { (source : Id) → Foretells result (reply_at self.now.me (fields_of K.record_of K.has_stopped K.faults self.now) (act.Publish (record { source = source; state = state.now }))) }
+        ensures { (source : Id) → Foretells result (reply_at self.now.me (fields_of K.Keeper self.now) (act.Publish (record { source = source; state = state.now }))) }
     {
         if self.keeper.stopped() {
             return Err(ActError::Stopped(()));
@@ -363,19 +364,19 @@ impl<K: Keeper> CoordState<K> {
         source: NodeId,
         state: Ready,
     ) -> Result<PublishResponse, ActError<PublishCause, Ready>>
-        ensures act { Acts K.record_of K.has_stopped K.faults self.old self.new (act.Publish (record { source = source; state = state.state })) (publish_outcome result) }
-        ensures wrote { WritesBy K.writes self.old.keeper (act.Publish (record { source = source; state = state.state })) self.new.keeper (publish_outcome result) }
-        ensures any_moment { K.told → (g : NodeHistory) → StandsFor K.record_of K.has_stopped K.faults self.old g → LeavesOnly K.moment K.left_since self.old.keeper self.new.keeper (IsDuring g (act.Publish (record { source = source; state = state.state }))) }
+        ensures act { Acts K.Keeper self.old self.new (act.Publish (record { source = source; state = state.state })) (publish_outcome result) }
+        ensures wrote { WritesBy K.Keeper self.old.keeper (act.Publish (record { source = source; state = state.state })) self.new.keeper (publish_outcome result) }
+        ensures any_moment { K.told → (g : NodeHistory) → StandsFor K.Keeper self.old g → LeavesOnly K.moment K.left_since self.old.keeper self.new.keeper (IsDuring g (act.Publish (record { source = source; state = state.state }))) }
         ensures back { HandsBack state result }
     {
         if self.keeper.stopped() {
             return Err(ActError::Stopped(state));
         }
-        if let Err(cause) = publish_check(self.keeper.kept(), &state.state) {
+        if let Err(cause) = publish_check(self.keeper.kept(), state.state()) {
             return Err(ActError::Refused(cause, state));
         }
-        let term = state.state.term;
-        let version = state.state.version;
+        let term = state.state().term;
+        let version = state.state().version;
         match self.keeper.set_accepted(state) {
             Ok(()) => Ok(PublishResponse {
                 source: self.me,
@@ -394,9 +395,9 @@ impl<K: Keeper> CoordState<K> {
         r: &PublishResponse,
     ) -> Result<Option<ApplyCommit>, ActError<ResponseCause, ()>>
         requires { (has r.now.source self.old.publish_votes ≡ true) ⊎ (length self.old.publish_votes < most_ids) }
-        ensures act { Acts K.record_of K.has_stopped K.faults self.old self.new (act.Response r.now) (response_outcome result) }
-        ensures wrote { WritesBy K.writes self.old.keeper (act.Response r.now) self.new.keeper (response_outcome result) }
-        ensures any_moment { K.told → (g : NodeHistory) → StandsFor K.record_of K.has_stopped K.faults self.old g → LeavesOnly K.moment K.left_since self.old.keeper self.new.keeper (IsDuring g (act.Response r.now)) }
+        ensures act { Acts K.Keeper self.old self.new (act.Response r.now) (response_outcome result) }
+        ensures wrote { WritesBy K.Keeper self.old.keeper (act.Response r.now) self.new.keeper (response_outcome result) }
+        ensures any_moment { K.told → (g : NodeHistory) → StandsFor K.Keeper self.old g → LeavesOnly K.moment K.left_since self.old.keeper self.new.keeper (IsDuring g (act.Response r.now)) }
     {
         if self.keeper.stopped() {
             return Err(ActError::Stopped(()));
@@ -434,9 +435,9 @@ impl<K: Keeper> CoordState<K> {
     /// Takes it that the accepted state is committed: its configuration becomes the committed one. A winner does not take
     /// the commit of a state while its newer publication is not accepted.
     pub fn commit(&mut self, c: &ApplyCommit) -> Result<(), ActError<CommitCause, ()>>
-        ensures act { Acts K.record_of K.has_stopped K.faults self.old self.new (act.Commit c.now) (commit_outcome result) }
-        ensures wrote { WritesBy K.writes self.old.keeper (act.Commit c.now) self.new.keeper (commit_outcome result) }
-        ensures any_moment { K.told → (g : NodeHistory) → StandsFor K.record_of K.has_stopped K.faults self.old g → LeavesOnly K.moment K.left_since self.old.keeper self.new.keeper (IsDuring g (act.Commit c.now)) }
+        ensures act { Acts K.Keeper self.old self.new (act.Commit c.now) (commit_outcome result) }
+        ensures wrote { WritesBy K.Keeper self.old.keeper (act.Commit c.now) self.new.keeper (commit_outcome result) }
+        ensures any_moment { K.told → (g : NodeHistory) → StandsFor K.Keeper self.old g → LeavesOnly K.moment K.left_since self.old.keeper self.new.keeper (IsDuring g (act.Commit c.now)) }
     {
         if self.keeper.stopped() {
             return Err(ActError::Stopped(()));
@@ -475,7 +476,7 @@ impl<K: ArmKeeper> CoordState<K> {
     /// Takes an order for the disk that the record is kept on, in place of an earlier one of its kind.
     pub fn arm(&mut self, order: Order)
         ensures rest { self.new ≡ record self.old { keeper = self.new.keeper } }
-        ensures stands { (g : NodeHistory) → StandsFor K.Keeper.record_of K.Keeper.has_stopped K.Keeper.faults self.old g → StandsFor K.Keeper.record_of K.Keeper.has_stopped K.Keeper.faults self.new g }
+        ensures stands { (g : NodeHistory) → StandsFor K.Keeper self.old g → StandsFor K.Keeper self.new g }
         ensures record { K.Keeper.record_of self.new.keeper ≡ K.Keeper.record_of self.old.keeper }
         ensures stopped { K.Keeper.has_stopped self.new.keeper ≡ K.Keeper.has_stopped self.old.keeper }
         ensures faults { K.Keeper.faults self.new.keeper ≡ K.Keeper.faults self.old.keeper }

@@ -2,7 +2,9 @@
 #![tactic(auto)]
 
 pub mod coord;
+pub mod ending;
 #[cfg(test)]
 mod tests;
 
 pub use coord::{ActError, CoordState, Joined};
+pub use ending::{ActAnswer, ActCause, NotTaken, outcome_of};

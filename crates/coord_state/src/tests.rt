@@ -2,7 +2,7 @@
 ghost use Rattle.std.specs.Prelude.{◌≤◌, ◌^◌};
 ghost use Rattle.cluster_state.specs.States.{IsFit};
 
-use crate::{ActError, CoordState};
+use crate::{ActError, CoordState, NotTaken};
 use cluster_state::{
     ClusterState, ClusterValue, Join, PublishCause, PublishRequest, PublishResponse, ValueCause,
 };
@@ -10,6 +10,7 @@ use state_journal::{Keeper, PlainKeeper, Ready};
 use std::alloc::Global;
 use std::test::Fail;
 use voting_config::{NodeId, NodeSet, VotingConfig};
+use world_model::Cause;
 
 fn a() -> NodeId {
     NodeId::parse("a").unwrap_or(NodeId::default())
@@ -63,16 +64,6 @@ fn published(alloc: Global, term: u64) -> ClusterState
     }
 }
 
-// Why the state would be refused.
-fn refusal(answer: Result<(), ActError<PublishCause, ()>>) -> Option<PublishCause> {
-    match answer {
-        Err(ActError::Refused(cause, _)) => Some(cause),
-        Err(ActError::Stopped(_)) => None,
-        Err(ActError::Disk) => None,
-        Ok(()) => None,
-    }
-}
-
 #[test]
 fn a_node_alone_wins_and_commits(rt: HostRuntime) -> Result<(), Fail> {
     let alloc = rt.alloc();
@@ -88,8 +79,9 @@ fn a_node_alone_wins_and_commits(rt: HostRuntime) -> Result<(), Fail> {
     };
     assert!(rt; node.published().0 == 1);
     assert!(rt; node.check_publish(&request.state).is_ok());
-    let later = node.check_publish(&published(alloc, 2));
-    assert!(rt; refusal(later) == Some(PublishCause::TermMismatch(1, 2)));
+    let later = node.check_publish(&published(alloc, 2)).err();
+    let cause = Cause::Publish(PublishCause::TermMismatch(1, 2));
+    assert!(rt; later.map(|error| error.not_taken()) == Some(NotTaken::Refused(cause)));
     let state = Ready::new(alloc, published(alloc, 1))
         .ok()
         .ok_or("no memory")?;

@@ -93,11 +93,8 @@ drops-shown o (Replies answer ∷ is) = drops-shown (showing o (Replies answer))
 drops-shown o (Notes note ∷ is) = drops-shown o is
 
 module _ {K : Type 0} (k : Ghosts K) where
-  abbrev Did : (old new : CoordState K) → List Item → Type 0
-  Did old new is = CoreDid k old new is
-
-  pub did-append : (a b c : CoordState K) (xs ys : List Item) → Did a b xs → Did b c ys → Did a c (xs ++ ys)
-  did-append a b c [] ys same then = subst (λ (x : CoordState K). Did x c ys) same then
+  pub did-append : (a b c : CoordState K) (xs ys : List Item) → CoreDid k a b xs → CoreDid k b c ys → CoreDid k a c (xs ++ ys)
+  did-append a b c [] ys same then = subst (λ (x : CoordState K). CoreDid k x c ys) same then
   did-append a b c (Opens found ∷ is) ys first then = absurd first
   did-append a b c (Begins event ∷ is) ys first then = absurd first
   did-append a b c (Acts act o ∷ is) ys first then = (first.0, first.1, did-append first.0 b c is ys first.2 then)
@@ -107,8 +104,8 @@ module _ {K : Type 0} (k : Ghosts K) where
   did-append a b c (Replies answer ∷ is) ys first then = did-append a b c is ys first then
   did-append a b c (Notes note ∷ is) ys first then = did-append a b c is ys first then
 
-  pub did-behind : (a b c : CoordState K) (xs ys : List Item) → Did a b xs → Did b c ys → Did a c (behind xs ys)
-  did-behind a b c [] ys same then = subst (λ (x : CoordState K). Did x c ys) same then
+  pub did-behind : (a b c : CoordState K) (xs ys : List Item) → CoreDid k a b xs → CoreDid k b c ys → CoreDid k a c (behind xs ys)
+  did-behind a b c [] ys same then = subst (λ (x : CoordState K). CoreDid k x c ys) same then
   did-behind a b c (Opens found ∷ is) ys first then = absurd first
   did-behind a b c (Begins event ∷ is) ys first then = absurd first
   did-behind a b c (Acts act o ∷ is) ys first then = (first.0, first.1, did-behind first.0 b c is ys first.2 then)
@@ -118,7 +115,7 @@ module _ {K : Type 0} (k : Ghosts K) where
   did-behind a b c (Replies answer ∷ is) ys first then = did-behind a b c is ys first then
   did-behind a b c (Notes note ∷ is) ys first then = did-behind a b c is ys first then
 
-  pub did_me : (a b : CoordState K) (xs : List Item) → Did a b xs → b.me ≡ a.me
+  pub did_me : (a b : CoordState K) (xs : List Item) → CoreDid k a b xs → b.me ≡ a.me
   did_me a b [] same = ap (λ (c : CoordState K). c.me) same
   did_me a b (Opens found ∷ is) did = absurd did
   did_me a b (Begins event ∷ is) did = absurd did

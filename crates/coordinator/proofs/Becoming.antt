@@ -77,15 +77,6 @@ module _ {K : Type 0} (k : Ghosts K) where
       ap (λ (b : Bool). act_now s v (StartJoin candidate term) ∷ (if b then send s candidate (message.Join term (id_of v.node.accepted)) ∷ becomes_candidate_once s after else [])) (sym taken) in
       makes_as old new o o3 _ _ all (settings_are ∙ view_is ∙ whole)
 
-  pub starts_refused : (old new : Coordinator K) (o o1 : Shown) (candidate : Id) (term : ℕ) → Make old new o o1 (act_now old.settings (view old) (StartJoin candidate term) ∷ [])
-      → takes old.settings (view old) (StartJoin candidate term) ≡ false
-      → Make old new o o1 (starts_join old.settings (view old) candidate term)
-  starts_refused old new o o1 candidate term act refused =
-      let s = old.settings in
-      let v = view old in
-      makes_as old new o o1 _ _ act
-      (ap (λ (b : Bool). act_now s v (StartJoin candidate term) ∷ (if b then send s candidate (message.Join term (id_of v.node.accepted)) ∷ becomes_candidate_once s (after_act s v (StartJoin candidate term)) else [])) (sym refused))
-
   pub starts_struck : (old new : Coordinator K) (o o1 : Shown) (candidate : Id) (term : ℕ) → Fail old new o o1 (act_now old.settings (view old) (StartJoin candidate term) ∷ [])
       → Fail old new o o1 (starts_join old.settings (view old) candidate term)
   starts_struck old new o o1 candidate term fails =

@@ -1,12 +1,13 @@
 -- How a candidate comes to be elected.
 use Rattle.std.proofs.Common.{◌≡◌, ℕ, ◌+◌, ◌≤◌, ◌<◌, rules, tests, Bool, true, false, ◌&&◌, Option, None, Some, List, [], ◌∷◌, ◌++◌, refl, sym, ap, subst, ◌∙◌}
 use Rattle.std.specs.Prelude.{if◌then◌else◌, nat_le}
+use Rattle.cluster_state.specs.Field.{last_number}
 use Rattle.state_journal.specs.declared.keeper.Keeper.{Ghosts}
 use Rattle.state_journal.specs.declared.ready.Ready.{Ready}
 use Rattle.voting_config.specs.Ids.{Id, with_id, without_id}
 use Rattle.peer_finder.specs.Peers.{known_set}
 use Rattle.wire_frames.specs.declared.frame.Message.TheVariants as message
-use Rattle.world_model.specs.Replies.{elects, last_number}
+use Rattle.world_model.specs.Replies.{elects}
 use Rattle.world_model.specs.declared.acts.Act.TheVariants.{Bootstrap}
 use Rattle.policy_model.specs.declared.settings.Settings.{Settings}
 use Rattle.policy_model.specs.Events.{Item, Notes, RoundBegun, RoundEnded, ElectionOff}

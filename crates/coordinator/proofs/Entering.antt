@@ -135,10 +135,7 @@ disk_of (Disk b) f c = refl
 disk_of (Crashed b) f c = cc
 
 module _ {K : Type 0} (k : Ghosts K) where
-  abbrev Did : (old new : CoordState K) → List Item → Type 0
-  Did old new is = CoreDid k old new is
-
-  pub did_wrote : (old new : CoordState K) (is : List Item) → Did old new is → WroteAll k old.keeper is new.keeper
+  pub did_wrote : (old new : CoordState K) (is : List Item) → CoreDid k old new is → WroteAll k old.keeper is new.keeper
   did_wrote old new [] same = ap (λ (c : CoordState K). c.keeper) same
   did_wrote old new (Opens found ∷ is) did = absurd did
   did_wrote old new (Begins event ∷ is) did = absurd did
@@ -150,7 +147,7 @@ module _ {K : Type 0} (k : Ghosts K) where
   did_wrote old new (Notes note ∷ is) did = did_wrote old new is did
 
   -- the count of faults never falls
-  pub did_later : (old new : CoordState K) (is : List Item) → Did old new is → k.faults old.keeper ≤ k.faults new.keeper
+  pub did_later : (old new : CoordState K) (is : List Item) → CoreDid k old new is → k.faults old.keeper ≤ k.faults new.keeper
   did_later old new [] same = rw same (omega arith)
   did_later old new (Opens found ∷ is) did = absurd did
   did_later old new (Begins event ∷ is) did = absurd did
@@ -165,7 +162,7 @@ module _ {K : Type 0} (k : Ghosts K) where
   later_rose a b c le rose = λ fell. rose (omega (arith, le, fell))
 
   -- and it rose where an act was struck
-  pub did_rise : (old new : CoordState K) (items left : List Item) → IsStruck items left → Did old new left → Rose (k.faults old.keeper) (k.faults new.keeper)
+  pub did_rise : (old new : CoordState K) (items left : List Item) → IsStruck items left → CoreDid k old new left → Rose (k.faults old.keeper) (k.faults new.keeper)
   did_rise old new items left (Here act sends wins rest fault w f) did =
       subst (λ (c : CoordState K). Rose (k.faults old.keeper) (k.faults c.keeper)) (sym did.2) (did.1.acts.at.fault (disk_of fault f did.1.acts.at.runs))
   did_rise old new items left (Later (Opens found) rest left' q) did = absurd did
@@ -199,13 +196,13 @@ module _ {K : Type 0} (k : Ghosts K) where
   }
 
   -- a node that met no fault runs on
-  pub did_run : (old new : CoordState K) (is : List Item) → has_fault is ≡ false → Did old new is → k.has_stopped new.keeper ≡ k.has_stopped old.keeper
+  pub did_run : (old new : CoordState K) (is : List Item) → has_fault is ≡ false → CoreDid k old new is → k.has_stopped new.keeper ≡ k.has_stopped old.keeper
   did_run old new [] f same = ap (λ (c : CoordState K). k.has_stopped c.keeper) same
   did_run old new (Opens found ∷ is) f did = absurd did
   did_run old new (Begins event ∷ is) f did = absurd did
   did_run old new (Acts act o ∷ is) f did =
       let parts = no_fault (is_fault o) (has_fault is) f in
-      did_run did.0 new is parts.1 did.2 ∙ ap (λ (n : NodeState). n.halted) did.1.acts.at.after ∙ running_by (fields_of k.record_of k.has_stopped k.faults old) act o parts.0
+      did_run did.0 new is parts.1 did.2 ∙ ap (λ (n : NodeState). n.halted) did.1.acts.at.after ∙ running_by (fields_of k old) act o parts.0
   did_run old new (Turns mode term ∷ is) f did = did_run old new is f did
   did_run old new (Drops member cause ∷ is) f did = did_run old new is f did
   did_run old new (Sends frame ∷ is) f did = did_run old new is f did
@@ -213,11 +210,11 @@ module _ {K : Type 0} (k : Ghosts K) where
   did_run old new (Notes note ∷ is) f did = did_run old new is f did
 
   -- a struck node writes no more
-  pub did_halts : (old new : CoordState K) (items left : List Item) → IsStruck items left → Did old new left → k.has_stopped new.keeper ≡ true
+  pub did_halts : (old new : CoordState K) (items left : List Item) → IsStruck items left → CoreDid k old new left → k.has_stopped new.keeper ≡ true
   did_halts old new items left (Here act sends wins rest fault w f) did =
       ap (λ (c : CoordState K). k.has_stopped c.keeper) did.2
       ∙ ap (λ (n : NodeState). n.halted) did.1.acts.at.after
-      ∙ halted_by (fields_of k.record_of k.has_stopped k.faults old) act fault w (disk_of fault f did.1.acts.at.runs)
+      ∙ halted_by (fields_of k old) act fault w (disk_of fault f did.1.acts.at.runs)
   did_halts old new items left (Later (Opens found) rest left' q) did = absurd did
   did_halts old new items left (Later (Begins event) rest left' q) did = absurd did
   did_halts old new items left (Later (Acts act o) rest left' q) did = did_halts did.0 new rest left' q did.2
@@ -234,7 +231,7 @@ module _ {K : Type 0} (k : Ghosts K) where
     settings = goes.settings ∙ settings;
     clock = goes.clock ∙ ap (λ (v : View). v.moment) begins;
     view = goes.view ∙ ap (λ (s : Settings). moved_all s (view_in k mid) items) settings ∙ ap (λ (v : View). moved_all old.settings v items) begins;
-    core = subst (λ (c : CoordState K). Did c new.core items) core goes.core;
+    core = subst (λ (c : CoordState K). CoreDid k c new.core items) core goes.core;
   }
 
   pub event_fine : (old mid new : Coordinator K) (event : Event) (o o_now : Shown) (items : List Item) → mid.settings ≡ old.settings → mid.core ≡ old.core → view_in k mid ≡ begun (view_in k old) event
@@ -284,7 +281,3 @@ module _ {K : Type 0} (k : Ghosts K) where
   life_leaves old new event leaves life stands t =
       subst (λ (items : List Item). LeavesOnly k.moment k.left_since old.core.keeper new.core.keeper (IsAlong (acts_of (log_of life)) items)) (items_now old life event stands)
       (leaves t (acts_of (log_of life)) (ap (λ (v : View). v.node) stands))
-
-  -- where nothing is done a crash leaves nothing new
-  pub life_stays : (c : Coordinator K) (event : Event) → Survives k c c event
-  life_stays c event life stands t = quiet k.moment k.left_since c.core.keeper (IsAlong (acts_of (log_of life)) (items_of c.settings (log_of life) event))

@@ -1,7 +1,7 @@
 -- A publication is finished by its commit.
 use Rattle.std.proofs.Common.{◌≡◌, ℕ, Bool, true, false, ◌&&◌, List, [], ◌∷◌, ◌++◌, refl, sym, ap, subst, ◌∙◌}
 use Rattle.state_journal.specs.declared.keeper.Keeper.{Ghosts}
-use Rattle.std.specs.Prelude.{if◌then◌else◌, Option, None, Some}
+use Rattle.std.specs.Prelude.{if◌then◌else◌, Option, Some}
 use Rattle.cluster_state.specs.declared.state.StateId.{StateId}
 use Rattle.cluster_state.specs.declared.state.ClusterState.{ClusterState}
 use Rattle.cluster_state.specs.declared.messages.ApplyCommit.{ApplyCommit}
@@ -35,7 +35,6 @@ use Rattle.coordinator.proofs.Appending.{moved_all-append}
 use Rattle.coordinator.proofs.Composing.{makes_then, fails_before}
 use Rattle.coordinator.proofs.Becoming.{makes_as}
 use Rattle.coordinator.proofs.Quiet.{moved_all-replies, makes_replies, makes_note}
-use Rattle.coordinator.proofs.Planning.{differ}
 use Rattle.coordinator.proofs.Foreseen.{has_planned}
 use Rattle.coordinator.proofs.Counted.{planned_there}
 
@@ -60,9 +59,6 @@ commit_planned s v c plan t l is =
     (without_answered (exclusion_done v.node.accepted.config (id_of v.node.accepted)) v.tasks) plan (is l)
     (ap (λ (x : List Id). leader_of s.me v.node.term v.node.accepted x v.node.join_votes s.shrink) (sym committed))
     (ap (λ (x : List Id). without_answered (exclusion_done x (id_of v.node.accepted)) v.tasks) (sym committed)))
-
-pub commit_unplanned : (s : Settings) (v : View) → is_leader v.mode ≡ false → IsPlannedCommit s v None
-commit_unplanned s v l = λ h. absurd (differ h l)
 
 pub plan_commit_some : (s : Settings) (v : View) (plan : Plan) (term : ℕ) (accepted : ClusterState) (votes : List Id) (id : StateId) (copy tasks : Tasks) → term ≡ v.node.term → accepted ≡ v.node.accepted → votes ≡ v.node.join_votes → id ≡ id_of accepted → copy ≡ v.tasks
     → tasks ≡ without_answered (exclusion_done accepted.config id) copy → IsPlan (leader_of s.me term accepted accepted.config votes s.shrink) tasks plan → IsPlannedCommit s v (Some plan)

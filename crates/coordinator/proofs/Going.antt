@@ -1,12 +1,11 @@
 -- The next state is made and published, or the node hands over.
-use Rattle.std.proofs.Common.{◌≡◌, ℕ, ◌+◌, ◌≤◌, rules, tests, Bool, true, false, Option, List, [], ◌∷◌, ◌++◌, length, map, refl, sym, ap, subst, ◌∙◌}
+use Rattle.std.proofs.Common.{◌≡◌, ℕ, ◌+◌, ◌≤◌, rules, tests, Bool, true, false, Option, List, [], ◌∷◌, ◌++◌, map, refl, sym, ap, subst, ◌∙◌}
 use Rattle.state_journal.specs.declared.keeper.Keeper.{Ghosts}
 use Rattle.std.specs.Prelude.{if◌then◌else◌, None, Some, find, nat_le}
-use Rattle.std.proofs.lemmas.List.{append_assoc, length-map}
-use Rattle.cluster_state.specs.declared.state.ClusterState.{ClusterState}
+use Rattle.std.proofs.lemmas.List.{append_assoc}
+use Rattle.cluster_state.specs.Field.{last_number}
 use Rattle.cluster_state.specs.declared.state.ClusterValue.{ClusterValue}
 use Rattle.voting_config.specs.Ids.{Id, has}
-use Rattle.world_model.specs.Replies.{last_number}
 use Rattle.publication.specs.Publications.{Publication}
 use Rattle.master_tasks.specs.declared.waiting.Outgoing.{Outgoing}
 use Rattle.master_tasks.specs.Queue.{Tasks}
@@ -46,11 +45,6 @@ act_is s v new version version_is is =
 -- the new state of a plan
 pub planned_new : (m : Master) (t : Tasks) (plan : Plan) (new : NewState) → IsPlan m t plan → plan.new ≡ Some new → IsNewState m.me (state_by m t) new
 planned_new m t plan new is some = (let parts : IsNewOr m t (Some new) = subst (λ (n : Option NewState). IsNewOr m t n) some is.new in parts.1)
-
--- it has a frame for each member
-pub frames_all : (me : Id) (state : ClusterState) (new : NewState) → IsNewState me state new → length new.frames.list ≡ length new.value.members
-frames_all me state new is =
-    ap (λ (l : List Frame). length l) is.frames ∙ length-map state.value.members (λ (to : Id). frame_to me (message.Publish state) to) ∙ ap (λ (v : ClusterValue). length v.members) (sym is.value)
 
 module _ {K : Type 0} (k : Ghosts K) where
   abbrev view : Coordinator K → View

@@ -59,10 +59,7 @@ along_struck g items left (Later (Replies answer) rest left' q) found a = along_
 along_struck g items left (Later (Notes note) rest left' q) found a = along_struck g rest left' q found a
 
 module _ {K : Type 0} (k : Ghosts K) where
-  abbrev Did : (old new : CoordState K) → List Item → Type 0
-  Did old new is = CoreDid k old new is
-
-  pub did_leaves : (old new : CoordState K) (is : List Item) → Did old new is → k.told → (g : NodeHistory) → StandsFor k.record_of k.has_stopped k.faults old g → LeavesOnly k.moment k.left_since old.keeper new.keeper (IsAlong g is)
+  pub did_leaves : (old new : CoordState K) (is : List Item) → CoreDid k old new is → k.told → (g : NodeHistory) → StandsFor k old g → LeavesOnly k.moment k.left_since old.keeper new.keeper (IsAlong g is)
   did_leaves old new [] same t g s = subst (λ (c : CoordState K). LeavesOnly k.moment k.left_since old.keeper c.keeper (IsAlong g [])) (sym same) (quiet k.moment k.left_since old.keeper (IsAlong g []))
   did_leaves old new (Opens found ∷ is) did t g s = absurd did
   did_leaves old new (Begins event ∷ is) did t g s = absurd did

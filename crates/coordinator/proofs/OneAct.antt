@@ -16,6 +16,7 @@ use Rattle.world_model.specs.Acts.{is_ok as was_taken, wins}
 use Rattle.world_model.specs.Replies.{reply_at, is_taken, writes}
 use Rattle.world_model.specs.NodeState.{NodeState}
 use Rattle.world_model.specs.Steps.{node_state_after}
+use Rattle.coord_state.specs.Outcomes.{IsTold}
 use Rattle.coord_state.specs.declared.coord.CoordState.{CoordState}
 use Rattle.policy_model.specs.Events.{Item, Acts}
 use Rattle.policy_model.specs.Views.{View}
@@ -27,7 +28,7 @@ use Rattle.policy_model.specs.Publications.{commits_now}
 use Rattle.policy_model.specs.Doing.{act_now, reply_now, takes}
 use Rattle.coordinator.specs.Showing.{Shown, showing}
 use Rattle.coordinator.specs.Turns.{Acted}
-use Rattle.coordinator.specs.Verdicts.{verdict, IsTold}
+use Rattle.coordinator.specs.Verdicts.{verdict}
 use Rattle.coordinator.specs.Views.{view_in, IsReady}
 use Rattle.coordinator.specs.Does.{Goes, Makes, Fails, Ends}
 use Rattle.coordinator.specs.declared.coordinator.Coordinator.{Coordinator}

@@ -157,11 +157,3 @@ module _ {K : Type 0} (k : Ghosts K) where
       subst (λ (x : Shown). Make old new x o2 (ticks_leader s v)) same
       (subst (λ (is : List Item). Make old new o0 o2 is) (ap (λ (b : Bool). if b then becomes_candidate s v else then_rule s v (ticks_members s v) (goes_on s)) (sym late))
       (ends_rule k old mid new o0 o1 o2 (ticks_members s v) goes_on true members next))
-
-  pub ticks_late : (old new : Coordinator K) (o o0 o1 : Shown) → o0 ≡ o → has_timed_out old.publication old.moment ≡ true → Make old new o0 o1 (becomes_candidate old.settings (view old))
-      → Make old new o o1 (ticks_leader old.settings (view old))
-  ticks_late old new o o0 o1 same late becomes =
-      let s = old.settings in
-      let v = view old in
-      subst (λ (x : Shown). Make old new x o1 (ticks_leader s v)) same
-      (subst (λ (is : List Item). Make old new o0 o1 is) (ap (λ (b : Bool). if b then becomes_candidate s v else then_rule s v (ticks_members s v) (goes_on s)) (sym late)) becomes)

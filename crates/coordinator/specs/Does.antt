@@ -62,4 +62,4 @@ module _ {K : Type 0} (k : Ghosts K) where
   -- a crash at any moment leaves the record of the acts so far, without the act in hand or with it
   abbrev pub Leaves : (old new : Coordinator K) → List Item → Type 0
   Leaves old new items =
-      k.told → (g : NodeHistory) → StandsFor k.record_of k.has_stopped k.faults old.core g → LeavesOnly k.moment k.left_since old.core.keeper new.core.keeper (IsAlong g items)
+      k.told → (g : NodeHistory) → StandsFor k old.core g → LeavesOnly k.moment k.left_since old.core.keeper new.core.keeper (IsAlong g items)

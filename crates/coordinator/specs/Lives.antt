@@ -29,7 +29,7 @@ module _ {K : Type 0} (k : Ghosts K) where
   -- what the keeper wrote at the acts among the items, one after the other
   abbrev pub WroteAll : K → List Item → K → Type 0
   WroteAll old [] new = new ≡ old
-  WroteAll old (Acts act o ∷ is) new = (mid : K) × WritesBy k.writes old act mid o × WroteAll mid is new
+  WroteAll old (Acts act o ∷ is) new = (mid : K) × WritesBy k old act mid o × WroteAll mid is new
   WroteAll old (Opens found ∷ is) new = WroteAll old is new
   WroteAll old (Begins event ∷ is) new = WroteAll old is new
   WroteAll old (Turns mode term ∷ is) new = WroteAll old is new

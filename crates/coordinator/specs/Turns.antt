@@ -8,10 +8,10 @@ use Rattle.world_model.specs.declared.acts.Outcome.{Outcome}
 use Rattle.world_model.specs.Acts.{NodeHistory, Then}
 use Rattle.world_model.specs.NodeState.{durable_of}
 use Rattle.coord_state.specs.declared.coord.CoordState.{CoordState}
+use Rattle.coord_state.specs.Outcomes.{IsTold}
 use Rattle.coord_state.specs.StandsFor.{Acts as CoreActs, StandsFor}
 use Rattle.coord_state.specs.Writes.{WritesBy, IsDuring}
 use Rattle.policy_model.specs.Events.{Item, Opens, Begins, Acts, Turns, Drops, Sends, Replies, Notes}
-use Rattle.coordinator.specs.Verdicts.{IsTold}
 
 -- what a crash leaves at a moment of these items: what is kept of the acts so far, without the act in hand or with it
 abbrev pub IsAlong : NodeHistory → List Item → Option Kept → Type 0
@@ -28,9 +28,9 @@ IsAlong g (Notes note ∷ is) found = IsAlong g is found
 module _ {K : Type 0} (k : Ghosts K) where
   -- one act
   pub record Acted (old new : CoordState K) (act : Act) (outcome : Outcome) : Type 0 where
-    pub acts : CoreActs k.record_of k.has_stopped k.faults old new act outcome
-    pub wrote : WritesBy k.writes old.keeper act new.keeper outcome
-    pub any_moment : k.told → (g : NodeHistory) → StandsFor k.record_of k.has_stopped k.faults old g → LeavesOnly k.moment k.left_since old.keeper new.keeper (IsDuring g act)
+    pub acts : CoreActs k old new act outcome
+    pub wrote : WritesBy k old.keeper act new.keeper outcome
+    pub any_moment : k.told → (g : NodeHistory) → StandsFor k old g → LeavesOnly k.moment k.left_since old.keeper new.keeper (IsDuring g act)
     pub told : IsTold outcome
 
   -- the core did these acts and no others

@@ -1,5 +1,5 @@
 -- For the contracts inside: whether an act was taken, by its outcome.
-use Rattle.std.specs.Prelude.{◌≡◌, Bool, false, Result, Ok, Err}
+use Rattle.std.specs.Prelude.{Bool, Result, Ok, Err}
 use Rattle.world_model.specs.declared.acts.Outcome.{Outcome}
 use Rattle.world_model.specs.declared.acts.Outcome.TheVariants.{Answered, Disk, Crashed}
 use Rattle.world_model.specs.Replies.{is_taken}
@@ -9,9 +9,3 @@ abbrev pub verdict : Outcome → Result Bool Struck
 verdict (Answered reply) = Ok (is_taken reply)
 verdict (Disk kept) = Err (record {})
 verdict (Crashed kept) = Err (record {})
-
--- an outcome that an act reports: no crash, and what the disk failed to write counts as not kept
-abbrev pub IsTold : Outcome → Type 0
-IsTold (Answered reply) = Unit {0}
-IsTold (Disk kept) = kept ≡ false
-IsTold (Crashed kept) = ⊥

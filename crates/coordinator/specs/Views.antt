@@ -14,7 +14,7 @@ pub record IsReady {K : Type 0} (c : Coordinator K) : Type 0 where
 module _ {K : Type 0} (k : Ghosts K) where
   abbrev pub view_in : Coordinator K → View
   view_in c = record {
-    node = fields_of k.record_of k.has_stopped k.faults c.core;
+    node = fields_of k c.core;
     mode = c.mode;
     leader_term = c.leader_term;
     moment = c.moment;

@@ -12,14 +12,12 @@ ghost use Rattle.coordinator.specs.Rooms.{Uses};
 ghost use Rattle.coordinator.specs.Views.{view_in, IsReady};
 
 use crate::coordinator::{Coordinator, Struck};
-use crate::outcomes::{
-    has_sent, has_won, of_commit, of_initial, of_join, of_publish, of_response, of_start, of_value,
-    verdict, was_taken,
-};
+use crate::outcomes::{has_sent, has_won, verdict, was_taken};
 use crate::output::Output;
 use cluster_state::{
     ApplyCommit, ClusterState, ClusterValue, Join, PublishRequest, PublishResponse, StateId,
 };
+use coord_state::outcome_of;
 use fault_checks::FollowerChecks;
 use publication::Publication;
 use state_journal::{Keeper, Ready};
@@ -48,8 +46,8 @@ impl<K: Keeper> Coordinator<K> {
         ensures uses { Uses out.old out.new 1 0 0 }
         ensures rest { self.new ≡ record self.old { core = self.new.core } }
     {
-        let config = VotingConfig::of(initial.state.config.members());
-        let outcome = of_initial(self.core.set_initial(initial));
+        let config = VotingConfig::of(initial.state().config.members());
+        let outcome = outcome_of(self.core.set_initial(initial));
         let verdict = verdict(&outcome);
         out.act(Act::Bootstrap(config), outcome);
         verdict
@@ -69,7 +67,7 @@ impl<K: Keeper> Coordinator<K> {
         ensures uses { Uses out.old out.new 1 0 0 }
         ensures rest { self.new ≡ record self.old { core = self.new.core } }
     {
-        let outcome = of_start(self.core.start_join(candidate, term));
+        let outcome = outcome_of(self.core.start_join(candidate, term));
         let verdict = verdict(&outcome);
         out.act(Act::StartJoin(candidate, term), outcome);
         verdict
@@ -86,7 +84,7 @@ impl<K: Keeper> Coordinator<K> {
         ensures uses { Uses out.old out.new 1 0 0 }
         ensures rest { self.new ≡ record self.old { core = self.new.core } }
     {
-        let outcome = of_join(self.core.join(join));
+        let outcome = outcome_of(self.core.join(join));
         let counted = Counted {
             taken: was_taken(&outcome),
             wins: has_won(&outcome),
@@ -119,7 +117,7 @@ impl<K: Keeper> Coordinator<K> {
             term: self.core.term(),
             version,
         };
-        let outcome = of_value(self.core.client_value(version, config, value));
+        let outcome = outcome_of(self.core.client_value(version, config, value));
         let taken = was_taken(&outcome);
         begin_publication(
             taken,
@@ -150,7 +148,7 @@ impl<K: Keeper> Coordinator<K> {
         ensures uses { Uses out.old out.new 1 0 0 }
         ensures rest { self.new ≡ record self.old { core = self.new.core } }
     {
-        let outcome = of_publish(self.core.publish_request(source, state));
+        let outcome = outcome_of(self.core.publish_request(source, state));
         let verdict = verdict(&outcome);
         let request = PublishRequest {
             source,
@@ -170,7 +168,7 @@ impl<K: Keeper> Coordinator<K> {
         ensures uses { Uses out.old out.new 1 0 0 }
         ensures rest { self.new ≡ record self.old { core = self.new.core; publication = self.new.publication } }
     {
-        let outcome = of_response(self.core.publish_response(response));
+        let outcome = outcome_of(self.core.publish_response(response));
         let commits = has_sent(&outcome);
         count_response(
             was_taken(&outcome),
@@ -197,7 +195,7 @@ impl<K: Keeper> Coordinator<K> {
         ensures tasks { self.new.tasks ≡ self.old.tasks }
     {
         let accepted = self.core.accepted().id();
-        let outcome = of_commit(self.core.commit(commit));
+        let outcome = outcome_of(self.core.commit(commit));
         let verdict = verdict(&outcome);
         finish(
             was_taken(&outcome),

@@ -11,7 +11,7 @@ ghost use Rattle.coordinator.specs.Does.{Does};
 ghost use Rattle.coordinator.specs.Rooms.{Uses};
 ghost use Rattle.coordinator.specs.Views.{IsReady};
 
-use crate::coordinator::{Coordinator, Struck};
+use crate::coordinator::{Acted, Coordinator, Struck};
 use crate::following::follows;
 use crate::output::Output;
 use cluster_state::StateId;
@@ -120,7 +120,7 @@ impl<K: Keeper> Coordinator<K> {
         out: &mut Output,
         leader: NodeId,
         term: u64,
-    ) -> Result<(), Struck>
+    ) -> Acted
         requires ready { IsReady self.old }
         requires steps { 4 ≤ out.old.steps.room }
         requires frames { 2 ≤ out.old.frames.room }
@@ -135,7 +135,7 @@ impl<K: Keeper> Coordinator<K> {
     }
 
     // A leader of the node's term or a later one is followed.
-    fn follow_later(&mut self, out: &mut Output, leader: NodeId, term: u64) -> Result<(), Struck>
+    fn follow_later(&mut self, out: &mut Output, leader: NodeId, term: u64) -> Acted
         requires ready { IsReady self.old }
         requires steps { 4 ≤ out.old.steps.room }
         requires frames { 2 ≤ out.old.frames.room }

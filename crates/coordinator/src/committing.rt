@@ -8,7 +8,7 @@ ghost use Rattle.coordinator.specs.Plans.{IsPlanned, replies_planned};
 ghost use Rattle.coordinator.specs.Rooms.{Uses};
 ghost use Rattle.coordinator.specs.Views.{view_in, IsReady};
 
-use crate::coordinator::{Coordinator, EventError, Struck};
+use crate::coordinator::{Acted, Coordinator, EventError, Struck};
 use crate::output::Output;
 use crate::plan::{Plan, plan_state};
 use cluster_state::{ApplyCommit, StateId};
@@ -67,13 +67,7 @@ impl<K: Keeper> Coordinator<K> {
     }
 
     // Takes the commit, and goes on as planned.
-    fn take_commit(
-        &mut self,
-        out: &mut Output,
-        p: NodeId,
-        id: StateId,
-        plan: Option<Plan>,
-    ) -> Result<(), Struck>
+    fn take_commit(&mut self, out: &mut Output, p: NodeId, id: StateId, plan: Option<Plan>) -> Acted
         requires ready { IsReady self.old }
         requires plan { IsPlannedCommit self.old.settings (view_in K.Keeper self.old) plan }
         requires steps { 3 ≤ out.old.steps.room }

@@ -9,7 +9,7 @@ ghost use Rattle.coordinator.specs.Does.{Does};
 ghost use Rattle.coordinator.specs.Rooms.{Uses};
 ghost use Rattle.coordinator.specs.Views.{IsReady};
 
-use crate::coordinator::{Coordinator, Struck};
+use crate::coordinator::{Acted, Coordinator};
 use crate::output::Output;
 use crate::sending::Broadcast;
 use peer_finder::PeerFinder;
@@ -48,6 +48,14 @@ pub(crate) fn with(ids: NodeSet, id: NodeId) -> NodeSet
     // There is room, so this is no error.
     let _ = more.insert(id);
     more
+}
+
+// What a peer answers where it is asked for peers: the master that it knows, and its term.
+#[derive(Clone, Copy)]
+struct PeerAnswer {
+    from: NodeId,
+    master: Option<NodeId>,
+    term: u64,
 }
 
 // Whether this node is the master.
@@ -137,7 +145,7 @@ impl<K: Keeper> Coordinator<K> {
         master: &Option<NodeId>,
         term: u64,
         known: &NodeSet,
-    ) -> Result<(), Struck>
+    ) -> Acted
         requires ready { IsReady self.old }
         requires steps { 2 ≤ out.old.steps.room }
         requires frames { 1 ≤ out.old.frames.room }
@@ -146,47 +154,40 @@ impl<K: Keeper> Coordinator<K> {
         ensures uses { Uses out.old out.new 2 1 (length self.old.tasks.waiting) }
     {
         self.meet(from, known);
-        self.hear_peer(out, from, master, term)
+        let answer = PeerAnswer {
+            from,
+            master: *master,
+            term,
+        };
+        self.hear_peer(out, &answer)
     }
 
     // A candidate keeps a peer's answer.
-    fn hear_peer(
-        &mut self,
-        out: &mut Output,
-        from: NodeId,
-        master: &Option<NodeId>,
-        term: u64,
-    ) -> Result<(), Struck>
+    fn hear_peer(&mut self, out: &mut Output, answer: &PeerAnswer) -> Acted
         requires ready { IsReady self.old }
         requires steps { 2 ≤ out.old.steps.room }
         requires frames { 1 ≤ out.old.frames.room }
         requires replies { length self.old.tasks.waiting ≤ out.old.replies.room }
-        ensures does { Does K.Keeper self.old self.new out.old out.new (λ s v. hears_peer s v from master.now term) (is_ok result) }
+        ensures does { Does K.Keeper self.old self.new out.old out.new (λ s v. hears_peer s v answer.now.from answer.now.master answer.now.term) (is_ok result) }
         ensures uses { Uses out.old out.new 2 1 (length self.old.tasks.waiting) }
     {
         if is_candidate(self.mode) {
-            self.join_master(out, from, master, term)
+            self.join_master(out, answer)
         } else {
             Ok(())
         }
     }
 
-    fn join_master(
-        &mut self,
-        out: &mut Output,
-        from: NodeId,
-        master: &Option<NodeId>,
-        term: u64,
-    ) -> Result<(), Struck>
+    fn join_master(&mut self, out: &mut Output, answer: &PeerAnswer) -> Acted
         requires ready { IsReady self.old }
         requires steps { 2 ≤ out.old.steps.room }
         requires frames { 1 ≤ out.old.frames.room }
         requires replies { length self.old.tasks.waiting ≤ out.old.replies.room }
-        ensures does { Does K.Keeper self.old self.new out.old out.new (λ s v. then_rule s v (Notes (Heard from master.now) ∷ []) (λ u. seeks_master s u from master.now term)) (is_ok result) }
+        ensures does { Does K.Keeper self.old self.new out.old out.new (λ s v. then_rule s v (Notes (Heard answer.now.from answer.now.master) ∷ []) (λ u. seeks_master s u answer.now.from answer.now.master answer.now.term)) (is_ok result) }
         ensures uses { Uses out.old out.new 2 1 (length self.old.tasks.waiting) }
     {
-        self.hear(from, master);
-        self.seek_master(out, from, master, term)
+        self.hear(answer.from, &answer.master);
+        self.seek_master(out, answer)
     }
 
     // A peer answers with the master that it knows.
@@ -198,28 +199,22 @@ impl<K: Keeper> Coordinator<K> {
     }
 
     // A master is joined: at once where its term is greater, else it is asked for a join.
-    fn seek_master(
-        &mut self,
-        out: &mut Output,
-        from: NodeId,
-        master: &Option<NodeId>,
-        term: u64,
-    ) -> Result<(), Struck>
+    fn seek_master(&mut self, out: &mut Output, answer: &PeerAnswer) -> Acted
         requires ready { IsReady self.old }
         requires steps { 2 ≤ out.old.steps.room }
         requires frames { 1 ≤ out.old.frames.room }
         requires replies { length self.old.tasks.waiting ≤ out.old.replies.room }
-        ensures does { Does K.Keeper self.old self.new out.old out.new (λ s v. seeks_master s v from master.now term) (is_ok result) }
+        ensures does { Does K.Keeper self.old self.new out.old out.new (λ s v. seeks_master s v answer.now.from answer.now.master answer.now.term) (is_ok result) }
         ensures uses { Uses out.old out.new 2 1 (length self.old.tasks.waiting) }
     {
-        if !is_node(*master, from) {
+        if !is_node(answer.master, answer.from) {
             return Ok(());
         }
         let current = self.core.term();
-        if current < term {
-            return self.start_join(out, from, term);
+        if current < answer.term {
+            return self.start_join(out, answer.from, answer.term);
         }
-        self.send(out, from, Message::JoinAsk { term: current });
+        self.send(out, answer.from, Message::JoinAsk { term: current });
         Ok(())
     }
 }

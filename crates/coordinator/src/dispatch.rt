@@ -16,7 +16,7 @@ ghost use Rattle.coordinator.specs.Steps.{Stays, Steps, steps_for, drops_for, fr
 ghost use Rattle.coordinator.specs.declared.step.StepError.TheVariants as step_error;
 ghost use Rattle.coordinator.specs.Views.{IsReady};
 
-use crate::coordinator::{Coordinator, EventError, Struck};
+use crate::coordinator::{Acted, Coordinator, EventError, Struck};
 use crate::output::Output;
 use crate::step::{Sealed, StepError, new_output, seal};
 use client_lines::Line;
@@ -96,12 +96,7 @@ impl<K: Keeper> Coordinator<K> {
     }
 
     // Discovery, a pre-vote, or what starts a join.
-    fn take_of_elections(
-        &mut self,
-        out: &mut Output,
-        p: NodeId,
-        message: &Message,
-    ) -> Result<(), Struck>
+    fn take_of_elections(&mut self, out: &mut Output, p: NodeId, message: &Message) -> Acted
         requires ready { IsReady self.old }
         requires fit { IsFitMessage message.now }
         requires group { group_by message.now ≡ Group.Elections }
@@ -146,12 +141,7 @@ impl<K: Keeper> Coordinator<K> {
     }
 
     // A check, or the answer to one.
-    fn take_of_checks(
-        &mut self,
-        out: &mut Output,
-        p: NodeId,
-        message: &Message,
-    ) -> Result<(), Struck>
+    fn take_of_checks(&mut self, out: &mut Output, p: NodeId, message: &Message) -> Acted
         requires ready { IsReady self.old }
         requires group { group_by message.now ≡ Group.Checks }
         requires steps { 6 ≤ out.old.steps.room }
@@ -196,7 +186,7 @@ impl<K: Keeper> Coordinator<K> {
         p: NodeId,
         message: &Message,
         group: Group,
-    ) -> Result<(), Struck>
+    ) -> Acted
         requires ready { IsReady self.old }
         requires fit { IsFitMessage message.now }
         requires group { group ≡ group_by message.now }

@@ -14,7 +14,7 @@ ghost use Rattle.coordinator.specs.Rooms.{Uses};
 ghost use Rattle.coordinator.specs.Rounds.{stands_alone};
 ghost use Rattle.coordinator.specs.Views.{view_in, IsReady};
 
-use crate::coordinator::{Coordinator, Struck};
+use crate::coordinator::{Acted, Coordinator, Struck};
 use crate::discovery::with;
 use crate::output::Output;
 use crate::sending::Broadcast;
@@ -65,7 +65,7 @@ impl<K: Keeper> Coordinator<K> {
     }
 
     // Takes the first configuration, if it will.
-    fn bootstrap(&mut self, out: &mut Output, initial: Option<Ready>) -> Result<(), Struck>
+    fn bootstrap(&mut self, out: &mut Output, initial: Option<Ready>) -> Acted
         requires ready { IsReady self.old }
         requires initial { IsPlannedInitial self.old.settings (view_in K.Keeper self.old) initial }
         requires steps { 1 ≤ out.old.steps.room }
@@ -82,7 +82,7 @@ impl<K: Keeper> Coordinator<K> {
     }
 
     // Takes the first configuration, if it will, and asks all peers where discovery is due.
-    fn find_peers(&mut self, out: &mut Output, initial: Option<Ready>) -> Result<(), Struck>
+    fn find_peers(&mut self, out: &mut Output, initial: Option<Ready>) -> Acted
         requires ready { IsReady self.old }
         requires initial { IsPlannedInitial self.old.settings (view_in K.Keeper self.old) initial }
         requires steps { 1 ≤ out.old.steps.room }
@@ -105,7 +105,7 @@ impl<K: Keeper> Coordinator<K> {
         out: &mut Output,
         initial: Option<Ready>,
         word: u64,
-    ) -> Result<(), Struck>
+    ) -> Acted
         requires ready { IsReady self.old }
         requires initial { IsPlannedInitial self.old.settings (view_in K.Keeper self.old) initial }
         requires steps { 1 ≤ out.old.steps.room }

@@ -10,7 +10,7 @@ ghost use Rattle.coordinator.specs.Views.{IsReady};
 ghost use Rattle.coordinator.specs.Rooms.{Uses};
 ghost use Rattle.coordinator.specs.Showing.{shown_in, showing};
 
-use crate::coordinator::{Coordinator, Struck};
+use crate::coordinator::{Acted, Coordinator};
 use crate::output::Output;
 use fault_checks::FollowerChecks;
 use master_tasks::MasterTasks;
@@ -70,12 +70,7 @@ impl<K: Keeper> Coordinator<K> {
     }
 
     // Starts a join for a candidate in a term. The join goes to it.
-    pub(crate) fn start_join(
-        &mut self,
-        out: &mut Output,
-        candidate: NodeId,
-        term: u64,
-    ) -> Result<(), Struck>
+    pub(crate) fn start_join(&mut self, out: &mut Output, candidate: NodeId, term: u64) -> Acted
         requires ready { IsReady self.old }
         requires steps { 2 ≤ out.old.steps.room }
         requires frames { 1 ≤ out.old.frames.room }
@@ -102,12 +97,7 @@ impl<K: Keeper> Coordinator<K> {
     }
 
     // The same where the term is above the node's.
-    pub(crate) fn raise_term(
-        &mut self,
-        out: &mut Output,
-        candidate: NodeId,
-        term: u64,
-    ) -> Result<(), Struck>
+    pub(crate) fn raise_term(&mut self, out: &mut Output, candidate: NodeId, term: u64) -> Acted
         requires ready { IsReady self.old }
         requires steps { 2 ≤ out.old.steps.room }
         requires frames { 1 ≤ out.old.frames.room }

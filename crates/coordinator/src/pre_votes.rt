@@ -1,5 +1,6 @@
 //! Pre-votes, asked and answered.
-ghost use Rattle.std.specs.Prelude.{◌≡◌, ◌≤◌, ◌^◌, true};
+ghost use Rattle.std.specs.Prelude.{◌≡◌, ◌≤◌, true};
+ghost use Rattle.cluster_state.specs.Field.{last_number};
 ghost use Rattle.policy_model.specs.Elections.{is_asked_pre_vote, goes_to_election, counts_pre_vote, is_refused_pre_vote};
 ghost use Rattle.coordinator.specs.Does.{Does};
 ghost use Rattle.coordinator.specs.Rooms.{Uses};
@@ -23,7 +24,7 @@ fn count(
     committed: &VotingConfig,
     accepted: &VotingConfig,
 ) -> Option<Added>
-    requires { term ≤ 2 ^ 62 }
+    requires { term ≤ last_number }
     ensures added { result ≡ counted_of round.old from term last committed.now accepted.now }
     ensures round { round.new ≡ round_after round.old from term last }
 {
@@ -64,7 +65,7 @@ impl<K: Keeper> Coordinator<K> {
         term: u64,
         last: StateId,
     )
-        requires term { term ≤ 2 ^ 62 }
+        requires term { term ≤ last_number }
         requires frames { 32 ≤ out.old.frames.room }
         ensures does { Does K.Keeper self.old self.new out.old out.new (λ s v. counts_pre_vote s v v.round from term last) true }
         ensures uses { Uses out.old out.new 0 32 0 }

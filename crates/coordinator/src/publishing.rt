@@ -7,7 +7,7 @@ ghost use Rattle.coordinator.specs.Does.{Does, DoesAll};
 ghost use Rattle.coordinator.specs.Rooms.{Uses};
 ghost use Rattle.coordinator.specs.Views.{IsReady};
 
-use crate::coordinator::{Coordinator, EventError, Struck};
+use crate::coordinator::{Acted, Coordinator, EventError, Struck};
 use crate::output::Output;
 use cluster_state::{ClusterState, StateId};
 use state_journal::{Keeper, Ready};
@@ -38,13 +38,7 @@ impl<K: Keeper> Coordinator<K> {
     }
 
     // A state is accepted, which the entry holds once more.
-    fn accept(
-        &mut self,
-        out: &mut Output,
-        p: NodeId,
-        state: Ready,
-        entry: ClusterState,
-    ) -> Result<(), Struck>
+    fn accept(&mut self, out: &mut Output, p: NodeId, state: Ready, entry: ClusterState) -> Acted
         requires ready { IsReady self.old }
         requires entry { entry ≡ state.state }
         requires steps { 3 ≤ out.old.steps.room }
@@ -71,7 +65,7 @@ impl<K: Keeper> Coordinator<K> {
         p: NodeId,
         state: Ready,
         entry: ClusterState,
-    ) -> Result<(), Struck>
+    ) -> Acted
         requires ready { IsReady self.old }
         requires entry { entry ≡ state.state }
         requires steps { 5 ≤ out.old.steps.room }
@@ -101,10 +95,7 @@ impl<K: Keeper> Coordinator<K> {
         let Ok(entry) = state.copy() else {
             return Err(EventError::Memory);
         };
-        let Ok(copy) = state.copy() else {
-            return Err(EventError::Memory);
-        };
-        let Ok(ready) = Ready::new(out.alloc, copy) else {
+        let Ok(ready) = Ready::of(out.alloc, state) else {
             return Err(EventError::Memory);
         };
         let Ok(()) = out.make_room(self.tasks.open_count(), &None) else {

@@ -142,7 +142,7 @@ fn keep_term(journal: &mut StateJournal<MemDisks>, term: u64) -> Result<(), Faul
 }
 
 fn keep_state(journal: &mut StateJournal<MemDisks>, state: Ready) -> Result<(), Fault> {
-    if state.state.term > journal.kept().term {
+    if state.state().term > journal.kept().term {
         return Err(Fault::Unexpected("a state of a later term"));
     }
     match journal.set_accepted(state) {

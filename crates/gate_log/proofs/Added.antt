@@ -5,7 +5,7 @@ use Rattle.std.proofs.lemmas.List.{get_or_at, get_or-take, drop_more, take-take,
 use Rattle.std.proofs.lemmas.List.Elements.{All-nil, All-push}
 use Rattle.zen_disk.specs.Disk.{written, part, Torn}
 use Rattle.zen_disk.proofs.Files.{torn_refl, torn_written, part_written}
-use Rattle.gate_log.specs.Journal.{header, sized, framed, laid, bodies_of, IsFrame, IsLaid, IsBeforeOrAfter, IsAsBeforeOrNone}
+use Rattle.gate_log.specs.Journal.{header, sized, framed, laid, bodies_of, IsFrame, IsLaid, IsBeforeOrAfter, IsAsBeforeOrNone, most_body}
 use Rattle.gate_log.proofs.Laid.{length-sized, length-framed, laid-push, gate_is, nothing_laid, split, stands_for, laid_from}
 
 -- whatever a write after the gate leaves, the bodies stay
@@ -59,7 +59,7 @@ module _ (bodies : List (List ℕ)) (body frame file : List ℕ) (gate : ℕ) (i
         length-sized body,
       ) in
       laid_from (bodies ++ body ∷ []) c (gate + length frame) 0 rest
-      (All-push (λ (b : List ℕ). length b ≤ 8388608) bodies body is.short framing.short) at whole (λ no. absurd (omega arith))
+      (All-push (λ (b : List ℕ). length b ≤ most_body) bodies body is.short framing.short) at whole (λ no. absurd (omega arith))
 
   -- closed, it does not
   pub still_closed : get_or c gate 0 ≢ 1 → IsLaid bodies c gate
@@ -98,9 +98,6 @@ module _ (bodies : List (List ℕ)) (body frame old file : List ℕ) (gate : ℕ
       ∙ get_or_at (take gate file) 1 (drop (gate + 1) file) 0 gate (length-take-le gate file inside) in
       opened bodies body frame file gate staged framing behind new torn one
 
-  pub still_inside : gate < length file
-  still_inside = staged.inside
-
 -- the first gate is written
 module _ (bodies : List (List ℕ)) (file : List ℕ) (gate : ℕ) (is : IsLaid bodies file gate) (c : List ℕ) (torn : Torn 8 1 file c) where
   past_header : 8 < length file
@@ -114,7 +111,7 @@ module _ (bodies : List (List ℕ)) (file : List ℕ) (gate : ℕ) (is : IsLaid 
   unfolding laid
   emptied shut =
       record {
-        short = All-nil (λ (b : List ℕ). length b ≤ 8388608);
+        short = All-nil (λ (b : List ℕ). length b ≤ most_body);
         front = begins;
         inside = omega
             (arith, past_header, torn.no_shorter);

@@ -9,13 +9,13 @@ use Rattle.gate_log.specs.Generations.{Generations, generations_of, in_use, with
 
 module _ {R W : Type 0} where
   -- where something is found both sides are read
-  record AreRead (side : Side) (zero one : Result R W) (found : R) : Type 0 where
-    both : Sides R
-    first : zero ≡ Ok both.zero
-    second : one ≡ Ok both.one
-    is : on side both ≡ found
+  pub record AreRead (side : Side) (zero one : Result R W) (found : R) : Type 0 where
+    pub both : Sides R
+    pub first : zero ≡ Ok both.zero
+    pub second : one ≡ Ok both.one
+    pub is : on side both ≡ found
 
-  are_read : (side : Side) (zero one : Result R W) (found : R) → read_on side (both_read zero one) ≡ Ok found → AreRead side zero one found
+  pub are_read : (side : Side) (zero one : Result R W) (found : R) → read_on side (both_read zero one) ≡ Ok found → AreRead side zero one found
   are_read side (Ok r) (Ok s) found is = record { both = record { zero = r; one = s }; first = refl; second = refl; is = cc is }
   are_read side (Ok r) (Err why) found is = absurd (cc is)
   are_read side (Err why) one found is = absurd (cc is)

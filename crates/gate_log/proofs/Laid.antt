@@ -8,7 +8,7 @@ use Rattle.std.proofs.lemmas.Nat.{from_be_bytes-to_be_bytes_4}
 use Rattle.std.proofs.lemmas.Bool.{cases_lt, ne_eqb, le-ltb, lt-leb, le-leb, cond-true, cond-false}
 use Rattle.std.proofs.lemmas.List.{get_or_at, take_at, drop_at, drop-drop, drop_more, length-take-le, append-nil}
 use Rattle.std.proofs.lemmas.List.Elements.{All-nil, All-head, All-tail}
-use Rattle.gate_log.specs.Journal.{header, sized, framed, laid, size_at, before_all, bodies_from, bodies_of, IsLaid}
+use Rattle.gate_log.specs.Journal.{header, sized, framed, laid, size_at, before_all, bodies_from, bodies_of, IsLaid, most_body}
 use Rattle.zen_disk.specs.Disk.{Torn}
 
 pub length-sized : (body : List ℕ) → length (sized body) ≡ 4 + length body
@@ -19,7 +19,7 @@ pub length-framed : (body : List ℕ) → length (framed body) ≡ length body +
 unfolding framed
 length-framed body = omega (arith, length-append (sized body) (0 ∷ []), length-sized body)
 
-pub size_at-sized : (body tail : List ℕ) → length body ≤ 8388608 → size_at (sized body ++ tail) ≡ length body
+pub size_at-sized : (body tail : List ℕ) → length body ≤ most_body → size_at (sized body ++ tail) ≡ length body
 unfolding size_at sized
 size_at-sized body tail short = from_be_bytes-to_be_bytes_4 (length body) (omega arith)
 
@@ -39,7 +39,7 @@ unfolding bodies_from
 from_closed k p gate rest shut = cond-false (gate == 1) _ _ (ne_eqb gate 1 shut)
 
 pub from_open : (k p : ℕ) (rest body tail : List ℕ) → size_at rest ≡ length body → drop 4 rest ≡ body ++ tail → 4 ≤ length rest
-    → length body ≤ 8388608 → 0 < length tail
+    → length body ≤ most_body → 0 < length tail
     → bodies_from (suc k) p (1 ∷ rest) ≡ before_all body (bodies_from k (p + 5 + length body) tail)
 unfolding bodies_from
 from_open k p rest body tail size split four short some =
@@ -49,24 +49,24 @@ from_open k p rest body tail size split four short some =
     let body_is : take (size_at rest) (drop 4 rest) ≡ body =
     ap (λ (l : List ℕ). take (size_at rest) l) split ∙ take_at body tail (size_at rest) (sym size) in
     cond-false (nat_lt (length rest) 4) _ _ (le-ltb (length rest) 4 four)
-    ∙ cond-false (nat_lt 8388608 (size_at rest)) _ _ (le-ltb 8388608 (size_at rest) (omega (arith, size)))
+    ∙ cond-false (nat_lt most_body (size_at rest)) _ _ (le-ltb most_body (size_at rest) (omega (arith, size)))
     ∙ cond-false (nat_le (length rest) (4 + size_at rest)) _ _ (lt-leb (length rest) (4 + size_at rest) (omega (arith, size, long)))
     ∙ (λ i. before_all (body_is i) (bodies_from k (p + 5 + size i) (rest_is i)))
 
-pub from_laid : (bodies : List (List ℕ)) (k p gate : ℕ) (rest : List ℕ) → All (λ (body : List ℕ). length body ≤ 8388608) bodies → gate ≢ 1
+pub from_laid : (bodies : List (List ℕ)) (k p gate : ℕ) (rest : List ℕ) → All (λ (body : List ℕ). length body ≤ most_body) bodies → gate ≢ 1
     → length bodies < k → bodies_from k p (laid bodies ++ gate ∷ rest) ≡ Ok bodies
 unfolding laid
 from_laid bodies zero p gate rest short shut fuel = absurd (omega arith)
 from_laid [] (suc k) p gate rest short shut fuel = from_closed k p gate rest shut
 from_laid (body ∷ bodies) (suc k) p gate rest short shut fuel =
-    let here : length body ≤ 8388608 = All-head (λ (b : List ℕ). length b ≤ 8388608) body bodies short in
+    let here : length body ≤ most_body = All-head (λ (b : List ℕ). length b ≤ most_body) body bodies short in
     let tail = laid bodies ++ gate ∷ rest in
     let regroup : (sized body ++ laid bodies) ++ gate ∷ rest ≡ sized body ++ tail = append_assoc (sized body) (laid bodies) (gate ∷ rest) in
     ap (λ (l : List ℕ). bodies_from (suc k) p (1 ∷ l)) regroup
     ∙ from_open k p (sized body ++ tail) body tail (size_at-sized body tail here) (drop-sized body tail)
     (omega (arith, length-append (sized body) tail, length-sized body)) here (omega (arith, length-append (laid bodies) (gate ∷ rest)))
     ∙ ap (before_all body)
-    (from_laid bodies k (p + 5 + length body) gate rest (All-tail (λ (b : List ℕ). length b ≤ 8388608) body bodies short) shut (omega arith))
+    (from_laid bodies k (p + 5 + length body) gate rest (All-tail (λ (b : List ℕ). length b ≤ most_body) body bodies short) shut (omega arith))
 
 pub fewer : (bodies : List (List ℕ)) → length bodies ≤ length (laid bodies)
 unfolding laid
@@ -108,7 +108,7 @@ module _ (bodies : List (List ℕ)) (file : List ℕ) (gate : ℕ) (is : IsLaid 
       ]
 
 -- a file of these parts is laid out
-pub laid_from : (bodies : List (List ℕ)) (file : List ℕ) (gate shut : ℕ) (rest : List ℕ) → All (λ (body : List ℕ). length body ≤ 8388608) bodies
+pub laid_from : (bodies : List (List ℕ)) (file : List ℕ) (gate shut : ℕ) (rest : List ℕ) → All (λ (body : List ℕ). length body ≤ most_body) bodies
     → gate ≡ 8 + length (laid bodies) → file ≡ header ++ laid bodies ++ shut ∷ rest → shut ≢ 1 → IsLaid bodies file gate
 laid_from bodies file gate shut rest short at whole closed =
     let size : length (header ++ laid bodies) ≡ gate = omega (arith, length-append header (laid bodies)) in
@@ -130,4 +130,4 @@ torn_fresh old c short torn = brief c (omega (arith, torn.no_longer, short)) ∙
 
 pub fresh_laid : IsLaid [] (header ++ 0 ∷ []) 8
 unfolding laid
-fresh_laid = record { short = All-nil (λ (b : List ℕ). length b ≤ 8388608); front = refl; inside = lit< tt; closed = λ no. absurd (omega arith) }
+fresh_laid = record { short = All-nil (λ (b : List ℕ). length b ≤ most_body); front = refl; inside = lit< tt; closed = λ no. absurd (omega arith) }

@@ -2,6 +2,7 @@ pub mod Laid
 pub mod Added
 mod Answered
 mod Both
+mod BothRead
 mod Opening
 mod Ordered
 pub mod Settled

@@ -4,7 +4,7 @@ use Rattle.std.specs.Prelude.{◌⊎◌, Result, nat_eq, nat_lt, nat_le}
 use Rattle.std.specs.Result.{result_unwrap_or}
 use Rattle.std.specs.Option.{unwrap_or}
 use Rattle.std.proofs.lemmas.Bool.{cases_lt, cond-true, cond-false, ne_eqb, lt-ltb, le-ltb, lt-leb, le-leb}
-use Rattle.zen_disk.specs.Moments.{Only, Within, LeavesOnly, joins}
+use Rattle.zen_disk.specs.Moments.{Only, Within, LeavesOnly, joins, leaves_also}
 use Rattle.zen_disk.specs.Sides.{Sides, Files, on, other, put, OnlyOn}
 use Rattle.zen_disk.specs.declared.side.Side.{Side}
 use Rattle.zen_disk.specs.declared.side.Side.TheVariants.{Zero, One}
@@ -15,9 +15,10 @@ use Rattle.gate_log.specs.Opening.{IsSideFault, SideWhy, SideRose}
 use Rattle.gate_log.specs.Opened.{lists}
 use Rattle.std.specs.Prelude.{Vec}
 use Rattle.std.specs.declared.alloc.Global.{Global}
-use Rattle.gate_log.specs.Journal.{framed, bodies_of, IsFrame, IsLaid, IsBeforeOrAfter, IsReplaced}
+use Rattle.gate_log.specs.Journal.{framed, bodies_of, IsFrame, IsLaid, IsBeforeOrAfter, IsReplaced, most_body}
 use Rattle.gate_log.specs.Calls.{TornFrom, LeavesOn}
 use Rattle.gate_log.specs.Generations.{Generations, is_generation, epoch_in, has_epoch, misplaced_from, may_begin, disorder, checked, in_order, epoch_of, greater, chosen_by, chosen_of, with_side, both, together, generations_of, in_use, standing_in, no_generations, IsSettledAs, IsSettled, with_bodies, renewed, IsAppended, IsRenewed, IsEitherList, list_in_use, Begins, StandsAsSome}
+use Rattle.gate_log.proofs.Both.{only_both, only_there}
 use Rattle.gate_log.proofs.Laid.{stands_for, torn_fresh, length-framed}
 
 pub generations_by : (side chosen : Side) (b : Sides (List (List ℕ))) (files : Files) → bodies_of (on side files) ≡ Ok (on side b)
@@ -245,6 +246,15 @@ module _ (g : Generations) (seen : Files) (outcomes : Files → Type 0) (side : 
           durable = only;
         }
 
+    -- by an append that wrote this side and no other
+    pub added_settled : (new : Files) (now : Files → Type 0) (next : ℕ) → IsLaid (on side g.bodies ++ body ∷ []) (on side new) next
+        → on (other side) new ≡ on (other side) seen → OnlyOn side (on side new) now
+        → ((file : List ℕ) → OnlyOn (other side) file outcomes → OnlyOn (other side) file now)
+        → IsSettledAs (record { bodies = put side (on side g.bodies ++ body ∷ []) g.bodies; side = side }) new now side next other_gate epoch
+    added_settled new now next laid same here still =
+        let there = still (on (other side) seen) (only_there side seen outcomes is.durable) in
+        appended_settled new now next laid same (only_both side new now here (λ f left. there f left ∙ sym same))
+
   -- what a renewal leaves
   module _ (body : List ℕ) (begins : Begins epoch body) where
     emptied_other : disorder (other side) (on (other side) (put (other side) [] g.bodies)) ≡ None
@@ -290,6 +300,17 @@ module _ (g : Generations) (seen : Files) (outcomes : Files → Type 0) (side : 
           ]
           | inr new ↦ inr (inr (renewed_as c same new ∙ ap Ok is_renewed))
         ]
+
+    -- in a run that writes the other side
+    pub renewal_run : {D : Type 0} (moment : D → ℕ) (left_since : D → ℕ → Files → Type 0) (old new : D) (frame : List ℕ) (written : Side)
+        → IsFrame body frame → written ≡ other side
+        → ((bodies : List (List ℕ)) → (b : List ℕ) → IsFrame b frame → IsLaid bodies (on written seen) other_gate → Only seen outcomes
+        → LeavesOnly moment left_since old new (LeavesOn written (IsReplaced bodies b) seen)) → LeavesOnly moment left_since old new (IsRenewed g body)
+    renewal_run moment left_since old new frame written framing at run =
+        let bodies = on (other side) g.bodies in
+        let laid : IsLaid bodies (on written seen) other_gate = subst (λ (s : Side). IsLaid bodies (on s seen) other_gate) (sym at) is.there in
+        leaves_also moment left_since old new _ (IsRenewed g body) (run bodies body framing laid is.durable)
+        (λ f left. renewal_leaves f (subst (λ (s : Side). LeavesOn s (IsReplaced bodies body) seen f) at left))
 
     pub renewed_settled : (new : Files) (now : Files → Type 0) (next : ℕ) → IsLaid (body ∷ []) (on (other side) new) next
         → on (other (other side)) new ≡ on (other (other side)) seen → Only new now
@@ -445,16 +466,11 @@ pub epoch_read : (side : Side) (vs ws : List (Vec ℕ Global)) (e : Option ℕ) 
     → (disorder side (lists vs) ≡ None → e ≡ epoch_of side (lists vs)) → epoch_of side (lists ws) ≡ e
 epoch_read side vs ws e same ordered is = sym (is (ap (λ l. disorder side (lists l)) same ∙ ordered) ∙ ap (λ l. epoch_of side (lists l)) same)
 
--- the list in use, after an append or a renewal that a crash cut short
-pub appended_list : (g : Generations) (body : List ℕ) (c : Files) → IsAppended g body c → IsEitherList (in_use g) (in_use g ++ body ∷ []) c
-appended_list g body c (inl old) = inl (ap list_in_use old)
-appended_list g body c (inr new) = inr (ap list_in_use new ∙ ap Ok (put_same g.side (in_use g ++ body ∷ []) g.bodies))
-
 pub renewed_list : (g : Generations) (body : List ℕ) (c : Files) → IsRenewed g body c → IsEitherList (in_use g) (body ∷ []) c
 renewed_list g body c (inl old) = inl (ap list_in_use old)
 renewed_list g body c (inr (inl none)) = inl (ap list_in_use none ∙ ap Ok (put_here g.side [] g.bodies))
 renewed_list g body c (inr (inr new)) = inr (ap list_in_use new ∙ ap Ok (put_same (other g.side) (body ∷ []) g.bodies))
 
 -- a frame that is not too long
-pub is_frame : (body frame : List ℕ) → frame ≡ framed body → length frame ≤ 8388608 + 5 → IsFrame body frame
+pub is_frame : (body frame : List ℕ) → frame ≡ framed body → length frame ≤ most_body + 5 → IsFrame body frame
 is_frame body frame is short = record { short = omega (arith, ap length is, length-framed body); bytes = is }

@@ -21,9 +21,13 @@ is_generation (tag ∷ rest) = tag == 4
 unfoldable pub epoch_in : List ℕ → ℕ
 epoch_in body = from_be_bytes w64 (take 8 (drop 1 body))
 
--- it has an epoch from 1 to 2^62
+-- the greatest epoch
+abbrev pub last_epoch : ℕ
+last_epoch = 2 ^ 62
+
+-- it has an epoch from 1 on
 abbrev pub has_epoch : List ℕ → Bool
-has_epoch body = if nat_lt 8 (length body) then (if nat_le 1 (epoch_in body) then nat_le (epoch_in body) (2 ^ 62) else false) else false
+has_epoch body = if nat_lt 8 (length body) then (if nat_le 1 (epoch_in body) then nat_le (epoch_in body) last_epoch else false) else false
 
 -- the gate of the first of these bodies that begins a generation, where the first gate stands at p
 unfoldable pub misplaced_from : ℕ → List (List ℕ) → Option ℕ
@@ -160,7 +164,7 @@ pub record Begins (epoch : ℕ) (body : List ℕ) : Type 0 where
   pub tagged : is_generation body ≡ true
   pub long : 8 < length body
   pub next : epoch_in body ≡ epoch + 1
-  pub limit : epoch + 1 ≤ 2 ^ 62
+  pub limit : epoch + 1 ≤ last_epoch
 
 -- the bytes of these bodies with their lengths and gates, without a first that begins a generation
 abbrev pub tail_of : List (List ℕ) → ℕ

@@ -1,11 +1,11 @@
 -- Part of the statement: where a journal stands: the side in use, its closed gate and that of the other side, its epoch and its tail.
-use Rattle.std.specs.Prelude.{ℕ, ◌+◌, ◌-◌, ◌^◌, nat_lt, ◌&&◌, Bool, List, length}
+use Rattle.std.specs.Prelude.{ℕ, ◌+◌, ◌-◌, nat_lt, ◌&&◌, Bool, List, length}
 use Rattle.std.specs.Option.{unwrap_or}
 use Rattle.zen_disk.specs.Sides.{on, other}
 use Rattle.zen_disk.specs.declared.disks.Disks.{Ghosts}
 use Rattle.zen_disk.specs.declared.side.Side.{Side}
 use Rattle.gate_log.specs.Journal.{laid}
-use Rattle.gate_log.specs.Generations.{Generations, in_use, epoch_of, tail_of}
+use Rattle.gate_log.specs.Generations.{Generations, in_use, epoch_of, tail_of, last_epoch}
 use Rattle.gate_log.specs.declared.log.GateLog.{GateLog}
 
 pub record Place : Type 0 where
@@ -35,6 +35,10 @@ place_of g = record {
 abbrev pub place : {D : Type 0} {disks : Ghosts D} → GateLog D disks → Place
 place log = record { side = log.side; gate = log.gate; other_gate = log.other_gate; epoch = log.epoch; tail = log.gate - log.start }
 
--- whether the next body begins a generation: its tail would be over 65,536 bytes, and there is a next epoch
+-- how many bytes the tail of a file has at most, before the next generation begins
+abbrev pub most_tail : ℕ
+most_tail = 65536
+
+-- whether the next body begins a generation: the tail would be too long with it, and there is a next epoch
 abbrev pub renews : Place → List ℕ → Bool
-renews p body = nat_lt 65536 (p.tail + 5 + length body) && nat_lt p.epoch (2 ^ 62)
+renews p body = nat_lt most_tail (p.tail + 5 + length body) && nat_lt p.epoch last_epoch

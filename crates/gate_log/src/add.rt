@@ -1,5 +1,6 @@
 //! A body added at the end of a side: two writes, each synced, of which the second opens its gate.
 ghost use Rattle.std.specs.Prelude.{◌≡◌, ◌+◌, ◌^◌, ◌≤◌, ◌<◌, [], ◌∷◌, ◌++◌, List, ℕ, length, is_ok, OnOk};
+ghost use Rattle.zen_disk.specs.Disk.{most_file_bytes};
 ghost use Rattle.zen_disk.specs.DeviceCall.{Write, Sync};
 ghost use Rattle.zen_disk.specs.Runs.{CallsMade};
 ghost use Rattle.zen_disk.specs.Faults.{HasCause};
@@ -25,7 +26,7 @@ pub(crate) fn add_record<D: Disks>(
     ensures elsewhere { on (other side) (D.seen disk.new) ≡ on (other side) (D.seen disk.old) }
     ensures durable { OnOk result (OnlyOn side (on side (D.seen disk.new)) (D.may_leave disk.new)) }
     ensures still { (file : List ℕ) → OnlyOn (other side) file (D.may_leave disk.old) → OnlyOn (other side) file (D.may_leave disk.new) }
-    ensures limit { OnOk result (gate + 1 + length frame.now ≤ 2 ^ 62) }
+    ensures limit { OnOk result (gate + 1 + length frame.now ≤ most_file_bytes) }
 
     // A crash at any moment of the call leaves the bodies from before it, with the new one or without.
     ensures any_moment { D.told → (bodies : List (List ℕ)) → (body : List ℕ) → IsFrame body frame.now → IsLaid bodies (on side (D.seen disk.old)) gate

@@ -24,4 +24,5 @@ mod why;
 
 pub use error::{AppendError, LogError};
 pub use log::{GateLog, Opened};
-pub use why::{Fault, Why};
+pub use order::LAST_EPOCH;
+pub use why::{Fault, Why, mark_of};

@@ -1,7 +1,7 @@
 //! `GateLog`: the journal of bodies in two files, open on a disk.
 ghost use Rattle.std.specs.Prelude.{is_ok, Ok, Some, ◌≡◌, ◌+◌, ◌^◌, ◌≤◌, ◌<◌, ◌↔◌, true, false, [], ◌∷◌, ◌++◌, List, ℕ, length, OnOk, IfOk, IfErr, IsErrOf, IsErr};
 ghost use Rattle.gate_log.specs.Generations.{generations_of, standing_in, in_use, is_generation, renewed, tail_of, IsSettled, IsRenewed, IsEitherList, Begins};
-ghost use Rattle.gate_log.specs.Journal.{framed, IsFrame};
+ghost use Rattle.gate_log.specs.Journal.{framed, IsFrame, most_body};
 ghost use Rattle.zen_disk.specs.Moments.{LeavesOnly, Same};
 ghost use Rattle.zen_disk.specs.Runs.{CallsMade};
 ghost use Rattle.zen_disk.specs.Sides.{on, other};
@@ -16,7 +16,7 @@ use crate::{AppendError, LogError};
 use std::alloc::Global;
 use zen_disk::{Armable, Disks, Order, Side};
 
-const MAX_BODY: usize = 8_388_608;
+pub(crate) const MAX_BODY: usize = 8_388_608;
 
 // A length before it and a closed gate after it.
 const MAX_FRAME: usize = MAX_BODY + 5;
@@ -139,7 +139,7 @@ impl<D: Disks> GateLog<D> {
     pub fn append(&mut self, body: &[u8]) -> Result<(), AppendError>
         requires { is_generation body.now ≡ false }
         ensures appends { Appends D.Disks body.now self.old self.new result }
-        ensures too_long { IsErrOf result AppendError.TooLong ↔ ((self.old.stopped ≡ false) × (8388608 < length body.now)) }
+        ensures too_long { IsErrOf result AppendError.TooLong ↔ ((self.old.stopped ≡ false) × (most_body < length body.now)) }
     {
         if self.stopped {
             return Err(AppendError::Stopped);
@@ -171,7 +171,7 @@ impl<D: Disks> GateLog<D> {
     pub fn append_framed(&mut self, frame: &[u8]) -> Result<(), AppendError>
         requires { (body : List ℕ) × (frame.now ≡ framed body) × (is_generation body ≡ false) }
         ensures appends { (body : List ℕ) → frame.now ≡ framed body → is_generation body ≡ false → Appends D.Disks body self.old self.new result }
-        ensures too_long { IsErrOf result AppendError.TooLong ↔ ((self.old.stopped ≡ false) × (8388608 + 5 < length frame.now)) }
+        ensures too_long { IsErrOf result AppendError.TooLong ↔ ((self.old.stopped ≡ false) × (most_body + 5 < length frame.now)) }
         ensures only { IsErrOf result AppendError.Memory → ⊥ }
     {
         if self.stopped {
@@ -208,7 +208,7 @@ impl<D: Disks> GateLog<D> {
         ensures ok { D.told → (body : List ℕ) → frame.now ≡ framed body → Begins self.old.epoch body
             → OnOk result (standing_in (D.seen self.new.disk) ≡ renewed (standing_in (D.seen self.old.disk)) body) }
         ensures answers { Answers D.Disks self.old self.new result }
-        ensures too_long { IsErrOf result AppendError.TooLong ↔ ((self.old.stopped ≡ false) × (8388608 + 5 < length frame.now)) }
+        ensures too_long { IsErrOf result AppendError.TooLong ↔ ((self.old.stopped ≡ false) × (most_body + 5 < length frame.now)) }
         ensures only { IsErrOf result AppendError.Memory → ⊥ }
         ensures epoch { OnOk result (self.new.epoch ≡ self.old.epoch + 1) }
         ensures side { OnOk result (self.new.side ≡ other self.old.side) }

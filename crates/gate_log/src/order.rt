@@ -7,7 +7,8 @@ ghost use Rattle.gate_log.specs.Opened.{lists};
 use crate::Why;
 use zen_disk::Side;
 
-const MAX_EPOCH: u64 = 1 << 62;
+/// The greatest epoch.
+pub const LAST_EPOCH: u64 = 1 << 62;
 
 fn is_generation(body: &[u8]) -> bool
     ensures { result ≡ spec_is_generation body.now }
@@ -31,7 +32,7 @@ fn has_epoch(body: &[u8]) -> bool
         return false;
     }
     let epoch = read_epoch(body);
-    1 <= epoch && epoch <= MAX_EPOCH
+    1 <= epoch && epoch <= LAST_EPOCH
 }
 
 // Whether a body may stand first on this side.

@@ -1,5 +1,6 @@
 //! A generation begun on the side that is not in use.
-ghost use Rattle.std.specs.Prelude.{◌≡◌, ◌+◌, ◌^◌, ◌≤◌, ◌<◌, [], ◌∷◌, List, ℕ, length, is_ok, OnOk};
+ghost use Rattle.std.specs.Prelude.{◌≡◌, ◌+◌, ◌≤◌, ◌<◌, [], ◌∷◌, List, ℕ, length, is_ok, OnOk};
+ghost use Rattle.zen_disk.specs.Disk.{most_file_bytes};
 ghost use Rattle.zen_disk.specs.Runs.{CallsMade};
 ghost use Rattle.zen_disk.specs.Faults.{HasCause};
 ghost use Rattle.zen_disk.specs.Moments.{Only, LeavesOnly};
@@ -47,7 +48,7 @@ pub(crate) fn write_generation<D: Disks>(
     ensures elsewhere { on (other side) (D.seen disk.new) ≡ on (other side) (D.seen disk.old) }
     ensures durable { OnOk result (OnlyOn side (on side (D.seen disk.new)) (D.may_leave disk.new)) }
     ensures still { (file : List ℕ) → OnlyOn (other side) file (D.may_leave disk.old) → OnlyOn (other side) file (D.may_leave disk.new) }
-    ensures limit { OnOk result (9 + length frame.now ≤ 2 ^ 62) }
+    ensures limit { OnOk result (9 + length frame.now ≤ most_file_bytes) }
 
     // A crash at any moment of the call leaves the bodies that were there, or none, or this one alone.
     ensures any_moment { D.told → (bodies : List (List ℕ)) → (body : List ℕ) → IsFrame body frame.now → IsLaid bodies (on side (D.seen disk.old)) gate

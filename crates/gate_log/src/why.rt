@@ -1,5 +1,7 @@
 //! Why two files are no journal, as types and as text.
-use std::fmt;
+ghost use Rattle.std.specs.Prelude.{◌≡◌, [], codes};
+ghost use Rattle.zen_disk.specs.declared.side.Side.TheVariants.{Zero, One};
+
 use thiserror::Error;
 use zen_disk::Side;
 
@@ -21,23 +23,25 @@ pub enum Fault {
 }
 
 /// Why two files are no journal: their first fault, that of side zero before that of side one, and `Twin` last.
-#[derive(Clone, Copy, Debug, PartialEq, Eq)]
+///
+/// It is written as `Cut(8)` on side zero, `1:Cut(8)` on side one, and `Twin`.
+#[derive(Clone, Copy, Debug, PartialEq, Eq, Error)]
 pub enum Why {
     /// The fault of this side.
+    #[error("{mark}{1}", mark = mark_of(.0))]
     At(Side, Fault),
     /// Both sides have one epoch.
+    #[error("Twin")]
     Twin,
 }
 
-/// As `Cut(8)` on side zero, `1:Cut(8)` on side one, and `Twin`.
-impl fmt::Display for Why {
-    fn fmt<W: fmt::Write>(&self, f: &mut fmt::Formatter<W>) -> fmt::Result {
-        match *self {
-            Why::At(Side::Zero, fault) => write!(f, "{fault}"),
-            Why::At(Side::One, fault) => write!(f, "1:{fault}"),
-            Why::Twin => write!(f, "Twin"),
-        }
+/// What is written before a fault of this side: nothing, or `1:`.
+pub fn mark_of(side: &Side) -> &'static str
+    ensures zero { side.now ≡ Zero → result.now ≡ [] }
+    ensures one { side.now ≡ One → result.now ≡ codes "1:" }
+{
+    match *side {
+        Side::Zero => "",
+        Side::One => "1:",
     }
 }
-
-impl std::error::Error for Why {}

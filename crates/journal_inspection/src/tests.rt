@@ -61,7 +61,8 @@ fn inspected(
     let failing_calls = Vec::from_slice(alloc, failing.disk)?;
     let zero = Vec::from_slice(alloc, zero)?;
     let disk = MemDisks::new(alloc, zero, Vec::from_slice(alloc, one)?, failing_calls);
-    let mut host = MemHost::new(alloc, disk, Vec::from_slice(alloc, failing.host)?);
+    let fails = Vec::from_slice(alloc, failing.host)?;
+    let mut host = MemHost::with_children(alloc, disk, Vec::new(alloc), fails);
     let mut sink = MemSink::new(alloc, 100, Vec::from_slice(alloc, failing.sink)?);
     let end = inspect(alloc, "a", &mut sink, &mut host);
     Ok(Ended { end, sink, host })

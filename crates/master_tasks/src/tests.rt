@@ -7,7 +7,7 @@ use std::alloc::{AllocError, Global};
 use std::test::*;
 use voting_config::{NodeId, NodeSet, VotingConfig};
 
-// What a client wishes, as it stands in a table. Nodes are letters.
+// What a client wishes, as it stands in a table.
 #[derive(Clone, Copy)]
 enum Wish {
     Put(&'static str, &'static str),
@@ -21,19 +21,12 @@ fn id(text: &str) -> NodeId {
     NodeId::parse(text).unwrap_or_default()
 }
 
-// The ids that are the letters of a text.
-fn letters(text: &str) -> NodeSet {
-    let mut ids = NodeSet::new();
-    for letter in text.as_bytes() {
-        if let Some(id) = NodeId::from_bytes(&[*letter]) {
-            let _ = ids.insert(id);
-        }
-    }
-    ids
+fn set(text: &str) -> NodeSet {
+    NodeSet::parse(text).unwrap_or(NodeSet::new())
 }
 
 fn config(text: &str) -> VotingConfig {
-    VotingConfig::of(&letters(text))
+    VotingConfig::of(&set(text))
 }
 
 fn text(alloc: Global, text: &str) -> Result<Text, AllocError> {
@@ -49,7 +42,7 @@ fn request(alloc: Global, id: u64, wish: Wish) -> Result<Request, AllocError> {
         Wish::Remove(key) => Ask::Remove {
             key: text(alloc, key)?,
         },
-        Wish::Exclude(nodes) => Ask::Exclude(letters(nodes)),
+        Wish::Exclude(nodes) => Ask::Exclude(set(nodes)),
         Wish::Clear { wait } => Ask::Clear {
             wait_for_removal: wait,
         },
@@ -81,8 +74,8 @@ fn state(
         committed: config(voters),
         value: ClusterValue {
             master: Some(id("a")),
-            members: letters(members),
-            exclusions: letters(exclusions),
+            members: set(members),
+            exclusions: set(exclusions),
             settings,
         },
     })
@@ -165,7 +158,7 @@ fn next(
     term: u64,
     accepted: &ClusterState,
 ) -> Result<Vec<u8>, AllocError> {
-    let votes = letters("abcd");
+    let votes = set("a,b,c,d");
     let next = tasks.next_state(id("a"), term, accepted, &accepted.config, &votes, true)?;
     told(alloc, &next)
 }
@@ -209,53 +202,53 @@ fn came(alloc: Global, voters: &str, exclusions: &str, wishes: &[Wish]) -> Resul
         id = id.wrapping_add(1);
         take(alloc, &mut tasks, 0, id, *wish)?;
     }
-    let accepted = state(alloc, voters, "abc", exclusions)?;
+    let accepted = state(alloc, voters, "a,b,c", exclusions)?;
     Ok(next(alloc, &mut tasks, 1, &accepted)?)
 }
 
 #[test]
 fn requests_make_this_state_or_get_this_answer(rt: HostRuntime) -> Result<(), Fail> {
     for (voters, exclusions, wishes, want) in [
-        ("abc", "", [Wish::State].as_slice(), "same, 1 state 1/1"),
+        ("a,b,c", "_", [Wish::State].as_slice(), "same, 1 state 1/1"),
         (
-            "abc",
-            "",
+            "a,b,c",
+            "_",
             [Wish::Put("v", "x")].as_slice(),
             "same, 1 acked 1/1",
         ),
         (
-            "abc",
-            "",
+            "a,b,c",
+            "_",
             [Wish::Put("w", "1"), Wish::Put("w", "2")].as_slice(),
             "abc {\"exclusions\":[],\"master\":\"a\",\"members\":[\"a\",\"b\",\"c\"],\"settings\":{\"v\":\"x\",\"w\":\"2\"}}",
         ),
         (
-            "abc",
-            "",
+            "a,b,c",
+            "_",
             [Wish::Remove("w")].as_slice(),
             "same, 1 acked 1/1",
         ),
         (
-            "abc",
-            "",
+            "a,b,c",
+            "_",
             [Wish::Remove("v")].as_slice(),
             "abc {\"exclusions\":[],\"master\":\"a\",\"members\":[\"a\",\"b\",\"c\"],\"settings\":{}}",
         ),
         (
-            "abc",
-            "",
+            "a,b,c",
+            "_",
             [Wish::Exclude("x")].as_slice(),
             "same, 1 not member x",
         ),
         (
-            "abc",
-            "defghijklm",
+            "a,b,c",
+            "d,e,f,g,h,i,j,k,l,m",
             [Wish::Exclude("c")].as_slice(),
             "same, 1 too many exclusions 11",
         ),
         (
-            "abc",
-            "",
+            "a,b,c",
+            "_",
             [Wish::Exclude("c")].as_slice(),
             "ab {\"exclusions\":[\"c\"],\"master\":\"a\",\"members\":[\"a\",\"b\",\"c\"],\"settings\":{\"v\":\"x\"}}",
         ),
@@ -278,8 +271,8 @@ fn requests_make_this_state_or_get_this_answer(rt: HostRuntime) -> Result<(), Fa
             "abc {\"exclusions\":[],\"master\":\"a\",\"members\":[\"a\",\"b\",\"c\"],\"settings\":{\"v\":\"x\"}}",
         ),
         (
-            "ab",
-            "",
+            "a,b",
+            "_",
             [].as_slice(),
             "abc {\"exclusions\":[],\"master\":\"a\",\"members\":[\"a\",\"b\",\"c\"],\"settings\":{\"v\":\"x\"}}",
         ),
@@ -293,7 +286,7 @@ fn requests_make_this_state_or_get_this_answer(rt: HostRuntime) -> Result<(), Fa
 #[test]
 fn an_accepted_state_of_an_older_term_is_published_anew(rt: HostRuntime) -> Result<(), Fail> {
     let mut tasks = MasterTasks::new(rt.alloc());
-    let accepted = state(rt.alloc(), "abc", "abc", "")?;
+    let accepted = state(rt.alloc(), "a,b,c", "a,b,c", "_")?;
     let text = next(rt.alloc(), &mut tasks, 2, &accepted)?;
     let want =
         "abc {\"exclusions\":[],\"master\":\"a\",\"members\":[\"a\",\"b\",\"c\"],\"settings\":{\"v\":\"x\"}}";
@@ -303,7 +296,7 @@ fn an_accepted_state_of_an_older_term_is_published_anew(rt: HostRuntime) -> Resu
 
 #[test]
 fn a_1025th_setting_is_refused(rt: HostRuntime) -> Result<(), Fail> {
-    let mut accepted = state(rt.alloc(), "abc", "abc", "")?;
+    let mut accepted = state(rt.alloc(), "a,b,c", "a,b,c", "_")?;
     for number in 1..1024u64 {
         let key = format!(in rt.alloc(); "{number}")?;
         accepted.value.settings.put(key.as_str(), "")?;
@@ -325,7 +318,7 @@ fn new_members(
     tasks: &mut MasterTasks,
     accepted: &ClusterState,
 ) -> Result<Option<NodeSet>, AllocError> {
-    let votes = letters("abc");
+    let votes = set("a,b,c");
     match tasks.next_state(id("a"), 2, accepted, &accepted.config, &votes, true)? {
         Next::Same(_) => Ok(None),
         Next::New { value, .. } => Ok(Some(value.members)),
@@ -335,31 +328,31 @@ fn new_members(
 // The members after some are to go and others to come.
 fn changed(alloc: Global, members: &str, removals: &str, additions: &str) -> Result<NodeSet, Fail> {
     let mut tasks = MasterTasks::new(alloc);
-    for id in letters(removals).as_slice() {
+    for id in set(removals).as_slice() {
         tasks.drop_member(*id);
     }
-    for id in letters(additions).as_slice() {
+    for id in set(additions).as_slice() {
         tasks.add_member(*id);
     }
-    let accepted = state(alloc, "abc", members, "")?;
+    let accepted = state(alloc, "a,b,c", members, "_")?;
     let members = new_members(&mut tasks, &accepted)?.ok_or("a new value")?;
     Ok(members)
 }
 
 #[test]
 fn members_leave_and_join_up_to_32(rt: HostRuntime) -> Result<(), Fail> {
-    let all = "bcdefghijklmnopqrstuvwxyz0123456";
-    let others = "acdefghijklmnopqrstuvwxyz0123456";
+    let all = "0,1,2,3,4,5,6,b,c,d,e,f,g,h,i,j,k,l,m,n,o,p,q,r,s,t,u,v,w,x,y,z";
+    let others = "0,1,2,3,4,5,6,a,c,d,e,f,g,h,i,j,k,l,m,n,o,p,q,r,s,t,u,v,w,x,y,z";
     for (members, removals, additions, want) in [
-        ("abc", "", "d", "abcd"),
-        ("abc", "b", "", "ac"),
-        ("abc", "a", "", "abc"),
-        ("abc", "b", "b", "abc"),
-        (all, "", "a", all),
-        (all, "b", "7a", others),
+        ("a,b,c", "_", "d", "a,b,c,d"),
+        ("a,b,c", "b", "_", "a,c"),
+        ("a,b,c", "a", "_", "a,b,c"),
+        ("a,b,c", "b", "b", "a,b,c"),
+        (all, "_", "a", all),
+        (all, "b", "7,a", others),
     ] {
         let members = changed(rt.alloc(), members, removals, additions)?;
-        let want = letters(want);
+        let want = set(want);
         assert!(rt;
             members.as_slice() == want.as_slice(),
             "{removals} {additions}"
@@ -371,11 +364,11 @@ fn members_leave_and_join_up_to_32(rt: HostRuntime) -> Result<(), Fail> {
 #[test]
 fn a_33rd_member_is_left_out(rt: HostRuntime) -> Result<(), Fail> {
     let mut tasks = MasterTasks::new(rt.alloc());
-    for id in letters("bcdefghijklmnopqrstuvwxyz0123456").as_slice() {
+    for id in set("0,1,2,3,4,5,6,b,c,d,e,f,g,h,i,j,k,l,m,n,o,p,q,r,s,t,u,v,w,x,y,z").as_slice() {
         tasks.add_member(*id);
     }
     tasks.add_member(id("a"));
-    let accepted = state(rt.alloc(), "c", "", "")?;
+    let accepted = state(rt.alloc(), "c", "_", "_")?;
     let members = new_members(&mut tasks, &accepted)?.ok_or("a new value")?;
     assert_eq!(rt; members.len(), 32);
     assert!(rt; !members.contains(id("a")));
@@ -387,7 +380,7 @@ fn three(alloc: Global) -> Result<MasterTasks, Fail> {
     let mut tasks = MasterTasks::new(alloc);
     take(alloc, &mut tasks, 0, 1, Wish::Put("w", "1"))?;
     take(alloc, &mut tasks, 0, 2, Wish::Exclude("b"))?;
-    let accepted = state(alloc, "abc", "abc", "")?;
+    let accepted = state(alloc, "a,b,c", "a,b,c", "_")?;
     let _ = next(alloc, &mut tasks, 1, &accepted)?;
     take(alloc, &mut tasks, 1, 3, Wish::Exclude("x"))?;
     Ok(tasks)
@@ -408,18 +401,18 @@ fn each_occasion_answers_its_requests(rt: HostRuntime) -> Result<(), Fail> {
     assert!(rt; tasks.open_count() <= out.room());
     tasks.ack_committed(id, &mut out);
     assert!(rt; tasks.open_count() <= out.room());
-    tasks.ack_exclusions(&config("abc"), id, &mut out);
+    tasks.ack_exclusions(&config("a,b,c"), id, &mut out);
     assert!(rt; tasks.open_count() <= out.room());
-    tasks.time_out_exclusions(&config("abc"), 29_999, &mut out);
+    tasks.time_out_exclusions(&config("a,b,c"), 29_999, &mut out);
     assert_eq!(rt; tasks.open_count(), 2);
     assert!(rt; tasks.open_count() <= out.room());
-    tasks.ack_exclusions(&config("ac"), id, &mut out);
+    tasks.ack_exclusions(&config("a,c"), id, &mut out);
     assert!(rt; tasks.open_count() <= out.room());
-    tasks.time_out_exclusions(&config("abc"), 30_001, &mut out);
+    tasks.time_out_exclusions(&config("a,b,c"), 30_001, &mut out);
     assert_eq!(rt; tasks.open_count(), 0);
     let mut tasks = three(rt.alloc())?;
     assert!(rt; tasks.open_count() <= out.room());
-    tasks.time_out_exclusions(&config("abc"), 30_000, &mut out);
+    tasks.time_out_exclusions(&config("a,b,c"), 30_000, &mut out);
     let mut all = Replies::with_room(rt.alloc(), 12)?;
     assert!(rt; out.as_slice().len() <= all.room());
     all.append(out);

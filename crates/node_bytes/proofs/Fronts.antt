@@ -6,29 +6,12 @@ use Rattle.cluster_state.specs.Field.{byte_at}
 use Rattle.cluster_state.specs.Fields.{id}
 use Rattle.cluster_state.proofs.StateLaws.{id_law}
 use Rattle.wire_frames.specs.declared.frame.Kind.{Kind}
-use Rattle.wire_frames.specs.declared.frame.Kind.TheVariants as kind
 use Rattle.wire_frames.specs.declared.frame.Frame.{Frame}
 use Rattle.wire_frames.specs.Kinds.{code, kind_of, kind_of_message}
 use Rattle.wire_frames.specs.Frames.{four_bytes, SpellsFrame}
+use Rattle.wire_frames.proofs.FrameLaws.{kind_of_code}
 use Rattle.wire_frames.proofs.Spelled.{length-four, rest-four}
 use Rattle.node_bytes.specs.Senders.{id_read, sender_behind, sender_in_body, sender_of}
-
-kind_of_code : (k : Kind) → kind_of (code k) ≡ Some k
-kind_of_code kind.StartJoin = refl
-kind_of_code kind.Join = refl
-kind_of_code kind.Publish = refl
-kind_of_code kind.Response = refl
-kind_of_code kind.Commit = refl
-kind_of_code kind.JoinAsk = refl
-kind_of_code kind.PeersAsk = refl
-kind_of_code kind.PeersAnswer = refl
-kind_of_code kind.PreVoteAsk = refl
-kind_of_code kind.PreVoteAnswer = refl
-kind_of_code kind.PreVoteRefuse = refl
-kind_of_code kind.FollowerCheck = refl
-kind_of_code kind.FollowerAnswer = refl
-kind_of_code kind.LeaderCheck = refl
-kind_of_code kind.LeaderAnswer = refl
 
 -- after a length, the byte of a kind and an id, whatever comes
 named : (size : ℕ) (k : Kind) (from : Id) (rest : List ℕ) → id.Fits from → sender_of (four_bytes size ++ (code k ∷ (id.spelling from ++ rest))) ≡ Some from

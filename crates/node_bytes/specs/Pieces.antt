@@ -1,5 +1,6 @@
 -- For the contracts inside: the pieces of what a node sends: its frames, and then its replies.
 use Rattle.std.specs.Prelude.{◌≡◌, ℕ, ◌-◌, List, [], ◌∷◌, ◌++◌, length, slice_get, Option, Some, None, IsSome, IfSome, IsSomeAnd}
+use Rattle.voting_config.specs.Lists.{line_feed}
 use Rattle.host_io.specs.declared.framing.Piece.{Piece}
 use Rattle.host_io.specs.declared.framing.Target.TheVariants.{Node, Connection}
 use Rattle.client_lines.specs.Replies.{reply_text}
@@ -20,7 +21,7 @@ pub record IsPieceOfFrame (frame : Frame) (piece : Option Piece) : Type 0 where
 -- it goes to the connection of the request, and its bytes are the reply's text and a line feed
 pub record IsPieceOfReply (reply : Outgoing) (piece : Piece) : Type 0 where
   pub to : piece.to ≡ Connection reply.conn
-  pub bytes : piece.bytes ≡ reply_text reply.reply ++ 10 ∷ []
+  pub bytes : piece.bytes ≡ reply_text reply.reply ++ line_feed ∷ []
 
 -- the piece of a reply, where there is one
 abbrev pub PieceOfReply : Option Outgoing → Option Piece → Type 0

@@ -1,6 +1,7 @@
 //! Whether what a node sends is within the limits of frames.
-ghost use Rattle.std.specs.Prelude.{◌≤◌, ◌^◌, ◌↔◌, IsTrue, map, length};
+ghost use Rattle.std.specs.Prelude.{◌≤◌, ◌↔◌, IsTrue, map, length};
 ghost use Rattle.std.specs.List.{AllByRecursion};
+ghost use Rattle.cluster_state.specs.Field.{last_number};
 ghost use Rattle.cluster_state.specs.Fields.{IsFitSetting, AreFitSettings};
 ghost use Rattle.cluster_state.specs.Settings.{setting_of};
 ghost use Rattle.cluster_state.specs.States.{IsFit, IsFitValue};
@@ -15,7 +16,7 @@ use std::collections::BTreeMap;
 use wire_frames::{Frame, Message};
 
 fn is_fit_number(number: u64) -> bool
-    ensures { IsTrue result ↔ (number ≤ 2 ^ 62) }
+    ensures { IsTrue result ↔ (number ≤ last_number) }
 {
     number <= LAST_NUMBER
 }

@@ -54,7 +54,7 @@ module _ {K : Type 0} (k : Ghosts K)
     only : (found : Option Kept) → k.left_since keeper since found → IsRecordOf true g found
 
   abbrev Stands : CoordState K → NodeHistory → Type 0
-  Stands c g = StandsFor k.record_of k.has_stopped k.faults c g
+  Stands c g = StandsFor k c g
 
   -- the record that is kept is that of the acts
   pub kept_is : (c : CoordState K) (g : NodeHistory) → Stands c g → k.record_of c.keeper ≡ durable_of g

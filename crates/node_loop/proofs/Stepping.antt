@@ -71,7 +71,7 @@ module _ {C K : Type 0} (k : Ghosts K)
     (only_kept : (keeper : K) (found : Option Kept) → k.told → k.has_stopped keeper ≡ false → k.left_since keeper (k.moment keeper) found → found ≡ Some (k.record_of keeper))
     (node_in : C → Coordinator K) (told_in : C → Option Told) where
   -- the acts that the node's core stands for
-  abbrev core_stands : (c : C) (life : Life) → StandsForLife k (node_in c) life → StandsFor k.record_of k.has_stopped k.faults (node_in c).core (acts_of (log_of life))
+  abbrev core_stands : (c : C) (life : Life) → StandsForLife k (node_in c) life → StandsFor k (node_in c).core (acts_of (log_of life))
   core_stands c life stands = ap (λ (v : View). v.node) stands
 
   abbrev stands_in : C → Settings → Life → Type 0

@@ -181,16 +181,16 @@ module _ {X : Type 0} (output : X → Output) (text : Life → Entry → List �
         struck = λ is. subst (λ l. is_struck l ≡ true) end_life (b.struck is);
       }
 
-  -- nothing happens
-  pub rests : (life : Life) (end : Option End) (o : Option (List ℕ)) (w0 w1 : Option (List (Traffic X))) (stands : Life → Type 0)
-      → (end ≡ Some ends.Disk → ⊥) → stands life → IsUp life → w1 ≡ w0 → Tells output text s life [] end o o w0 w1 stands
-  rests life end o w0 w1 stands other lives up same = record {
+  -- nothing is said
+  unsaid : (life : Life) (c : List Mark) (end : Option End) (o : Option (List ℕ)) (w0 w1 : Option (List (Traffic X))) (stands : Life → Type 0)
+      → flat_map happened_in c ≡ [] → (end ≡ Some ends.Disk → ⊥) → stands life → IsUp life → Grows output w0 w1 (moves_of c []) → Tells output text s life c end o o w0 w1 stands
+  unsaid life c end o w0 w1 stands quiet other lives up told = record {
     said = [];
     unsaid = [];
     left = [];
     part = [];
     rest = [];
-    reports = refl;
+    reports = subst (λ h. Reported h [] []) (sym quiet) refl;
     follows = tt;
     lives = lives;
     up = λ on. up;
@@ -199,31 +199,20 @@ module _ {X : Type 0} (output : X → Output) (text : Life → Entry → List �
     at_most_one = omega arith;
     cut = refl;
     written = appended_none o;
-    told = grows_none output w0 w1 same;
+    told = told;
     struck = λ is. absurd (other is);
   }
+
+  -- nothing happens
+  pub rests : (life : Life) (end : Option End) (o : Option (List ℕ)) (w0 w1 : Option (List (Traffic X))) (stands : Life → Type 0)
+      → (end ≡ Some ends.Disk → ⊥) → stands life → IsUp life → w1 ≡ w0 → Tells output text s life [] end o o w0 w1 stands
+  rests life end o w0 w1 stands other lives up same = unsaid life [] end o w0 w1 stands refl other lives up (grows_none output w0 w1 same)
 
   -- an input is taken
   pub takes : (life : Life) (input : Input) (o : Option (List ℕ)) (w0 w1 : Option (List (Traffic X))) (stands : Life → Type 0)
       → stands life → IsUp life → w1 ≡ with_last w0 (Took input) → Tells output text s life (Takes input ∷ []) None o o w0 w1 stands
-  takes life input o w0 w1 stands lives up took = record {
-    said = [];
-    unsaid = [];
-    left = [];
-    part = [];
-    rest = [];
-    reports = refl;
-    follows = tt;
-    lives = lives;
-    up = λ on. up;
-    all_done = λ e. refl;
-    all_said = λ e. refl;
-    at_most_one = omega arith;
-    cut = refl;
-    written = appended_none o;
-    told = grows_last output w0 w1 (Took input) took;
-    struck = λ is. absurd cc;
-  }
+  takes life input o w0 w1 stands lives up took =
+      unsaid life (Takes input ∷ []) None o w0 w1 stands refl (λ is. absurd cc) lives up (grows_last output w0 w1 (Took input) took)
 
   -- one thing happens, and is said
   pub says : (life : Life) (h : Happening) (r : Entry) (end : Option End) (o0 o1 : Option (List ℕ)) (w0 w1 : Option (List (Traffic X))) (stands : Life → Type 0)
@@ -342,10 +331,10 @@ module _ {X : Type 0} (output : X → Output) (text : Life → Entry → List �
       subst (λ c. Tells output text s life c end o0 o2 w0 w2 stands2) (sym (map-append Makes (map f (done ++ x ∷ [])) (map f rest)) ∙ ap makes parts)
       (cut_short life (makes (map f (done ++ x ∷ []))) (map f rest) end o0 o2 w0 w2 stands2 ends so_far)
 
-  -- what stands at the end may be told in other words
-  pub mapped : (life : Life) (c : List Mark) (end : Option End) (o0 o1 : Option (List ℕ)) (w0 w1 : Option (List (Traffic X))) (stands stands2 : Life → Type 0)
-      → ((l : Life) → stands l → stands2 l) → Tells output text s life c end o0 o1 w0 w1 stands → Tells output text s life c end o0 o1 w0 w1 stands2
-  mapped life c end o0 o1 w0 w1 stands stands2 f tells = record {
+  -- something else stands at the end
+  restood : (life : Life) (c : List Mark) (end : Option End) (o0 o1 : Option (List ℕ)) (w0 w1 : Option (List (Traffic X))) (stands stands2 : Life → Type 0)
+      → (tells : Tells output text s life c end o0 o1 w0 w1 stands) → stands2 (lived life (tells.said ++ tells.unsaid)) → Tells output text s life c end o0 o1 w0 w1 stands2
+  restood life c end o0 o1 w0 w1 stands stands2 tells lives = record {
     said = tells.said;
     unsaid = tells.unsaid;
     left = tells.left;
@@ -353,7 +342,7 @@ module _ {X : Type 0} (output : X → Output) (text : Life → Entry → List �
     rest = tells.rest;
     reports = tells.reports;
     follows = tells.follows;
-    lives = f (lived life (tells.said ++ tells.unsaid)) tells.lives;
+    lives = lives;
     up = tells.up;
     all_done = tells.all_done;
     all_said = tells.all_said;
@@ -364,27 +353,15 @@ module _ {X : Type 0} (output : X → Output) (text : Life → Entry → List �
     struck = tells.struck;
   }
 
+  -- what stands at the end may be told in other words
+  pub mapped : (life : Life) (c : List Mark) (end : Option End) (o0 o1 : Option (List ℕ)) (w0 w1 : Option (List (Traffic X))) (stands stands2 : Life → Type 0)
+      → ((l : Life) → stands l → stands2 l) → Tells output text s life c end o0 o1 w0 w1 stands → Tells output text s life c end o0 o1 w0 w1 stands2
+  mapped life c end o0 o1 w0 w1 stands stands2 f tells = restood life c end o0 o1 w0 w1 stands stands2 tells (f (lived life (tells.said ++ tells.unsaid)) tells.lives)
+
   -- at the life that it came to
   pub pinned : (life : Life) (c : List Mark) (end : Option End) (o0 o1 : Option (List ℕ)) (w0 w1 : Option (List (Traffic X))) (stands : Life → Type 0)
       → (tells : Tells output text s life c end o0 o1 w0 w1 stands) → Tells output text s life c end o0 o1 w0 w1 (λ l. l ≡ lived life (tells.said ++ tells.unsaid))
-  pinned life c end o0 o1 w0 w1 stands tells = record {
-    said = tells.said;
-    unsaid = tells.unsaid;
-    left = tells.left;
-    part = tells.part;
-    rest = tells.rest;
-    reports = tells.reports;
-    follows = tells.follows;
-    lives = refl;
-    up = tells.up;
-    all_done = tells.all_done;
-    all_said = tells.all_said;
-    at_most_one = tells.at_most_one;
-    cut = tells.cut;
-    written = tells.written;
-    told = tells.told;
-    struck = tells.struck;
-  }
+  pinned life c end o0 o1 w0 w1 stands tells = restood life c end o0 o1 w0 w1 stands (λ l. l ≡ lived life (tells.said ++ tells.unsaid)) tells refl
 
   pub joined_at : (life : Life) (c1 c2 : List Mark) (end : Option End) (o0 o1 o2 : Option (List ℕ)) (w0 w1 w2 : Option (List (Traffic X))) (stands1 stands2 : Life → Type 0)
       → (first : Tells output text s life c1 None o0 o1 w0 w1 stands1)

@@ -484,9 +484,9 @@ fn tell_unstarted<S: Steps, O: Sink>(steps: &S, out: &mut O, error: StepError) -
     ensures later { O.faults out.old ≤ O.faults out.new }
 {
     match error {
-        StepError::Disk(lines) => tell_struck(steps, out, lines),
         StepError::Memory => Some(End::Memory),
         StepError::Stopped => Some(End::Memory),
+        StepError::Disk(lines) => tell_struck(steps, out, lines),
     }
 }
 

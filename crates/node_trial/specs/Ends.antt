@@ -2,7 +2,7 @@
 use Rattle.std.specs.Prelude.{ℕ, ◌==◌, ◌&&◌, ◌||◌, Bool, if◌then◌else◌, List, [], ◌∷◌, ◌++◌, codes, decimal}
 use Rattle.std.specs.List.{list_any}
 use Rattle.std.specs.Str.{bytes_eq}
-use Rattle.voting_config.specs.Lists.{parts_of}
+use Rattle.voting_config.specs.Lists.{parts_of, space, line_feed}
 use Rattle.zen_host.specs.HostCalls.{ToldEnd, told_end}
 use Rattle.node_trial.specs.declared.ends.TrialEnds.{TrialEnds}
 use Rattle.node_trial.specs.declared.node.TrialNode.{TrialNode}
@@ -26,11 +26,11 @@ first_of (word ∷ words) = word
 
 -- the first word of the line is `won`; a space ends a word
 abbrev pub is_win : List ℕ → Bool
-is_win line = bytes_eq (first_of (parts_of 32 line)) (codes "won")
+is_win line = bytes_eq (first_of (parts_of space line)) (codes "won")
 
 -- a line of the output has `won` as its first word; what stands after the last line feed counts as a line
 abbrev pub has_won : List ℕ → Bool
-has_won output = list_any is_win (parts_of 10 output)
+has_won output = list_any is_win (parts_of line_feed output)
 
 abbrev pub one_has_won : ToldEnds → Bool
 one_has_won ends = has_won ends.a.output || has_won ends.b.output || has_won ends.c.output

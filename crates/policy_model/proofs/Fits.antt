@@ -3,6 +3,7 @@ use Rattle.std.proofs.Common.{◌≡◌, ℕ, ◌+◌, ◌≤◌, ◌^◌, Bool,
 use Rattle.std.specs.Prelude.{if◌then◌else◌, max, is_some, nat_le, nat_lt, nat_eq}
 use Rattle.std.specs.List.{flat_map, AllByRecursion}
 use Rattle.std.proofs.lemmas.Bool.Decides.{nat_tests}
+use Rattle.cluster_state.specs.Field.{last_number}
 use Rattle.voting_config.specs.Ids.{Id, before, same, same_config, is_quorum_of, has_room}
 use Rattle.bootstrap.specs.Decisions.{decision_of}
 use Rattle.election_clock.specs.Delays.{is_due}
@@ -53,7 +54,7 @@ use Rattle.world_model.specs.declared.acts.Reply.{Reply}
 use Rattle.world_model.specs.declared.acts.Reply.TheVariants.{Taken, Refused, Stopped}
 use Rattle.world_model.specs.Acts.{is_effective}
 use Rattle.world_model.specs.NodeState.{NodeState}
-use Rattle.world_model.specs.Replies.{reply_at, is_taken, after_check, start_checked, start_reply, value_reply, last_number}
+use Rattle.world_model.specs.Replies.{reply_at, is_taken, after_check, start_checked, start_reply, value_reply}
 use Rattle.policy_model.specs.declared.settings.Settings.{Settings}
 use Rattle.policy_model.specs.Events.{Mode, Candidate, Leader, Follower, Event, Start, Tick, FrameCame, LineCame, DropCause, Note, Met, Heard, PeersAsked, ElectionOff, ElectionSet, RoundBegun, RoundAnswered, RoundEnded, Joined, FollowersChecked, FollowerAnswered, LeaderChecked, LeaderAnswered, Queued, ExclusionsTimedOut, CommitAcked, ExclusionsAcked, StateMade, HandedOver, Item, Opens, Begins, Acts, Turns, Drops, Sends, Replies, Notes}
 use Rattle.policy_model.specs.Entries.{frames_in, put_frame, by_receiver}

@@ -4,6 +4,7 @@ use Rattle.std.specs.Prelude.{if◌then◌else◌, is_some, nat_le, nat_lt, nat_
 use Rattle.std.specs.List.{flat_map}
 use Rattle.std.proofs.lemmas.Bool.Decides.{nat_tests}
 use Rattle.std.proofs.lemmas.List.{length-append, length-map}
+use Rattle.cluster_state.specs.Field.{last_number}
 use Rattle.voting_config.specs.Ids.{Id, has, before, same, put, with_id, without_id, most_ids, among, outside, has_room}
 use Rattle.voting_config.proofs.Sorted.{length-put}
 use Rattle.exclusions.specs.declared.AddError.{AddError}
@@ -50,7 +51,6 @@ use Rattle.master_tasks.specs.Processing.{Processing, AnsweredAtOnce, Makes, Pro
 use Rattle.master_tasks.specs.Queue.{Tasks, is_full_of, with_room}
 use Rattle.world_model.specs.declared.acts.Act.{Act}
 use Rattle.world_model.specs.declared.acts.Act.TheVariants.{Bootstrap, StartJoin, TakeJoin, Value, Publish, Response, Commit, Open}
-use Rattle.world_model.specs.Replies.{last_number}
 use Rattle.voting_config.proofs.Sets.{same_self, length-with_id-le}
 use Rattle.policy_model.specs.declared.settings.Settings.{Settings}
 use Rattle.policy_model.specs.Events.{Mode, Candidate, Leader, Follower, Event, Start, Tick, FrameCame, LineCame, DropCause, Checks, Lag, Note, Met, Heard, PeersAsked, ElectionOff, ElectionSet, RoundBegun, RoundAnswered, RoundEnded, Joined, FollowersChecked, FollowerAnswered, LeaderChecked, LeaderAnswered, Queued, ExclusionsTimedOut, CommitAcked, ExclusionsAcked, StateMade, HandedOver, Item, Opens, Begins, Acts, Turns, Drops, Sends, Replies, Notes}
@@ -173,17 +173,6 @@ unfolding processed_by next_value
 few-next l t few = rw (members-all l.accepted (before_all (value_before l.me t l.accepted.value)) t.waiting) (few-members l.me t l.accepted.value.members few)
 
 -- ---- what one more item makes of a node's sets
-
-same_small : (v u : View) → IsSmallView v → length u.node.accepted.value.members ≤ length v.node.accepted.value.members → length u.finder.peers ≤ length v.finder.peers
-    → length u.followers.watched ≤ length v.followers.watched → length (next.targets_of u.publication) ≤ length (next.targets_of v.publication)
-    → length (next.responders_of u.publication) ≤ length (next.responders_of v.publication) → IsSmallView u
-same_small v u f m p w t r = record {
-  members = omega (arith, f.members, m);
-  peers = omega (arith, f.peers, p);
-  watched = omega (arith, f.watched, w);
-  targets = omega (arith, f.targets, t);
-  responders = omega (arith, f.responders, r);
-}
 
 few-added : (f : PeerFinder) (id : Id) → length f.peers ≤ most_peers → length (finder_after f (Added id)).peers ≤ most_peers
 few-added f id few =

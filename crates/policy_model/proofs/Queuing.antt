@@ -98,10 +98,6 @@ behind s l (out ∷ answers) rest =
           b.replied parts.1 ∙ ap (λ rs. rs ++ answers) one ∙ append_assoc (replied_in l) (out ∷ []) answers;
     }
 
--- the notes after answers
-note-own : (note : Note) → is_own (Notes note) ≡ true
-note-own note = refl
-
 note-queued : (l : Log) (note : Note) → is_answering note ≡ true → queued_in (And l (Notes note)) ≡ queued_in l
 note-queued l (Queued conn request) h = absurd (cc)
 note-queued l note h = refl

@@ -3,6 +3,7 @@ use Rattle.std.proofs.Common.{◌≡◌, ◌∙◌, ℕ, ◌+◌, ◌≤◌, Boo
 use Rattle.std.specs.Prelude.{if◌then◌else◌, is_some, nat_le, nat_lt}
 use Rattle.std.proofs.lemmas.Bool.Decides.{nat_tests}
 use Rattle.std.proofs.lemmas.List.{append_assoc, length-append}
+use Rattle.cluster_state.specs.Field.{last_number}
 use Rattle.bootstrap.specs.Decisions.{decision_of}
 use Rattle.election_clock.specs.Delays.{is_due}
 use Rattle.peer_finder.specs.Peers.{answered_set}
@@ -29,7 +30,6 @@ use Rattle.master_tasks.specs.declared.waiting.Outgoing.{Outgoing}
 use Rattle.master_tasks.specs.NextState.{next_answers, is_nothing_new}
 use Rattle.world_model.specs.declared.acts.Act.{Act}
 use Rattle.world_model.specs.declared.acts.Act.TheVariants.{Bootstrap, StartJoin, TakeJoin, Value, Publish, Response, Commit, Open}
-use Rattle.world_model.specs.Replies.{last_number}
 use Rattle.policy_model.specs.declared.settings.Settings.{Settings}
 use Rattle.world_model.specs.declared.acts.Outcome.{Outcome}
 use Rattle.cluster_state.specs.declared.reply.Answer.{Answer}

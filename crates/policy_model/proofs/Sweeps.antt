@@ -42,10 +42,6 @@ pub frames-replies : (s : Settings) (answers : List Outgoing) → flat_map frame
 frames-replies s [] = refl
 frames-replies s (x ∷ xs) = frames-replies s xs
 
-pub replies-sends : (s : Settings) (ids : List Id) (m : Message) → flat_map replies_in (send_all s ids m) ≡ []
-replies-sends s [] m = refl
-replies-sends s (x ∷ xs) m = replies-sends s xs m
-
 pub replies-replies : (s : Settings) (answers : List Outgoing) → flat_map replies_in (reply_all s answers) ≡ answers
 replies-replies s [] = refl
 replies-replies s (x ∷ xs) = ap (λ (l : List Outgoing). x ∷ l) (replies-replies s xs)

@@ -1,5 +1,6 @@
 -- Part of the statement: how a candidate comes to be elected: the first configuration, the wait for an election, pre-votes.
 use Rattle.std.specs.Prelude.{ℕ, ◌+◌, not, ◌&&◌, Option, None, Some, List, [], ◌∷◌, ◌++◌, nat_le, if◌then◌else◌}
+use Rattle.cluster_state.specs.Field.{last_number}
 use Rattle.voting_config.specs.Ids.{Id, with_id, without_id}
 use Rattle.cluster_state.specs.declared.state.StateId.{StateId}
 use Rattle.wire_frames.specs.declared.frame.Message.TheVariants as message
@@ -15,7 +16,7 @@ use Rattle.pre_vote.specs.Rounds.{Round, answered, fits, added_of}
 use Rattle.world_model.specs.declared.acts.Act.TheVariants.{Bootstrap}
 use Rattle.cluster_state.specs.States.{id_of}
 use Rattle.cluster_state.specs.JoinCheck.{is_empty}
-use Rattle.world_model.specs.Replies.{elects, last_number}
+use Rattle.world_model.specs.Replies.{elects}
 use Rattle.policy_model.specs.declared.settings.Settings.{Settings}
 use Rattle.policy_model.specs.Events.{Item, Notes, Met, ElectionOff, ElectionSet, RoundBegun, RoundAnswered, RoundEnded}
 use Rattle.policy_model.specs.Views.{View}

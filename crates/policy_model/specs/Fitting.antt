@@ -1,6 +1,7 @@
 -- For the contracts inside: what is within the limits: numbers of at most 2^62, states and settings as they can be spelled.
-use Rattle.std.specs.Prelude.{◌≤◌, ◌^◌, Option, None, Some, List}
+use Rattle.std.specs.Prelude.{◌≤◌, Option, None, Some, List}
 use Rattle.std.specs.List.{AllByRecursion}
+use Rattle.cluster_state.specs.Field.{last_number}
 use Rattle.cluster_state.specs.declared.state.Kept.{Kept}
 use Rattle.cluster_state.specs.declared.state.StateId.{StateId}
 use Rattle.cluster_state.specs.Settings.{IsSettings}
@@ -23,11 +24,11 @@ use Rattle.policy_model.specs.Rules.{next_of}
 -- the terms of a round of pre-votes
 abbrev pub IsFitRound : Option Round → Type 0
 IsFitRound None = Unit {0}
-IsFitRound (Some round) = round.greatest ≤ 2 ^ 62
+IsFitRound (Some round) = round.greatest ≤ last_number
 
 -- a node: its term, what it has accepted and applied, its round, and the requests that wait
 pub record AreFit (node : NodeState) (applied : StateId) (round : Option Round) (waiting : List Waiting) : Type 0 where
-  pub term : node.term ≤ 2 ^ 62
+  pub term : node.term ≤ last_number
   pub accepted : IsFit node.accepted
   pub settings : IsSettings node.accepted.value.settings
   pub applied_id : IsFitId applied
@@ -39,7 +40,7 @@ IsFitView v = AreFit v.node v.applied v.round v.tasks.waiting
 
 -- a record that an opening finds
 pub record IsFitKept (found : Kept) : Type 0 where
-  pub term : found.term ≤ 2 ^ 62
+  pub term : found.term ≤ last_number
   pub accepted : IsFit found.accepted
   pub settings : IsSettings found.accepted.value.settings
 

@@ -1,5 +1,6 @@
 -- Part of the statement: what a leader does that has no publication in flight: it makes the next state, or hands over.
 use Rattle.std.specs.Prelude.{◌+◌, Bool, false, not, ◌&&◌, Option, None, Some, List, [], ◌∷◌, ◌++◌, find, nat_le, if◌then◌else◌}
+use Rattle.cluster_state.specs.Field.{last_number}
 use Rattle.voting_config.specs.Ids.{Id, has}
 use Rattle.cluster_state.specs.declared.state.ClusterState.{ClusterState}
 use Rattle.cluster_state.specs.declared.state.ClusterValue.{ClusterValue}
@@ -9,7 +10,6 @@ use Rattle.publication.specs.Publications.{Publication}
 use Rattle.master_tasks.specs.NextState.{next_value, next_config, next_answers, is_nothing_new}
 use Rattle.world_model.specs.declared.acts.Act.{Act}
 use Rattle.world_model.specs.declared.acts.Act.TheVariants.{Value}
-use Rattle.world_model.specs.Replies.{last_number}
 use Rattle.policy_model.specs.declared.settings.Settings.{Settings}
 use Rattle.policy_model.specs.Events.{Item, Notes, StateMade, HandedOver}
 use Rattle.policy_model.specs.Parts.{as_master}

@@ -1,5 +1,7 @@
 //! `PreVotes`: one round of pre-votes, from its start on.
-ghost use Rattle.std.specs.Prelude.{◌≡◌, ◌+◌, ◌≤◌, ◌^◌, ◌||◌, length, IsTrue};
+ghost use Rattle.std.specs.Prelude.{◌≡◌, ◌+◌, ◌≤◌, ◌||◌, length, IsTrue};
+ghost use Rattle.voting_config.specs.Ids.{most_ids};
+ghost use Rattle.cluster_state.specs.Field.{last_number};
 ghost use Rattle.pre_vote.specs.Calls.{Calls, Start, Add, has_room, is_vote as vote_of};
 
 use cluster_state::StateId;
@@ -28,14 +30,16 @@ pub struct PreVotes {
 }
 
 impl Model for PreVotes {
-    ghost use Rattle.std.specs.Prelude.{◌+◌, ◌≤◌, ◌^◌, length};
+    ghost use Rattle.std.specs.Prelude.{◌+◌, ◌≤◌, length};
+    ghost use Rattle.voting_config.specs.Ids.{most_ids};
+    ghost use Rattle.cluster_state.specs.Field.{last_number};
     ghost use Rattle.pre_vote.specs.Rounds.{Round};
 
     ghost Value = { Round };
 
     ghost view = { λ r. record { me = r.me; last = r.last; greatest = r.greatest; voters = r.voters; others = r.others } };
 
-    ghost invariant = { λ r. (r.greatest ≤ 2 ^ 62) × (length r.voters + length r.others ≤ 32) };
+    ghost invariant = { λ r. (r.greatest ≤ last_number) × (length r.voters + length r.others ≤ most_ids) };
 }
 
 impl PreVotes {
@@ -43,7 +47,7 @@ impl PreVotes {
 
     /// A round of the node `me`, whose accepted state has the id `last` and which is in this term. Nobody has answered.
     pub fn start(me: NodeId, last: StateId, term: u64) -> PreVotes
-        requires { term ≤ 2 ^ 62 }
+        requires { term ≤ last_number }
         ensures round { result ≡ started me last term }
         ensures calls { result ≡ round_of (Start me last term) }
     {
@@ -89,7 +93,7 @@ impl PreVotes {
         committed: &VotingConfig,
         accepted: &VotingConfig,
     ) -> Added
-        requires term { term ≤ 2 ^ 62 }
+        requires term { term ≤ last_number }
         requires room { IsTrue (fits_in source self.old) }
         ensures round { self.new ≡ answered self.old source term last }
         ensures answer { result ≡ added_of self.new last committed.now accepted.now }

@@ -4,15 +4,8 @@ use cluster_state::StateId;
 use std::test::*;
 use voting_config::{NodeId, NodeSet, VotingConfig};
 
-// The configuration of the letters of a text.
-fn letters(text: &str) -> VotingConfig {
-    let mut ids = NodeSet::new();
-    for letter in text.as_bytes() {
-        if let Some(id) = NodeId::from_bytes(&[*letter]) {
-            let _ = ids.insert(id);
-        }
-    }
-    VotingConfig::of(&ids)
+fn config(text: &str) -> VotingConfig {
+    VotingConfig::of(&NodeSet::parse(text).unwrap_or(NodeSet::new()))
 }
 
 fn version(version: u64) -> StateId {
@@ -24,19 +17,19 @@ fn a_fresher_node_is_no_pre_vote_and_a_quorum_names_the_term(rt: HostRuntime) ->
     let a = NodeId::parse("a").ok().ok_or("a letter is an id")?;
     let b = NodeId::parse("b").ok().ok_or("a letter is an id")?;
     let c = NodeId::parse("c").ok().ok_or("a letter is an id")?;
-    let config = letters("abc");
+    let abc = config("a,b,c");
 
     let mut round = PreVotes::start(a, version(3), 4);
     assert!(rt; round.fits(c));
-    let added = round.add(c, 9, version(4), &config, &config);
+    let added = round.add(c, 9, version(4), &abc, &abc);
     assert_eq!(rt; added, Added::Fresher);
     assert!(rt; round.fits(b));
-    let added = round.add(b, 4, version(2), &config, &config);
+    let added = round.add(b, 4, version(2), &abc, &abc);
     assert_eq!(rt; added, Added::Quorum(10));
 
     let mut round = PreVotes::start(a, version(3), 4);
     assert!(rt; round.fits(b));
-    let added = round.add(b, 4, version(2), &config, &config);
+    let added = round.add(b, 4, version(2), &abc, &abc);
     assert_eq!(rt; added, Added::Quorum(5));
     Ok(())
 }
@@ -45,10 +38,10 @@ fn a_fresher_node_is_no_pre_vote_and_a_quorum_names_the_term(rt: HostRuntime) ->
 fn a_pre_vote_needs_a_quorum_of_both_configurations(rt: HostRuntime) -> Result<(), Fail> {
     let a = NodeId::parse("a").ok().ok_or("a letter is an id")?;
     let b = NodeId::parse("b").ok().ok_or("a letter is an id")?;
-    let config = letters("abc");
+    let abc = config("a,b,c");
     let mut round = PreVotes::start(a, version(3), 4);
     assert!(rt; round.fits(b));
-    let added = round.add(b, 4, version(3), &config, &letters("abcd"));
+    let added = round.add(b, 4, version(3), &abc, &config("a,b,c,d"));
     assert_eq!(rt; added, Added::Counted);
     Ok(())
 }

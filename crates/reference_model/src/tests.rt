@@ -1,84 +1,15 @@
 //! The core and the model, act for act: each answer of the core is the reply of the model.
 use crate::{Entry, reply};
 use cluster_state::{
-    ApplyCommit, ClusterState, ClusterValue, CommitCause, InitialCause, Join, JoinCause, Kept,
-    LAST_NUMBER, PublishCause, PublishRequest, PublishResponse, ResponseCause, StartCause,
-    ValueCause,
+    ApplyCommit, ClusterState, ClusterValue, Join, Kept, LAST_NUMBER, PublishRequest,
+    PublishResponse,
 };
-use coord_state::{ActError, CoordState, Joined};
+use coord_state::{CoordState, outcome_of};
 use state_journal::{PlainKeeper, Ready};
 use std::alloc::{AllocError, Global};
 use std::test::Fail;
 use voting_config::{NodeId, NodeSet, VotingConfig};
-use world_model::{Act, Cause, Message, Outcome, Reply};
-
-// What the core answered. A plain keeper has no faults.
-
-fn initial_reply(answer: Result<(), ActError<InitialCause, Ready>>) -> Reply {
-    match answer {
-        Ok(()) => Reply::Taken(None, false),
-        Err(ActError::Refused(cause, _)) => Reply::Refused(Cause::Initial(cause)),
-        Err(ActError::Stopped(_)) => Reply::Stopped,
-        Err(ActError::Disk) => Reply::Stopped,
-    }
-}
-
-fn start_reply(answer: Result<Join, ActError<StartCause, ()>>) -> Reply {
-    match answer {
-        Ok(join) => Reply::Taken(Some(Message::Join(join)), false),
-        Err(ActError::Refused(cause, _)) => Reply::Refused(Cause::Start(cause)),
-        Err(ActError::Stopped(_)) => Reply::Stopped,
-        Err(ActError::Disk) => Reply::Stopped,
-    }
-}
-
-fn join_reply(answer: Result<Joined, ActError<JoinCause, ()>>) -> Reply {
-    match answer {
-        Ok(joined) => Reply::Taken(None, joined.won),
-        Err(ActError::Refused(cause, _)) => Reply::Refused(Cause::Join(cause)),
-        Err(ActError::Stopped(_)) => Reply::Stopped,
-        Err(ActError::Disk) => Reply::Stopped,
-    }
-}
-
-fn value_reply(
-    answer: Result<PublishRequest, ActError<ValueCause, (VotingConfig, ClusterValue)>>,
-) -> Reply {
-    match answer {
-        Ok(request) => Reply::Taken(Some(Message::Publish(request)), false),
-        Err(ActError::Refused(cause, _)) => Reply::Refused(Cause::Value(cause)),
-        Err(ActError::Stopped(_)) => Reply::Stopped,
-        Err(ActError::Disk) => Reply::Stopped,
-    }
-}
-
-fn publish_reply(answer: Result<PublishResponse, ActError<PublishCause, Ready>>) -> Reply {
-    match answer {
-        Ok(response) => Reply::Taken(Some(Message::Response(response)), false),
-        Err(ActError::Refused(cause, _)) => Reply::Refused(Cause::Publish(cause)),
-        Err(ActError::Stopped(_)) => Reply::Stopped,
-        Err(ActError::Disk) => Reply::Stopped,
-    }
-}
-
-fn response_reply(answer: Result<Option<ApplyCommit>, ActError<ResponseCause, ()>>) -> Reply {
-    match answer {
-        Ok(None) => Reply::Taken(None, false),
-        Ok(Some(commit)) => Reply::Taken(Some(Message::Commit(commit)), false),
-        Err(ActError::Refused(cause, _)) => Reply::Refused(Cause::Response(cause)),
-        Err(ActError::Stopped(_)) => Reply::Stopped,
-        Err(ActError::Disk) => Reply::Stopped,
-    }
-}
-
-fn commit_reply(answer: Result<(), ActError<CommitCause, ()>>) -> Reply {
-    match answer {
-        Ok(()) => Reply::Taken(None, false),
-        Err(ActError::Refused(cause, _)) => Reply::Refused(Cause::Commit(cause)),
-        Err(ActError::Stopped(_)) => Reply::Stopped,
-        Err(ActError::Disk) => Reply::Stopped,
-    }
-}
+use world_model::{Act, Message, Outcome, Reply};
 
 // The state ready to be kept, where its value is the empty one, as in each act here.
 fn ready(alloc: Global, state: &ClusterState) -> Result<Ready, AllocError> {
@@ -99,37 +30,37 @@ fn ready(alloc: Global, state: &ClusterState) -> Result<Ready, AllocError> {
 }
 
 // Does the act in the core.
-fn core_reply(
+fn core_outcome(
     alloc: Global,
     node: &mut CoordState<PlainKeeper>,
     act: &Act,
-) -> Result<Reply, AllocError> {
+) -> Result<Outcome, AllocError> {
     if node.votes().len() == 32 || node.acks().len() == 32 {
         return Err(AllocError);
     }
     match act {
         Act::Bootstrap(config) => {
             let initial = Ready::initial(alloc, config.members())?;
-            Ok(initial_reply(node.set_initial(initial)))
+            Ok(outcome_of(node.set_initial(initial)))
         }
-        Act::StartJoin(candidate, term) => Ok(start_reply(node.start_join(*candidate, *term))),
-        Act::TakeJoin(join) => Ok(join_reply(node.join(join))),
+        Act::StartJoin(candidate, term) => Ok(outcome_of(node.start_join(*candidate, *term))),
+        Act::TakeJoin(join) => Ok(outcome_of(node.join(join))),
         Act::Value(version, config, value) => {
             let config = VotingConfig::of(config.members());
             let value = value.copy()?;
-            Ok(value_reply(node.client_value(*version, config, value)))
+            Ok(outcome_of(node.client_value(*version, config, value)))
         }
         Act::Publish(request) => {
             let state = ready(alloc, &request.state)?;
-            Ok(publish_reply(node.publish_request(request.source, state)))
+            Ok(outcome_of(node.publish_request(request.source, state)))
         }
-        Act::Response(response) => Ok(response_reply(node.publish_response(response))),
-        Act::Commit(commit) => Ok(commit_reply(node.commit(commit))),
-        Act::Open(_) => Ok(Reply::Taken(None, false)),
+        Act::Response(response) => Ok(outcome_of(node.publish_response(response))),
+        Act::Commit(commit) => Ok(outcome_of(node.commit(commit))),
+        Act::Open(_) => Ok(Outcome::Answered(Reply::Taken(None, false))),
     }
 }
 
-// A reply as a text.
+// What an act answered, as a text.
 
 fn ids_text(alloc: Global, ids: &NodeSet) -> Result<String, AllocError> {
     let mut text = String::new(alloc);
@@ -185,6 +116,14 @@ fn reply_text(alloc: Global, reply: &Reply) -> Result<String, AllocError> {
     }
 }
 
+// A plain keeper has no faults.
+fn outcome_text(alloc: Global, outcome: &Outcome) -> Result<String, AllocError> {
+    match outcome {
+        Outcome::Answered(reply) => reply_text(alloc, reply),
+        Outcome::Disk(_) | Outcome::Crashed(_) => format!(in alloc; "no reply"),
+    }
+}
+
 // A node of the core, and what it did.
 #[derive(Drop)]
 struct Driven {
@@ -220,12 +159,9 @@ impl Driven {
     fn does(&mut self, alloc: Global, act: Act, wanted: &str) -> Result<(), Fail> {
         let modelled = reply(alloc, self.me, self.entries.as_slice(), &act)?;
         same(reply_text(alloc, &modelled)?, wanted)?;
-        let answered = core_reply(alloc, &mut self.node, &act)?;
-        same(reply_text(alloc, &answered)?, wanted)?;
-        self.entries.push(Entry {
-            act,
-            outcome: Outcome::Answered(answered),
-        })?;
+        let outcome = core_outcome(alloc, &mut self.node, &act)?;
+        same(outcome_text(alloc, &outcome)?, wanted)?;
+        self.entries.push(Entry { act, outcome })?;
         Ok(())
     }
 }

@@ -10,7 +10,7 @@ use Rattle.world_model.specs.Histories.{History, NoEntries, Next, node_history, 
 use Rattle.world_model.specs.Local.{BeginsEmpty, IsSourcedAll}
 use Rattle.voting_config.proofs.Sets.{same_is}
 use Rattle.world_model.proofs.Assemble.{legal_is}
-use Rattle.replay_node.specs.Settled.{settled, IsUnstruck, settled_entry, settled_for}
+use Rattle.replay_node.specs.Settled.{settled, settled_entry, settled_for}
 use Rattle.replay_node.proofs.SettledLocal.{settled_local, settled_begins, unsettled_local, unsettled_begins}
 
 own_entry : (h : History) (node : Id) (act : Act) (o : Outcome) (n : Id) → same node n ≡ true → node_history (Next h node act o) n ≡ Then (node_history h n) act o
@@ -103,24 +103,6 @@ settled_sourced initial n k (Next h node act o) f = from (same node n) (settled_
     from false r = sourced_next initial h (settled_for n k h) node act o o (settled_sent n k h) r f
 
 -- where no act of the node was struck, nothing is set
-
-unstruck_entry : (k : Bool) (h s : History) (node : Id) (act : Act) (o : Outcome) (g : NodeHistory) → IsUnstruck (Then g act o) → (IsUnstruck g → s ≡ h) → settled_entry k h s node act o ≡ Next h node act o
-unstruck_entry k h s node act (Disk was) g u r = absurd u
-unstruck_entry k h s node act (Crashed was) g u r = absurd u
-unstruck_entry k h s node act (Answered reply) g u r = from (is_opening act) u
-  where
-    from : (b : Bool) → cond b (Unit {0}) (IsUnstruck g) → Next (if b then h else s) node act (Answered reply) ≡ Next h node act (Answered reply)
-    from true u = refl
-    from false u = ap (λ (x : History). Next x node act (Answered reply)) (r u)
-
-pub unstruck_for : (n : Id) (k : Bool) (h : History) → IsUnstruck (node_history h n) → settled_for n k h ≡ h
-unstruck_for n k NoEntries u = refl
-unstruck_for n k (Next h node act o) u = from (same node n) u (unstruck_for n k h)
-  where
-    from : (b : Bool) → IsUnstruck (cond b (Then (node_history h n) act o) (node_history h n)) → (IsUnstruck (node_history h n) → settled_for n k h ≡ h)
-        → (if b then settled_entry k h (settled_for n k h) node act o else Next (settled_for n k h) node act o) ≡ Next h node act o
-    from true u r = unstruck_entry k h (settled_for n k h) node act o (node_history h n) u r
-    from false u r = ap (λ (x : History). Next x node act o) (r u)
 
 -- a legal history stays legal
 pub settled_legal : (initial : List Id) (h : History) (n : Id) (k : Bool) → IsLegal initial h → IsLegal initial (settled_for n k h)

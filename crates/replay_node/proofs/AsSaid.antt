@@ -1,20 +1,19 @@
 -- A disk of two files in memory under orders does what is said of it, unless it found no memory.
 use Rattle.std.proofs.Common.{◌≡◌, List, [], ◌∷◌, Bool, true, false, Some, None, refl, sym, ◌∙◌, ap, subst, inl, inr}
 use Rattle.std.specs.Prelude.{Option}
-use Rattle.zen_disk.specs.Armed.{armed_later, armed_with, fate_by, fate_of, stop_due, is_fault_due}
+use Rattle.zen_disk.specs.Armed.{armed_later, fate_by, fate_of, stop_due, is_fault_due}
 use Rattle.zen_disk.specs.DeviceCall.{DeviceCall, Len, Read, Write, Sync}
 use Rattle.zen_disk.specs.FileState.{FileState, after, both_left_by}
-use Rattle.zen_disk.specs.Fuse.{FuseArms, FuseSteps, StepsAt, StopsIn}
+use Rattle.zen_disk.specs.Fuse.{FuseSteps, StepsAt, StopsIn}
 use Rattle.zen_disk.specs.MemDisks.{MemSteps, files_of}
 use Rattle.zen_disk.specs.Runs.{CallsMade}
 use Rattle.zen_disk.specs.Sides.{Sides}
 use Rattle.zen_disk.specs.declared.memory.MemDisks.{MemDisks}
 use Rattle.zen_disk.specs.declared.orders.Armed.{Armed}
-use Rattle.zen_disk.specs.declared.orders.Order.{Order}
 use Rattle.zen_disk.specs.declared.orders.Struck.{Struck}
 use Rattle.zen_disk.specs.declared.orders.Struck.TheVariants.{Stop, Fault}
 use Rattle.zen_disk.specs.declared.orders.Way.{Way}
-use Rattle.replay_node.specs.NodeDisk.{NodeDisk, CallsEnd, Done, Failed, CrashedIn, Called, MemFuse, DiskStands, EndsAs, Restarted, placed, call_by, call_once, go_on, calls_made, crashed_by, with_order}
+use Rattle.replay_node.specs.NodeDisk.{NodeDisk, CallsEnd, Done, Failed, CrashedIn, Called, MemFuse, DiskStands, EndsAs, Restarted, placed, call_by, call_once, go_on, calls_made, crashed_by}
 
 -- the only call of such a fuse that fails with nothing said to have struck is one that found no memory
 abbrev pub FoundMemory : MemFuse → Bool → Type 0
@@ -101,6 +100,3 @@ restarted_stands end g new d left again = record { files = again.files left.way 
 
 pub crashed_stands : (f new : MemFuse) (d : NodeDisk) (way : Way) → DiskStands f d → new.armed ≡ f.armed → new.down ≡ None → files_of new.disk ≡ both_left_by way (files_of f.disk) → DiskStands new (crashed_by way d)
 crashed_stands f new d way stands armed up files = record { files = files ∙ ap (both_left_by way) stands.files; armed = armed ∙ stands.armed; up = up }
-
-pub ordered_stands : (f g : MemFuse) (d : NodeDisk) (order : Order) → DiskStands f d → FuseArms f order g → DiskStands g (with_order order d)
-ordered_stands f g d order stands arms = record { files = ap files_of arms.disk ∙ stands.files; armed = arms.armed ∙ ap (armed_with order) stands.armed; up = arms.down ∙ stands.up }

@@ -3,6 +3,7 @@
 use Rattle.std.proofs.Common.{◌≡◌, Bool, true, false, Some, List, [], ◌∷◌, ◌++◌, refl, sym, ◌∙◌, ap, subst, if◌then◌else◌}
 use Rattle.voting_config.specs.Ids.{Id}
 use Rattle.coord_state.specs.declared.coord.CoordState.{CoordState}
+use Rattle.coord_state.specs.declared.ending.NotTaken.TheVariants as untaken
 use Rattle.world_model.specs.declared.acts.Act.{Act}
 use Rattle.world_model.specs.declared.acts.Reply.{Reply}
 use Rattle.world_model.specs.declared.acts.Outcome.{Outcome}
@@ -16,7 +17,7 @@ use Rattle.replay_node.specs.Stands.{Journal, OpenStands}
 use Rattle.replay_node.specs.StateDoes.{IsToldBy, StandsAfter, StateDid}
 use Rattle.replay_node.specs.declared.did.Did.{Did}
 use Rattle.replay_node.specs.declared.did.Did.TheVariants as did
-use Rattle.replay_node.proofs.StateSteps.{Step, answered_at, answered_stands, does}
+use Rattle.replay_node.proofs.StateSteps.{Step, answered_at, answered_stands, ended_does}
 use Rattle.policy_model.specs.Events.{Item, Opens, Begins, Acts, Turns, Drops, Sends, Replies, Notes}
 use Rattle.policy_model.specs.Local.{is_quiet}
 use Rattle.policy_model.specs.Follows.{without_output}
@@ -36,7 +37,7 @@ pub data Carries : CoordState Journal → CoordState Journal → List Item → L
   Nothing : (c : CoordState Journal) → Carries c c [] [] All
   ByAct : (old mid new : CoordState Journal) (act : Act) (o : Outcome) (reply : Reply) (is done : List Item) (e : Ending) → is_opening act ≡ false → Step old mid act (Answered reply) → Carries mid new is done e
       → Carries old new (Acts act o ∷ is) (Acts act (Answered reply) ∷ done) e
-  ByFault : (old new : CoordState Journal) (act : Act) (o f : Outcome) (is : List Item) (d : Did) → is_opening act ≡ false → Step old new act (Disk false) → IsToldBy new did.Disk d → outcome_of d ≡ Some f
+  ByFault : (old new : CoordState Journal) (act : Act) (o f : Outcome) (is : List Item) (d : Did) → is_opening act ≡ false → Step old new act (Disk false) → IsToldBy new untaken.Disk d → outcome_of d ≡ Some f
       → Carries old new (Acts act o ∷ is) (Acts act f ∷ []) (Struck d)
   ByOther : (old new : CoordState Journal) (i : Item) (is done : List Item) (e : Ending) → is_quiet i ≡ true → Carries old new is done e
       → Carries old new (i ∷ is) ((if is_struck e then without_output i else i ∷ []) ++ done) e
@@ -84,7 +85,7 @@ done_is Failed r reply h = absurd (cc)
 done_is (CrashedIn way) r reply h = absurd (cc)
 
 -- one that the disk struck did not
-struck_course : (me : Id) (new : CoordState Journal) (x : NodeWorld) (act : Act) (rest : NodeWorld → NodeCourse) (d : Did) (end : CallsEnd) (r : Reply) → IsToldBy new did.Disk d → outcome_of d ≡ Some (outcome_by end r) → StandsAfter me new x d
+struck_course : (me : Id) (new : CoordState Journal) (x : NodeWorld) (act : Act) (rest : NodeWorld → NodeCourse) (d : Did) (end : CallsEnd) (r : Reply) → IsToldBy new untaken.Disk d → outcome_of d ≡ Some (outcome_by end r) → StandsAfter me new x d
     → Carried me new (node_act_then end (Acts act (outcome_by end r)) x rest) (Acts act (outcome_by end r) ∷ []) (Struck d)
 struck_course me new x act rest d Failed r told is stands = record { items = refl; struck = refl; stands = stands }
 struck_course me new x act rest d (CrashedIn way) r told is stands = record { items = refl; struck = refl; stands = stands }
@@ -107,7 +108,7 @@ carried old new is done e x (ByAct o' mid n' act o reply rest done' e' closed st
     subst (λ (c : CallsEnd). Carried o'.me n' (node_act_then c (Acts act (outcome_at o'.me x act)) (after_act o'.me x act) (λ (y : NodeWorld). node_played o'.me y rest)) (Acts act (Answered reply) ∷ done') e') (sym end)
     (subst (λ (p : Outcome). Carried o'.me n' (node_behind (Acts act p) (node_played o'.me (after_act o'.me x act) rest)) (Acts act (Answered reply) ∷ done') e') at front)
 carried old new is done e x (ByFault o' n' act o f rest d closed step told is_f) stands =
-    let did_it : StateDid o'.me n' x act d = (does o' n' act (Disk false) did.Disk d closed refl step told).does x stands in
+    let did_it : StateDid o'.me n' x act d = (ended_does o' n' act untaken.Disk d closed step told).does x stands in
     let same : f ≡ outcome_at o'.me x act = (let both = did_it.outcome in cc) in
     subst (λ (p : Outcome). Carried o'.me n' (node_act_then (act_called o'.me x act).ended (Acts act (outcome_at o'.me x act)) (after_act o'.me x act) (λ (y : NodeWorld). node_played o'.me y rest)) (Acts act p ∷ []) (Struck d)) (sym same)
     (struck_course o'.me n' (after_act o'.me x act) act (λ (y : NodeWorld). node_played o'.me y rest) d (act_called o'.me x act).ended (reply_of o'.me x.acts act) told did_it.outcome did_it.stands)

@@ -104,10 +104,6 @@ abbrev pub pair : {A : Type 0} → Side → A → A → Sides A
 pair Zero here there = record { zero = here; one = there }
 pair One here there = record { zero = there; one = here }
 
-pub pair_is : {A : Type 0} (side : Side) (sides : Sides A) → sides ≡ pair side (on side sides) (on (other side) sides)
-pair_is Zero sides = refl
-pair_is One sides = refl
-
 pub pair_here : {A : Type 0} (side : Side) (here there : A) → on side (pair side here there) ≡ here
 pair_here Zero here there = refl
 pair_here One here there = refl

@@ -21,7 +21,7 @@ use Rattle.zen_disk.proofs.Files.{torn_written, part_written}
 use Rattle.gate_log.specs.Calls.{LeavesOn, append_calls, renewal_calls}
 use Rattle.gate_log.specs.Folded.{found_by}
 use Rattle.gate_log.specs.Generations.{Generations, Begins, IsSettledAs, appended, renewed, epoch_in, epoch_of, generations_of, in_use, is_generation, tail_of, standing_in}
-use Rattle.gate_log.specs.Journal.{framed, bodies_of, IsBeforeOrAfter, IsReplaced, IsFrame, IsLaid}
+use Rattle.gate_log.specs.Journal.{framed, bodies_of, IsBeforeOrAfter, IsReplaced, IsFrame, IsLaid, most_body}
 use Rattle.gate_log.specs.Place.{Place, gate_behind, place_of, renews}
 use Rattle.gate_log.proofs.Added.{emptied, first_closed, first_is_open, laid_nothing, opened, room, still_closed, torn_behind}
 use Rattle.gate_log.proofs.Folded.{append_finds, renewal_finds}
@@ -72,7 +72,7 @@ pub record Runs (files : Sides FileState) (kept : Kept) : Type 0 where
 pub record MayKeep (kept : Kept) (change : Change) : Type 0 where
   pub reads : change_at (body_of change) ≡ Ok change
   pub order : in_order kept change ≡ true
-  pub short : length (body_of change) ≤ 8388608
+  pub short : length (body_of change) ≤ most_body
   pub plain : is_generation (body_of change) ≡ false
   pub begins : MayBegin (changed kept change)
 
@@ -115,7 +115,7 @@ either_readable : (bodies : List (List ℕ)) (body c : List ℕ) → IsEitherLai
 either_readable bodies body c (inl before) = inr (bodies, before.0, before.1)
 either_readable bodies body c (inr after) = inr (bodies ++ body ∷ [], after.0, after.1)
 
-module _ (bodies : List (List ℕ)) (body old : List ℕ) (gate : ℕ) (is : IsLaid bodies old gate) (short : length body ≤ 8388608) where
+module _ (bodies : List (List ℕ)) (body old : List ℕ) (gate : ℕ) (is : IsLaid bodies old gate) (short : length body ≤ most_body) where
   abbrev frame : List ℕ
   frame = framed body
 
@@ -220,7 +220,7 @@ module _ (files : Sides FileState) (kept next : Kept) (runs : Runs files kept) w
   ]
 
   -- an append
-  module _ (body : List ℕ) (plain : is_generation body ≡ false) (short : length body ≤ 8388608)
+  module _ (body : List ℕ) (plain : is_generation body ≡ false) (short : length body ≤ most_body)
       (with_it : record_of_bodies (in_use g ++ body ∷ []) ≡ Ok next) where
     abbrev longer : List (List ℕ)
     longer = on runs.side runs.generations.bodies ++ body ∷ []
@@ -267,7 +267,7 @@ module _ (files : Sides FileState) (kept next : Kept) (runs : Runs files kept) w
         (λ f same. append_runs _ (runs.gate + length (framed body)) f laid_out same))
 
   -- a renewal
-  module _ (body : List ℕ) (begins_it : Begins runs.epoch body) (short : length body ≤ 8388608) (alone : record_of_bodies (body ∷ []) ≡ Ok next) where
+  module _ (body : List ℕ) (begins_it : Begins runs.epoch body) (short : length body ≤ most_body) (alone : record_of_bodies (body ∷ []) ≡ Ok next) where
     abbrev past : List (List ℕ)
     past = on (other runs.side) runs.generations.bodies
 
@@ -387,7 +387,7 @@ module _ (p : Place) (next : Kept) (small : p.epoch < 2 ^ 62) (may : MayBegin ne
         limit = omega (arith, small);
       }
 
-  generation_short : length (generation_after p next) ≤ 8388608
+  generation_short : length (generation_after p next) ≤ most_body
   unfolding body_of
   generation_short =
       let committed = (ids most_ids).spelling next.committed in

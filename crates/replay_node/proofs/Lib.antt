@@ -5,7 +5,6 @@ pub mod Carried
 pub mod Crashed
 pub mod FilesLeft
 pub mod Found
-pub mod IdLists
 pub mod JournalLeft
 pub mod Lives
 pub mod MayAct

@@ -104,17 +104,6 @@ faultless_ends (Sends frame ∷ is) e = faultless_ends is e
 faultless_ends (Replies answer ∷ is) e = faultless_ends is e
 faultless_ends (Notes note ∷ is) e = faultless_ends is e
 
--- the items after the first one have no fault either
-later_fault : (i : Item) (is : List Item) → has_fault (i ∷ is) ≡ false → has_fault is ≡ false
-later_fault (Acts act o) is e = (or_parts (is_fault o) (has_fault is) e).1
-later_fault (Opens found) is e = e
-later_fault (Begins event) is e = e
-later_fault (Turns mode term) is e = e
-later_fault (Drops member cause) is e = e
-later_fault (Sends frame) is e = e
-later_fault (Replies answer) is e = e
-later_fault (Notes note) is e = e
-
 struck_ends : (full left : List Item) → IsStruck full left → has_fault full ≡ false → EndsAtFault left
 struck_ends full left (Here act sends wins rest fault w f) e = (last_nothing fault, tt)
 struck_ends full left (Later (Acts act o) rest left' q) e = let parts = or_parts (is_fault o) (has_fault rest) e in (last_answered o left' parts.0, struck_ends rest left' q parts.1)

@@ -3,6 +3,7 @@ use Rattle.std.proofs.Common.{◌≡◌, inl, inr, ℕ, ◌≤◌, max, Bool, tr
 use Rattle.std.specs.Prelude.{Result}
 use Rattle.std.specs.Result.{result_unwrap_or}
 use Rattle.std.proofs.lemmas.Bool.{lt-ltb, le-leb}
+use Rattle.gate_log.specs.Journal.{most_body}
 use Rattle.voting_config.specs.Ids.{Id, most_ids}
 use Rattle.cluster_state.specs.Field.{eight_bytes}
 use Rattle.cluster_state.specs.Fields.{ids}
@@ -73,14 +74,14 @@ initial_fits config fits = (omega arith, (omega arith, (fits, (fits, empty_value
 pub empty_begins : MayBegin empty_record
 empty_begins = record { bounded = omega arith; fits = initial_fits [] (none_fit most_ids); named = none_fit most_ids; older = omega arith }
 
-short_term : (t : ℕ) → length (body_of (Term t)) ≤ 8388608
+short_term : (t : ℕ) → length (body_of (Term t)) ≤ most_body
 unfolding body_of eight_bytes
 short_term t = let e : length (body_of (Term t)) ≡ 9 = refl in omega arith
 
-short_state : (s : ClusterState) → state.Fits s → length (body_of (Accepted s)) ≤ 8388608
+short_state : (s : ClusterState) → state.Fits s → length (body_of (Accepted s)) ≤ most_body
 short_state s fits = omega (arith, ap length (state_is s), state_short s fits)
 
-short_committed : length (body_of Committed) ≤ 8388608
+short_committed : length (body_of Committed) ≤ most_body
 unfolding body_of
 short_committed = let e : length (body_of Committed) ≡ 1 = refl in omega arith
 

@@ -26,7 +26,7 @@ use Rattle.trace_text.specs.Published.{last_published}
 use Rattle.replay_node.specs.Published.{state_published}
 use Rattle.replay_node.specs.Sent.{taking}
 use Rattle.replay_node.specs.Settled.{IsUnstruck}
-use Rattle.replay_node.specs.Stands.{Journal, record_of, has_stopped, faults, LeavesActs, OpenStands, DownStands, CrashedStands, SlotStands, NodeStands, NodeDid, NodeDoes}
+use Rattle.replay_node.specs.Stands.{Journal, journal_ghosts, LeavesActs, OpenStands, DownStands, CrashedStands, SlotStands, NodeStands, NodeDid, NodeDoes}
 use Rattle.replay_node.specs.StateDoes.{StandsAfter, StateDid, StateDoes, WritesText, Closes}
 use Rattle.replay_node.specs.declared.did.Did.{Did}
 use Rattle.replay_node.specs.declared.did.Did.TheVariants as did
@@ -90,10 +90,10 @@ taking_none (Commit c) g o = refl
 
 -- a crash between two acts
 
-kept_is : (s : CoordState Journal) (g : NodeHistory) → StandsFor record_of has_stopped faults s g → s.keeper.kept ≡ durable_of g
+kept_is : (s : CoordState Journal) (g : NodeHistory) → StandsFor journal_ghosts s g → s.keeper.kept ≡ durable_of g
 kept_is s g stands = let kept : NodeState → Kept = λ n. record { term = n.term; accepted = n.accepted; committed = n.committed } in ap kept stands
 
-running_leaves : (s : CoordState Journal) (g : NodeHistory) → s.keeper.log.stopped ≡ false → StandsFor record_of has_stopped faults s g → IsUnstruck g → LeavesActs s.keeper.log.disk g
+running_leaves : (s : CoordState Journal) (g : NodeHistory) → s.keeper.log.stopped ≡ false → StandsFor journal_ghosts s g → IsUnstruck g → LeavesActs s.keeper.log.disk g
 running_leaves s g running stands u = record {
   left = λ files may. inl (ap record_of_files ((s.keeper.log.settled tt running).durable files may) ∙ ap result_ok (s.keeper.stands tt running) ∙ ap Some (kept_is s g stands ∙ ap durable_of (sym (unstruck g false u))));
   shown = λ e. ap durable_of (unstruck g false u ∙ sym (unstruck g true u));

@@ -36,7 +36,7 @@ use Rattle.replay_node.specs.Opens.{ClosedStands, Opens, StaysDown}
 use Rattle.trace_text.specs.Published.{last_published}
 use Rattle.replay_node.specs.Published.{state_published}
 use Rattle.replay_node.specs.Settled.{settled, is_kept, IsUnstruck}
-use Rattle.replay_node.specs.Stands.{Journal, record_of, has_stopped, faults, LeavesActs, OpenStands, DownStands, SlotStands, NodeStands}
+use Rattle.replay_node.specs.Stands.{Journal, journal_ghosts, LeavesActs, OpenStands, DownStands, SlotStands, NodeStands}
 use Rattle.replay_node.specs.declared.node.ReplayNode.{ReplayNode}
 use Rattle.replay_node.specs.declared.node.Slot.{Slot}
 use Rattle.replay_node.specs.declared.node.Slot.TheVariants.{Open, Down}
@@ -77,7 +77,7 @@ pub record JustOpened (fuse : MemFuse) (j : Journal) : Type 0 where
 pub record JustOver (me : Id) (j : Journal) (s : CoordState Journal) : Type 0 where
   pub me_is : s.me ≡ me
   pub keeper : s.keeper ≡ j
-  pub stands : StandsFor record_of has_stopped faults s (opened j.kept)
+  pub stands : StandsFor journal_ghosts s (opened j.kept)
 
 -- it stands for acts that end in its opening
 just_stands : (me : Id) (j : Journal) (s : CoordState Journal) (g : NodeHistory) (disk : NodeDisk) → JustOver me j s → j.log.stopped ≡ false → is_down g ≡ false → IsUnstruck g

@@ -1,5 +1,5 @@
 -- What is the same of a node's acts when an act that was struck is found to be kept or not.
-use Rattle.std.proofs.Common.{◌≡◌, Bool, true, false, List, refl, ap}
+use Rattle.std.proofs.Common.{◌≡◌, Bool, false, List, refl, ap}
 use Rattle.voting_config.specs.Ids.{Id}
 use Rattle.world_model.specs.declared.acts.Act.{Act}
 use Rattle.world_model.specs.declared.acts.Act.TheVariants.{TakeJoin, Value, Response, Open}
@@ -15,21 +15,9 @@ use Rattle.trace_text.specs.Published.{published_by, last_published}
 
 -- one more act
 
-pub unstruck_opening : (g : NodeHistory) (act : Act) (reply : Reply) → is_opening act ≡ true → IsUnstruck (Then g act (Answered reply))
-unstruck_opening g (Open found) reply e = tt
-unstruck_opening g act reply e = cc
-
 pub unstruck_then : (g : NodeHistory) (act : Act) (reply : Reply) → IsUnstruck g → IsUnstruck (Then g act (Answered reply))
 unstruck_then g (Open found) reply u = tt
 unstruck_then g act reply u = u
-
-pub unstruck_before : (g : NodeHistory) (act : Act) (reply : Reply) → is_opening act ≡ false → IsUnstruck (Then g act (Answered reply)) → IsUnstruck g
-unstruck_before g (Open found) reply e u = cc
-unstruck_before g act reply e u = u
-
-pub settled_opening : (k : Bool) (g : NodeHistory) (act : Act) (reply : Reply) → is_opening act ≡ true → settled k (Then g act (Answered reply)) ≡ Then g act (Answered reply)
-settled_opening k g (Open found) reply e = refl
-settled_opening k g act reply e = cc
 
 pub settled_then : (k : Bool) (g : NodeHistory) (act : Act) (reply : Reply) → is_opening act ≡ false → settled k (Then g act (Answered reply)) ≡ Then (settled k g) act (Answered reply)
 settled_then k g (Open found) reply e = cc
@@ -42,14 +30,6 @@ unstruck (Then g act (Disk was)) k u = absurd u
 unstruck (Then g act (Crashed was)) k u = absurd u
 unstruck (Then g (Open found) (Answered reply)) k u = refl
 unstruck (Then g act (Answered reply)) k u = ap (λ (x : NodeHistory). Then x act (Answered reply)) (unstruck g k u)
-
--- what is set last counts
-pub settled_again : (j k : Bool) (g : NodeHistory) → settled j (settled k g) ≡ settled j g
-settled_again j k NoActs = refl
-settled_again j k (Then g act (Disk was)) = refl
-settled_again j k (Then g act (Crashed was)) = refl
-settled_again j k (Then g (Open found) (Answered reply)) = refl
-settled_again j k (Then g act (Answered reply)) = ap (λ (x : NodeHistory). Then x act (Answered reply)) (settled_again j k g)
 
 -- the node is halted or down as it was
 

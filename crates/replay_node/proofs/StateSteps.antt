@@ -1,5 +1,5 @@
 -- What an act makes of a node whose journal is open, by how it ended.
-use Rattle.std.proofs.Common.{◌≡◌, ◌⊎◌, ℕ, Bool, true, false, List, length, reverse, refl, sym, ◌∙◌, ap, subst, inl, inr, arith}
+use Rattle.std.proofs.Common.{◌≡◌, ◌⊎◌, Bool, true, false, List, length, reverse, refl, sym, ◌∙◌, ap, subst, inl, inr, arith}
 use Rattle.std.proofs.lemmas.Result.{IfOk-weaker}
 use Rattle.std.specs.Prelude.{Option, None, Some, Result, Err, IfOk}
 use Rattle.std.specs.declared.alloc.AllocError.{AllocError}
@@ -20,16 +20,18 @@ use Rattle.gate_log.specs.Generations.{standing_in}
 use Rattle.gate_log.specs.Place.{place, place_of}
 use Rattle.gate_log.proofs.Places.{place_is}
 use Rattle.state_journal.specs.Changes.{IsEither}
-use Rattle.state_journal.specs.Journal.{StoodFor, only_record, record_of_files}
+use Rattle.state_journal.specs.Journal.{only_record, record_of_files}
 use Rattle.state_journal.specs.Keeping.{keeping_calls}
 use Rattle.state_journal.specs.declared.change.Change.{Change}
 use Rattle.coord_state.specs.Checks.{Foretells}
-use Rattle.coord_state.specs.Outcomes.{publish_outcome}
+use Rattle.coord_state.specs.Outcomes.{ending, publish_outcome}
 use Rattle.coord_state.specs.StandsFor.{Acts, StandsFor, acts, fields_of}
 use Rattle.coord_state.specs.Writes.{WritesBy, Wrote, IsDuring, change_of}
 use Rattle.coord_state.specs.declared.coord.ActError.{ActError}
 use Rattle.coord_state.specs.declared.coord.ActError.TheVariants as error
 use Rattle.coord_state.specs.declared.coord.CoordState.{CoordState}
+use Rattle.coord_state.specs.declared.ending.NotTaken.{NotTaken}
+use Rattle.coord_state.specs.declared.ending.NotTaken.TheVariants as untaken
 use Rattle.world_model.specs.declared.acts.Act.{Act}
 use Rattle.world_model.specs.declared.acts.Act.TheVariants.{Bootstrap, StartJoin, Publish, Commit, Open}
 use Rattle.world_model.specs.declared.acts.Cause.TheVariants.{Publish as PublishRefused}
@@ -46,7 +48,7 @@ use Rattle.replay_node.specs.Did.{outcome_of}
 use Rattle.replay_node.specs.NodeDisk.{NodeDisk, CallsEnd, Done, Failed, CrashedIn, Called, MemFuse, MayLeave, DiskStands, bytes_read, calls_made}
 use Rattle.replay_node.specs.NodeWorld.{NodeWorld, act_calls, act_called, after_act, ends_in_a_crash, outcome_at, outcome_by}
 use Rattle.replay_node.specs.Settled.{settled, IsUnstruck}
-use Rattle.replay_node.specs.Stands.{Journal, LeavesActs, OpenStands, CrashedStands, fuse_ghosts, record_of, has_stopped, faults}
+use Rattle.replay_node.specs.Stands.{Journal, LeavesActs, OpenStands, CrashedStands, fuse_ghosts, journal_ghosts}
 use Rattle.replay_node.specs.StateDoes.{IsToldBy, StandsAfter, StateDid, StateDoes}
 use Rattle.replay_node.specs.declared.did.Did.{Did}
 use Rattle.replay_node.specs.declared.did.Did.TheVariants as did
@@ -56,22 +58,11 @@ use Rattle.replay_node.proofs.SettledLocal.{halted_reply}
 use Rattle.replay_node.proofs.Settling.{settled_then, unstruck_then}
 use Rattle.replay_node.proofs.Struck.{closed_of_writes, durable_kept, durable_lost, durable_lost_crash, durable_refused, taken_is}
 
--- what the journal's ghost members are over such a disk
-
-abbrev pub moment : Journal → ℕ
-moment j = length (reverse j.log.disk.disk.order.items)
-
-abbrev pub left_since : Journal → ℕ → Option Kept → Type 0
-left_since j = StoodFor (WereImages (reverse j.log.disk.disk.order.items) (past_of j.log.disk.disk) (read_of j.log.disk.disk))
-
-abbrev pub journal_writes : Journal → Change → Journal → Bool → Type 0
-journal_writes j change k ok = CallsMade (FuseSteps MemSteps) (keeping_calls (place j.log) j.kept change) j.log.disk k.log.disk ok
-
 -- what coord_state says of an act
 pub record Step (old new : CoordState Journal) (act : Act) (o : Outcome) : Type 0 where
-  pub acts : Acts record_of has_stopped faults old new act o
-  pub wrote : WritesBy journal_writes old.keeper act new.keeper o
-  pub any_moment : (g : NodeHistory) → StandsFor record_of has_stopped faults old g → LeavesOnly moment left_since old.keeper new.keeper (IsDuring g act)
+  pub acts : Acts journal_ghosts old new act o
+  pub wrote : WritesBy journal_ghosts old.keeper act new.keeper o
+  pub any_moment : (g : NodeHistory) → StandsFor journal_ghosts old g → LeavesOnly journal_ghosts.moment journal_ghosts.left_since old.keeper new.keeper (IsDuring g act)
 
 -- ---- the device calls
 
@@ -85,13 +76,13 @@ abbrev CallsDone : Journal → Called → Type 0
 CallsDone new called = (called.ended ≡ Done) × DiskStands new.log.disk called.disk
 
 module _ (old new : Journal) (d : NodeDisk) (kept : Kept) (stands : DiskStands old.log.disk d) (same : old.kept ≡ kept) where
-  taken_done : (change : Option Change) (sends : Option Message) (wins : Bool) → old.log.stopped ≡ false → Wrote journal_writes old change new true → CallsDone new (calls_made d (act_calls (Taken sends wins) change kept (bytes_read d.files)))
+  taken_done : (change : Option Change) (sends : Option Message) (wins : Bool) → old.log.stopped ≡ false → Wrote journal_ghosts old change new true → CallsDone new (calls_made d (act_calls (Taken sends wins) change kept (bytes_read d.files)))
   taken_done (Some change) sends wins running wrote =
       let ran = subst (λ (calls : List DeviceCall). CallsMade (FuseSteps MemSteps) calls old.log.disk new.log.disk true) (calls_are old d kept change stands running same) wrote in
       said_done (keeping_calls (place_of (standing_in (bytes_read d.files))) kept change) old.log.disk new.log.disk d true stands ran refl
   taken_done None sends wins running wrote = (refl, subst (λ (j : Journal). DiskStands j.log.disk d) (sym wrote) stands)
 
-  answered_done : (act : Act) (reply : Reply) → (is_taken reply ≡ true → old.log.stopped ≡ false) → WritesBy journal_writes old act new (Answered reply) → CallsDone new (calls_made d (act_calls reply (change_of act) kept (bytes_read d.files)))
+  answered_done : (act : Act) (reply : Reply) → (is_taken reply ≡ true → old.log.stopped ≡ false) → WritesBy journal_ghosts old act new (Answered reply) → CallsDone new (calls_made d (act_calls reply (change_of act) kept (bytes_read d.files)))
   answered_done act (Taken sends wins) running wrote = taken_done (change_of act) sends wins (running refl) wrote
   answered_done act (Refused cause) running wrote = (refl, subst (λ (j : Journal). DiskStands j.log.disk d) (sym wrote) stands)
   answered_done act Stopped running wrote = (refl, subst (λ (j : Journal). DiskStands j.log.disk d) (sym wrote) stands)
@@ -106,14 +97,14 @@ pub halted_disk : (g : NodeHistory) (act : Act) (kept : Bool) → is_opening act
 halted_disk g (Open found) kept o = cc
 halted_disk g act kept o = refl
 
-stands_halted : (c : CoordState Journal) (g : NodeHistory) → StandsFor record_of has_stopped faults c g → c.keeper.log.stopped ≡ halted_of g
+stands_halted : (c : CoordState Journal) (g : NodeHistory) → StandsFor journal_ghosts c g → c.keeper.log.stopped ≡ halted_of g
 stands_halted c g s = ap (λ (p : NodeState). p.halted) s
 
-stands_durable : (c : CoordState Journal) (g : NodeHistory) → StandsFor record_of has_stopped faults c g → c.keeper.kept ≡ durable_of g
+stands_durable : (c : CoordState Journal) (g : NodeHistory) → StandsFor journal_ghosts c g → c.keeper.kept ≡ durable_of g
 stands_durable c g s = ap (λ (p : NodeState). record { term = p.term; accepted = p.accepted; committed = p.committed }) s
 
 -- an act that is taken finds the journal running
-runs_of : (me : Id) (c : CoordState Journal) (g : NodeHistory) (act : Act) → is_opening act ≡ false → StandsFor record_of has_stopped faults c g → is_taken (reply_of me g act) ≡ true → c.keeper.log.stopped ≡ false
+runs_of : (me : Id) (c : CoordState Journal) (g : NodeHistory) (act : Act) → is_opening act ≡ false → StandsFor journal_ghosts c g → is_taken (reply_of me g act) ≡ true → c.keeper.log.stopped ≡ false
 runs_of me c g act o s taken = from c.keeper.log.stopped refl
   where
     from : (b : Bool) → c.keeper.log.stopped ≡ b → c.keeper.log.stopped ≡ false
@@ -152,7 +143,7 @@ module _ (old new : CoordState Journal) (act : Act) (reply : Reply) (step : Step
   answered_halted : old.keeper.log.stopped ≡ true → LeavesActs new.keeper.log.disk (Then w.acts act (Answered reply))
   answered_halted stopped =
       let halted_is : reply ≡ Stopped = reply_is ∙ halted_reply old.me w.acts act o (sym (stands_halted old w.acts stands.acts) ∙ stopped) in
-      let same : new.keeper ≡ old.keeper = subst (λ (r : Reply). WritesBy journal_writes old.keeper act new.keeper (Answered r)) halted_is step.wrote in
+      let same : new.keeper ≡ old.keeper = subst (λ (r : Reply). WritesBy journal_ghosts old.keeper act new.keeper (Answered r)) halted_is step.wrote in
       subst (λ (j : Journal). LeavesActs j.log.disk (Then w.acts act (Answered reply))) (sym same) (leaves_halted old.keeper.log.disk w.acts act reply o (ap is_taken halted_is) (stands.stopped stopped))
 
   pub answered_stands : OpenStands old.me new (after_act old.me w act)
@@ -160,7 +151,7 @@ module _ (old new : CoordState Journal) (act : Act) (reply : Reply) (step : Step
     me_is = step.acts.at.me;
     up = ap ends_in_a_crash answered_calls.0;
     not_crashed = subst (λ (p : Outcome). is_down (Then w.acts act p) ≡ false) answered_at refl;
-    acts = subst (λ (p : Outcome). StandsFor record_of has_stopped faults new (Then w.acts act p)) answered_at (step.acts.stands w.acts stands.acts);
+    acts = subst (λ (p : Outcome). StandsFor journal_ghosts new (Then w.acts act p)) answered_at (step.acts.stands w.acts stands.acts);
     disk = answered_calls.1;
     running = λ runs. subst (λ (p : Outcome). IsUnstruck (Then w.acts act p)) answered_at (unstruck_then w.acts act reply (stands.running (sym same_halted ∙ runs)));
     stopped = λ stopped. subst (λ (p : Outcome). LeavesActs new.keeper.log.disk (Then w.acts act p)) answered_at (answered_halted (sym same_halted ∙ stopped));
@@ -176,7 +167,7 @@ change_is (Commit commit) e = (_, refl)
 change_is act e = cc
 
 -- what was left before the act is the record
-was_record : (c : CoordState Journal) (g : NodeHistory) (found : Option Kept) → StandsFor record_of has_stopped faults c g → c.keeper.log.stopped ≡ false → left_since c.keeper (moment c.keeper) found → found ≡ Some (durable_of g)
+was_record : (c : CoordState Journal) (g : NodeHistory) (found : Option Kept) → StandsFor journal_ghosts c g → c.keeper.log.stopped ≡ false → journal_ghosts.left_since c.keeper (journal_ghosts.moment c.keeper) found → found ≡ Some (durable_of g)
 was_record c g found s running left =
     let order = reverse c.keeper.log.disk.disk.order.items in
     let past = past_of c.keeper.log.disk.disk in
@@ -203,12 +194,12 @@ module _ (old new : CoordState Journal) (act : Act) (step : Step old new act (Di
   during : (files : Files) → MayLeave new.keeper.log.disk files → IsDuring w.acts act (record_of_files files)
   during files may =
       let disk = new.keeper.log.disk.disk in
-      from (run.since (moment old.keeper) (record_of_files files) (omega arith) (files, were-are (reverse disk.order.items) (past_of disk) (read_of disk) (moment old.keeper) files may, refl))
+      from (run.since (journal_ghosts.moment old.keeper) (record_of_files files) (omega arith) (files, were-are (reverse disk.order.items) (past_of disk) (read_of disk) (journal_ghosts.moment old.keeper) files may, refl))
     where
-      run : LeavesOnly moment left_since old.keeper new.keeper (IsDuring w.acts act)
+      run : LeavesOnly journal_ghosts.moment journal_ghosts.left_since old.keeper new.keeper (IsDuring w.acts act)
       run = step.any_moment w.acts stands.acts
 
-      from : left_since old.keeper (moment old.keeper) (record_of_files files) ⊎ IsDuring w.acts act (record_of_files files) → IsDuring w.acts act (record_of_files files)
+      from : journal_ghosts.left_since old.keeper (journal_ghosts.moment old.keeper) (record_of_files files) ⊎ IsDuring w.acts act (record_of_files files) → IsDuring w.acts act (record_of_files files)
       from (inl was) = inl (was_record old w.acts (record_of_files files) stands.acts struck_runs was)
       from (inr now) = now
 
@@ -220,7 +211,7 @@ module _ (old new : CoordState Journal) (act : Act) (step : Step old new act (Di
 
   struck_ran : CallsMade (FuseSteps MemSteps) calls old.keeper.log.disk new.keeper.log.disk false
   struck_ran =
-      let wrote : Wrote journal_writes old.keeper (Some change.0) new.keeper false = subst (λ (c : Option Change). Wrote journal_writes old.keeper c new.keeper false) change.1 step.wrote in
+      let wrote : Wrote journal_ghosts old.keeper (Some change.0) new.keeper false = subst (λ (c : Option Change). Wrote journal_ghosts old.keeper c new.keeper false) change.1 step.wrote in
       subst (λ (made : List DeviceCall). CallsMade (FuseSteps MemSteps) made old.keeper.log.disk new.keeper.log.disk false) (calls_are old.keeper w.disk (durable_of w.acts) change.0 stands.disk struck_runs (stands_durable old w.acts stands.acts)) wrote
 
   struck_calls : act_called old.me w act ≡ calls_made w.disk calls
@@ -249,7 +240,7 @@ module _ (old new : CoordState Journal) (act : Act) (step : Step old new act (Di
       me_is = step.acts.at.me;
       up = ap ends_in_a_crash (ap (λ (c : Called). c.ended) struck_calls ∙ failed_calls.0);
       not_crashed = subst (λ (p : Outcome). is_down (Then w.acts act p) ≡ false) failed_at refl;
-      acts = subst (λ (p : Outcome). StandsFor record_of has_stopped faults new (Then w.acts act p)) failed_at (step.acts.stands w.acts stands.acts);
+      acts = subst (λ (p : Outcome). StandsFor journal_ghosts new (Then w.acts act p)) failed_at (step.acts.stands w.acts stands.acts);
       disk = subst (λ (c : Called). DiskStands new.keeper.log.disk c.disk) (sym struck_calls) failed_calls.1;
       running = λ runs. absurd (cc (runs, failed_halted));
       stopped = λ stopped. subst (λ (p : Outcome). LeavesActs new.keeper.log.disk (Then w.acts act p)) failed_at (leaves (Then w.acts act (Disk false)) (durable_lost w.acts act struck_closed) (durable_kept w.acts act));
@@ -280,61 +271,52 @@ answered_after me state w did.Down reply is stands = absurd (cc is)
 answered_after me state w d reply is stands = stands
 
 module _ (old new : CoordState Journal) (act : Act) (closed : is_opening act ≡ false) (w : NodeWorld) (stands : OpenStands old.me old w) where
-  answered_did : (was now : Did) (o : Outcome) (reply : Reply) → outcome_of was ≡ Some (Answered reply) → outcome_of was ≡ Some o → Step old new act o → now ≡ was → StateDid old.me new w act now
-  answered_did was now o reply is by step told =
-      let same : o ≡ Answered reply = cc in
-      let here : Step old new act (Answered reply) = subst (Step old new act) same step in
-      let now_is : outcome_of now ≡ Some (Answered reply) = ap outcome_of told ∙ is in
-      record {
-        outcome = now_is ∙ ap Some (answered_at old new act reply here closed w stands);
-        stands = answered_after old.me new (after_act old.me w act) now reply now_is (answered_stands old new act reply here closed w stands);
-      }
+  answered_did : (d : Did) (reply : Reply) → outcome_of d ≡ Some (Answered reply) → Step old new act (Answered reply) → StateDid old.me new w act d
+  answered_did d reply is step = record {
+    outcome = is ∙ ap Some (answered_at old new act reply step closed w stands);
+    stands = answered_after old.me new (after_act old.me w act) d reply is (answered_stands old new act reply step closed w stands);
+  }
 
-  struck_did : (now : Did) → Step old new act (Disk false) → IsToldBy new did.Disk now → StateDid old.me new w act now
+  struck_did : (d : Did) → Step old new act (Disk false) → IsToldBy new untaken.Disk d → StateDid old.me new w act d
   struck_did did.Disk step told = record { outcome = ap Some (failed_at old new act step w stands told); stands = failed_stands old new act step w stands told }
   struck_did did.Crashed step told = record { outcome = ap Some (crashed_at old new act step w stands told); stands = crashed_stands old new act step w stands told }
-  struck_did now step told = absurd told
+  struck_did d step told = absurd told
 
-  state_did : (was now : Did) (o : Outcome) → outcome_of was ≡ Some o → Step old new act o → IsToldBy new was now → StateDid old.me new w act now
-  state_did (did.Taken e) now o is step told = answered_did (did.Taken e) now o _ refl is step told
-  state_did (did.Refused cause) now o is step told = answered_did (did.Refused cause) now o _ refl is step told
-  state_did did.Stopped now o is step told = answered_did did.Stopped now o _ refl is step told
-  state_did did.Disk now o is step told = struck_did now (subst (Step old new act) (cc is) step) told
-  state_did did.Crashed now o is step told =
-      let same : o ≡ Crashed false = cc is in
-      absurd (cc (same, step.acts.at.runs))
-  state_did did.Down now o is step told = absurd (cc is)
+  ended_did : (why : NotTaken) (d : Did) → Step old new act (ending why) → IsToldBy new why d → StateDid old.me new w act d
+  ended_did untaken.Stopped d step told = answered_did d Stopped (ap outcome_of told) step
+  ended_did (untaken.Refused cause) d step told = answered_did d (Refused cause) (ap outcome_of told) step
+  ended_did untaken.Disk d step told = struck_did d step told
 
-pub does : (old new : CoordState Journal) (act : Act) (o : Outcome) (was now : Did) → is_opening act ≡ false → outcome_of was ≡ Some o → Step old new act o → IsToldBy new was now → StateDoes old new act now
-does old new act o was now closed is step told = record { me = step.acts.at.me; does = λ w stands. state_did old new act closed w stands was now o is step told }
+-- an act that was taken
+pub taken_does : (old new : CoordState Journal) (act : Act) (reply : Reply) (d : Did) → is_opening act ≡ false → Step old new act (Answered reply) → outcome_of d ≡ Some (Answered reply) → StateDoes old new act d
+taken_does old new act reply d closed step is = record { me = step.acts.at.me; does = λ w stands. answered_did old new act closed w stands d reply is step }
 
-pub told_does : (old new : CoordState Journal) (act : Act) (o : Outcome) (was : Did) → is_opening act ≡ false → outcome_of was ≡ Some o → Step old new act o
-    → (r : Result Did AllocError) → IfOk r (IsToldBy new was) → IfOk r (StateDoes old new act)
-told_does old new act o was closed is step r told = IfOk-weaker r (IsToldBy new was) (StateDoes old new act) (λ now. does old new act o was now closed is step) told
+-- one that was not
+pub ended_does : (old new : CoordState Journal) (act : Act) (why : NotTaken) (d : Did) → is_opening act ≡ false → Step old new act (ending why) → IsToldBy new why d → StateDoes old new act d
+ended_does old new act why d closed step told = record { me = step.acts.at.me; does = λ w stands. ended_did old new act closed w stands why d step told }
+
+pub told_does : (old new : CoordState Journal) (act : Act) (why same_why : NotTaken) → is_opening act ≡ false → why ≡ same_why → Step old new act (ending same_why)
+    → (r : Result Did AllocError) → IfOk r (IsToldBy new why) → IfOk r (StateDoes old new act)
+told_does old new act why same_why closed same step r told =
+    IfOk-weaker r (IsToldBy new why) (StateDoes old new act) (λ d. ended_does old new act why d closed (subst (λ (x : NotTaken). Step old new act (ending x)) (sym same) step)) told
 
 -- ---- a publication that is refused before it is copied
 
-still_step : (c : CoordState Journal) (request : PublishRequest) (reply : Reply) → is_taken reply ≡ false → reply ≡ reply_at c.me (fields_of record_of has_stopped faults c) (Publish request) → Step c c (Publish request) (Answered reply)
+still_step : (c : CoordState Journal) (request : PublishRequest) (reply : Reply) → is_taken reply ≡ false → reply ≡ reply_at c.me (fields_of journal_ghosts c) (Publish request) → Step c c (Publish request) (Answered reply)
 still_step c request (Taken sends wins) refused is = cc
 still_step c request (Refused cause) refused is = record {
-  acts = acts record_of has_stopped faults c c (Publish request) (Answered (Refused cause)) refl (record { me = refl; answers = is; after = refl; runs = refl; later = omega arith; fault = λ e. absurd (cc e) });
+  acts = acts journal_ghosts c c (Publish request) (Answered (Refused cause)) refl (record { me = refl; answers = is; after = refl; runs = refl; later = omega arith; fault = λ e. absurd (cc e) });
   wrote = refl;
-  any_moment = λ g s. quiet moment left_since c.keeper (IsDuring g (Publish request));
+  any_moment = λ g s. quiet journal_ghosts.moment journal_ghosts.left_since c.keeper (IsDuring g (Publish request));
 }
 still_step c request Stopped refused is = record {
-  acts = acts record_of has_stopped faults c c (Publish request) (Answered Stopped) refl (record { me = refl; answers = is; after = refl; runs = refl; later = omega arith; fault = λ e. absurd (cc e) });
+  acts = acts journal_ghosts c c (Publish request) (Answered Stopped) refl (record { me = refl; answers = is; after = refl; runs = refl; later = omega arith; fault = λ e. absurd (cc e) });
   wrote = refl;
-  any_moment = λ g s. quiet moment left_since c.keeper (IsDuring g (Publish request));
+  any_moment = λ g s. quiet journal_ghosts.moment journal_ghosts.left_since c.keeper (IsDuring g (Publish request));
 }
 
-still : (c : CoordState Journal) (request : PublishRequest) (reply : Reply) (d : Did) → is_taken reply ≡ false → outcome_of d ≡ Some (Answered reply) → reply ≡ reply_at c.me (fields_of record_of has_stopped faults c) (Publish request) → StateDoes c c (Publish request) d
-still c request reply d refused is by = record {
-  me = refl;
-  does = λ w stands. answered_did c c (Publish request) refl w stands d d (Answered reply) reply is is (still_step c request reply refused by) refl;
-}
-
-pub refused_does : (c : CoordState Journal) (request : PublishRequest) (why : ActError PublishCause (Unit {0})) (d : Did) → outcome_of d ≡ Some (publish_outcome (Err why))
-    → Foretells (Err why) (reply_at c.me (fields_of record_of has_stopped faults c) (Publish request)) → StateDoes c c (Publish request) d
-refused_does c request (error.Stopped u) d is told = still c request Stopped d refl is (sym told)
-refused_does c request (error.Refused cause u) d is told = still c request (Refused (PublishRefused cause)) d refl is (sym told)
-refused_does c request error.Disk d is told = absurd told
+pub refused_step : (c : CoordState Journal) (request : PublishRequest) (why : ActError PublishCause (Unit {0})) → Foretells (Err why) (reply_at c.me (fields_of journal_ghosts c) (Publish request))
+    → Step c c (Publish request) (publish_outcome (Err why))
+refused_step c request (error.Stopped u) told = still_step c request Stopped refl (sym told)
+refused_step c request (error.Refused cause u) told = still_step c request (Refused (PublishRefused cause)) refl (sym told)
+refused_step c request error.Disk told = absurd told

@@ -10,7 +10,7 @@ use Rattle.world_model.specs.declared.acts.Reply.{Reply}
 use Rattle.world_model.specs.declared.acts.Reply.TheVariants.{Taken, Refused, Stopped}
 use Rattle.world_model.specs.declared.acts.Outcome.TheVariants.{Answered, Disk, Crashed}
 use Rattle.world_model.specs.Acts.{NodeHistory, Then}
-use Rattle.world_model.specs.NodeState.{term_of, accepted_of, committed_of, node_state, durable_of}
+use Rattle.world_model.specs.NodeState.{term_of, accepted_of, committed_of, durable_of}
 use Rattle.world_model.specs.Histories.{is_opening}
 use Rattle.world_model.specs.Replies.{reply_of, is_taken, writes}
 use Rattle.voting_config.proofs.Sets.{same_self, same_config_is}
@@ -25,13 +25,6 @@ durable_refused g (Open found) (Refused cause) e r = cc
 durable_refused g act (Refused cause) e r = refl
 durable_refused g (Open found) Stopped e r = cc
 durable_refused g act Stopped e r = refl
-
-pub state_refused : (g : NodeHistory) (act : Act) (reply : Reply) → is_opening act ≡ false → is_taken reply ≡ false → node_state (Then g act (Answered reply)) ≡ node_state g
-state_refused g act (Taken sends wins) e r = cc
-state_refused g (Open found) (Refused cause) e r = cc
-state_refused g act (Refused cause) e r = refl
-state_refused g (Open found) Stopped e r = cc
-state_refused g act Stopped e r = refl
 
 pub durable_lost : (g : NodeHistory) (act : Act) → is_opening act ≡ false → durable_of (Then g act (Disk false)) ≡ durable_of g
 durable_lost g (Open found) e = cc

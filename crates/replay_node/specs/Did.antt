@@ -65,11 +65,6 @@ ended_text (Some ending) count n act d = (codes "act " ++ n ++ codes " " ++ endi
 abbrev pub did_text : (count : ℕ) → Id → (act : List ℕ) → Did → List ℕ
 did_text count n act d = ended_text (ending_by d) count n act d
 
--- the act won nothing and committed nothing
-abbrev pub IsPlain : Did → Type 0
-IsPlain (did.Taken e) = (e.won ≡ None) × (e.committed ≡ None)
-IsPlain other = Unit {0}
-
 -- the act committed nothing, and what it won is the election of this term
 abbrev pub WinsIn : ℕ → Did → Type 0
 WinsIn term (did.Taken e) = (e.won ≡ (if is_won e.won then Some term else None)) × (e.committed ≡ None)

@@ -1,10 +1,10 @@
 -- For the contracts inside: when a node of a replay stands for what it did and for its disk.
-use Rattle.std.specs.Prelude.{◌≡◌, ◌<◌, ◌⊎◌, ℕ, ◌+◌, true, false, Bool, Some, length}
+use Rattle.std.specs.Prelude.{◌≡◌, ◌<◌, ◌⊎◌, ℕ, true, false, Some, length}
 use Rattle.voting_config.specs.Ids.{Id, has, most_ids}
-use Rattle.cluster_state.specs.declared.state.Kept.{Kept}
 use Rattle.zen_disk.specs.FileState.{both_left_by}
 use Rattle.zen_disk.specs.MemDisks.{files_of}
 use Rattle.zen_disk.specs.Sides.{Files}
+use Rattle.zen_disk.specs.contracts.fuse.Fuse as FuseRow
 use Rattle.zen_disk.specs.contracts.fuse.FuseDisks.TheImpl as FuseDisks
 use Rattle.zen_disk.specs.contracts.memory.MemDisks as MemDisksRow
 use Rattle.zen_disk.specs.contracts.memory.MemDisksDisks.TheImpl as MemDisksDisks
@@ -12,7 +12,9 @@ use Rattle.zen_disk.specs.declared.disks.Disks.{Ghosts}
 use Rattle.zen_disk.specs.declared.orders.Way.{Way}
 use Rattle.state_journal.specs.Changes.{IsEither}
 use Rattle.state_journal.specs.Journal.{record_of_files}
+use Rattle.state_journal.specs.contracts.journal.StateJournalKeeper.TheImpl as JournalKeeper
 use Rattle.state_journal.specs.declared.journal.StateJournal.{StateJournal}
+use Rattle.state_journal.specs.declared.keeper.Keeper.{Ghosts as KeeperGhosts}
 use Rattle.coord_state.specs.StandsFor.{StandsFor}
 use Rattle.coord_state.specs.declared.coord.CoordState.{CoordState}
 use Rattle.world_model.specs.declared.acts.Act.{Act}
@@ -40,16 +42,9 @@ fuse_ghosts = FuseDisks.ghosts MemDisksRow.the_row MemDisksDisks.ghosts FuseDisk
 abbrev pub Journal : Type 0
 Journal = StateJournal MemFuse fuse_ghosts
 
--- what the journal's ghost members are over such a disk
-
-abbrev pub record_of : Journal → Kept
-record_of j = j.kept
-
-abbrev pub has_stopped : Journal → Bool
-has_stopped j = j.log.stopped
-
-abbrev pub faults : Journal → ℕ
-faults j = j.log.disk.disk.faults + j.log.disk.refused
+-- what the journal's ghost members are over it
+abbrev pub journal_ghosts : KeeperGhosts Journal
+journal_ghosts = JournalKeeper.ghosts (FuseRow.the_row MemDisksRow.the_row) fuse_ghosts JournalKeeper.no_dict
 
 -- whatever a crash leaves holds the acts so far, with the act that was struck or without it; and where the two records show the same, they
 -- are the same
@@ -62,7 +57,7 @@ pub record OpenStands (me : Id) (state : CoordState Journal) (w : NodeWorld) : T
   pub me_is : state.me ≡ me
   pub up : w.down ≡ false
   pub not_crashed : is_down w.acts ≡ false
-  pub acts : StandsFor record_of has_stopped faults state w.acts
+  pub acts : StandsFor journal_ghosts state w.acts
   pub disk : DiskStands state.keeper.log.disk w.disk
   pub running : state.keeper.log.stopped ≡ false → IsUnstruck w.acts
   pub stopped : state.keeper.log.stopped ≡ true → LeavesActs state.keeper.log.disk w.acts

@@ -3,6 +3,8 @@ use Rattle.std.specs.Prelude.{◌≡◌, ℕ, Option, Some}
 use Rattle.voting_config.specs.Ids.{Id}
 use Rattle.cluster_state.specs.declared.state.ClusterState.{ClusterState}
 use Rattle.coord_state.specs.declared.coord.CoordState.{CoordState}
+use Rattle.coord_state.specs.declared.ending.NotTaken.{NotTaken}
+use Rattle.coord_state.specs.declared.ending.NotTaken.TheVariants as untaken
 use Rattle.world_model.specs.declared.acts.Act.{Act}
 use Rattle.world_model.specs.declared.acts.Outcome.{Outcome}
 use Rattle.trace_text.specs.Trace.{act_text, results}
@@ -16,12 +18,13 @@ use Rattle.replay_node.specs.declared.did.Did.TheVariants as did
 use Rattle.replay_node.specs.declared.node.Slot.{Slot}
 use Rattle.replay_node.specs.declared.node.Slot.TheVariants.{Open, Down}
 
--- after an act that met a fault of the disk the fuse says what struck it
-abbrev pub IsToldBy : CoordState Journal → Did → Did → Type 0
-IsToldBy state did.Disk did.Disk = state.keeper.log.disk.struck ≡ Some struck.Fault
-IsToldBy state did.Disk did.Crashed = state.keeper.log.disk.struck ≡ Some struck.Stop
-IsToldBy state did.Disk other = ⊥
-IsToldBy state was now = now ≡ was
+-- what an act did that was not taken: after a fault of the disk the fuse says what struck it
+abbrev pub IsToldBy : CoordState Journal → NotTaken → Did → Type 0
+IsToldBy state untaken.Stopped d = d ≡ did.Stopped
+IsToldBy state (untaken.Refused cause) d = d ≡ did.Refused cause
+IsToldBy state untaken.Disk did.Disk = state.keeper.log.disk.struck ≡ Some struck.Fault
+IsToldBy state untaken.Disk did.Crashed = state.keeper.log.disk.struck ≡ Some struck.Stop
+IsToldBy state untaken.Disk other = ⊥
 
 -- the node stands for w, open or with its disk stopped
 abbrev pub StandsAfter : Id → CoordState Journal → NodeWorld → Did → Type 0

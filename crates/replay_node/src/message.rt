@@ -2,25 +2,36 @@
 ghost use Rattle.std.specs.Prelude.{◌≡◌, IfOk};
 ghost use Rattle.cluster_state.specs.States.{IsFit};
 ghost use Rattle.state_journal.specs.Fit.{IsFit-prop};
+ghost use Rattle.trace_text.specs.Trace.{state_text};
 
-use cluster_state::{ApplyCommit, Join, PublishRequest, PublishResponse};
-use std::alloc::AllocError;
+use cluster_state::{ApplyCommit, Join, PublishRequest, PublishResponse, to_json};
+use std::alloc::{AllocError, Global};
 use std::rc::Rc;
 
-/// A publish request whose state is within the limits.
+/// A publish request whose state is within the limits, with the state's JSON, which is made once for all lines that show it.
 #[derive(Drop)]
 pub struct FitPublishRequest {
     pub request: PublishRequest,
+    json: Vec<u8>,
     ghost fit: { IsFit request.state } by { IsFit-prop request.state },
+    ghost shown: { json.items ≡ state_text request.state },
 }
 
 impl FitPublishRequest {
     /// This request, whose state is within the limits.
-    pub fn new(request: PublishRequest) -> FitPublishRequest
+    pub fn new(alloc: Global, request: PublishRequest) -> Result<FitPublishRequest, AllocError>
         requires { IsFit request.state }
-        ensures { result.request ≡ request }
+        ensures { IfOk result (λ r. r.request ≡ request) }
     {
-        FitPublishRequest { request }
+        let json = to_json(alloc, &request.state)?;
+        Ok(FitPublishRequest { request, json })
+    }
+
+    /// The state as JSON.
+    pub fn json(&self) -> &[u8]
+        ensures { result.now ≡ state_text self.now.request.state }
+    {
+        self.json.as_slice()
     }
 }
 
@@ -31,23 +42,4 @@ pub enum SentMessage {
     Publish(Rc<FitPublishRequest>),
     Response(PublishResponse),
     Commit(ApplyCommit),
-}
-
-impl SentMessage {
-    ghost use Rattle.replay_node.specs.Sent.{message_of};
-
-    /// The same message once more. No state is copied.
-    pub fn share(&self) -> Result<SentMessage, AllocError>
-        ensures { IfOk result (λ m. message_of m ≡ message_of self.now) }
-    {
-        match self {
-            SentMessage::Join(join) => Ok(SentMessage::Join(*join)),
-            SentMessage::Publish(publication) => {
-                let publication = publication.clone()?;
-                Ok(SentMessage::Publish(publication))
-            }
-            SentMessage::Response(response) => Ok(SentMessage::Response(*response)),
-            SentMessage::Commit(commit) => Ok(SentMessage::Commit(*commit)),
-        }
-    }
 }

@@ -1,76 +1,41 @@
 //! The acts of a node whose journal is open, each with what it did.
-ghost use Rattle.std.specs.Prelude.{◌≡◌, IfOk, Some, Err, Ok, Option};
+ghost use Rattle.std.specs.Prelude.{◌≡◌, IfOk, Some, Ok, Option};
 ghost use Rattle.cluster_state.specs.States.{IsFitValue};
 ghost use Rattle.cluster_state.specs.declared.state.ClusterState.{ClusterState as State};
-ghost use Rattle.coord_state.specs.Outcomes.{publish_outcome, value_outcome, response_outcome};
+ghost use Rattle.coord_state.specs.Outcomes.{join_outcome, response_outcome};
 ghost use Rattle.world_model.specs.declared.acts.Act.TheVariants as act;
-ghost use Rattle.replay_node.specs.Did.{outcome_of, IsPlain, CommitsLast};
+ghost use Rattle.replay_node.specs.Did.{outcome_of, WinsIn, CommitsLast};
 ghost use Rattle.replay_node.specs.Published.{state_published};
 ghost use Rattle.replay_node.specs.Sent.{message_of, taking};
 ghost use Rattle.replay_node.specs.Stands.{HasRoomIn};
 ghost use Rattle.replay_node.specs.StateDoes.{IsToldBy, StateDoes, WritesText};
 
-use crate::did::{Did, Effects, commit_did, initial_did, join_did, publish_did, start_did};
+use crate::did::{Did, Effects};
 use crate::message::{FitPublishRequest, SentMessage};
-use cluster_state::{
-    ApplyCommit, ClusterValue, Join, PublishCause, PublishRequest, PublishResponse, ResponseCause,
-    ValueCause,
-};
-use coord_state::{ActError, CoordState};
+use cluster_state::{ApplyCommit, ClusterValue, Join, PublishResponse};
+use coord_state::{CoordState, Joined, NotTaken};
 use state_journal::{Keeper, Ready, StateJournal};
 use std::alloc::{AllocError, Global};
 use std::rc::Rc;
 use voting_config::{NodeId, NodeSet, VotingConfig};
-use world_model::Cause;
 use zen_disk::{Fuse, MemDisks, Struck};
 
 /// A node whose journal is open on a memory disk under a fuse.
 pub type OpenNode = CoordState<StateJournal<Fuse<MemDisks>>>;
 
-// What the fuse says of an act that met a fault of the disk. A fault that no order has made means that memory ran out.
-fn told(state: &OpenNode, did: Did) -> Result<Did, AllocError>
-    ensures { IfOk result (λ d. IsToldBy state.now did d) }
+// What an act did that was not taken: after a fault of the disk the fuse says what struck it. A fault that no order has made means that
+// memory ran out.
+fn ended(state: &OpenNode, error: NotTaken) -> Result<Did, AllocError>
+    ensures { IfOk result (λ d. IsToldBy state.now error d) }
 {
-    match did {
-        Did::Disk => match state.keeper().disk().struck() {
+    match error {
+        NotTaken::Stopped => Ok(Did::Stopped),
+        NotTaken::Refused(cause) => Ok(Did::Refused(cause)),
+        NotTaken::Disk => match state.keeper().disk().struck() {
             None => Err(AllocError),
             Some(Struck::Fault) => Ok(Did::Disk),
             Some(Struck::Stop) => Ok(Did::Crashed),
         },
-        other => Ok(other),
-    }
-}
-
-fn value_refused(error: ActError<ValueCause, (VotingConfig, ClusterValue)>) -> Did
-    ensures outcome { outcome_of result ≡ Some (value_outcome (Err error)) }
-    ensures plain { IsPlain result }
-{
-    match error {
-        ActError::Stopped(_) => Did::Stopped,
-        ActError::Refused(cause, _) => Did::Refused(Cause::Value(cause)),
-        ActError::Disk => Did::Disk,
-    }
-}
-
-fn publish_refused(error: ActError<PublishCause, ()>) -> Did
-    ensures outcome { outcome_of result ≡ Some (publish_outcome (Err error)) }
-    ensures plain { IsPlain result }
-{
-    match error {
-        ActError::Stopped(_) => Did::Stopped,
-        ActError::Refused(cause, _) => Did::Refused(Cause::Publish(cause)),
-        ActError::Disk => Did::Disk,
-    }
-}
-
-fn response_refused(error: ActError<ResponseCause, ()>) -> Did
-    ensures outcome { outcome_of result ≡ Some (response_outcome (Err error)) }
-    ensures plain { IsPlain result }
-{
-    match error {
-        ActError::Stopped(_) => Did::Stopped,
-        ActError::Refused(cause, _) => Did::Refused(Cause::Response(cause)),
-        ActError::Disk => Did::Disk,
     }
 }
 
@@ -88,6 +53,18 @@ fn share(
     }
 }
 
+// What counting a join of this term did.
+fn counted(joined: Joined, term: u64) -> Did
+    ensures outcome { outcome_of result ≡ Some (join_outcome {T = Unit {0}} (Ok joined)) }
+    ensures won { WinsIn term result }
+{
+    Did::Taken(Effects {
+        won: if joined.won { Some(term) } else { None },
+        committed: None,
+        sends: None,
+    })
+}
+
 // What counting a response did that sends this commit, or none.
 fn responded(
     sends: Option<ApplyCommit>,
@@ -97,11 +74,7 @@ fn responded(
     ensures committed { IfOk result (λ did. CommitsLast (state_published published.now) did) }
 {
     match sends {
-        None => Ok(Did::Taken(Effects {
-            won: None,
-            committed: None,
-            sends: None,
-        })),
+        None => Ok(Did::sends(None)),
         Some(commit) => {
             let committed = share(published)?;
             Ok(Did::Taken(Effects {
@@ -123,8 +96,10 @@ pub fn set_initial(
     ensures text { IfOk result (λ did. (published : Option State) → WritesText (act.Bootstrap initial.now) published did) }
 {
     let initial = Ready::initial(alloc, initial)?;
-    let answer = state.set_initial(initial);
-    told(state, initial_did(answer))
+    match state.set_initial(initial) {
+        Ok(()) => Ok(Did::sends(None)),
+        Err(error) => ended(state, error.not_taken()),
+    }
 }
 
 /// The node starts a join.
@@ -132,8 +107,10 @@ pub fn start_join(state: &mut OpenNode, candidate: NodeId, term: u64) -> Result<
     ensures does { IfOk result (λ did. StateDoes state.old state.new (act.StartJoin candidate term) did) }
     ensures text { IfOk result (λ did. (published : Option State) → WritesText (act.StartJoin candidate term) published did) }
 {
-    let answer = state.start_join(candidate, term);
-    told(state, start_did(answer))
+    match state.start_join(candidate, term) {
+        Ok(join) => Ok(Did::sends(Some(SentMessage::Join(join)))),
+        Err(error) => ended(state, error.not_taken()),
+    }
 }
 
 /// The node counts a join.
@@ -142,8 +119,10 @@ pub fn join(state: &mut OpenNode, join: &Join) -> Result<Did, AllocError>
     ensures does { IfOk result (λ did. StateDoes state.old state.new (act.TakeJoin join.now) did) }
     ensures text { IfOk result (λ did. (published : Option State) → WritesText (act.TakeJoin join.now) published did) }
 {
-    let answer = state.join(join);
-    told(state, join_did(answer, join.term))
+    match state.join(join) {
+        Ok(joined) => Ok(counted(joined, join.term)),
+        Err(error) => ended(state, error.not_taken()),
+    }
 }
 
 /// The node publishes a client's value. Answers the publication too, where there is one.
@@ -161,16 +140,13 @@ pub fn client_value(
     // For the proof alone: what is kept is within the limits of a state.
     let _ = state.keeper().kept();
     match state.client_value(version, config, value) {
-        Err(error) => told(state, value_refused(error)),
+        Err(error) => ended(state, error.not_taken()),
         Ok(request) => {
-            let Ok(publication) = Rc::new(alloc, FitPublishRequest::new(request)) else {
+            let publication = FitPublishRequest::new(alloc, request)?;
+            let Ok(publication) = Rc::new(alloc, publication) else {
                 return Err(AllocError);
             };
-            Ok(Did::Taken(Effects {
-                won: None,
-                committed: None,
-                sends: Some(SentMessage::Publish(publication)),
-            }))
+            Ok(Did::sends(Some(SentMessage::Publish(publication))))
         }
     }
 }
@@ -186,14 +162,13 @@ pub fn publish_request(
 {
     let request = &publication.request;
     if let Err(error) = state.check_publish(&request.state) {
-        return Ok(publish_refused(error));
+        return ended(state, error.not_taken());
     }
-    let copy = request.state.copy()?;
-    let Ok(ready) = Ready::new(alloc, copy) else {
-        return Err(AllocError);
-    };
-    let answer = state.publish_request(request.source, ready);
-    told(state, publish_did(answer))
+    let ready = Ready::of(alloc, &request.state)?;
+    match state.publish_request(request.source, ready) {
+        Ok(response) => Ok(Did::sends(Some(SentMessage::Response(response)))),
+        Err(error) => ended(state, error.not_taken()),
+    }
 }
 
 /// The node counts a response. Where it sends a commit, it commits what it has published last.
@@ -207,7 +182,7 @@ pub fn publish_response(
     ensures text { IfOk result (λ did. WritesText (act.Response response.now) (state_published published.now) did) }
 {
     match state.publish_response(response) {
-        Err(error) => told(state, response_refused(error)),
+        Err(error) => ended(state, error.not_taken()),
         Ok(sends) => {
             let did = responded(sends, published)?;
             Ok(did)
@@ -220,8 +195,10 @@ pub fn commit(state: &mut OpenNode, commit: &ApplyCommit) -> Result<Did, AllocEr
     ensures does { IfOk result (λ did. StateDoes state.old state.new (act.Commit commit.now) did) }
     ensures text { IfOk result (λ did. (published : Option State) → WritesText (act.Commit commit.now) published did) }
 {
-    let answer = state.commit(commit);
-    told(state, commit_did(answer))
+    match state.commit(commit) {
+        Ok(()) => Ok(Did::sends(None)),
+        Err(error) => ended(state, error.not_taken()),
+    }
 }
 
 /// The node takes a message.

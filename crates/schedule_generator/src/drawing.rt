@@ -3,7 +3,7 @@ ghost use Rattle.std.specs.Prelude.{◌≡◌, ◌+◌, ◌<◌, ◌^◌, [], If
 ghost use Rattle.voting_config.specs.Lists.{are_ids_after, items_of};
 ghost use Rattle.schedule_generator.specs.Drawn.{config_of, drawn_line as drawn_line_of, node_of, ordinal_of, stop_line as stop_line_of, text_of, way_of};
 
-use schedule_text::{IdList, Line, SettingText, Text};
+use schedule_text::{Boxed, IdList, Line, SettingText, Text};
 use std::alloc::{AllocError, Global};
 use voting_config::{NodeId, NodeSet};
 use zen_disk::Way;
@@ -77,6 +77,7 @@ fn value_line(alloc: Global, step: u64, leader: NodeId, word: u32) -> Result<Lin
     ensures { IfOk result (λ l. l ≡ Line.Value leader (1 + step) (text_of step) (config_of word)) }
 {
     let text = text(alloc, step)?;
+    let text = Boxed::of(alloc, text)?;
     let config = IdList::of(alloc, &config(word))?;
     Ok(Line::Value(leader, 1 + step, text, config))
 }
@@ -107,6 +108,7 @@ pub fn drawn_line(alloc: Global, step: u64, sent: u64, draw: Draw) -> Result<Lin
     let id = node(u64::from(draw.second));
     let leader = node(step / 100);
     if kind < 2 {
+        let leader = Boxed::of(alloc, leader)?;
         return Ok(Line::StartJoin(id, leader, 1 + step / 100));
     }
     if kind == 2 {

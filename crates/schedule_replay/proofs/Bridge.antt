@@ -8,6 +8,7 @@ use Rattle.world_model.specs.declared.acts.Outcome.TheVariants.{Answered, Disk, 
 use Rattle.replay_node.specs.Did.{outcome_of}
 use Rattle.replay_node.specs.Stands.{Journal}
 use Rattle.replay_node.specs.StateDoes.{IsToldBy}
+use Rattle.coord_state.specs.declared.ending.NotTaken.TheVariants as untaken
 use Rattle.replay_node.specs.declared.did.Did.{Did}
 use Rattle.replay_node.specs.declared.did.Did.TheVariants as did
 use Rattle.replay_node.proofs.StateSteps.{Step}
@@ -73,7 +74,7 @@ as_told f i = i
 
 -- it did those up to an act that was struck
 pub struck_carries : (s : Settings) (old new : CoordState Journal) (is left : List Item) (v : View) (d : Did) (f : Outcome) → IsAnswered s v is → IsStruck is left → CoreDid keeper old new left
-    → IsToldBy new did.Disk d → outcome_of d ≡ Some f → Carries old new is (map (as_told f) left) (Struck d)
+    → IsToldBy new untaken.Disk d → outcome_of d ≡ Some f → Carries old new is (map (as_told f) left) (Struck d)
 struck_carries s old new is left v d f a (Here act sends wins rest (Disk kept) w fault) c told is_f =
     let lost : kept ≡ false = c.1.told in
     let step : Step old c.0 act (Disk false) = subst (λ (b : Bool). Step old c.0 act (Disk b)) lost (step_of old c.0 act (Disk kept) c.1) in

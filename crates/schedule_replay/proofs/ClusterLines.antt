@@ -18,7 +18,7 @@ use Rattle.schedule_replay.specs.Own.{Own, own_in}
 use Rattle.schedule_replay.specs.ClusterTrace.{event_shown, event_shown_if_up, frame_shown, line_shown}
 use Rattle.schedule_replay.specs.declared.cluster.node.ClusterNode.{ClusterNode}
 use Rattle.schedule_replay.proofs.Going.{GoesAs}
-use Rattle.schedule_replay.proofs.Places.{as_many}
+use Rattle.schedule_replay.proofs.ClusterMovement.{as_many}
 
 all-append : {A : Type 0} (P : A → Type 0) (xs ys : List A) → AllByRecursion P xs → AllByRecursion P ys → AllByRecursion P (xs ++ ys)
 all-append P [] ys h k = k

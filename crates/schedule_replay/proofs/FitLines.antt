@@ -10,7 +10,7 @@ use Rattle.cluster_state.specs.Fields.{ids}
 use Rattle.cluster_state.specs.States.{value as value_field}
 use Rattle.cluster_state.proofs.Fitting.{fits_id, fits_ids}
 use Rattle.voting_config.specs.Lists.{are_ids_after}
-use Rattle.replay_node.proofs.IdLists.{ids_set}
+use Rattle.trace_text.proofs.IdLists.{ids_set}
 use Rattle.schedule_replay.specs.Replayed.{value_with}
 
 pub set_fits : (xs : List Id) → IsIdSet xs → (ids most_ids).Fits xs

@@ -15,10 +15,6 @@ as_many [] (c ∷ cs) w s = absurd s
 as_many (i ∷ is) [] w s = absurd s
 as_many (i ∷ is) (c ∷ cs) w s = ap (λ (n : ℕ). suc n) (as_many is cs w s.2)
 
--- the same of nodes that are lent
-pub many_lent : (ids : List Id) (items lent : List ReplayNode) (w : World) → lent ≡ items → AllStand ids items w → length lent ≡ length ids
-many_lent ids items lent w is s = ap (λ (x : List ReplayNode). length x) is ∙ as_many ids items w s
-
 stand_more : (ids : List Id) (cs : List ReplayNode) (i : Id) (c : ReplayNode) (w : World) → AllStand ids cs w → c.me ≡ i → NodeStands c (node_world w i) → AllStand (ids ++ i ∷ []) (cs ++ c ∷ []) w
 stand_more [] [] i c w s m n = (m, n, tt)
 stand_more [] (d ∷ ds) i c w s m n = absurd s

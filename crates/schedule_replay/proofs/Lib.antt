@@ -31,7 +31,7 @@ pub mod Playing
 pub mod Bridge
 pub mod EventsDone
 pub mod Openings
-pub mod Places
+pub mod ClusterMovement
 pub mod Going
 pub mod ClusterLines
 pub mod Ending

@@ -1,7 +1,9 @@
 -- A line that is done.
-use Rattle.std.proofs.Common.{append-nil, append_assoc, codes, ◌≡◌, ◌∷◌, ◌-◌, zero, suc, arith, ◌≤◌, Result, Ok, Err, ℕ, true, Option, None, Some, List, [], ◌++◌, length, refl, sym, ◌∙◌, ap, subst, map, slice_get, take, drop}
+use Rattle.std.proofs.Common.{append-nil, append_assoc, codes, ◌≡◌, ◌∷◌, ◌-◌, zero, suc, ◌<◌, ◌≤◌, Result, Ok, Err, ℕ, true, Option, None, Some, List, [], ◌++◌, length, refl, sym, ◌∙◌, ap, subst, map, slice_get, slice_set, get_or, take, drop}
 use Rattle.std.specs.Prelude.{OnOk}
-use Rattle.std.proofs.lemmas.List.{length-map, take_at}
+use Rattle.std.specs.declared.alloc.AllocError.{AllocError}
+use Rattle.std.proofs.lemmas.List.{length-map}
+use Rattle.std.proofs.lemmas.Option.{slice_get_past, slice_get_read}
 use Rattle.std.proofs.lemmas.Bool.{and_parts}
 use Rattle.voting_config.specs.Ids.{Id, has}
 use Rattle.world_model.specs.declared.acts.Act.{Act}
@@ -16,67 +18,65 @@ use Rattle.schedule_text.specs.declared.schedule.Line.{Line}
 use Rattle.schedule_text.specs.Lines.{line_text}
 use Rattle.trace_text.specs.Trace.{act_text}
 use Rattle.replay_node.specs.Did.{did_text, outcome_of}
+use Rattle.replay_node.specs.NodeLines.{DoesLine as NodeDoesLine}
+use Rattle.replay_node.specs.NodeWorld.{NodeWorld}
 use Rattle.replay_node.specs.Sent.{message_of, are_from, sent_some, source_of, taking}
+use Rattle.replay_node.specs.Stands.{NodeDoes}
 use Rattle.replay_node.specs.Takes.{TakesFrom}
 use Rattle.replay_node.specs.declared.did.Did.{Did}
 use Rattle.replay_node.specs.declared.message.SentMessage.{SentMessage}
 use Rattle.replay_node.specs.declared.node.ReplayNode.{ReplayNode}
-use Rattle.replay_node.specs.Worlds.{World, did_unless_down}
+use Rattle.replay_node.specs.Worlds.{World, did_unless_down, node_world}
+use Rattle.replay_node.proofs.Moves.{NodeMoves}
 use Rattle.schedule_replay.specs.Replayed.{after, message_at, took_some}
 use Rattle.schedule_replay.specs.Trace.{delivery_results, line_results, results_of}
-use Rattle.schedule_replay.specs.WorldStands.{ActDone, AllStand, DoesAct, DoesLine, LineDone, Moves, Stands, WritesLine}
+use Rattle.schedule_replay.specs.WorldStands.{ActDone, AllStand, DoesLine, LineDone, Stands, WritesLine}
+use Rattle.schedule_replay.proofs.Movement.{Looked, after_here, does_here, here, returned}
 use Rattle.schedule_replay.proofs.WorldSteps.{acted}
 
-line_done : (ids : List Id) (old new : List ReplayNode) (messages more : List SentMessage) (text now : List ℕ) (n : Id) (act : Act) (d : Did)
-    → DoesAct ids old new n act d → map message_of more ≡ map message_of messages ++ sent_some (outcome_of d) → has n ids ≡ true → TakesFrom ids (Then NoActs act (Answered Stopped)) → now ≡ text ++ did_text (length messages) n (act_text act) d
-    → DoesLine ids old new messages more text now (λ w. did_unless_down w n act) (λ w. results_of w n act)
-line_done ids old new messages more text now n act d does sends listed from written w s =
-    let done : ActDone ids new w n act d = does w s.nodes_stand in
-    let count : length messages ≡ length (sent w.history) = sym (length-map messages message_of) ∙ ap (λ (m : List Message). length m) s.messages_sent in
-    record {
-      stands = acted ids old new messages more w n act d s done sends listed from;
-      written =
-          written
-          ∙ ap (λ (k : ℕ). text ++ did_text k n (act_text act) d) count
-          ∙ ap (λ (t : List ℕ). text ++ t) (sym (done.text (length (sent w.history))));
-    }
+module _ (ids l : List Id) (items lent : List ReplayNode) (messages : List SentMessage) (n : Id) (place len : ℕ) (looked : Looked ids l items lent messages n place len) (c d : ReplayNode) where
+  -- the nodes after the loan
+  abbrev final : List ReplayNode
+  final = take len (slice_set lent place d ++ drop (length (slice_set lent place d)) items)
 
--- what a vector holds after a write of its elements as a slice
-refilled : (new old : List ReplayNode) (len : ℕ) → length new ≡ length old → length old ≡ len → take len (new ++ drop (length new) old) ≡ new
-refilled new old len same_length is = rw (← is, ← same_length) (take_at new (drop (length new) old) (length new) refl)
+  -- an act of the node; its text was written into an empty one
+  act_line : (more : List SentMessage) (text now : List ℕ) (act : Act) (o : Did) → NodeDoes (get_or lent place c) d act o → map message_of more ≡ map message_of messages ++ sent_some (outcome_of o) → has n ids ≡ true → TakesFrom ids (Then NoActs act (Answered Stopped))
+      → now ≡ text ++ did_text (length messages) n (act_text act) o → DoesLine ids items (slice_set items place d) messages more text now (λ w. did_unless_down w n act) (λ w. results_of w n act)
+  act_line more text now act o does sends listed from written w s =
+      let done : ActDone ids (slice_set items place d) w n act o = does_here ids l items lent messages n place len looked c d w act o does s.nodes_stand in
+      let count : length messages ≡ length (sent w.history) = sym (length-map messages message_of) ∙ ap (λ (m : List Message). length m) s.messages_sent in
+      record {
+        stands = acted ids items (slice_set items place d) messages more w n act o s done sends listed from;
+        written =
+            written
+            ∙ ap (λ (k : ℕ). text ++ did_text k n (act_text act) o) count
+            ∙ ap (λ (t : List ℕ). text ++ t) (sym (done.text (length (sent w.history))));
+      }
 
--- the same of a vector that was lent as a slice
-pub returned : (items lent new final : List ReplayNode) (len : ℕ) → lent ≡ items → length new ≡ length lent → length lent ≡ len → final ≡ take len (new ++ drop (length new) items) → final ≡ new
-returned items lent new final len is same_length long final_is =
-    final_is ∙ refilled new items len (same_length ∙ ap (λ (x : List ReplayNode). length x) is) (sym (ap (λ (x : List ReplayNode). length x) is) ∙ long)
+  pub act_done : (r : Result (Unit {0}) AllocError) (nodes : List ReplayNode) (more : List SentMessage) (text now none act_bytes : List ℕ) (act told : Act) (o : Did) → NodeDoes (get_or lent place c) d act o → act ≡ told → nodes ≡ final
+      → OnOk r (map message_of more ≡ map message_of messages ++ sent_some (outcome_of o)) → has n ids ≡ true → TakesFrom ids (Then NoActs act (Answered Stopped))
+      → none ≡ [] → act_bytes ≡ none ++ act_text act → OnOk r (now ≡ text ++ did_text (length messages) n act_bytes o)
+      → OnOk r (DoesLine ids items nodes messages more text now (λ w. did_unless_down w n told) (λ w. results_of w n told))
+  act_done (Err e) nodes more text now none act_bytes act told o does same nodes_are sends listed from empty act_is written = tt
+  act_done (Ok u) nodes more text now none act_bytes act told o does same nodes_are sends listed from empty act_is written =
+      let bytes : act_bytes ≡ act_text act = act_is ∙ ap (λ (t : List ℕ). t ++ act_text act) empty in
+      subst (λ (x : List ReplayNode). DoesLine ids items x messages more text now (λ w. did_unless_down w n told) (λ w. results_of w n told)) (sym (nodes_are ∙ returned ids l items lent messages n place len looked d))
+      (subst (λ (x : Act). DoesLine ids items (slice_set items place d) messages more text now (λ w. did_unless_down w n x) (λ w. results_of w n x)) same
+      (act_line more text now act o does sends listed from (written ∙ ap (λ (t : List ℕ). text ++ did_text (length messages) n t o) bytes)))
 
--- an act that is done over the nodes, which a vector lent as a slice; its text was written into an empty one
-pub act_done : (ids : List Id) (items lent new final : List ReplayNode) (len : ℕ) (messages more : List SentMessage) (text now none act_bytes : List ℕ) (n : Id) (act : Act) (d : Did)
-    → lent ≡ items → length new ≡ length lent → length lent ≡ len → final ≡ take len (new ++ drop (length new) items) → DoesAct ids lent new n act d
-    → map message_of more ≡ map message_of messages ++ sent_some (outcome_of d) → has n ids ≡ true → TakesFrom ids (Then NoActs act (Answered Stopped))
-    → none ≡ [] → act_bytes ≡ none ++ act_text act → now ≡ text ++ did_text (length messages) n act_bytes d
-    → DoesLine ids items final messages more text now (λ w. did_unless_down w n act) (λ w. results_of w n act)
-act_done ids items lent new final len messages more text now none act_bytes n act d is same_length long final_is does sends listed from empty act_is written =
-    let bytes : act_bytes ≡ act_text act = act_is ∙ ap (λ (t : List ℕ). t ++ act_text act) empty in
-    subst (λ (x : List ReplayNode). DoesLine ids items x messages more text now (λ w. did_unless_down w n act) (λ w. results_of w n act))
-    (sym (returned items lent new final len is same_length long final_is))
-    (line_done ids items new messages more text now n act d (subst (λ (x : List ReplayNode). DoesAct ids x new n act d) is does) sends listed from
-    (written ∙ ap (λ (t : List ℕ). text ++ did_text (length messages) n t d) bytes))
-
--- an act, told otherwise
-pub same_act : (ids : List Id) (old new : List ReplayNode) (messages more : List SentMessage) (text now : List ℕ) (n : Id) (a b : Act) → a ≡ b
-    → DoesLine ids old new messages more text now (λ w. did_unless_down w n a) (λ w. results_of w n a) → DoesLine ids old new messages more text now (λ w. did_unless_down w n b) (λ w. results_of w n b)
-same_act ids old new messages more text now n a b e does =
-    subst (λ (x : Act). DoesLine ids old new messages more text now (λ w. did_unless_down w n x) (λ w. results_of w n x)) e does
-
--- a line of a node that is no act
-pub moved : (ids : List Id) (items lent new final : List ReplayNode) (len : ℕ) (messages : List SentMessage) (text now : List ℕ) (after_it : World → World) (results : World → List ℕ)
-    → lent ≡ items → length new ≡ length lent → length lent ≡ len → final ≡ take len (new ++ drop (length new) items) → Moves ids lent new after_it results text now
-    → ((w : World) → Stands ids items messages w → AllStand ids new (after_it w) → Stands ids new messages (after_it w))
-    → DoesLine ids items final messages messages text now after_it results
-moved ids items lent new final len messages text now after_it results is same_length long final_is moves step =
-    subst (λ (x : List ReplayNode). DoesLine ids items x messages messages text now after_it results) (sym (returned items lent new final len is same_length long final_is))
-    (λ w s. let done = moves w (subst (λ (x : List ReplayNode). AllStand ids x w) (sym is) s.nodes_stand) in record { stands = step w s done.stand; written = done.written })
+  -- a line of the node that is no act
+  pub moved : (text now : List ℕ) (after_node : NodeWorld → NodeWorld) (text_of : Id → NodeWorld → List ℕ) (after_it : World → World) → ((w : World) → NodeMoves n w (after_node (node_world w n)) (after_it w))
+      → ((w : World) (new : List ReplayNode) → Stands ids items messages w → AllStand ids new (after_it w) → Stands ids new messages (after_it w)) → NodeDoesLine (get_or lent place c) d after_node (text_of (get_or lent place c).me) text now
+      → DoesLine ids items final messages messages text now after_it (λ w. text_of n (node_world w n))
+  moved text now after_node text_of after_it moves step line =
+      subst (λ (x : List ReplayNode). DoesLine ids items x messages messages text now after_it (λ w. text_of n (node_world w n))) (sym (returned ids l items lent messages n place len looked d))
+      (λ w s.
+      let at = here ids l items lent messages n place len looked c w s.nodes_stand in
+      let stand = after_here ids l items lent messages n place len looked c d w (after_node (node_world w n)) (after_it w) line.me (moves w) (line.stands (node_world w n) at.1) s.nodes_stand in
+      record {
+        stands = step w (slice_set items place d) s stand;
+        written = subst (λ (m : Id). now ≡ text ++ text_of m (node_world w n)) at.0 (line.written (node_world w n) at.1);
+      })
 
 -- ---- messages
 
@@ -97,10 +97,6 @@ mapped_none [] k e = refl
 mapped_none (y ∷ ys) zero e = absurd (cc)
 mapped_none (y ∷ ys) (suc k) e = mapped_none ys k e
 
--- a message that was shared from the one at a place
-shared_at : (messages : List SentMessage) (place : ℕ) (at m : SentMessage) → slice_get messages place ≡ Some at → message_of m ≡ message_of at → slice_get (map message_of messages) place ≡ Some (message_of m)
-shared_at messages place at m found shared = mapped messages place at found ∙ ap (λ (x : Message). Some x) (sym shared)
-
 source_at : (ids : List Id) (all : List Message) (k : ℕ) (m : Message) → are_from ids all ≡ true → slice_get all k ≡ Some m → has (source_of m) ids ≡ true
 source_at ids [] k m l e = absurd (cc)
 source_at ids (x ∷ xs) zero m l e =
@@ -111,40 +107,30 @@ source_at ids (x ∷ xs) (suc k) m l e =
     let parts = and_parts (has (source_of x) ids) (are_from ids xs) l in
     source_at ids xs k m parts.1 e
 
+-- the message at a place of the ones that are lent
+pub lent_at : (messages lent : List SentMessage) (place : ℕ) (m : SentMessage) → lent ≡ messages → place < length lent → m ≡ get_or lent place m → slice_get messages place ≡ Some m
+lent_at messages lent place m is within at = subst (λ (x : List SentMessage). slice_get x place ≡ Some m) is (slice_get_read lent (length lent) place m refl within at)
+
 -- a message that was sent is from a node of the schedule
-pub delivered_source : (ids : List Id) (nodes : List ReplayNode) (messages : List SentMessage) (w : World) (place : ℕ) (at m : SentMessage) → Stands ids nodes messages w → slice_get messages place ≡ Some at → message_of m ≡ message_of at → has (source_of (message_of m)) ids ≡ true
-delivered_source ids nodes messages w place at m s found shared =
-    source_at ids (map message_of messages) place (message_of m) (subst (λ (x : List Message). are_from ids x ≡ true) (sym s.messages_sent) s.sources) (shared_at messages place at m found shared)
+pub delivered_source : (ids : List Id) (nodes : List ReplayNode) (messages : List SentMessage) (w : World) (place : ℕ) (m : SentMessage) → Stands ids nodes messages w → slice_get messages place ≡ Some m → has (source_of (message_of m)) ids ≡ true
+delivered_source ids nodes messages w place m s found =
+    source_at ids (map message_of messages) place (message_of m) (subst (λ (x : List Message). are_from ids x ≡ true) (sym s.messages_sent) s.sources) (mapped messages place m found)
 
 -- a message that was sent is taken
-pub delivered : (ids : List Id) (old new : List ReplayNode) (messages more : List SentMessage) (text now : List ℕ) (n : Id) (ordinal : ℕ) (at m : SentMessage) → slice_get messages (ordinal - 1) ≡ Some at → message_of m ≡ message_of at
+pub delivered : (ids : List Id) (old new : List ReplayNode) (messages more : List SentMessage) (text now : List ℕ) (n : Id) (ordinal : ℕ) (m : SentMessage) → slice_get messages (ordinal - 1) ≡ Some m
     → DoesLine ids old new messages more text now (λ w. did_unless_down w n (taking (message_of m))) (λ w. results_of w n (taking (message_of m)))
     → DoesLine ids old new messages more text now (λ w. took_some w n (message_at w ordinal)) (λ w. delivery_results w n (message_at w ordinal))
-delivered ids old new messages more text now n ordinal at m found shared does w s =
-    let known : message_at w ordinal ≡ Some (message_of m) = subst (λ (x : List Message). slice_get x (ordinal - 1) ≡ Some (message_of m)) s.messages_sent (shared_at messages (ordinal - 1) at m found shared) in
+delivered ids old new messages more text now n ordinal m found does w s =
+    let known : message_at w ordinal ≡ Some (message_of m) = subst (λ (x : List Message). slice_get x (ordinal - 1) ≡ Some (message_of m)) s.messages_sent (mapped messages (ordinal - 1) m found) in
     subst (λ (x : Option Message). LineDone ids new more (took_some w n x) (delivery_results w n x) text now) (sym known) (does w s)
 
-past : (xs : List SentMessage) (k : ℕ) → length xs ≤ k → slice_get xs k ≡ None
-past [] k within = refl
-past (x ∷ xs) zero within = absurd (omega arith)
-past (x ∷ xs) (suc k) within = past xs k (omega arith)
-
 -- there is no such message
-not_sent : (ids : List Id) (nodes : List ReplayNode) (messages : List SentMessage) (text now : List ℕ) (n : Id) (ordinal : ℕ) → slice_get messages (ordinal - 1) ≡ None → ((w : World) → AllStand ids nodes w → now ≡ text ++ delivery_results w n None)
+pub not_sent : (ids : List Id) (nodes : List ReplayNode) (messages lent : List SentMessage) (text now : List ℕ) (n : Id) (ordinal : ℕ) → lent ≡ messages → length lent ≤ ordinal - 1 → ((w : World) → AllStand ids nodes w → now ≡ text ++ delivery_results w n None)
     → DoesLine ids nodes nodes messages messages text now (λ w. took_some w n (message_at w ordinal)) (λ w. delivery_results w n (message_at w ordinal))
-not_sent ids nodes messages text now n ordinal none written w s =
+not_sent ids nodes messages lent text now n ordinal is past written w s =
+    let none : slice_get messages (ordinal - 1) ≡ None = subst (λ (x : List SentMessage). slice_get x (ordinal - 1) ≡ None) is (slice_get_past lent (ordinal - 1) past) in
     let known : message_at w ordinal ≡ None = subst (λ (x : List Message). slice_get x (ordinal - 1) ≡ None) s.messages_sent (mapped_none messages (ordinal - 1) none) in
     subst (λ (x : Option Message). LineDone ids nodes messages (took_some w n x) (delivery_results w n x) text now) (sym known) (record { stands = s; written = written w s.nodes_stand })
-
-pub on_ok : {T E : Type 0} (r : Result T E) (P Q : Type 0) → (P → Q) → OnOk r P → OnOk r Q
-on_ok (Ok x) P Q f h = f h
-on_ok (Err e) P Q f h = h
-
--- the same in the words of a call that may find no memory
-pub not_sent_ok : {T E : Type 0} (r : Result T E) (ids : List Id) (nodes : List ReplayNode) (messages lent : List SentMessage) (text now : List ℕ) (n : Id) (ordinal : ℕ) → lent ≡ messages → length lent ≤ ordinal - 1 → OnOk r ((w : World) → AllStand ids nodes w → now ≡ text ++ delivery_results w n None)
-    → OnOk r (DoesLine ids nodes nodes messages messages text now (λ w. took_some w n (message_at w ordinal)) (λ w. delivery_results w n (message_at w ordinal)))
-not_sent_ok r ids nodes messages lent text now n ordinal is within written =
-    on_ok r _ _ (not_sent ids nodes messages text now n ordinal (subst (λ (x : List SentMessage). slice_get x (ordinal - 1) ≡ None) is (past lent (ordinal - 1) within))) written
 
 -- the echo of a line, and then its results, are its part of the trace
 pub writes_line : (ids initial : List Id) (old new : List ReplayNode) (messages more : List SentMessage) (t0 t1 t2 t3 now : List ℕ) (l lit : Line) → l ≡ lit

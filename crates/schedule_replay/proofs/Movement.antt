@@ -1,24 +1,22 @@
 -- One node moves, the others stay.
-use Rattle.std.proofs.Common.{◌≡◌, ℕ, zero, suc, ◌<◌, true, false, Some, List, [], ◌∷◌, length, ◌++◌, sym, ◌∙◌, subst, arith, slice_get, slice_set, get_or}
-use Rattle.std.specs.Prelude.{Result, IfOk, OnOk}
-use Rattle.std.specs.declared.alloc.AllocError.{AllocError}
-use Rattle.std.proofs.lemmas.Result.{IfOk-weaker, on_ok_weaker}
+use Rattle.std.proofs.Common.{◌≡◌, ℕ, zero, suc, ◌<◌, true, false, Some, List, [], ◌∷◌, length, ◌++◌, refl, sym, ◌∙◌, ap, subst, arith, slice_get, slice_set, get_or, take, drop}
+use Rattle.std.proofs.lemmas.List.{length-set, take_at}
 use Rattle.std.proofs.lemmas.Option.{slice_get-get_or, slice_get_within}
 use Rattle.std.proofs.lemmas.Bool.{and_parts}
 use Rattle.std.specs.Cmp.Lexicographic.{nat_list_eq_equiv}
-use Rattle.voting_config.specs.Ids.{Id, ascends, is_below, before, same}
+use Rattle.voting_config.specs.Ids.{Id, ascends, is_below, before, most_ids, same}
 use Rattle.voting_config.proofs.Sorted.{before-not_same}
-use Rattle.zen_disk.specs.declared.orders.Order.{Order}
 use Rattle.world_model.specs.declared.acts.Act.{Act}
 use Rattle.replay_node.specs.Did.{outcome_of, did_text, outcome_unless_down, after_unless_down, act_results}
-use Rattle.replay_node.specs.NodeLines.{DoesLine}
-use Rattle.replay_node.specs.NodeWorld.{NodeWorld, after_order}
+use Rattle.replay_node.specs.NodeWorld.{NodeWorld}
 use Rattle.replay_node.specs.Stands.{NodeStands, NodeDoes, NodeDid}
 use Rattle.replay_node.specs.declared.did.Did.{Did}
+use Rattle.replay_node.specs.declared.message.SentMessage.{SentMessage}
 use Rattle.replay_node.specs.declared.node.ReplayNode.{ReplayNode}
-use Rattle.replay_node.specs.Worlds.{World, node_world, did_unless_down, ordered}
-use Rattle.replay_node.proofs.Moves.{NodeMoves, moves_did_unless_down, moves_ordered}
-use Rattle.schedule_replay.specs.WorldStands.{AllStand, DoesAct, Moves}
+use Rattle.replay_node.specs.Worlds.{World, node_world, did_unless_down}
+use Rattle.replay_node.proofs.Moves.{NodeMoves, moves_did_unless_down}
+use Rattle.schedule_replay.specs.WorldStands.{ActDone, AllStand, Stands}
+use Rattle.schedule_replay.proofs.Fresh.{as_many}
 use Rattle.trace_text.specs.Trace.{act_text}
 
 other_flip : (x y : Id) → same x y ≡ false → same y x ≡ false
@@ -40,7 +38,7 @@ below_at i (x ∷ xs) zero n e g = let parts = and_parts (before i x) (is_below 
 below_at i (x ∷ xs) (suc k) n e g = let parts = and_parts _ _ e in below_at i xs k n parts.1 g
 
 -- the node at a place is the one of the id there
-pub node_at : (ids : List Id) (old : List ReplayNode) (w : World) (n : Id) (place : ℕ) (c : ReplayNode) → slice_get ids place ≡ Some n → slice_get old place ≡ Some c → AllStand ids old w → (c.me ≡ n) × NodeStands c (node_world w n)
+node_at : (ids : List Id) (old : List ReplayNode) (w : World) (n : Id) (place : ℕ) (c : ReplayNode) → slice_get ids place ≡ Some n → slice_get old place ≡ Some c → AllStand ids old w → (c.me ≡ n) × NodeStands c (node_world w n)
 node_at [] old w n place c g e s = absurd (cc)
 node_at (i ∷ is) [] w n place c g e s = absurd s
 node_at (i ∷ is) (d ∷ ds) w n zero c g e s =
@@ -50,7 +48,7 @@ node_at (i ∷ is) (d ∷ ds) w n zero c g e s =
 node_at (i ∷ is) (d ∷ ds) w n (suc k) c g e s = node_at is ds w n k c g e s.2
 
 -- where the node at a place has moved, all stand
-pub all_after : (ids : List Id) (old : List ReplayNode) (w : World) (n : Id) (place : ℕ) (c : ReplayNode) (x : NodeWorld) (v : World) → ascends ids ≡ true → slice_get ids place ≡ Some n → c.me ≡ n → NodeMoves n w x v → NodeStands c x → AllStand ids old w → AllStand ids (slice_set old place c) v
+all_after : (ids : List Id) (old : List ReplayNode) (w : World) (n : Id) (place : ℕ) (c : ReplayNode) (x : NodeWorld) (v : World) → ascends ids ≡ true → slice_get ids place ≡ Some n → c.me ≡ n → NodeMoves n w x v → NodeStands c x → AllStand ids old w → AllStand ids (slice_set old place c) v
 all_after [] old w n place c x v a g m moves d s = absurd (cc)
 all_after (i ∷ is) [] w n place c x v a g m moves d s = absurd s
 all_after (i ∷ is) (y ∷ ys) w n zero c x v a g m moves d s =
@@ -65,60 +63,57 @@ all_after (i ∷ is) (y ∷ ys) w n (suc k) c x v a g m moves d s =
     let less = below_at i is k n parts.0 g in
     (s.0, subst (λ (z : NodeWorld). NodeStands y z) (sym (moves.others i (other_flip i n (before-not_same n i less)))) s.1, all_after is ys w n k c x v parts.1 g m moves d s.2)
 
--- ---- where the node of an id moves, in the words of a function that looks the place up
+-- ---- the same in the words of a method, which looks the place up in the nodes that a vector lends it
 
-pub record Looked (ids l : List Id) (old : List ReplayNode) (n : Id) (place : ℕ) : Type 0 where
+pub record Looked (ids l : List Id) (items lent : List ReplayNode) (messages : List SentMessage) (n : Id) (place len : ℕ) : Type 0 where
   pub is : l ≡ ids
-  pub ascending : ascends ids ≡ true
   pub found : slice_get l place ≡ Some n
-  pub many : length old ≡ length ids
+  pub lent_is : lent ≡ items
+  pub long : length lent ≡ len
+  pub stands : (w : World) × Stands ids items messages w
 
-place_is : (ids l : List Id) (old : List ReplayNode) (n : Id) (place : ℕ) → Looked ids l old n place → slice_get ids place ≡ Some n
-place_is ids l old n place looked = subst (λ (x : List Id). slice_get x place ≡ Some n) looked.is looked.found
+-- what a vector holds after a write of its elements as a slice
+refilled : (new old : List ReplayNode) (len : ℕ) → length new ≡ length old → length old ≡ len → take len (new ++ drop (length new) old) ≡ new
+refilled new old len same_length is = rw (← is, ← same_length) (take_at new (drop (length new) old) (length new) refl)
 
-pub place_inside : (ids l : List Id) (old : List ReplayNode) (n : Id) (place : ℕ) → Looked ids l old n place → place < length old
-place_inside ids l old n place looked =
-    let inside : place < length ids = slice_get_within _ _ _ (place_is ids l old n place looked) in
-    let many = looked.many in
-    omega arith
+module _ (ids l : List Id) (items lent : List ReplayNode) (messages : List SentMessage) (n : Id) (place len : ℕ) (looked : Looked ids l items lent messages n place len) where
+  place_is : slice_get ids place ≡ Some n
+  place_is = subst (λ (x : List Id). slice_get x place ≡ Some n) looked.is looked.found
 
-module _ (ids l : List Id) (old : List ReplayNode) (n : Id) (place : ℕ) (c : ReplayNode) (looked : Looked ids l old n place) where
-  -- it stands there
-  pub here : (w : World) → AllStand ids old w → ((get_or old place c).me ≡ n) × NodeStands (get_or old place c) (node_world w n)
-  here w s = node_at ids old w n place (get_or old place c) (place_is ids l old n place looked) (slice_get-get_or old place c (place_inside ids l old n place looked)) s
+  place_below : place < length ids
+  place_below = slice_get_within _ _ _ place_is
+
+  pub place_inside : place < length lent
+  place_inside =
+      let many : length lent ≡ length ids = ap (λ (x : List ReplayNode). length x) looked.lent_is ∙ as_many ids items looked.stands.0 looked.stands.1.nodes_stand in
+      omega (arith, place_below)
+
+  pub place_few : place < most_ids
+  place_few = omega (arith, place_below, looked.stands.1.few)
+
+  -- what the vector holds after the loan
+  pub returned : (d : ReplayNode) → take len (slice_set lent place d ++ drop (length (slice_set lent place d)) items) ≡ slice_set items place d
+  returned d =
+      let long : length items ≡ len = subst (λ (x : List ReplayNode). length x ≡ len) looked.lent_is looked.long in
+      subst (λ (x : List ReplayNode). take len (slice_set x place d ++ drop (length (slice_set x place d)) items) ≡ slice_set items place d) (sym looked.lent_is)
+      (refilled (slice_set items place d) items len (length-set items place d) long)
+
+  -- the node stands there
+  pub here : (c : ReplayNode) (w : World) → AllStand ids items w → ((get_or lent place c).me ≡ n) × NodeStands (get_or lent place c) (node_world w n)
+  here c w s = node_at ids lent w n place (get_or lent place c) place_is (slice_get-get_or lent place c place_inside) (subst (λ (x : List ReplayNode). AllStand ids x w) (sym looked.lent_is) s)
 
   -- and where it has moved, all stand
-  pub after_here : (w : World) (d : ReplayNode) (x : NodeWorld) (v : World) → d.me ≡ (get_or old place c).me → NodeMoves n w x v → NodeStands d x → AllStand ids old w → AllStand ids (slice_set old place d) v
-  after_here w d x v me moves stands s = all_after ids old w n place d x v looked.ascending (place_is ids l old n place looked) (me ∙ (here w s).0) moves stands s
+  pub after_here : (c d : ReplayNode) (w : World) (x : NodeWorld) (v : World) → d.me ≡ (get_or lent place c).me → NodeMoves n w x v → NodeStands d x → AllStand ids items w → AllStand ids (slice_set items place d) v
+  after_here c d w x v me moves stands s = all_after ids items w n place d x v looked.stands.1.ascending place_is (me ∙ (here c w s).0) moves stands s
 
   -- an act
-  pub does_at : (d : ReplayNode) (act : Act) (o : Did) → NodeDoes (get_or old place c) d act o → DoesAct ids old (slice_set old place d) n act o
-  does_at d act o step w s =
-      let at = here w s in
-      let done : NodeDid (get_or old place c) d (node_world w n) act o = step.does (node_world w n) at.1 in
+  pub does_here : (c d : ReplayNode) (w : World) (act : Act) (o : Did) → NodeDoes (get_or lent place c) d act o → AllStand ids items w → ActDone ids (slice_set items place d) w n act o
+  does_here c d w act o step s =
+      let at = here c w s in
+      let done : NodeDid (get_or lent place c) d (node_world w n) act o = step.does (node_world w n) at.1 in
       record {
         outcome = subst (λ (m : Id). outcome_of o ≡ outcome_unless_down m (node_world w n) act) at.0 done.outcome;
-        stand = after_here w d (after_unless_down n (node_world w n) act) (did_unless_down w n act) step.me (moves_did_unless_down n act w)
+        stand = after_here c d w (after_unless_down n (node_world w n) act) (did_unless_down w n act) step.me (moves_did_unless_down n act w)
             (subst (λ (m : Id). NodeStands d (after_unless_down m (node_world w n) act)) at.0 done.stands) s;
         text = λ count. subst (λ (m : Id). act_results count m (node_world w n) act ≡ did_text count m (act_text act) o) at.0 (done.text count);
       }
-
-  pub does_at_ok : (d : ReplayNode) (act : Act) (r : Result Did AllocError) → IfOk r (λ o. NodeDoes (get_or old place c) d act o) → IfOk r (λ o. DoesAct ids old (slice_set old place d) n act o)
-  does_at_ok d act r step = IfOk-weaker r (λ o. NodeDoes (get_or old place c) d act o) (λ o. DoesAct ids old (slice_set old place d) n act o) (λ o it. does_at d act o it) step
-
-  -- another line
-  pub line_at : (d : ReplayNode) (after : NodeWorld → NodeWorld) (text : Id → NodeWorld → List ℕ) (after_it : World → World) (was now : List ℕ) → ((w : World) → NodeMoves n w (after (node_world w n)) (after_it w))
-      → DoesLine (get_or old place c) d after (text (get_or old place c).me) was now → Moves ids old (slice_set old place d) after_it (λ w. text n (node_world w n)) was now
-  line_at d after text after_it was now moves line w s =
-      let at = here w s in
-      record {
-        stand = after_here w d (after (node_world w n)) (after_it w) line.me (moves w) (line.stands (node_world w n) at.1) s;
-        written = subst (λ (m : Id). now ≡ was ++ text m (node_world w n)) at.0 (line.written (node_world w n) at.1);
-      }
-
-  pub line_at_ok : (d : ReplayNode) (after : NodeWorld → NodeWorld) (text : Id → NodeWorld → List ℕ) (after_it : World → World) (was now : List ℕ) (r : Result (Unit {0}) AllocError) → ((w : World) → NodeMoves n w (after (node_world w n)) (after_it w))
-      → OnOk r (DoesLine (get_or old place c) d after (text (get_or old place c).me) was now) → OnOk r (Moves ids old (slice_set old place d) after_it (λ w. text n (node_world w n)) was now)
-  line_at_ok d after text after_it was now r moves line = on_ok_weaker r (line_at d after text after_it was now moves) line
-
-  pub armed_at : (d : ReplayNode) (order : Order) → d.me ≡ (get_or old place c).me → ((x : NodeWorld) → NodeStands (get_or old place c) x → NodeStands d (after_order order x)) → (w : World) → AllStand ids old w → AllStand ids (slice_set old place d) (ordered w n order)
-  armed_at d order me stands w s = after_here w d (after_order order (node_world w n)) (ordered w n order) me (moves_ordered n order w) (stands (node_world w n) (here w s).1) s

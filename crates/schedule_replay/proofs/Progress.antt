@@ -77,11 +77,5 @@ pub front_at_err : {A E : Type 0} (r : Result A E) (was now : Option (List ℕ))
 front_at_err (Ok x) was now all is f = absurd (cc)
 front_at_err (Err e) was now all is f = f
 
--- a line leaves the ids as they are
-pub same_ids : (ids initial new_ids new_initial : List Id) (nodes : List ReplayNode) (messages : List SentMessage) (was now : Option (List ℕ)) (held : List ℕ) (left : List Line) (all : List ℕ) (end : World) → new_ids ≡ ids → new_initial ≡ initial → SoFar ids initial nodes messages was now held left all end → SoFar new_ids new_initial nodes messages was now held left all end
-same_ids ids initial new_ids new_initial nodes messages was now held left all end e f m =
-    subst (λ (x : List Id). SoFar x new_initial nodes messages was now held left all end) (sym e)
-    (subst (λ (x : List Id). SoFar ids x nodes messages was now held left all end) (sym f) m)
-
 pub none_left : (lines : List Line) (i : ℕ) → length lines ≤ i → drop i lines ≡ []
 none_left lines i past = nil_from_length (drop i lines) (omega (arith, length-drop i lines, past))

@@ -53,18 +53,10 @@ module _ {T : Type 0} (saw : T → List ℕ → Type 0) (ids initial : List Id) 
             (adds (trace_from initial fresh_world done) (trace_ends initial fresh_world done) m.tallies);
       }
 
--- a line leaves the ids as they are
-pub same_header : {T : Type 0} (saw : T → List ℕ → Type 0) (ids initial new_ids new_initial : List Id) (nodes : List ReplayNode) (messages : List SentMessage) (tally : T) (done : List Line) → new_ids ≡ ids → new_initial ≡ initial → Tallied saw ids initial nodes messages tally done → Tallied saw new_ids new_initial nodes messages tally done
-same_header saw ids initial new_ids new_initial nodes messages tally done e f m =
-    subst (λ (x : List Id). Tallied saw x new_initial nodes messages tally done) (sym e)
-    (subst (λ (x : List Id). Tallied saw ids x nodes messages tally done) (sym f) m)
-
 -- after all lines the tally is that of the whole trace
-pub whole_tallied : {T : Type 0} (saw : T → List ℕ → Type 0) (ids initial header : List Id) (nodes : List ReplayNode) (messages : List SentMessage) (tally : T) (lines all : List Line) (i : ℕ) → initial ≡ header → lines ≡ all → length lines ≤ i
-    → Tallied saw ids initial nodes messages tally (take i lines) → saw tally (trace_from header fresh_world all)
-whole_tallied saw ids initial header nodes messages tally lines all i e f past m =
-    subst (λ (x : List Id). saw tally (trace_from x fresh_world all)) e
-    (subst (λ (ls : List Line). saw tally (trace_from initial fresh_world ls)) (all_taken lines i past ∙ f) m.tallies)
+pub whole_tallied : {T : Type 0} (saw : T → List ℕ → Type 0) (ids initial : List Id) (nodes : List ReplayNode) (messages : List SentMessage) (tally : T) (lines all : List Line) (i : ℕ) → lines ≡ all → length lines ≤ i
+    → Tallied saw ids initial nodes messages tally (take i lines) → saw tally (trace_from initial fresh_world all)
+whole_tallied saw ids initial nodes messages tally lines all i are past m = subst (λ (ls : List Line). saw tally (trace_from initial fresh_world ls)) (all_taken lines i past ∙ are) m.tallies
 
 -- ---- whole nodes
 

@@ -10,7 +10,7 @@ use Rattle.replay_node.specs.NodeDisk.{MemFuse}
 use Rattle.replay_node.specs.NodeWorld.{fresh_node, needs_opening}
 use Rattle.replay_node.specs.Opens.{ClosedStands, StaysDown}
 use Rattle.trace_text.specs.Published.{last_published}
-use Rattle.replay_node.specs.Stands.{Journal, record_of, has_stopped, faults}
+use Rattle.replay_node.specs.Stands.{Journal, journal_ghosts}
 use Rattle.replay_node.specs.declared.node.Slot.TheVariants.{Down as CoreDown}
 use Rattle.voting_config.specs.Ids.{Id}
 use Rattle.zen_disk.specs.declared.orders.Struck.{Struck}
@@ -33,7 +33,7 @@ pub record OverJournal (s : Settings) (j : Journal) (node : Node) : Type 0 where
   pub settings : node.settings ≡ s
   pub keeper_is : node.core.keeper ≡ j
   pub ready : IsReady node
-  pub stands : StandsFor record_of has_stopped faults node.core (opened j.kept)
+  pub stands : StandsFor journal_ghosts node.core (opened j.kept)
   pub fit : IsFitView (view_in keeper node)
   pub first : j.kept ≡ empty_record → StandsForLife keeper node NotBegun
   pub later : (life : Life) → ContinuesUnlessFirst (acts_of (log_of life)) (OpenAct j.kept) → StandsForLife keeper node (Opened life j.kept)

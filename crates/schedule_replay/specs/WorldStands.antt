@@ -38,17 +38,6 @@ pub record ActDone (ids : List Id) (new : List ReplayNode) (w : World) (n : Id) 
   pub stand : AllStand ids new (did_unless_down w n act)
   pub text : (count : ℕ) → act_results count n (node_world w n) act ≡ did_text count n (act_text act) d
 
-abbrev pub DoesAct : List Id → List ReplayNode → List ReplayNode → Id → Act → Did → Type 0
-DoesAct ids old new n act d = (w : World) → AllStand ids old w → ActDone ids new w n act d
-
--- another line of a node: whatever the nodes stood for, they stand for that after the line, and its results were written
-pub record Moved (ids : List Id) (new : List ReplayNode) (after_it : World) (results was now : List ℕ) : Type 0 where
-  pub stand : AllStand ids new after_it
-  pub written : now ≡ was ++ results
-
-abbrev pub Moves : List Id → (old new : List ReplayNode) → (World → World) → (World → List ℕ) → (was now : List ℕ) → Type 0
-Moves ids old new after_it results was now = (w : World) → AllStand ids old w → Moved ids new (after_it w) (results w) was now
-
 -- a line, or what of it stands after its echo: whatever a replay stood for, it stands for that after the line, and the results were written
 pub record LineDone (ids : List Id) (new : List ReplayNode) (messages : List SentMessage) (after_it : World) (results was now : List ℕ) : Type 0 where
   pub stands : Stands ids new messages after_it

@@ -19,7 +19,7 @@ pub fn generate(alloc: Global, number: u64, steps: u64) -> Result<Summary, Alloc
     ensures { IfOk result (λ s. s ≡ summary_of (trace_at Core (generated number steps))) }
 {
     let header = empty_schedule(alloc);
-    let mut replayer = Replayer::new(alloc, &header.nodes, &header.initial)?;
+    let mut replayer = Replayer::new(alloc, &header.nodes)?;
     let mut generator = Generator::new(number);
     let mut tally = Tally::new();
     let mut text = Text::new(alloc);
@@ -27,7 +27,7 @@ pub fn generate(alloc: Global, number: u64, steps: u64) -> Result<Summary, Alloc
         let sent = replayer.sent.as_slice().len() as u64;
         let drawn = generator.line(alloc, sent)?;
         text.clear();
-        replayer.line(alloc, &drawn, &mut text)?;
+        replayer.line(alloc, &header, &drawn, &mut text)?;
         let piece = text.as_bytes();
         tally.add(piece)?;
     }

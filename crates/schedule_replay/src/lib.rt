@@ -4,8 +4,8 @@
 pub mod cluster;
 pub mod generating;
 pub mod laws;
-pub mod nodes;
 mod observing;
+pub mod places;
 pub mod replayer;
 pub mod replaying;
 

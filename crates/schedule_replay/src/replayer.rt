@@ -8,16 +8,17 @@ ghost use Rattle.schedule_text.specs.declared.level.Level.TheVariants.{Core};
 ghost use Rattle.schedule_text.specs.Lines.{FitsLine};
 ghost use Rattle.replay_node.specs.Did.{did_text, outcome_of};
 ghost use Rattle.replay_node.specs.NodeLines.{restart_text, stop_text};
-ghost use Rattle.replay_node.specs.Sent.{message_of, some_message, source_of, taking, sent_some};
+ghost use Rattle.replay_node.specs.Sent.{message_of, some_message, sent_some};
+ghost use Rattle.replay_node.specs.Stands.{NodeStands};
 ghost use Rattle.replay_node.specs.Worlds.{World, crashed, did_unless_down, fresh_world, node_world, ordered, restarted};
 ghost use Rattle.schedule_replay.specs.Replayed.{message_at, took_some, value_with};
 ghost use Rattle.schedule_replay.specs.Trace.{delivery_results, results_of};
 ghost use Rattle.schedule_replay.specs.WorldStands.{AllStand, Stands, DoesLine, WritesLine};
 
-use crate::nodes;
+use crate::places::place_of;
 use cluster_state::{ClusterValue, Settings};
 use replay_node::{Did, ReplayNode, SentMessage, write_did, write_taking};
-use schedule_text::{IdList, Line, SettingText, Text};
+use schedule_text::{IdList, Line, Schedule, SettingText, Text};
 use std::alloc::{AllocError, Global};
 use trace_text::{write_boot, write_down, write_start_join, write_value};
 use voting_config::{NodeId, NodeSet, VotingConfig};
@@ -26,8 +27,6 @@ use zen_disk::{Order, Way};
 /// The nodes of a schedule, and the messages that they have sent.
 #[derive(Drop)]
 pub struct Replayer {
-    pub ids: NodeSet,
-    pub initial: NodeSet,
     pub nodes: Vec<ReplayNode>,
     pub sent: Vec<SentMessage>,
     // The act in hand, as the trace shows it.
@@ -36,19 +35,13 @@ pub struct Replayer {
 
 impl Replayer {
     /// Nodes that have done nothing yet.
-    pub fn new(alloc: Global, ids: &NodeSet, initial: &NodeSet) -> Result<Replayer, AllocError>
-        ensures ids { IfOk result (λ r. r.ids ≡ ids.now) }
-        ensures initial { IfOk result (λ r. r.initial ≡ initial.now) }
-        ensures stands { IfOk result (λ r. Stands r.ids r.nodes.items r.sent.items fresh_world) }
+    pub fn new(alloc: Global, ids: &NodeSet) -> Result<Replayer, AllocError>
+        ensures { IfOk result (λ r. Stands ids.now r.nodes.items r.sent.items fresh_world) }
     {
-        let ids = ids.copy();
-        let initial = initial.copy();
         let nodes = fresh_nodes(alloc, ids.as_slice())?;
         // For the proof alone: a set ascends and has 32 ids at most.
         let _ = ids.len();
         Ok(Replayer {
-            ids,
-            initial,
             nodes,
             sent: Vec::new(alloc),
             act: Text::new(alloc),
@@ -56,29 +49,34 @@ impl Replayer {
     }
 
     /// Does a line of level core, and writes its part of the trace at the end of `text`.
-    pub fn line(&mut self, alloc: Global, line: &Line, text: &mut Text) -> Result<(), AllocError>
-        requires fits { FitsLine Core self.old.ids line.now }
-        requires stands { (w : World) × Stands self.old.ids self.old.nodes.items self.old.sent.items w }
-        ensures ids { self.new.ids ≡ self.old.ids }
-        ensures initial { self.new.initial ≡ self.old.initial }
-        ensures done { OnOk result (WritesLine self.old.ids self.old.initial self.old.nodes.items self.new.nodes.items self.old.sent.items self.new.sent.items text.old text.new line.now) }
+    pub fn line(
+        &mut self,
+        alloc: Global,
+        schedule: &Schedule,
+        line: &Line,
+        text: &mut Text,
+    ) -> Result<(), AllocError>
+        requires fits { FitsLine Core schedule.now.nodes line.now }
+        requires stands { (w : World) × Stands schedule.now.nodes self.old.nodes.items self.old.sent.items w }
+        ensures done { OnOk result (WritesLine schedule.now.nodes schedule.now.initial self.old.nodes.items self.new.nodes.items self.old.sent.items self.new.sent.items text.old text.new line.now) }
     {
         text.word("> ")?;
         text.line(line)?;
         text.word("\n")?;
+        let ids = &schedule.nodes;
         match line {
-            Line::Boot(n) => self.set_initial(alloc, *n, text)?,
+            Line::Boot(n) => self.set_initial(alloc, ids, &schedule.initial, *n, text)?,
             Line::StartJoin(n, candidate, term) => {
-                self.start_join(alloc, *n, *candidate, *term, text)?
+                self.start_join(alloc, ids, *n, candidate.get(), *term, text)?
             }
             Line::Value(n, version, setting, config) => {
-                self.client_value(alloc, *n, *version, *setting, config, text)?
+                self.client_value(alloc, ids, *n, *version, setting.get(), config, text)?
             }
-            Line::Deliver(n, ordinal) => self.deliver(alloc, *n, *ordinal, text)?,
-            Line::Crash(n, way) => self.crash(alloc, *n, *way, text)?,
-            Line::Restart(n) => self.restart(alloc, *n, text)?,
-            Line::Fuse(n, count, way) => self.arm(*n, Order::Stop(*count, *way)),
-            Line::Fail(n, count) => self.arm(*n, Order::Fault(*count)),
+            Line::Deliver(n, ordinal) => self.deliver(alloc, ids, *n, *ordinal, text)?,
+            Line::Crash(n, way) => self.crash(alloc, ids, *n, *way, text)?,
+            Line::Restart(n) => self.restart(alloc, ids, *n, text)?,
+            Line::Fuse(n, count, way) => self.arm(ids, *n, Order::Stop(*count, *way)),
+            Line::Fail(n, count) => self.arm(ids, *n, Order::Fault(*count)),
             // No line of level core.
             Line::Tick(_, _, _) => (),
             Line::Client(_, _) => (),
@@ -89,195 +87,156 @@ impl Replayer {
     fn crash(
         &mut self,
         alloc: Global,
+        ids: &NodeSet,
         n: NodeId,
         way: Way,
         text: &mut Text,
     ) -> Result<(), AllocError>
-        requires listed { has n self.old.ids ≡ true }
-        requires stands { (w : World) × Stands self.old.ids self.old.nodes.items self.old.sent.items w }
-        ensures ids { self.new.ids ≡ self.old.ids }
-        ensures initial { self.new.initial ≡ self.old.initial }
-        ensures done { OnOk result (DoesLine self.old.ids self.old.nodes.items self.new.nodes.items self.old.sent.items self.new.sent.items text.old text.new (λ w. crashed w n way) (λ w. stop_text n (node_world w n))) }
+        requires listed { has n ids.now ≡ true }
+        requires stands { (w : World) × Stands ids.now self.old.nodes.items self.old.sent.items w }
+        ensures done { OnOk result (DoesLine ids.now self.old.nodes.items self.new.nodes.items self.old.sent.items self.new.sent.items text.old text.new (λ w. crashed w n way) (λ w. stop_text n (node_world w n))) }
     {
-        nodes::crash(&self.ids, self.nodes.as_mut_slice(), n, alloc, way, text)
+        let place = place_of(ids.as_slice(), n);
+        let nodes = self.nodes.as_mut_slice();
+        nodes[place].crash(alloc, way, text)
     }
 
-    fn restart(&mut self, alloc: Global, n: NodeId, text: &mut Text) -> Result<(), AllocError>
-        requires listed { has n self.old.ids ≡ true }
-        requires stands { (w : World) × Stands self.old.ids self.old.nodes.items self.old.sent.items w }
-        ensures ids { self.new.ids ≡ self.old.ids }
-        ensures initial { self.new.initial ≡ self.old.initial }
-        ensures done { OnOk result (DoesLine self.old.ids self.old.nodes.items self.new.nodes.items self.old.sent.items self.new.sent.items text.old text.new (λ w. restarted w n) (λ w. restart_text n (node_world w n))) }
+    fn restart(
+        &mut self,
+        alloc: Global,
+        ids: &NodeSet,
+        n: NodeId,
+        text: &mut Text,
+    ) -> Result<(), AllocError>
+        requires listed { has n ids.now ≡ true }
+        requires stands { (w : World) × Stands ids.now self.old.nodes.items self.old.sent.items w }
+        ensures done { OnOk result (DoesLine ids.now self.old.nodes.items self.new.nodes.items self.old.sent.items self.new.sent.items text.old text.new (λ w. restarted w n) (λ w. restart_text n (node_world w n))) }
     {
-        nodes::restart(&self.ids, self.nodes.as_mut_slice(), n, alloc, text)
+        let place = place_of(ids.as_slice(), n);
+        let nodes = self.nodes.as_mut_slice();
+        nodes[place].restart(alloc, text)
     }
 
-    fn arm(&mut self, n: NodeId, order: Order)
-        requires listed { has n self.old.ids ≡ true }
-        requires stands { (w : World) × Stands self.old.ids self.old.nodes.items self.old.sent.items w }
-        ensures ids { self.new.ids ≡ self.old.ids }
-        ensures initial { self.new.initial ≡ self.old.initial }
-        ensures done { (text : List ℕ) → DoesLine self.old.ids self.old.nodes.items self.new.nodes.items self.old.sent.items self.new.sent.items text text (λ w. ordered w n order) (λ w. []) }
+    fn arm(&mut self, ids: &NodeSet, n: NodeId, order: Order)
+        requires listed { has n ids.now ≡ true }
+        requires stands { (w : World) × Stands ids.now self.old.nodes.items self.old.sent.items w }
+        ensures done { (text : List ℕ) → DoesLine ids.now self.old.nodes.items self.new.nodes.items self.old.sent.items self.new.sent.items text text (λ w. ordered w n order) (λ w. []) }
     {
-        nodes::arm(&self.ids, self.nodes.as_mut_slice(), n, order);
+        let place = place_of(ids.as_slice(), n);
+        let nodes = self.nodes.as_mut_slice();
+        nodes[place].arm(order);
     }
 
-    fn set_initial(&mut self, alloc: Global, n: NodeId, text: &mut Text) -> Result<(), AllocError>
-        requires listed { has n self.old.ids ≡ true }
-        requires stands { (w : World) × Stands self.old.ids self.old.nodes.items self.old.sent.items w }
-        ensures ids { self.new.ids ≡ self.old.ids }
-        ensures initial { self.new.initial ≡ self.old.initial }
-        ensures done { OnOk result (DoesLine self.old.ids self.old.nodes.items self.new.nodes.items self.old.sent.items self.new.sent.items text.old text.new (λ w. did_unless_down w n (act.Bootstrap self.old.initial)) (λ w. results_of w n (act.Bootstrap self.old.initial))) }
+    fn set_initial(
+        &mut self,
+        alloc: Global,
+        ids: &NodeSet,
+        initial: &NodeSet,
+        n: NodeId,
+        text: &mut Text,
+    ) -> Result<(), AllocError>
+        requires listed { has n ids.now ≡ true }
+        requires stands { (w : World) × Stands ids.now self.old.nodes.items self.old.sent.items w }
+        ensures done { OnOk result (DoesLine ids.now self.old.nodes.items self.new.nodes.items self.old.sent.items self.new.sent.items text.old text.new (λ w. did_unless_down w n (act.Bootstrap initial.now)) (λ w. results_of w n (act.Bootstrap initial.now))) }
     {
         self.act.clear();
-        write_boot(&mut self.act, &self.initial)?;
-        let did = nodes::set_initial(
-            &self.ids,
-            self.nodes.as_mut_slice(),
-            n,
-            alloc,
-            &self.initial,
-        )?;
-        self.finish(alloc, n, did, text)?;
-        Ok(())
+        write_boot(&mut self.act, initial)?;
+        let place = place_of(ids.as_slice(), n);
+        let nodes = self.nodes.as_mut_slice();
+        let did = nodes[place].set_initial(alloc, initial)?;
+        self.finish(n, did, text)
     }
 
     fn start_join(
         &mut self,
         alloc: Global,
+        ids: &NodeSet,
         n: NodeId,
         candidate: NodeId,
         term: u64,
         text: &mut Text,
     ) -> Result<(), AllocError>
-        requires listed { has n self.old.ids ≡ true }
-        requires stands { (w : World) × Stands self.old.ids self.old.nodes.items self.old.sent.items w }
-        ensures ids { self.new.ids ≡ self.old.ids }
-        ensures initial { self.new.initial ≡ self.old.initial }
-        ensures done { OnOk result (DoesLine self.old.ids self.old.nodes.items self.new.nodes.items self.old.sent.items self.new.sent.items text.old text.new (λ w. did_unless_down w n (act.StartJoin candidate term)) (λ w. results_of w n (act.StartJoin candidate term))) }
+        requires listed { has n ids.now ≡ true }
+        requires stands { (w : World) × Stands ids.now self.old.nodes.items self.old.sent.items w }
+        ensures done { OnOk result (DoesLine ids.now self.old.nodes.items self.new.nodes.items self.old.sent.items self.new.sent.items text.old text.new (λ w. did_unless_down w n (act.StartJoin candidate term)) (λ w. results_of w n (act.StartJoin candidate term))) }
     {
         self.act.clear();
         write_start_join(&mut self.act, candidate, term)?;
-        let did = nodes::start_join(
-            &self.ids,
-            self.nodes.as_mut_slice(),
-            n,
-            alloc,
-            candidate,
-            term,
-        )?;
-        self.finish(alloc, n, did, text)?;
-        Ok(())
+        let place = place_of(ids.as_slice(), n);
+        let nodes = self.nodes.as_mut_slice();
+        let did = nodes[place].start_join(alloc, candidate, term)?;
+        self.finish(n, did, text)
     }
 
     fn client_value(
         &mut self,
         alloc: Global,
+        ids: &NodeSet,
         n: NodeId,
         version: u64,
         setting: SettingText,
         config: &IdList,
         text: &mut Text,
     ) -> Result<(), AllocError>
-        requires listed { has n self.old.ids ≡ true }
-        requires stands { (w : World) × Stands self.old.ids self.old.nodes.items self.old.sent.items w }
-        ensures ids { self.new.ids ≡ self.old.ids }
-        ensures initial { self.new.initial ≡ self.old.initial }
-        ensures done { OnOk result (DoesLine self.old.ids self.old.nodes.items self.new.nodes.items self.old.sent.items self.new.sent.items text.old text.new (λ w. did_unless_down w n (act.Value version config.now (value_with setting))) (λ w. results_of w n (act.Value version config.now (value_with setting)))) }
+        requires listed { has n ids.now ≡ true }
+        requires stands { (w : World) × Stands ids.now self.old.nodes.items self.old.sent.items w }
+        ensures done { OnOk result (DoesLine ids.now self.old.nodes.items self.new.nodes.items self.old.sent.items self.new.sent.items text.old text.new (λ w. did_unless_down w n (act.Value version config.now (value_with setting))) (λ w. results_of w n (act.Value version config.now (value_with setting)))) }
     {
         let config = VotingConfig::of(&config.to_set());
         let value = value_of(alloc, setting)?;
         self.act.clear();
         write_value(&mut self.act, alloc, version, &config, &value)?;
-        let did = nodes::client_value(
-            &self.ids,
-            self.nodes.as_mut_slice(),
-            n,
-            alloc,
-            version,
-            config,
-            value,
-        )?;
-        self.finish(alloc, n, did, text)?;
-        Ok(())
+        let place = place_of(ids.as_slice(), n);
+        let nodes = self.nodes.as_mut_slice();
+        let did = nodes[place].client_value(alloc, version, config, value)?;
+        self.finish(n, did, text)
     }
 
     fn deliver(
         &mut self,
         alloc: Global,
+        ids: &NodeSet,
         n: NodeId,
         ordinal: u64,
         text: &mut Text,
     ) -> Result<(), AllocError>
-        requires listed { has n self.old.ids ≡ true }
-        requires stands { (w : World) × Stands self.old.ids self.old.nodes.items self.old.sent.items w }
+        requires listed { has n ids.now ≡ true }
+        requires stands { (w : World) × Stands ids.now self.old.nodes.items self.old.sent.items w }
         requires positive { 0 < ordinal }
-        ensures ids { self.new.ids ≡ self.old.ids }
-        ensures initial { self.new.initial ≡ self.old.initial }
-        ensures done { OnOk result (DoesLine self.old.ids self.old.nodes.items self.new.nodes.items self.old.sent.items self.new.sent.items text.old text.new (λ w. took_some w n (message_at w ordinal)) (λ w. delivery_results w n (message_at w ordinal))) }
+        ensures done { OnOk result (DoesLine ids.now self.old.nodes.items self.new.nodes.items self.old.sent.items self.new.sent.items text.old text.new (λ w. took_some w n (message_at w ordinal)) (λ w. delivery_results w n (message_at w ordinal))) }
     {
-        match self.sent.as_slice().get((ordinal - 1) as usize) {
-            None => self.unsent(n, text),
-            Some(message) => {
-                let message = message.share()?;
-                self.hand_over(alloc, n, &message, text)?;
-                Ok(())
-            }
-        }
-    }
-
-    fn hand_over(
-        &mut self,
-        alloc: Global,
-        n: NodeId,
-        message: &SentMessage,
-        text: &mut Text,
-    ) -> Result<(), AllocError>
-        requires listed { has n self.old.ids ≡ true }
-        requires stands { (w : World) × Stands self.old.ids self.old.nodes.items self.old.sent.items w }
-        requires source { has (source_of (message_of message.now)) self.old.ids ≡ true }
-        ensures ids { self.new.ids ≡ self.old.ids }
-        ensures initial { self.new.initial ≡ self.old.initial }
-        ensures done { OnOk result (DoesLine self.old.ids self.old.nodes.items self.new.nodes.items self.old.sent.items self.new.sent.items text.old text.new (λ w. did_unless_down w n (taking (message_of message.now))) (λ w. results_of w n (taking (message_of message.now)))) }
-    {
+        let place = place_of(ids.as_slice(), n);
+        let Some(message) = self.sent.as_slice().get((ordinal - 1) as usize) else {
+            let nodes = self.nodes.as_slice();
+            return unsent(&nodes[place], n, text);
+        };
         self.act.clear();
-        write_taking(&mut self.act, alloc, message)?;
-        let did = nodes::deliver(&self.ids, self.nodes.as_mut_slice(), n, alloc, message)?;
-        self.finish(alloc, n, did, text)?;
-        Ok(())
-    }
-
-    // There is no such message.
-    fn unsent(&self, n: NodeId, text: &mut Text) -> Result<(), AllocError>
-        requires listed { has n self.now.ids ≡ true }
-        requires many { length self.now.nodes.items ≡ length self.now.ids }
-        ensures { OnOk result ((w : World) → AllStand self.now.ids self.now.nodes.items w → text.new ≡ text.old ++ delivery_results w n None) }
-    {
-        if nodes::is_down(&self.ids, self.nodes.as_slice(), n) {
-            return write_down(text, n);
-        }
-        text.word("unsent\n")
+        write_taking(&mut self.act, message)?;
+        let nodes = self.nodes.as_mut_slice();
+        let did = nodes[place].deliver(alloc, message)?;
+        self.finish(n, did, text)
     }
 
     // Writes what an act did, and keeps the message that it sends.
-    fn finish(
-        &mut self,
-        alloc: Global,
-        n: NodeId,
-        did: Did,
-        text: &mut Text,
-    ) -> Result<(), AllocError>
-        ensures ids { self.new.ids ≡ self.old.ids }
-        ensures initial { self.new.initial ≡ self.old.initial }
+    fn finish(&mut self, n: NodeId, did: Did, text: &mut Text) -> Result<(), AllocError>
         ensures nodes { self.new.nodes ≡ self.old.nodes }
         ensures written { OnOk result (text.new ≡ text.old ++ did_text (length self.old.sent.items) n self.old.act did) }
         ensures sent { OnOk result (map message_of self.new.sent.items ≡ map message_of self.old.sent.items ++ sent_some (outcome_of did)) }
     {
         let count = self.sent.as_slice().len();
-        write_did(text, alloc, count, n, &self.act, &did)?;
-        keep(&mut self.sent, did)?;
-        Ok(())
+        write_did(text, count, n, &self.act, &did)?;
+        keep(&mut self.sent, did)
     }
+}
+
+// There is no such message.
+fn unsent(node: &ReplayNode, n: NodeId, text: &mut Text) -> Result<(), AllocError>
+    ensures { OnOk result ((w : World) → NodeStands node.now (node_world w n) → text.new ≡ text.old ++ delivery_results w n None) }
+{
+    if node.is_down() {
+        return write_down(text, n);
+    }
+    text.word("unsent\n")
 }
 
 // Keeps the message that an act has sent.

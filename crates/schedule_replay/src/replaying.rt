@@ -73,7 +73,7 @@ fn replay_core<T: Observer, S: Sink>(
     ensures later { S.faults out.old ≤ S.faults out.new }
     ensures fault { result ≡ Err ReplayError.Write → Rose (S.faults out.old) (S.faults out.new) }
 {
-    let Ok(mut replayer) = Replayer::new(alloc, &schedule.nodes, &schedule.initial) else {
+    let Ok(mut replayer) = Replayer::new(alloc, &schedule.nodes) else {
         return Err(ReplayError::Memory);
     };
     let mut held = Text::new(alloc);
@@ -81,7 +81,7 @@ fn replay_core<T: Observer, S: Sink>(
     let lines = schedule.lines.as_slice();
     for line in lines {
         text.clear();
-        let Ok(()) = replayer.line(alloc, line, &mut text) else {
+        let Ok(()) = replayer.line(alloc, schedule, line, &mut text) else {
             return Err(out_of_memory(out, &held));
         };
         let piece = text.as_bytes();

@@ -69,10 +69,12 @@ ended_twice : (xs ys : List (List ℕ)) → xs ++ (ys ++ [] ∷ []) ≢ []
 ended_twice [] ys e = ended ys e
 ended_twice (x ∷ xs) ys e = absurd cc
 
--- at a line without its line feed
-stops_cut : {A : Type 0} (reads : List (List ℕ) → Result A BadSchedule) (start : ℕ) (line : List ℕ) (bad : BadSchedule) (more : List (List ℕ)) (value : A) → lacks 10 line ≡ true → reads (line ∷ []) ≡ Err bad → bad.line ≡ start
-    → list_all (lacks 10) more ≡ true → reads (more ++ [] ∷ []) ≡ Ok value → Stops reads start (line ∷ []) bad
-stops_cut reads start line bad more value l e number more_lack again = record {
+-- at the first line, where no others that keep its bytes are read
+stops_at_once : {A : Type 0} (reads : List (List ℕ) → Result A BadSchedule) (start : ℕ) (parts : List (List ℕ)) (bad : BadSchedule) (more : List (List ℕ)) (value : A) → bad.line ≡ start
+    → list_all (lacks 10) more ≡ true → reads (more ++ [] ∷ []) ≡ Ok value
+    → ((others : List (List ℕ)) (x : A) → list_all (lacks 10) others ≡ true → others ≢ [] → first_lines 1 (join_with_byte 10 others) ≡ first_lines 1 (join_with_byte 10 parts) → reads others ≡ Ok x → ⊥)
+    → Stops reads start parts bad
+stops_at_once reads start parts bad more value number more_lack again here = record {
   good = [];
   number = omega (arith, number);
   begin = refl;
@@ -81,8 +83,15 @@ stops_cut reads start line bad more value l e number more_lack again = record {
   more_lack = more_lack;
   value = value;
   again = again;
-  here = λ others x k some same is. not_both (reads others) x bad is (ap reads (same_alone line others k l some same) ∙ e);
+  here = here;
 }
+
+-- at a line without its line feed
+stops_cut : {A : Type 0} (reads : List (List ℕ) → Result A BadSchedule) (start : ℕ) (line : List ℕ) (bad : BadSchedule) (more : List (List ℕ)) (value : A) → lacks 10 line ≡ true → reads (line ∷ []) ≡ Err bad → bad.line ≡ start
+    → list_all (lacks 10) more ≡ true → reads (more ++ [] ∷ []) ≡ Ok value → Stops reads start (line ∷ []) bad
+stops_cut reads start line bad more value l e number more_lack again =
+    stops_at_once reads start (line ∷ []) bad more value number more_lack again
+    (λ others x k some same is. not_both (reads others) x bad is (ap reads (same_alone line others k l some same) ∙ e))
 
 -- a reader of parts by a reader of the first one, where others follow
 module _ {A X : Type 0} (reads : List (List ℕ) → Result A BadSchedule) (one : List ℕ → Result X BadSchedule) (next : List ℕ → X → List (List ℕ) → Result A BadSchedule) (goes : (line : List ℕ) (rest : List (List ℕ)) → rest ≢ [] → reads (line ∷ rest) ≡ (one line >>> λ x. next line x rest)) where
@@ -92,19 +101,11 @@ module _ {A X : Type 0} (reads : List (List ℕ) → Result A BadSchedule) (one 
   -- at this line
   stops_here : (start : ℕ) (line : List ℕ) (rest : List (List ℕ)) (bad : BadSchedule) (more : List (List ℕ)) (value : A) → rest ≢ [] → lacks 10 line ≡ true → one line ≡ Err bad → bad.line ≡ start
       → list_all (lacks 10) more ≡ true → reads (more ++ [] ∷ []) ≡ Ok value → Stops reads start (line ∷ rest) bad
-  stops_here start line rest bad more value some l e number more_lack again = record {
-    good = [];
-    number = omega (arith, number);
-    begin = refl;
-    lack = refl;
-    more = more;
-    more_lack = more_lack;
-    value = value;
-    again = again;
-    here = λ others x k other same is.
-        let head = same_head 0 line rest others k l other some same in
-        not_both (reads others) x bad is (ap reads head.whole ∙ reads_as line head.others (Err bad) head.some e);
-  }
+  stops_here start line rest bad more value some l e number more_lack again =
+      stops_at_once reads start (line ∷ rest) bad more value number more_lack again
+      (λ others x k other same is.
+      let head = same_head 0 line rest others k l other some same in
+      not_both (reads others) x bad is (ap reads head.whole ∙ reads_as line head.others (Err bad) head.some e))
 
   -- at a later one
   stops_later : (start : ℕ) (line : List ℕ) (rest : List (List ℕ)) (bad : BadSchedule) (x : X) → rest ≢ [] → lacks 10 line ≡ true → one line ≡ Ok x → Stops (next line x) (start + 1) rest bad → Stops reads start (line ∷ rest) bad

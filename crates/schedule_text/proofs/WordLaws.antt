@@ -223,9 +223,6 @@ items_again (x ∷ xs) h =
     let first = and_parts (is_id x && nat_lt 0 most_ids) _ parts.0 in
     rw (list_no_underscore x xs (and_parts (is_id x) _ first.0).0) (split_join 44 x xs (ids_each (lacks 44) id_no_comma [] (x ∷ xs) h))
 
-parts_some : (c : ℕ) (bs : List ℕ) (d : List ℕ) (ds : List (List ℕ)) → parts_of c bs ≡ d ∷ ds → list_text (d ∷ ds) ≡ join_with_byte c (d ∷ ds) → bs ≡ list_text (d ∷ ds)
-parts_some c bs d ds e f = sym (join_split c bs) ∙ ap (join_with_byte c) e ∙ sym f
-
 list_of_parts : (xs : List (List ℕ)) → xs ≢ [] → list_text xs ≡ join_with_byte 44 xs
 list_of_parts [] h = absurd (h refl)
 list_of_parts (x ∷ xs) h = refl

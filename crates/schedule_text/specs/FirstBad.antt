@@ -1,5 +1,6 @@
 -- Part of the statement: which line is the first bad one, by the schedules that there are.
 use Rattle.std.specs.Prelude.{◌≡◌, ◌↔◌, ℕ, zero, suc, ◌-◌, ◌==◌, List, [], ◌∷◌, Some, if◌then◌else◌}
+use Rattle.voting_config.specs.Lists.{line_feed}
 use Rattle.schedule_text.specs.declared.fault.Why.{Why}
 use Rattle.schedule_text.specs.declared.level.Level.{Level}
 use Rattle.schedule_text.specs.declared.schedule.Schedule.{Schedule}
@@ -10,7 +11,7 @@ use Rattle.schedule_text.specs.Spelled.{Spells}
 abbrev pub first_lines : ℕ → List ℕ → List ℕ
 first_lines zero bytes = []
 first_lines (suc n) [] = []
-first_lines (suc n) (b ∷ bs) = b ∷ first_lines (if b == 10 then n else suc n) bs
+first_lines (suc n) (b ∷ bs) = b ∷ first_lines (if b == line_feed then n else suc n) bs
 
 -- some schedule's text has the same first n lines
 abbrev pub BeginsSchedule : Level → ℕ → List ℕ → Type 0

@@ -10,7 +10,7 @@ use Rattle.schedule_text.specs.declared.level.Level.TheVariants.{Core, Node}
 use Rattle.schedule_text.specs.declared.schedule.Line.{Line}
 use Rattle.schedule_text.specs.declared.schedule.Line.TheVariants as line
 use Rattle.zen_disk.specs.declared.orders.Way.{Way}
-use Rattle.voting_config.specs.Lists.{parts_of}
+use Rattle.voting_config.specs.Lists.{parts_of, line_feed, space}
 use Rattle.schedule_text.specs.Words.{◌>>=◌, Word, listed, text, number, config, mode}
 
 -- ---- the words after a verb
@@ -69,13 +69,13 @@ four {A} {B} {C} {D} a b c d = record {
 
 -- no line feed stands in the bytes
 abbrev pub is_one_line : List ℕ → Bool
-is_one_line bytes = list_all (λ b. not (b == 10)) bytes
+is_one_line bytes = list_all (λ b. not (b == line_feed)) bytes
 
 -- the first word, and what follows the space after it
 abbrev pub word_and_rest : List (List ℕ) → Result (List ℕ × List ℕ) Why
 word_and_rest [] = Err why.Arity
 word_and_rest (v ∷ []) = Err why.Arity
-word_and_rest (v ∷ w ∷ ws) = Ok (v, join_with_byte 32 (w ∷ ws))
+word_and_rest (v ∷ w ∷ ws) = Ok (v, join_with_byte space (w ∷ ws))
 
 -- one word, one space, and any bytes of the line, further spaces included, which may be none
 abbrev pub with_rest : {A : Type 0} → Word A → Args (A × List ℕ)
@@ -97,9 +97,12 @@ most_ordinal = 4294967295
 abbrev pub ordinal : Word ℕ
 ordinal = number 1 most_ordinal
 
+abbrev pub most_moment : ℕ
+most_moment = 2 ^ 62
+
 -- a moment in milliseconds
 abbrev pub moment : Word ℕ
-moment = number 0 (2 ^ 62)
+moment = number 0 most_moment
 
 abbrev pub boot : List Id → Args Id
 boot ids = one (listed ids)
@@ -135,7 +138,7 @@ client ids = with_rest (listed ids)
 
 -- the words of a line, which stand one space apart
 abbrev pub words_of : List ℕ → List (List ℕ)
-words_of bytes = parts_of 32 bytes
+words_of bytes = parts_of space bytes
 
 -- the words of a line; the bytes after the node of a client's line stand for one word
 abbrev pub line_words : Line → List (List ℕ)
@@ -152,7 +155,7 @@ line_words (line.Client n r) = codes "client" ∷ n ∷ r ∷ []
 
 -- a line as it is written
 abbrev pub line_text : Line → List ℕ
-line_text l = join_with_byte 32 (line_words l)
+line_text l = join_with_byte space (line_words l)
 
 -- a line of these nodes, at level core and at level node
 abbrev pub FitsCore : List Id → Line → Type 0

@@ -10,7 +10,7 @@ use Rattle.schedule_text.specs.declared.place.Place.{Place}
 use Rattle.schedule_text.specs.declared.schedule.Line.{Line}
 use Rattle.schedule_text.specs.declared.schedule.Schedule.{Schedule}
 use Rattle.schedule_text.specs.Limits.{most_bytes, most_lines, most_line_bytes}
-use Rattle.voting_config.specs.Lists.{parts_of}
+use Rattle.voting_config.specs.Lists.{parts_of, line_feed}
 use Rattle.schedule_text.specs.Words.{◌>>=◌, list, is_some_list}
 use Rattle.schedule_text.specs.Lines.{one_word, words_of, line_at}
 
@@ -90,7 +90,7 @@ lines_at level ids p front (line ∷ []) = end_at p line front
 lines_at level ids p front (line ∷ next ∷ more) = one_line_at level ids p line >>> λ l. lines_at level ids (after_line p line) (front ++ l ∷ []) (next ∷ more)
 
 abbrev pub pieces : List ℕ → List (List ℕ)
-pieces bytes = parts_of 10 bytes
+pieces bytes = parts_of line_feed bytes
 
 -- where the text ends before its second header line
 abbrev pub no_initial : {A : Type 0} → Place → List ℕ → Result A BadSchedule

@@ -4,7 +4,7 @@ use Rattle.std.specs.List.{flat_map, AllByRecursion}
 use Rattle.schedule_text.specs.declared.level.Level.{Level}
 use Rattle.schedule_text.specs.declared.schedule.Schedule.{Schedule}
 use Rattle.schedule_text.specs.Limits.{most_bytes, most_lines, most_line_bytes}
-use Rattle.voting_config.specs.Lists.{list_text, are_ids_after}
+use Rattle.voting_config.specs.Lists.{list_text, are_ids_after, line_feed}
 use Rattle.voting_config.specs.Ids.{are_among}
 use Rattle.schedule_text.specs.Lines.{FitsLine, line_text}
 
@@ -14,7 +14,7 @@ text_lines s = (codes "nodes " ++ list_text s.nodes) ∷ (codes "initial " ++ li
 
 -- each line with its line feed
 abbrev pub with_feeds : List (List ℕ) → List ℕ
-with_feeds lines = flat_map (λ (l : List ℕ). l ++ 10 ∷ []) lines
+with_feeds lines = flat_map (λ (l : List ℕ). l ++ line_feed ∷ []) lines
 
 -- a schedule, spelled
 abbrev pub schedule_text : Schedule → List ℕ

@@ -1,6 +1,7 @@
 //! Why a text is no schedule.
 ghost use Rattle.std.specs.Prelude.{◌≡◌};
 ghost use Rattle.schedule_text.specs.Printed.{why_text};
+ghost use Rattle.schedule_text.specs.declared.fault.ReadError.TheVariants as error;
 
 use std::fmt::Display;
 use thiserror::Error;
@@ -86,4 +87,12 @@ pub enum ReadError<E> {
     Bad(E),
     #[error("memory ran out")]
     Memory,
+}
+
+impl From<Why> for ReadError<Why> {
+    ghost from_gives = { λ why e. e ≡ error.Bad why };
+
+    fn from(why: Why) -> ReadError<Why> {
+        ReadError::Bad(why)
+    }
 }

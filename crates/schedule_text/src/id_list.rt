@@ -9,7 +9,8 @@ use voting_config::{NodeId, NodeSet};
 /// A set of ids that takes memory for those that are in alone. Contracts see the ascending list of them.
 #[derive(Drop)]
 pub struct IdList {
-    ids: Vec<NodeId>,
+    // in a place of its own, so that a line that holds it stays small
+    ids: Box<Vec<NodeId>>,
 }
 
 impl Model for IdList {
@@ -18,9 +19,9 @@ impl Model for IdList {
 
     ghost Value = { List Id };
 
-    ghost view = { λ l. l.ids.items };
+    ghost view = { λ l. l.ids.value.items };
 
-    ghost invariant = { λ l. IsIdSet l.ids.items };
+    ghost invariant = { λ l. IsIdSet l.ids.value.items };
 }
 
 impl IdList {
@@ -29,7 +30,10 @@ impl IdList {
         ensures { IfOk result (λ l. l ≡ ids.now) }
     {
         let ids = Vec::from_slice(alloc, ids.as_slice())?;
-        Ok(IdList { ids })
+        match Box::new(alloc, ids) {
+            Ok(ids) => Ok(IdList { ids }),
+            Err(_) => Err(AllocError),
+        }
     }
 
     /// The ids, ascending.

@@ -1,6 +1,7 @@
 //! Schedules as text: read whole or with the first bad line, and written again.
 #![tactic(auto)]
 
+pub mod boxed;
 pub mod fault;
 pub mod id_list;
 pub mod laws;
@@ -16,6 +17,7 @@ pub mod setting_text;
 pub mod text;
 pub mod words;
 
+pub use boxed::Boxed;
 pub use fault::{BadSchedule, ReadError, Why};
 pub use id_list::IdList;
 pub use laws::{law_first_bad_line, law_no_fault, law_one_schedule};

@@ -1,9 +1,10 @@
 //! A line of a schedule read from its words.
 ghost use Rattle.std.specs.Prelude.{◌≡◌, Option};
-ghost use Rattle.voting_config.specs.Lists.{parts_in};
-ghost use Rattle.schedule_text.specs.Lines.{one_word as one_word_of, two_words as two_words_of, three_words as three_words_of, four_words as four_words_of, word_and_rest as word_and_rest_of, boot_at, start_join_at, value_at, deliver_at, crash_at, restart_at, fuse_at, fail_at, tick_at, client_at, stop_verb_at, shared_verb_at, core_verb_at, core_line_at, node_verb_at, node_line_at, line_at};
+ghost use Rattle.voting_config.specs.Lists.{parts_in, space};
+ghost use Rattle.schedule_text.specs.Lines.{one_word as one_word_of, two_words as two_words_of, three_words as three_words_of, four_words as four_words_of, word_and_rest as word_and_rest_of, boot_at, start_join_at, value_at, deliver_at, crash_at, restart_at, fuse_at, fail_at, tick_at, client_at, stop_verb_at, shared_verb_at, core_line_at, node_line_at, line_at};
 ghost use Rattle.schedule_text.specs.Answers.{Gives, Answers};
 
+use crate::boxed::Boxed;
 use crate::fault::{ReadError, Why};
 use crate::id_list::IdList;
 use crate::level::Level;
@@ -22,23 +23,22 @@ pub const MAX_ORDINAL: u64 = 4294967295;
 pub const MAX_MOMENT: u64 = 4611686018427387904;
 
 /// The one word after a verb, and `Arity` where there is another number of words.
+#[tactic(auto, using(crate::proofs::Splitting::words_are))]
 pub fn one_word(rest: Option<&[u8]>) -> Result<&[u8], Why>
-    ensures { Gives (λ w. w.now) result (one_word_of (parts_in 32 rest.entry)) }
+    ensures { Gives (λ w. w.now) result (one_word_of (parts_in space rest.entry)) }
 {
     let Some(rest) = rest else {
         return Err(Why::Arity);
     };
     let (word, rest) = cut(rest, b' ');
-    let Some(rest) = rest else {
-        return Ok(word);
-    };
-    // For the proof alone, which counts the words: that there is one more.
-    let _ = cut(rest, b' ');
-    Err(Why::Arity)
+    match rest {
+        None => Ok(word),
+        Some(_) => Err(Why::Arity),
+    }
 }
 
 fn two_words(rest: Option<&[u8]>) -> Result<(&[u8], &[u8]), Why>
-    ensures { Gives (λ w. (w.0.now, w.1.now)) result (two_words_of (parts_in 32 rest.entry)) }
+    ensures { Gives (λ w. (w.0.now, w.1.now)) result (two_words_of (parts_in space rest.entry)) }
 {
     let Some(rest) = rest else {
         return Err(Why::Arity);
@@ -49,7 +49,7 @@ fn two_words(rest: Option<&[u8]>) -> Result<(&[u8], &[u8]), Why>
 }
 
 fn three_words(rest: Option<&[u8]>) -> Result<(&[u8], &[u8], &[u8]), Why>
-    ensures { Gives (λ w. (w.0.now, w.1.now, w.2.now)) result (three_words_of (parts_in 32 rest.entry)) }
+    ensures { Gives (λ w. (w.0.now, w.1.now, w.2.now)) result (three_words_of (parts_in space rest.entry)) }
 {
     let Some(rest) = rest else {
         return Err(Why::Arity);
@@ -59,26 +59,29 @@ fn three_words(rest: Option<&[u8]>) -> Result<(&[u8], &[u8], &[u8]), Why>
     Ok((first, second, third))
 }
 
-fn boot(ids: &NodeSet, rest: Option<&[u8]>) -> Result<Line, Why>
-    ensures { result ≡ boot_at ids.now (parts_in 32 rest.entry) }
+fn boot(ids: &NodeSet, rest: Option<&[u8]>) -> Result<Line, ReadError<Why>>
+    ensures { Answers result (boot_at ids.now (parts_in space rest.entry)) }
 {
     let node = one_word(rest)?;
     let node = node_at(ids, node)?;
     Ok(Line::Boot(node))
 }
 
-fn start_join(ids: &NodeSet, rest: Option<&[u8]>) -> Result<Line, Why>
-    ensures { result ≡ start_join_at ids.now (parts_in 32 rest.entry) }
+fn start_join(alloc: Global, ids: &NodeSet, rest: Option<&[u8]>) -> Result<Line, ReadError<Why>>
+    ensures { Answers result (start_join_at ids.now (parts_in space rest.entry)) }
 {
     let (node, candidate, term) = three_words(rest)?;
     let node = node_at(ids, node)?;
     let candidate = node_at(ids, candidate)?;
     let term = number_at(term, 0, u64::MAX)?;
+    let Ok(candidate) = Boxed::of(alloc, candidate) else {
+        return Err(ReadError::Memory);
+    };
     Ok(Line::StartJoin(node, candidate, term))
 }
 
-fn deliver(ids: &NodeSet, rest: Option<&[u8]>) -> Result<Line, Why>
-    ensures { result ≡ deliver_at ids.now (parts_in 32 rest.entry) }
+fn deliver(ids: &NodeSet, rest: Option<&[u8]>) -> Result<Line, ReadError<Why>>
+    ensures { Answers result (deliver_at ids.now (parts_in space rest.entry)) }
 {
     let (node, message) = two_words(rest)?;
     let node = node_at(ids, node)?;
@@ -87,7 +90,7 @@ fn deliver(ids: &NodeSet, rest: Option<&[u8]>) -> Result<Line, Why>
 }
 
 fn four_words(rest: Option<&[u8]>) -> Result<(&[u8], &[u8], &[u8], &[u8]), Why>
-    ensures { Gives (λ w. (w.0.now, w.1.now, w.2.now, w.3.now)) result (four_words_of (parts_in 32 rest.entry)) }
+    ensures { Gives (λ w. (w.0.now, w.1.now, w.2.now, w.3.now)) result (four_words_of (parts_in space rest.entry)) }
 {
     let Some(rest) = rest else {
         return Err(Why::Arity);
@@ -99,7 +102,7 @@ fn four_words(rest: Option<&[u8]>) -> Result<(&[u8], &[u8], &[u8], &[u8]), Why>
 
 // The line `value`, but for its configuration, which is not yet copied.
 fn value_parts(ids: &NodeSet, rest: Option<&[u8]>) -> Result<ValueParts, Why>
-    ensures { Gives (λ v. Line.Value v.node v.version v.text v.config) result (value_at ids.now (parts_in 32 rest.entry)) }
+    ensures { Gives (λ v. Line.Value v.node v.version v.text v.config) result (value_at ids.now (parts_in space rest.entry)) }
 {
     let (node, version, text, config) = four_words(rest)?;
     let node = node_at(ids, node)?;
@@ -123,20 +126,20 @@ struct ValueParts {
 }
 
 fn value(alloc: Global, ids: &NodeSet, rest: Option<&[u8]>) -> Result<Line, ReadError<Why>>
-    ensures { Answers result (value_at ids.now (parts_in 32 rest.entry)) }
+    ensures { Answers result (value_at ids.now (parts_in space rest.entry)) }
 {
-    let parts = match value_parts(ids, rest) {
-        Ok(parts) => parts,
-        Err(why) => return Err(ReadError::Bad(why)),
+    let parts = value_parts(ids, rest)?;
+    let Ok(text) = Boxed::of(alloc, parts.text) else {
+        return Err(ReadError::Memory);
     };
     let Ok(config) = IdList::of(alloc, &parts.config) else {
         return Err(ReadError::Memory);
     };
-    Ok(Line::Value(parts.node, parts.version, parts.text, config))
+    Ok(Line::Value(parts.node, parts.version, text, config))
 }
 
-fn crash(ids: &NodeSet, rest: Option<&[u8]>) -> Result<Line, Why>
-    ensures { result ≡ crash_at ids.now (parts_in 32 rest.entry) }
+fn crash(ids: &NodeSet, rest: Option<&[u8]>) -> Result<Line, ReadError<Why>>
+    ensures { Answers result (crash_at ids.now (parts_in space rest.entry)) }
 {
     let (node, mode) = two_words(rest)?;
     let node = node_at(ids, node)?;
@@ -144,16 +147,16 @@ fn crash(ids: &NodeSet, rest: Option<&[u8]>) -> Result<Line, Why>
     Ok(Line::Crash(node, mode))
 }
 
-fn restart(ids: &NodeSet, rest: Option<&[u8]>) -> Result<Line, Why>
-    ensures { result ≡ restart_at ids.now (parts_in 32 rest.entry) }
+fn restart(ids: &NodeSet, rest: Option<&[u8]>) -> Result<Line, ReadError<Why>>
+    ensures { Answers result (restart_at ids.now (parts_in space rest.entry)) }
 {
     let node = one_word(rest)?;
     let node = node_at(ids, node)?;
     Ok(Line::Restart(node))
 }
 
-fn fuse(ids: &NodeSet, rest: Option<&[u8]>) -> Result<Line, Why>
-    ensures { result ≡ fuse_at ids.now (parts_in 32 rest.entry) }
+fn fuse(ids: &NodeSet, rest: Option<&[u8]>) -> Result<Line, ReadError<Why>>
+    ensures { Answers result (fuse_at ids.now (parts_in space rest.entry)) }
 {
     let (node, count, mode) = three_words(rest)?;
     let node = node_at(ids, node)?;
@@ -162,8 +165,8 @@ fn fuse(ids: &NodeSet, rest: Option<&[u8]>) -> Result<Line, Why>
     Ok(Line::Fuse(node, count, mode))
 }
 
-fn fail(ids: &NodeSet, rest: Option<&[u8]>) -> Result<Line, Why>
-    ensures { result ≡ fail_at ids.now (parts_in 32 rest.entry) }
+fn fail(ids: &NodeSet, rest: Option<&[u8]>) -> Result<Line, ReadError<Why>>
+    ensures { Answers result (fail_at ids.now (parts_in space rest.entry)) }
 {
     let (node, call) = two_words(rest)?;
     let node = node_at(ids, node)?;
@@ -171,8 +174,8 @@ fn fail(ids: &NodeSet, rest: Option<&[u8]>) -> Result<Line, Why>
     Ok(Line::Fail(node, call))
 }
 
-fn tick(ids: &NodeSet, rest: Option<&[u8]>) -> Result<Line, Why>
-    ensures { result ≡ tick_at ids.now (parts_in 32 rest.entry) }
+fn tick(ids: &NodeSet, rest: Option<&[u8]>) -> Result<Line, ReadError<Why>>
+    ensures { Answers result (tick_at ids.now (parts_in space rest.entry)) }
 {
     let (node, now, word) = three_words(rest)?;
     let node = node_at(ids, node)?;
@@ -183,7 +186,7 @@ fn tick(ids: &NodeSet, rest: Option<&[u8]>) -> Result<Line, Why>
 
 // The first word after a verb, and all that follows the space after it, further spaces included.
 fn word_and_rest(rest: Option<&[u8]>) -> Result<(&[u8], &[u8]), Why>
-    ensures { Gives (λ w. (w.0.now, w.1.now)) result (word_and_rest_of (parts_in 32 rest.entry)) }
+    ensures { Gives (λ w. (w.0.now, w.1.now)) result (word_and_rest_of (parts_in space rest.entry)) }
 {
     let Some(rest) = rest else {
         return Err(Why::Arity);
@@ -197,7 +200,7 @@ fn word_and_rest(rest: Option<&[u8]>) -> Result<(&[u8], &[u8]), Why>
 
 // The line `client`, but for its bytes, which are not yet copied.
 fn client_parts<'a>(ids: &NodeSet, rest: Option<&'a [u8]>) -> Result<(NodeId, &'a [u8]), Why>
-    ensures { Gives (λ c. Line.Client c.0 c.1.now) result (client_at ids.now (parts_in 32 rest.entry)) }
+    ensures { Gives (λ c. Line.Client c.0 c.1.now) result (client_at ids.now (parts_in space rest.entry)) }
 {
     let (node, line) = word_and_rest(rest)?;
     let node = node_at(ids, node)?;
@@ -205,7 +208,7 @@ fn client_parts<'a>(ids: &NodeSet, rest: Option<&'a [u8]>) -> Result<(NodeId, &'
 }
 
 fn client(alloc: Global, ids: &NodeSet, rest: Option<&[u8]>) -> Result<Line, ReadError<Why>>
-    ensures { Answers result (client_at ids.now (parts_in 32 rest.entry)) }
+    ensures { Answers result (client_at ids.now (parts_in space rest.entry)) }
 {
     let (node, line) = match client_parts(ids, rest) {
         Ok(parts) => parts,
@@ -217,8 +220,8 @@ fn client(alloc: Global, ids: &NodeSet, rest: Option<&[u8]>) -> Result<Line, Rea
     Ok(Line::Client(node, line))
 }
 
-fn stop_verb_line(ids: &NodeSet, verb: &[u8], rest: Option<&[u8]>) -> Result<Line, Why>
-    ensures { result ≡ stop_verb_at ids.now verb.now (parts_in 32 rest.entry) }
+fn stop_verb_line(ids: &NodeSet, verb: &[u8], rest: Option<&[u8]>) -> Result<Line, ReadError<Why>>
+    ensures { Answers result (stop_verb_at ids.now verb.now (parts_in space rest.entry)) }
 {
     if verb == b"crash".as_slice() {
         return crash(ids, rest);
@@ -232,29 +235,17 @@ fn stop_verb_line(ids: &NodeSet, verb: &[u8], rest: Option<&[u8]>) -> Result<Lin
     if verb == b"fail".as_slice() {
         return fail(ids, rest);
     }
-    Err(Why::Verb)
+    Err(ReadError::Bad(Why::Verb))
 }
 
 // A line that stands at both levels.
-fn shared_line(ids: &NodeSet, verb: &[u8], rest: Option<&[u8]>) -> Result<Line, Why>
-    ensures { result ≡ shared_verb_at ids.now verb.now (parts_in 32 rest.entry) }
+fn shared_line(ids: &NodeSet, verb: &[u8], rest: Option<&[u8]>) -> Result<Line, ReadError<Why>>
+    ensures { Answers result (shared_verb_at ids.now verb.now (parts_in space rest.entry)) }
 {
     if verb == b"deliver".as_slice() {
         return deliver(ids, rest);
     }
     stop_verb_line(ids, verb, rest)
-}
-
-fn core_verb_line(ids: &NodeSet, verb: &[u8], rest: Option<&[u8]>) -> Result<Line, Why>
-    ensures { result ≡ core_verb_at ids.now verb.now (parts_in 32 rest.entry) }
-{
-    if verb == b"boot".as_slice() {
-        return boot(ids, rest);
-    }
-    if verb == b"startjoin".as_slice() {
-        return start_join(ids, rest);
-    }
-    shared_line(ids, verb, rest)
 }
 
 fn core_line(
@@ -263,22 +254,16 @@ fn core_line(
     verb: &[u8],
     rest: Option<&[u8]>,
 ) -> Result<Line, ReadError<Why>>
-    ensures { Answers result (core_line_at ids.now verb.now (parts_in 32 rest.entry)) }
+    ensures { Answers result (core_line_at ids.now verb.now (parts_in space rest.entry)) }
 {
     if verb == b"value".as_slice() {
         return value(alloc, ids, rest);
     }
-    match core_verb_line(ids, verb, rest) {
-        Ok(line) => Ok(line),
-        Err(why) => Err(ReadError::Bad(why)),
+    if verb == b"boot".as_slice() {
+        return boot(ids, rest);
     }
-}
-
-fn node_verb_line(ids: &NodeSet, verb: &[u8], rest: Option<&[u8]>) -> Result<Line, Why>
-    ensures { result ≡ node_verb_at ids.now verb.now (parts_in 32 rest.entry) }
-{
-    if verb == b"tick".as_slice() {
-        return tick(ids, rest);
+    if verb == b"startjoin".as_slice() {
+        return start_join(alloc, ids, rest);
     }
     shared_line(ids, verb, rest)
 }
@@ -289,15 +274,15 @@ fn node_line(
     verb: &[u8],
     rest: Option<&[u8]>,
 ) -> Result<Line, ReadError<Why>>
-    ensures { Answers result (node_line_at ids.now verb.now (parts_in 32 rest.entry)) }
+    ensures { Answers result (node_line_at ids.now verb.now (parts_in space rest.entry)) }
 {
     if verb == b"client".as_slice() {
         return client(alloc, ids, rest);
     }
-    match node_verb_line(ids, verb, rest) {
-        Ok(line) => Ok(line),
-        Err(why) => Err(ReadError::Bad(why)),
+    if verb == b"tick".as_slice() {
+        return tick(ids, rest);
     }
+    shared_line(ids, verb, rest)
 }
 
 /// The line that these bytes are, which have no line feed, or why they are no line of these nodes at this level.

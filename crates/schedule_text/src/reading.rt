@@ -1,9 +1,9 @@
 //! A text read as a schedule, or refused by its first bad line.
 ghost use Rattle.std.specs.Prelude.{◌≡◌, ◌+◌, ◌<◌, ◌≤◌, ◌^◌, length, OnOk, IfOk, Result, []};
 ghost use Rattle.schedule_text.specs.Limits.{most_lines};
-ghost use Rattle.voting_config.specs.Lists.{parts_of};
+ghost use Rattle.voting_config.specs.Lists.{parts_of, line_feed};
 ghost use Rattle.schedule_text.specs.Reading.{header_at, initial_line_at, one_line_at, first_line_at, second_line_at, lines_at, initial_at, schedule_at, fault_of, end_at, no_initial};
-ghost use Rattle.schedule_text.specs.Answers.{Answers, Faulted};
+ghost use Rattle.schedule_text.specs.Answers.{Adds, Answers, Faulted};
 ghost use Rattle.schedule_text.specs.Spelled.{Spells};
 ghost use Rattle.schedule_text.specs.declared.schedule.Schedule.{Schedule};
 
@@ -70,24 +70,27 @@ fn second_line(ids: &NodeSet, place: Place, line: &[u8]) -> Result<NodeSet, BadS
     }
 }
 
-// One line that has its line feed.
-fn one_line(
+// Puts one line that has its line feed after those that were read.
+fn add_line(
     alloc: Global,
     level: Level,
     ids: &NodeSet,
     place: Place,
     line: &[u8],
-) -> Result<Line, ReadError<BadSchedule>>
+    lines: &mut Vec<Line>,
+) -> Result<(), ReadError<BadSchedule>>
     requires { place.before + length line.now + 1 < 2 ^ 64 }
-    ensures read { Answers result (one_line_at level ids.now place line.now) }
+    ensures added { Adds lines.old.items lines.new.items result (one_line_at level ids.now place line.now) }
     ensures counted { OnOk result (place.number ≤ most_lines) }
 {
-    match place.check_size(line) {
-        Ok(()) => (),
-        Err(why) => return Err(ReadError::Bad(place.bad(why))),
+    if let Err(why) = place.check_size(line) {
+        return Err(ReadError::Bad(place.bad(why)));
     }
     match read_line(alloc, level, ids, line) {
-        Ok(line) => Ok(line),
+        Ok(read) => match lines.push(read) {
+            Ok(()) => Ok(()),
+            Err(_) => Err(ReadError::Memory),
+        },
         Err(ReadError::Memory) => Err(ReadError::Memory),
         Err(ReadError::Bad(why)) => Err(ReadError::Bad(place.bad(why))),
     }
@@ -112,20 +115,14 @@ fn read_lines(
     bytes: &[u8],
 ) -> Result<Lines, ReadError<BadSchedule>>
     requires bytes { start.before + length bytes.now < 2 ^ 64 }
-    ensures { Answers result (lines_at level ids.now start [] (parts_of 10 bytes.now)) }
+    ensures { Answers result (lines_at level ids.now start [] (parts_of line_feed bytes.now)) }
 {
     let mut lines = Vec::new(alloc);
     let mut place = start;
     let (mut line, mut rest) = cut(bytes, b'\n');
     while let Some(more) = rest {
         let next = cut(more, b'\n');
-        let read = match one_line(alloc, level, ids, place, line) {
-            Ok(read) => read,
-            Err(fault) => return Err(fault),
-        };
-        if lines.push(read).is_err() {
-            return Err(ReadError::Memory);
-        }
+        add_line(alloc, level, ids, place, line, &mut lines)?;
         place = place.after(line);
         line = next.0;
         rest = next.1;
@@ -137,6 +134,7 @@ fn read_lines(
 }
 
 // The lines after the header's first one.
+#[tactic(auto, using(crate::proofs::Splitting::lines_are))]
 fn read_rest(
     alloc: Global,
     level: Level,
@@ -146,14 +144,12 @@ fn read_rest(
 ) -> Result<Schedule, ReadError<BadSchedule>>
     requires bytes { place.before + length bytes.now < 2 ^ 64 }
     requires number { place.number ≤ most_lines }
-    ensures { Answers result (initial_at level nodes place (parts_of 10 bytes.now)) }
+    ensures { Answers result (initial_at level nodes place (parts_of line_feed bytes.now)) }
 {
     let (line, rest) = cut(bytes, b'\n');
     let Some(rest) = rest else {
         return Err(ReadError::Bad(no_second(place, line)));
     };
-    // For the proof alone, which speaks of the text cut at each line feed.
-    let _ = cut(rest, b'\n');
     let initial = match second_line(&nodes, place, line) {
         Ok(initial) => initial,
         Err(bad) => return Err(ReadError::Bad(bad)),
@@ -180,6 +176,7 @@ fn no_second(place: Place, line: &[u8]) -> BadSchedule
 }
 
 // Has the exact answer in its contract. `read_schedule` only calls it, and says from it what callers need.
+#[tactic(auto, using(crate::proofs::Splitting::lines_are))]
 fn read_exact(alloc: Global, level: Level, bytes: &[u8]) -> Result<Schedule, ReadError<BadSchedule>>
     ensures { Answers result (schedule_at level bytes.now) }
 {
@@ -195,8 +192,6 @@ fn read_exact(alloc: Global, level: Level, bytes: &[u8]) -> Result<Schedule, Rea
             lines: Lines::of(Vec::new(alloc)),
         });
     };
-    // For the proof alone, which speaks of the text cut at each line feed.
-    let _ = cut(rest, b'\n');
     let nodes = match first_line(place, line) {
         Ok(nodes) => nodes,
         Err(bad) => return Err(ReadError::Bad(bad)),

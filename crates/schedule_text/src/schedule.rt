@@ -1,6 +1,7 @@
 //! Schedules and their lines, as types.
 ghost use Rattle.std.specs.Prelude.{◌≡◌};
 
+use crate::boxed::Boxed;
 use crate::id_list::IdList;
 use crate::line_bytes::LineBytes;
 use crate::setting_text::SettingText;
@@ -15,10 +16,10 @@ pub enum Line {
     /// The node takes the initial configuration.
     Boot(NodeId),
     /// The node starts a join for a candidate in a term.
-    StartJoin(NodeId, NodeId, u64),
+    StartJoin(NodeId, Boxed<NodeId>, u64),
     /// A client's value reaches the node: as this version, with this text as its one setting, and with this
     /// configuration.
-    Value(NodeId, u64, SettingText, IdList),
+    Value(NodeId, u64, Boxed<SettingText>, IdList),
     /// The node is handed the message with this number, counted from 1.
     Deliver(NodeId, u64),
     /// The node crashes between two acts, and its disk is left so.

@@ -238,7 +238,7 @@ fn shows_a_torn_byte(rt: HostRuntime) {
 fn value_of(line: &Line) -> Option<(u64, usize, usize)> {
     match line {
         Line::Value(_, version, text, config) => {
-            Some((*version, text.as_str().len(), config.to_set().len()))
+            Some((*version, text.get().as_str().len(), config.to_set().len()))
         }
         _ => None,
     }

@@ -120,14 +120,14 @@ impl Text {
                 self.word("startjoin ")?;
                 self.id(*node)?;
                 self.word(" ")?;
-                self.id(*candidate)?;
+                self.id(candidate.get())?;
                 self.word(" ")?;
                 self.number(*term)
             }
             Line::Value(node, version, text, config) => self.value(
                 *node,
                 *version,
-                *text,
+                text.get(),
                 config.as_slice(),
             ),
             Line::Deliver(node, message) => {

@@ -1,6 +1,6 @@
 -- Part of the statement of `zen_chart`: the elements of a chart.
-use Rattle.std.specs.Prelude.{ℕ, ◌+◌, ◌-◌, ◌*◌, ◌/◌, ◌%◌, ◌==◌, Bool, true, false, Option, None, Some, Result, Ok, Err, List, [], ◌∷◌, ◌++◌, length, codes, decimal, nat_lt, if◌then◌else◌}
-use Rattle.std.specs.List.{flat_map}
+use Rattle.std.specs.Prelude.{ℕ, ◌+◌, ◌-◌, ◌*◌, ◌/◌, ◌%◌, ◌==◌, Bool, true, false, Option, None, Some, Result, Ok, Err, List, [], ◌++◌, length, codes, decimal, nat_lt, if◌then◌else◌}
+use Rattle.voting_config.specs.Lists.{space}
 use Rattle.voting_config.specs.Ids.{Id}
 use Rattle.schedule_text.specs.declared.fault.Why.{Why}
 use Rattle.schedule_text.specs.Lines.{any_number}
@@ -128,7 +128,7 @@ rule y = codes "<line class='step' x2='100%' y1='" ++ decimal y ++ codes "' y2='
 
 -- a line of the schedule, without its number
 unfoldable pub schedule : ℕ → List ℕ → List ℕ
-schedule y line = codes "<text class='schedule" ++ at_place 8 y ++ codes ">" ++ title line ++ escaped (capped 40 (behind 32 line))
+schedule y line = codes "<text class='schedule" ++ at_place 8 y ++ codes ">" ++ title line ++ escaped (capped 40 (behind space line))
 
 -- the message that it hands over
 unfoldable pub handed : List ℕ → List ℕ

@@ -1,5 +1,6 @@
 -- Part of the statement of `zen_chart`: what a lifeline shows of a line of its node.
-use Rattle.std.specs.Prelude.{ℕ, Bool, true, false, List, [], ◌++◌, codes}
+use Rattle.std.specs.Prelude.{ℕ, List, [], ◌++◌, codes}
+use Rattle.voting_config.specs.Lists.{space}
 use Rattle.trace_reader.specs.declared.told.Told.{Told}
 use Rattle.trace_reader.specs.declared.told.Told.TheVariants as told
 use Rattle.trace_reader.specs.declared.told.TraceLine.{TraceLine}
@@ -7,11 +8,11 @@ use Rattle.sequence_chart.specs.Words.{before, behind, short_words, capped}
 
 -- what stands after the second word
 abbrev pub fields : List ℕ → List ℕ
-fields line = behind 32 (behind 32 line)
+fields line = behind space (behind space line)
 
 -- the first word, and what stands after the second
 abbrev pub without_node : List ℕ → List ℕ
-without_node line = before 32 line ++ (codes " " ++ fields line)
+without_node line = before space line ++ (codes " " ++ fields line)
 
 -- The words of a label: the lifeline says which node it is.
 abbrev pub label_words : List ℕ → Told → List ℕ
@@ -25,7 +26,7 @@ label_words line (told.Won n t) = without_node line
 label_words line (told.Opened n) = without_node line
 label_words line (told.Dropped n) = without_node line
 label_words line (told.Replied n) = without_node line
-label_words line other = before 32 line
+label_words line other = before space line
 
 -- at most 46 bytes of them, and two dots
 abbrev pub label_of : TraceLine → List ℕ

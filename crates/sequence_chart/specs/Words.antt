@@ -1,9 +1,9 @@
 -- Part of the statement of `zen_chart`: what of a line is shown, and how it is escaped.
-use Rattle.std.specs.Prelude.{ℕ, ◌/◌, ◌%◌, ◌-◌, ◌==◌, ◌&&◌, Bool, Option, None, Some, Result, Ok, Err, List, [], ◌∷◌, ◌++◌, length, take, drop, get_or, codes, decimal, nat_le, nat_lt, if◌then◌else◌}
+use Rattle.std.specs.Prelude.{ℕ, ◌/◌, ◌%◌, ◌==◌, ◌&&◌, Result, Ok, Err, List, [], ◌∷◌, ◌++◌, length, take, drop, get_or, codes, decimal, nat_le, nat_lt, if◌then◌else◌}
 use Rattle.std.specs.List.{flat_map, join_with_byte}
 use Rattle.schedule_text.specs.declared.fault.Why.{Why}
 use Rattle.schedule_text.specs.Words.{hex_byte}
-use Rattle.voting_config.specs.Lists.{parts_of}
+use Rattle.voting_config.specs.Lists.{parts_of, comma}
 use Rattle.schedule_text.specs.Lines.{any_number}
 
 -- ---- parts
@@ -28,13 +28,22 @@ last_part c bytes = last_in (parts_of c bytes)
 
 -- ---- states
 
+abbrev pub colon : ℕ
+colon = 58
+
+abbrev pub open_brace : ℕ
+open_brace = 123
+
+abbrev pub close_brace : ℕ
+close_brace = 125
+
 -- the word where a state written as JSON has its term: no colon stands before it but those after `committed`, `config` and `term`
 abbrev pub term_word : List ℕ → List ℕ
-term_word json = before 44 (behind 58 (behind 58 (behind 58 json)))
+term_word json = before comma (behind colon (behind colon (behind colon json)))
 
 -- and where it has its version, its last member
 abbrev pub version_word : List ℕ → List ℕ
-version_word json = before 125 (last_part 58 json)
+version_word json = before close_brace (last_part colon json)
 
 abbrev pub id_by : Result ℕ Why → Result ℕ Why → List ℕ
 id_by (Ok term) (Ok version) = decimal term ++ (codes "/" ++ decimal version)
@@ -51,7 +60,7 @@ short_behind (b ∷ bs) = short_json (b ∷ bs)
 
 -- words of a trace, with the JSON at their end short
 abbrev pub short_words : List ℕ → List ℕ
-short_words words = before 123 words ++ short_behind (behind 123 words)
+short_words words = before open_brace words ++ short_behind (behind open_brace words)
 
 -- ---- texts
 

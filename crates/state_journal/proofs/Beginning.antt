@@ -9,7 +9,7 @@ use Rattle.cluster_state.specs.Field.{eight_bytes}
 use Rattle.cluster_state.specs.Fields.{ids}
 use Rattle.cluster_state.specs.States.{state}
 use Rattle.gate_log.specs.Generations.{Begins, epoch_in}
-use Rattle.gate_log.specs.Journal.{framed}
+use Rattle.gate_log.specs.Journal.{framed, most_body}
 use Rattle.gate_log.proofs.Laid.{length-framed}
 use Rattle.state_journal.specs.Bodies.{body_of}
 use Rattle.state_journal.specs.Drafts.{Drafted, IsDraft, generation_body}
@@ -48,7 +48,7 @@ module _ (epoch e t : ℕ) (s : ClusterState) (draft : Drafted) (committed : Lis
   pub begins_with : epoch < 2 ^ 62 → Begins epoch (body_of (Renewed (record { epoch = epoch + 1; kept = record_with t s committed })))
   begins_with small = subst (Begins epoch) (renewed_is (epoch + 1) t s committed) (begins_next epoch t (state.spelling s) committed small)
 
-  pub frame_short : (frame : List ℕ) → (ids most_ids).Fits committed → frame ≡ framed (generation_body (e + 1) t draft.state committed) → length frame ≤ 8388608 + 5
+  pub frame_short : (frame : List ℕ) → (ids most_ids).Fits committed → frame ≡ framed (generation_body (e + 1) t draft.state committed) → length frame ≤ most_body + 5
   frame_short frame fits framed_is =
       omega (
         arith,

@@ -1,4 +1,5 @@
 pub mod Beginning
+mod Changing
 pub mod Folds
 pub mod Found
 pub mod Frames

@@ -11,7 +11,7 @@ use Rattle.cluster_state.proofs.StateLaws.{term_law, version_law, ids_law, state
 use Rattle.cluster_state.proofs.Whole.{whole_again}
 use Rattle.gate_log.specs.Generations.{is_generation}
 use Rattle.state_journal.specs.Bodies.{body_of, change_at, change_by, change_tagged, generation}
-use Rattle.state_journal.specs.Drafts.{Drafted, HasSpelling, IsDraft, MayBegin, generation_body}
+use Rattle.state_journal.specs.Drafts.{Drafted, HasSpelling, IsDraft, MayBegin, generation_body, most_state_bytes}
 use Rattle.cluster_state.proofs.Sizes.{state_short}
 use Rattle.state_journal.specs.declared.change.Change.TheVariants.{Term, Accepted, Committed, Renewed}
 
@@ -40,7 +40,7 @@ pub fits_of : (s : ClusterState) → HasSpelling s → state.Fits s
 unfolding HasSpelling
 fits_of s has = has
 
-pub draft_short : (s : ClusterState) (draft : Drafted) → IsDraft s draft → length draft.state ≤ 1200000
+pub draft_short : (s : ClusterState) (draft : Drafted) → IsDraft s draft → length draft.state ≤ most_state_bytes
 draft_short s draft is = omega (arith, ap length is.spelled, state_short s (fits_of s is.fits))
 
 pub state_is : (s : ClusterState) → 2 ∷ state.spelling s ≡ body_of (Accepted s)

@@ -1,5 +1,6 @@
 -- For the contracts inside: the bytes of a state from which its frames are made.
-use Rattle.std.specs.Prelude.{◌≡◌, ℕ, ◌≤◌, ◌^◌, ◌++◌, ◌∷◌, List}
+use Rattle.std.specs.Prelude.{◌≡◌, ℕ, ◌≤◌, ◌++◌, ◌∷◌, List}
+use Rattle.cluster_state.specs.Field.{last_number}
 use Rattle.voting_config.specs.Ids.{Id, most_ids}
 use Rattle.cluster_state.specs.Fields.{term, version, ids}
 use Rattle.cluster_state.specs.States.{state}
@@ -10,6 +11,22 @@ use Rattle.cluster_state.specs.declared.state.Kept.{Kept}
 pub record Drafted : Type 0 where
   pub state : List ℕ
   pub frame : List ℕ
+
+-- how many bytes stand free before a state: the length, the tag, the epoch and the term of a generation
+abbrev pub room_before : ℕ
+room_before = 21
+
+-- and after it: a committed configuration and the closed gate
+abbrev pub room_behind : ℕ
+room_behind = 1058
+
+-- no state is spelled by more bytes
+abbrev pub most_state_bytes : ℕ
+most_state_bytes = 1200000
+
+-- a state that is ready to be kept
+pub record ToKeep : Type 0 where
+  pub state : ClusterState
 
 -- this state has a spelling, from which it can be read again
 unfoldable pub HasSpelling : ClusterState → Type 0
@@ -22,7 +39,7 @@ pub record IsDraft (s : ClusterState) (draft : Drafted) : Type 0 where
 
 -- this record may begin a generation
 pub record MayBegin (kept : Kept) : Type 0 where
-  pub bounded : kept.term ≤ 2 ^ 62
+  pub bounded : kept.term ≤ last_number
   pub fits : state.Fits kept.accepted
   pub named : (ids most_ids).Fits kept.committed
   pub older : kept.accepted.term ≤ kept.term

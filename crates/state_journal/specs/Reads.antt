@@ -1,5 +1,6 @@
 -- For the contracts inside: what reading bodies gives, unless memory ran out.
-use Rattle.std.specs.Prelude.{◌≡◌, ℕ, ◌≤◌, ◌^◌, Result, Ok, Err}
+use Rattle.std.specs.Prelude.{◌≡◌, ℕ, ◌≤◌, Result, Ok, Err}
+use Rattle.cluster_state.specs.Field.{last_number}
 use Rattle.cluster_state.specs.States.{IsFit}
 use Rattle.cluster_state.specs.declared.fault.StateFault.{StateFault}
 use Rattle.cluster_state.specs.declared.fault.StateFault.TheVariants as fault
@@ -72,13 +73,13 @@ FindsRecord (Err e) read = IsFoundError e read
 
 -- a change within the limits
 abbrev pub IsFitChange : Change → Type 0
-IsFitChange (Term term) = term ≤ 2 ^ 62
+IsFitChange (Term term) = term ≤ last_number
 IsFitChange (Accepted state) = IsFit state
 IsFitChange Committed = Unit {0}
-IsFitChange (Renewed generation) = (generation.kept.term ≤ 2 ^ 62) × IsFit generation.kept.accepted
+IsFitChange (Renewed generation) = (generation.kept.term ≤ last_number) × IsFit generation.kept.accepted
 
 -- a record within the limits
 pub record IsFitRecord (kept : Kept) : Type 0 where
-  pub bounded : kept.term ≤ 2 ^ 62
+  pub bounded : kept.term ≤ last_number
   pub fit : IsFit kept.accepted
   pub older : kept.accepted.term ≤ kept.term

@@ -4,7 +4,7 @@ ghost use Rattle.arrayvec.specs.ArrayVec.{array_vec_len};
 ghost use Rattle.cluster_state.specs.Fields.{id, ids};
 ghost use Rattle.cluster_state.specs.States.{IsFit};
 ghost use Rattle.gate_log.specs.Journal.{framed};
-ghost use Rattle.state_journal.specs.Drafts.{IsDraft, generation_body};
+ghost use Rattle.state_journal.specs.Drafts.{IsDraft, generation_body, room_before, room_behind, most_state_bytes};
 ghost use Rattle.voting_config.specs.Ids.{most_ids};
 ghost use Rattle.zen_disk.specs.Disk.{part, written};
 
@@ -21,6 +21,9 @@ const STATE_AT: usize = 21;
 // A committed configuration takes 1,057 bytes at most, and the closed gate after it one.
 const ROOM: usize = 1058;
 
+// Enough for most states, so that the bytes are not moved as they are written.
+const FIRST_CAPACITY: usize = 2048;
+
 // A state's bytes with room before and after them, and the frame that was last laid around them.
 #[derive(Drop)]
 pub(crate) struct Draft {
@@ -35,18 +38,18 @@ pub(crate) struct Draft {
 impl Model for Draft {
     ghost use Rattle.std.specs.Prelude.{◌≡◌, ◌≤◌, ◌+◌, vec_len};
     ghost use Rattle.zen_disk.specs.Disk.{part};
-    ghost use Rattle.state_journal.specs.Drafts.{Drafted};
+    ghost use Rattle.state_journal.specs.Drafts.{Drafted, room_before, room_behind};
 
     ghost Value = { Drafted };
 
-    ghost view = { λ d. record { state = part 21 d.size d.bytes.items; frame = part d.start d.len d.bytes.items } };
+    ghost view = { λ d. record { state = part room_before d.size d.bytes.items; frame = part d.start d.len d.bytes.items } };
 
-    ghost invariant = { λ d. (vec_len d.bytes ≡ 21 + d.size + 1058) × (d.start + d.len ≤ vec_len d.bytes) };
+    ghost invariant = { λ d. (vec_len d.bytes ≡ room_before + d.size + room_behind) × (d.start + d.len ≤ vec_len d.bytes) };
 }
 
 // An id after those that stand there.
-fn put_id(out: &mut ArrayVec<u8, 1058>, node: NodeId)
-    requires { array_vec_len out.old + 33 ≤ 1058 }
+fn put_id(out: &mut ArrayVec<u8, ROOM>, node: NodeId)
+    requires { array_vec_len out.old + 33 ≤ room_behind }
     ensures items { out.new.items ≡ out.old.items ++ id.spelling node }
     ensures room { array_vec_len out.new ≤ array_vec_len out.old + 33 }
 {
@@ -59,13 +62,13 @@ fn put_id(out: &mut ArrayVec<u8, 1058>, node: NodeId)
 }
 
 // A set of ids with a closed gate after it.
-fn set_and_gate(set: &NodeSet) -> ArrayVec<u8, 1058>
+fn set_and_gate(set: &NodeSet) -> ArrayVec<u8, ROOM>
     ensures items { result.items ≡ (ids most_ids).spelling set.now ++ 0 ∷ [] }
     ensures fits { (ids most_ids).Fits set.now }
     ensures length { array_vec_len result ≡ length ((ids most_ids).spelling set.now) + 1 }
 {
     let nodes = set.as_slice();
-    let mut out: ArrayVec<u8, 1058> = ArrayVec::new();
+    let mut out: ArrayVec<u8, ROOM> = ArrayVec::new();
     out.push(nodes.len() as u8);
     for node in nodes {
         put_id(&mut out, *node);
@@ -84,12 +87,12 @@ fn put(bytes: &mut [u8], at: usize, with: &[u8])
 
 // Puts bytes before those from 21 to `end`, and others after them.
 fn surround(bytes: &mut [u8], head: &[u8], end: usize, tail: &[u8])
-    requires head { length head.now ≤ 21 }
-    requires end { 21 ≤ end }
+    requires head { length head.now ≤ room_before }
+    requires end { room_before ≤ end }
     requires tail { end + length tail.now ≤ length bytes.old }
-    ensures frame { part (21 - length head.now) (length head.now + (end - 21) + length tail.now) bytes.new
-        ≡ head.now ++ (part 21 (end - 21) bytes.old ++ tail.now) }
-    ensures same { part 21 (end - 21) bytes.new ≡ part 21 (end - 21) bytes.old }
+    ensures frame { part (room_before - length head.now) (length head.now + (end - room_before) + length tail.now) bytes.new
+        ≡ head.now ++ (part room_before (end - room_before) bytes.old ++ tail.now) }
+    ensures same { part room_before (end - room_before) bytes.new ≡ part room_before (end - room_before) bytes.old }
     ensures length { length bytes.new ≡ length bytes.old }
 {
     put(bytes, STATE_AT - head.len(), head);
@@ -103,7 +106,7 @@ impl Draft {
         requires { IsFit state.now }
         ensures { IfOk result (λ d. IsDraft state.now d) }
     {
-        let mut bytes = Vec::new(alloc);
+        let mut bytes = Vec::with_capacity(alloc, FIRST_CAPACITY)?;
         bytes.extend_from_slice(&[0; STATE_AT])?;
         write_state(&mut bytes, state)?;
         let size = bytes.len() - STATE_AT;
@@ -132,8 +135,8 @@ impl Draft {
 
     // Lays a frame: the state between these bytes.
     fn lay(&mut self, head: &[u8], tail: &[u8])
-        requires head { length head.now ≤ 21 }
-        requires tail { length tail.now ≤ 1058 }
+        requires head { length head.now ≤ room_before }
+        requires tail { length tail.now ≤ room_behind }
         ensures frame { self.new.frame ≡ head.now ++ (self.old.state ++ tail.now) }
         ensures same { self.new.state ≡ self.old.state }
     {
@@ -145,7 +148,7 @@ impl Draft {
     // Lays the body that accepts the state, with its length and a closed gate.
     #[tactic(auto, unfolding(gate_log::specs::Journal::framed, gate_log::specs::Journal::sized))]
     pub(crate) fn lay_accepted(&mut self)
-        requires { length self.old.state ≤ 1200000 }
+        requires { length self.old.state ≤ most_state_bytes }
         ensures frame { self.new.frame ≡ framed (2 ∷ self.old.state) }
         ensures same { self.new.state ≡ self.old.state }
     {
@@ -157,7 +160,7 @@ impl Draft {
     // a closed gate.
     #[tactic(auto, unfolding(gate_log::specs::Journal::framed, gate_log::specs::Journal::sized, cluster_state::specs::Field::eight_bytes))]
     pub(crate) fn lay_generation(&mut self, epoch: u64, term: u64, committed: &VotingConfig)
-        requires { length self.old.state ≤ 1200000 }
+        requires { length self.old.state ≤ most_state_bytes }
         ensures frame { self.new.frame ≡ framed (generation_body epoch term self.old.state committed.now) }
         ensures fits { (ids most_ids).Fits committed.now }
         ensures same { self.new.state ≡ self.old.state }

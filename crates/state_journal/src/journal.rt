@@ -1,5 +1,6 @@
 //! `StateJournal`: the keeper over a journal of changes in two files.
-ghost use Rattle.std.specs.Prelude.{◌≡◌, ◌^◌, ◌≤◌, true, false, length, Ok, IfOk, IfErr};
+ghost use Rattle.std.specs.Prelude.{◌≡◌, ◌≤◌, true, false, length, Ok, IfOk, IfErr};
+ghost use Rattle.cluster_state.specs.Field.{last_number};
 ghost use Rattle.cluster_state.specs.States.{IsFit};
 ghost use Rattle.gate_log.specs.Calls.{both_opening_calls};
 ghost use Rattle.gate_log.specs.Generations.{in_use};
@@ -16,6 +17,7 @@ use crate::body::{committed_body, term_body};
 use crate::draft::Draft;
 use crate::fold::{FoundError, fold_sides};
 use crate::keep::{keep_small, keep_state, records_after};
+use crate::ready::ReadyState;
 use crate::refusal::refused;
 use crate::{ArmKeeper, KeepError, Keeper, OpenError, Ready};
 use cluster_state::Kept;
@@ -38,7 +40,7 @@ pub struct StateJournal<D: Disks> {
     draft: Draft,
     ghost stands: { D.told → log.stopped ≡ false → found_of (D.seen log.disk) ≡ Ok kept },
     ghost counted: { D.told → log.stopped ≡ false → records ≡ records_of (D.seen log.disk) },
-    ghost bounded: { kept.term ≤ 2 ^ 62 },
+    ghost bounded: { kept.term ≤ last_number },
     ghost fit: { IsFit kept.accepted } by { IsFit-prop kept.accepted },
     ghost older: { kept.accepted.term ≤ kept.term },
     ghost drafted: { IsDraft kept.accepted draft } by { IsDraft-prop kept.accepted draft },
@@ -179,7 +181,7 @@ impl<D: Disks> Keeper for StateJournal<D> {
         if self.log.stopped() {
             return Err(KeepError::Stopped);
         }
-        let Ready { state, mut draft } = ready;
+        let ReadyState { state, mut draft } = ready.into_made();
         let records = records_after(&self.log, self.records, draft.len() + 1);
         let Ok(()) = keep_state(&mut self.log, &mut draft, self.kept.term, &state.committed) else {
             return Err(KeepError::Disk);

@@ -3,8 +3,8 @@ ghost use Rattle.std.specs.Prelude.{◌≡◌, ◌+◌, ◌-◌, ◌<◌, ◌≤
 ghost use Rattle.cluster_state.specs.Fields.{ids};
 ghost use Rattle.cluster_state.specs.declared.state.ClusterState.{ClusterState};
 ghost use Rattle.gate_log.specs.Calls.{renewal_calls};
-ghost use Rattle.gate_log.specs.Generations.{standing_in, is_generation, renewed, IsRenewed};
-ghost use Rattle.gate_log.specs.Journal.{framed};
+ghost use Rattle.gate_log.specs.Generations.{standing_in, is_generation, renewed, IsRenewed, last_epoch};
+ghost use Rattle.gate_log.specs.Journal.{framed, most_body};
 ghost use Rattle.gate_log.specs.Place.{place, renews};
 ghost use Rattle.state_journal.specs.Bodies.{body_of};
 ghost use Rattle.state_journal.specs.Drafts.{IsDraft};
@@ -17,18 +17,16 @@ ghost use Rattle.zen_disk.specs.Runs.{CallsMade};
 ghost use Rattle.zen_disk.specs.Sides.{other};
 
 use crate::draft::Draft;
-use gate_log::{AppendError, GateLog};
+use gate_log::{AppendError, GateLog, LAST_EPOCH};
 use voting_config::VotingConfig;
 use zen_disk::Disks;
 
 // How many bytes the bodies after a generation take at most.
 const MAX_TAIL: u64 = 65_536;
 
-const LAST_EPOCH: u64 = 1 << 62;
-
 // Whether a body of this length begins a generation.
 fn begins<D: Disks>(log: &GateLog<D>, len: usize) -> bool
-    requires { len ≤ 8388608 }
+    requires { len ≤ most_body }
     ensures { (body : List ℕ) → length body ≡ len → result ≡ renews (place log.now) body }
 {
     MAX_TAIL < log.tail() + 5 + len as u64 && log.epoch() < LAST_EPOCH
@@ -36,7 +34,7 @@ fn begins<D: Disks>(log: &GateLog<D>, len: usize) -> bool
 
 // How many bodies are in use after one of this length is kept.
 pub(crate) fn records_after<D: Disks>(log: &GateLog<D>, records: u64, len: usize) -> u64
-    requires { len ≤ 8388608 }
+    requires { len ≤ most_body }
     ensures one { (body : List ℕ) → length body ≡ len → renews (place log.now) body ≡ true → result ≡ 1 }
     ensures more { (body : List ℕ) → length body ≡ len → renews (place log.now) body ≡ false → result ≡ min (records + 1) (2 ^ 64 - 1) }
 {
@@ -55,7 +53,7 @@ fn begin<D: Disks>(
     committed: &VotingConfig,
 ) -> Result<(), AppendError>
     requires runs { log.old.stopped ≡ false }
-    requires next { log.old.epoch < 2 ^ 62 }
+    requires next { log.old.epoch < last_epoch }
     requires drafted { (s : ClusterState) × IsDraft s draft.old }
     ensures ok { D.told → (s : ClusterState) → IsDraft s draft.old
         → let body = generation_after (place log.old) (record_with term s committed.now) in

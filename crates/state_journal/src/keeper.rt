@@ -1,5 +1,6 @@
 //! The trait `Keeper`: what keeps a node's record, and what a crash inside a write leaves.
-ghost use Rattle.std.specs.Prelude.{◌≡◌, ℕ, ◌<◌, ◌≤◌, ◌^◌, Bool, true, false, is_ok, Option, Some};
+ghost use Rattle.std.specs.Prelude.{◌≡◌, ℕ, ◌<◌, ◌≤◌, Bool, true, false, is_ok, Option, Some};
+ghost use Rattle.cluster_state.specs.Field.{last_number};
 ghost use Rattle.zen_disk.specs.Moments.{LeavesOnly};
 ghost use Rattle.cluster_state.specs.States.{IsFit};
 ghost use Rattle.cluster_state.specs.declared.state.Kept.{Kept as Record};
@@ -48,7 +49,7 @@ pub trait Keeper {
     /// What is kept: a term of at most 2^62, and a state within the limits and of no greater term.
     fn kept(&self) -> &Kept
         ensures kept { result.now ≡ record_of self.now }
-        ensures bounded { (record_of self.now).term ≤ 2 ^ 62 }
+        ensures bounded { (record_of self.now).term ≤ last_number }
         ensures fit { IsFit (record_of self.now).accepted }
         ensures older { (record_of self.now).accepted.term ≤ (record_of self.now).term };
 
@@ -60,7 +61,7 @@ pub trait Keeper {
     /// rose in this call; the record is then as before.
     fn set_term(&mut self, term: u64) -> Result<(), KeepError>
         requires above { (record_of self.old).term < term }
-        requires fits { term ≤ 2 ^ 62 }
+        requires fits { term ≤ last_number }
         ensures ends { WriteEnds (has_stopped self.old) (record_of self.old) (changed (record_of self.old) (change.Term term)) (faults self.old) (faults self.new) (has_stopped self.new) (record_of self.new) result }
         ensures later { faults self.old ≤ faults self.new }
         ensures any_moment { told → has_stopped self.old ≡ false → LeavesOnly moment left_since self.old self.new (IsEither (record_of self.old) (changed (record_of self.old) (change.Term term))) }

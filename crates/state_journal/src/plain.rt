@@ -1,5 +1,6 @@
 //! A keeper in memory, which never fails.
-ghost use Rattle.std.specs.Prelude.{◌≡◌, ◌≤◌, ◌^◌, ⊤, false, true, refl, Some};
+ghost use Rattle.std.specs.Prelude.{◌≡◌, ◌≤◌, ⊤, false, true, refl, Some};
+ghost use Rattle.cluster_state.specs.Field.{last_number};
 ghost use Rattle.cluster_state.specs.Initial.{empty_record};
 ghost use Rattle.cluster_state.specs.States.{IsFit};
 ghost use Rattle.state_journal.specs.Fit.{IsFit-prop};
@@ -14,7 +15,7 @@ use voting_config::VotingConfig;
 #[derive(Drop)]
 pub struct PlainKeeper {
     kept: Kept,
-    ghost bounded: { kept.term ≤ 2 ^ 62 },
+    ghost bounded: { kept.term ≤ last_number },
     ghost fit: { IsFit kept.accepted } by { IsFit-prop kept.accepted },
     ghost older: { kept.accepted.term ≤ kept.term },
 }
@@ -63,8 +64,9 @@ impl Keeper for PlainKeeper {
     }
 
     fn set_accepted(&mut self, ready: Ready) -> Result<(), KeepError> {
-        self.kept.committed = VotingConfig::of(ready.state.committed.members());
-        self.kept.accepted = ready.state;
+        let made = ready.into_made();
+        self.kept.committed = VotingConfig::of(made.state.committed.members());
+        self.kept.accepted = made.state;
         Ok(())
     }
 

@@ -8,16 +8,32 @@ ghost use Rattle.state_journal.specs.Fit.{IsFit-prop, IsDraft-prop};
 use crate::draft::Draft;
 use cluster_state::ClusterState;
 use std::alloc::{AllocError, Global};
+use std::marker::Model;
 use voting_config::NodeSet;
 
-/// A state that is ready to be kept: keeping it takes no memory.
+// A state with its bytes.
 #[derive(Drop)]
-pub struct Ready {
-    pub state: ClusterState,
+pub(crate) struct ReadyState {
+    pub(crate) state: ClusterState,
     // its bytes, with room for what is written around them
     pub(crate) draft: Draft,
     ghost fit: { IsFit state } by { IsFit-prop state },
     ghost drafted: { IsDraft state draft } by { IsDraft-prop state draft },
+}
+
+/// A state that is ready to be kept: keeping it takes no memory. Contracts see the state. It lies with its bytes in a place of their
+/// own, since they are large and go through many hands.
+#[derive(Drop)]
+pub struct Ready {
+    made: Box<ReadyState>,
+}
+
+impl Model for Ready {
+    ghost use Rattle.state_journal.specs.Drafts.{ToKeep};
+
+    ghost Value = { ToKeep };
+
+    ghost view = { λ r. record { state = r.made.value.state } };
 }
 
 /// There was no memory to make a state ready. It is handed back.
@@ -36,7 +52,26 @@ impl Ready {
         let Ok(draft) = Draft::new(alloc, &state) else {
             return Err(NotReady { state });
         };
-        Ok(Ready { state, draft })
+        match Box::new(alloc, ReadyState { state, draft }) {
+            Ok(made) => Ok(Ready { made }),
+            Err(failed) => Err(NotReady {
+                state: failed.value.state,
+            }),
+        }
+    }
+
+    /// A copy of this state, which is within the limits, ready to be kept.
+    pub fn of(alloc: Global, state: &ClusterState) -> Result<Ready, AllocError>
+        requires { IsFit state.now }
+        ensures { IfOk result (λ r. r.state ≡ state.now) }
+    {
+        let draft = Draft::new(alloc, state)?;
+        let settings = state.value.settings.copy()?;
+        let state = state.with_settings(settings);
+        let Ok(made) = Box::new(alloc, ReadyState { state, draft }) else {
+            return Err(AllocError);
+        };
+        Ok(Ready { made })
     }
 
     /// What a bootstrap with this configuration makes the accepted state, ready to be kept.
@@ -47,5 +82,20 @@ impl Ready {
             Ok(ready) => Ok(ready),
             Err(_) => Err(AllocError),
         }
+    }
+
+    /// The state.
+    pub fn state(&self) -> &ClusterState
+        ensures state { result.now ≡ self.now.state }
+        ensures fit { IsFit self.now.state }
+    {
+        &self.made.state
+    }
+
+    // The state with its bytes.
+    pub(crate) fn into_made(self) -> ReadyState
+        ensures { result.state ≡ self.state }
+    {
+        Box::into_inner(self.made)
     }
 }

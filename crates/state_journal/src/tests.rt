@@ -137,7 +137,7 @@ fn renews_again_on_side_zero(rt: HostRuntime) -> Result<(), Fail> {
     let mut journal = open_journal(&rt, b"", b"")?;
     set_terms(&mut journal, 1, 4682)?;
     let ready = Ready::initial(rt.alloc(), &one_id())?;
-    if ready.state.term > journal.kept().term {
+    if ready.state().term > journal.kept().term {
         return Err(Fail::new("the state's term is greater"));
     }
     assert_eq!(&rt; journal.set_accepted(ready), Ok(()));
@@ -313,7 +313,7 @@ fn finds_what_it_kept(rt: HostRuntime) -> Result<(), Fail> {
     let mut journal = open_journal(&rt, b"", b"")?;
     set_term(&mut journal, 7)?;
     let ready = Ready::initial(rt.alloc(), &one_id())?;
-    if ready.state.term > journal.kept().term {
+    if ready.state().term > journal.kept().term {
         return Err(Fail::new("the state's term is greater"));
     }
     assert_eq!(&rt; journal.set_accepted(ready), Ok(()));

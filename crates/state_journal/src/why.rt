@@ -1,6 +1,6 @@
 //! Why two files are no journal of changes, as types and as text.
 use cluster_state::FieldError;
-use std::fmt;
+use gate_log::mark_of;
 use thiserror::Error;
 use zen_disk::Side;
 
@@ -41,23 +41,14 @@ pub enum Fault {
 
 /// Why two files are no journal: their first fault. Faults of layout and order of bodies come first, side zero's before side
 /// one's, then `Twin`, then what the bodies hold, side zero's first.
-#[derive(Clone, Copy, Debug, PartialEq, Eq)]
+///
+/// It is written as `Cut(8)` on side zero, `1:Cut(8)` on side one, and `Twin`.
+#[derive(Clone, Copy, Debug, PartialEq, Eq, Error)]
 pub enum Why {
     /// The fault of this side.
+    #[error("{mark}{1}", mark = mark_of(.0))]
     At(Side, Fault),
     /// Both sides have one epoch.
+    #[error("Twin")]
     Twin,
 }
-
-/// As `Cut(8)` on side zero, `1:Cut(8)` on side one, and `Twin`.
-impl fmt::Display for Why {
-    fn fmt<W: fmt::Write>(&self, f: &mut fmt::Formatter<W>) -> fmt::Result {
-        match *self {
-            Why::At(Side::Zero, fault) => write!(f, "{fault}"),
-            Why::At(Side::One, fault) => write!(f, "1:{fault}"),
-            Why::Twin => write!(f, "Twin"),
-        }
-    }
-}
-
-impl std::error::Error for Why {}

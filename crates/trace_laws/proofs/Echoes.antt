@@ -25,7 +25,8 @@ use Rattle.trace_reader.specs.Reading.{rest_of, words_told}
 use Rattle.trace_laws.specs.Laws.{LawEcho}
 use Rattle.trace_laws.proofs.Plain.{spaceless, number_plain}
 use Rattle.trace_laws.proofs.Lines.{done, read_by, id_lacks}
-use Rattle.trace_laws.proofs.Sets.{ids_set, same_self, all_ids, all_self, all_put, has_room}
+use Rattle.trace_laws.proofs.Sets.{same_self, all_ids, all_self, all_put, has_room}
+use Rattle.trace_text.proofs.IdLists.{ids_set}
 
 -- ---- the nodes that a line names
 

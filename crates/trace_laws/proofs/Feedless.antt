@@ -1,7 +1,7 @@
 -- No line feed stands in what a line tells.
-use Rattle.std.proofs.Common.{◌≡◌, ℕ, Bool, true, false, not, Option, None, Some, List, [], ◌∷◌, ◌++◌, IsTrue, refl, codes, decimal, arith}
+use Rattle.std.proofs.Common.{◌≡◌, ℕ, true, false, not, Option, None, Some, List, [], ◌∷◌, ◌++◌, IsTrue, refl, codes, decimal, arith}
 use Rattle.std.specs.Prelude.{◌==◌}
-use Rattle.std.specs.List.{list_all, join_with_byte}
+use Rattle.std.specs.List.{list_all}
 use Rattle.std.proofs.lemmas.Bool.{and_parts, and_from}
 use Rattle.voting_config.specs.Ids.{Id, is_id}
 use Rattle.cluster_state.specs.declared.state.ClusterState.{ClusterState}
@@ -11,7 +11,7 @@ use Rattle.cluster_state.specs.declared.reply.Answer.TheVariants.{Acked, State, 
 use Rattle.cluster_state.specs.declared.reply.Reply.{Reply}
 use Rattle.cluster_state.specs.declared.reply.Reply.TheVariants.{To, BadLine}
 use Rattle.cluster_state.specs.Json.{state_json, value_json}
-use Rattle.client_lines.specs.Replies.{answer_json, beside_id, fault_name, reply_json, reply_text, text_of}
+use Rattle.client_lines.specs.Replies.{answer_json, beside_id, reply_json, reply_text, text_of}
 use Rattle.serde_json.specs.Written.{compact_text}
 use Rattle.world_model.specs.declared.acts.Act.{Act}
 use Rattle.world_model.specs.declared.acts.Act.TheVariants.{Bootstrap, StartJoin, TakeJoin, Value, Publish, Response, Commit, Open}
@@ -20,7 +20,7 @@ use Rattle.world_model.specs.declared.acts.Message.TheVariants.{Join as JoinMess
 use Rattle.wire_frames.specs.declared.frame.Message.{Message as FrameMessage}
 use Rattle.wire_frames.specs.declared.frame.Message.TheVariants as frame
 use Rattle.voting_config.specs.Lists.{list_text}
-use Rattle.schedule_text.proofs.WordLaws.{lacks, id_plain, join_all, is_plain}
+use Rattle.schedule_text.proofs.WordLaws.{lacks, id_plain, join_all}
 use Rattle.trace_text.specs.Trace.{act_text, id_text, message_text, state_text}
 use Rattle.event_text.specs.Frames.{message_text as frame_text, master_text}
 use Rattle.trace_laws.specs.Fits.{IsSmall, AreSmall, AreIds, FitsState, FitsStateId, FitsMaster, FitsAct, FitsMessage, FitsFrameMessage, FitsAnswer, FitsReply}

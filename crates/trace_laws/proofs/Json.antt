@@ -1,18 +1,16 @@
 -- No line feed stands in JSON.
-use Rattle.std.proofs.Common.{◌≡◌, ℕ, ◌/◌, ◌%◌, Bool, true, false, cond, not, Option, None, Some, List, [], ◌∷◌, ◌++◌, map, refl, codes, decimal, arith}
-use Rattle.std.specs.Prelude.{◌==◌, ◌||◌, nat_lt}
+use Rattle.std.proofs.Common.{◌≡◌, ℕ, ◌/◌, ◌%◌, Bool, true, false, cond, not, Option, None, Some, List, [], ◌∷◌, ◌++◌, refl, decimal, arith}
+use Rattle.std.specs.Prelude.{◌==◌, nat_lt}
 use Rattle.std.specs.Char.{digit_char}
-use Rattle.std.specs.List.{flat_map, list_all}
 use Rattle.std.proofs.lemmas.Bool.Decides.{nat_tests}
 use Rattle.json.specs.Print.{escape, escape_byte, escape_letter, quoted}
 use Rattle.serde_json.specs.Data.{Num, unsigned, negative, float, Data, null, boolean, number, string, array, object, Items, no_items, item, Members, no_members, member}
-use Rattle.serde_json.specs.View.{items_of}
 use Rattle.serde_json.specs.Written.{compact_text, items_text, members_text, number_text, comma_if}
 use Rattle.voting_config.specs.Ids.{Id}
 use Rattle.cluster_state.specs.declared.state.ClusterState.{ClusterState}
 use Rattle.cluster_state.specs.declared.state.ClusterValue.{ClusterValue}
 use Rattle.cluster_state.specs.Settings.{Setting}
-use Rattle.cluster_state.specs.Json.{ids_json, master_json, setting_members, settings_json, value_json, state_json}
+use Rattle.cluster_state.specs.Json.{ids_json, master_json, settings_json, value_json, state_json}
 use Rattle.schedule_text.proofs.WordLaws.{lacks, all_append}
 use Rattle.trace_laws.specs.Fits.{IsSmall, FitsState}
 use Rattle.trace_laws.proofs.Plain.{plain_lacks, number_plain}

@@ -1,6 +1,5 @@
 -- Lines cut at their spaces.
-use Rattle.std.proofs.Common.{◌≡◌, ℕ, true, Result, Ok, Option, List, ◌∷◌, ◌++◌, refl, sym, ap, ◌∙◌, codes, append_assoc, IsTrue}
-use Rattle.std.proofs.lemmas.List.{append_cancel_right}
+use Rattle.std.proofs.Common.{◌≡◌, ℕ, true, Result, Ok, Option, List, ◌∷◌, ◌++◌, refl, ap, ◌∙◌, codes, append_assoc, IsTrue}
 use Rattle.voting_config.specs.Ids.{Id, is_id}
 use Rattle.schedule_text.specs.declared.fault.Why.{Why}
 use Rattle.schedule_text.specs.Words.{◌>>=◌}

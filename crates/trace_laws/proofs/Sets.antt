@@ -90,17 +90,3 @@ shorter (x ∷ xs) (y ∷ ys) a b h =
 pub has_room : (n : Id) (some ids : List Id) → IsIdSet ids → ascends some ≡ true → list_all (λ x. has x ids) some ≡ true → has n ids ≡ true → has n some ≡ false → length some < most_ids
 has_room n some ids set ascending among inside outside =
     omega (arith, set.fits, length-put n some, shorter (put n some) ids (ascends-put n some ascending outside) set.ascending (all_put (λ x. has x ids) n some inside among))
-
-sets_after : (front xs : List Id) → IsIdSet front → are_ids_after front xs ≡ true → IsIdSet (front ++ xs)
-sets_after front [] set e = subst IsIdSet (sym (append-nil front)) set
-sets_after front (x ∷ xs) set e =
-    let parts = and_parts (may_follow front x) (are_ids_after (front ++ x ∷ []) xs) e in
-    let follows = and_parts (is_id x && nat_lt (length front) most_ids) (comes_after x front) parts.0 in
-    let is = and_parts (is_id x) (nat_lt (length front) most_ids) follows.0 in
-    let test : nat_lt (length front) most_ids ≡ true = is.1 in
-    let room : length front < most_ids = grind (arith, nat_tests) in
-    subst IsIdSet (append_assoc front (x ∷ []) xs) (sets_after (front ++ x ∷ []) xs (IsIdSet-push x front set is.0 follows.1 room) parts.1)
-
--- the ids of a list are a set
-pub ids_set : (xs : List Id) → are_ids_after [] xs ≡ true → IsIdSet xs
-ids_set xs e = sets_after [] xs (record { ascending = refl; each = refl; fits = omega arith }) e

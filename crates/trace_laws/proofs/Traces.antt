@@ -8,7 +8,7 @@ use Rattle.trace_reader.specs.declared.fault.BadTrace.{BadTrace}
 use Rattle.trace_reader.specs.declared.progress.Progress.{Progress}
 use Rattle.trace_reader.specs.declared.told.Told.{Told}
 use Rattle.trace_reader.specs.declared.told.TraceLine.{TraceLine}
-use Rattle.trace_reader.specs.Reading.{◌>>>◌, after_line, first_progress, in_line, line_at, lines_at, told_at}
+use Rattle.trace_reader.specs.Reading.{◌>>>◌, after_line, in_line, line_at, lines_at, told_at}
 use Rattle.trace_laws.specs.Laws.{AreRead, LawTrace}
 use Rattle.trace_laws.specs.Laws.AreRead.{Nothing, Read}
 use Rattle.trace_laws.proofs.Lines.{done}

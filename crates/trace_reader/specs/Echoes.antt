@@ -1,5 +1,5 @@
 -- Part of the statement of `zen_chart`: what the echo of a line of a schedule tells.
-use Rattle.std.specs.Prelude.{ℕ, ◌==◌, Result, Ok, Err, List, [], ◌∷◌, ◌&&◌, ◌||◌, not, length, codes, get_or, if◌then◌else◌}
+use Rattle.std.specs.Prelude.{ℕ, ◌==◌, Result, Ok, List, [], ◌&&◌, not, length, codes, get_or, if◌then◌else◌}
 use Rattle.std.specs.Str.{bytes_eq}
 use Rattle.voting_config.specs.Ids.{Id, is_id, has, with_id, most_ids}
 use Rattle.schedule_text.specs.declared.fault.Why.{Why}
@@ -8,14 +8,14 @@ use Rattle.schedule_text.specs.declared.level.Level.TheVariants.{Core, Node}
 use Rattle.schedule_text.specs.declared.schedule.Line.{Line}
 use Rattle.schedule_text.specs.declared.schedule.Line.TheVariants as line
 use Rattle.schedule_text.specs.Words.{◌>>=◌}
-use Rattle.voting_config.specs.Lists.{parts_of, items_of, are_ids_after}
+use Rattle.voting_config.specs.Lists.{parts_of, items_of, are_ids_after, space}
 use Rattle.schedule_text.specs.Lines.{line_at}
 use Rattle.trace_reader.specs.declared.told.Told.{Told}
 use Rattle.trace_reader.specs.declared.told.Told.TheVariants as told
 
 -- the word of a line at this place, counted from 0, and nothing where there are fewer
 abbrev pub word_at : (place : ℕ) → (line : List ℕ) → List ℕ
-word_at place line = get_or (parts_of 32 line) place []
+word_at place line = get_or (parts_of space line) place []
 
 -- the level that has lines of this verb; a verb that both have says the same at both
 abbrev pub level_of : List ℕ → Level

@@ -6,7 +6,7 @@ use Rattle.voting_config.specs.Ids.{Id}
 use Rattle.schedule_text.specs.declared.fault.Why.{Why}
 use Rattle.schedule_text.specs.declared.fault.Why.TheVariants as why
 use Rattle.schedule_text.specs.Words.{◌>>=◌}
-use Rattle.voting_config.specs.Lists.{parts_of}
+use Rattle.voting_config.specs.Lists.{parts_of, space, line_feed}
 use Rattle.schedule_text.specs.Lines.{words_of}
 use Rattle.trace_reader.specs.declared.fault.BadTrace.{BadTrace}
 use Rattle.trace_reader.specs.declared.progress.Progress.{Progress}
@@ -55,7 +55,7 @@ why_cut p line =
 -- the words after the first one as they stood
 abbrev pub rest_of : List (List ℕ) → Result (List ℕ) Why
 rest_of [] = Err why.Arity
-rest_of (w ∷ ws) = Ok (join_with_byte 32 (w ∷ ws))
+rest_of (w ∷ ws) = Ok (join_with_byte space (w ∷ ws))
 
 -- a result stands after a line of the schedule
 abbrev pub result_behind : Option Id → ℕ → List ℕ → List (List ℕ) → Result Told Why
@@ -99,4 +99,4 @@ lines_at p front (line ∷ next ∷ more) = line_at p line >>> λ l. lines_at (a
 
 -- The lines of the trace that the bytes are, or the first bad line and why it is bad.
 abbrev pub trace_at : List ℕ → Result (List TraceLine) BadTrace
-trace_at bytes = lines_at first_progress [] (parts_of 10 bytes)
+trace_at bytes = lines_at first_progress [] (parts_of line_feed bytes)

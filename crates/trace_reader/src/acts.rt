@@ -1,6 +1,6 @@
 //! The line of an act.
 ghost use Rattle.std.specs.Prelude.{◌≡◌};
-ghost use Rattle.voting_config.specs.Lists.{parts_in};
+ghost use Rattle.voting_config.specs.Lists.{parts_in, space};
 ghost use Rattle.schedule_text.specs.Lines.{words_of};
 ghost use Rattle.trace_reader.specs.Results.{ending_at as ending_at_of, is_act_word as is_act_word_of, act_words as act_words_of, ended_act as ended_act_of, act_at, won_at, committed_at, mode_words as mode_words_of, mode_at};
 
@@ -44,7 +44,7 @@ fn is_act_word(word: &[u8]) -> bool
 
 // Whether these words are an act: its word, and its fields.
 fn act_words(rest: Option<&[u8]>) -> Result<(), Why>
-    ensures { result ≡ act_words_of (parts_in 32 rest.entry) }
+    ensures { result ≡ act_words_of (parts_in space rest.entry) }
 {
     let (word, _) = word_and_rest(rest)?;
     if !is_act_word(word) {
@@ -54,7 +54,7 @@ fn act_words(rest: Option<&[u8]>) -> Result<(), Why>
 }
 
 fn ended_act(node: NodeId, rest: Option<&[u8]>) -> Result<Told, Why>
-    ensures { result ≡ ended_act_of node (parts_in 32 rest.entry) }
+    ensures { result ≡ ended_act_of node (parts_in space rest.entry) }
 {
     let (ending, act) = word_and_rest(rest)?;
     let ending = ending_at(ending)?;
@@ -64,7 +64,7 @@ fn ended_act(node: NodeId, rest: Option<&[u8]>) -> Result<Told, Why>
 
 /// What a line `act` tells, by the words after its first one.
 pub fn act(rest: Option<&[u8]>) -> Result<Told, Why>
-    ensures { result ≡ act_at (parts_in 32 rest.entry) }
+    ensures { result ≡ act_at (parts_in space rest.entry) }
 {
     let (word, rest) = word_and_rest(rest)?;
     let node = id_at(word)?;
@@ -73,7 +73,7 @@ pub fn act(rest: Option<&[u8]>) -> Result<Told, Why>
 
 /// What a line `won` tells.
 pub fn won(rest: Option<&[u8]>) -> Result<Told, Why>
-    ensures { result ≡ won_at (parts_in 32 rest.entry) }
+    ensures { result ≡ won_at (parts_in space rest.entry) }
 {
     let (node, term) = node_and_number(rest)?;
     Ok(Told::Won(node, term))
@@ -81,7 +81,7 @@ pub fn won(rest: Option<&[u8]>) -> Result<Told, Why>
 
 /// What a line `committed` tells of the node of the last line of the schedule.
 pub fn committed(actor: NodeId, rest: Option<&[u8]>) -> Result<Told, Why>
-    ensures { result ≡ committed_at actor (parts_in 32 rest.entry) }
+    ensures { result ≡ committed_at actor (parts_in space rest.entry) }
 {
     some_word(rest)?;
     Ok(Told::Committed(actor))
@@ -107,7 +107,7 @@ fn mode_words(node: NodeId, word: &[u8], rest: &[u8]) -> Result<Told, Why>
 
 /// What a line `mode` tells.
 pub fn mode(rest: Option<&[u8]>) -> Result<Told, Why>
-    ensures { result ≡ mode_at (parts_in 32 rest.entry) }
+    ensures { result ≡ mode_at (parts_in space rest.entry) }
 {
     let (word, rest) = word_and_rest(rest)?;
     let node = id_at(word)?;

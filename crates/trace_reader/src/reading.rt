@@ -1,6 +1,6 @@
 //! A trace, read line by line.
 ghost use Rattle.std.specs.Prelude.{◌≡◌, ◌+◌, ◌<◌, ◌≤◌, ◌^◌, length, OnOk, IfOk, []};
-ghost use Rattle.voting_config.specs.Lists.{parts_of, parts_in};
+ghost use Rattle.voting_config.specs.Lists.{parts_of, parts_in, space};
 ghost use Rattle.schedule_text.specs.Answers.{Answers};
 ghost use Rattle.trace_reader.specs.Limits.{most_trace_lines};
 ghost use Rattle.trace_reader.specs.Reading.{result_behind, told_at as told_at_of, words_told, line_at, end_at, trace_at, lines_at, first_progress};
@@ -16,7 +16,7 @@ use std::alloc::Global;
 use voting_config::cut;
 
 fn result(progress: &Progress, verb: &[u8], rest: Option<&[u8]>) -> Result<Told, Why>
-    ensures { result ≡ result_behind progress.now.actor progress.now.next verb.now (parts_in 32 rest.entry) }
+    ensures { result ≡ result_behind progress.now.actor progress.now.next verb.now (parts_in space rest.entry) }
 {
     let Some(actor) = progress.actor else {
         return Err(Why::Header);

@@ -1,6 +1,6 @@
 //! The line of a result.
 ghost use Rattle.std.specs.Prelude.{◌≡◌};
-ghost use Rattle.voting_config.specs.Lists.{parts_in};
+ghost use Rattle.voting_config.specs.Lists.{parts_in, space};
 ghost use Rattle.schedule_text.specs.Answers.{Gives};
 ghost use Rattle.trace_reader.specs.Results.{only_part as only_part_of, sender_at as sender_at_of, receiver_at as receiver_at_of, ends_at as ends_at_of, sent_at, message_at, state_at, note_at, delivery_at, result_at};
 
@@ -56,7 +56,7 @@ fn ends_at(word: &[u8]) -> Result<Told, Why>
 }
 
 fn sent(next: u64, digits: &[u8], rest: Option<&[u8]>) -> Result<Told, Why>
-    ensures { result ≡ sent_at next digits.now (parts_in 32 rest.entry) }
+    ensures { result ≡ sent_at next digits.now (parts_in space rest.entry) }
 {
     let number = any_number_at(digits)?;
     if number != next {
@@ -67,7 +67,7 @@ fn sent(next: u64, digits: &[u8], rest: Option<&[u8]>) -> Result<Told, Why>
 }
 
 fn message(next: u64, verb: &[u8], rest: Option<&[u8]>) -> Result<Told, Why>
-    ensures { result ≡ message_at next verb.now (parts_in 32 rest.entry) }
+    ensures { result ≡ message_at next verb.now (parts_in space rest.entry) }
 {
     let first = verb.len().min(1);
     if &verb[..first] != b"m".as_slice() {
@@ -77,7 +77,7 @@ fn message(next: u64, verb: &[u8], rest: Option<&[u8]>) -> Result<Told, Why>
 }
 
 fn state(next: u64, verb: &[u8], rest: Option<&[u8]>) -> Result<Told, Why>
-    ensures { result ≡ state_at next verb.now (parts_in 32 rest.entry) }
+    ensures { result ≡ state_at next verb.now (parts_in space rest.entry) }
 {
     if verb == b"crashed".as_slice() {
         let node = node_alone(rest)?;
@@ -99,7 +99,7 @@ fn state(next: u64, verb: &[u8], rest: Option<&[u8]>) -> Result<Told, Why>
 }
 
 fn note(next: u64, verb: &[u8], rest: Option<&[u8]>) -> Result<Told, Why>
-    ensures { result ≡ note_at next verb.now (parts_in 32 rest.entry) }
+    ensures { result ≡ note_at next verb.now (parts_in space rest.entry) }
 {
     if verb == b"record".as_slice() {
         let node = node_with_rest(rest)?;
@@ -117,7 +117,7 @@ fn note(next: u64, verb: &[u8], rest: Option<&[u8]>) -> Result<Told, Why>
 }
 
 fn delivery(actor: NodeId, next: u64, verb: &[u8], rest: Option<&[u8]>) -> Result<Told, Why>
-    ensures { result ≡ delivery_at actor next verb.now (parts_in 32 rest.entry) }
+    ensures { result ≡ delivery_at actor next verb.now (parts_in space rest.entry) }
 {
     if verb == b"unsent".as_slice() {
         no_word(rest)?;
@@ -133,7 +133,7 @@ fn delivery(actor: NodeId, next: u64, verb: &[u8], rest: Option<&[u8]>) -> Resul
 /// What the line of a result tells, by its first word and those after it. `actor` is the node of the last line of the schedule,
 /// and `next` the number of the next message.
 pub fn read_result(actor: NodeId, next: u64, verb: &[u8], rest: Option<&[u8]>) -> Result<Told, Why>
-    ensures { result ≡ result_at actor next verb.now (parts_in 32 rest.entry) }
+    ensures { result ≡ result_at actor next verb.now (parts_in space rest.entry) }
 {
     if verb == b"act".as_slice() {
         return act(rest);

@@ -5,12 +5,12 @@ use std::alloc::Global;
 use std::test::Fail;
 
 const ELECTION: &str = "> boot a\n\
-    act a ok boot a,b\n\
-    > startjoin b a 1\n\
-    act b ok startjoin a 1\n\
-    m1 b->a join 1 0/0\n\
+    act a ok boot a\n\
+    > startjoin a a 1\n\
+    act a ok startjoin a 1\n\
+    m1 a->a join 1 0/0\n\
     > deliver a 1\n\
-    act a ok join b a 1 0/0\n\
+    act a ok join a a 1 0/0\n\
     won a 1\n";
 
 fn lines_read(alloc: Global, text: &str) -> Result<Trace, Fail> {
@@ -25,7 +25,7 @@ fn an_election_is_read(rt: HostRuntime) -> Result<(), Fail> {
     let trace = lines_read(rt.alloc(), ELECTION)?;
     let lines = trace.as_slice();
     assert!(rt; lines.len() == 8);
-    assert!(rt; lines[4].text.as_slice() == b"m1 b->a join 1 0/0".as_slice());
+    assert!(rt; lines[4].text.as_slice() == b"m1 a->a join 1 0/0".as_slice());
     assert!(rt; matches!(&lines[4].told, Told::Sent(_, Some(_))));
     assert!(rt; matches!(&lines[5].told, Told::Delivery(_, 1)));
     assert!(rt; matches!(&lines[7].told, Told::Won(_, 1)));

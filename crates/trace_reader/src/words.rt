@@ -1,6 +1,6 @@
 //! The words of a line, one after the other.
 ghost use Rattle.std.specs.Prelude.{◌≡◌};
-ghost use Rattle.voting_config.specs.Lists.{parts_in};
+ghost use Rattle.voting_config.specs.Lists.{parts_in, space};
 ghost use Rattle.schedule_text.specs.Lines.{one, two, any_number, word_and_rest as word_and_rest_of};
 ghost use Rattle.schedule_text.specs.Answers.{Gives};
 ghost use Rattle.trace_reader.specs.Reading.{rest_of as rest_of_words};
@@ -30,7 +30,7 @@ pub fn any_number_at(word: &[u8]) -> Result<u64, Why>
 
 /// `Arity` where a word stands after the first one.
 pub fn no_word(rest: Option<&[u8]>) -> Result<(), Why>
-    ensures { result ≡ no_word_of (parts_in 32 rest.entry) }
+    ensures { result ≡ no_word_of (parts_in space rest.entry) }
 {
     let Some(rest) = rest else {
         return Ok(());
@@ -41,7 +41,7 @@ pub fn no_word(rest: Option<&[u8]>) -> Result<(), Why>
 
 /// `Arity` where no word stands after the first one.
 pub fn some_word(rest: Option<&[u8]>) -> Result<(), Why>
-    ensures { result ≡ some_word_of (parts_in 32 rest.entry) }
+    ensures { result ≡ some_word_of (parts_in space rest.entry) }
 {
     let Some(rest) = rest else {
         return Err(Why::Arity);
@@ -52,7 +52,7 @@ pub fn some_word(rest: Option<&[u8]>) -> Result<(), Why>
 
 /// All that stands after the first word, and `Arity` where there is no space after it.
 pub fn rest_of(rest: Option<&[u8]>) -> Result<&[u8], Why>
-    ensures { Gives (λ w. w.now) result (rest_of_words (parts_in 32 rest.entry)) }
+    ensures { Gives (λ w. w.now) result (rest_of_words (parts_in space rest.entry)) }
 {
     let Some(rest) = rest else {
         return Err(Why::Arity);
@@ -63,7 +63,7 @@ pub fn rest_of(rest: Option<&[u8]>) -> Result<&[u8], Why>
 /// The word after the first one, and all that stands after the space after it, further spaces included. `Arity` where there
 /// is no such word or space.
 pub fn word_and_rest(rest: Option<&[u8]>) -> Result<(&[u8], &[u8]), Why>
-    ensures { Gives (λ w. (w.0.now, w.1.now)) result (word_and_rest_of (parts_in 32 rest.entry)) }
+    ensures { Gives (λ w. (w.0.now, w.1.now)) result (word_and_rest_of (parts_in space rest.entry)) }
 {
     let Some(rest) = rest else {
         return Err(Why::Arity);
@@ -77,7 +77,7 @@ pub fn word_and_rest(rest: Option<&[u8]>) -> Result<(&[u8], &[u8]), Why>
 
 /// The one word after the first one, a node.
 pub fn node_alone(rest: Option<&[u8]>) -> Result<NodeId, Why>
-    ensures { result ≡ node_alone_of (parts_in 32 rest.entry) }
+    ensures { result ≡ node_alone_of (parts_in space rest.entry) }
 {
     let word = one_word(rest)?;
     let node = id_at(word)?;
@@ -86,7 +86,7 @@ pub fn node_alone(rest: Option<&[u8]>) -> Result<NodeId, Why>
 
 /// The word after the first one, a node after which something stands.
 pub fn node_with_rest(rest: Option<&[u8]>) -> Result<NodeId, Why>
-    ensures { result ≡ node_with_rest_of (parts_in 32 rest.entry) }
+    ensures { result ≡ node_with_rest_of (parts_in space rest.entry) }
 {
     let (word, _) = word_and_rest(rest)?;
     let node = id_at(word)?;
@@ -95,7 +95,7 @@ pub fn node_with_rest(rest: Option<&[u8]>) -> Result<NodeId, Why>
 
 /// The two words after the first one, a node and a number.
 pub fn node_and_number(rest: Option<&[u8]>) -> Result<(NodeId, u64), Why>
-    ensures { result ≡ (two node any_number).at (parts_in 32 rest.entry) }
+    ensures { result ≡ (two node any_number).at (parts_in space rest.entry) }
 {
     let Some(rest) = rest else {
         return Err(Why::Arity);

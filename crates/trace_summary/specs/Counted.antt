@@ -2,16 +2,16 @@
 use Rattle.std.specs.Prelude.{ℕ, ◌+◌, Bool, ◌&&◌, List, [], ◌∷◌, codes, count_by, get_or, nat_eq, if◌then◌else◌}
 use Rattle.std.specs.List.{starts_with}
 use Rattle.std.specs.Str.{bytes_eq}
-use Rattle.voting_config.specs.Lists.{parts_of}
+use Rattle.voting_config.specs.Lists.{parts_of, line_feed, space}
 use Rattle.trace_summary.specs.declared.counts.Counts.{Counts}
 
 -- what stands between the line feeds of a text
 abbrev pub lines_of : List ℕ → List (List ℕ)
-lines_of text = parts_of 10 text
+lines_of text = parts_of line_feed text
 
 -- the word of a line at this place, counted from 0, and nothing where there are fewer
 abbrev pub word_at : (place : ℕ) → (line : List ℕ) → List ℕ
-word_at place line = get_or (parts_of 32 line) place []
+word_at place line = get_or (parts_of space line) place []
 
 -- ---- the kinds of lines
 

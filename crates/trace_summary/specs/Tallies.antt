@@ -1,5 +1,6 @@
 -- For the contracts inside: what a tally stands for.
 use Rattle.std.specs.Prelude.{◌≡◌, ℕ, List, [], ◌∷◌, ◌++◌, length}
+use Rattle.voting_config.specs.Lists.{line_feed}
 use Rattle.sha2.specs.Hashers.{Holds256}
 use Rattle.trace_summary.specs.Counted.{counts_in, lines_of}
 use Rattle.trace_summary.specs.declared.summary.Tally.{Tally}
@@ -7,7 +8,7 @@ use Rattle.trace_summary.specs.declared.summary.Tally.{Tally}
 -- the text is empty, or ends with a line feed
 pub data EndsLine : List ℕ → Type 0 where
   Empty : EndsLine []
-  Fed : (front : List ℕ) → EndsLine (front ++ 10 ∷ [])
+  Fed : (front : List ℕ) → EndsLine (front ++ line_feed ∷ [])
 
 -- the tally is that of the text
 pub record Tallies (tally : Tally) (text : List ℕ) : Type 0 where

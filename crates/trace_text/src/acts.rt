@@ -103,10 +103,23 @@ pub fn write_publish(
 ) -> Result<(), AllocError>
     ensures { OnOk result (text.new ≡ text.old ++ act_text (act.Publish request.now)) }
 {
+    let json = to_json(alloc, &request.state)?;
+    write_publish_shown(text, request, json.as_slice())
+}
+
+/// Writes what `write_publish` does, where the JSON of the state was made before.
+pub fn write_publish_shown(
+    text: &mut Text,
+    request: &PublishRequest,
+    json: &[u8],
+) -> Result<(), AllocError>
+    requires { json.now ≡ state_text request.now.state }
+    ensures { OnOk result (text.new ≡ text.old ++ act_text (act.Publish request.now)) }
+{
     text.word("publish ")?;
     text.id(request.source)?;
     text.word(" ")?;
-    write_state_json(text, alloc, &request.state)
+    text.bytes(json)
 }
 
 /// Writes the act by which a node counts the response to its publication.

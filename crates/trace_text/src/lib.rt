@@ -10,13 +10,13 @@ pub mod nodes;
 mod tests;
 
 pub use acts::{
-    write_act_head, write_boot, write_commit, write_join, write_publish, write_response,
-    write_start_join, write_value,
+    write_act_head, write_boot, write_commit, write_join, write_publish, write_publish_shown,
+    write_response, write_start_join, write_value,
 };
 pub use causes::{write_cause, write_ending};
 pub use ending::Ending;
 pub use messages::{
-    write_commit_message, write_committed, write_join_message, write_publish_message,
-    write_response_message, write_won,
+    write_commit_message, write_committed, write_committed_shown, write_join_message,
+    write_publish_message, write_response_message, write_won,
 };
 pub use nodes::{write_crashed, write_disk, write_down, write_record, write_up};

@@ -1,10 +1,10 @@
 //! The lines of messages, of wins and of commits.
 ghost use Rattle.std.specs.Prelude.{◌≡◌, ◌++◌, OnOk, Some, codes, decimal};
 ghost use Rattle.world_model.specs.declared.acts.Message.TheVariants as message;
-ghost use Rattle.trace_text.specs.Trace.{message_line, message_text, won_text, committed_text};
+ghost use Rattle.trace_text.specs.Trace.{message_line, message_text, state_text, won_text, committed_text};
 
-use crate::acts::{write_state_id, write_state_json};
-use cluster_state::{ApplyCommit, ClusterState, Join, PublishRequest, PublishResponse};
+use crate::acts::write_state_id;
+use cluster_state::{ApplyCommit, ClusterState, Join, PublishRequest, PublishResponse, to_json};
 use schedule_text::Text;
 use std::alloc::{AllocError, Global};
 use voting_config::NodeId;
@@ -31,8 +31,23 @@ pub fn write_committed(
 ) -> Result<(), AllocError>
     ensures { OnOk result (text.new ≡ text.old ++ committed_text (Some state.now)) }
 {
+    let json = to_json(alloc, state)?;
+    write_committed_shown(text, state, json.as_slice())
+}
+
+/// Writes what `write_committed` does, where the JSON of the state was made before.
+pub fn write_committed_shown(
+    text: &mut Text,
+    state: &ClusterState,
+    json: &[u8],
+) -> Result<(), AllocError>
+    requires { json.now ≡ state_text state.now }
+    ensures { OnOk result (text.new ≡ text.old ++ committed_text (Some state.now)) }
+{
+    // For the contract alone, which says whose JSON it is.
+    let _ = state;
     text.word("committed ")?;
-    write_state_json(text, alloc, state)?;
+    text.bytes(json)?;
     text.word("\n")
 }
 
@@ -68,15 +83,14 @@ fn join_fields(text: &mut Text, join: &Join) -> Result<(), AllocError>
     write_state_id(text, join.last_term, join.last_version)
 }
 
-fn publish_fields(
-    text: &mut Text,
-    alloc: Global,
-    request: &PublishRequest,
-) -> Result<(), AllocError>
+fn publish_fields(text: &mut Text, request: &PublishRequest, json: &[u8]) -> Result<(), AllocError>
+    requires { json.now ≡ state_text request.now.state }
     ensures { OnOk result (text.new ≡ text.old ++ message_text (message.Publish request.now)) }
 {
+    // For the contract alone, which says whose JSON it is.
+    let _ = request;
     text.word("publish ")?;
-    write_state_json(text, alloc, &request.state)
+    text.bytes(json)
 }
 
 fn response_fields(text: &mut Text, response: &PublishResponse) -> Result<(), AllocError>
@@ -104,19 +118,20 @@ pub fn write_join_message(text: &mut Text, ordinal: u64, join: &Join) -> Result<
     text.word("\n")
 }
 
-/// Writes the line of a publish request that is sent as message `ordinal`.
+/// Writes the line of a publish request that is sent as message `ordinal`, where the JSON of the state was made before.
 pub fn write_publish_message(
     text: &mut Text,
-    alloc: Global,
     ordinal: u64,
     request: &PublishRequest,
+    json: &[u8],
 ) -> Result<(), AllocError>
+    requires { json.now ≡ state_text request.now.state }
     ensures { OnOk result (text.new ≡ text.old ++ message_line ordinal (message.Publish request.now)) }
 {
     number(text, ordinal)?;
     to_any(text, request.source)?;
     text.word(" ")?;
-    publish_fields(text, alloc, request)?;
+    publish_fields(text, request, json)?;
     text.word("\n")
 }
 

@@ -7,7 +7,7 @@ use crate::{
 };
 use cluster_state::{
     ApplyCommit, ClusterState, ClusterValue, Join, Kept, PublishRequest, PublishResponse,
-    StartCause,
+    StartCause, to_json,
 };
 use schedule_text::Text;
 use std::alloc::{AllocError, Global};
@@ -74,7 +74,8 @@ fn publications(alloc: Global) -> Result<Text, AllocError> {
     write_response(&mut text, &response)?;
     write_commit(&mut text, &commit)?;
     write_committed(&mut text, alloc, &request.state)?;
-    write_publish_message(&mut text, alloc, 1, &request)?;
+    let json = to_json(alloc, &request.state)?;
+    write_publish_message(&mut text, 1, &request, json.as_slice())?;
     write_response_message(&mut text, 2, &response)?;
     write_commit_message(&mut text, 3, &commit)?;
     Ok(text)

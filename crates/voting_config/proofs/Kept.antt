@@ -4,7 +4,7 @@ use Rattle.std.specs.List.{list_all}
 use Rattle.std.proofs.lemmas.Bool.{and_parts, and_from}
 use Rattle.std.proofs.lemmas.List.{length-take}
 use Rattle.std.proofs.lemmas.List.Sums.{length-filter, count_by-le-length}
-use Rattle.voting_config.specs.Ids.{Id, is_id, before, is_below, ascends, comes_after, IsIdSet}
+use Rattle.voting_config.specs.Ids.{Id, before, is_below, ascends, comes_after}
 
 pub length-filter-le : (p : Id → Bool) (ids : List Id) → length (filter p ids) ≤ length ids
 length-filter-le p ids = omega (arith, length-filter p ids, count_by-le-length p ids)
@@ -20,22 +20,6 @@ list_all-filter p q (x ∷ xs) h =
       | true ↦ and_from _ _ parts.0 (list_all-filter p q xs parts.1)
       | false ↦ list_all-filter p q xs parts.1
     ]
-
-pub ascends-filter : (q : Id → Bool) (xs : List Id) → ascends xs ≡ true → ascends (filter q xs) ≡ true
-ascends-filter q [] h = refl
-ascends-filter q (x ∷ xs) h =
-    let parts = and_parts (is_below x xs) (ascends xs) h in
-    elim (q x) as (λ b. ascends (cond b (x ∷ filter q xs) (filter q xs)) ≡ true) [
-      | true ↦ and_from _ _ (list_all-filter (before x) q xs parts.0) (ascends-filter q xs parts.1)
-      | false ↦ ascends-filter q xs parts.1
-    ]
-
-pub IsIdSet-filter : (q : Id → Bool) (xs : List Id) → IsIdSet xs → IsIdSet (filter q xs)
-IsIdSet-filter q xs set = record {
-  ascending = ascends-filter q xs set.ascending;
-  each = list_all-filter is_id q xs set.each;
-  fits = omega (arith, length-filter-le q xs, set.fits);
-}
 
 -- ---- one after the other
 

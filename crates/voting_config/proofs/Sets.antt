@@ -1,14 +1,13 @@
 -- Who is in a set with an id more or less, and how many.
 use Rattle.std.proofs.Common.{◌≡◌, ℕ, suc, ◌+◌, ◌≤◌, ◌<◌, Bool, true, false, cond, not, ◌&&◌, ◌||◌, List, [], ◌∷◌, length, take, get_or, fold, count_by, refl, sym, ◌∙◌, ap, subst, arith, nat_lt}
-use Rattle.std.specs.List.{list_all}
 use Rattle.std.specs.Cmp.Lexicographic.{bytes_decides, nat_list_cmp_total, nat_list_eq_equiv, same_text}
 use Rattle.std.specs.Ordering.{is_lt, ordering_reverse}
-use Rattle.std.proofs.lemmas.Bool.{and_parts, ltb-true, lt-ltb}
+use Rattle.std.proofs.lemmas.Bool.{and_parts, lt-ltb}
 use Rattle.std.proofs.lemmas.List.{length-take}
 use Rattle.std.proofs.lemmas.List.Edits.{length-remove}
 use Rattle.std.proofs.lemmas.List.Sums.{sum_by-cons, sum_by-take-le, fold_more}
-use Rattle.voting_config.specs.Ids.{Id, is_id, same, before, has, is_below, ascends, IsIdSet, most_ids, put, with_id, without_id, place_of, has_room, set_of, union, union_count_of, same_config}
-use Rattle.voting_config.proofs.Sorted.{less_is, length-put, list_all-put, has-put, is_below-absent, IsIdSet-with_id, without_id-absent, remove-place_of, place_of-within}
+use Rattle.voting_config.specs.Ids.{Id, same, before, has, is_below, ascends, most_ids, put, with_id, without_id, place_of, has_room, set_of, union, union_count_of, same_config}
+use Rattle.voting_config.proofs.Sorted.{less_is, length-put, has-put, is_below-absent, without_id-absent, remove-place_of, place_of-within}
 
 -- ---- whether two ids are the same, or two lists of them
 
@@ -50,9 +49,6 @@ length-with_id-le x ys =
       | false ↦ omega (arith, length-put x ys)
     ]
 
-pub list_all-with_id : (p : Id → Bool) (x : Id) (ys : List Id) → p x ≡ true → list_all p ys ≡ true → list_all p (with_id x ys) ≡ true
-list_all-with_id p x ys h k = elim (has x ys) as (λ b. list_all p (cond b ys (put x ys)) ≡ true) [ true ↦ k | false ↦ list_all-put p x ys h k ]
-
 not_before : (x y : Id) → before x y ≡ true → before y x ≡ false
 not_before x y h = ap is_lt (nat_list_cmp_total.antisymm y x ∙ ap ordering_reverse (less_is _ h))
 
@@ -63,14 +59,6 @@ put-first x (y ∷ ys) h = rw (not_before x y (and_parts (before x y) (is_below 
 
 pub with_id-first : (x : Id) (ys : List Id) → is_below x ys ≡ true → with_id x ys ≡ x ∷ ys
 with_id-first x ys h = rw (is_below-absent x ys h) (put-first x ys h)
-
--- one more, where there is room
-pub IsIdSet-with_room : (x : Id) (ys : List Id) → IsIdSet ys → is_id x ≡ true → has_room ys x ≡ true → IsIdSet (with_id x ys)
-IsIdSet-with_room x ys set id room =
-    elim (has x ys) as (λ b. has x ys ≡ b → (b || nat_lt (length ys) most_ids) ≡ true → IsIdSet (with_id x ys)) [
-      | true ↦ λ e k. subst (λ (b : Bool). IsIdSet (cond b ys (put x ys))) (sym e) set
-      | false ↦ λ e k. IsIdSet-with_id x ys set id e (ltb-true (length ys) most_ids k)
-    ] refl room
 
 -- a set has at most as many ids as it is made of
 length-fold : (set ids : List Id) → length (fold (λ s id. with_id id s) set ids) ≤ length set + length ids

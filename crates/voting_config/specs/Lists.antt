@@ -5,6 +5,16 @@ use Rattle.std.specs.Str.{bytes_eq}
 use Rattle.std.specs.Borrow.{Bor}
 use Rattle.voting_config.specs.Ids.{Id, is_id, comes_after, most_ids}
 
+-- the bytes that part words, the items of a list, and lines
+abbrev pub space : ℕ
+space = 32
+
+abbrev pub comma : ℕ
+comma = 44
+
+abbrev pub line_feed : ℕ
+line_feed = 10
+
 -- what stands between the bytes c
 abbrev pub parts_of : ℕ → List ℕ → List (List ℕ)
 parts_of c bytes = slice_split (λ b. b == c) bytes
@@ -30,12 +40,12 @@ are_ids_after front (x ∷ xs) = may_follow front x && are_ids_after (front ++ x
 
 -- what stands between the commas of a list
 abbrev pub items_of : List ℕ → List (List ℕ)
-items_of w = if bytes_eq w (codes "_") then [] else parts_of 44 w
+items_of w = if bytes_eq w (codes "_") then [] else parts_of comma w
 
 -- ids with commas between them
 abbrev pub list_text : List Id → List ℕ
 list_text [] = codes "_"
-list_text (x ∷ xs) = join_with_byte 44 (x ∷ xs)
+list_text (x ∷ xs) = join_with_byte comma (x ∷ xs)
 
 -- the ascending ids that a text lists
 abbrev pub listed_ids : List ℕ → Option (List Id)

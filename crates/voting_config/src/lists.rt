@@ -1,6 +1,6 @@
 //! Sets of ids as texts, and how a text is cut.
 ghost use Rattle.std.specs.Prelude.{◌≡◌, ◌+◌, ◌≤◌, ◌∷◌, ◌++◌, ◌==◌, [], length, position, Option, Some, None, if◌then◌else◌};
-ghost use Rattle.voting_config.specs.Lists.{are_ids_after, left_in, may_follow, parts_in, parts_of};
+ghost use Rattle.voting_config.specs.Lists.{are_ids_after, left_in, may_follow, parts_in, parts_of, comma};
 
 use crate::node_id::NodeId;
 use crate::node_set::{MAX_IDS, NodeSet};
@@ -26,7 +26,7 @@ fn place_of(bytes: &[u8], wanted: u8) -> Option<usize>
 
 // The set of the ids between commas.
 pub(crate) fn read_ids(text: &[u8]) -> Option<NodeSet>
-    ensures { result ≡ (if are_ids_after [] (parts_of 44 text.now) then Some (parts_of 44 text.now) else None) }
+    ensures { result ≡ (if are_ids_after [] (parts_of comma text.now) then Some (parts_of comma text.now) else None) }
 {
     let mut ids = NodeSet::new();
     let (mut item, mut rest) = cut(text, b',');

@@ -25,7 +25,7 @@ pub enum IdError {
 #[derive(Clone, Copy)]
 pub struct NodeId {
     bytes: [u8; 32],
-    len: usize,
+    len: u8,
 }
 
 impl Model for NodeId {
@@ -83,7 +83,7 @@ impl NodeId {
         ensures value { result.now ≡ self.now }
         ensures id { IsTrue (is_id_of self.now) }
     {
-        &self.bytes[..self.len]
+        &self.bytes[..self.len as usize]
     }
 
     /// The text of the id.
@@ -135,7 +135,7 @@ fn held(text: &[u8]) -> NodeId
     bytes[..text.len()].copy_from_slice(text);
     NodeId {
         bytes,
-        len: text.len(),
+        len: text.len() as u8,
     }
 }
 

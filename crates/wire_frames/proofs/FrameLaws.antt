@@ -55,7 +55,7 @@ found_passes p (x ∷ xs) k e =
 code_of_found : (b : ℕ) (k : Kind) → kind_of b ≡ Some k → code k ≡ b
 code_of_found b k e = eqb-true (code k) b (found_passes (λ j. eqb (code j) b) kinds k e)
 
-kind_of_code : (k : Kind) → kind_of (code k) ≡ Some k
+pub kind_of_code : (k : Kind) → kind_of (code k) ≡ Some k
 kind_of_code kind.StartJoin = refl
 kind_of_code kind.Join = refl
 kind_of_code kind.Publish = refl

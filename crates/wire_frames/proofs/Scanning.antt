@@ -7,8 +7,8 @@ use Rattle.std.proofs.lemmas.List.Elements.{All-push}
 use Rattle.wire_frames.specs.declared.fault.FrameFault.{FrameFault}
 use Rattle.wire_frames.specs.declared.frame.Frame.{Frame}
 use Rattle.wire_frames.specs.declared.reader.BodyLength.TheVariants as body
-use Rattle.wire_frames.specs.declared.reader.Step.{Step}
-use Rattle.wire_frames.specs.declared.reader.Step.TheVariants as step
+use Rattle.wire_frames.specs.declared.reader.FrameStep.{FrameStep}
+use Rattle.wire_frames.specs.declared.reader.FrameStep.TheVariants as step
 use Rattle.wire_frames.specs.Frames.{IsFitFrame, frame_of}
 use Rattle.wire_frames.specs.Streams.{Front, Unfinished, Faulty, Whole, front_with, front_of, Ending, Rest, Fault, Stream, prepend, stream_with_front, stream, Awaits}
 use Rattle.wire_frames.specs.Steps.{Measures, ReadsBody, AddsFrame, Takes, AreTaken, IsScan}
@@ -16,7 +16,7 @@ use Rattle.wire_frames.proofs.Cutting.{stream-front, prepend-prepend}
 use Rattle.wire_frames.proofs.Waiting.{front_awaits, awaits_nothing}
 
 -- what a body is, the prefix is
-pub body_is_front : (r : Result Step AllocError) (bytes part : List ℕ) (size : ℕ) (old new : List Frame) → part ≡ take size (drop 4 bytes) → Measures (body.Whole size) bytes
+pub body_is_front : (r : Result FrameStep AllocError) (bytes part : List ℕ) (size : ℕ) (old new : List Frame) → part ≡ take size (drop 4 bytes) → Measures (body.Whole size) bytes
     → IfOk r (λ s. ReadsBody s (frame_of part) (length part) old new) → IfOk r (λ s. Takes s bytes old new)
 body_is_front (Ok (step.Unfinished wanted)) bytes part size old new is m h = absurd h
 body_is_front (Ok (step.Faulty fault)) bytes part size old new is m h =

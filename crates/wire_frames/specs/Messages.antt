@@ -1,9 +1,9 @@
 -- Part of the statement: the fields of each message.
-use Rattle.std.specs.Prelude.{◌≡◌, ℕ, ◌≤◌, ◌^◌, Bool, List, [], Option, Result, Ok}
+use Rattle.std.specs.Prelude.{◌≡◌, ℕ, ◌≤◌, Bool, List, [], Option, Result, Ok}
 use Rattle.voting_config.specs.Ids.{Id, most_ids}
 use Rattle.cluster_state.specs.declared.fault.FieldError.{FieldError}
 use Rattle.cluster_state.specs.declared.state.StateId.{StateId}
-use Rattle.cluster_state.specs.Field.{Field, ◌>>=◌, flag, optional, ◌then◌, shaped}
+use Rattle.cluster_state.specs.Field.{Field, ◌>>=◌, flag, optional, ◌then◌, shaped, last_number}
 use Rattle.cluster_state.specs.Fields.{term, version, id, ids}
 use Rattle.cluster_state.specs.States.{state, IsFit}
 use Rattle.wire_frames.specs.declared.frame.Kind.{Kind}
@@ -94,23 +94,23 @@ SpellsFields m bytes = FitsMessage m × (bytes ≡ payload m)
 
 -- numbers to 2^62
 pub record IsFitId (s : StateId) : Type 0 where
-  pub term : s.term ≤ 2 ^ 62
-  pub version : s.version ≤ 2 ^ 62
+  pub term : s.term ≤ last_number
+  pub version : s.version ≤ last_number
 
 -- what a sender knows of its message: numbers to 2^62, a state within the limits
 abbrev pub IsFitMessage : Message → Type 0
-IsFitMessage (message.StartJoin candidate n) = n ≤ 2 ^ 62
-IsFitMessage (message.Join n last) = (n ≤ 2 ^ 62) × IsFitId last
+IsFitMessage (message.StartJoin candidate n) = n ≤ last_number
+IsFitMessage (message.Join n last) = (n ≤ last_number) × IsFitId last
 IsFitMessage (message.Publish s) = IsFit s
 IsFitMessage (message.Response s) = IsFitId s
 IsFitMessage (message.Commit s) = IsFitId s
-IsFitMessage (message.JoinAsk n) = n ≤ 2 ^ 62
+IsFitMessage (message.JoinAsk n) = n ≤ last_number
 IsFitMessage (message.PeersAsk known) = Unit {0}
-IsFitMessage (message.PeersAnswer master n known) = n ≤ 2 ^ 62
+IsFitMessage (message.PeersAnswer master n known) = n ≤ last_number
 IsFitMessage message.PreVoteAsk = Unit {0}
-IsFitMessage (message.PreVoteAnswer n last) = (n ≤ 2 ^ 62) × IsFitId last
+IsFitMessage (message.PreVoteAnswer n last) = (n ≤ last_number) × IsFitId last
 IsFitMessage (message.PreVoteRefuse leader) = Unit {0}
-IsFitMessage (message.FollowerCheck n) = n ≤ 2 ^ 62
-IsFitMessage (message.FollowerAnswer good n applied) = (n ≤ 2 ^ 62) × IsFitId applied
-IsFitMessage (message.LeaderCheck n) = n ≤ 2 ^ 62
+IsFitMessage (message.FollowerCheck n) = n ≤ last_number
+IsFitMessage (message.FollowerAnswer good n applied) = (n ≤ last_number) × IsFitId applied
+IsFitMessage (message.LeaderCheck n) = n ≤ last_number
 IsFitMessage (message.LeaderAnswer good) = Unit {0}

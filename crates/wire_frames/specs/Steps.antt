@@ -5,8 +5,8 @@ use Rattle.wire_frames.specs.declared.fault.FrameFault.TheVariants.{TooLong}
 use Rattle.wire_frames.specs.declared.frame.Frame.{Frame}
 use Rattle.wire_frames.specs.declared.reader.BodyLength.{BodyLength}
 use Rattle.wire_frames.specs.declared.reader.BodyLength.TheVariants as body
-use Rattle.wire_frames.specs.declared.reader.Step.{Step}
-use Rattle.wire_frames.specs.declared.reader.Step.TheVariants as step
+use Rattle.wire_frames.specs.declared.reader.FrameStep.{FrameStep}
+use Rattle.wire_frames.specs.declared.reader.FrameStep.TheVariants as step
 use Rattle.wire_frames.specs.Frames.{IsFitFrame, frame_of}
 use Rattle.wire_frames.specs.Streams.{Faulty, Whole, front_with, front_of, Awaits, prepend, stream, ending_of, IsStream}
 
@@ -17,7 +17,7 @@ Measures body.TooLong bytes = front_of bytes ≡ Faulty TooLong
 Measures (body.Whole size) bytes = (4 ≤ length bytes) × (size ≤ length (drop 4 bytes)) × (front_of bytes ≡ front_with (frame_of (take size (drop 4 bytes))) (drop size (drop 4 bytes)))
 
 -- what a body is, and what was added to the frames
-abbrev pub ReadsBody : Step → (read : Result Frame FrameFault) → (size : ℕ) → (old new : List Frame) → Type 0
+abbrev pub ReadsBody : FrameStep → (read : Result Frame FrameFault) → (size : ℕ) → (old new : List Frame) → Type 0
 ReadsBody (step.Unfinished wanted) read size old new = ⊥
 ReadsBody (step.Faulty fault) read size old new = (read ≡ Err fault) × (new ≡ old)
 ReadsBody (step.Whole used) read size old new = (used ≡ 4 + size) × ((frame : Frame) × (read ≡ Ok frame) × IsFitFrame frame × (new ≡ old ++ frame ∷ []))
@@ -32,7 +32,7 @@ pub record AddsFrame (bytes : List ℕ) (size : ℕ) (old new : List Frame) : Ty
   pub within : size ≤ length bytes
 
 -- what stands at the start of the bytes, and what was added to the frames
-abbrev pub Takes : Step → (bytes : List ℕ) → (old new : List Frame) → Type 0
+abbrev pub Takes : FrameStep → (bytes : List ℕ) → (old new : List Frame) → Type 0
 Takes (step.Unfinished wanted) bytes old new = (length bytes < wanted) × Awaits bytes wanted × (new ≡ old)
 Takes (step.Faulty fault) bytes old new = (front_of bytes ≡ Faulty fault) × (new ≡ old)
 Takes (step.Whole size) bytes old new = AddsFrame bytes size old new

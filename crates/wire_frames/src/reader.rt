@@ -144,7 +144,7 @@ fn body_length(bytes: &[u8]) -> BodyLength
 
 // What stands at the start of bytes: less than a frame, a fault, or a frame of so many bytes.
 #[derive(Clone, Copy)]
-enum Step {
+enum FrameStep {
     // So many bytes are wanted.
     Unfinished(usize),
     Faulty(FrameFault),
@@ -152,26 +152,26 @@ enum Step {
 }
 
 // Adds the frame with this body.
-fn take_body(alloc: Global, body: &[u8], frames: &mut Vec<Frame>) -> Result<Step, AllocError>
+fn take_body(alloc: Global, body: &[u8], frames: &mut Vec<Frame>) -> Result<FrameStep, AllocError>
     ensures { IfOk result (λ step. ReadsBody step (frame_of body.now) (length body.now) frames.old.items frames.new.items) }
 {
     match read_frame(alloc, body) {
         Ok(frame) => {
             frames.push(frame)?;
-            Ok(Step::Whole(4 + body.len()))
+            Ok(FrameStep::Whole(4 + body.len()))
         }
         Err(FrameError::Memory) => Err(AllocError),
-        Err(FrameError::Fault(fault)) => Ok(Step::Faulty(fault)),
+        Err(FrameError::Fault(fault)) => Ok(FrameStep::Faulty(fault)),
     }
 }
 
 // Adds the frame at the start of bytes, if one stands there.
-fn take_frame(alloc: Global, bytes: &[u8], frames: &mut Vec<Frame>) -> Result<Step, AllocError>
+fn take_frame(alloc: Global, bytes: &[u8], frames: &mut Vec<Frame>) -> Result<FrameStep, AllocError>
     ensures { IfOk result (λ step. Takes step bytes.now frames.old.items frames.new.items) }
 {
     match body_length(bytes) {
-        BodyLength::Unfinished(wanted) => Ok(Step::Unfinished(wanted)),
-        BodyLength::TooLong => Ok(Step::Faulty(FrameFault::TooLong)),
+        BodyLength::Unfinished(wanted) => Ok(FrameStep::Unfinished(wanted)),
+        BodyLength::TooLong => Ok(FrameStep::Faulty(FrameFault::TooLong)),
         BodyLength::Whole(size) => {
             let (_, rest) = bytes.split_at(4);
             let (body, _) = rest.split_at(size);
@@ -197,8 +197,8 @@ fn take_frames(alloc: Global, bytes: &[u8]) -> Result<Scan, AllocError>
     'frames: loop {
         let (_, rest) = bytes.split_at(used);
         match take_frame(alloc, rest, &mut frames)? {
-            Step::Whole(size) => used += size,
-            Step::Unfinished(wanted) => {
+            FrameStep::Whole(size) => used += size,
+            FrameStep::Unfinished(wanted) => {
                 return Ok(Scan {
                     frames,
                     used,
@@ -206,7 +206,7 @@ fn take_frames(alloc: Global, bytes: &[u8]) -> Result<Scan, AllocError>
                     fault: None,
                 });
             }
-            Step::Faulty(fault) => {
+            FrameStep::Faulty(fault) => {
                 return Ok(Scan {
                     frames,
                     used,

@@ -24,12 +24,8 @@ fn letter(byte: u8) -> NodeId {
     NodeId::from_bytes(&[byte]).unwrap_or_default()
 }
 
-fn set(letters: &[u8]) -> NodeSet {
-    let mut ids = NodeSet::new();
-    for byte in letters {
-        let _ = ids.insert(letter(*byte));
-    }
-    ids
+fn set(text: &str) -> NodeSet {
+    NodeSet::parse(text).unwrap_or(NodeSet::new())
 }
 
 fn is_join(message: &Message) -> bool {
@@ -172,7 +168,7 @@ fn spelled_elections(rt: HostRuntime) -> Result<(), Fail> {
 
 #[test]
 fn spelled_publications(rt: HostRuntime) -> Result<(), Fail> {
-    let state = ClusterState::initial(rt.alloc(), &set(b"a"));
+    let state = ClusterState::initial(rt.alloc(), &set("a"));
     let mut fields = [0; 27];
     fields[16] = 1;
     fields[17] = 1;
@@ -190,12 +186,12 @@ fn spelled_publications(rt: HostRuntime) -> Result<(), Fail> {
 fn spelled_peers(rt: HostRuntime) -> Result<(), Fail> {
     let term = [0, 0, 0, 0, 0, 0, 0, 3];
     assert!(rt; is_spelled(&rt, Message::JoinAsk { term: 3 }, 6, &term)?);
-    let ask = Message::PeersAsk { known: set(b"ba") };
+    let ask = Message::PeersAsk { known: set("a,b") };
     assert!(rt; is_spelled(&rt, ask, 7, &[2, 1, 97, 1, 98])?);
     let answer = Message::PeersAnswer {
         master: None,
         term: 3,
-        known: set(b"a"),
+        known: set("a"),
     };
     assert!(rt; is_spelled(&rt, answer, 8, &[0, 0, 0, 0, 0, 0, 0, 0, 3, 1, 1, 97])?);
     Ok(())

@@ -2,6 +2,7 @@
 use Rattle.std.proofs.Common.{◌≡◌, ◌≢◌, ℕ, ◌≤◌, ◌<◌, Bool, true, false, cond, not, ◌&&◌, Option, None, Some, Result, Ok, Err, List, [], ◌∷◌, refl, sym, arith, ◌⊎◌, inl, inr, nat_le, nat_lt, nat_eq}
 use Rattle.std.proofs.lemmas.Bool.{and_cases, not-false, leb-false, ltb-false, eqb-true}
 use Rattle.std.proofs.lemmas.Bool.Decides.{nat_tests}
+use Rattle.cluster_state.specs.Field.{last_number}
 use Rattle.voting_config.specs.Ids.{Id, with_id, is_quorum_of, same_config}
 use Rattle.voting_config.proofs.Sets.{same_is, same_config_is}
 use Rattle.cluster_state.specs.declared.state.ClusterValue.{ClusterValue}
@@ -12,7 +13,7 @@ use Rattle.cluster_state.specs.declared.messages.ApplyCommit.{ApplyCommit}
 use Rattle.world_model.specs.Acts.{Act, Outcome, NodeHistory, Reply, Message, Cause, Bootstrap, StartJoin, TakeJoin, Value, Publish, Response, Commit, Taken, Refused, Stopped, Answered, Disk, Crashed, JoinMessage, PublishMessage, ResponseMessage, StartRefused, JoinRefused, is_effective}
 use Rattle.world_model.specs.NodeState.{node_state, term_of, accepted_of, committed_of, started_join_of, join_votes_of, election_won_of, published_version_of, halted_of}
 use Rattle.world_model.proofs.Facts.{IsIdAtMost}
-use Rattle.world_model.specs.Replies.{last_number, is_empty, elects, reply_of, is_taken, join_checked, after_check, IsOutcome, commit_sent}
+use Rattle.world_model.specs.Replies.{is_empty, elects, reply_of, is_taken, join_checked, after_check, IsOutcome, commit_sent}
 
 -- past a test that refuses
 past : (b : Bool) (c : Cause) (r : Reply) (s : Option Message) (w : Bool) → Taken s w ≡ cond b (Refused c) r → (b ≡ false) × (Taken s w ≡ r)

@@ -4,12 +4,10 @@ use Rattle.std.proofs.lemmas.Bool.{both_ways, or_parts, and_parts, not-true}
 use Rattle.std.specs.Option.{unwrap_or}
 use Rattle.voting_config.specs.Ids.{Id, has, same, with_id}
 use Rattle.voting_config.proofs.Sorted.{has-with_id}
-use Rattle.world_model.specs.Acts.{Act, NodeHistory, Bootstrap, StartJoin, TakeJoin, Value, Publish, Response, Commit, Open, NoActs, Then, Taken, Answered, Disk, Crashed, is_ok, is_disk}
+use Rattle.world_model.specs.Acts.{NodeHistory, Bootstrap, StartJoin, TakeJoin, Value, Publish, Response, Commit, Open, NoActs, Then, Taken, Answered, Disk, Crashed, is_ok, is_disk}
 use Rattle.world_model.specs.NodeState.{node_state, durable_of, term_of, accepted_of, committed_of, started_join_of, join_votes_of, election_won_of, published_version_of, published_config_of, publish_votes_of, halted_of}
-use Rattle.world_model.specs.Replies.{reply_of, reply_at}
-use Rattle.world_model.specs.Histories.{History, node_history, IsLocal, IsLegal}
+use Rattle.world_model.specs.Histories.{IsLocal}
 use Rattle.world_model.specs.Literal.{any, after_last, last, all, has_a, set_of, winning_join, ok_join, ok_response, ok_value, Proposal, has_round, round_of, literal_term, literal_accepted, literal_committed, literal_join_votes, literal_election_won, literal_published, literal_publish_votes, literal_halted, literal_durable, literal_state, KeepsLiterally}
-use Rattle.world_model.proofs.Assemble.{legal_is}
 use Rattle.world_model.proofs.Guards.{join_guard, value_guard, response_guard}
 
 pub has-set_of : (x : Id) (ids : List Id) → has x (set_of ids) ≡ has x ids
@@ -170,22 +168,3 @@ literal_is me g f =
       publish_votes = acks_is me g f i;
       halted = halted_is g i;
     }
-
--- so each reply is over the literal definitions
-pub reply_is : (me : Id) (g : NodeHistory) (act : Act) → IsLocal me g → reply_of me g act ≡ reply_at me (literal_state g) act
-reply_is me g act f = ap (λ p. reply_at me p act) (literal_is me g f)
-
--- and each node of a legal history is what they say
-pub part_in_legal : (initial : List Id) (h : History) → IsLegal initial h → (n : Id) → node_state (node_history h n) ≡ literal_state (node_history h n)
-part_in_legal initial h l n = literal_is n (node_history h n) (((legal_is initial h).0 l).0 n).0
-
--- who is among the votes, and among the acks
-has_in_round : (b : Bool) (x : Id) (ids : List Id) → has x (cond b (set_of ids) []) ≡ (b && has x ids)
-has_in_round true x ids = has-set_of x ids
-has_in_round false x ids = refl
-
-pub vote_is : (me : Id) (g : NodeHistory) → IsLocal me g → (x : Id) → has x (join_votes_of g) ≡ (has_round g && has x (all ok_join (round_of g)))
-vote_is me g f x = ap (λ ids. has x ids) (votes_is me g f) ∙ has_in_round _ x _
-
-pub ack_is : (me : Id) (g : NodeHistory) → IsLocal me g → (x : Id) → has x (publish_votes_of g) ≡ (has_round g && has x (all ok_response (after_last (has_a ok_value) (round_of g))))
-ack_is me g f x = ap (λ ids. has x ids) (acks_is me g f) ∙ has_in_round _ x _

@@ -1,5 +1,6 @@
 -- Part of the statement: what an act answers: the first cause that refuses it, or what it sends.
-use Rattle.std.specs.Prelude.{◌≡◌, ℕ, ◌^◌, Bool, true, false, cond, not, ◌&&◌, Option, None, Some, Result, Ok, Err, List, nat_le, nat_lt, nat_eq}
+use Rattle.std.specs.Prelude.{◌≡◌, ℕ, Bool, true, false, cond, not, ◌&&◌, Option, None, Some, Result, Ok, Err, List, nat_le, nat_lt, nat_eq}
+use Rattle.cluster_state.specs.Field.{last_number}
 use Rattle.voting_config.specs.Ids.{Id, with_id, same, is_quorum_of, same_config}
 pub use Rattle.cluster_state.specs.JoinCheck.{is_empty}
 unfoldable pub use Rattle.cluster_state.specs.JoinCheck.{join_checked}
@@ -18,10 +19,6 @@ use Rattle.cluster_state.specs.declared.causes.ResponseCause.TheVariants as resp
 use Rattle.cluster_state.specs.declared.causes.CommitCause.TheVariants as commit_cause
 use Rattle.world_model.specs.Acts.{Act, Outcome, NodeHistory, Reply, Message, Cause, Bootstrap, StartJoin, TakeJoin, Value, Publish, Response, Commit, Open, Taken, Refused, Stopped, Answered, Disk, Crashed, JoinMessage, PublishMessage, ResponseMessage, CommitMessage, InitialRefused, StartRefused, JoinRefused, ValueRefused, PublishRefused, ResponseRefused, CommitRefused}
 use Rattle.world_model.specs.NodeState.{NodeState, node_state}
-
--- the greatest term and the greatest version
-abbrev pub last_number : ℕ
-last_number = 2 ^ 62
 
 -- a quorum that elects: of the committed configuration and of the accepted one
 abbrev pub elects : NodeState → List Id → Bool

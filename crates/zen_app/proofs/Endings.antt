@@ -13,7 +13,8 @@ use Rattle.schedule_text.specs.Printed.{bad_line}
 use Rattle.schedule_text.specs.Spelled.{Spells}
 use Rattle.schedule_text.proofs.ScheduleLaws.{one_schedule}
 use Rattle.schedule_text.proofs.FirstBadLaws.{law_first_bad_line}
-use Rattle.zen_app.specs.Reading.{most_read, read_of, ReadsAtMost, IsInput}
+use Rattle.zen_link.specs.Reading.{ReadsAtMost, IsInput}
+use Rattle.zen_app.specs.Reading.{most_read, read_of}
 use Rattle.zen_app.specs.Ran.{MayEndReplay, Replays}
 use Rattle.zen_app.specs.Views.{SourceView, SinkView}
 use Rattle.schedule_replay.specs.Levels.{trace_at}
@@ -22,26 +23,26 @@ use Rattle.zen_app.specs.Runs.{ReplayEnded}
 use Rattle.zen_app.specs.Refusing.{Refusal}
 use Rattle.zen_app.specs.declared.status.Status.{Status}
 use Rattle.zen_app.specs.declared.status.Status.TheVariants as exit
-use Rattle.zen_app.proofs.Inputs.{none_unread}
+use Rattle.zen_link.proofs.Inputs.{none_left}
 use Rattle.zen_app.proofs.Spelled.{spells_short, spells_safe_trace}
 
 -- ---- of what was read
 
 -- all of the input was read, where that is no longer than a schedule
-all_read : (left : List ℕ) (now : Option (List ℕ)) (bytes : List ℕ) → IsInput (Some left) now bytes → length bytes ≤ most_bytes → (bytes ≡ left) × (now ≡ Some [])
+all_read : (left : List ℕ) (now : Option (List ℕ)) (bytes : List ℕ) → IsInput most_read (Some left) now bytes → length bytes ≤ most_bytes → (bytes ≡ left) × (now ≡ Some [])
 all_read left now bytes r short =
     let long : length (take most_read left) ≤ most_bytes = subst (λ (l : List ℕ). length l ≤ most_bytes) r.0 short in
     let low : length left ≤ most_bytes = omega (arith, long, length-take most_read left) in
-    (r.0 ∙ take_all most_read left (omega (arith, low)), r.1 ∙ ap (λ (x : List ℕ). Some x) (none_unread left low))
+    (r.0 ∙ take_all most_read left (omega (arith, low)), r.1 ∙ ap (λ (x : List ℕ). Some x) (none_left most_read left (omega (arith, low))))
 
 module _ (level : Level) where
-  spells_left : (left : List ℕ) (now : Option (List ℕ)) (bytes : List ℕ) (s : Schedule) → IsInput (Some left) now bytes → Spells level bytes s → Spells level left s × (now ≡ Some [])
+  spells_left : (left : List ℕ) (now : Option (List ℕ)) (bytes : List ℕ) (s : Schedule) → IsInput most_read (Some left) now bytes → Spells level bytes s → Spells level left s × (now ≡ Some [])
   spells_left left now bytes s r spelled =
       let all = all_read left now bytes r (spells_short level bytes s spelled) in
       (subst (λ (l : List ℕ). Spells level l s) all.0 spelled, all.1)
 
   -- what the input spells is spelled by what was read
-  spells_read : (left : List ℕ) (now : Option (List ℕ)) (bytes : List ℕ) (s : Schedule) → IsInput (Some left) now bytes → Spells level left s → Spells level bytes s
+  spells_read : (left : List ℕ) (now : Option (List ℕ)) (bytes : List ℕ) (s : Schedule) → IsInput most_read (Some left) now bytes → Spells level left s → Spells level bytes s
   spells_read left now bytes s r spelled =
       let short = spells_short level left s spelled in
       let is : bytes ≡ left = r.0 ∙ take_all most_read left (omega (arith, short)) in
@@ -100,9 +101,9 @@ module _ (level : Level) (source source_now : SourceView) (sink sink_now : SinkV
     complete = λ t sp r w. inr refl;
   })
 
-  module _ (bytes : List ℕ) (input : IsInput source.left source_now.left bytes) where
-    told : (bs : List ℕ) → source.left ≡ Some bs → IsInput (Some bs) source_now.left bytes
-    told bs e = subst (λ (l : Option (List ℕ)). IsInput l source_now.left bytes) e input
+  module _ (bytes : List ℕ) (input : IsInput most_read source.left source_now.left bytes) where
+    told : (bs : List ℕ) → source.left ≡ Some bs → IsInput most_read (Some bs) source_now.left bytes
+    told bs e = subst (λ (l : Option (List ℕ)). IsInput most_read l source_now.left bytes) e input
 
     left_of : (bs : List ℕ) (s : Schedule) → source.left ≡ Some bs → Spells level bytes s → Spells level bs s × (source_now.left ≡ Some [])
     left_of bs s e spelled = spells_left level bs source_now.left bytes s (told bs e) spelled

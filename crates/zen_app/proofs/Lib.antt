@@ -1,5 +1,4 @@
 pub mod Endings
-pub mod Inputs
 pub mod NodeLives
 pub mod NodeSettings
 pub mod NodeStages

@@ -1,11 +1,11 @@
 -- How far a run of `node` came, and which faults it met.
 use Rattle.std.proofs.Common.{◌≡◌, ℕ, ◌≤◌, ◌⊎◌, inl, inr, true, false, Option, Some, List, [], refl, sym, ap, subst, ◌∙◌, arith}
-use Rattle.std.specs.Prelude.{Result, Ok, Err}
+use Rattle.std.specs.Prelude.{Ok, Err}
 use Rattle.zen_disk.specs.Faults.{Rose}
 use Rattle.zen_disk.specs.Moments.{LeavesOnly}
 use Rattle.zen_disk.specs.declared.disks.Disks.{Ghosts as Disks}
 use Rattle.zen_link.specs.declared.link.Link.{Ghosts as Links}
-use Rattle.zen_link.specs.Streams.{Appended, AppendedFront}
+use Rattle.zen_link.specs.Streams.{Appended}
 use Rattle.zen_host.specs.declared.host.HostError.{HostError}
 use Rattle.zen_host.specs.declared.host.HostError.TheVariants as host_error
 use Rattle.zen_host.specs.HostCalls.{HostCall, ToldSettings, OpensDisk, OpensLink, and_call, Notes}
@@ -20,9 +20,8 @@ use Rattle.node_loop.specs.declared.node.End.TheVariants as ends
 use Rattle.node_loop.specs.Tells.{HasCauses}
 use Rattle.command_line.specs.declared.command.NodeWords.{NodeWords}
 use Rattle.journal_inspection.specs.Inspects.{HostView, LeavesLinks}
-use Rattle.journal_inspection.specs.Report.{not_a_journal}
 use Rattle.zen_app.specs.NodeFaults.{Failed, NodeFaults, status_by}
-use Rattle.zen_app.specs.NodeRuns.{IsGiven, IsSound, OpensJournal, EndsBy, RefusedBy, SaysLine, WithoutDisk, WithoutJournal, WithoutLink, Serving, NodeStages, Undisked, Unopened, Unlinked, Served, NodeRun, turns_line, status_after}
+use Rattle.zen_app.specs.NodeRuns.{IsGiven, OpensJournal, EndsBy, RefusedBy, SaysLine, Serving, Unopened, Unlinked, Served, NodeRun, turns_line}
 use Rattle.zen_app.specs.Views.{SinkView}
 use Rattle.zen_app.specs.declared.status.Status.{Status}
 use Rattle.zen_app.specs.declared.status.Status.TheVariants as exit
@@ -99,18 +98,6 @@ serving_writes ends.Link served now status disk_was disk_now sink wrote sink_now
 serving_writes ends.Memory served now status disk_was disk_now sink wrote sink_now link_was link_now said causes later write is = absurd (let no : exit.NoMemory ≡ exit.WriteFault = sym said.0 ∙ is in cc)
 
 module _ {D L : Type 0} (d : Disks D) (l : Links L Sealed) (w : NodeWords) (host host_now : HostView D L) (sink sink_now : SinkView) where
-  -- ---- the host gave no disk
-  pub undisked : (e : HostError) → Notes {T = D} host.calls host_now.calls (OpensDisk w.dir) (Err e) → (e ≡ host_error.Failed → Rose host.faults host_now.faults) → Appended sink.written sink_now.written []
-      → host_now.disk_back ≡ host.disk_back → LeavesLinks host host_now → NodeRun d l w host host_now sink sink_now (status_by e)
-  undisked host_error.Failed notes rose written back links = record {
-    came = Undisked (record { asked = inr (refl, notes); written = written; back = back; links = links });
-    complete = λ disk is t kept found no_host no_write no_disk no_link. absurd (no_host (rose refl));
-  }
-  undisked host_error.Memory notes rose written back links = record {
-    came = Undisked (record { asked = inl (refl, notes); written = written; back = back; links = links });
-    complete = λ disk is t kept found no_host no_write no_disk no_link. inr (inr refl);
-  }
-
   -- ---- its journal was not opened
   refused_complete : (given : D) (error : OpenError D) (status : Status) (kept : Kept) → RefusedBy error sink.written sink_now.written status → IsWhyOf (d.seen given) error → found_of (d.seen given) ≡ Ok kept
       → RoseIfDisk d.faults (d.faults given) error → (Rose (d.faults given) (d.faults (handed_back error)) → ⊥) → (status ≡ exit.Ok) ⊎ ((status ≡ exit.Turns) ⊎ (status ≡ exit.NoMemory))
@@ -201,28 +188,6 @@ module _ {D L : Type 0} (disk_faults : D → ℕ) (link_faults : L → ℕ) (dis
     host_later = host_later;
   }
 
-  link_failed : (status : Status) → status ≡ exit.LinkFault → Failed link_faults link_back → NodeFaults disk_faults link_faults disk_back link_back host host_now sink sink_now status
-  link_failed status is failed = record {
-    read_fault = λ h. absurd (let no : exit.LinkFault ≡ exit.ReadFault = sym is ∙ h in cc);
-    write_fault = λ h. absurd (let no : exit.LinkFault ≡ exit.WriteFault = sym is ∙ h in cc);
-    disk_fault = λ h. absurd (let no : exit.LinkFault ≡ exit.DiskFault = sym is ∙ h in cc);
-    link_fault = λ h. failed;
-    host_fault = λ h. absurd (let no : exit.LinkFault ≡ exit.HostFault = sym is ∙ h in cc);
-    wrote_later = wrote_later;
-    host_later = host_later;
-  }
-
-  write_failed : (status : Status) → status ≡ exit.WriteFault → Rose sink sink_now → NodeFaults disk_faults link_faults disk_back link_back host host_now sink sink_now status
-  write_failed status is rose = record {
-    read_fault = λ h. absurd (let no : exit.WriteFault ≡ exit.ReadFault = sym is ∙ h in cc);
-    write_fault = λ h. rose;
-    disk_fault = λ h. absurd (let no : exit.WriteFault ≡ exit.DiskFault = sym is ∙ h in cc);
-    link_fault = λ h. absurd (let no : exit.WriteFault ≡ exit.LinkFault = sym is ∙ h in cc);
-    host_fault = λ h. absurd (let no : exit.WriteFault ≡ exit.HostFault = sym is ∙ h in cc);
-    wrote_later = wrote_later;
-    host_later = host_later;
-  }
-
   pub said_line : (line : List ℕ) (whole : Status) (was now : Option (List ℕ)) (status : Status) → SaysLine line whole was now status
       → Other whole exit.ReadFault → Other whole exit.DiskFault → Other whole exit.LinkFault → Other whole exit.HostFault → (status ≡ exit.WriteFault → Rose sink sink_now)
       → NodeFaults disk_faults link_faults disk_back link_back host host_now sink sink_now status
@@ -235,37 +200,3 @@ module _ {D L : Type 0} (disk_faults : D → ℕ) (link_faults : L → ℕ) (dis
     wrote_later = wrote_later;
     host_later = host_later;
   }
-
-  pub host_refused : (e : HostError) → (e ≡ host_error.Failed → Rose host host_now) → NodeFaults disk_faults link_faults disk_back link_back host host_now sink sink_now (status_by e)
-  host_refused host_error.Failed rose = record {
-    read_fault = λ h. absurd cc;
-    write_fault = λ h. absurd cc;
-    disk_fault = λ h. absurd cc;
-    link_fault = λ h. absurd cc;
-    host_fault = λ h. rose refl;
-    wrote_later = wrote_later;
-    host_later = host_later;
-  }
-  host_refused host_error.Memory rose = quiet exit.NoMemory (inr refl)
-
-  pub journal_refused : (given : D) (error : OpenError D) (was now : Option (List ℕ)) (status : Status) → RefusedBy error was now status → disk_faults given ≡ 0 → RoseIfDisk disk_faults (disk_faults given) error → disk_back ≡ Some (handed_back error)
-      → (status ≡ exit.WriteFault → Rose sink sink_now) → NodeFaults disk_faults link_faults disk_back link_back host host_now sink sink_now status
-  journal_refused given (refused.NotAJournal why back) was now status said fresh cause is_back write =
-      said_line (not_a_journal why) exit.NotAJournal was now status said (λ e. absurd cc) (λ e. absurd cc) (λ e. absurd cc) (λ e. absurd cc) write
-  journal_refused given (refused.Disk back) was now status said fresh cause is_back write =
-      disk_failed status said.0 (record { given_back = back; is_back = is_back; rose = subst (λ (n : ℕ). Rose n (disk_faults back)) fresh cause })
-  journal_refused given (refused.Memory back) was now status said fresh cause is_back write = quiet status (inr said.0)
-
-  pub serving_ended : (given back : D) (link link_now : L) (end : End) (served now : Option (List ℕ)) (wrote : ℕ) (status : Status) → EndsBy end served now status → HasCauses (Some end) (disk_faults given) (disk_faults back) sink wrote (link_faults link) (link_faults link_now)
-      → wrote ≤ sink_now → disk_faults given ≡ 0 → link_faults link ≡ 0 → disk_back ≡ Some back → link_back ≡ Some link_now → (end ≡ ends.Turns → status ≡ exit.WriteFault → Rose wrote sink_now)
-      → NodeFaults disk_faults link_faults disk_back link_back host host_now sink sink_now status
-  serving_ended given back link link_now ends.Stop served now wrote status said causes later fresh link_fresh is_back is_link_back write = quiet status (inl said.0)
-  serving_ended given back link link_now ends.Turns served now wrote status said causes later fresh link_fresh is_back is_link_back write =
-      said_line turns_line exit.Turns served now status said (λ e. absurd cc) (λ e. absurd cc) (λ e. absurd cc) (λ e. absurd cc) (λ h none. write refl h (omega (arith, none, causes.out_later)))
-  serving_ended given back link link_now ends.Write served now wrote status said causes later fresh link_fresh is_back is_link_back write =
-      write_failed status said.0 (λ none. omega (arith, later, causes.write refl (omega (arith, none, later))))
-  serving_ended given back link link_now ends.Disk served now wrote status said causes later fresh link_fresh is_back is_link_back write =
-      disk_failed status said.0 (record { given_back = back; is_back = is_back; rose = subst (λ (n : ℕ). Rose n (disk_faults back)) fresh (causes.disk refl) })
-  serving_ended given back link link_now ends.Link served now wrote status said causes later fresh link_fresh is_back is_link_back write =
-      link_failed status said.0 (record { given_back = link_now; is_back = is_link_back; rose = subst (λ (n : ℕ). Rose n (link_faults link_now)) link_fresh (causes.link refl) })
-  serving_ended given back link link_now ends.Memory served now wrote status said causes later fresh link_fresh is_back is_link_back write = quiet status (inr said.0)

@@ -14,7 +14,8 @@ use Rattle.journal_inspection.specs.declared.inspecting.Inspection.TheVariants a
 use Rattle.journal_inspection.specs.declared.showing.Shown.TheVariants as shown
 use Rattle.journal_inspection.specs.Inspects.{HostView, LeavesLinks, Asked, Opened, EndsWith, IsComplete}
 use Rattle.zen_app.specs.Codes.{status_of}
-use Rattle.zen_app.specs.Reading.{most_read, ReadsAtMost}
+use Rattle.zen_link.specs.Reading.{ReadsAtMost}
+use Rattle.zen_app.specs.Reading.{most_read}
 use Rattle.zen_app.specs.NodeFaults.{Failed, NodeFaults}
 use Rattle.command_line.specs.declared.command.TrialWords.{TrialWords}
 use Rattle.schedule_text.specs.declared.level.Level.TheVariants.{Core}
@@ -34,8 +35,7 @@ use Rattle.zen_app.specs.Codes.{status_of_trial}
 use Rattle.zen_app.specs.NodeRuns.{NodeRun, Undisked, SaysLine}
 use Rattle.zen_app.specs.SafeTrace.{IsSafeTraceAt}
 use Rattle.zen_app.specs.TrialRuns.{TrialRun, trial_by}
-use Rattle.zen_app.specs.Ran.{RefusesWords, MayEndReplay, ReplayRun, Does, Ran}
-use Rattle.zen_app.specs.Runs.{UsageRun, ReplayEnded}
+use Rattle.zen_app.specs.Ran.{ReplayRun, Does, Ran}
 use Rattle.zen_app.specs.Views.{SourceView, SinkView}
 use Rattle.zen_app.specs.declared.status.Status.{Status}
 use Rattle.zen_app.specs.declared.status.Status.TheVariants as exit
@@ -173,38 +173,6 @@ module _ {D L : Type 0} (d : Disks D) (l : Links L Sealed) where
     host_fault = λ e. absurd cc;
     read_later = omega arith;
     wrote_later = omega arith;
-    host_later = omega arith;
-    children = refl;
-  }
-
-  pub ran_refused : (words : List (List ℕ)) (source : SourceView) (sink sink_now : SinkView) (host : HostView D L) (status : Status) → command_of words ≡ None → UsageRun sink.written sink_now.written sink.faults sink_now.faults status
-      → Ran d l words source source sink sink_now host host status
-  ran_refused words source sink sink_now host status none usage = record {
-    does = subst (λ (o : Option ProgramCommand). Does d l source source sink sink_now host host status o) (sym none) (usage.refuses, refl, refl);
-    read_at_most = none_taken source.left;
-    read_fault = λ e. absurd (subst (λ (s : Status). RefusesWords sink.written sink_now.written s) e usage.refuses);
-    write_fault = usage.write_fault;
-    disk_fault = λ e. absurd (subst (λ (s : Status). RefusesWords sink.written sink_now.written s) e usage.refuses);
-    link_fault = λ e. absurd (subst (λ (s : Status). RefusesWords sink.written sink_now.written s) e usage.refuses);
-    host_fault = λ e. absurd (subst (λ (s : Status). RefusesWords sink.written sink_now.written s) e usage.refuses);
-    read_later = omega arith;
-    wrote_later = usage.later;
-    host_later = omega arith;
-    children = refl;
-  }
-
-  pub ran_replay : (words : List (List ℕ)) (source source_now : SourceView) (sink sink_now : SinkView) (host : HostView D L) (status : Status) (level : Level) → command_of words ≡ Some (Replay level) → ReplayEnded level source source_now sink sink_now status
-      → Ran d l words source source_now sink sink_now host host status
-  ran_replay words source source_now sink sink_now host status level is ended = record {
-    does = subst (λ (o : Option ProgramCommand). Does d l source source_now sink sink_now host host status o) (sym is) (ended.run, refl);
-    read_at_most = ended.read_at_most;
-    read_fault = ended.read_fault;
-    write_fault = ended.write_fault;
-    disk_fault = λ e. absurd (subst MayEndReplay e ended.run.ends);
-    link_fault = λ e. absurd (subst MayEndReplay e ended.run.ends);
-    host_fault = λ e. absurd (subst MayEndReplay e ended.run.ends);
-    read_later = ended.read_later;
-    wrote_later = ended.wrote_later;
     host_later = omega arith;
     children = refl;
   }

@@ -13,7 +13,7 @@ use Rattle.schedule_text.specs.Spelled.{Spells, Nothing, Text}
 use Rattle.schedule_replay.specs.Legal.{IsWellFormed}
 use Rattle.schedule_replay.specs.Replayed.{replayed}
 use Rattle.replay_node.specs.Clusters.{replayed_history}
-use Rattle.replay_node.proofs.IdLists.{none_set, ids_set}
+use Rattle.trace_text.proofs.IdLists.{none_set, ids_set}
 use Rattle.schedule_replay.proofs.TraceLaws.{tells, shows, agrees}
 use Rattle.schedule_replay.proofs.WorldLegal.{replay_is_legal}
 use Rattle.schedule_replay.proofs.ClusterLaws.{tells as cluster_tells, shows as cluster_shows, agrees as cluster_agrees}

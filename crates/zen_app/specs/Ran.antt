@@ -24,7 +24,8 @@ use Rattle.journal_inspection.specs.declared.inspecting.Inspection.{Inspection}
 use Rattle.journal_inspection.specs.Inspects.{HostView, LeavesLinks, Asked, EndsWith, IsComplete}
 use Rattle.coordinator.specs.declared.step.Sealed.{Sealed}
 use Rattle.zen_app.specs.Codes.{status_of}
-use Rattle.zen_app.specs.Reading.{most_read, read_of, unread_of, ReadsAtMost}
+use Rattle.zen_link.specs.Reading.{ReadsAtMost}
+use Rattle.zen_app.specs.Reading.{most_read, read_of, unread_of}
 use Rattle.zen_app.specs.NodeFaults.{Failed}
 use Rattle.zen_app.specs.NodeRuns.{NodeRun, SaysLine}
 use Rattle.zen_app.specs.SafeTrace.{IsSafeTraceAt}

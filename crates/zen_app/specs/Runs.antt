@@ -3,7 +3,8 @@ use Rattle.std.specs.Prelude.{◌≡◌, ℕ, ◌≤◌, Option, List}
 use Rattle.zen_disk.specs.Faults.{Rose}
 use Rattle.schedule_text.specs.declared.level.Level.{Level}
 use Rattle.zen_app.specs.Ran.{ReplayRun, RefusesWords}
-use Rattle.zen_app.specs.Reading.{most_read, ReadsAtMost}
+use Rattle.zen_link.specs.Reading.{ReadsAtMost}
+use Rattle.zen_app.specs.Reading.{most_read}
 use Rattle.zen_app.specs.Views.{SourceView, SinkView}
 use Rattle.zen_app.specs.declared.status.Status.{Status}
 use Rattle.zen_app.specs.declared.status.Status.TheVariants as exit

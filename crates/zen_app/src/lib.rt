@@ -2,7 +2,6 @@
 #![tactic(auto)]
 
 pub mod generating;
-pub mod input;
 pub mod replaying;
 pub mod running;
 pub mod serving;

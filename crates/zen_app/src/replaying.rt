@@ -5,11 +5,10 @@ ghost use Rattle.zen_app.specs.Refusing.{Refusal};
 ghost use Rattle.zen_app.specs.Runs.{ReplayEnded};
 
 use crate::Status;
-use crate::input::{InputError, read_input};
 use schedule_replay::{ReplayError, write_trace};
-use schedule_text::{BadSchedule, Level, ReadError, Text, read_schedule};
+use schedule_text::{BadSchedule, Level, MAX_BYTES, ReadError, Text, read_schedule};
 use std::alloc::Global;
-use zen_link::{Sink, Source, write_all};
+use zen_link::{InputError, Sink, Source, read_input, write_all};
 
 /// Reads a schedule of this level and writes its trace.
 pub fn run_replay<I: Source, S: Sink>(
@@ -25,7 +24,7 @@ pub fn run_replay<I: Source, S: Sink>(
         (record { written = S.written out.new; faults = S.faults out.new })
         result }
 {
-    let bytes = match read_input(alloc, input) {
+    let bytes = match read_input(alloc, input, MAX_BYTES + 1) {
         Ok(bytes) => bytes,
         Err(InputError::Read) => return Status::ReadFault,
         Err(InputError::Memory) => return Status::NoMemory,

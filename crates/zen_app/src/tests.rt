@@ -1,5 +1,6 @@
 //! Whole runs of the program in memory: schedules with their traces, and each way in which a run ends.
 mod nodes;
+mod passages;
 mod random;
 mod rows;
 
@@ -96,30 +97,42 @@ fn replayed(alloc: Global, level: Level, input: &[u8]) -> Result<Ended, AllocErr
     }
 }
 
+fn write_line(text: &mut Text, line: &str) -> Result<(), AllocError> {
+    text.word(line)?;
+    text.word("\n")
+}
+
+fn write_passage(
+    schedule: &mut Text,
+    trace: &mut Text,
+    passage: &[&str],
+) -> Result<(), AllocError> {
+    for line in passage {
+        write_line(trace, line)?;
+        if let Some(given) = line.strip_prefix("> ") {
+            write_line(schedule, given)?;
+        }
+    }
+    Ok(())
+}
+
 // The schedule of a row and its trace.
-fn texts(alloc: Global, lines: &[&str]) -> Result<(Text, Text), AllocError> {
+fn texts(alloc: Global, header: &[&str], passages: &[&[&str]]) -> Result<(Text, Text), AllocError> {
     let mut schedule = Text::new(alloc);
     let mut trace = Text::new(alloc);
-    for (place, line) in lines.iter().enumerate() {
-        let given = if place < 2 {
-            Some(*line)
-        } else {
-            trace.word(line)?;
-            trace.word("\n")?;
-            line.strip_prefix("> ")
-        };
-        if let Some(given) = given {
-            schedule.word(given)?;
-            schedule.word("\n")?;
-        }
+    for line in header {
+        write_line(&mut schedule, line)?;
+    }
+    for passage in passages {
+        write_passage(&mut schedule, &mut trace, passage)?;
     }
     Ok((schedule, trace))
 }
 
 // Each row's schedule is replayed at this level, and must give its trace.
 fn replays_all(rt: &impl Abort, alloc: Global, level: Level, rows: &[Row]) -> Result<(), Fail> {
-    for (name, lines) in rows {
-        let (schedule, trace) = texts(alloc, lines)?;
+    for (name, header, passages) in rows {
+        let (schedule, trace) = texts(alloc, header, passages)?;
         let ended = replayed(alloc, level, schedule.as_bytes())?;
         assert!(rt; ended.status == Status::Ok, "{name}");
         assert!(rt; ended.sink.as_bytes() == trace.as_bytes(), "{name}");
@@ -384,8 +397,8 @@ fn an_option_may_stand_in_one_word_with_its_value(rt: HostRuntime) -> Result<(),
 
 #[test]
 fn a_fault_of_the_input_or_output_ends_the_run(rt: HostRuntime) -> Result<(), Fail> {
-    let (_, lines) = RULES[0];
-    let (schedule, trace) = texts(rt.alloc(), lines)?;
+    let (_, header, passages) = RULES[0];
+    let (schedule, trace) = texts(rt.alloc(), header, passages)?;
     let whole = Case {
         input: schedule.as_bytes(),
         ..REPLAY

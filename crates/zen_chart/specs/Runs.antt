@@ -3,7 +3,8 @@ use Rattle.std.specs.Prelude.{◌≡◌, ℕ, ◌≤◌, ◌⊎◌, Option, List
 use Rattle.zen_disk.specs.Faults.{Rose}
 use Rattle.zen_link.specs.Streams.{Appended, AppendedFront}
 use Rattle.zen_chart.specs.Ran.{DrawRun, RefusesWords}
-use Rattle.zen_chart.specs.Reading.{most_read, ReadsAtMost}
+use Rattle.zen_link.specs.Reading.{ReadsAtMost}
+use Rattle.zen_chart.specs.Reading.{most_read}
 use Rattle.zen_chart.specs.Views.{SourceView, SinkView}
 use Rattle.zen_chart.specs.declared.status.Status.{Status}
 use Rattle.zen_chart.specs.declared.status.Status.TheVariants as exit

@@ -1,7 +1,6 @@
 //! The program `zen_chart`: it reads a trace from the standard input and writes its picture to the standard output.
 #![tactic(auto)]
 
-pub mod input;
 pub mod running;
 pub mod status;
 #[cfg(test)]

@@ -5,13 +5,12 @@ ghost use Rattle.trace_reader.specs.Printed.{bad_line};
 ghost use Rattle.zen_chart.specs.Ran.{Ran, RefusesWords};
 ghost use Rattle.zen_chart.specs.Runs.{DrawEnded, Refusal, UsageRun};
 
-use crate::input::{InputError, read_input};
 use crate::status::Status;
 use schedule_text::{ReadError, Text};
 use sequence_chart::draw_trace;
 use std::alloc::Global;
-use trace_reader::{BadTrace, write_bad_trace};
-use zen_link::{Sink, Source, write_all};
+use trace_reader::{BadTrace, MAX_TRACE_BYTES, write_bad_trace};
+use zen_link::{InputError, Sink, Source, read_input, write_all};
 
 /// Reads a trace and writes its picture, unless there are words. The clause says what each status tells.
 pub fn run<I: Source, S: Sink>(alloc: Global, has_words: bool, input: &mut I, out: &mut S) -> Status
@@ -46,7 +45,7 @@ fn draw<I: Source, S: Sink>(alloc: Global, input: &mut I, out: &mut S) -> Status
         (record { written = S.written out.new; faults = S.faults out.new })
         result }
 {
-    let bytes = match read_input(alloc, input) {
+    let bytes = match read_input(alloc, input, MAX_TRACE_BYTES + 1) {
         Ok(bytes) => bytes,
         Err(InputError::Read) => return Status::ReadFault,
         Err(InputError::Memory) => return Status::NoMemory,

@@ -1,6 +1,6 @@
 //! The trait `Disks`: two files, by what a read gives and by what a crash may leave of both.
-ghost use Rattle.std.specs.Prelude.{◌≡◌, ◌+◌, ◌^◌, ◌≤◌, List, ℕ, length, is_ok, Bool, IfOk, OnOk};
-ghost use Rattle.zen_disk.specs.Disk.{written, part, Torn};
+ghost use Rattle.std.specs.Prelude.{◌≡◌, ◌+◌, ◌≤◌, List, ℕ, length, is_ok, Bool, IfOk, OnOk};
+ghost use Rattle.zen_disk.specs.Disk.{written, part, Torn, most_file_bytes};
 ghost use Rattle.zen_disk.specs.Faults.{HasCause};
 ghost use Rattle.zen_disk.specs.DeviceCall.{DeviceCall, Len, Read, Write, Sync};
 ghost use Rattle.zen_disk.specs.Moments.{Follows, Within, Elapses};
@@ -64,7 +64,7 @@ pub trait Disks {
         requires { told → at ≤ length (on side (seen self.old)) }
         ensures written { told → OnOk result (on side (seen self.new) ≡ written (on side (seen self.old)) at bytes.now) }
         ensures elsewhere { on (other side) (seen self.new) ≡ on (other side) (seen self.old) }
-        ensures limit { OnOk result (at + length bytes.now ≤ 2 ^ 62) }
+        ensures limit { OnOk result (at + length bytes.now ≤ most_file_bytes) }
         ensures crash { Follows (OnSide side (Torn at (length bytes.now))) (may_leave self.old) (may_leave self.new) }
         ensures time { Elapses (moment self.old) (moment self.new) (left_since self.old) (left_since self.new) (may_leave self.new) }
         ensures step { steps self.old (Write side at bytes.now) self.new (is_ok result) }

@@ -72,36 +72,7 @@ pub struct MemHost<D: Disks + Drop, L: Link + Drop = MemLink<()>> {
 }
 
 impl<D: Disks + Drop> MemHost<D, MemLink<()>> {
-    /// A host that gives this disk, and no link. The calls fail whose numbers are listed, the first being 1.
-    pub fn new(alloc: Global, disk: D, fails: Vec<u64>) -> MemHost<D, MemLink<()>>
-        requires { D.faults disk ≡ 0 }
-        ensures calls { ⟦<MemHost<D, MemLink<()>> as Host>⟧.calls result ≡ Some [] }
-        ensures ready { ⟦<MemHost<D, MemLink<()>> as Host>⟧.disk_ready result ≡ Some disk }
-        ensures link_ready { ⟦<MemHost<D, MemLink<()>> as Host>⟧.link_ready result ≡ None }
-        ensures back { ⟦<MemHost<D, MemLink<()>> as Host>⟧.disk_back result ≡ None }
-        ensures link_back { ⟦<MemHost<D, MemLink<()>> as Host>⟧.link_back result ≡ None }
-        ensures faults { ⟦<MemHost<D, MemLink<()>> as Host>⟧.faults result ≡ 0 }
-        ensures running { ⟦<MemHost<D, MemLink<()>> as Host>⟧.running result ≡ 0 }
-        ensures ends { result.ends.items ≡ [] }
-        ensures number { result.number ≡ 0 }
-        ensures fails { result.fails ≡ fails }
-    {
-        MemHost {
-            alloc,
-            disk: Some(disk),
-            link: None,
-            disk_back: None,
-            link_back: None,
-            ends: Vec::new(alloc),
-            running: 0,
-            asked: Vec::new(alloc),
-            fails,
-            number: 0,
-            faults: 0,
-        }
-    }
-
-    /// A host that gives this disk, and children that end so, one after the other. The calls fail whose numbers are listed,
+    /// A host that gives this disk, no link, and children that end so, one after the other. The calls fail whose numbers are listed,
     /// the first being 1.
     pub fn with_children(
         alloc: Global,
@@ -121,9 +92,19 @@ impl<D: Disks + Drop> MemHost<D, MemLink<()>> {
         ensures number { result.number ≡ 0 }
         ensures fails { result.fails ≡ fails }
     {
-        let mut host = MemHost::new(alloc, disk, fails);
-        host.ends = ends;
-        host
+        MemHost {
+            alloc,
+            disk: Some(disk),
+            link: None,
+            disk_back: None,
+            link_back: None,
+            ends,
+            running: 0,
+            asked: Vec::new(alloc),
+            fails,
+            number: 0,
+            faults: 0,
+        }
     }
 }
 

@@ -15,7 +15,7 @@ fn a_host_gives_its_disk_and_takes_it_back(rt: HostRuntime) -> Result<(), Fail> 
         Vec::new(alloc),
         Vec::new(alloc),
     );
-    let mut host = MemHost::new(alloc, disk, vec![in alloc; 1u64]?);
+    let mut host = MemHost::with_children(alloc, disk, Vec::new(alloc), vec![in alloc; 1u64]?);
     assert!(rt; matches!(host.open_disk("a"), Err(HostError::Failed)));
     let Ok(mut disk) = host.open_disk("b") else {
         panic!(rt; "no disk");

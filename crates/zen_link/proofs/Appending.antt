@@ -16,10 +16,6 @@ pub appended_none : (a : Option (List ℕ)) → Appended a a []
 appended_none None = λ i. None
 appended_none (Some was) = ap (λ (l : List ℕ). Some l) (sym (append-nil was))
 
--- nothing is a prefix of anything
-pub front_none : (a : Option (List ℕ)) (bytes : List ℕ) → AppendedFront a a bytes
-front_none a bytes = record { front = []; rest = bytes; whole = λ i. bytes; appended = appended_none a }
-
 -- a piece, and then a prefix of what follows it
 pub front_after : (a b c : Option (List ℕ)) (piece rest : List ℕ) → Appended a b piece → AppendedFront b c rest → AppendedFront a c (piece ++ rest)
 front_after a b c piece rest g h = record {

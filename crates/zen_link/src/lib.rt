@@ -4,6 +4,7 @@
 pub mod link;
 pub mod mem_link;
 pub mod mem_stream;
+pub mod reading;
 pub mod stream;
 #[cfg(test)]
 mod tests;
@@ -11,4 +12,5 @@ mod tests;
 pub use link::{CONNECTIONS, Input, Link, LinkError, LinkSettings, Peer, Traffic};
 pub use mem_link::MemLink;
 pub use mem_stream::{MemSink, MemSource};
+pub use reading::{InputError, read_input};
 pub use stream::{Failed, Sink, Source, write_all};

@@ -3,7 +3,10 @@ ghost use Rattle.std.specs.Prelude.{IfOk, IsTrue};
 ghost use Rattle.std.specs.List.{list_all};
 ghost use Rattle.zen_link.specs.Told.{has_low_conn};
 
-use crate::{Input, Link, LinkError, MemLink, MemSink, MemSource, Source, Traffic, write_all};
+use crate::{
+    Input, InputError, Link, LinkError, MemLink, MemSink, MemSource, Source, Traffic, read_input,
+    write_all,
+};
 use bytes::Bytes;
 use std::alloc::{AllocError, Global};
 use std::test::Fail;
@@ -19,6 +22,25 @@ fn a_source_gives_its_bytes_and_fails_where_it_is_told(rt: HostRuntime) -> Resul
     assert!(rt; source.read(&mut buffer).is_err());
     assert!(rt; source.read(&mut buffer) == Ok(1));
     assert!(rt; source.read(&mut buffer) == Ok(0));
+    Ok(())
+}
+
+#[test]
+fn an_input_is_read_to_its_end_or_as_far_as_it_may_be(rt: HostRuntime) -> Result<(), Fail> {
+    let alloc = rt.alloc();
+    for (most, read) in [
+        (4, b"abc".as_slice()),
+        (2, b"ab".as_slice()),
+        (0, b"".as_slice()),
+    ] {
+        let mut source = MemSource::new(Vec::from_slice(alloc, b"abc")?, Vec::new(alloc));
+        let Ok(bytes) = read_input(alloc, &mut source, most) else {
+            return Err("it was not read".into());
+        };
+        assert!(rt; bytes.as_slice() == read);
+    }
+    let mut source = MemSource::new(Vec::from_slice(alloc, b"abc")?, vec![in alloc; 2u64]?);
+    assert!(rt; matches!(read_input(alloc, &mut source, 4), Err(InputError::Read)));
     Ok(())
 }
 

@@ -1,5 +1,5 @@
 //! All whole nodes of a replay, each found by its id.
-ghost use Rattle.std.specs.Prelude.{◌≡◌, ℕ, List, [], true, false, not, length, slice_get, Some, OnOk};
+ghost use Rattle.std.specs.Prelude.{◌≡◌, ℕ, List, [], true, false, not, length, OnOk};
 ghost use Rattle.voting_config.specs.Ids.{Id, has};
 ghost use Rattle.wire_frames.specs.declared.frame.Frame.{Frame as FrameOf};
 ghost use Rattle.replay_node.specs.Clusters.{Cluster};
@@ -12,25 +12,13 @@ ghost use Rattle.schedule_replay.specs.ClusterStands.{AllFor, NodesDo};
 ghost use Rattle.schedule_replay.specs.Own.{own_crash, own_event_if_up, own_frames_if_up, own_order, own_restart, own_restart_frames, own_restart_results, own_results_if_up};
 
 use crate::cluster::node::ClusterNode;
+use crate::places::place_of;
 use policy_model::Event;
 use schedule_text::Text;
 use std::alloc::{AllocError, Global};
 use voting_config::{NodeId, NodeSet};
 use wire_frames::Frame;
 use zen_disk::{Order, Way};
-
-// Where a listed id stands among the ids.
-fn place_of(ids: &[NodeId], n: NodeId) -> usize
-    requires { has n ids.now ≡ true }
-    ensures { slice_get ids.now result ≡ Some n }
-{
-    for (i, id) in ids.iter().enumerate() {
-        if *id == n {
-            return i;
-        }
-    }
-    unreachable!()
-}
 
 /// Whether the node runs.
 pub fn runs(ids: &NodeSet, nodes: &[ClusterNode], n: NodeId) -> bool

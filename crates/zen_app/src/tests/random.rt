@@ -1,7 +1,7 @@
 //! Schedules that are drawn at random.
 use rand_core::utils::NextWord;
 use rand_pcg::Pcg32;
-use schedule_text::{IdList, Line, Lines, MAX_ORDINAL, Schedule, SettingText};
+use schedule_text::{Boxed, IdList, Line, Lines, MAX_ORDINAL, Schedule, SettingText};
 use std::alloc::{AllocError, Global};
 use voting_config::{NodeId, NodeSet};
 use zen_disk::Way;
@@ -79,6 +79,7 @@ fn value(
         0 => IdList::of(alloc, &some_nodes(draws, nodes))?,
         _ => IdList::of(alloc, initial)?,
     };
+    let text = Boxed::of(alloc, text)?;
     Ok(Some(Line::Value(leader, number(draws), text, config)))
 }
 
@@ -100,9 +101,9 @@ fn line(
             let Some(candidate) = node(draws, nodes) else {
                 return Ok(None);
             };
-            Line::StartJoin(id, candidate, number(draws))
+            Line::StartJoin(id, Boxed::of(alloc, candidate)?, number(draws))
         }
-        3..=14 => Line::StartJoin(id, leader, u64::from(1 + round)),
+        3..=14 => Line::StartJoin(id, Boxed::of(alloc, leader)?, u64::from(1 + round)),
         15 => Line::Crash(id, way(draws)),
         16..=24 => Line::Restart(id),
         25 => Line::Fuse(id, u64::from(1 + draws.next_word() % 12), way(draws)),

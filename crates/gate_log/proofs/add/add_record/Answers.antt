@@ -1,12 +1,12 @@
-use Rattle.std.proofs.Common.{◌+◌, length, ◌∷◌, [], ◌≡◌, subst, refl}
-use Rattle.zen_disk.specs.Moments.{joins, leaves_also}
+use Rattle.std.proofs.Common.{◌+◌, ◌∷◌, [], ◌≡◌, subst, refl}
+use Rattle.zen_disk.specs.Moments.{leaves_also}
 use Rattle.zen_disk.specs.DeviceCall.{Write, Sync}
 use Rattle.zen_disk.specs.Runs.{CallsMade, ran_on}
-use Rattle.zen_disk.specs.Sides.{on, other}
+use Rattle.zen_disk.specs.Sides.{on}
 use Rattle.gate_log.specs.Journal.{IsBeforeOrAfter}
 use Rattle.gate_log.specs.Calls.{LeavesOn}
-use Rattle.gate_log.proofs.Added.{first_leaves, last_leaves, last_done}
-use Rattle.gate_log.proofs.Both.{leaves_on, only_there}
+use Rattle.gate_log.proofs.Added.{last_done}
+use Rattle.gate_log.proofs.Both.{frame_leaves, adding_leaves}
 use Rattle.std.specs.Prelude.{Result, Ok, Err, IsErr, is_ok, false}
 use Rattle.gate_log.proofs.add.add_record.Goals as goal
 
@@ -18,41 +18,25 @@ pub returns-in_err-write_through-clause-any_moment : goal.returns-in_err-write_t
 returns-in_err-write_through-clause-any_moment g c told bodies body framing laid only =
     let side = c.args.side in
     let seen = g.D.Disks.seen c.args.disk.now in
-    let old = g.D.Disks.may_leave c.args.disk.now in
     leaves_also g.D.Disks.moment g.D.Disks.left_since c.args.disk.now c.write_through.new.disk _
     (LeavesOn side (IsBeforeOrAfter bodies body) seen) c.write_through.ensures.any_moment
-    (leaves_on side seen seen old (c.args.gate + 1) (length c.args.frame.now) (IsBeforeOrAfter bodies body) (λ f left i. on side (only f left i))
-    (only_there side seen old only) (λ f torn. first_leaves bodies body (on side seen) f c.args.gate (length c.args.frame.now) laid torn))
+    (frame_leaves side seen (g.D.Disks.may_leave c.args.disk.now) bodies body c.args.frame.now c.args.gate laid only)
 
 pub returns-in_err-write_through-2-clause-any_moment : goal.returns-in_err-write_through-2-clause-any_moment
 returns-in_err-write_through-2-clause-any_moment g c told bodies body framing laid only =
-    let side = c.args.side in
-    let seen = g.D.Disks.seen c.args.disk.now in
-    let mid = g.D.Disks.seen c.write_through.new.disk in
-    let old = g.D.Disks.may_leave c.args.disk.now in
     let done = c.in_ok-write_through.ensures in
-    joins g.D.Disks.moment g.D.Disks.left_since c.args.disk.now c.write_through.new.disk c.write_through-2.new.disk _ _
-    (LeavesOn side (IsBeforeOrAfter bodies body) seen) c.write_through.ensures.any_moment c.write_through-2.ensures.any_moment
-    (leaves_on side seen seen old (c.args.gate + 1) (length c.args.frame.now) (IsBeforeOrAfter bodies body) (λ f left i. on side (only f left i))
-    (only_there side seen old only) (λ f torn. first_leaves bodies body (on side seen) f c.args.gate (length c.args.frame.now) laid torn))
-    (leaves_on side seen mid (g.D.Disks.may_leave c.write_through.new.disk) c.args.gate 1 (IsBeforeOrAfter bodies body) done.durable
-    (c.write_through.ensures.still (on (other side) seen) (only_there side seen old only))
-    (λ f torn. last_leaves bodies body c.args.frame.now (on side seen) (on side mid) c.args.gate laid framing (done.written told) f torn))
+    adding_leaves c.args.side (g.D.Disks.seen c.args.disk.now) (g.D.Disks.may_leave c.args.disk.now) bodies body c.args.frame.now c.args.gate laid only
+    g.D.Disks.moment g.D.Disks.left_since c.args.disk.now c.write_through.new.disk c.write_through-2.new.disk (g.D.Disks.seen c.write_through.new.disk)
+    (g.D.Disks.may_leave c.write_through.new.disk) framing c.write_through.ensures.any_moment c.write_through-2.ensures.any_moment done.durable
+    c.write_through.ensures.still (done.written told)
 
 pub returns-clause-any_moment : goal.returns-clause-any_moment
 returns-clause-any_moment g c told bodies body framing laid only =
-    let side = c.args.side in
-    let seen = g.D.Disks.seen c.args.disk.now in
-    let mid = g.D.Disks.seen c.write_through.new.disk in
-    let old = g.D.Disks.may_leave c.args.disk.now in
     let done = c.in_ok-write_through.ensures in
-    joins g.D.Disks.moment g.D.Disks.left_since c.args.disk.now c.write_through.new.disk c.write_through-2.new.disk _ _
-    (LeavesOn side (IsBeforeOrAfter bodies body) seen) c.write_through.ensures.any_moment c.write_through-2.ensures.any_moment
-    (leaves_on side seen seen old (c.args.gate + 1) (length c.args.frame.now) (IsBeforeOrAfter bodies body) (λ f left i. on side (only f left i))
-    (only_there side seen old only) (λ f torn. first_leaves bodies body (on side seen) f c.args.gate (length c.args.frame.now) laid torn))
-    (leaves_on side seen mid (g.D.Disks.may_leave c.write_through.new.disk) c.args.gate 1 (IsBeforeOrAfter bodies body) done.durable
-    (c.write_through.ensures.still (on (other side) seen) (only_there side seen old only))
-    (λ f torn. last_leaves bodies body c.args.frame.now (on side seen) (on side mid) c.args.gate laid framing (done.written told) f torn))
+    adding_leaves c.args.side (g.D.Disks.seen c.args.disk.now) (g.D.Disks.may_leave c.args.disk.now) bodies body c.args.frame.now c.args.gate laid only
+    g.D.Disks.moment g.D.Disks.left_since c.args.disk.now c.write_through.new.disk c.write_through-2.new.disk (g.D.Disks.seen c.write_through.new.disk)
+    (g.D.Disks.may_leave c.write_through.new.disk) framing c.write_through.ensures.any_moment c.write_through-2.ensures.any_moment done.durable
+    c.write_through.ensures.still (done.written told)
 
 pub returns-clause-added : goal.returns-clause-added
 returns-clause-added g c told bodies body framing laid =

@@ -48,10 +48,7 @@ loop-line-preserved g c =
       whole = append_assoc at.yielded (x ∷ []) (into_iter_items c.next.new.self) ∙ rw (← steps) at.invariant.whole;
       count = omega arith;
       tells = λ s life stands up. then_one g.S.Steps.output (g.S.Steps.text s) s (λ e. Comes (LineCame c.args.conn e)) at.yielded x life None
-          (g.O.Sink.written c.args.out.now) (g.O.Sink.written at.out) (g.O.Sink.written c.tell_event.new.out) (g.L.Link.told c.args.link.now) (g.L.Link.told at.link)
-          (g.L.Link.told c.tell_event.new.link)
-          (HoldsBy g.S.Steps c.args.steps.now at.steps s life)
-          (HoldsBy g.S.Steps c.args.steps.now c.tell_event.new.steps s life)
+          _ _ _ _ _ _ (HoldsBy g.S.Steps c.args.steps.now at.steps s life) (HoldsBy g.S.Steps c.args.steps.now c.tell_event.new.steps s life)
           (at.invariant.tells s life stands up)
           (λ mid lives on. carried g.S.Steps s g.S.Steps.output (g.S.Steps.text s)
           c.args.steps.now at.steps c.tell_event.new.steps life mid _ _ _ _ _ _ lives (c.in_default.ensures.tells refl s mid lives.stands on));

@@ -1,5 +1,6 @@
 use Rattle.std.proofs.Common.{◌≡◌, ◌≤◌, ◌^◌, ◌&&◌, ℕ, Bool, true, false, cond, not, nat_eq, nat_le, nat_lt, Option, Some, List, refl, sym, subst}
 use Rattle.std.proofs.lemmas.Bool.{ltb-false}
+use Rattle.cluster_state.specs.Field.{last_number}
 use Rattle.voting_config.specs.Ids.{Id, is_quorum_of, same_config}
 use Rattle.cluster_state.specs.States.{IsFit, IsFitValue}
 use Rattle.cluster_state.specs.declared.messages.PublishRequest.{PublishRequest}
@@ -12,8 +13,8 @@ use Rattle.world_model.specs.declared.acts.Message.TheVariants.{Publish as Publi
 use Rattle.world_model.specs.declared.acts.Reply.{Reply}
 use Rattle.world_model.specs.declared.acts.Reply.TheVariants.{Taken, Refused, Stopped}
 use Rattle.world_model.specs.NodeState.{NodeState}
-use Rattle.world_model.specs.Replies.{reply_at, last_number}
-use Rattle.replay_node.specs.Stands.{Journal, record_of, has_stopped, faults}
+use Rattle.world_model.specs.Replies.{reply_at}
+use Rattle.replay_node.specs.Stands.{Journal, journal_ghosts}
 use Rattle.replay_node.proofs.StateSteps.{told_does}
 use Rattle.replay_node.proofs.state.client_value.Goals as goal
 
@@ -47,9 +48,9 @@ pub new-requires : goal.new-requires
 new-requires c =
     let small = subst (λ (j : Journal). j.kept.term ≤ 2 ^ 62) c.keeper.ensures c.kept.ensures.bounded in
     let old = c.args.state.now in
-    value_fits old.me (fields_of record_of has_stopped faults old) c.args.version c.args.config c.args.value c.in-Ok.request c.in-Ok.ensures.act.at.answers small c.requires
+    value_fits old.me (fields_of journal_ghosts old) c.args.version c.args.config c.args.value c.in-Ok.request c.in-Ok.ensures.act.at.answers small c.requires
 
 pub returns-in-Err-clause-does : goal.returns-in-Err-clause-does
 returns-in-Err-clause-does c =
-    told_does c.args.state.now c.client_value.new.self (act.Value c.args.version c.args.config c.args.value) _ c.value_refused.result refl c.value_refused.ensures.outcome
-    (record { acts = c.in-Err.ensures.act; wrote = c.in-Err.ensures.wrote; any_moment = c.in-Err.ensures.any_moment tt }) c.told.result c.told.ensures
+    told_does c.args.state.now c.client_value.new.self (act.Value c.args.version c.args.config c.args.value) c.not_taken.result _ refl c.not_taken.ensures
+    (record { acts = c.in-Err.ensures.act; wrote = c.in-Err.ensures.wrote; any_moment = c.in-Err.ensures.any_moment tt }) c.ended.result c.ended.ensures

@@ -5,5 +5,5 @@ use Rattle.replay_node.proofs.state.publish_response.Goals as goal
 
 pub returns-in-Err-clause-does : goal.returns-in-Err-clause-does
 returns-in-Err-clause-does c =
-    told_does c.args.state.now c.publish_response.new.self (act.Response c.args.response.now) _ c.response_refused.result refl c.response_refused.ensures.outcome
-    (record { acts = c.in-Err.ensures.act; wrote = c.in-Err.ensures.wrote; any_moment = c.in-Err.ensures.any_moment tt }) c.told.result c.told.ensures
+    told_does c.args.state.now c.publish_response.new.self (act.Response c.args.response.now) c.not_taken.result _ refl c.not_taken.ensures
+    (record { acts = c.in-Err.ensures.act; wrote = c.in-Err.ensures.wrote; any_moment = c.in-Err.ensures.any_moment tt }) c.ended.result c.ended.ensures

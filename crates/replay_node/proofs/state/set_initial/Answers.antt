@@ -1,16 +1,26 @@
 use Rattle.std.proofs.Common.{refl, ◌≡◌, List, ap, subst}
 use Rattle.voting_config.specs.Ids.{Id}
 use Rattle.cluster_state.specs.declared.state.ClusterState.{ClusterState}
-use Rattle.coord_state.specs.Outcomes.{initial_outcome}
+use Rattle.coord_state.specs.declared.coord.CoordState.{CoordState}
 use Rattle.world_model.specs.declared.acts.Act.TheVariants as act
-use Rattle.replay_node.proofs.StateSteps.{Step, told_does}
+use Rattle.world_model.specs.declared.acts.Outcome.{Outcome}
+use Rattle.replay_node.specs.Did.{outcome_of}
+use Rattle.replay_node.specs.Stands.{Journal}
+use Rattle.replay_node.proofs.StateSteps.{Step, taken_does, told_does}
 use Rattle.replay_node.proofs.state.set_initial.Goals as goal
 
-pub returns-clause-does : goal.returns-clause-does
-returns-clause-does c =
-    let old = c.args.state.now in
-    let new = c.set_initial-answer.new.self in
-    let o = initial_outcome c.set_initial-answer.result in
-    let same : c.in_ok-initial.initial.state.config ≡ c.args.initial.now = ap (λ (s : ClusterState). s.config) c.in_ok-initial.ensures in
-    let step : Step old new (act.Bootstrap c.in_ok-initial.initial.state.config) o = record { acts = c.set_initial-answer.ensures.act; wrote = c.set_initial-answer.ensures.wrote; any_moment = c.set_initial-answer.ensures.any_moment tt } in
-    told_does old new (act.Bootstrap c.args.initial.now) o c.initial_did.result refl c.initial_did.ensures.outcome (subst (λ (config : List Id). Step old new (act.Bootstrap config) o) same step) c.told.result c.told.ensures
+-- the state that is made ready is the one of these nodes
+same_step : (old new : CoordState Journal) (config initial : List Id) (o : Outcome) → config ≡ initial → Step old new (act.Bootstrap config) o → Step old new (act.Bootstrap initial) o
+same_step old new config initial o same step = subst (λ (c : List Id). Step old new (act.Bootstrap c) o) same step
+
+pub returns-in-Ok-clause-does : goal.returns-in-Ok-clause-does
+returns-in-Ok-clause-does c =
+    taken_does c.args.state.now c.set_initial.new.self (act.Bootstrap c.args.initial.now) _ c.sends.result refl
+    (same_step _ _ _ _ _ (ap (λ (s : ClusterState). s.config) c.in_ok-initial.ensures) (record { acts = c.in-Ok.ensures.act; wrote = c.in-Ok.ensures.wrote; any_moment = c.in-Ok.ensures.any_moment tt }))
+    (ap outcome_of c.sends.ensures)
+
+pub returns-in-Err-clause-does : goal.returns-in-Err-clause-does
+returns-in-Err-clause-does c =
+    told_does c.args.state.now c.set_initial.new.self (act.Bootstrap c.args.initial.now) c.not_taken.result _ refl c.not_taken.ensures
+    (same_step _ _ _ _ _ (ap (λ (s : ClusterState). s.config) c.in_ok-initial.ensures) (record { acts = c.in-Err.ensures.act; wrote = c.in-Err.ensures.wrote; any_moment = c.in-Err.ensures.any_moment tt }))
+    c.ended.result c.ended.ensures

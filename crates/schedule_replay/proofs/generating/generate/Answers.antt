@@ -8,34 +8,31 @@ use Rattle.schedule_replay.specs.Replayed.{replayed_from}
 use Rattle.schedule_replay.specs.Tallied.{Tallied}
 use Rattle.schedule_replay.specs.Trace.{trace}
 use Rattle.schedule_replay.proofs.DrawnLines.{few_held, held_is, line_fits, lines_to, more_lines, summed_up}
-use Rattle.schedule_replay.proofs.Tallying.{one_more, same_header}
+use Rattle.schedule_replay.proofs.Tallying.{one_more}
 use Rattle.schedule_replay.proofs.generating.generate.Goals as goal
 
 pub line-requires-in-steps-clause-fits : goal.line-requires-in-steps-clause-fits
 line-requires-in-steps-clause-fits c =
     let held : length c.as_slice.result.now ≡ count_sent (lines_to c.args.number c.steps.counter) =
-    ap (λ (ms : List SentMessage). length ms) c.as_slice.ensures.value ∙ held_is c.steps.replayer.ids c.steps.replayer.initial _ _ _ (lines_to c.args.number c.steps.counter) c.steps.invariant.1 c.steps.invariant.3 in
+    ap (λ (ms : List SentMessage). length ms) c.as_slice.ensures.value ∙ held_is c.empty_schedule-header.result _ _ _ (lines_to c.args.number c.steps.counter) c.empty_schedule-header.ensures c.steps.invariant.1 in
     let few : length c.as_slice.result.now ≤ c.steps.counter = omega (arith, held, few_held c.args.number c.steps.counter) in
-    line_fits c.steps.replayer.ids c.args.number c.steps.counter (length c.as_slice.result.now) c.in_ok-drawn.drawn c.steps.invariant.0 (omega arith) (omega arith) (c.in_ok-drawn.ensures.line c.args.number c.steps.counter c.steps.invariant.2)
+    line_fits c.empty_schedule-header.result c.args.number c.steps.counter (length c.as_slice.result.now) c.in_ok-drawn.drawn c.empty_schedule-header.ensures (omega arith) (omega arith) (c.in_ok-drawn.ensures.line c.args.number c.steps.counter c.steps.invariant.0)
 
 pub line-requires-in-steps-clause-stands : goal.line-requires-in-steps-clause-stands
-line-requires-in-steps-clause-stands c = (replayed_from c.steps.replayer.initial fresh_world (lines_to c.args.number c.steps.counter), c.steps.invariant.3.stands)
+line-requires-in-steps-clause-stands c = (replayed_from c.empty_schedule-header.result.initial fresh_world (lines_to c.args.number c.steps.counter), c.steps.invariant.1.stands)
 
 pub steps-preserved : goal.steps-preserved
 steps-preserved c =
     let held : length c.as_slice.result.now ≡ count_sent (lines_to c.args.number c.steps.counter) =
-    ap (λ (ms : List SentMessage). length ms) c.as_slice.ensures.value ∙ held_is c.steps.replayer.ids c.steps.replayer.initial _ _ _ (lines_to c.args.number c.steps.counter) c.steps.invariant.1 c.steps.invariant.3 in (
-      c.line-in-steps.ensures.ids ∙ c.steps.invariant.0,
-      c.line-in-steps.ensures.initial ∙ c.steps.invariant.1,
-      c.line.ensures.rest c.args.number c.steps.counter c.steps.invariant.2,
-      same_header Tallies _ _ _ _ _ _ _ _ c.line-in-steps.ensures.ids c.line-in-steps.ensures.initial
-          (subst (λ (done : List Line). Tallied Tallies c.steps.replayer.ids c.steps.replayer.initial c.line-in-steps.new.self.nodes.items c.line-in-steps.new.self.sent.items c.add.new.self done)
-          (sym (more_lines c.args.number c.steps.counter (length c.as_slice.result.now) c.in_ok-drawn.drawn (c.in_ok-drawn.ensures.line c.args.number c.steps.counter c.steps.invariant.2) held))
-          (one_more Tallies c.steps.replayer.ids c.steps.replayer.initial _ _ _ _ _ _ _ c.line-in-steps.new.text c.as_bytes-piece.result.now _ c.in_ok-drawn.drawn c.as_bytes-piece.ensures c.clear.ensures c.steps.invariant.3 c.in_ok-line.ensures.done c.in_ok-add.ensures)),
+    ap (λ (ms : List SentMessage). length ms) c.as_slice.ensures.value ∙ held_is c.empty_schedule-header.result _ _ _ (lines_to c.args.number c.steps.counter) c.empty_schedule-header.ensures c.steps.invariant.1 in (
+      c.line.ensures.rest c.args.number c.steps.counter c.steps.invariant.0,
+      subst (λ (done : List Line). Tallied Tallies c.empty_schedule-header.result.nodes c.empty_schedule-header.result.initial c.line-in-steps.new.self.nodes.items c.line-in-steps.new.self.sent.items c.add.new.self done)
+          (sym (more_lines c.args.number c.steps.counter (length c.as_slice.result.now) c.in_ok-drawn.drawn (c.in_ok-drawn.ensures.line c.args.number c.steps.counter c.steps.invariant.0) held))
+          (one_more Tallies c.empty_schedule-header.result.nodes c.empty_schedule-header.result.initial _ _ _ _ _ _ _ c.line-in-steps.new.text c.as_bytes-piece.result.now _ c.in_ok-drawn.drawn c.as_bytes-piece.ensures c.clear.ensures c.steps.invariant.1 c.in_ok-line.ensures.done c.in_ok-add.ensures),
     )
 
 pub returns : goal.returns
 returns c =
     let done : c.steps.counter ≡ c.args.steps = omega arith in
     c.finish.ensures _ (subst (λ (k : ℕ). Tallies c.steps.tally (trace (generated c.args.number k))) done
-    (summed_up c.steps.replayer.ids c.steps.replayer.initial _ _ _ c.args.number c.steps.counter c.steps.invariant.1 c.steps.invariant.3))
+    (summed_up c.empty_schedule-header.result _ _ _ c.args.number c.steps.counter c.empty_schedule-header.ensures c.steps.invariant.1))

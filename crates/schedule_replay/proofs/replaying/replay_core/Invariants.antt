@@ -1,4 +1,4 @@
-use Rattle.std.proofs.Common.{◌≡◌, ◌≤◌, [], drop, take}
+use Rattle.std.proofs.Common.{◌≤◌, [], drop, take}
 use Rattle.schedule_replay.specs.SoFar.{SoFar}
 use Rattle.schedule_replay.specs.Trace.{trace}
 use Rattle.schedule_replay.proofs.Progress.{last_world}
@@ -7,6 +7,6 @@ use Rattle.schedule_replay.proofs.replaying.replay_core.Given as goal
 
 abbrev pub invariant-loop-line : goal.invariant-loop-line
 invariant-loop-line g l =
-    (l.replayer.ids ≡ l.schedule.nodes) × (l.replayer.initial ≡ l.schedule.initial) × (g.S.Sink.faults l.initial.out ≤ g.S.Sink.faults l.out)
-    × SoFar l.replayer.ids l.replayer.initial l.replayer.nodes.items l.replayer.sent.items (g.S.Sink.written l.initial.out) (g.S.Sink.written l.out) l.held (drop l.line-index l.lines) (trace l.schedule) (last_world l.schedule)
-    × (g.T.Observer.saw l.initial.observer [] → Tallied g.T.Observer.saw l.replayer.ids l.replayer.initial l.replayer.nodes.items l.replayer.sent.items l.observer (take l.line-index l.lines))
+    (g.S.Sink.faults l.initial.out ≤ g.S.Sink.faults l.out)
+    × SoFar l.schedule.nodes l.schedule.initial l.replayer.nodes.items l.replayer.sent.items (g.S.Sink.written l.initial.out) (g.S.Sink.written l.out) l.held (drop l.line-index l.lines) (trace l.schedule) (last_world l.schedule)
+    × (g.T.Observer.saw l.initial.observer [] → Tallied g.T.Observer.saw l.schedule.nodes l.schedule.initial l.replayer.nodes.items l.replayer.sent.items l.observer (take l.line-index l.lines))

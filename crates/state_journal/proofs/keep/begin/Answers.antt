@@ -3,7 +3,7 @@ use Rattle.std.specs.Prelude.{is_ok}
 use Rattle.zen_disk.specs.Runs.{CallsMade}
 use Rattle.zen_disk.specs.Sides.{other}
 use Rattle.gate_log.specs.Calls.{renewal_calls}
-use Rattle.gate_log.specs.Journal.{framed}
+use Rattle.gate_log.specs.Journal.{framed, most_body}
 use Rattle.state_journal.specs.Bodies.{body_of}
 use Rattle.state_journal.specs.Drafts.{generation_body}
 use Rattle.state_journal.specs.Keeping.{record_with}
@@ -35,7 +35,7 @@ returns-clause-ok g c = λ told s is.
 pub returns-clause-only : goal.returns-clause-only
 returns-clause-only g c =
     let drafted = c.requires.drafted in
-    let size : length c.frame.result.now ≤ 8388608 + 5 = frame_short c.args.log.now.epoch c.epoch.result c.args.term drafted.0 c.args.draft.now c.args.committed.now drafted.1 c.epoch.ensures.value c.frame.result.now c.lay_generation.ensures.fits (c.frame.ensures ∙ c.lay_generation.ensures.frame) in
+    let size : length c.frame.result.now ≤ most_body + 5 = frame_short c.args.log.now.epoch c.epoch.result c.args.term drafted.0 c.args.draft.now c.args.committed.now drafted.1 c.epoch.ensures.value c.frame.result.now c.lay_generation.ensures.fits (c.frame.ensures ∙ c.lay_generation.ensures.frame) in
     only_disk c.renew.result (λ is. let stopped = c.renew.ensures.answers.stopped.0 is in absurd (cc (stopped, c.requires.runs))) (λ is. let long = c.renew.ensures.too_long.0 is in absurd (omega (arith, long.1, size))) c.renew.ensures.only
 
 pub returns-clause-any_moment : goal.returns-clause-any_moment
@@ -51,6 +51,6 @@ returns-clause-ran g c = λ s is.
     let log = c.args.log.now in
     let same = generation_is epoch c.epoch.result c.args.term s c.args.draft.now c.args.committed.now is c.epoch.ensures.value in
     let framed_is = c.frame.ensures ∙ c.lay_generation.ensures.frame ∙ ap framed same in
-    let size : length c.frame.result.now ≤ 8388608 + 5 = frame_short epoch c.epoch.result c.args.term s c.args.draft.now c.args.committed.now is c.epoch.ensures.value c.frame.result.now c.lay_generation.ensures.fits (c.frame.ensures ∙ c.lay_generation.ensures.frame) in
+    let size : length c.frame.result.now ≤ most_body + 5 = frame_short epoch c.epoch.result c.args.term s c.args.draft.now c.args.committed.now is c.epoch.ensures.value c.frame.result.now c.lay_generation.ensures.fits (c.frame.ensures ∙ c.lay_generation.ensures.frame) in
     let ran = c.renew.ensures.ran (called c.renew.result (λ is. let stopped = c.renew.ensures.answers.stopped.0 is in absurd (cc (stopped, c.requires.runs))) (λ is. let long = c.renew.ensures.too_long.0 is in absurd (omega (arith, long.1, size))) c.renew.ensures.only) in
     subst (λ (frame : List ℕ). CallsMade g.D.Disks.steps (renewal_calls (other log.side) log.other_gate frame) log.disk c.renew.new.self.disk (is_ok c.renew.result)) framed_is ran

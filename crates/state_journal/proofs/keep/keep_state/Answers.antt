@@ -3,7 +3,7 @@ use Rattle.std.specs.Prelude.{OnOk, is_ok}
 use Rattle.zen_disk.specs.Moments.{LeavesOnly}
 use Rattle.zen_disk.specs.Runs.{CallsMade}
 use Rattle.gate_log.specs.Generations.{standing_in}
-use Rattle.gate_log.specs.Journal.{framed}
+use Rattle.gate_log.specs.Journal.{framed, most_body}
 use Rattle.gate_log.specs.Place.{place, renews}
 use Rattle.gate_log.proofs.Laid.{length-framed}
 use Rattle.state_journal.specs.Bodies.{body_of}
@@ -73,7 +73,7 @@ returns-clause-only g c =
     let s = c.requires.drafted.0 in
     let is = c.requires.drafted.1 in
     let framed_is = c.frame.ensures ∙ c.lay_accepted.ensures.frame in
-    let size : length c.frame.result.now ≤ 8388608 + 5 = omega (arith, ap length framed_is, length-framed (2 ∷ c.args.draft.now.state), draft_short s c.args.draft.now is) in
+    let size : length c.frame.result.now ≤ most_body + 5 = omega (arith, ap length framed_is, length-framed (2 ∷ c.args.draft.now.state), draft_short s c.args.draft.now is) in
     let appends = c.append_framed.ensures.appends (body_of (Accepted s)) (framed_is ∙ ap framed (drafted_is s c.args.draft.now is)) (accepted_plain s) in
     only_disk c.append_framed.result (λ e. let stopped = appends.answers.stopped.0 e in absurd (cc (stopped, c.requires.runs))) (λ e. let long = c.append_framed.ensures.too_long.0 e in absurd (omega (arith, long.1, size))) c.append_framed.ensures.only
 
@@ -96,7 +96,7 @@ returns-clause-ran g c = λ s is.
     let size : length body ≡ c.len.result + 1 = omega (arith, c.len.ensures, length-accepted s, ap length is.spelled) in
     let staying : renews p body ≡ false = sym (c.begins.ensures body size) ∙ c.if-begins.false in
     let laid_is = c.frame.ensures ∙ c.lay_accepted.ensures.frame in
-    let short : length c.frame.result.now ≤ 8388608 + 5 = omega (arith, ap length laid_is, length-framed (2 ∷ c.args.draft.now.state), draft_short s c.args.draft.now is) in
+    let short : length c.frame.result.now ≤ most_body + 5 = omega (arith, ap length laid_is, length-framed (2 ∷ c.args.draft.now.state), draft_short s c.args.draft.now is) in
     let appends = c.append_framed.ensures.appends body (laid_is ∙ ap framed (drafted_is s c.args.draft.now is)) (accepted_plain s) in
     let ran =
     appends.ran

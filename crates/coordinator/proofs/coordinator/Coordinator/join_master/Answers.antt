@@ -9,4 +9,4 @@ seek_master-requires-clause-ready g c =
 
 pub returns-clause-does : goal.returns-clause-does
 returns-clause-does g c =
-    ends_rule g.K.Keeper c.args.self.now c.hear.new.self c.seek_master.new.self _ _ _ _ (λ s v. seeks_master s v c.args.from c.args.master.now c.args.term) (is_ok c.seek_master.result) (c.hear.ensures.does c.args.out.now) c.seek_master.ensures.does
+    ends_rule g.K.Keeper c.args.self.now c.hear.new.self c.seek_master.new.self _ _ _ _ (λ s v. seeks_master s v c.args.answer.now.from c.args.answer.now.master c.args.answer.now.term) (is_ok c.seek_master.result) (c.hear.ensures.does c.args.out.now) c.seek_master.ensures.does

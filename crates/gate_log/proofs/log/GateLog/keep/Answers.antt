@@ -1,11 +1,10 @@
 use Rattle.std.proofs.Common.{◌+◌, ◌≡◌, length, [], ◌∷◌, ◌++◌, arith, refl, subst, sym, ◌∙◌, ap, true, false, List, ℕ}
 use Rattle.zen_disk.specs.Moments.{leaves_also}
 use Rattle.zen_disk.specs.Runs.{CallsMade}
-use Rattle.zen_disk.specs.Sides.{on, other}
+use Rattle.zen_disk.specs.Sides.{on}
 use Rattle.gate_log.specs.Calls.{append_calls}
 use Rattle.gate_log.specs.Generations.{standing_in, in_use, tail_of, IsAppended}
-use Rattle.gate_log.proofs.Both.{only_both, only_there}
-use Rattle.gate_log.proofs.Settled.{settled_from, standing_is, append_leaves, appended_settled, as_said, put_same}
+use Rattle.gate_log.proofs.Settled.{settled_from, standing_is, append_leaves, added_settled, as_said, put_same}
 use Rattle.gate_log.proofs.Ordered.{tail_push}
 use Rattle.gate_log.proofs.Laid.{length-framed}
 use Rattle.gate_log.proofs.Answered.{done, failed}
@@ -26,26 +25,16 @@ invariant_of-self-2 g c =
           let was = self.settled told c.requires.runs in
           let before = standing_in seen in
           let laid = c.in-Ok.ensures.added told (on self.side before.bodies) body c.requires.frame.1 was.here in
-          let there =
-          c.add_record.ensures.still (on (other self.side) seen) (only_there self.side seen (g.D.Disks.may_leave self.disk) was.durable) in
-          let only =
-          only_both self.side new (g.D.Disks.may_leave c.add_record.new.disk) c.in-Ok.ensures.durable
-          (λ f left. there f left ∙ sym c.add_record.ensures.elsewhere) in
           settled_from _ new (g.D.Disks.may_leave c.add_record.new.disk) self.side (self.gate + length c.args.frame.now) self.other_gate self.epoch
-          (appended_settled before seen (g.D.Disks.may_leave self.disk) self.side self.gate self.other_gate self.epoch was body c.requires.frame.2 new
-          (g.D.Disks.may_leave c.add_record.new.disk) (self.gate + length c.args.frame.now) laid c.add_record.ensures.elsewhere only);
+          (added_settled before seen (g.D.Disks.may_leave self.disk) self.side self.gate self.other_gate self.epoch was body c.requires.frame.2 new
+          (g.D.Disks.may_leave c.add_record.new.disk) (self.gate + length c.args.frame.now) laid c.add_record.ensures.elsewhere c.in-Ok.ensures.durable c.add_record.ensures.still);
       counted = λ told running.
           let was = self.settled told c.requires.runs in
           let before = standing_in seen in
           let laid = c.in-Ok.ensures.added told (on self.side before.bodies) body c.requires.frame.1 was.here in
-          let there =
-          c.add_record.ensures.still (on (other self.side) seen) (only_there self.side seen (g.D.Disks.may_leave self.disk) was.durable) in
-          let only =
-          only_both self.side new (g.D.Disks.may_leave c.add_record.new.disk) c.in-Ok.ensures.durable
-          (λ f left. there f left ∙ sym c.add_record.ensures.elsewhere) in
           let settled =
-          appended_settled before seen (g.D.Disks.may_leave self.disk) self.side self.gate self.other_gate self.epoch was body c.requires.frame.2 new
-          (g.D.Disks.may_leave c.add_record.new.disk) (self.gate + length c.args.frame.now) laid c.add_record.ensures.elsewhere only in
+          added_settled before seen (g.D.Disks.may_leave self.disk) self.side self.gate self.other_gate self.epoch was body c.requires.frame.2 new
+          (g.D.Disks.may_leave c.add_record.new.disk) (self.gate + length c.args.frame.now) laid c.add_record.ensures.elsewhere c.in-Ok.ensures.durable c.add_record.ensures.still in
           let now : in_use (standing_in new) ≡ on self.side before.bodies ++ body ∷ [] =
           ap in_use (standing_is _ new settled.stands) ∙ put_same self.side (on self.side before.bodies ++ body ∷ []) before.bodies in
           let then : in_use (standing_in seen) ≡ on self.side before.bodies = ap (λ s. on s before.bodies) was.active in
@@ -90,12 +79,9 @@ returns-clause-appends g c body framing plain =
       ok = λ told.
           let was = self.settled told c.requires.runs in
           let laid = c.in-Ok.ensures.added told (on self.side before.bodies) body framing was.here in
-          let there =
-          c.add_record.ensures.still (on (other self.side) seen) (only_there self.side seen (g.D.Disks.may_leave self.disk) was.durable) in
-          let only = only_both self.side new now c.in-Ok.ensures.durable (λ f left. there f left ∙ sym c.add_record.ensures.elsewhere) in
           let settled =
-          appended_settled before seen (g.D.Disks.may_leave self.disk) self.side self.gate self.other_gate self.epoch was body plain new now
-          (self.gate + length c.args.frame.now) laid c.add_record.ensures.elsewhere only in
+          added_settled before seen (g.D.Disks.may_leave self.disk) self.side self.gate self.other_gate self.epoch was body plain new now
+          (self.gate + length c.args.frame.now) laid c.add_record.ensures.elsewhere c.in-Ok.ensures.durable c.add_record.ensures.still in
           standing_is _ new settled.stands
           ∙ sym (as_said before seen (g.D.Disks.may_leave self.disk) self.side self.gate self.other_gate self.epoch was body plain);
       any_moment = λ told running.

@@ -1,18 +1,16 @@
-use Rattle.std.proofs.Common.{◌≡◌, ◌∙◌, length, arith, List, ℕ, ap, sym, subst, Ok, Some, true}
-use Rattle.std.specs.Option.{unwrap_or}
+use Rattle.std.proofs.Common.{◌≡◌, ◌∙◌, List, ℕ, ap, sym, subst, refl, Ok, true}
 use Rattle.zen_disk.specs.Moments.{LeavesOnly}
 use Rattle.zen_disk.specs.Runs.{CallsMade, ran_on}
 use Rattle.zen_disk.specs.Sides.{Sides, on}
 use Rattle.zen_disk.specs.declared.side.Side.TheVariants.{Zero, One}
 use Rattle.gate_log.specs.Calls.{opening_calls}
-use Rattle.gate_log.specs.Journal.{bodies_of, laid, IsLaid}
-use Rattle.gate_log.specs.Generations.{epoch_of, chosen_by, chosen_of, in_use, tail_of, standing_in, StandsAsSome}
+use Rattle.gate_log.specs.Journal.{bodies_of}
+use Rattle.gate_log.specs.Generations.{chosen_by, StandsAsSome}
 use Rattle.gate_log.specs.Opened.{lists}
 use Rattle.gate_log.specs.Opening.{IsSideFault, SideRan, RanUntil}
-use Rattle.gate_log.proofs.Laid.{gate_is}
+use Rattle.gate_log.proofs.BothRead.{both_read, read_stands, read_twin, zero_in_use, one_in_use, prepared_stands, prepared_settled, counts_from}
 use Rattle.gate_log.proofs.Opening.{side_zero_ran, side_one_ran, twin_ran, why_is_twin}
-use Rattle.gate_log.proofs.Both.{only_both}
-use Rattle.gate_log.proofs.Settled.{settled_from, standing_is, opened_settled, generations_by, zero_has, one_has, zero_why, one_why, twin_why, stands_joins, rose_earlier, epoch_read}
+use Rattle.gate_log.proofs.Settled.{settled_from, zero_why, one_why, stands_joins, rose_earlier}
 use Rattle.gate_log.proofs.log.GateLog.open.Goals as goal
 
 pub returns-in-Err-clause-why : goal.returns-in-Err-clause-why
@@ -54,123 +52,53 @@ returns-in-Err-chosen-clause-any_moment_err g c told =
 
 pub returns-in-Err-chosen-clause-why : goal.returns-in-Err-chosen-clause-why
 returns-in-Err-chosen-clause-why g c told =
-    let zero = lists c.in-Ok.scanned.bodies.items in
-    let one = lists c.in-Ok-open_side.scanned.bodies.items in
-    let b : Sides (List (List ℕ)) = record { zero = lists c.in-Ok.scanned.bodies.items; one = lists c.in-Ok-open_side.scanned.bodies.items } in
-    let zero_epoch =
-    epoch_read Zero c.deref.result.now c.in-Ok.scanned.bodies.items c.epoch_of-zero_epoch.result c.deref.ensures.value c.in-Ok.ensures.ordered
-    c.epoch_of-zero_epoch.ensures in
-    let one_epoch =
-    epoch_read One c.deref-2.result.now c.in-Ok-open_side.scanned.bodies.items c.epoch_of-one_epoch.result c.deref-2.ensures.value
-    c.in-Ok-open_side.ensures.ordered c.epoch_of-one_epoch.ensures in
-    let zero_stands : bodies_of (on Zero (g.D.Disks.seen c.args.disk)) ≡ Ok zero = c.in-Ok.ensures.bodies told in
-    let one_stands : bodies_of (on One (g.D.Disks.seen c.args.disk)) ≡ Ok one =
-    ap bodies_of (sym c.open_side.ensures.elsewhere) ∙ c.in-Ok-open_side.ensures.bodies told in
-    twin_why (g.D.Disks.seen c.args.disk) b c.in-Err-chosen.why zero_stands one_stands c.in-Ok.ensures.ordered c.in-Ok-open_side.ensures.ordered
-    ((λ i. chosen_by (zero_epoch i) (one_epoch i)) ∙ sym c.chosen.ensures ∙ c.in-Err-chosen.is)
+    let read =
+    both_read c.deref.ensures.value c.deref-2.ensures.value c.in-Ok.ensures.ordered c.in-Ok-open_side.ensures.ordered c.epoch_of-zero_epoch.ensures
+    c.epoch_of-one_epoch.ensures in
+    read_twin read c.in-Err-chosen.why (g.D.Disks.seen c.args.disk) (c.in-Ok.ensures.bodies told)
+    (ap bodies_of (sym c.open_side.ensures.elsewhere) ∙ c.in-Ok-open_side.ensures.bodies told) (sym c.chosen.ensures ∙ c.in-Err-chosen.is)
 
 pub invariant_of-result : goal.invariant_of-result
-invariant_of-result g c = record {
-  limit = c.in-Ok.ensures.limit;
-  settled = λ told running.
-      let zero = lists c.in-Ok.scanned.bodies.items in
-      let one = lists c.in-Ok-open_side.scanned.bodies.items in
-      let b : Sides (List (List ℕ)) = record { zero = lists c.in-Ok.scanned.bodies.items; one = lists c.in-Ok-open_side.scanned.bodies.items } in
-      let zero_epoch =
-      epoch_read Zero c.deref.result.now c.in-Ok.scanned.bodies.items c.epoch_of-zero_epoch.result c.deref.ensures.value c.in-Ok.ensures.ordered
-      c.epoch_of-zero_epoch.ensures in
-      let one_epoch =
-      epoch_read One c.deref-2.result.now c.in-Ok-open_side.scanned.bodies.items c.epoch_of-one_epoch.result c.deref-2.ensures.value
-      c.in-Ok-open_side.ensures.ordered c.epoch_of-one_epoch.ensures in
-      let choice : chosen_of b ≡ Ok Zero =
-      (λ i. chosen_by (zero_epoch i) (one_epoch i)) ∙ sym c.chosen.ensures ∙ c.in-Ok-chosen.is ∙ ap Ok c.in-Zero.is in
-      let new = g.D.Disks.seen c.open_side-2.new.disk in
-      let now = g.D.Disks.may_leave c.open_side-2.new.disk in
-      let there = c.open_side-2.ensures.still (on Zero (g.D.Disks.seen c.open_side.new.disk)) c.in-Ok.ensures.durable in
-      let only = only_both One new now c.in-Ok-open_side.ensures.durable (λ f left. there f left ∙ sym c.open_side-2.ensures.elsewhere) in
-      let zero_laid = subst (λ (l : List ℕ). IsLaid zero l c.in-Ok.scanned.gate) (sym c.open_side-2.ensures.elsewhere) (c.in-Ok.ensures.laid told) in
-      let gates : Sides ℕ = record { zero = c.in-Ok.scanned.gate; one = c.in-Ok-open_side.scanned.gate } in
-      let has : epoch_of Zero (on Zero b) ≡ Some c.unwrap_or.result =
-      zero_has zero ∙ ap (λ e. Some (unwrap_or e 0)) zero_epoch ∙ ap Some (sym c.unwrap_or.ensures) in
-      let settled =
-      opened_settled Zero b new now gates c.unwrap_or.result zero_laid
-      (c.in-Ok-open_side.ensures.laid told) c.in-Ok.ensures.ordered c.in-Ok-open_side.ensures.ordered choice has only in
-      settled_from _ new now Zero c.in-Ok.scanned.gate c.in-Ok-open_side.scanned.gate c.unwrap_or.result settled;
-  counted = λ told running.
-      let zero = lists c.in-Ok.scanned.bodies.items in
-      let one = lists c.in-Ok-open_side.scanned.bodies.items in
-      let b : Sides (List (List ℕ)) = record { zero = lists c.in-Ok.scanned.bodies.items; one = lists c.in-Ok-open_side.scanned.bodies.items } in
-      let zero_epoch =
-      epoch_read Zero c.deref.result.now c.in-Ok.scanned.bodies.items c.epoch_of-zero_epoch.result c.deref.ensures.value c.in-Ok.ensures.ordered
-      c.epoch_of-zero_epoch.ensures in
-      let one_epoch =
-      epoch_read One c.deref-2.result.now c.in-Ok-open_side.scanned.bodies.items c.epoch_of-one_epoch.result c.deref-2.ensures.value
-      c.in-Ok-open_side.ensures.ordered c.epoch_of-one_epoch.ensures in
-      let choice : chosen_of b ≡ Ok Zero =
-      (λ i. chosen_by (zero_epoch i) (one_epoch i)) ∙ sym c.chosen.ensures ∙ c.in-Ok-chosen.is ∙ ap Ok c.in-Zero.is in
-      let new = g.D.Disks.seen c.open_side-2.new.disk in
-      let now = g.D.Disks.may_leave c.open_side-2.new.disk in
-      let there = c.open_side-2.ensures.still (on Zero (g.D.Disks.seen c.open_side.new.disk)) c.in-Ok.ensures.durable in
-      let only = only_both One new now c.in-Ok-open_side.ensures.durable (λ f left. there f left ∙ sym c.open_side-2.ensures.elsewhere) in
-      let zero_laid = subst (λ (l : List ℕ). IsLaid zero l c.in-Ok.scanned.gate) (sym c.open_side-2.ensures.elsewhere) (c.in-Ok.ensures.laid told) in
-      let gates : Sides ℕ = record { zero = c.in-Ok.scanned.gate; one = c.in-Ok-open_side.scanned.gate } in
-      let has : epoch_of Zero (on Zero b) ≡ Some c.unwrap_or.result =
-      zero_has zero ∙ ap (λ e. Some (unwrap_or e 0)) zero_epoch ∙ ap Some (sym c.unwrap_or.ensures) in
-      let settled =
-      opened_settled Zero b new now gates c.unwrap_or.result zero_laid
-      (c.in-Ok-open_side.ensures.laid told) c.in-Ok.ensures.ordered c.in-Ok-open_side.ensures.ordered choice has only in
-      let list = c.in-Ok.scanned.bodies.items in
-      let laid_out = zero_laid in
-      let same : lists c.deref-in-Zero.result.now ≡ lists list = ap lists c.deref-in-Zero.ensures.value in
-      let now : in_use (standing_in new) ≡ lists list = ap in_use (standing_is _ new settled.stands) in
-      let size : length (laid (lists c.deref-in-Zero.result.now)) ≡ length (laid (lists list)) = ap (λ (l : List (List ℕ)). length (laid l)) same in
-      let at = gate_is (lists list) (on Zero new) c.in-Ok.scanned.gate laid_out in
-      omega (arith, at, size, ap tail_of now, ap tail_of same, c.start_of.ensures (omega (arith, at, size, c.in-Ok.ensures.limit)));
-}
+invariant_of-result g c =
+    let read =
+    both_read c.deref.ensures.value c.deref-2.ensures.value c.in-Ok.ensures.ordered c.in-Ok-open_side.ensures.ordered c.epoch_of-zero_epoch.ensures
+    c.epoch_of-one_epoch.ensures in
+    let chosen : chosen_by c.epoch_of-zero_epoch.result c.epoch_of-one_epoch.result ≡ Ok Zero = sym c.chosen.ensures ∙ c.in-Ok-chosen.is ∙ ap Ok c.in-Zero.is in
+    let mid = g.D.Disks.seen c.open_side.new.disk in
+    let new = g.D.Disks.seen c.open_side-2.new.disk in
+    let now = g.D.Disks.may_leave c.open_side-2.new.disk in
+    let gates : Sides ℕ = record { zero = c.in-Ok.scanned.gate; one = c.in-Ok-open_side.scanned.gate } in
+    let has = zero_in_use read c.unwrap_or.result c.unwrap_or.ensures in
+    record {
+      limit = c.in-Ok.ensures.limit;
+      settled = λ told running.
+          settled_from _ new now Zero c.in-Ok.scanned.gate c.in-Ok-open_side.scanned.gate c.unwrap_or.result
+          (prepared_settled read Zero mid new gates chosen (c.in-Ok.ensures.laid told) (c.in-Ok-open_side.ensures.laid told)
+          c.open_side-2.ensures.elsewhere now c.unwrap_or.result has (c.open_side-2.ensures.still (on Zero mid) c.in-Ok.ensures.durable)
+          c.in-Ok-open_side.ensures.durable);
+      counted = λ told running.
+          counts_from _ new _
+          (prepared_stands read Zero mid new gates chosen (c.in-Ok.ensures.laid told) (c.in-Ok-open_side.ensures.laid told) c.open_side-2.ensures.elsewhere)
+          refl c.deref-in-Zero.ensures.value (c.in-Ok.ensures.laid told) c.in-Ok.ensures.limit c.start_of.ensures;
+    }
 
 pub returns-in-Zero-clause-bodies : goal.returns-in-Zero-clause-bodies
 returns-in-Zero-clause-bodies g c told =
-    let zero = lists c.in-Ok.scanned.bodies.items in
-    let one = lists c.in-Ok-open_side.scanned.bodies.items in
-    let b : Sides (List (List ℕ)) = record { zero = lists c.in-Ok.scanned.bodies.items; one = lists c.in-Ok-open_side.scanned.bodies.items } in
-    let zero_epoch =
-    epoch_read Zero c.deref.result.now c.in-Ok.scanned.bodies.items c.epoch_of-zero_epoch.result c.deref.ensures.value c.in-Ok.ensures.ordered
-    c.epoch_of-zero_epoch.ensures in
-    let one_epoch =
-    epoch_read One c.deref-2.result.now c.in-Ok-open_side.scanned.bodies.items c.epoch_of-one_epoch.result c.deref-2.ensures.value
-    c.in-Ok-open_side.ensures.ordered c.epoch_of-one_epoch.ensures in
-    let zero_stands : bodies_of (on Zero (g.D.Disks.seen c.args.disk)) ≡ Ok zero = c.in-Ok.ensures.bodies told in
-    let one_stands : bodies_of (on One (g.D.Disks.seen c.args.disk)) ≡ Ok one =
-    ap bodies_of (sym c.open_side.ensures.elsewhere) ∙ c.in-Ok-open_side.ensures.bodies told in
-    let choice : chosen_of b ≡ Ok Zero =
-    (λ i. chosen_by (zero_epoch i) (one_epoch i)) ∙ sym c.chosen.ensures ∙ c.in-Ok-chosen.is ∙ ap Ok c.in-Zero.is in
-    generations_by Zero Zero b (g.D.Disks.seen c.args.disk) zero_stands one_stands c.in-Ok.ensures.ordered c.in-Ok-open_side.ensures.ordered choice
+    let read =
+    both_read c.deref.ensures.value c.deref-2.ensures.value c.in-Ok.ensures.ordered c.in-Ok-open_side.ensures.ordered c.epoch_of-zero_epoch.ensures
+    c.epoch_of-one_epoch.ensures in
+    read_stands read Zero (g.D.Disks.seen c.args.disk) (c.in-Ok.ensures.bodies told)
+    (ap bodies_of (sym c.open_side.ensures.elsewhere) ∙ c.in-Ok-open_side.ensures.bodies told) (sym c.chosen.ensures ∙ c.in-Ok-chosen.is ∙ ap Ok c.in-Zero.is)
 
 pub returns-in-Zero-clause-keeps : goal.returns-in-Zero-clause-keeps
 returns-in-Zero-clause-keeps g c told =
-    let zero = lists c.in-Ok.scanned.bodies.items in
-    let one = lists c.in-Ok-open_side.scanned.bodies.items in
-    let b : Sides (List (List ℕ)) = record { zero = lists c.in-Ok.scanned.bodies.items; one = lists c.in-Ok-open_side.scanned.bodies.items } in
-    let zero_epoch =
-    epoch_read Zero c.deref.result.now c.in-Ok.scanned.bodies.items c.epoch_of-zero_epoch.result c.deref.ensures.value c.in-Ok.ensures.ordered
-    c.epoch_of-zero_epoch.ensures in
-    let one_epoch =
-    epoch_read One c.deref-2.result.now c.in-Ok-open_side.scanned.bodies.items c.epoch_of-one_epoch.result c.deref-2.ensures.value
-    c.in-Ok-open_side.ensures.ordered c.epoch_of-one_epoch.ensures in
-    let choice : chosen_of b ≡ Ok Zero =
-    (λ i. chosen_by (zero_epoch i) (one_epoch i)) ∙ sym c.chosen.ensures ∙ c.in-Ok-chosen.is ∙ ap Ok c.in-Zero.is in
-    let new = g.D.Disks.seen c.open_side-2.new.disk in
-    let now = g.D.Disks.may_leave c.open_side-2.new.disk in
-    let there = c.open_side-2.ensures.still (on Zero (g.D.Disks.seen c.open_side.new.disk)) c.in-Ok.ensures.durable in
-    let only = only_both One new now c.in-Ok-open_side.ensures.durable (λ f left. there f left ∙ sym c.open_side-2.ensures.elsewhere) in
-    let zero_laid = subst (λ (l : List ℕ). IsLaid zero l c.in-Ok.scanned.gate) (sym c.open_side-2.ensures.elsewhere) (c.in-Ok.ensures.laid told) in
+    let read =
+    both_read c.deref.ensures.value c.deref-2.ensures.value c.in-Ok.ensures.ordered c.in-Ok-open_side.ensures.ordered c.epoch_of-zero_epoch.ensures
+    c.epoch_of-one_epoch.ensures in
     let gates : Sides ℕ = record { zero = c.in-Ok.scanned.gate; one = c.in-Ok-open_side.scanned.gate } in
-    let has : epoch_of Zero (on Zero b) ≡ Some c.unwrap_or.result =
-    zero_has zero ∙ ap (λ e. Some (unwrap_or e 0)) zero_epoch ∙ ap Some (sym c.unwrap_or.ensures) in
-    let settled =
-    opened_settled Zero b new now gates c.unwrap_or.result zero_laid
-    (c.in-Ok-open_side.ensures.laid told) c.in-Ok.ensures.ordered c.in-Ok-open_side.ensures.ordered choice has only in
-    settled.stands
+    prepared_stands read Zero (g.D.Disks.seen c.open_side.new.disk) (g.D.Disks.seen c.open_side-2.new.disk) gates
+    (sym c.chosen.ensures ∙ c.in-Ok-chosen.is ∙ ap Ok c.in-Zero.is) (c.in-Ok.ensures.laid told) (c.in-Ok-open_side.ensures.laid told)
+    c.open_side-2.ensures.elsewhere
 
 pub returns-in-Zero-clause-any_moment : goal.returns-in-Zero-clause-any_moment
 returns-in-Zero-clause-any_moment g c told =
@@ -188,110 +116,46 @@ returns-in-Zero-clause-ran g c told =
     (c.in-Ok-open_side.ensures.ran told))
 
 pub invariant_of-result-in-One : goal.invariant_of-result-in-One
-invariant_of-result-in-One g c = record {
-  limit = c.in-Ok-open_side.ensures.limit;
-  settled = λ told running.
-      let zero = lists c.in-Ok.scanned.bodies.items in
-      let one = lists c.in-Ok-open_side.scanned.bodies.items in
-      let b : Sides (List (List ℕ)) = record { zero = lists c.in-Ok.scanned.bodies.items; one = lists c.in-Ok-open_side.scanned.bodies.items } in
-      let zero_epoch =
-      epoch_read Zero c.deref.result.now c.in-Ok.scanned.bodies.items c.epoch_of-zero_epoch.result c.deref.ensures.value c.in-Ok.ensures.ordered
-      c.epoch_of-zero_epoch.ensures in
-      let one_epoch =
-      epoch_read One c.deref-2.result.now c.in-Ok-open_side.scanned.bodies.items c.epoch_of-one_epoch.result c.deref-2.ensures.value
-      c.in-Ok-open_side.ensures.ordered c.epoch_of-one_epoch.ensures in
-      let choice : chosen_of b ≡ Ok One =
-      (λ i. chosen_by (zero_epoch i) (one_epoch i)) ∙ sym c.chosen.ensures ∙ c.in-Ok-chosen.is ∙ ap Ok c.in-One.is in
-      let new = g.D.Disks.seen c.open_side-2.new.disk in
-      let now = g.D.Disks.may_leave c.open_side-2.new.disk in
-      let there = c.open_side-2.ensures.still (on Zero (g.D.Disks.seen c.open_side.new.disk)) c.in-Ok.ensures.durable in
-      let only = only_both One new now c.in-Ok-open_side.ensures.durable (λ f left. there f left ∙ sym c.open_side-2.ensures.elsewhere) in
-      let zero_laid = subst (λ (l : List ℕ). IsLaid zero l c.in-Ok.scanned.gate) (sym c.open_side-2.ensures.elsewhere) (c.in-Ok.ensures.laid told) in
-      let gates : Sides ℕ = record { zero = c.in-Ok.scanned.gate; one = c.in-Ok-open_side.scanned.gate } in
-      let has : epoch_of One (on One b) ≡ Some c.unwrap_or-in-One.result =
-      one_epoch ∙ one_has c.epoch_of-zero_epoch.result c.epoch_of-one_epoch.result (sym c.chosen.ensures ∙ c.in-Ok-chosen.is ∙ ap Ok c.in-One.is)
-      ∙ ap Some (sym c.unwrap_or-in-One.ensures) in
-      let settled =
-      opened_settled One b new now gates c.unwrap_or-in-One.result zero_laid
-      (c.in-Ok-open_side.ensures.laid told) c.in-Ok.ensures.ordered c.in-Ok-open_side.ensures.ordered choice has only in
-      settled_from _ new now One c.in-Ok-open_side.scanned.gate c.in-Ok.scanned.gate c.unwrap_or-in-One.result settled;
-  counted = λ told running.
-      let zero = lists c.in-Ok.scanned.bodies.items in
-      let one = lists c.in-Ok-open_side.scanned.bodies.items in
-      let b : Sides (List (List ℕ)) = record { zero = lists c.in-Ok.scanned.bodies.items; one = lists c.in-Ok-open_side.scanned.bodies.items } in
-      let zero_epoch =
-      epoch_read Zero c.deref.result.now c.in-Ok.scanned.bodies.items c.epoch_of-zero_epoch.result c.deref.ensures.value c.in-Ok.ensures.ordered
-      c.epoch_of-zero_epoch.ensures in
-      let one_epoch =
-      epoch_read One c.deref-2.result.now c.in-Ok-open_side.scanned.bodies.items c.epoch_of-one_epoch.result c.deref-2.ensures.value
-      c.in-Ok-open_side.ensures.ordered c.epoch_of-one_epoch.ensures in
-      let choice : chosen_of b ≡ Ok One =
-      (λ i. chosen_by (zero_epoch i) (one_epoch i)) ∙ sym c.chosen.ensures ∙ c.in-Ok-chosen.is ∙ ap Ok c.in-One.is in
-      let new = g.D.Disks.seen c.open_side-2.new.disk in
-      let now = g.D.Disks.may_leave c.open_side-2.new.disk in
-      let there = c.open_side-2.ensures.still (on Zero (g.D.Disks.seen c.open_side.new.disk)) c.in-Ok.ensures.durable in
-      let only = only_both One new now c.in-Ok-open_side.ensures.durable (λ f left. there f left ∙ sym c.open_side-2.ensures.elsewhere) in
-      let zero_laid = subst (λ (l : List ℕ). IsLaid zero l c.in-Ok.scanned.gate) (sym c.open_side-2.ensures.elsewhere) (c.in-Ok.ensures.laid told) in
-      let gates : Sides ℕ = record { zero = c.in-Ok.scanned.gate; one = c.in-Ok-open_side.scanned.gate } in
-      let has : epoch_of One (on One b) ≡ Some c.unwrap_or-in-One.result =
-      one_epoch ∙ one_has c.epoch_of-zero_epoch.result c.epoch_of-one_epoch.result (sym c.chosen.ensures ∙ c.in-Ok-chosen.is ∙ ap Ok c.in-One.is)
-      ∙ ap Some (sym c.unwrap_or-in-One.ensures) in
-      let settled =
-      opened_settled One b new now gates c.unwrap_or-in-One.result zero_laid
-      (c.in-Ok-open_side.ensures.laid told) c.in-Ok.ensures.ordered c.in-Ok-open_side.ensures.ordered choice has only in
-      let list = c.in-Ok-open_side.scanned.bodies.items in
-      let laid_out = (c.in-Ok-open_side.ensures.laid told) in
-      let same : lists c.deref-in-One.result.now ≡ lists list = ap lists c.deref-in-One.ensures.value in
-      let now : in_use (standing_in new) ≡ lists list = ap in_use (standing_is _ new settled.stands) in
-      let size : length (laid (lists c.deref-in-One.result.now)) ≡ length (laid (lists list)) = ap (λ (l : List (List ℕ)). length (laid l)) same in
-      let at = gate_is (lists list) (on One new) c.in-Ok-open_side.scanned.gate laid_out in
-      omega (arith, at, size, ap tail_of now, ap tail_of same, c.start_of-in-One.ensures (omega (arith, at, size, c.in-Ok-open_side.ensures.limit)));
-}
+invariant_of-result-in-One g c =
+    let read =
+    both_read c.deref.ensures.value c.deref-2.ensures.value c.in-Ok.ensures.ordered c.in-Ok-open_side.ensures.ordered c.epoch_of-zero_epoch.ensures
+    c.epoch_of-one_epoch.ensures in
+    let chosen : chosen_by c.epoch_of-zero_epoch.result c.epoch_of-one_epoch.result ≡ Ok One = sym c.chosen.ensures ∙ c.in-Ok-chosen.is ∙ ap Ok c.in-One.is in
+    let mid = g.D.Disks.seen c.open_side.new.disk in
+    let new = g.D.Disks.seen c.open_side-2.new.disk in
+    let now = g.D.Disks.may_leave c.open_side-2.new.disk in
+    let gates : Sides ℕ = record { zero = c.in-Ok.scanned.gate; one = c.in-Ok-open_side.scanned.gate } in
+    let has = one_in_use read c.unwrap_or-in-One.result c.unwrap_or-in-One.ensures chosen in
+    record {
+      limit = c.in-Ok-open_side.ensures.limit;
+      settled = λ told running.
+          settled_from _ new now One c.in-Ok-open_side.scanned.gate c.in-Ok.scanned.gate c.unwrap_or-in-One.result
+          (prepared_settled read One mid new gates chosen (c.in-Ok.ensures.laid told) (c.in-Ok-open_side.ensures.laid told)
+          c.open_side-2.ensures.elsewhere now c.unwrap_or-in-One.result has (c.open_side-2.ensures.still (on Zero mid) c.in-Ok.ensures.durable)
+          c.in-Ok-open_side.ensures.durable);
+      counted = λ told running.
+          counts_from _ new _
+          (prepared_stands read One mid new gates chosen (c.in-Ok.ensures.laid told) (c.in-Ok-open_side.ensures.laid told) c.open_side-2.ensures.elsewhere)
+          refl c.deref-in-One.ensures.value (c.in-Ok-open_side.ensures.laid told) c.in-Ok-open_side.ensures.limit c.start_of-in-One.ensures;
+    }
 
 pub returns-in-One-clause-bodies : goal.returns-in-One-clause-bodies
 returns-in-One-clause-bodies g c told =
-    let zero = lists c.in-Ok.scanned.bodies.items in
-    let one = lists c.in-Ok-open_side.scanned.bodies.items in
-    let b : Sides (List (List ℕ)) = record { zero = lists c.in-Ok.scanned.bodies.items; one = lists c.in-Ok-open_side.scanned.bodies.items } in
-    let zero_epoch =
-    epoch_read Zero c.deref.result.now c.in-Ok.scanned.bodies.items c.epoch_of-zero_epoch.result c.deref.ensures.value c.in-Ok.ensures.ordered
-    c.epoch_of-zero_epoch.ensures in
-    let one_epoch =
-    epoch_read One c.deref-2.result.now c.in-Ok-open_side.scanned.bodies.items c.epoch_of-one_epoch.result c.deref-2.ensures.value
-    c.in-Ok-open_side.ensures.ordered c.epoch_of-one_epoch.ensures in
-    let zero_stands : bodies_of (on Zero (g.D.Disks.seen c.args.disk)) ≡ Ok zero = c.in-Ok.ensures.bodies told in
-    let one_stands : bodies_of (on One (g.D.Disks.seen c.args.disk)) ≡ Ok one =
-    ap bodies_of (sym c.open_side.ensures.elsewhere) ∙ c.in-Ok-open_side.ensures.bodies told in
-    let choice : chosen_of b ≡ Ok One =
-    (λ i. chosen_by (zero_epoch i) (one_epoch i)) ∙ sym c.chosen.ensures ∙ c.in-Ok-chosen.is ∙ ap Ok c.in-One.is in
-    generations_by Zero One b (g.D.Disks.seen c.args.disk) zero_stands one_stands c.in-Ok.ensures.ordered c.in-Ok-open_side.ensures.ordered choice
+    let read =
+    both_read c.deref.ensures.value c.deref-2.ensures.value c.in-Ok.ensures.ordered c.in-Ok-open_side.ensures.ordered c.epoch_of-zero_epoch.ensures
+    c.epoch_of-one_epoch.ensures in
+    read_stands read One (g.D.Disks.seen c.args.disk) (c.in-Ok.ensures.bodies told)
+    (ap bodies_of (sym c.open_side.ensures.elsewhere) ∙ c.in-Ok-open_side.ensures.bodies told) (sym c.chosen.ensures ∙ c.in-Ok-chosen.is ∙ ap Ok c.in-One.is)
 
 pub returns-in-One-clause-keeps : goal.returns-in-One-clause-keeps
 returns-in-One-clause-keeps g c told =
-    let zero = lists c.in-Ok.scanned.bodies.items in
-    let one = lists c.in-Ok-open_side.scanned.bodies.items in
-    let b : Sides (List (List ℕ)) = record { zero = lists c.in-Ok.scanned.bodies.items; one = lists c.in-Ok-open_side.scanned.bodies.items } in
-    let zero_epoch =
-    epoch_read Zero c.deref.result.now c.in-Ok.scanned.bodies.items c.epoch_of-zero_epoch.result c.deref.ensures.value c.in-Ok.ensures.ordered
-    c.epoch_of-zero_epoch.ensures in
-    let one_epoch =
-    epoch_read One c.deref-2.result.now c.in-Ok-open_side.scanned.bodies.items c.epoch_of-one_epoch.result c.deref-2.ensures.value
-    c.in-Ok-open_side.ensures.ordered c.epoch_of-one_epoch.ensures in
-    let choice : chosen_of b ≡ Ok One =
-    (λ i. chosen_by (zero_epoch i) (one_epoch i)) ∙ sym c.chosen.ensures ∙ c.in-Ok-chosen.is ∙ ap Ok c.in-One.is in
-    let new = g.D.Disks.seen c.open_side-2.new.disk in
-    let now = g.D.Disks.may_leave c.open_side-2.new.disk in
-    let there = c.open_side-2.ensures.still (on Zero (g.D.Disks.seen c.open_side.new.disk)) c.in-Ok.ensures.durable in
-    let only = only_both One new now c.in-Ok-open_side.ensures.durable (λ f left. there f left ∙ sym c.open_side-2.ensures.elsewhere) in
-    let zero_laid = subst (λ (l : List ℕ). IsLaid zero l c.in-Ok.scanned.gate) (sym c.open_side-2.ensures.elsewhere) (c.in-Ok.ensures.laid told) in
+    let read =
+    both_read c.deref.ensures.value c.deref-2.ensures.value c.in-Ok.ensures.ordered c.in-Ok-open_side.ensures.ordered c.epoch_of-zero_epoch.ensures
+    c.epoch_of-one_epoch.ensures in
     let gates : Sides ℕ = record { zero = c.in-Ok.scanned.gate; one = c.in-Ok-open_side.scanned.gate } in
-    let has : epoch_of One (on One b) ≡ Some c.unwrap_or-in-One.result =
-    one_epoch ∙ one_has c.epoch_of-zero_epoch.result c.epoch_of-one_epoch.result (sym c.chosen.ensures ∙ c.in-Ok-chosen.is ∙ ap Ok c.in-One.is)
-    ∙ ap Some (sym c.unwrap_or-in-One.ensures) in
-    let settled =
-    opened_settled One b new now gates c.unwrap_or-in-One.result zero_laid
-    (c.in-Ok-open_side.ensures.laid told) c.in-Ok.ensures.ordered c.in-Ok-open_side.ensures.ordered choice has only in
-    settled.stands
+    prepared_stands read One (g.D.Disks.seen c.open_side.new.disk) (g.D.Disks.seen c.open_side-2.new.disk) gates
+    (sym c.chosen.ensures ∙ c.in-Ok-chosen.is ∙ ap Ok c.in-One.is) (c.in-Ok.ensures.laid told) (c.in-Ok-open_side.ensures.laid told)
+    c.open_side-2.ensures.elsewhere
 
 pub returns-in-One-clause-any_moment : goal.returns-in-One-clause-any_moment
 returns-in-One-clause-any_moment g c told =

@@ -3,11 +3,11 @@ use Rattle.zen_disk.specs.Moments.{leaves_also}
 use Rattle.zen_disk.specs.Runs.{CallsMade}
 use Rattle.zen_disk.specs.Sides.{on, other}
 use Rattle.zen_disk.specs.declared.side.Side.{Side}
-use Rattle.gate_log.specs.Journal.{IsLaid, IsReplaced}
-use Rattle.gate_log.specs.Calls.{LeavesOn, renewal_calls}
-use Rattle.gate_log.specs.Generations.{standing_in, in_use, tail_of, IsRenewed, IsEitherList, IsSettledAs}
+use Rattle.gate_log.specs.Journal.{IsLaid}
+use Rattle.gate_log.specs.Calls.{renewal_calls}
+use Rattle.gate_log.specs.Generations.{standing_in, in_use, tail_of, IsSettledAs}
 use Rattle.gate_log.proofs.Both.{only_both, only_there}
-use Rattle.gate_log.proofs.Settled.{settled_from, standing_is, renewal_leaves, renewed_settled, renewed_stands, renewed_list, after_it, is_frame, put_same}
+use Rattle.gate_log.proofs.Settled.{settled_from, standing_is, renewal_run, renewed_settled, renewed_stands, renewed_list, after_it, is_frame, put_same}
 use Rattle.gate_log.proofs.Ordered.{tail_begun}
 use Rattle.gate_log.proofs.log.GateLog.renew.Goals as goal
 
@@ -24,56 +24,34 @@ write_generation-requires g c = record {
 pub returns-in_default-clause-any_moment : goal.returns-in_default-clause-any_moment
 returns-in_default-clause-any_moment g c told body is begins running =
     let self = c.args.self.now in
-    let seen = g.D.Disks.seen self.disk in
-    let before = standing_in seen in
-    let was = self.settled told running in
-    let bodies = on (other self.side) before.bodies in
-    let laid = subst (λ (s : Side). IsLaid bodies (on s seen) self.other_gate) (sym c.other-side.ensures) was.there in
-    leaves_also g.D.Disks.moment g.D.Disks.left_since self.disk c.write_generation.new.disk _ (IsRenewed before body)
-    (c.write_generation.ensures.any_moment told bodies body (is_frame body c.args.frame.now is c.if-frame-gt-MAX_FRAME.false) laid was.durable)
-    (λ f left. renewal_leaves before seen (g.D.Disks.may_leave self.disk) self.side self.gate self.other_gate self.epoch was body begins f
-    (subst (λ (s : Side). LeavesOn s (IsReplaced bodies body) seen f) c.other-side.ensures left))
+    renewal_run _ _ _ _ _ _ _ (self.settled told running) body begins g.D.Disks.moment g.D.Disks.left_since self.disk c.write_generation.new.disk
+    c.args.frame.now c.other-side.result (is_frame body c.args.frame.now is c.if-frame-gt-MAX_FRAME.false) c.other-side.ensures
+    (c.write_generation.ensures.any_moment told)
 
 pub returns-in_default-clause-list : goal.returns-in_default-clause-list
 returns-in_default-clause-list g c told body is begins running =
     let self = c.args.self.now in
-    let seen = g.D.Disks.seen self.disk in
-    let before = standing_in seen in
-    let was = self.settled told running in
-    let bodies = on (other self.side) before.bodies in
-    let laid = subst (λ (s : Side). IsLaid bodies (on s seen) self.other_gate) (sym c.other-side.ensures) was.there in
-    leaves_also g.D.Disks.moment g.D.Disks.left_since self.disk c.write_generation.new.disk _ (IsEitherList (in_use before) (body ∷ []))
-    (c.write_generation.ensures.any_moment told bodies body (is_frame body c.args.frame.now is c.if-frame-gt-MAX_FRAME.false) laid was.durable)
-    (λ f left. renewed_list before body f
-    (renewal_leaves before seen (g.D.Disks.may_leave self.disk) self.side self.gate self.other_gate self.epoch was body begins f
-    (subst (λ (s : Side). LeavesOn s (IsReplaced bodies body) seen f) c.other-side.ensures left)))
+    leaves_also g.D.Disks.moment g.D.Disks.left_since self.disk c.write_generation.new.disk _ _
+    (renewal_run _ _ _ _ _ _ _ (self.settled told running) body begins g.D.Disks.moment g.D.Disks.left_since self.disk c.write_generation.new.disk
+    c.args.frame.now c.other-side.result (is_frame body c.args.frame.now is c.if-frame-gt-MAX_FRAME.false) c.other-side.ensures
+    (c.write_generation.ensures.any_moment told))
+    (renewed_list (standing_in (g.D.Disks.seen self.disk)) body)
 
 pub returns-clause-any_moment : goal.returns-clause-any_moment
 returns-clause-any_moment g c told body is begins running =
     let self = c.args.self.now in
-    let seen = g.D.Disks.seen self.disk in
-    let before = standing_in seen in
-    let was = self.settled told running in
-    let bodies = on (other self.side) before.bodies in
-    let laid = subst (λ (s : Side). IsLaid bodies (on s seen) self.other_gate) (sym c.other-side.ensures) was.there in
-    leaves_also g.D.Disks.moment g.D.Disks.left_since self.disk c.write_generation.new.disk _ (IsRenewed before body)
-    (c.write_generation.ensures.any_moment told bodies body (is_frame body c.args.frame.now is c.if-frame-gt-MAX_FRAME.false) laid was.durable)
-    (λ f left. renewal_leaves before seen (g.D.Disks.may_leave self.disk) self.side self.gate self.other_gate self.epoch was body begins f
-    (subst (λ (s : Side). LeavesOn s (IsReplaced bodies body) seen f) c.other-side.ensures left))
+    renewal_run _ _ _ _ _ _ _ (self.settled told running) body begins g.D.Disks.moment g.D.Disks.left_since self.disk c.write_generation.new.disk
+    c.args.frame.now c.other-side.result (is_frame body c.args.frame.now is c.if-frame-gt-MAX_FRAME.false) c.other-side.ensures
+    (c.write_generation.ensures.any_moment told)
 
 pub returns-clause-list : goal.returns-clause-list
 returns-clause-list g c told body is begins running =
     let self = c.args.self.now in
-    let seen = g.D.Disks.seen self.disk in
-    let before = standing_in seen in
-    let was = self.settled told running in
-    let bodies = on (other self.side) before.bodies in
-    let laid = subst (λ (s : Side). IsLaid bodies (on s seen) self.other_gate) (sym c.other-side.ensures) was.there in
-    leaves_also g.D.Disks.moment g.D.Disks.left_since self.disk c.write_generation.new.disk _ (IsEitherList (in_use before) (body ∷ []))
-    (c.write_generation.ensures.any_moment told bodies body (is_frame body c.args.frame.now is c.if-frame-gt-MAX_FRAME.false) laid was.durable)
-    (λ f left. renewed_list before body f
-    (renewal_leaves before seen (g.D.Disks.may_leave self.disk) self.side self.gate self.other_gate self.epoch was body begins f
-    (subst (λ (s : Side). LeavesOn s (IsReplaced bodies body) seen f) c.other-side.ensures left)))
+    leaves_also g.D.Disks.moment g.D.Disks.left_since self.disk c.write_generation.new.disk _ _
+    (renewal_run _ _ _ _ _ _ _ (self.settled told running) body begins g.D.Disks.moment g.D.Disks.left_since self.disk c.write_generation.new.disk
+    c.args.frame.now c.other-side.result (is_frame body c.args.frame.now is c.if-frame-gt-MAX_FRAME.false) c.other-side.ensures
+    (c.write_generation.ensures.any_moment told))
+    (renewed_list (standing_in (g.D.Disks.seen self.disk)) body)
 
 pub invariant_of-self-2 : goal.invariant_of-self-2
 invariant_of-self-2 g c = record {

@@ -1,6 +1,6 @@
 use Rattle.std.proofs.Common.{[]}
 use Rattle.schedule_replay.specs.Own.{own_order}
-use Rattle.schedule_replay.proofs.Places.{does_here}
+use Rattle.schedule_replay.proofs.ClusterMovement.{does_here}
 use Rattle.schedule_replay.proofs.cluster.nodes.arm.Goals as goal
 
 pub returns : goal.returns

@@ -2,7 +2,7 @@ use Rattle.std.proofs.Common.{[]}
 use Rattle.std.proofs.lemmas.Result.{on_ok_weaker}
 use Rattle.replay_node.specs.NodeLines.{stop_text}
 use Rattle.schedule_replay.specs.Own.{own_crash}
-use Rattle.schedule_replay.proofs.Places.{does_here}
+use Rattle.schedule_replay.proofs.ClusterMovement.{does_here}
 use Rattle.schedule_replay.proofs.cluster.nodes.crash.Goals as goal
 
 pub returns : goal.returns

@@ -3,7 +3,7 @@ use Rattle.std.proofs.lemmas.Result.{on_ok_weaker}
 use Rattle.replay_node.specs.Clusters.{settings_of}
 use Rattle.schedule_replay.specs.OwnStands.{NodeFor, OwnDoes}
 use Rattle.schedule_replay.specs.Own.{own_event_if_up, own_frames_if_up, own_in, own_results_if_up}
-use Rattle.schedule_replay.proofs.Places.{as_many, does_here, here, place_inside}
+use Rattle.schedule_replay.proofs.ClusterMovement.{as_many, does_here, here, place_inside}
 use Rattle.schedule_replay.proofs.cluster.nodes.event.Goals as goal
 
 pub bounds-nodes-place : goal.bounds-nodes-place

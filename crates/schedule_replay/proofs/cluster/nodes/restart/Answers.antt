@@ -4,7 +4,7 @@ use Rattle.voting_config.specs.Ids.{Id}
 use Rattle.replay_node.specs.Clusters.{settings_of}
 use Rattle.schedule_replay.specs.OwnStands.{NodeFor, OwnDone}
 use Rattle.schedule_replay.specs.Own.{Own, own_in, own_restart, own_restart_frames, own_restart_results}
-use Rattle.schedule_replay.proofs.Places.{Looked, as_many, done_here, here, place_inside}
+use Rattle.schedule_replay.proofs.ClusterMovement.{Looked, as_many, done_here, here, place_inside}
 use Rattle.schedule_replay.proofs.cluster.nodes.restart.Goals as goal
 
 pub bounds-nodes-place : goal.bounds-nodes-place

@@ -3,7 +3,7 @@ use Rattle.replay_node.specs.Clusters.{settings_of}
 use Rattle.schedule_replay.specs.OwnStands.{NodeFor}
 use Rattle.schedule_replay.specs.Own.{own_in}
 use Rattle.schedule_replay.specs.declared.cluster.node.ClusterNode.{ClusterNode}
-use Rattle.schedule_replay.proofs.Places.{here}
+use Rattle.schedule_replay.proofs.ClusterMovement.{here}
 use Rattle.schedule_replay.proofs.cluster.nodes.runs.Goals as goal
 
 pub returns : goal.returns

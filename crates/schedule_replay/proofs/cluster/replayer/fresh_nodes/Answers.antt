@@ -1,5 +1,5 @@
 use Rattle.replay_node.specs.Clusters.{fresh_cluster}
-use Rattle.schedule_replay.proofs.Places.{one_more}
+use Rattle.schedule_replay.proofs.ClusterMovement.{one_more}
 use Rattle.schedule_replay.proofs.cluster.replayer.fresh_nodes.Goals as goal
 
 pub loop-id-preserved : goal.loop-id-preserved

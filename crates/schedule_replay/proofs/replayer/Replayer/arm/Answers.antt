@@ -1,16 +1,18 @@
-use Rattle.std.proofs.Common.{refl, sym, [], append-nil}
+use Rattle.std.proofs.Common.{[], append-nil, sym}
+use Rattle.replay_node.specs.NodeWorld.{after_order}
 use Rattle.replay_node.specs.Worlds.{ordered}
-use Rattle.schedule_replay.proofs.Fresh.{many_lent}
+use Rattle.replay_node.proofs.Moves.{moves_ordered}
 use Rattle.schedule_replay.proofs.Lines.{moved}
+use Rattle.schedule_replay.proofs.Movement.{place_inside}
 use Rattle.schedule_replay.proofs.WorldSteps.{armed}
 use Rattle.schedule_replay.proofs.replayer.Replayer.arm.Goals as goal
 
-pub arm-requires-clause-many : goal.arm-requires-clause-many
-arm-requires-clause-many c = many_lent _ _ _ _ c.as_mut_slice.ensures.value c.requires.stands.1.nodes_stand
+pub bounds-nodes-place : goal.bounds-nodes-place
+bounds-nodes-place c = place_inside _ _ _ _ _ _ _ _ (record { is = c.as_slice.ensures.value; found = c.place_of-place.ensures; lent_is = c.as_mut_slice-nodes.ensures.value; long = c.as_mut_slice-nodes.ensures.len; stands = c.requires.stands })
 
-pub returns-clause-done : goal.returns-clause-done
-returns-clause-done c text =
-    moved c.args.self.now.ids c.args.self.now.nodes.items c.as_mut_slice.result.now c.arm.new.nodes _ _ c.args.self.now.sent.items text text
-    (λ w. ordered w c.args.n c.args.order) (λ w. []) c.as_mut_slice.ensures.value c.arm.auto.nodes c.as_mut_slice.ensures.len refl
-    (λ w s. record { stand = c.arm.ensures w s; written = sym (append-nil text) })
-    (λ w s a. armed _ _ _ _ w c.args.n c.args.order s a)
+pub returns : goal.returns
+returns c = record {
+  done = λ text. moved _ _ _ _ _ _ _ _ (record { is = c.as_slice.ensures.value; found = c.place_of-place.ensures; lent_is = c.as_mut_slice-nodes.ensures.value; long = c.as_mut_slice-nodes.ensures.len; stands = c.requires.stands }) c.index-nodes-place.result _ text text
+      (after_order c.args.order) (λ me x. []) (λ w. ordered w c.args.n c.args.order) (moves_ordered c.args.n c.args.order) (λ w new s stand. armed _ _ _ _ w c.args.n c.args.order s stand)
+      (record { me = c.arm.ensures.me; stands = c.arm.ensures.stands; written = λ x stands. sym (append-nil text) });
+}

@@ -1,4 +1,4 @@
-use Rattle.std.proofs.Common.{ap, List, ◌∙◌, ◌≡◌}
+use Rattle.std.proofs.Common.{◌≡◌, List, ap, ◌∙◌}
 use Rattle.std.specs.declared.vec.Vec.{Vec}
 use Rattle.std.specs.declared.alloc.Global.{Global}
 use Rattle.voting_config.specs.Ids.{Id}
@@ -6,21 +6,20 @@ use Rattle.cluster_state.specs.declared.state.ClusterValue.{ClusterValue}
 use Rattle.world_model.specs.declared.acts.Act.TheVariants.{Value}
 use Rattle.replay_node.specs.declared.node.ReplayNode.{ReplayNode}
 use Rattle.schedule_replay.specs.Replayed.{value_with}
-use Rattle.schedule_replay.proofs.Fresh.{many_lent}
-use Rattle.schedule_replay.proofs.Lines.{act_done, same_act}
+use Rattle.schedule_replay.proofs.Lines.{act_done}
+use Rattle.schedule_replay.proofs.Movement.{place_inside}
 use Rattle.schedule_replay.proofs.replayer.Replayer.client_value.Goals as goal
 
-pub client_value-requires-clause-many : goal.client_value-requires-clause-many
-client_value-requires-clause-many c = many_lent _ _ _ _ c.as_mut_slice.ensures.value c.requires.stands.1.nodes_stand
+pub bounds-nodes-place : goal.bounds-nodes-place
+bounds-nodes-place c = place_inside _ _ _ _ _ _ _ _ (record { is = c.as_slice.ensures.value; found = c.place_of-place.ensures; lent_is = c.as_mut_slice-nodes.ensures.value; long = c.as_mut_slice-nodes.ensures.len; stands = c.requires.stands })
 
-pub returns-clause-done : goal.returns-clause-done
-returns-clause-done c =
+pub returns : goal.returns
+returns c =
     let config : c.of-config.result ≡ c.args.config.now = c.of-config.ensures ∙ c.to_set.ensures in
-    let value : c.in_ok-value.value ≡ value_with c.args.setting = c.in_ok-value.ensures.is in
     let act : Value c.args.version c.of-config.result c.in_ok-value.value ≡ Value c.args.version c.args.config.now (value_with c.args.setting) =
-    ap (λ (x : List Id). Value c.args.version x c.in_ok-value.value) config ∙ ap (λ (x : ClusterValue). Value c.args.version c.args.config.now x) value
+    ap (λ (x : List Id). Value c.args.version x c.in_ok-value.value) config ∙ ap (λ (x : ClusterValue). Value c.args.version c.args.config.now x) c.in_ok-value.ensures.is
     in
-    same_act c.args.self.now.ids c.args.self.now.nodes.items c.finish.new.self.nodes.items c.args.self.now.sent.items c.finish.new.self.sent.items c.args.text.now c.finish.new.text c.args.n
-    (Value c.args.version c.of-config.result c.in_ok-value.value) (Value c.args.version c.args.config.now (value_with c.args.setting)) act
-    (act_done _ _ c.as_mut_slice.result.now c.client_value.new.nodes _ _ _ _ _ _ _ _ _ (Value c.args.version c.of-config.result c.in_ok-value.value) c.in_ok-did.did c.as_mut_slice.ensures.value c.client_value.auto.nodes c.as_mut_slice.ensures.len
-    (ap (λ (v : Vec ReplayNode Global). v.items) c.in_ok-finish.ensures.nodes) c.in_ok-did.ensures c.in_ok-finish.ensures.sent c.requires.listed tt c.clear.ensures c.in_ok-write_value.ensures c.in_ok-finish.ensures.written)
+    record {
+      done = act_done _ _ _ _ _ _ _ _ (record { is = c.as_slice.ensures.value; found = c.place_of-place.ensures; lent_is = c.as_mut_slice-nodes.ensures.value; long = c.as_mut_slice-nodes.ensures.len; stands = c.requires.stands }) c.index-nodes-place.result c.client_value.new.self c.finish.result _ _ _ _ _ _ _ _ c.in_ok-did.did c.in_ok-did.ensures act
+          (ap (λ (v : Vec ReplayNode Global). v.items) c.finish.ensures.nodes) c.finish.ensures.sent c.requires.listed tt c.clear.ensures c.in_ok-write_value.ensures c.finish.ensures.written;
+    }

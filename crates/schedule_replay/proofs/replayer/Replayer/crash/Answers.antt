@@ -1,16 +1,17 @@
-use Rattle.std.proofs.Common.{refl}
-use Rattle.replay_node.specs.NodeLines.{stop_text}
-use Rattle.replay_node.specs.Worlds.{crashed, node_world}
-use Rattle.schedule_replay.proofs.Fresh.{many_lent}
-use Rattle.schedule_replay.proofs.Lines.{moved, on_ok}
+use Rattle.std.proofs.lemmas.Result.{on_ok_weaker}
+use Rattle.replay_node.specs.NodeLines.{after_stop, stop_text}
+use Rattle.replay_node.specs.Worlds.{crashed}
+use Rattle.replay_node.proofs.Moves.{moves_crashed}
+use Rattle.schedule_replay.proofs.Lines.{moved}
+use Rattle.schedule_replay.proofs.Movement.{place_inside}
 use Rattle.schedule_replay.proofs.WorldSteps.{stopped}
 use Rattle.schedule_replay.proofs.replayer.Replayer.crash.Goals as goal
 
-pub crash-requires-clause-many : goal.crash-requires-clause-many
-crash-requires-clause-many c = many_lent _ _ _ _ c.as_mut_slice.ensures.value c.requires.stands.1.nodes_stand
+pub bounds-nodes-place : goal.bounds-nodes-place
+bounds-nodes-place c = place_inside _ _ _ _ _ _ _ _ (record { is = c.as_slice.ensures.value; found = c.place_of-place.ensures; lent_is = c.as_mut_slice-nodes.ensures.value; long = c.as_mut_slice-nodes.ensures.len; stands = c.requires.stands })
 
-pub returns-clause-done : goal.returns-clause-done
-returns-clause-done c =
-    on_ok c.crash.result _ _ (λ moves. moved c.args.self.now.ids c.args.self.now.nodes.items c.as_mut_slice.result.now c.crash.new.nodes _ _ c.args.self.now.sent.items c.args.text.now c.crash.new.text
-    (λ w. crashed w c.args.n c.args.way) (λ w. stop_text c.args.n (node_world w c.args.n)) c.as_mut_slice.ensures.value c.crash.auto.nodes c.as_mut_slice.ensures.len refl moves
-    (λ w s a. stopped _ _ _ _ w c.args.n c.args.way s a)) c.crash.ensures
+pub returns : goal.returns
+returns c = record {
+  done = on_ok_weaker c.crash.result (moved _ _ _ _ _ _ _ _ (record { is = c.as_slice.ensures.value; found = c.place_of-place.ensures; lent_is = c.as_mut_slice-nodes.ensures.value; long = c.as_mut_slice-nodes.ensures.len; stands = c.requires.stands }) c.index-nodes-place.result _ _ _
+      (after_stop c.args.way) stop_text (λ w. crashed w c.args.n c.args.way) (moves_crashed c.args.n c.args.way) (λ w new s stand. stopped _ _ _ _ w c.args.n c.args.way s stand)) c.crash.ensures;
+}

@@ -1,29 +1,44 @@
-use Rattle.std.proofs.Common.{◌≡◌, subst, List, length, refl, ◌-◌, slice_get, Some}
-use Rattle.std.proofs.lemmas.Option.{slice_get_read}
-use Rattle.replay_node.specs.declared.message.SentMessage.{SentMessage}
-use Rattle.schedule_replay.proofs.Fresh.{as_many}
-use Rattle.schedule_replay.proofs.Lines.{delivered, not_sent_ok, delivered_source}
+use Rattle.std.proofs.Common.{◌-◌, ap, arith, refl, subst, sym}
+use Rattle.std.proofs.lemmas.Result.{on_ok_weaker}
+use Rattle.std.specs.declared.vec.Vec.{Vec}
+use Rattle.std.specs.declared.alloc.Global.{Global}
+use Rattle.replay_node.specs.Stands.{NodeStands}
+use Rattle.replay_node.specs.Worlds.{node_world}
+use Rattle.replay_node.specs.declared.node.ReplayNode.{ReplayNode}
+use Rattle.schedule_replay.proofs.Lines.{act_done, delivered, delivered_source, lent_at, not_sent, takes_message}
+use Rattle.schedule_replay.proofs.Movement.{here, place_few, place_inside}
+use Rattle.schedule_replay.proofs.Room.{has_room}
 use Rattle.schedule_replay.proofs.replayer.Replayer.deliver.Goals as goal
 
-place : (c : goal.After-hand_over-arg-in-Some-1) → slice_get c.args.self.now.sent.items (c.args.ordinal - 1) ≡ Some c.in-Some.message.now
-place c =
-    subst (λ (x : List SentMessage). slice_get x (c.args.ordinal - 1) ≡ Some c.in-Some.message.now) c.as_slice.ensures.value
-    (slice_get_read c.as_slice.result.now (length c.as_slice.result.now) (c.args.ordinal - 1) c.in-Some.message.now refl c.in-Some.ensures.lookup.3.0 c.in-Some.ensures.lookup.1)
+pub bounds-nodes-place : goal.bounds-nodes-place
+bounds-nodes-place c = place_inside _ _ _ _ _ _ _ _ (record { is = c.as_slice.ensures.value; found = c.place_of-place.ensures; lent_is = c.as_slice-nodes.ensures.value; long = c.as_slice-nodes.ensures.len; stands = c.requires.stands })
 
-pub unsent-requires-clause-many : goal.unsent-requires-clause-many
-unsent-requires-clause-many c = as_many _ _ _ c.requires.stands.1.nodes_stand
+pub returns-in_default : goal.returns-in_default
+returns-in_default c = record {
+  done = on_ok_weaker c.unsent.result (λ written. not_sent _ _ _ c.as_slice-2.result.now _ _ c.args.n c.args.ordinal c.as_slice-2.ensures.value c.in_default.ensures.lookup.3 (λ w s.
+      written w (subst (λ (x : ReplayNode). NodeStands x (node_world w c.args.n)) (sym c.index-nodes-place.is) (here _ _ _ _ _ _ _ _ (record { is = c.as_slice.ensures.value; found = c.place_of-place.ensures; lent_is = c.as_slice-nodes.ensures.value; long = c.as_slice-nodes.ensures.len; stands = c.requires.stands }) c.index-nodes-place.result w s).1))) c.unsent.ensures;
+}
 
-pub hand_over-requires-clause-source : goal.hand_over-requires-clause-source
-hand_over-requires-clause-source c =
-    delivered_source c.args.self.now.ids c.args.self.now.nodes.items c.args.self.now.sent.items c.requires.stands.0 (c.args.ordinal - 1) c.in-Some.message.now c.in_ok-message-in-Some.message c.requires.stands.1 (place c) c.in_ok-message-in-Some.ensures
+pub bounds-nodes-place-2 : goal.bounds-nodes-place-2
+bounds-nodes-place-2 c = place_inside _ _ _ _ _ _ _ _ (record { is = c.as_slice.ensures.value; found = c.place_of-place.ensures; lent_is = c.as_mut_slice-nodes.ensures.value; long = c.as_mut_slice-nodes.ensures.len; stands = c.requires.stands })
 
-pub returns-in-None-clause-done : goal.returns-in-None-clause-done
-returns-in-None-clause-done c =
-    not_sent_ok c.unsent.result c.args.self.now.ids c.args.self.now.nodes.items c.args.self.now.sent.items c.as_slice.result.now c.args.text.now c.unsent.new.text c.args.n c.args.ordinal c.as_slice.ensures.value c.in-None.ensures.lookup.3 c.unsent.ensures
+pub offset_bounds-nodes-place-2 : goal.offset_bounds-nodes-place-2
+offset_bounds-nodes-place-2 c = omega (arith, place_few _ _ _ _ _ _ _ _ (record { is = c.as_slice.ensures.value; found = c.place_of-place.ensures; lent_is = c.as_mut_slice-nodes.ensures.value; long = c.as_mut_slice-nodes.ensures.len; stands = c.requires.stands }))
 
-pub returns-in_ok-hand_over-in-Some-clause-done : goal.returns-in_ok-hand_over-in-Some-clause-done
-returns-in_ok-hand_over-in-Some-clause-done c =
-    delivered c.args.self.now.ids c.args.self.now.nodes.items c.hand_over.new.self.nodes.items c.args.self.now.sent.items c.hand_over.new.self.sent.items c.args.text.now c.hand_over.new.text c.args.n c.args.ordinal c.in-Some.message.now c.in_ok-message-in-Some.message
-    (subst (λ (x : List SentMessage). slice_get x (c.args.ordinal - 1) ≡ Some c.in-Some.message.now) c.as_slice.ensures.value
-    (slice_get_read c.as_slice.result.now (length c.as_slice.result.now) (c.args.ordinal - 1) c.in-Some.message.now refl c.in-Some.ensures.lookup.3.0 c.in-Some.ensures.lookup.1))
-    c.in_ok-message-in-Some.ensures c.in_ok-hand_over-in-Some.ensures.done
+pub deliver-requires : goal.deliver-requires
+deliver-requires c =
+    let s = c.requires.stands in
+    let sent = lent_at c.args.self.now.sent.items c.as_slice-2.result.now (c.args.ordinal - 1) c.in-Some.message.now c.as_slice-2.ensures.value c.in-Some.ensures.lookup.3.0 c.in-Some.ensures.lookup.1 in
+    has_room c.args.ids.now _ _ _ (here _ _ _ _ _ _ _ _ (record { is = c.as_slice.ensures.value; found = c.place_of-place.ensures; lent_is = c.as_mut_slice-nodes.ensures.value; long = c.as_mut_slice-nodes.ensures.len; stands = c.requires.stands }) c.index-nodes-place-2.result s.0 s.1.nodes_stand).1
+    (s.1.taken c.args.n) (delivered_source _ _ _ s.0 (c.args.ordinal - 1) c.in-Some.message.now s.1 sent) s.1.few s.1.ascending
+
+pub returns : goal.returns
+returns c =
+    let s = c.requires.stands in
+    let sent = lent_at c.args.self.now.sent.items c.as_slice-2.result.now (c.args.ordinal - 1) c.in-Some.message.now c.as_slice-2.ensures.value c.in-Some.ensures.lookup.3.0 c.in-Some.ensures.lookup.1 in
+    record {
+      done = on_ok_weaker c.finish.result (delivered _ _ _ _ _ _ _ c.args.n c.args.ordinal c.in-Some.message.now sent)
+          (act_done _ _ _ _ _ _ _ _ (record { is = c.as_slice.ensures.value; found = c.place_of-place.ensures; lent_is = c.as_mut_slice-nodes.ensures.value; long = c.as_mut_slice-nodes.ensures.len; stands = c.requires.stands }) c.index-nodes-place-2.result c.deliver.new.self c.finish.result _ _ _ _ _ _ _ _ c.in_ok-did.did c.in_ok-did.ensures refl
+          (ap (λ (v : Vec ReplayNode Global). v.items) c.finish.ensures.nodes) c.finish.ensures.sent c.requires.listed (takes_message _ _ _ (delivered_source _ _ _ s.0 (c.args.ordinal - 1) c.in-Some.message.now s.1 sent))
+          c.clear.ensures c.in_ok-write_taking.ensures c.finish.ensures.written);
+    }

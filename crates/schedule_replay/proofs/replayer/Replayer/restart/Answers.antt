@@ -1,22 +1,22 @@
-use Rattle.std.proofs.Common.{refl, sym, subst, List}
-use Rattle.replay_node.specs.NodeLines.{restart_text}
-use Rattle.replay_node.specs.Worlds.{restarted, node_world}
-use Rattle.schedule_replay.specs.WorldStands.{AllStand}
-use Rattle.replay_node.specs.declared.node.ReplayNode.{ReplayNode}
-use Rattle.schedule_replay.proofs.Fresh.{many_lent}
-use Rattle.schedule_replay.proofs.Lines.{moved, on_ok}
+use Rattle.std.proofs.lemmas.Result.{on_ok_weaker}
+use Rattle.replay_node.specs.NodeLines.{after_restart, restart_text}
+use Rattle.replay_node.specs.Worlds.{node_world, restarted}
+use Rattle.replay_node.proofs.Moves.{moves_restarted}
+use Rattle.schedule_replay.proofs.Lines.{moved}
+use Rattle.schedule_replay.proofs.Movement.{here, place_inside}
 use Rattle.schedule_replay.proofs.WorldSteps.{reopened}
 use Rattle.schedule_replay.proofs.replayer.Replayer.restart.Goals as goal
 
-pub restart-requires-clause-many : goal.restart-requires-clause-many
-restart-requires-clause-many c = many_lent _ _ _ _ c.as_mut_slice.ensures.value c.requires.stands.1.nodes_stand
+pub bounds-nodes-place : goal.bounds-nodes-place
+bounds-nodes-place c = place_inside _ _ _ _ _ _ _ _ (record { is = c.as_slice.ensures.value; found = c.place_of-place.ensures; lent_is = c.as_mut_slice-nodes.ensures.value; long = c.as_mut_slice-nodes.ensures.len; stands = c.requires.stands })
 
-pub restart-requires-clause-stands : goal.restart-requires-clause-stands
-restart-requires-clause-stands c =
-    (c.requires.stands.0, subst (λ (x : List ReplayNode). AllStand c.args.self.now.ids x c.requires.stands.0) (sym c.as_mut_slice.ensures.value) c.requires.stands.1.nodes_stand)
+pub restart-requires : goal.restart-requires
+restart-requires c =
+    let s = c.requires.stands in
+    (node_world s.0 c.args.n, (here _ _ _ _ _ _ _ _ (record { is = c.as_slice.ensures.value; found = c.place_of-place.ensures; lent_is = c.as_mut_slice-nodes.ensures.value; long = c.as_mut_slice-nodes.ensures.len; stands = c.requires.stands }) c.index-nodes-place.result s.0 s.1.nodes_stand).1)
 
-pub returns-clause-done : goal.returns-clause-done
-returns-clause-done c =
-    on_ok c.restart.result _ _ (λ moves. moved c.args.self.now.ids c.args.self.now.nodes.items c.as_mut_slice.result.now c.restart.new.nodes _ _ c.args.self.now.sent.items c.args.text.now c.restart.new.text
-    (λ w. restarted w c.args.n) (λ w. restart_text c.args.n (node_world w c.args.n)) c.as_mut_slice.ensures.value c.restart.auto.nodes c.as_mut_slice.ensures.len refl moves
-    (λ w s a. reopened _ _ _ _ w c.args.n s a)) c.restart.ensures
+pub returns : goal.returns
+returns c = record {
+  done = on_ok_weaker c.restart.result (moved _ _ _ _ _ _ _ _ (record { is = c.as_slice.ensures.value; found = c.place_of-place.ensures; lent_is = c.as_mut_slice-nodes.ensures.value; long = c.as_mut_slice-nodes.ensures.len; stands = c.requires.stands }) c.index-nodes-place.result _ _ _
+      after_restart restart_text (λ w. restarted w c.args.n) (moves_restarted c.args.n) (λ w new s stand. reopened _ _ _ _ w c.args.n s stand)) c.restart.ensures.done;
+}

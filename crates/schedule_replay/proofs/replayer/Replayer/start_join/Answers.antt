@@ -1,15 +1,16 @@
-use Rattle.std.proofs.Common.{ap}
+use Rattle.std.proofs.Common.{ap, refl}
 use Rattle.std.specs.declared.vec.Vec.{Vec}
 use Rattle.std.specs.declared.alloc.Global.{Global}
 use Rattle.replay_node.specs.declared.node.ReplayNode.{ReplayNode}
-use Rattle.schedule_replay.proofs.Fresh.{many_lent}
 use Rattle.schedule_replay.proofs.Lines.{act_done}
+use Rattle.schedule_replay.proofs.Movement.{place_inside}
 use Rattle.schedule_replay.proofs.replayer.Replayer.start_join.Goals as goal
 
-pub start_join-requires-clause-many : goal.start_join-requires-clause-many
-start_join-requires-clause-many c = many_lent _ _ _ _ c.as_mut_slice.ensures.value c.requires.stands.1.nodes_stand
+pub bounds-nodes-place : goal.bounds-nodes-place
+bounds-nodes-place c = place_inside _ _ _ _ _ _ _ _ (record { is = c.as_slice.ensures.value; found = c.place_of-place.ensures; lent_is = c.as_mut_slice-nodes.ensures.value; long = c.as_mut_slice-nodes.ensures.len; stands = c.requires.stands })
 
-pub returns-clause-done : goal.returns-clause-done
-returns-clause-done c =
-    act_done _ _ c.as_mut_slice.result.now c.start_join.new.nodes _ _ _ _ _ _ _ _ _ _ c.in_ok-did.did c.as_mut_slice.ensures.value c.start_join.auto.nodes c.as_mut_slice.ensures.len
-    (ap (λ (v : Vec ReplayNode Global). v.items) c.in_ok-finish.ensures.nodes) c.in_ok-did.ensures c.in_ok-finish.ensures.sent c.requires.listed tt c.clear.ensures c.in_ok-write_start_join.ensures c.in_ok-finish.ensures.written
+pub returns : goal.returns
+returns c = record {
+  done = act_done _ _ _ _ _ _ _ _ (record { is = c.as_slice.ensures.value; found = c.place_of-place.ensures; lent_is = c.as_mut_slice-nodes.ensures.value; long = c.as_mut_slice-nodes.ensures.len; stands = c.requires.stands }) c.index-nodes-place.result c.start_join.new.self c.finish.result _ _ _ _ _ _ _ _ c.in_ok-did.did c.in_ok-did.ensures refl
+      (ap (λ (v : Vec ReplayNode Global). v.items) c.finish.ensures.nodes) c.finish.ensures.sent c.requires.listed tt c.clear.ensures c.in_ok-write_start_join.ensures c.finish.ensures.written;
+}

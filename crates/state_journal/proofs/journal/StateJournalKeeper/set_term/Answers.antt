@@ -1,16 +1,16 @@
 use Rattle.std.proofs.Common.{◌≡◌, ℕ, List, true, false, refl, sym, ap, ◌∙◌, subst, arith}
 use Rattle.std.proofs.lemmas.Bool.{lt-ltb}
-use Rattle.zen_disk.specs.Moments.{LeavesOnly}
 use Rattle.gate_log.specs.Generations.{is_generation, standing_in}
 use Rattle.gate_log.specs.Place.{place, renews}
 use Rattle.state_journal.specs.Bodies.{body_of}
 use Rattle.state_journal.specs.Changes.{changed}
 use Rattle.state_journal.specs.Drafts.{MayBegin}
-use Rattle.state_journal.specs.Keeping.{generation_after, written_in, IsWritten}
+use Rattle.state_journal.specs.Keeping.{generation_after, written_in}
 use Rattle.state_journal.specs.declared.change.Change.TheVariants.{Term}
+use Rattle.state_journal.proofs.Changing.{is_open, crash_leaves}
 use Rattle.state_journal.proofs.Same.{same_journal}
 use Rattle.state_journal.proofs.Spelled.{fits_of, reads_term, term_plain, length-term}
-use Rattle.state_journal.proofs.Writing.{IsOpen, MayFollow, few, leaves_either, stands_after, counted_after, counts_by}
+use Rattle.state_journal.proofs.Writing.{MayFollow, few, stands_after, counted_after, counts_by}
 use Rattle.state_journal.proofs.journal.StateJournalKeeper.set_term.Goals as goal
 
 pub returns-then-stopped-clause-unchanged : goal.returns-then-stopped-clause-unchanged
@@ -22,18 +22,11 @@ keep_small-requires-clause-plain g c = subst (λ (b : List ℕ). is_generation b
 pub returns-in_default-clause-any_moment : goal.returns-in_default-clause-any_moment
 returns-in_default-clause-any_moment g c = λ told running.
     let old = c.args.self.now in
-    let p = place old.log in
     let change = Term c.args.term in
-    let next = changed old.kept change in
-    let is : IsOpen (g.D.Disks.seen old.log.disk) (g.D.Disks.may_leave old.log.disk) p old.kept old.records = record { settled = old.log.settled told running; limit = old.log.limit; stands = old.stands told running; counted = old.counted told running } in
     let may : MayFollow old.kept change = record { reads = reads_term c.args.term c.requires.fits; order = lt-ltb _ _ c.requires.above } in
-    let begins : renews p (body_of change) ≡ true → MayBegin next =
-    λ renewing. record { bounded = c.requires.fits; fits = fits_of old.kept.accepted old.drafted.fits; named = c.keep_small.ensures.fits (ap (renews p) c.term_body-body.ensures ∙ renewing); older = omega (arith, old.older, c.requires.above) } in
-    let run =
-    subst
-    (λ (b : List ℕ). LeavesOnly g.D.Disks.moment g.D.Disks.left_since old.log.disk c.keep_small.new.log.disk (IsWritten (renews p b) (standing_in (g.D.Disks.seen old.log.disk)) b (generation_after p next)))
-    c.term_body-body.ensures (c.keep_small.ensures.any_moment told old.kept.accepted old.drafted) in
-    record { later = run.later; since = leaves_either is change may begins g.D.Disks.moment g.D.Disks.left_since old.log.disk c.keep_small.new.log.disk run }
+    let begins : renews (place old.log) (body_of change) ≡ true → MayBegin (changed old.kept change) =
+    λ renewing. record { bounded = c.requires.fits; fits = fits_of old.kept.accepted old.drafted.fits; named = c.keep_small.ensures.fits (ap (renews (place old.log)) c.term_body-body.ensures ∙ renewing); older = omega (arith, old.older, c.requires.above) } in
+    crash_leaves old told running change may begins _ _ c.term_body-body.ensures (c.keep_small.ensures.any_moment told old.kept.accepted old.drafted)
 
 pub invariant_of-self-2 : goal.invariant_of-self-2
 invariant_of-self-2 g c =
@@ -48,11 +41,11 @@ invariant_of-self-2 g c =
     λ renewing. record { bounded = c.requires.fits; fits = fits_of old.kept.accepted old.drafted.fits; named = c.keep_small.ensures.fits (ap (renews p) c.term_body-body.ensures ∙ renewing); older = omega (arith, old.older, c.requires.above) } in
     record {
       stands = λ told running.
-          let is : IsOpen (g.D.Disks.seen old.log.disk) (g.D.Disks.may_leave old.log.disk) p old.kept old.records = record { settled = old.log.settled told ran; limit = old.log.limit; stands = old.stands told ran; counted = old.counted told ran } in
+          let is = is_open old told ran in
           let grown = subst (λ (b : List ℕ). standing_in (g.D.Disks.seen now.disk) ≡ written_in (renews p b) (standing_in (g.D.Disks.seen old.log.disk)) b (generation_after p next)) c.term_body-body.ensures (c.in-Ok.ensures.ok told old.kept.accepted old.drafted) in
           stands_after is change may begins (g.D.Disks.seen now.disk) grown (now.settled told running).stands;
       counted = λ told running.
-          let is : IsOpen (g.D.Disks.seen old.log.disk) (g.D.Disks.may_leave old.log.disk) p old.kept old.records = record { settled = old.log.settled told ran; limit = old.log.limit; stands = old.stands told ran; counted = old.counted told ran } in
+          let is = is_open old told ran in
           let grown = subst (λ (b : List ℕ). standing_in (g.D.Disks.seen now.disk) ≡ written_in (renews p b) (standing_in (g.D.Disks.seen old.log.disk)) b (generation_after p next)) c.term_body-body.ensures (c.in-Ok.ensures.ok told old.kept.accepted old.drafted) in
           counts_by (renews p (body_of change)) old.records c.records_after-records.result _ (counted_after is change may begins (g.D.Disks.seen now.disk) grown) (few is)
           (c.records_after-records.ensures.one (body_of change) (length-term c.args.term)) (c.records_after-records.ensures.more (body_of change) (length-term c.args.term));
@@ -65,15 +58,8 @@ invariant_of-self-2 g c =
 pub returns-clause-any_moment : goal.returns-clause-any_moment
 returns-clause-any_moment g c = λ told running.
     let old = c.args.self.now in
-    let p = place old.log in
     let change = Term c.args.term in
-    let next = changed old.kept change in
-    let is : IsOpen (g.D.Disks.seen old.log.disk) (g.D.Disks.may_leave old.log.disk) p old.kept old.records = record { settled = old.log.settled told running; limit = old.log.limit; stands = old.stands told running; counted = old.counted told running } in
     let may : MayFollow old.kept change = record { reads = reads_term c.args.term c.requires.fits; order = lt-ltb _ _ c.requires.above } in
-    let begins : renews p (body_of change) ≡ true → MayBegin next =
-    λ renewing. record { bounded = c.requires.fits; fits = fits_of old.kept.accepted old.drafted.fits; named = c.keep_small.ensures.fits (ap (renews p) c.term_body-body.ensures ∙ renewing); older = omega (arith, old.older, c.requires.above) } in
-    let run =
-    subst
-    (λ (b : List ℕ). LeavesOnly g.D.Disks.moment g.D.Disks.left_since old.log.disk c.keep_small.new.log.disk (IsWritten (renews p b) (standing_in (g.D.Disks.seen old.log.disk)) b (generation_after p next)))
-    c.term_body-body.ensures (c.keep_small.ensures.any_moment told old.kept.accepted old.drafted) in
-    record { later = run.later; since = leaves_either is change may begins g.D.Disks.moment g.D.Disks.left_since old.log.disk c.keep_small.new.log.disk run }
+    let begins : renews (place old.log) (body_of change) ≡ true → MayBegin (changed old.kept change) =
+    λ renewing. record { bounded = c.requires.fits; fits = fits_of old.kept.accepted old.drafted.fits; named = c.keep_small.ensures.fits (ap (renews (place old.log)) c.term_body-body.ensures ∙ renewing); older = omega (arith, old.older, c.requires.above) } in
+    crash_leaves old told running change may begins _ _ c.term_body-body.ensures (c.keep_small.ensures.any_moment told old.kept.accepted old.drafted)

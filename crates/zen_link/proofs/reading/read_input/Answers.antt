@@ -1,10 +1,10 @@
 use Rattle.std.proofs.Common.{arith}
-use Rattle.zen_chart.proofs.Inputs.{more_read, read_to_end, read_enough}
-use Rattle.zen_chart.proofs.input.read_input.Goals as goal
+use Rattle.zen_link.proofs.Inputs.{more_read, read_to_end, read_enough}
+use Rattle.zen_link.proofs.reading.read_input.Goals as goal
 
 pub returns-then-count-eq0-clause-read : goal.returns-then-count-eq0-clause-read
 returns-then-count-eq0-clause-read g c =
-    read_to_end _ (g.S.Source.left c.loop-bytes.input) _ c.loop-bytes.bytes.items c.read_chunk.new.bytes.items _ c.loop-bytes.invariant.0 c.in_ok-count.ensures.read (cc) (omega (arith, c.loop-bytes-test.true, c.len.ensures, c.loop-bytes.bytes.ok))
+    read_to_end _ _ (g.S.Source.left c.loop-bytes.input) _ c.loop-bytes.bytes.items c.read_chunk.new.bytes.items _ c.loop-bytes.invariant.0 c.in_ok-count.ensures.read (cc) (omega (arith, c.loop-bytes-test.true, c.len.ensures, c.loop-bytes.bytes.ok))
 
 pub loop-bytes-preserved : goal.loop-bytes-preserved
 loop-bytes-preserved g c = (
@@ -14,4 +14,4 @@ loop-bytes-preserved g c = (
 )
 
 pub returns-clause-read : goal.returns-clause-read
-returns-clause-read g c = read_enough _ _ c.loop-bytes.bytes.items c.loop-bytes.invariant.0 (omega (arith, c.loop-bytes-test.false, c.loop-bytes.invariant.1, c.len.ensures))
+returns-clause-read g c = read_enough _ _ _ c.loop-bytes.bytes.items c.loop-bytes.invariant.0 (omega (arith, c.loop-bytes-test.false, c.loop-bytes.invariant.1, c.len.ensures))

@@ -3,8 +3,7 @@ use Rattle.std.proofs.Common.{◌≡◌, ℕ, ◌+◌, ◌<◌, ◌≤◌, Optio
 use Rattle.std.proofs.Math.Seq.{take-add}
 use Rattle.std.proofs.lemmas.List.{take_all, length-drop, drop-drop, nil_from_length}
 use Rattle.zen_link.specs.Streams.{Left}
-use Rattle.trace_reader.specs.Limits.{most_trace_bytes}
-use Rattle.zen_chart.specs.Reading.{most_read, read_of, unread_of, IsInput, PieceRead, ReadsPiece, IsReadOn, IsReadSoFar}
+use Rattle.zen_link.specs.Reading.{IsInput, PieceRead, ReadsPiece, IsReadOn, IsReadSoFar}
 
 pub none_read : (left : Option (List ℕ)) → IsReadSoFar left left []
 none_read None = refl
@@ -30,24 +29,24 @@ more_read (Some left) now later before after count so_far on =
       omega (arith, long, step.within, length-drop (length before) left, so_far.2),
     )
 
-pub none_unread : (left : List ℕ) → length left ≤ most_trace_bytes → unread_of left ≡ []
-none_unread left short = nil_from_length (drop most_read left) (omega (arith, length-drop most_read left, short))
+pub none_left : (most : ℕ) (left : List ℕ) → length left ≤ most → drop most left ≡ []
+none_left most left short = nil_from_length (drop most left) (omega (arith, length-drop most left, short))
 
 -- nothing is left
-pub read_to_end : (left now later : Option (List ℕ)) (before after : List ℕ) (count : ℕ) → IsReadSoFar left now before → IsReadOn now later before after count → count ≡ 0 → length before ≤ most_trace_bytes → IsInput left later after
-read_to_end None now later before after count so_far on none few = tt
-read_to_end (Some left) now later before after count so_far on none few =
+pub read_to_end : (most : ℕ) (left now later : Option (List ℕ)) (before after : List ℕ) (count : ℕ) → IsReadSoFar left now before → IsReadOn now later before after count → count ≡ 0 → length before ≤ most → IsInput most left later after
+read_to_end most None now later before after count so_far on none few = tt
+read_to_end most (Some left) now later before after count so_far on none few =
     let step : PieceRead (drop (length before) left) later before after count = subst (λ (x : Option (List ℕ)). ReadsPiece x later before after count) so_far.1 on.piece in
     let rest : drop (length before) left ≡ [] = step.end none in
     let long : length after ≡ length before + count = on.longer in
     let short : length left ≤ length before = let e : length (drop (length before) left) ≡ 0 = ap (λ (x : List ℕ). length x) rest in omega (arith, e, length-drop (length before) left) in
     let all = more_read (Some left) now later before after count so_far on in
     let whole : after ≡ left = all.0 ∙ take_all (length after) left (omega (arith, long, short)) in (
-      whole ∙ sym (take_all most_read left (omega (arith, short, few))),
-      all.1 ∙ ap (λ (x : List ℕ). Some x) (nil_from_length (drop (length after) left) (omega (arith, length-drop (length after) left, long, short)) ∙ sym (none_unread left (omega (arith, short, few)))),
+      whole ∙ sym (take_all most left (omega (arith, short, few))),
+      all.1 ∙ ap (λ (x : List ℕ). Some x) (nil_from_length (drop (length after) left) (omega (arith, length-drop (length after) left, long, short)) ∙ sym (none_left most left (omega (arith, short, few)))),
     )
 
 -- as many bytes are read as may be
-pub read_enough : (left now : Option (List ℕ)) (bytes : List ℕ) → IsReadSoFar left now bytes → length bytes ≡ most_read → IsInput left now bytes
-read_enough None now bytes so_far long = tt
-read_enough (Some left) now bytes so_far long = (so_far.0 ∙ ap (λ (n : ℕ). take n left) long, so_far.1 ∙ ap (λ (n : ℕ). Some (drop n left)) long)
+pub read_enough : (most : ℕ) (left now : Option (List ℕ)) (bytes : List ℕ) → IsReadSoFar left now bytes → length bytes ≡ most → IsInput most left now bytes
+read_enough most None now bytes so_far long = tt
+read_enough most (Some left) now bytes so_far long = (so_far.0 ∙ ap (λ (n : ℕ). take n left) long, so_far.1 ∙ ap (λ (n : ℕ). Some (drop n left)) long)

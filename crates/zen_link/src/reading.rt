@@ -1,12 +1,10 @@
-//! The input, read to its end.
-
+//! A source read to its end.
 ghost use Rattle.std.specs.Prelude.{◌≡◌, ◌<◌, ◌≤◌, IfOk};
 ghost use Rattle.zen_disk.specs.Faults.{Rose};
-ghost use Rattle.zen_chart.specs.Reading.{IsInput, IsReadOn, ReadsAtMost, most_read};
+ghost use Rattle.zen_link.specs.Reading.{IsInput, IsReadOn, ReadsAtMost};
 
+use crate::Source;
 use std::alloc::Global;
-use trace_reader::MAX_TRACE_BYTES;
-use zen_link::Source;
 
 /// Why the input was not read.
 #[derive(Clone, Copy, Debug, PartialEq, Eq, thiserror::Error)]
@@ -45,17 +43,21 @@ fn read_chunk<S: Source>(
     Ok(count)
 }
 
-/// Reads the input to its end, but at most one byte more than a trace has at most. `Read` only where the source's count of
-/// faults rose; `Memory` where memory ran out.
-pub fn read_input<S: Source>(alloc: Global, input: &mut S) -> Result<Vec<u8>, InputError>
-    ensures read { IfOk result (λ bytes. IsInput (S.left input.old) (S.left input.new) bytes.items) }
-    ensures at_most { ReadsAtMost most_read (S.left input.old) (S.left input.new) }
+/// Reads the input to its end, but at most this many bytes. `Read` only where the source's count of faults rose; `Memory`
+/// where memory ran out.
+pub fn read_input<S: Source>(
+    alloc: Global,
+    input: &mut S,
+    most: usize,
+) -> Result<Vec<u8>, InputError>
+    ensures read { IfOk result (λ bytes. IsInput most (S.left input.old) (S.left input.new) bytes.items) }
+    ensures at_most { ReadsAtMost most (S.left input.old) (S.left input.new) }
     ensures later { S.faults input.old ≤ S.faults input.new }
     ensures fault { result ≡ Err InputError.Read → Rose (S.faults input.old) (S.faults input.new) }
 {
     let mut bytes = Vec::new(alloc);
-    while bytes.len() <= MAX_TRACE_BYTES {
-        let wanted = (MAX_TRACE_BYTES + 1 - bytes.len()).min(CHUNK_BYTES);
+    while bytes.len() < most {
+        let wanted = (most - bytes.len()).min(CHUNK_BYTES);
         let count = read_chunk(input, &mut bytes, wanted)?;
         if count == 0 {
             return Ok(bytes);

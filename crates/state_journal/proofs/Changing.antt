@@ -1,0 +1,28 @@
+-- What a crash leaves while an open journal keeps a change.
+use Rattle.std.proofs.Common.{◌≡◌, List, ℕ, false, true, subst}
+use Rattle.zen_disk.specs.declared.disks.Disks.{Ghosts}
+use Rattle.zen_disk.specs.Moments.{LeavesOnly}
+use Rattle.gate_log.specs.Generations.{standing_in}
+use Rattle.gate_log.specs.Place.{place, renews}
+use Rattle.state_journal.specs.Bodies.{body_of}
+use Rattle.state_journal.specs.Changes.{changed, IsEither}
+use Rattle.state_journal.specs.Drafts.{MayBegin}
+use Rattle.state_journal.specs.Journal.{StoodFor}
+use Rattle.state_journal.specs.Keeping.{generation_after, IsWritten}
+use Rattle.state_journal.specs.declared.change.Change.{Change}
+use Rattle.state_journal.specs.declared.journal.StateJournal.{StateJournal}
+use Rattle.state_journal.proofs.Writing.{IsOpen, MayFollow, leaves_either}
+
+module _ {D : Type 0} {disks : Ghosts D} (old : StateJournal D disks) (told : disks.told) (running : old.log.stopped ≡ false) where
+  pub is_open : IsOpen (disks.seen old.log.disk) (disks.may_leave old.log.disk) (place old.log) old.kept old.records
+  is_open = record { settled = old.log.settled told running; limit = old.log.limit; stands = old.stands told running; counted = old.counted told running }
+
+  pub crash_leaves : (change : Change) → MayFollow old.kept change → (renews (place old.log) (body_of change) ≡ true → MayBegin (changed old.kept change))
+      → (new : StateJournal D disks) (body : List ℕ) → body ≡ body_of change
+      → LeavesOnly disks.moment disks.left_since old.log.disk new.log.disk (IsWritten (renews (place old.log) body) (standing_in (disks.seen old.log.disk)) body (generation_after (place old.log) (changed old.kept change)))
+      → LeavesOnly (λ (j : StateJournal D disks). disks.moment j.log.disk) (λ (j : StateJournal D disks). StoodFor (disks.left_since j.log.disk)) old new (IsEither old.kept (changed old.kept change))
+  crash_leaves change may begins new body same run =
+      let p = place old.log in
+      let written =
+      subst (λ (b : List ℕ). LeavesOnly disks.moment disks.left_since old.log.disk new.log.disk (IsWritten (renews p b) (standing_in (disks.seen old.log.disk)) b (generation_after p (changed old.kept change)))) same run in
+      record { later = written.later; since = leaves_either is_open change may begins disks.moment disks.left_since old.log.disk new.log.disk written }
