@@ -9,6 +9,12 @@ startjoin a a 1
 startjoin b a 1
 startjoin c a 1'
 
+# LINES lines in all, each after the header a delivery of a message that nobody sent.
+unsent() {
+    printf 'nodes a,b,c\ninitial a,b,c\n'
+    yes 'deliver a 1' | head -n "$(($1 - 2))"
+}
+
 # LINES lines in all, most of them repeated deliveries of one join.
 deliveries() {
     printf '%s\n' "$head"
