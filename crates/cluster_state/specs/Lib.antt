@@ -1,4 +1,5 @@
 pub mod Faults
+pub mod FaultNames
 pub mod Initial
 pub mod JoinCheck
 pub mod Order

@@ -6,8 +6,7 @@ use Rattle.serde_json.specs.Written.{compact_text}
 use Rattle.voting_config.specs.Lists.{list_text}
 use Rattle.cluster_state.specs.Json.{state_json}
 use Rattle.cluster_state.specs.States.{state}
-use Rattle.cluster_state.specs.declared.fault.FieldError.{FieldError}
-use Rattle.cluster_state.specs.declared.fault.FieldError.TheVariants as field
+use Rattle.cluster_state.specs.FaultNames.{field_name}
 use Rattle.cluster_state.specs.declared.state.ClusterState.{ClusterState}
 use Rattle.cluster_state.specs.declared.state.Kept.{Kept}
 use Rattle.state_journal.specs.declared.why.BodyFault.{BodyFault}
@@ -36,16 +35,6 @@ report kept records =
     codes "term=" ++ decimal kept.term ++ codes "\n" ++ accepted_lines kept.accepted ++ codes "\ncommitted=" ++ list_text kept.committed ++ codes "\nrecords=" ++ decimal records ++ state_lines kept.accepted
 
 -- ---- why the files are no journal
-
-abbrev pub field_name : FieldError → List ℕ
-field_name field.Short = codes "Short"
-field_name field.TermTooLarge = codes "TermTooLarge"
-field_name field.VersionTooLarge = codes "VersionTooLarge"
-field_name field.BadFlag = codes "BadFlag"
-field_name field.TooMany = codes "TooMany"
-field_name field.BadId = codes "BadId"
-field_name field.BadText = codes "BadText"
-field_name field.NotOrdered = codes "NotOrdered"
 
 abbrev pub body_fault_text : BodyFault → List ℕ
 body_fault_text body.Tag = codes "Tag"

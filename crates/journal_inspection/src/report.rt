@@ -1,9 +1,9 @@
 //! The seven lines that show a journal, and the line that says why there is none.
 ghost use Rattle.std.specs.Prelude.{◌≡◌, ◌++◌, OnOk, IfOk};
 ghost use Rattle.cluster_state.specs.States.{IsFit};
-ghost use Rattle.journal_inspection.specs.Report.{digest_text, accepted_lines, state_lines, report, field_name, body_fault_text, fault_text, why_text, not_a_journal};
+ghost use Rattle.journal_inspection.specs.Report.{digest_text, accepted_lines, state_lines, report, body_fault_text, fault_text, why_text, not_a_journal};
 
-use cluster_state::{ClusterState, FieldError, Kept, encode_state, to_json};
+use cluster_state::{ClusterState, Kept, encode_state, to_json};
 use schedule_text::Text;
 use sha2::{Digest, Sha256};
 use state_journal::{BodyFault, Fault, Why};
@@ -65,27 +65,12 @@ pub fn write_report(
     write_state(alloc, text, &kept.accepted)
 }
 
-fn name_of_field(fault: FieldError) -> &'static str
-    ensures { result.now ≡ field_name fault }
-{
-    match fault {
-        FieldError::Short => "Short",
-        FieldError::TermTooLarge => "TermTooLarge",
-        FieldError::VersionTooLarge => "VersionTooLarge",
-        FieldError::BadFlag => "BadFlag",
-        FieldError::TooMany => "TooMany",
-        FieldError::BadId => "BadId",
-        FieldError::BadText => "BadText",
-        FieldError::NotOrdered => "NotOrdered",
-    }
-}
-
 fn name_of_fault(fault: BodyFault) -> &'static str
     ensures { result.now ≡ body_fault_text fault }
 {
     match fault {
         BodyFault::Tag => "Tag",
-        BodyFault::Field(fault) => name_of_field(fault),
+        BodyFault::Field(fault) => fault.name(),
         BodyFault::Trailing => "Trailing",
     }
 }

@@ -1,7 +1,6 @@
 -- Part of the statement: the lines that a node writes of its life, one entry after the other.
 use Rattle.std.specs.Prelude.{◌≡◌, ℕ, ◌+◌, ◌^◌, min, Option, None, Some, List, [], ◌∷◌, ◌++◌, codes, decimal}
-use Rattle.cluster_state.specs.declared.fault.FieldError.{FieldError}
-use Rattle.cluster_state.specs.declared.fault.FieldError.TheVariants as field
+use Rattle.cluster_state.specs.FaultNames.{field_name}
 use Rattle.cluster_state.specs.declared.state.ClusterState.{ClusterState}
 use Rattle.wire_frames.specs.declared.fault.FrameFault.{FrameFault}
 use Rattle.wire_frames.specs.declared.fault.FrameFault.TheVariants.{TooLong, UnknownKind, Field, Trailing}
@@ -63,22 +62,11 @@ event_line (Tick now word) = codes "> tick " ++ decimal now ++ codes " " ++ deci
 event_line (FrameCame frame) = codes "> frame " ++ frame.from ++ codes " " ++ message_text frame.message ++ codes "\n"
 event_line (LineCame conn line) = codes "> client " ++ line ++ codes "\n"
 
--- what is wrong with a field, by its name
-abbrev pub field_text : FieldError → List ℕ
-field_text field.Short = codes "Short"
-field_text field.TermTooLarge = codes "TermTooLarge"
-field_text field.VersionTooLarge = codes "VersionTooLarge"
-field_text field.BadFlag = codes "BadFlag"
-field_text field.TooMany = codes "TooMany"
-field_text field.BadId = codes "BadId"
-field_text field.BadText = codes "BadText"
-field_text field.NotOrdered = codes "NotOrdered"
-
 -- what is wrong with the bytes of a frame
 abbrev pub fault_text : FrameFault → List ℕ
 fault_text TooLong = codes "TooLong"
 fault_text (UnknownKind kind) = codes "UnknownKind(" ++ decimal kind ++ codes ")"
-fault_text (Field fault) = codes "Field(" ++ field_text fault ++ codes ")"
+fault_text (Field fault) = codes "Field(" ++ field_name fault ++ codes ")"
 fault_text Trailing = codes "Trailing"
 
 -- a connection ended

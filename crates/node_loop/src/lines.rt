@@ -2,7 +2,7 @@
 ghost use Rattle.std.specs.Prelude.{◌≡◌, ◌++◌, OnOk};
 ghost use Rattle.wire_frames.specs.declared.fault.FrameFault.TheVariants.{UnknownKind, Field};
 ghost use Rattle.policy_model.specs.declared.events.Event.TheVariants.{Tick as TickCame, Frame as FrameCame, Client as LineCame};
-ghost use Rattle.node_loop.specs.Texts.{event_line, event_lines, fault_text, field_text, next_number, numbered, number_after, bad_line, gone_line};
+ghost use Rattle.node_loop.specs.Texts.{event_line, event_lines, fault_text, next_number, numbered, number_after, bad_line, gone_line};
 ghost use Rattle.event_text.specs.Published.{published_after};
 
 use cluster_state::{ClusterState, FieldError};
@@ -117,21 +117,6 @@ pub fn write_entry(
     write_replies(text, alloc, node, replies)
 }
 
-fn name_of_field(fault: FieldError) -> &'static str
-    ensures { result.now ≡ field_text fault }
-{
-    match fault {
-        FieldError::Short => "Short",
-        FieldError::TermTooLarge => "TermTooLarge",
-        FieldError::VersionTooLarge => "VersionTooLarge",
-        FieldError::BadFlag => "BadFlag",
-        FieldError::TooMany => "TooMany",
-        FieldError::BadId => "BadId",
-        FieldError::BadText => "BadText",
-        FieldError::NotOrdered => "NotOrdered",
-    }
-}
-
 fn write_kind(text: &mut Text, kind: u8) -> Result<(), AllocError>
     ensures { OnOk result (text.new ≡ text.old ++ fault_text (UnknownKind kind)) }
 {
@@ -144,7 +129,7 @@ fn write_field(text: &mut Text, fault: FieldError) -> Result<(), AllocError>
     ensures { OnOk result (text.new ≡ text.old ++ fault_text (Field fault)) }
 {
     text.word("Field(")?;
-    text.word(name_of_field(fault))?;
+    text.word(fault.name())?;
     text.word(")")
 }
 
