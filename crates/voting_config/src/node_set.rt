@@ -237,10 +237,10 @@ impl NodeSet {
     pub fn copy(&self) -> NodeSet
         ensures { result ≡ self.now }
     {
-        let mut ids = ArrayVec::new();
+        let mut copy = NodeSet::new();
         // There is as much room as in the original, so this is no error.
-        let _ = ids.try_extend_from_slice(self.ids.as_slice());
-        NodeSet { ids }
+        let _ = copy.ids.try_extend_from_slice(self.ids.as_slice());
+        copy
     }
 }
 
