@@ -11,11 +11,11 @@ use Rattle.cluster_state.specs.declared.messages.PublishRequest.{PublishRequest}
 use Rattle.cluster_state.specs.declared.messages.PublishResponse.{PublishResponse}
 use Rattle.cluster_state.specs.declared.messages.ApplyCommit.{ApplyCommit}
 use Rattle.world_model.specs.declared.acts.Act.{Act}
-use Rattle.world_model.specs.declared.acts.Reply.{Reply}
+use Rattle.world_model.specs.declared.acts.ActReply.{ActReply}
 use Rattle.world_model.specs.declared.acts.Message.{Message}
 use Rattle.world_model.specs.declared.acts.Act.TheVariants.{Bootstrap, StartJoin, TakeJoin, Value, Publish, Response, Commit, Open}
 use Rattle.world_model.specs.declared.acts.Outcome.TheVariants.{Answered}
-use Rattle.world_model.specs.declared.acts.Reply.TheVariants.{Taken, Refused, Stopped}
+use Rattle.world_model.specs.declared.acts.ActReply.TheVariants.{Taken, Refused, Stopped}
 use Rattle.world_model.specs.declared.acts.Message.TheVariants.{Commit as CommitMessage}
 use Rattle.world_model.specs.Acts.{NodeHistory, Then}
 use Rattle.world_model.specs.NodeState.{NodeState, node_state, term_of, accepted_of, election_won_of, published_version_of, publish_votes_of}
@@ -79,7 +79,7 @@ pub record TakesPublication (p : NodeState) : Type 0 where
   pub not_last : HasAcceptedLast p → ⊥
 
 -- what the history says of a node that is p and replies so to an act
-abbrev pub Backs : History → NodeState → Act → Reply → Type 0
+abbrev pub Backs : History → NodeState → Act → ActReply → Type 0
 Backs h p (TakeJoin join) reply = wins_now reply ≡ true → Wins p
 Backs h p (Value version config value) reply = is_taken reply ≡ true → IsPublished h (state_of p version config value)
 Backs h p (Publish request) reply = is_taken reply ≡ true → p.election_won ≡ true → TakesPublication p
@@ -218,7 +218,7 @@ module _ (h : History) (root : ClusterState) (W : IsSystem (node_history h) root
         is_state = refl;
       }
 
-  pub backs : (n : Id) (g : NodeHistory) (act : Act) (reply : Reply) → Begins (Then g act (Answered reply)) (node_history h n) → Backs h (node_state g) act reply
+  pub backs : (n : Id) (g : NodeHistory) (act : Act) (reply : ActReply) → Begins (Then g act (Answered reply)) (node_history h n) → Backs h (node_state g) act reply
   backs n g (TakeJoin j) (Taken s true) b = λ e. at_join n g j s b
   backs n g (TakeJoin j) (Taken s false) b = λ e. cc
   backs n g (TakeJoin j) (Refused c) b = λ e. cc

@@ -11,8 +11,8 @@ use Rattle.cluster_state.specs.declared.reply.LineFault.{LineFault}
 use Rattle.cluster_state.specs.declared.request.Request.{Request}
 use Rattle.cluster_state.specs.Puts.{bad_setting_of}
 use Rattle.client_lines.specs.Reading.{line_request}
-use Rattle.wire_frames.specs.declared.frame.Message.{Message}
-use Rattle.wire_frames.specs.declared.frame.Message.TheVariants as message
+use Rattle.wire_frames.specs.declared.frame.WireMessage.{WireMessage}
+use Rattle.wire_frames.specs.declared.frame.WireMessage.TheVariants as message
 use Rattle.fault_checks.specs.declared.leader.LeaderTick.{LeaderTick}
 use Rattle.fault_checks.specs.declared.leader.LeaderTick.TheVariants.{Quiet, Ask, Lost}
 use Rattle.fault_checks.specs.Leaders.{LeaderCheck, leader_tick}
@@ -71,7 +71,7 @@ module _ (P : ℕ → Request → Type 0) where
   q-then : (s : Settings) (v : View) (xs : List Item) (rule : View → List Item) → Queues P xs → ((u : View) → Queues P (rule u)) → Queues P (doing.then_rule s v xs rule)
   q-then s v xs rule q f = q-append xs _ q (f _)
 
-  q-sends : (s : Settings) (ids : List Id) (m : Message) → Queues P (doing.send_all s ids m)
+  q-sends : (s : Settings) (ids : List Id) (m : WireMessage) → Queues P (doing.send_all s ids m)
   q-sends s [] m = Ends
   q-sends s (x ∷ xs) m = Other _ _ refl (q-sends s xs m)
 
@@ -231,7 +231,7 @@ module _ (P : ℕ → Request → Type 0) where
     q-ticks v word Leader = q-ticks_leader v
     q-ticks v word (Follower leader) = q-checks_leader v leader v.leader_check
 
-    q-message : (v : View) (p : Id) (m : Message) → Queues P (rules.takes_message s v p m)
+    q-message : (v : View) (p : Id) (m : WireMessage) → Queues P (rules.takes_message s v p m)
     q-message v p (message.StartJoin candidate t) = q-starts_join v candidate t
     q-message v p (message.Join t last) = q-joined v p t last
     q-message v p (message.Publish state) = q-published_to v p state

@@ -15,8 +15,8 @@ use Rattle.cluster_state.specs.declared.reply.Answer.TheVariants as answer
 use Rattle.cluster_state.specs.declared.reply.Reply.TheVariants as reply
 use Rattle.cluster_state.specs.States.{id_of}
 use Rattle.client_lines.specs.Reading.{line_request}
-use Rattle.wire_frames.specs.declared.frame.Message.{Message}
-use Rattle.wire_frames.specs.declared.frame.Message.TheVariants as message
+use Rattle.wire_frames.specs.declared.frame.WireMessage.{WireMessage}
+use Rattle.wire_frames.specs.declared.frame.WireMessage.TheVariants as message
 use Rattle.master_tasks.specs.NextState.{processed_by, next_value, config_for, next_config, is_accepted, is_nothing_new, next_answers, tasks_after}
 use Rattle.master_tasks.specs.declared.waiting.Waiting.{Waiting}
 use Rattle.master_tasks.specs.declared.waiting.Outgoing.{Outgoing}
@@ -77,7 +77,7 @@ unstruck life event = unfaulted alone _ _ (answered-next alone (view_of alone (A
 follows_on : (life : Life) (event : Event) → Follows alone life → is_struck life ≡ false → is_start event ≡ starts_next life → Follows alone (does life event)
 follows_on life event f u s = (f, record { up = u; start = s; does = inl refl })
 
-abbrev itself : Message → Event
+abbrev itself : WireMessage → Event
 itself m = FrameCame (record { from = a; to = a; message = m })
 
 abbrev id : ℕ → ℕ → StateId

@@ -17,10 +17,10 @@ use Rattle.publication.specs.Publications.{Publication}
 use Rattle.master_tasks.specs.declared.waiting.Waiting.{Waiting}
 use Rattle.master_tasks.specs.Answering.{left_by}
 use Rattle.world_model.specs.declared.acts.Act.{Act}
-use Rattle.world_model.specs.declared.acts.Reply.{Reply}
+use Rattle.world_model.specs.declared.acts.ActReply.{ActReply}
 use Rattle.world_model.specs.declared.acts.Act.TheVariants.{TakeJoin, Value, Publish, Response, Commit}
 use Rattle.world_model.specs.declared.acts.Outcome.TheVariants.{Answered}
-use Rattle.world_model.specs.declared.acts.Reply.TheVariants.{Taken, Refused, Stopped}
+use Rattle.world_model.specs.declared.acts.ActReply.TheVariants.{Taken, Refused, Stopped}
 use Rattle.world_model.specs.Replies.{is_taken}
 use Rattle.world_model.specs.Steps.{is_opening}
 use Rattle.world_model.specs.Histories.{History}
@@ -121,29 +121,29 @@ module _ (h : History) (s : Settings) (P : ℕ → Request → Type 0) where
     came = w (Of P) i.came;
   }
 
-  pub holds-refused : (v : View) (g : List Waiting) (act : Act) (r : Reply) → is_opening act ≡ false → is_taken r ≡ false → Holds h s P (place v g) → Holds h s P (place (moved s v (Acts act (Answered r))) g)
+  pub holds-refused : (v : View) (g : List Waiting) (act : Act) (r : ActReply) → is_opening act ≡ false → is_taken r ≡ false → Holds h s P (place v g) → Holds h s P (place (moved s v (Acts act (Answered r))) g)
   holds-refused v g act r o e i = subst (λ (x : Standing). Holds h s P (record { stands = x; processed = g })) (sym (refused-stands h s v act r o e)) i
 
-  pub holds-publish : (v : View) (g : List Waiting) (q : PublishRequest) (r : Reply) → Backs h v.node (Publish q) r → Holds h s P (place v g) → Holds h s P (place (moved s v (Acts (Publish q) (Answered r))) g)
+  pub holds-publish : (v : View) (g : List Waiting) (q : PublishRequest) (r : ActReply) → Backs h v.node (Publish q) r → Holds h s P (place v g) → Holds h s P (place (moved s v (Acts (Publish q) (Answered r))) g)
   holds-publish v g q (Taken sends wins) b i =
       record { stands = stands-publish h s v q (Taken sends wins) b i.stands; made = λ l p. made-again (place v g) _ refl refl (λ R e. e) (i.made l p); came = i.came }
   holds-publish v g q (Refused c) b i = holds-refused v g (Publish q) (Refused c) refl refl i
   holds-publish v g q Stopped b i = holds-refused v g (Publish q) Stopped refl refl i
 
-  pub holds-commit : (v : View) (g : List Waiting) (c : ApplyCommit) (r : Reply) → Backs h v.node (Commit c) r → Holds h s P (place v g) → Holds h s P (place (moved s v (Acts (Commit c) (Answered r))) g)
+  pub holds-commit : (v : View) (g : List Waiting) (c : ApplyCommit) (r : ActReply) → Backs h v.node (Commit c) r → Holds h s P (place v g) → Holds h s P (place (moved s v (Acts (Commit c) (Answered r))) g)
   holds-commit v g c (Taken sends wins) b i =
       record { stands = stands-commit h s v c (Taken sends wins) b i.stands; made = λ l p. made-again (place v g) _ refl refl (λ R e. e) (i.made l (some_finished v.publication p)); came = i.came }
   holds-commit v g c (Refused x) b i = holds-refused v g (Commit c) (Refused x) refl refl i
   holds-commit v g c Stopped b i = holds-refused v g (Commit c) Stopped refl refl i
 
-  pub holds-response : (v : View) (g : List Waiting) (q : PublishResponse) (r : Reply) → Holds h s P (place v g) → Holds h s P (place (moved s v (Acts (Response q) (Answered r))) g)
+  pub holds-response : (v : View) (g : List Waiting) (q : PublishResponse) (r : ActReply) → Holds h s P (place v g) → Holds h s P (place (moved s v (Acts (Response q) (Answered r))) g)
   holds-response v g q (Taken sends wins) i =
       record { stands = stands-response h s v q (Taken sends wins) i.stands; made = λ l p. made-again (place v g) _ refl refl (λ R e. e) (i.made l (some_responded v.publication q.source (is_some sends) p)); came = i.came }
   holds-response v g q (Refused c) i = holds-refused v g (Response q) (Refused c) refl refl i
   holds-response v g q Stopped i = holds-refused v g (Response q) Stopped refl refl i
 
   -- a join that does not win
-  pub holds-join : (v : View) (g : List Waiting) (j : Join) (r : Reply) → wins_now r ≡ false → Holds h s P (place v g) → Holds h s P (place (moved s v (Acts (TakeJoin j) (Answered r))) g)
+  pub holds-join : (v : View) (g : List Waiting) (j : Join) (r : ActReply) → wins_now r ≡ false → Holds h s P (place v g) → Holds h s P (place (moved s v (Acts (TakeJoin j) (Answered r))) g)
   holds-join v g j (Taken sends true) e i = absurd (true≢false e)
   holds-join v g j (Taken sends false) e i =
       record { stands = stands-join h s v j (Taken sends false) e i.stands; made = λ l p. made-again (place v g) _ refl refl (λ R k. k) (i.made l p); came = i.came }
@@ -151,7 +151,7 @@ module _ (h : History) (s : Settings) (P : ℕ → Request → Type 0) where
   holds-join v g j Stopped e i = holds-refused v g (TakeJoin j) Stopped refl refl i
 
   -- a publication begins, of a value that has what was processed
-  pub holds-value : (v : View) (g older done : List Waiting) (version : ℕ) (config : List Id) (value : ClusterValue) (r : Reply) → is_taken r ≡ true → is_leader v.mode ≡ true → v.node.election_won ≡ true
+  pub holds-value : (v : View) (g older done : List Waiting) (version : ℕ) (config : List Id) (value : ClusterValue) (r : ActReply) → is_taken r ≡ true → is_leader v.mode ≡ true → v.node.election_won ≡ true
       → Backs h v.node (Value version config value) r → g ≡ older ++ done → MeetsEach value done → Each (λ w. w.processed ≡ true → IsAmong done w) v.tasks.waiting → Each (Of P) v.tasks.waiting
       → Holds h s P (place (moved s v (Acts (Value version config value) (Answered r))) g)
   holds-value v g older done version config value (Taken sends wins) t l won b e a w c =

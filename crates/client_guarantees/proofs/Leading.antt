@@ -12,10 +12,10 @@ use Rattle.cluster_state.specs.declared.messages.ApplyCommit.{ApplyCommit}
 use Rattle.publication.specs.Publications.{Publication}
 use Rattle.master_tasks.specs.declared.waiting.Waiting.{Waiting}
 use Rattle.world_model.specs.declared.acts.Act.{Act}
-use Rattle.world_model.specs.declared.acts.Reply.{Reply}
+use Rattle.world_model.specs.declared.acts.ActReply.{ActReply}
 use Rattle.world_model.specs.declared.acts.Act.TheVariants.{Bootstrap, StartJoin, TakeJoin, Value, Publish, Response, Commit, Open}
 use Rattle.world_model.specs.declared.acts.Outcome.TheVariants.{Answered}
-use Rattle.world_model.specs.declared.acts.Reply.TheVariants.{Taken, Refused, Stopped}
+use Rattle.world_model.specs.declared.acts.ActReply.TheVariants.{Taken, Refused, Stopped}
 use Rattle.world_model.specs.NodeState.{NodeState}
 use Rattle.world_model.specs.Replies.{is_taken}
 use Rattle.world_model.specs.Steps.{is_opening}
@@ -123,7 +123,7 @@ module _ (h : History) (s : Settings) where
   stands-waiting x ws e i = record { leads = leads-waiting x ws e i.leads; barred = i.barred }
 
   -- an act that is refused leaves all as it is
-  pub refused-stands : (v : View) (act : Act) (r : Reply) → is_opening act ≡ false → is_taken r ≡ false → standing (moved s v (Acts act (Answered r))) ≡ standing v
+  pub refused-stands : (v : View) (act : Act) (r : ActReply) → is_opening act ≡ false → is_taken r ≡ false → standing (moved s v (Acts act (Answered r))) ≡ standing v
   refused-stands v act (Taken sends wins) o e = differs e
   refused-stands v (Bootstrap config) (Refused c) o e = refl
   refused-stands v (StartJoin candidate term) (Refused c) o e = refl
@@ -142,10 +142,10 @@ module _ (h : History) (s : Settings) where
   refused-stands v (Commit commit) Stopped o e = refl
   refused-stands v (Open found) Stopped o e = differs o
 
-  pub stands-refused : (v : View) (act : Act) (r : Reply) → is_opening act ≡ false → is_taken r ≡ false → Stands h s (standing v) → Stands h s (standing (moved s v (Acts act (Answered r))))
+  pub stands-refused : (v : View) (act : Act) (r : ActReply) → is_opening act ≡ false → is_taken r ≡ false → Stands h s (standing v) → Stands h s (standing (moved s v (Acts act (Answered r))))
   stands-refused v act r o e i = subst (Stands h s) (sym (refused-stands v act r o e)) i
 
-  pub stands-publish : (v : View) (q : PublishRequest) (r : Reply) → Backs h v.node (Publish q) r → Stands h s (standing v) → Stands h s (standing (moved s v (Acts (Publish q) (Answered r))))
+  pub stands-publish : (v : View) (q : PublishRequest) (r : ActReply) → Backs h v.node (Publish q) r → Stands h s (standing v) → Stands h s (standing (moved s v (Acts (Publish q) (Answered r))))
   stands-publish v q (Taken sends wins) b i =
       record {
         leads = record {
@@ -163,7 +163,7 @@ module _ (h : History) (s : Settings) where
   not_before : (p : NodeState) {A : Type 0} → TakesCommit h p → IsNewWinner p → A
   not_before p t n = not_both p.accepted.term p.term t.term n.older
 
-  pub stands-commit : (v : View) (c : ApplyCommit) (r : Reply) → Backs h v.node (Commit c) r → Stands h s (standing v) → Stands h s (standing (moved s v (Acts (Commit c) (Answered r))))
+  pub stands-commit : (v : View) (c : ApplyCommit) (r : ActReply) → Backs h v.node (Commit c) r → Stands h s (standing v) → Stands h s (standing (moved s v (Acts (Commit c) (Answered r))))
   stands-commit v c (Taken sends wins) b i =
       record {
         leads = record {
@@ -189,7 +189,7 @@ module _ (h : History) (s : Settings) where
       let version : p.accepted.version ≡ q.accepted.version = ap (λ x. x.version) a in
       record { committed = subst (HasCommitted h) a d.committed; last = record { term = omega (arith, d.last.term); version = omega (arith, d.last.version) }; settled = sym c ∙ d.settled ∙ ap (λ x. x.config) a }
 
-  pub stands-response : (v : View) (q : PublishResponse) (r : Reply) → Stands h s (standing v) → Stands h s (standing (moved s v (Acts (Response q) (Answered r))))
+  pub stands-response : (v : View) (q : PublishResponse) (r : ActReply) → Stands h s (standing v) → Stands h s (standing (moved s v (Acts (Response q) (Answered r))))
   stands-response v q (Taken sends wins) i =
       record {
         leads = record {
@@ -206,7 +206,7 @@ module _ (h : History) (s : Settings) where
   stands-response v q Stopped i = stands-refused v (Response q) Stopped refl refl i
 
   -- a join that does not win
-  pub stands-join : (v : View) (j : Join) (r : Reply) → wins_now r ≡ false → Stands h s (standing v) → Stands h s (standing (moved s v (Acts (TakeJoin j) (Answered r))))
+  pub stands-join : (v : View) (j : Join) (r : ActReply) → wins_now r ≡ false → Stands h s (standing v) → Stands h s (standing (moved s v (Acts (TakeJoin j) (Answered r))))
   stands-join v j (Taken sends true) e i = differs e
   stands-join v j (Taken sends false) e i =
       record {
@@ -222,7 +222,7 @@ module _ (h : History) (s : Settings) where
   stands-join v j Stopped e i = stands-refused v (TakeJoin j) Stopped refl refl i
 
   -- one that wins
-  pub won-join : (v : View) (j : Join) (r : Reply) → wins_now r ≡ true → Backs h v.node (TakeJoin j) r → Stands h s (standing v) → HasWon (standing (moved s v (Acts (TakeJoin j) (Answered r))))
+  pub won-join : (v : View) (j : Join) (r : ActReply) → wins_now r ≡ true → Backs h v.node (TakeJoin j) r → Stands h s (standing v) → HasWon (standing (moved s v (Acts (TakeJoin j) (Answered r))))
   won-join v j (Taken sends false) e b i = differs (sym e)
   won-join v j (Taken sends true) e b i = from (is_leader v.mode) refl
     where
@@ -238,7 +238,7 @@ module _ (h : History) (s : Settings) where
   won-join v j Stopped e b i = differs (sym e)
 
   -- a publication begins
-  pub stands-value : (v : View) (version : ℕ) (config : List Id) (value : ClusterValue) (r : Reply) → is_taken r ≡ true → is_leader v.mode ≡ true → v.node.election_won ≡ true
+  pub stands-value : (v : View) (version : ℕ) (config : List Id) (value : ClusterValue) (r : ActReply) → is_taken r ≡ true → is_leader v.mode ≡ true → v.node.election_won ≡ true
       → Stands h s (standing (moved s v (Acts (Value version config value) (Answered r))))
   stands-value v version config value (Taken sends wins) t l won =
       record {

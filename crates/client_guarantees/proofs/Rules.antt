@@ -14,8 +14,8 @@ use Rattle.cluster_state.specs.declared.reply.LineFault.{LineFault}
 use Rattle.cluster_state.specs.declared.request.Request.{Request}
 use Rattle.cluster_state.specs.Puts.{bad_setting_of}
 use Rattle.client_lines.specs.Reading.{line_request}
-use Rattle.wire_frames.specs.declared.frame.Message.{Message}
-use Rattle.wire_frames.specs.declared.frame.Message.TheVariants as message
+use Rattle.wire_frames.specs.declared.frame.WireMessage.{WireMessage}
+use Rattle.wire_frames.specs.declared.frame.WireMessage.TheVariants as message
 use Rattle.fault_checks.specs.declared.leader.LeaderTick.{LeaderTick}
 use Rattle.fault_checks.specs.declared.leader.LeaderTick.TheVariants.{Quiet, Ask, Lost}
 use Rattle.fault_checks.specs.Leaders.{LeaderCheck, leader_tick}
@@ -26,9 +26,9 @@ use Rattle.master_tasks.specs.Answering.{answers_by, committed_in}
 use Rattle.master_tasks.specs.declared.waiting.Waiting.{Waiting}
 use Rattle.world_model.specs.declared.acts.Act.{Act}
 use Rattle.world_model.specs.declared.acts.Act.TheVariants.{Bootstrap, TakeJoin, Publish, Response, Commit}
-use Rattle.world_model.specs.declared.acts.Reply.{Reply}
+use Rattle.world_model.specs.declared.acts.ActReply.{ActReply}
 use Rattle.world_model.specs.declared.acts.Outcome.TheVariants.{Answered}
-use Rattle.world_model.specs.declared.acts.Reply.TheVariants.{Taken, Refused, Stopped}
+use Rattle.world_model.specs.declared.acts.ActReply.TheVariants.{Taken, Refused, Stopped}
 use Rattle.world_model.specs.Replies.{is_taken}
 use Rattle.world_model.specs.Histories.{History}
 use Rattle.world_model.specs.Safety.{Published}
@@ -66,7 +66,7 @@ not_both : {A : Type 0} (t u : ℕ) → t ≡ u → t < u → A
 not_both t u e l = absurd (omega arith)
 
 -- the configuration is committed where the commit is taken
-settled_now : (s : Settings) (v : View) (c : ApplyCommit) (r : Reply) → is_taken r ≡ true → (moved s v (Acts (Commit c) (Answered r))).node.committed ≡ v.node.accepted.config
+settled_now : (s : Settings) (v : View) (c : ApplyCommit) (r : ActReply) → is_taken r ≡ true → (moved s v (Acts (Commit c) (Answered r))).node.committed ≡ v.node.accepted.config
 settled_now s v c (Taken sends wins) e = refl
 settled_now s v c (Refused x) e = absurd (both_ways _ refl e)
 settled_now s v c Stopped e = absurd (both_ways _ refl e)
@@ -310,7 +310,7 @@ module _ (h : History) (U : IsUnique h) (s : Settings) (P : ℕ → Request → 
   keeps-ticks v g word (Follower leader) e i = keeps-checks_leader v g leader v.leader_check i
 
   -- a frame, by its message
-  keeps-message : (v : View) (g : List Waiting) (p : Id) (m : Message) → Holds h s P (place v g) → Keeps h s P v g (rules.takes_message s v p m) (Holds h s P)
+  keeps-message : (v : View) (g : List Waiting) (p : Id) (m : WireMessage) → Holds h s P (place v g) → Keeps h s P v g (rules.takes_message s v p m) (Holds h s P)
   keeps-message v g p (message.StartJoin candidate term) i = keeps-starts_join h s P v g candidate term i
   keeps-message v g p (message.Join term last) i = keeps-joined v g p term last i
   keeps-message v g p (message.Publish state) i = keeps-published_to v g p state i

@@ -3,7 +3,7 @@ use Rattle.std.proofs.Common.{◌≡◌, ℕ, Bool, true, false, Option, None, S
 use Rattle.std.specs.Prelude.{if◌then◌else◌}
 use Rattle.voting_config.specs.Ids.{Id}
 use Rattle.cluster_state.specs.declared.state.StateId.{StateId}
-use Rattle.wire_frames.specs.declared.frame.Message.{Message}
+use Rattle.wire_frames.specs.declared.frame.WireMessage.{WireMessage}
 use Rattle.publication.specs.Publications.{Publication}
 use Rattle.pre_vote.specs.declared.rounds.Added.{Added}
 use Rattle.pre_vote.specs.declared.rounds.Added.TheVariants.{Counted, Fresher, Quorum}
@@ -71,7 +71,7 @@ pub steady-if : (b : Bool) (xs ys : List Item) → IsSteady xs → IsSteady ys �
 steady-if true xs ys q r = q
 steady-if false xs ys q r = r
 
-pub steady-sends : (s : Settings) (ids : List Id) (m : Message) → IsSteady (doing.send_all s ids m)
+pub steady-sends : (s : Settings) (ids : List Id) (m : WireMessage) → IsSteady (doing.send_all s ids m)
 steady-sends s [] m = Calm
 steady-sends s (x ∷ xs) m = Still _ _ refl (steady-sends s xs m)
 

@@ -16,8 +16,8 @@ use Rattle.cluster_state.specs.declared.state.ClusterState.{ClusterState}
 use Rattle.cluster_state.specs.declared.state.ClusterValue.{ClusterValue}
 use Rattle.cluster_state.specs.declared.state.StateId.{StateId}
 use Rattle.wire_frames.specs.declared.frame.Frame.{Frame}
-use Rattle.wire_frames.specs.declared.frame.Message.{Message as FrameMessage}
-use Rattle.wire_frames.specs.declared.frame.Message.TheVariants as message
+use Rattle.wire_frames.specs.declared.frame.WireMessage.{WireMessage as FrameMessage}
+use Rattle.wire_frames.specs.declared.frame.WireMessage.TheVariants as message
 use Rattle.cluster_state.specs.declared.reply.LineFault.{LineFault}
 use Rattle.cluster_state.specs.declared.request.Request.{Request}
 use Rattle.client_lines.specs.Reading.{line_request}
@@ -42,8 +42,8 @@ use Rattle.world_model.specs.declared.acts.Cause.TheVariants.{Start as StartRefu
 use Rattle.cluster_state.specs.declared.causes.ValueCause.TheVariants as value_cause
 use Rattle.cluster_state.specs.declared.causes.PublishCause.TheVariants as publish_cause
 use Rattle.cluster_state.specs.declared.causes.ResponseCause.TheVariants as response_cause
-use Rattle.world_model.specs.declared.acts.Reply.{Reply}
-use Rattle.world_model.specs.declared.acts.Reply.TheVariants.{Taken, Refused, Stopped}
+use Rattle.world_model.specs.declared.acts.ActReply.{ActReply}
+use Rattle.world_model.specs.declared.acts.ActReply.TheVariants.{Taken, Refused, Stopped}
 use Rattle.world_model.specs.declared.acts.Outcome.TheVariants.{Answered}
 use Rattle.world_model.specs.NodeState.{NodeState}
 use Rattle.world_model.specs.Replies.{reply_at, is_taken, after_check, start_checked, start_reply, value_reply, publish_reply, response_reply, commits}
@@ -218,15 +218,15 @@ module _ (s : Settings) where
 
 -- ---- what an act sends that is taken
 
-unless-halted : (b : Bool) (r : Reply) (ns : List Message) → (is_taken r ≡ true → sent_by (Answered r) ≡ ns) → is_taken (cond b Stopped r) ≡ true → sent_by (Answered (cond b Stopped r)) ≡ ns
+unless-halted : (b : Bool) (r : ActReply) (ns : List Message) → (is_taken r ≡ true → sent_by (Answered r) ≡ ns) → is_taken (cond b Stopped r) ≡ true → sent_by (Answered (cond b Stopped r)) ≡ ns
 unless-halted true r ns f e = absurd (cc)
 unless-halted false r ns f e = f e
 
-unless-refused : (b : Bool) (c : Cause) (r : Reply) (ns : List Message) → (is_taken r ≡ true → sent_by (Answered r) ≡ ns) → is_taken (cond b (Refused c) r) ≡ true → sent_by (Answered (cond b (Refused c) r)) ≡ ns
+unless-refused : (b : Bool) (c : Cause) (r : ActReply) (ns : List Message) → (is_taken r ≡ true → sent_by (Answered r) ≡ ns) → is_taken (cond b (Refused c) r) ≡ true → sent_by (Answered (cond b (Refused c) r)) ≡ ns
 unless-refused true c r ns f e = absurd (cc)
 unless-refused false c r ns f e = f e
 
-unless-checked : {C : Type 0} (cause_of : C → Cause) (k : Result (Unit {0}) C) (r : Reply) (ns : List Message) → (is_taken r ≡ true → sent_by (Answered r) ≡ ns) → is_taken (after_check cause_of k r) ≡ true → sent_by (Answered (after_check cause_of k r)) ≡ ns
+unless-checked : {C : Type 0} (cause_of : C → Cause) (k : Result (Unit {0}) C) (r : ActReply) (ns : List Message) → (is_taken r ≡ true → sent_by (Answered r) ≡ ns) → is_taken (after_check cause_of k r) ≡ true → sent_by (Answered (after_check cause_of k r)) ≡ ns
 unless-checked cause_of (Ok u) r ns f e = f e
 unless-checked cause_of (Err c) r ns f e = absurd (cc)
 
@@ -242,12 +242,12 @@ value-sends : (me : Id) (p : NodeState) (version : ℕ) (config : List Id) (valu
     → sent_by (Answered (reply_at me p (Value version config value))) ≡ PublishMessage (record { source = me; state = record { term = p.term; version = version; config = config; committed = p.committed; value = value } }) ∷ []
 value-sends me p version config value e =
     let m : Message = PublishMessage (record { source = me; state = record { term = p.term; version = version; config = config; committed = p.committed; value = value } }) in
-    let f : Reply = Taken (Some m) false in
-    let r5 : Reply = cond (not (is_quorum_of config p.join_votes)) (Refused (ValueRefused value_cause.NoJoinQuorum)) f in
-    let r4 : Reply = cond (not (same_config config p.accepted.config) && not (same_config p.committed p.accepted.config)) (Refused (ValueRefused value_cause.Reconfiguring)) r5 in
-    let r3 : Reply = cond (nat_lt last_number version) (Refused (ValueRefused (value_cause.VersionTooLarge version))) r4 in
-    let r2 : Reply = cond (nat_le version p.published_version) (Refused (ValueRefused (value_cause.VersionNotGreater p.published_version version))) r3 in
-    let r1 : Reply = cond (not (nat_eq p.published_version p.accepted.version)) (Refused (ValueRefused (value_cause.NotAccepted p.published_version p.accepted.version))) r2 in
+    let f : ActReply = Taken (Some m) false in
+    let r5 : ActReply = cond (not (is_quorum_of config p.join_votes)) (Refused (ValueRefused value_cause.NoJoinQuorum)) f in
+    let r4 : ActReply = cond (not (same_config config p.accepted.config) && not (same_config p.committed p.accepted.config)) (Refused (ValueRefused value_cause.Reconfiguring)) r5 in
+    let r3 : ActReply = cond (nat_lt last_number version) (Refused (ValueRefused (value_cause.VersionTooLarge version))) r4 in
+    let r2 : ActReply = cond (nat_le version p.published_version) (Refused (ValueRefused (value_cause.VersionNotGreater p.published_version version))) r3 in
+    let r1 : ActReply = cond (not (nat_eq p.published_version p.accepted.version)) (Refused (ValueRefused (value_cause.NotAccepted p.published_version p.accepted.version))) r2 in
     unless-halted p.halted (value_reply me p version config value) (m ∷ [])
     (unless-refused (not p.election_won) (ValueRefused value_cause.NotWon) r1 (m ∷ [])
     (unless-refused (not (nat_eq p.published_version p.accepted.version)) (ValueRefused (value_cause.NotAccepted p.published_version p.accepted.version)) r2 (m ∷ [])
@@ -260,19 +260,19 @@ publish-sends : (me : Id) (p : NodeState) (source : Id) (state : ClusterState) �
     → sent_by (Answered (reply_at me p (Publish (record { source = source; state = state })))) ≡ ResponseMessage (record { source = me; target = source; term = state.term; version = state.version }) ∷ []
 publish-sends me p source state e =
     let m : Message = ResponseMessage (record { source = me; target = source; term = state.term; version = state.version }) in
-    let f : Reply = Taken (Some m) false in
-    let r1 : Reply = cond (nat_eq state.term p.accepted.term && nat_le state.version p.accepted.version) (Refused (PublishRefused (publish_cause.VersionNotGreater p.accepted.version state.version))) f in
+    let f : ActReply = Taken (Some m) false in
+    let r1 : ActReply = cond (nat_eq state.term p.accepted.term && nat_le state.version p.accepted.version) (Refused (PublishRefused (publish_cause.VersionNotGreater p.accepted.version state.version))) f in
     unless-halted p.halted (publish_reply me p (record { source = source; state = state })) (m ∷ [])
     (unless-refused (not (nat_eq p.term state.term)) (PublishRefused (publish_cause.TermMismatch p.term state.term)) r1 (m ∷ [])
     (unless-refused (nat_eq state.term p.accepted.term && nat_le state.version p.accepted.version) (PublishRefused (publish_cause.VersionNotGreater p.accepted.version state.version)) f (m ∷ []) (λ h. refl))) e
 
 -- a response that commits
 
-commits-halted : (b : Bool) (r : Reply) (ns : List Message) → (publications.commits_now r ≡ true → sent_by (Answered r) ≡ ns) → publications.commits_now (cond b Stopped r) ≡ true → sent_by (Answered (cond b Stopped r)) ≡ ns
+commits-halted : (b : Bool) (r : ActReply) (ns : List Message) → (publications.commits_now r ≡ true → sent_by (Answered r) ≡ ns) → publications.commits_now (cond b Stopped r) ≡ true → sent_by (Answered (cond b Stopped r)) ≡ ns
 commits-halted true r ns f e = absurd (cc)
 commits-halted false r ns f e = f e
 
-commits-refused : (b : Bool) (c : Cause) (r : Reply) (ns : List Message) → (publications.commits_now r ≡ true → sent_by (Answered r) ≡ ns) → publications.commits_now (cond b (Refused c) r) ≡ true → sent_by (Answered (cond b (Refused c) r)) ≡ ns
+commits-refused : (b : Bool) (c : Cause) (r : ActReply) (ns : List Message) → (publications.commits_now r ≡ true → sent_by (Answered r) ≡ ns) → publications.commits_now (cond b (Refused c) r) ≡ true → sent_by (Answered (cond b (Refused c) r)) ≡ ns
 commits-refused true c r ns f e = absurd (cc)
 commits-refused false c r ns f e = f e
 
@@ -284,10 +284,10 @@ response-sends : (me : Id) (p : NodeState) (source : Id) (id : StateId) → publ
     → sent_by (Answered (reply_at me p (Response (record { source = source; target = me; term = id.term; version = id.version })))) ≡ CommitMessage (record { source = me; term = id.term; version = id.version }) ∷ []
 response-sends me p source id e =
     let m : Message = CommitMessage (record { source = me; term = id.term; version = id.version }) in
-    let f : Reply = Taken (cond (commits p (with_id source p.publish_votes)) (Some m) None) false in
-    let r3 : Reply = cond (not (nat_eq p.published_version id.version)) (Refused (ResponseRefused (response_cause.VersionMismatch p.published_version id.version))) f in
-    let r2 : Reply = cond (not (nat_eq p.term id.term)) (Refused (ResponseRefused (response_cause.TermMismatch p.term id.term))) r3 in
-    let r1 : Reply = cond (not p.election_won) (Refused (ResponseRefused response_cause.NotWon)) r2 in
+    let f : ActReply = Taken (cond (commits p (with_id source p.publish_votes)) (Some m) None) false in
+    let r3 : ActReply = cond (not (nat_eq p.published_version id.version)) (Refused (ResponseRefused (response_cause.VersionMismatch p.published_version id.version))) f in
+    let r2 : ActReply = cond (not (nat_eq p.term id.term)) (Refused (ResponseRefused (response_cause.TermMismatch p.term id.term))) r3 in
+    let r1 : ActReply = cond (not p.election_won) (Refused (ResponseRefused response_cause.NotWon)) r2 in
     commits-halted p.halted (response_reply me p (record { source = source; target = me; term = id.term; version = id.version })) (m ∷ [])
     (commits-refused (not (same me me)) (ResponseRefused (response_cause.NotForMe me)) r1 (m ∷ [])
     (commits-refused (not p.election_won) (ResponseRefused response_cause.NotWon) r2 (m ∷ [])

@@ -10,8 +10,8 @@ use Rattle.cluster_state.specs.Fields.{ids}
 use Rattle.cluster_state.specs.States.{state as state_field, value as value_field}
 use Rattle.cluster_state.specs.Initial.{initial_state}
 use Rattle.wire_frames.specs.declared.frame.Frame.{Frame}
-use Rattle.wire_frames.specs.declared.frame.Message.{Message as FrameMessage}
-use Rattle.wire_frames.specs.declared.frame.Message.TheVariants as message
+use Rattle.wire_frames.specs.declared.frame.WireMessage.{WireMessage as FrameMessage}
+use Rattle.wire_frames.specs.declared.frame.WireMessage.TheVariants as message
 use Rattle.master_tasks.specs.declared.waiting.Waiting.{Waiting}
 use Rattle.master_tasks.specs.declared.waiting.Outgoing.{Outgoing}
 use Rattle.master_tasks.specs.Queue.{Tasks, no_tasks, with_room}

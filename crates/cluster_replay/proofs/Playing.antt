@@ -6,8 +6,8 @@ use Rattle.voting_config.specs.Ids.{Id, same}
 use Rattle.world_model.specs.declared.acts.Act.{Act}
 use Rattle.world_model.specs.declared.acts.Act.TheVariants.{Bootstrap, Value, Publish, Open}
 use Rattle.world_model.specs.declared.acts.Message.{Message}
-use Rattle.world_model.specs.declared.acts.Reply.{Reply}
-use Rattle.world_model.specs.declared.acts.Reply.TheVariants.{Taken, Refused, Stopped}
+use Rattle.world_model.specs.declared.acts.ActReply.{ActReply}
+use Rattle.world_model.specs.declared.acts.ActReply.TheVariants.{Taken, Refused, Stopped}
 use Rattle.world_model.specs.declared.acts.Outcome.{Outcome}
 use Rattle.world_model.specs.declared.acts.Outcome.TheVariants.{Answered, Disk, Crashed}
 use Rattle.world_model.specs.Acts.{NodeHistory, Then, is_opening}
@@ -133,7 +133,7 @@ in_front s before w l i is c sent_is others covers p = from p.ends
           );
         }
 
-taken_struck : (act : Act) (r : Reply) (rest : List Item) (fault : Outcome) → is_taken r ≡ true → writes act ≡ true → is_fault fault ≡ true → IsStruck (Acts act (Answered r) ∷ rest) (Acts act fault ∷ [])
+taken_struck : (act : Act) (r : ActReply) (rest : List Item) (fault : Outcome) → is_taken r ≡ true → writes act ≡ true → is_fault fault ≡ true → IsStruck (Acts act (Answered r) ∷ rest) (Acts act fault ∷ [])
 taken_struck act (Taken sends wins) rest fault t w f = Here act sends wins rest fault w f
 taken_struck act (Refused cause) rest fault t w f = absurd (cc)
 taken_struck act Stopped rest fault t w f = absurd (cc)
@@ -147,7 +147,7 @@ module _ (s : Settings) (w : World) (act : Act) (sound : SoundWorld s.initial w)
   abbrev g : NodeHistory
   g = node_history w.history s.me
 
-  abbrev reply : Reply
+  abbrev reply : ActReply
   reply = reply_of s.me (node_history w.history s.me) act
 
   abbrev end_is : CallsEnd
@@ -200,10 +200,10 @@ module _ (s : Settings) (w : World) (act : Act) (sound : SoundWorld s.initial w)
   }
 
   -- all of it is done, or it is struck
-  act_played : (ms : List Message) (l : Log) (rest : List Item) (r : Reply) → r ≡ reply → ms ≡ sent w.history → acts_of l ≡ g
+  act_played : (ms : List Message) (l : Log) (rest : List Item) (r : ActReply) → r ≡ reply → ms ≡ sent w.history → acts_of l ≡ g
       → ((u : World) → ms ++ sent_by (Answered r) ≡ sent u.history → SoundWorld s.initial u → Then (acts_of l) act (Answered r) ≡ node_history u.history s.me → needs_opening (node_world u s.me) ≡ false → Played s u (And l (Acts act (Answered r))) rest (played s.me u rest))
       → Played s w l (Acts act (Answered r) ∷ rest) (played s.me w (Acts act (Answered r) ∷ rest))
-  act_played ms l rest r same_reply same_sent acts more = subst (λ (x : Reply). Played s w l (Acts act (Answered x) ∷ rest) (played s.me w (Acts act (Answered x) ∷ rest))) (sym same_reply) (by_end end_is refl)
+  act_played ms l rest r same_reply same_sent acts more = subst (λ (x : ActReply). Played s w l (Acts act (Answered x) ∷ rest) (played s.me w (Acts act (Answered x) ∷ rest))) (sym same_reply) (by_end end_is refl)
     where
       struck_outcome : (end : CallsEnd) → end_is ≡ end → IsOutcome s.me g act (outcome_by end reply)
       struck_outcome end e = subst (λ (x : CallsEnd). IsOutcome s.me g act (outcome_by x reply)) e outcome_may
@@ -213,13 +213,13 @@ module _ (s : Settings) (w : World) (act : Act) (sound : SoundWorld s.initial w)
           let u : World = did w s.me act in
           let there : Played s u (And l (Acts act (Answered r))) rest (played s.me u rest) =
           more u
-          (ap (λ (x : Reply). ms ++ sent_by (Answered x)) same_reply ∙ ap (λ (xs : List Message). xs ++ sent_by (Answered reply)) same_sent ∙ sym (sent_by_end Done e))
+          (ap (λ (x : ActReply). ms ++ sent_by (Answered x)) same_reply ∙ ap (λ (xs : List Message). xs ++ sent_by (Answered reply)) same_sent ∙ sym (sent_by_end Done e))
           did_sound
-          (ap (λ (x : NodeHistory). Then x act (Answered r)) acts ∙ ap (λ (x : Reply). Then g act (Answered x)) same_reply ∙ sym (history_by Done e))
+          (ap (λ (x : NodeHistory). Then x act (Answered r)) acts ∙ ap (λ (x : ActReply). Then g act (Answered x)) same_reply ∙ sym (history_by Done e))
           (needs_by Done e ∙ halted_then g act reply o ∙ going)
           in
           in_front s w u l (Acts act (Answered reply)) rest (played s.me u rest) (ap (λ (xs : List Message). sent_after xs rest) (sent_by_end Done e)) did_moves.others did_covers
-          (subst (λ (x : Reply). Played s u (And l (Acts act (Answered x))) rest (played s.me u rest)) same_reply there)
+          (subst (λ (x : ActReply). Played s u (And l (Acts act (Answered x))) rest (played s.me u rest)) same_reply there)
       by_end Failed e = struck_act l rest Failed (Disk false) e refl refl (struck_outcome Failed e) (halted_disk g act false o) acts
       by_end (CrashedIn way) e = struck_act l rest (CrashedIn way) (Crashed false) e refl refl (struck_outcome (CrashedIn way) e) refl acts
 

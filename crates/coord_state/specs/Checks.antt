@@ -5,8 +5,8 @@ use Rattle.cluster_state.specs.declared.state.Kept.{Kept}
 use Rattle.cluster_state.specs.declared.causes.PublishCause.{PublishCause}
 use Rattle.cluster_state.specs.declared.causes.PublishCause.TheVariants.{TermMismatch, VersionNotGreater}
 use Rattle.world_model.specs.declared.acts.Cause.TheVariants.{Publish as PublishRefused}
-use Rattle.world_model.specs.declared.acts.Reply.{Reply}
-use Rattle.world_model.specs.declared.acts.Reply.TheVariants.{Refused, Stopped}
+use Rattle.world_model.specs.declared.acts.ActReply.{ActReply}
+use Rattle.world_model.specs.declared.acts.ActReply.TheVariants.{Refused, Stopped}
 use Rattle.world_model.specs.Replies.{is_taken}
 use Rattle.coord_state.specs.declared.coord.ActError.{ActError}
 use Rattle.coord_state.specs.declared.coord.ActError.TheVariants as error
@@ -19,7 +19,7 @@ publish_checked kept s =
     (Ok tt))
 
 -- the answer says whether a publication is taken, and how it is refused
-abbrev pub Foretells : Result (Unit {0}) (ActError PublishCause (Unit {0})) → Reply → Type 0
+abbrev pub Foretells : Result (Unit {0}) (ActError PublishCause (Unit {0})) → ActReply → Type 0
 Foretells (Ok u) reply = is_taken reply ≡ true
 Foretells (Err (error.Stopped u)) reply = reply ≡ Stopped
 Foretells (Err (error.Refused cause u)) reply = reply ≡ Refused (PublishRefused cause)

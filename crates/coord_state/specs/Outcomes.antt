@@ -11,8 +11,8 @@ use Rattle.cluster_state.specs.declared.causes.CommitCause.{CommitCause}
 use Rattle.cluster_state.specs.declared.causes.InitialCause.{InitialCause}
 use Rattle.cluster_state.specs.declared.causes.StartCause.{StartCause}
 use Rattle.cluster_state.specs.declared.causes.JoinCause.{JoinCause}
-use Rattle.world_model.specs.declared.acts.Reply.{Reply}
-use Rattle.world_model.specs.declared.acts.Reply.TheVariants.{Taken, Refused, Stopped}
+use Rattle.world_model.specs.declared.acts.ActReply.{ActReply}
+use Rattle.world_model.specs.declared.acts.ActReply.TheVariants.{Taken, Refused, Stopped}
 use Rattle.world_model.specs.declared.acts.Outcome.{Outcome}
 use Rattle.world_model.specs.declared.acts.Outcome.TheVariants.{Answered, Disk, Crashed}
 use Rattle.world_model.specs.declared.acts.Cause.{Cause}
@@ -36,28 +36,28 @@ ending untaken.Stopped = Answered Stopped
 ending (untaken.Refused cause) = Answered (Refused cause)
 ending untaken.Disk = Disk false
 
-abbrev pub outcome : {A C T : Type 0} → (A → Reply) → (C → Cause) → Result A (ActError C T) → Outcome
+abbrev pub outcome : {A C T : Type 0} → (A → ActReply) → (C → Cause) → Result A (ActError C T) → Outcome
 outcome reply_of cause_of (Ok taken) = Answered (reply_of taken)
 outcome reply_of cause_of (Err e) = ending (not_taken cause_of e)
 
 -- ---- the replies that take each act
 
-abbrev pub plain : Unit {0} → Reply
+abbrev pub plain : Unit {0} → ActReply
 plain u = Taken None false
 
-abbrev pub sends_join : Join → Reply
+abbrev pub sends_join : Join → ActReply
 sends_join join = Taken (Some (JoinMessage join)) false
 
-abbrev pub counted : Joined → Reply
+abbrev pub counted : Joined → ActReply
 counted joined = Taken None joined.won
 
-abbrev pub sends_request : PublishRequest → Reply
+abbrev pub sends_request : PublishRequest → ActReply
 sends_request request = Taken (Some (PublishMessage request)) false
 
-abbrev pub sends_response : PublishResponse → Reply
+abbrev pub sends_response : PublishResponse → ActReply
 sends_response response = Taken (Some (ResponseMessage response)) false
 
-abbrev pub sends_commit : Option ApplyCommit → Reply
+abbrev pub sends_commit : Option ApplyCommit → ActReply
 sends_commit None = Taken None false
 sends_commit (Some commit) = Taken (Some (CommitMessage commit)) false
 

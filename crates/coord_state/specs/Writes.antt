@@ -8,7 +8,7 @@ use Rattle.state_journal.specs.declared.change.Change.TheVariants.{Term, Accepte
 use Rattle.state_journal.specs.declared.keeper.Keeper.{Ghosts}
 use Rattle.world_model.specs.declared.acts.Act.{Act}
 use Rattle.world_model.specs.declared.acts.Act.TheVariants.{Bootstrap, StartJoin, TakeJoin, Value, Publish, Response, Commit, Open}
-use Rattle.world_model.specs.declared.acts.Reply.TheVariants.{Taken, Refused, Stopped}
+use Rattle.world_model.specs.declared.acts.ActReply.TheVariants.{Taken, Refused, Stopped}
 use Rattle.world_model.specs.declared.acts.Outcome.{Outcome}
 use Rattle.world_model.specs.declared.acts.Outcome.TheVariants.{Answered, Disk, Crashed}
 use Rattle.world_model.specs.Acts.{NodeHistory, Then, is_ok, is_effective}

@@ -1,6 +1,6 @@
 //! How an act ended: with what it answers where it is taken, or not taken and why.
 ghost use Rattle.std.specs.Prelude.{◌≡◌};
-ghost use Rattle.world_model.specs.declared.acts.Reply.{Reply as ActReply};
+ghost use Rattle.world_model.specs.declared.acts.ActReply.{ActReply};
 ghost use Rattle.world_model.specs.declared.acts.Cause.{Cause as AnyCause};
 ghost use Rattle.world_model.specs.declared.acts.Cause.TheVariants as cause;
 ghost use Rattle.coord_state.specs.Outcomes.{IsTold, ending, not_taken, outcome, plain, sends_join, counted, sends_request, sends_response, sends_commit};
@@ -10,7 +10,7 @@ use cluster_state::{
     ApplyCommit, CommitCause, InitialCause, Join, JoinCause, PublishCause, PublishRequest,
     PublishResponse, ResponseCause, StartCause, ValueCause,
 };
-use world_model::{Cause, Message, Outcome, Reply};
+use world_model::{ActReply, Cause, Message, Outcome};
 
 /// How an act ended that was not taken.
 #[derive(Clone, Copy, Debug, PartialEq, Eq)]
@@ -107,57 +107,57 @@ pub trait ActAnswer {
     ghost reply_of: { Self → ActReply };
 
     /// The reply that it is.
-    fn into_reply(self) -> Reply
+    fn into_reply(self) -> ActReply
         ensures { result ≡ reply_of self };
 }
 
 impl ActAnswer for () {
     ghost reply_of = { plain };
 
-    fn into_reply(self) -> Reply {
-        Reply::Taken(None, false)
+    fn into_reply(self) -> ActReply {
+        ActReply::Taken(None, false)
     }
 }
 
 impl ActAnswer for Join {
     ghost reply_of = { sends_join };
 
-    fn into_reply(self) -> Reply {
-        Reply::Taken(Some(Message::Join(self)), false)
+    fn into_reply(self) -> ActReply {
+        ActReply::Taken(Some(Message::Join(self)), false)
     }
 }
 
 impl ActAnswer for Joined {
     ghost reply_of = { counted };
 
-    fn into_reply(self) -> Reply {
-        Reply::Taken(None, self.won)
+    fn into_reply(self) -> ActReply {
+        ActReply::Taken(None, self.won)
     }
 }
 
 impl ActAnswer for PublishRequest {
     ghost reply_of = { sends_request };
 
-    fn into_reply(self) -> Reply {
-        Reply::Taken(Some(Message::Publish(self)), false)
+    fn into_reply(self) -> ActReply {
+        ActReply::Taken(Some(Message::Publish(self)), false)
     }
 }
 
 impl ActAnswer for PublishResponse {
     ghost reply_of = { sends_response };
 
-    fn into_reply(self) -> Reply {
-        Reply::Taken(Some(Message::Response(self)), false)
+    fn into_reply(self) -> ActReply {
+        ActReply::Taken(Some(Message::Response(self)), false)
     }
 }
 
 impl ActAnswer for Option<ApplyCommit> {
     ghost reply_of = { sends_commit };
 
-    fn into_reply(self) -> Reply {
+    fn into_reply(self) -> ActReply {
         match self {
-            None => Reply::Taken(None, false),
-            Some(commit) => Reply::Taken(Some(Message::Commit(commit)), false),
+            None => ActReply::Taken(None, false),
+            Some(commit) => ActReply::Taken(Some(Message::Commit(commit)), false),
         }
     }
 }
@@ -180,8 +180,8 @@ impl NotTaken {
         ensures told { IsTold result }
     {
         match self {
-            NotTaken::Stopped => Outcome::Answered(Reply::Stopped),
-            NotTaken::Refused(cause) => Outcome::Answered(Reply::Refused(cause)),
+            NotTaken::Stopped => Outcome::Answered(ActReply::Stopped),
+            NotTaken::Refused(cause) => Outcome::Answered(ActReply::Refused(cause)),
             NotTaken::Disk => Outcome::Disk(false),
         }
     }

@@ -7,7 +7,7 @@ use Rattle.cluster_state.specs.States.{id_of}
 use Rattle.voting_config.specs.Ids.{Id}
 use Rattle.master_tasks.specs.declared.waiting.Outgoing.{Outgoing}
 use Rattle.master_tasks.specs.Answering.{answers_by, failed}
-use Rattle.wire_frames.specs.declared.frame.Message.TheVariants as message
+use Rattle.wire_frames.specs.declared.frame.WireMessage.TheVariants as message
 use Rattle.world_model.specs.declared.acts.Act.TheVariants.{StartJoin}
 use Rattle.policy_model.specs.declared.settings.Settings.{Settings}
 use Rattle.policy_model.specs.Events.{Item, Turns}

@@ -5,7 +5,7 @@ use Rattle.std.proofs.lemmas.List.{append_assoc}
 use Rattle.state_journal.specs.declared.keeper.Keeper.{Ghosts}
 use Rattle.cluster_state.specs.declared.state.StateId.{StateId}
 use Rattle.voting_config.specs.Ids.{Id, among, has_room}
-use Rattle.wire_frames.specs.declared.frame.Message.TheVariants as message
+use Rattle.wire_frames.specs.declared.frame.WireMessage.TheVariants as message
 use Rattle.master_tasks.specs.Queue.{Tasks}
 use Rattle.master_tasks.specs.Answering.{answers_by, committed_in, without_answered}
 use Rattle.policy_model.specs.declared.settings.Settings.{Settings}

@@ -5,7 +5,7 @@ use Rattle.state_journal.specs.declared.keeper.Keeper.{Ghosts}
 use Rattle.voting_config.specs.Ids.{Id}
 use Rattle.election_clock.specs.Delays.{is_due}
 use Rattle.peer_finder.specs.Peers.{PeerFinder, known_set}
-use Rattle.wire_frames.specs.declared.frame.Message.TheVariants as message
+use Rattle.wire_frames.specs.declared.frame.WireMessage.TheVariants as message
 use Rattle.policy_model.specs.Events.{Item, Notes, PeersAsked}
 use Rattle.policy_model.specs.Parts.{peers_asked}
 use Rattle.policy_model.specs.Views.{View}

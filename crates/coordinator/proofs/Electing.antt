@@ -6,7 +6,7 @@ use Rattle.state_journal.specs.declared.keeper.Keeper.{Ghosts}
 use Rattle.state_journal.specs.declared.ready.Ready.{Ready}
 use Rattle.voting_config.specs.Ids.{Id, with_id, without_id}
 use Rattle.peer_finder.specs.Peers.{known_set}
-use Rattle.wire_frames.specs.declared.frame.Message.TheVariants as message
+use Rattle.wire_frames.specs.declared.frame.WireMessage.TheVariants as message
 use Rattle.world_model.specs.Replies.{elects}
 use Rattle.world_model.specs.declared.acts.Act.TheVariants.{Bootstrap}
 use Rattle.policy_model.specs.declared.settings.Settings.{Settings}

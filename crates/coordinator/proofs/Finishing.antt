@@ -9,8 +9,8 @@ use Rattle.cluster_state.specs.States.{id_of}
 use Rattle.voting_config.specs.Ids.{Id}
 use Rattle.world_model.specs.declared.acts.Act.{Act}
 use Rattle.world_model.specs.declared.acts.Act.TheVariants.{Commit}
-use Rattle.world_model.specs.declared.acts.Reply.{Reply}
-use Rattle.world_model.specs.declared.acts.Reply.TheVariants.{Taken, Refused, Stopped}
+use Rattle.world_model.specs.declared.acts.ActReply.{ActReply}
+use Rattle.world_model.specs.declared.acts.ActReply.TheVariants.{Taken, Refused, Stopped}
 use Rattle.world_model.specs.declared.acts.Outcome.TheVariants.{Answered}
 use Rattle.world_model.specs.NodeState.{NodeState}
 use Rattle.world_model.specs.Replies.{is_taken}
@@ -38,7 +38,7 @@ use Rattle.coordinator.proofs.Quiet.{moved_all-replies, makes_replies, makes_not
 use Rattle.coordinator.proofs.Foreseen.{has_planned}
 use Rattle.coordinator.proofs.Counted.{planned_there}
 
-committed_after : (n : NodeState) (c : ApplyCommit) (r : Reply) → is_taken r ≡ true → (node_state_after n (Commit c) (Answered r)).committed ≡ n.accepted.config
+committed_after : (n : NodeState) (c : ApplyCommit) (r : ActReply) → is_taken r ≡ true → (node_state_after n (Commit c) (Answered r)).committed ≡ n.accepted.config
 committed_after n c (Taken sends wins) h = refl
 committed_after n c (Refused cause) h = cc
 committed_after n c Stopped h = cc

@@ -11,7 +11,7 @@ use Rattle.master_tasks.specs.declared.waiting.Outgoing.{Outgoing}
 use Rattle.master_tasks.specs.Queue.{Tasks}
 use Rattle.master_tasks.specs.NextState.{Leader as Master, next_answers, is_nothing_new}
 use Rattle.wire_frames.specs.declared.frame.Frame.{Frame}
-use Rattle.wire_frames.specs.declared.frame.Message.TheVariants as message
+use Rattle.wire_frames.specs.declared.frame.WireMessage.TheVariants as message
 use Rattle.world_model.specs.declared.acts.Act.{Act}
 use Rattle.world_model.specs.declared.acts.Act.TheVariants.{Value}
 use Rattle.policy_model.specs.declared.settings.Settings.{Settings}

@@ -8,8 +8,8 @@ use Rattle.cluster_state.specs.declared.state.ClusterValue.{ClusterValue}
 use Rattle.world_model.specs.declared.acts.Act.{Act}
 use Rattle.world_model.specs.declared.acts.Act.TheVariants.{Value}
 use Rattle.world_model.specs.declared.acts.Message.{Message}
-use Rattle.world_model.specs.declared.acts.Reply.{Reply}
-use Rattle.world_model.specs.declared.acts.Reply.TheVariants.{Taken, Refused, Stopped}
+use Rattle.world_model.specs.declared.acts.ActReply.{ActReply}
+use Rattle.world_model.specs.declared.acts.ActReply.TheVariants.{Taken, Refused, Stopped}
 use Rattle.world_model.specs.declared.acts.Outcome.{Outcome}
 use Rattle.world_model.specs.declared.acts.Outcome.TheVariants.{Answered, Disk, Crashed}
 use Rattle.world_model.specs.Acts.{is_ok as was_taken, wins}
@@ -35,22 +35,22 @@ use Rattle.coordinator.specs.declared.coordinator.Coordinator.{Coordinator}
 use Rattle.coordinator.specs.declared.coordinator.Struck.{Struck}
 
 -- a reply that takes the act
-pub taken_is : (r : Reply) → is_taken r ≡ true → (sends : Option Message) × ((win : Bool) × (r ≡ Taken sends win))
+pub taken_is : (r : ActReply) → is_taken r ≡ true → (sends : Option Message) × ((win : Bool) × (r ≡ Taken sends win))
 taken_is (Taken sends win) h = (sends, (win, refl))
 taken_is (Refused cause) h = cc
 taken_is Stopped h = cc
 
-taken_so : (r : Reply) → was_taken (Answered r) ≡ is_taken r
+taken_so : (r : ActReply) → was_taken (Answered r) ≡ is_taken r
 taken_so (Taken sends b) = refl
 taken_so (Refused cause) = refl
 taken_so Stopped = refl
 
-wins_so : (r : Reply) → wins (Answered r) ≡ wins_now r
+wins_so : (r : ActReply) → wins (Answered r) ≡ wins_now r
 wins_so (Taken sends b) = refl
 wins_so (Refused cause) = refl
 wins_so Stopped = refl
 
-sends_so : (r : Reply) → sends_one (Answered r) ≡ commits_now r
+sends_so : (r : ActReply) → sends_one (Answered r) ≡ commits_now r
 sends_so (Taken sends b) = refl
 sends_so (Refused cause) = refl
 sends_so Stopped = refl
@@ -68,14 +68,14 @@ module _ {K : Type 0} (k : Ghosts K) where
   goes_by old new act o did settings moment_is is = record { settings = settings; clock = moment_is; view = is; core = (new.core, did, refl) }
 
   -- the reply is the one of the rules
-  pub reply_is : (old : Coordinator K) (core : CoordState K) (act : Act) (reply : Reply) → IsReady old → Act1 old.core core act (Answered reply) → reply ≡ reply_now old.settings (view old) act
+  pub reply_is : (old : Coordinator K) (core : CoordState K) (act : Act) (reply : ActReply) → IsReady old → Act1 old.core core act (Answered reply) → reply ≡ reply_now old.settings (view old) act
   reply_is old core act reply ready did = did.acts.at.answers ∙ ap (λ (me : List ℕ). reply_at me (view old).node act) ready.me
 
-  pub makes_by : (old new : Coordinator K) (act : Act) (reply : Reply) (sent sent_now : Shown) → IsReady old → Act1 old.core new.core act (Answered reply)
+  pub makes_by : (old new : Coordinator K) (act : Act) (reply : ActReply) (sent sent_now : Shown) → IsReady old → Act1 old.core new.core act (Answered reply)
       → new.settings ≡ old.settings → new.moment ≡ old.moment → view new ≡ acted old.settings (view old) act (Answered reply) → sent_now ≡ showing sent (Acts act (Answered reply))
       → Makes k old new sent sent_now (act_now old.settings (view old) act ∷ [])
   makes_by old new act reply sent sent_now ready did settings moment_is is shown =
-      subst (λ (r : Reply). Makes k old new sent sent_now (Acts act (Answered r) ∷ []))
+      subst (λ (r : ActReply). Makes k old new sent sent_now (Acts act (Answered r) ∷ []))
       (reply_is old new.core act reply ready did)
       (record { goes = goes_by old new act (Answered reply) did settings moment_is is; shown = shown })
 
@@ -102,7 +102,7 @@ module _ {K : Type 0} (k : Ghosts K) where
 
   -- the reply to an act that writes nothing is an answer
   pub answered : (old : Coordinator K) (core : CoordState K) (act : Act) (o : Outcome) → IsReady old → writes act ≡ false → Act1 old.core core act o → o ≡ Answered (reply_now old.settings (view old) act)
-  answered old core act (Answered reply) ready none did = ap (λ (r : Reply). Answered r) (reply_is old core act reply ready did)
+  answered old core act (Answered reply) ready none did = ap (λ (r : ActReply). Answered r) (reply_is old core act reply ready did)
   answered old core act (Disk b) ready none did = absurd (true≢false (sym did.acts.at.answers.1 ∙ none))
   answered old core act (Crashed b) ready none did = absurd (true≢false (sym did.acts.at.answers.1 ∙ none))
 
@@ -124,7 +124,7 @@ module _ {K : Type 0} (k : Ghosts K) where
       (subst (λ (x : Outcome). view new ≡ acted old.settings (view old) act x) (sym same) is) shown)
 
   taken_told : (old : Coordinator K) (core : CoordState K) (act : Act) (o : Outcome) → IsReady old → Act1 old.core core act o → IfOk (verdict o) (λ (taken : Bool). taken ≡ takes old.settings (view old) act)
-  taken_told old core act (Answered reply) ready did = ap (λ (r : Reply). is_taken r) (reply_is old core act reply ready did)
+  taken_told old core act (Answered reply) ready did = ap (λ (r : ActReply). is_taken r) (reply_is old core act reply ready did)
   taken_told old core act (Disk b) ready did = tt
   taken_told old core act (Crashed b) ready did = tt
 

@@ -6,7 +6,7 @@ use Rattle.voting_config.specs.Ids.{Id}
 use Rattle.coord_state.specs.declared.coord.CoordState.{CoordState}
 use Rattle.master_tasks.specs.declared.waiting.Outgoing.{Outgoing}
 use Rattle.wire_frames.specs.declared.frame.Frame.{Frame}
-use Rattle.wire_frames.specs.declared.frame.Message.{Message}
+use Rattle.wire_frames.specs.declared.frame.WireMessage.{WireMessage}
 use Rattle.policy_model.specs.declared.settings.Settings.{Settings}
 use Rattle.policy_model.specs.declared.events.Mode.{Mode}
 use Rattle.policy_model.specs.Events.{Note, Item, Replies, Notes, Turns}
@@ -24,7 +24,7 @@ pub moved_all-replies : (s : Settings) (v : View) (answers : List Outgoing) → 
 moved_all-replies s v [] = refl
 moved_all-replies s v (a ∷ rest) = moved_all-replies s v rest
 
-pub moved_all-sends : (s : Settings) (v : View) (ids : List Id) (m : Message) → moved_all s v (send_all s ids m) ≡ v
+pub moved_all-sends : (s : Settings) (v : View) (ids : List Id) (m : WireMessage) → moved_all s v (send_all s ids m) ≡ v
 moved_all-sends s v [] m = refl
 moved_all-sends s v (id ∷ ids) m = moved_all-sends s v ids m
 
@@ -32,7 +32,7 @@ showing-replies : (s : Settings) (o : Shown) (answers : List Outgoing) → recor
 showing-replies s o [] = ap (λ (l : List Outgoing). record o { replies = l }) (append-nil o.replies)
 showing-replies s o (a ∷ rest) = ap (λ (l : List Outgoing). record o { replies = l }) (sym (append_assoc o.replies (a ∷ []) rest)) ∙ showing-replies s (showing o (Replies a)) rest
 
-showing-sends : (s : Settings) (o : Shown) (ids : List Id) (m : Message) → record o { frames = o.frames ++ map (λ (to : Id). frame_to s.me m to) ids } ≡ showing_all o (send_all s ids m)
+showing-sends : (s : Settings) (o : Shown) (ids : List Id) (m : WireMessage) → record o { frames = o.frames ++ map (λ (to : Id). frame_to s.me m to) ids } ≡ showing_all o (send_all s ids m)
 showing-sends s o [] m = ap (λ (l : List Frame). record o { frames = l }) (append-nil o.frames)
 showing-sends s o (id ∷ ids) m =
     ap (λ (l : List Frame). record o { frames = l }) (sym (append_assoc o.frames (frame_to s.me m id ∷ []) (map (λ (to : Id). frame_to s.me m to) ids)))
@@ -49,7 +49,7 @@ module _ {K : Type 0} (k : Ghosts K) where
   did-replies s c [] = refl
   did-replies s c (a ∷ rest) = did-replies s c rest
 
-  did-sends : (s : Settings) (c : CoordState K) (ids : List Id) (m : Message) → CoreDid k c c (send_all s ids m)
+  did-sends : (s : Settings) (c : CoordState K) (ids : List Id) (m : WireMessage) → CoreDid k c c (send_all s ids m)
   did-sends s c [] m = refl
   did-sends s c (id ∷ ids) m = did-sends s c ids m
 
@@ -62,20 +62,20 @@ module _ {K : Type 0} (k : Ghosts K) where
     shown = showing-replies c.settings o answers;
   }
 
-  pub makes_sends : (c : Coordinator K) (o : Shown) (ids : List Id) (m : Message) → Make c c o (record o { frames = o.frames ++ map (λ (to : Id). frame_to c.settings.me m to) ids }) (send_all c.settings ids m)
+  pub makes_sends : (c : Coordinator K) (o : Shown) (ids : List Id) (m : WireMessage) → Make c c o (record o { frames = o.frames ++ map (λ (to : Id). frame_to c.settings.me m to) ids }) (send_all c.settings ids m)
   makes_sends c o ids m = record {
     goes = record { settings = refl; clock = refl; view = sym (moved_all-sends c.settings (view c) ids m); core = did-sends c.settings c.core ids m };
     shown = showing-sends c.settings o ids m;
   }
 
   -- the same of ids in other words
-  pub sends_shown : (c : Coordinator K) (o o1 : Shown) (ids each : List Id) (m : Message) → each ≡ ids → o1 ≡ record o { frames = o.frames ++ map (λ (to : Id). frame_to c.settings.me m to) each }
+  pub sends_shown : (c : Coordinator K) (o o1 : Shown) (ids each : List Id) (m : WireMessage) → each ≡ ids → o1 ≡ record o { frames = o.frames ++ map (λ (to : Id). frame_to c.settings.me m to) each }
       → Make c c o o1 (send_all c.settings ids m)
   sends_shown c o o1 ids each m same shown =
       subst (λ (x : Shown). Make c c o x (send_all c.settings ids m)) (ap (λ (l : List Id). record o { frames = o.frames ++ map (λ (to : Id). frame_to c.settings.me m to) l }) (sym same) ∙ sym shown) (makes_sends c o ids m)
 
   -- one frame
-  pub makes_send : (c : Coordinator K) (o : Shown) (to : Id) (m : Message) → Make c c o (showing o (send c.settings to m)) (send c.settings to m ∷ [])
+  pub makes_send : (c : Coordinator K) (o : Shown) (to : Id) (m : WireMessage) → Make c c o (showing o (send c.settings to m)) (send c.settings to m ∷ [])
   makes_send c o to m = record { goes = record { settings = refl; clock = refl; view = refl; core = refl }; shown = refl }
 
   -- the mode changed

@@ -8,7 +8,7 @@ use Rattle.coord_state.specs.declared.coord.CoordState.{CoordState}
 use Rattle.fault_checks.specs.Followers.{Followers, to_ask, to_drop_for_checks, to_drop_for_lag}
 use Rattle.master_tasks.specs.Queue.{Tasks, to_be_removed}
 use Rattle.master_tasks.specs.Answering.{answers_by, timed_out, without_answered}
-use Rattle.wire_frames.specs.declared.frame.Message.TheVariants as message
+use Rattle.wire_frames.specs.declared.frame.WireMessage.TheVariants as message
 use Rattle.policy_model.specs.declared.settings.Settings.{Settings}
 use Rattle.policy_model.specs.declared.events.DropCause.{DropCause}
 use Rattle.policy_model.specs.declared.events.DropCause.TheVariants.{Checks, Lag}

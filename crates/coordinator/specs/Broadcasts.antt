@@ -1,10 +1,10 @@
 -- For the contracts inside: a message to several nodes.
-use Rattle.wire_frames.specs.declared.frame.Message.{Message}
-use Rattle.wire_frames.specs.declared.frame.Message.TheVariants as message
+use Rattle.wire_frames.specs.declared.frame.WireMessage.{WireMessage}
+use Rattle.wire_frames.specs.declared.frame.WireMessage.TheVariants as message
 use Rattle.coordinator.specs.declared.sending.Broadcast.{Broadcast}
 use Rattle.coordinator.specs.declared.sending.Broadcast.TheVariants as broadcast
 
-abbrev pub message_of : Broadcast → Message
+abbrev pub message_of : Broadcast → WireMessage
 message_of (broadcast.StartJoin candidate term) = message.StartJoin candidate term
 message_of (broadcast.Commit id) = message.Commit id
 message_of (broadcast.PeersAsk known) = message.PeersAsk known

@@ -1,11 +1,11 @@
 -- For the contracts inside: the kinds of messages, in groups.
 use Rattle.std.specs.Prelude.{Bool, true, false}
-use Rattle.wire_frames.specs.declared.frame.Message.{Message}
-use Rattle.wire_frames.specs.declared.frame.Message.TheVariants as message
+use Rattle.wire_frames.specs.declared.frame.WireMessage.{WireMessage}
+use Rattle.wire_frames.specs.declared.frame.WireMessage.TheVariants as message
 use Rattle.coordinator.specs.declared.dispatch.Group.{Group}
 use Rattle.coordinator.specs.declared.dispatch.Group.TheVariants.{Masters, Elections, Checks}
 
-abbrev pub group_of : Message → Group
+abbrev pub group_of : WireMessage → Group
 group_of (message.StartJoin candidate term) = Elections
 group_of (message.Join term last) = Masters
 group_of (message.Publish state) = Masters

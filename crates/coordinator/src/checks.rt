@@ -19,7 +19,7 @@ use fault_checks::{LeaderCheck, LeaderTick};
 use publication::Publication;
 use state_journal::Keeper;
 use voting_config::NodeId;
-use wire_frames::Message;
+use wire_frames::WireMessage;
 
 // What to do about the leader now, in ms.
 fn tick_of(check: &mut Option<LeaderCheck>, now: u64) -> Option<LeaderTick>
@@ -78,7 +78,7 @@ impl<K: Keeper> Coordinator<K> {
             LeaderTick::Quiet => {}
             LeaderTick::Ask => {
                 let term = self.core.term();
-                self.send(out, leader, Message::LeaderCheck { term });
+                self.send(out, leader, WireMessage::LeaderCheck { term });
             }
             LeaderTick::Lost => self.become_candidate(out),
         }
@@ -90,7 +90,7 @@ impl<K: Keeper> Coordinator<K> {
         ensures does { Does K.Keeper self.now self.now out.old out.new (λ s v. answers_leader s v leader good) true }
         ensures uses { Uses out.old out.new 0 1 0 }
     {
-        let answer = Message::FollowerAnswer {
+        let answer = WireMessage::FollowerAnswer {
             good,
             term: self.core.term(),
             applied: self.applied,
@@ -160,7 +160,7 @@ impl<K: Keeper> Coordinator<K> {
         let good = self.is_leader()
             && term == self.core.term()
             && is_target(&self.publication, from);
-        self.send(out, from, Message::LeaderAnswer { good });
+        self.send(out, from, WireMessage::LeaderAnswer { good });
     }
 
     // A follower answers a check.

@@ -16,7 +16,7 @@ use peer_finder::PeerFinder;
 use policy_model::Mode;
 use state_journal::Keeper;
 use voting_config::{NodeId, NodeSet};
-use wire_frames::Message;
+use wire_frames::WireMessage;
 
 /// Whether a node in this mode is a candidate.
 pub(crate) fn is_candidate(mode: Mode) -> bool
@@ -129,7 +129,7 @@ impl<K: Keeper> Coordinator<K> {
         ensures uses { Uses out.old out.new 0 1 0 }
     {
         let me = self.settings.me;
-        let answer = Message::PeersAnswer {
+        let answer = WireMessage::PeersAnswer {
             master: leader_of(me, self.mode),
             term: self.core.term(),
             known: with(self.finder.known_set(), me),
@@ -214,7 +214,7 @@ impl<K: Keeper> Coordinator<K> {
         if current < answer.term {
             return self.start_join(out, answer.from, answer.term);
         }
-        self.send(out, answer.from, Message::JoinAsk { term: current });
+        self.send(out, answer.from, WireMessage::JoinAsk { term: current });
         Ok(())
     }
 }

@@ -24,7 +24,7 @@ use policy_model::{Event, law_event_holds_set, law_event_holds_settings};
 use state_journal::Keeper;
 use std::alloc::Global;
 use voting_config::NodeId;
-use wire_frames::{Frame, Message};
+use wire_frames::{Frame, WireMessage};
 
 // All later moments count as this one, in ms.
 const LAST_MOMENT: u64 = 1 << 62;
@@ -39,25 +39,25 @@ pub enum Group {
     Checks,
 }
 
-fn group_of(message: &Message) -> Group
+fn group_of(message: &WireMessage) -> Group
     ensures { result ≡ group_by message.now }
 {
     match message {
-        Message::Join { .. }
-        | Message::Publish(_)
-        | Message::Response(_)
-        | Message::Commit(_)
-        | Message::JoinAsk { .. } => Group::Masters,
-        Message::StartJoin { .. }
-        | Message::PeersAsk { .. }
-        | Message::PeersAnswer { .. }
-        | Message::PreVoteAsk
-        | Message::PreVoteAnswer { .. }
-        | Message::PreVoteRefuse { .. } => Group::Elections,
-        Message::FollowerCheck { .. }
-        | Message::FollowerAnswer { .. }
-        | Message::LeaderCheck { .. }
-        | Message::LeaderAnswer { .. } => Group::Checks,
+        WireMessage::Join { .. }
+        | WireMessage::Publish(_)
+        | WireMessage::Response(_)
+        | WireMessage::Commit(_)
+        | WireMessage::JoinAsk { .. } => Group::Masters,
+        WireMessage::StartJoin { .. }
+        | WireMessage::PeersAsk { .. }
+        | WireMessage::PeersAnswer { .. }
+        | WireMessage::PreVoteAsk
+        | WireMessage::PreVoteAnswer { .. }
+        | WireMessage::PreVoteRefuse { .. } => Group::Elections,
+        WireMessage::FollowerCheck { .. }
+        | WireMessage::FollowerAnswer { .. }
+        | WireMessage::LeaderCheck { .. }
+        | WireMessage::LeaderAnswer { .. } => Group::Checks,
     }
 }
 
@@ -67,7 +67,7 @@ impl<K: Keeper> Coordinator<K> {
         &mut self,
         out: &mut Output,
         p: NodeId,
-        message: &Message,
+        message: &WireMessage,
     ) -> Result<(), EventError>
         requires ready { IsReady self.old }
         requires fit { IsFitMessage message.now }
@@ -77,26 +77,26 @@ impl<K: Keeper> Coordinator<K> {
         ensures does { DoesAll K.Keeper self.old self.new out.old out.new (λ s v. takes_message s v p message.now) result }
     {
         match message {
-            Message::Join { term, last } => self.is_joined(out, p, *term, *last),
-            Message::JoinAsk { term } => self.is_asked_to_join(out, p, *term),
-            Message::Publish(state) => self.take_publication(out, p, state),
-            Message::Response(id) => self.count_response(out, p, *id),
-            Message::Commit(id) => self.is_told_commit(out, p, *id),
-            Message::StartJoin { .. }
-            | Message::PeersAsk { .. }
-            | Message::PeersAnswer { .. }
-            | Message::PreVoteAsk
-            | Message::PreVoteAnswer { .. }
-            | Message::PreVoteRefuse { .. }
-            | Message::FollowerCheck { .. }
-            | Message::FollowerAnswer { .. }
-            | Message::LeaderCheck { .. }
-            | Message::LeaderAnswer { .. } => unreachable!(),
+            WireMessage::Join { term, last } => self.is_joined(out, p, *term, *last),
+            WireMessage::JoinAsk { term } => self.is_asked_to_join(out, p, *term),
+            WireMessage::Publish(state) => self.take_publication(out, p, state),
+            WireMessage::Response(id) => self.count_response(out, p, *id),
+            WireMessage::Commit(id) => self.is_told_commit(out, p, *id),
+            WireMessage::StartJoin { .. }
+            | WireMessage::PeersAsk { .. }
+            | WireMessage::PeersAnswer { .. }
+            | WireMessage::PreVoteAsk
+            | WireMessage::PreVoteAnswer { .. }
+            | WireMessage::PreVoteRefuse { .. }
+            | WireMessage::FollowerCheck { .. }
+            | WireMessage::FollowerAnswer { .. }
+            | WireMessage::LeaderCheck { .. }
+            | WireMessage::LeaderAnswer { .. } => unreachable!(),
         }
     }
 
     // Discovery, a pre-vote, or what starts a join.
-    fn take_of_elections(&mut self, out: &mut Output, p: NodeId, message: &Message) -> Acted
+    fn take_of_elections(&mut self, out: &mut Output, p: NodeId, message: &WireMessage) -> Acted
         requires ready { IsReady self.old }
         requires fit { IsFitMessage message.now }
         requires group { group_by message.now ≡ Group.Elections }
@@ -106,42 +106,42 @@ impl<K: Keeper> Coordinator<K> {
         ensures does { Does K.Keeper self.old self.new out.old out.new (λ s v. takes_message s v p message.now) (is_ok result) }
     {
         match message {
-            Message::StartJoin { candidate, term } => self.start_join(out, *candidate, *term),
-            Message::PeersAsk { known } => {
+            WireMessage::StartJoin { candidate, term } => self.start_join(out, *candidate, *term),
+            WireMessage::PeersAsk { known } => {
                 self.is_asked_for_peers(out, p, known);
                 Ok(())
             }
-            Message::PeersAnswer {
+            WireMessage::PeersAnswer {
                 master,
                 term,
                 known,
             } => self.is_told_peers(out, p, master, *term, known),
-            Message::PreVoteAsk => {
+            WireMessage::PreVoteAsk => {
                 self.is_asked_pre_vote(out, p);
                 Ok(())
             }
-            Message::PreVoteAnswer { term, last } => {
+            WireMessage::PreVoteAnswer { term, last } => {
                 self.count_pre_vote(out, p, *term, *last);
                 Ok(())
             }
-            Message::PreVoteRefuse { leader } => {
+            WireMessage::PreVoteRefuse { leader } => {
                 self.is_refused_pre_vote(*leader);
                 Ok(())
             }
-            Message::Join { .. }
-            | Message::Publish(_)
-            | Message::Response(_)
-            | Message::Commit(_)
-            | Message::JoinAsk { .. }
-            | Message::FollowerCheck { .. }
-            | Message::FollowerAnswer { .. }
-            | Message::LeaderCheck { .. }
-            | Message::LeaderAnswer { .. } => unreachable!(),
+            WireMessage::Join { .. }
+            | WireMessage::Publish(_)
+            | WireMessage::Response(_)
+            | WireMessage::Commit(_)
+            | WireMessage::JoinAsk { .. }
+            | WireMessage::FollowerCheck { .. }
+            | WireMessage::FollowerAnswer { .. }
+            | WireMessage::LeaderCheck { .. }
+            | WireMessage::LeaderAnswer { .. } => unreachable!(),
         }
     }
 
     // A check, or the answer to one.
-    fn take_of_checks(&mut self, out: &mut Output, p: NodeId, message: &Message) -> Acted
+    fn take_of_checks(&mut self, out: &mut Output, p: NodeId, message: &WireMessage) -> Acted
         requires ready { IsReady self.old }
         requires group { group_by message.now ≡ Group.Checks }
         requires steps { 6 ≤ out.old.steps.room }
@@ -150,30 +150,30 @@ impl<K: Keeper> Coordinator<K> {
         ensures does { Does K.Keeper self.old self.new out.old out.new (λ s v. takes_message s v p message.now) (is_ok result) }
     {
         match message {
-            Message::FollowerCheck { term } => self.is_checked_by_leader(out, p, *term),
-            Message::FollowerAnswer { good, applied, .. } => {
+            WireMessage::FollowerCheck { term } => self.is_checked_by_leader(out, p, *term),
+            WireMessage::FollowerAnswer { good, applied, .. } => {
                 self.is_answered_by_follower(p, *good, *applied);
                 Ok(())
             }
-            Message::LeaderCheck { term } => {
+            WireMessage::LeaderCheck { term } => {
                 self.is_checked_by_follower(out, p, *term);
                 Ok(())
             }
-            Message::LeaderAnswer { good } => {
+            WireMessage::LeaderAnswer { good } => {
                 self.is_answered_by_leader(p, *good);
                 Ok(())
             }
-            Message::Join { .. }
-            | Message::Publish(_)
-            | Message::Response(_)
-            | Message::Commit(_)
-            | Message::JoinAsk { .. }
-            | Message::StartJoin { .. }
-            | Message::PeersAsk { .. }
-            | Message::PeersAnswer { .. }
-            | Message::PreVoteAsk
-            | Message::PreVoteAnswer { .. }
-            | Message::PreVoteRefuse { .. } => unreachable!(),
+            WireMessage::Join { .. }
+            | WireMessage::Publish(_)
+            | WireMessage::Response(_)
+            | WireMessage::Commit(_)
+            | WireMessage::JoinAsk { .. }
+            | WireMessage::StartJoin { .. }
+            | WireMessage::PeersAsk { .. }
+            | WireMessage::PeersAnswer { .. }
+            | WireMessage::PreVoteAsk
+            | WireMessage::PreVoteAnswer { .. }
+            | WireMessage::PreVoteRefuse { .. } => unreachable!(),
         }
     }
 }
@@ -184,7 +184,7 @@ impl<K: Keeper> Coordinator<K> {
         &mut self,
         out: &mut Output,
         p: NodeId,
-        message: &Message,
+        message: &WireMessage,
         group: Group,
     ) -> Acted
         requires ready { IsReady self.old }
@@ -208,7 +208,7 @@ impl<K: Keeper> Coordinator<K> {
         &mut self,
         out: &mut Output,
         p: NodeId,
-        message: &Message,
+        message: &WireMessage,
         group: Group,
     ) -> Result<(), EventError>
         requires ready { IsReady self.old }
@@ -233,7 +233,7 @@ impl<K: Keeper> Coordinator<K> {
         &mut self,
         out: &mut Output,
         p: NodeId,
-        message: &Message,
+        message: &WireMessage,
     ) -> Result<(), EventError>
         requires ready { IsReady self.old }
         requires fit { IsFitMessage message.now }

@@ -3,7 +3,7 @@ ghost use Rattle.std.specs.Prelude.{◌≡◌, ◌≤◌, ◌+◌, ◌++◌, [],
 ghost use Rattle.cluster_state.specs.States.{id_of};
 ghost use Rattle.master_tasks.specs.Answering.{answers_by, failed};
 ghost use Rattle.master_tasks.specs.Queue.{no_tasks};
-ghost use Rattle.wire_frames.specs.declared.frame.Message.TheVariants as message;
+ghost use Rattle.wire_frames.specs.declared.frame.WireMessage.TheVariants as message;
 ghost use Rattle.policy_model.specs.Doing.{becomes_candidate, becomes_candidate_once, starts_join, raises_term, is_leader, send};
 ghost use Rattle.coordinator.specs.Does.{Does};
 ghost use Rattle.coordinator.specs.Views.{IsReady};
@@ -17,7 +17,7 @@ use master_tasks::MasterTasks;
 use policy_model::Mode;
 use state_journal::Keeper;
 use voting_config::NodeId;
-use wire_frames::Message;
+use wire_frames::WireMessage;
 
 // The open requests of a leader fail, with the term in which it led.
 fn fail_requests(mode: Mode, term: u64, tasks: &mut MasterTasks, out: &mut Output)
@@ -93,7 +93,11 @@ impl<K: Keeper> Coordinator<K> {
         ensures uses { Uses out.old out.new 0 1 0 }
     {
         let last = self.core.accepted().id();
-        out.send(self.settings.me, candidate, Message::Join { term, last });
+        out.send(
+            self.settings.me,
+            candidate,
+            WireMessage::Join { term, last },
+        );
     }
 
     // The same where the term is above the node's.

@@ -7,14 +7,14 @@ ghost use Rattle.policy_model.specs.LookBacks.{sends_one};
 ghost use Rattle.coordinator.specs.Verdicts.{verdict as verdict_by};
 
 use crate::coordinator::Struck;
-use world_model::{Outcome, Reply};
+use world_model::{ActReply, Outcome};
 
-fn is_taken(reply: &Reply) -> bool
+fn is_taken(reply: &ActReply) -> bool
     ensures { result ≡ taken_of reply.now }
 {
     match reply {
-        Reply::Taken(_, _) => true,
-        Reply::Refused(_) | Reply::Stopped => false,
+        ActReply::Taken(_, _) => true,
+        ActReply::Refused(_) | ActReply::Stopped => false,
     }
 }
 
@@ -38,12 +38,12 @@ pub(crate) fn was_taken(outcome: &Outcome) -> bool
     }
 }
 
-fn is_winning(reply: &Reply) -> bool
+fn is_winning(reply: &ActReply) -> bool
     ensures { result ≡ wins (outcome.Answered reply.now) }
 {
     match reply {
-        Reply::Taken(_, wins) => *wins,
-        Reply::Refused(_) | Reply::Stopped => false,
+        ActReply::Taken(_, wins) => *wins,
+        ActReply::Refused(_) | ActReply::Stopped => false,
     }
 }
 
@@ -57,12 +57,12 @@ pub(crate) fn has_won(outcome: &Outcome) -> bool
     }
 }
 
-fn sends_some(reply: &Reply) -> bool
+fn sends_some(reply: &ActReply) -> bool
     ensures { result ≡ sends_one (outcome.Answered reply.now) }
 {
     match reply {
-        Reply::Taken(sends, _) => sends.is_some(),
-        Reply::Refused(_) | Reply::Stopped => false,
+        ActReply::Taken(sends, _) => sends.is_some(),
+        ActReply::Refused(_) | ActReply::Stopped => false,
     }
 }
 

@@ -13,7 +13,7 @@ use cluster_state::StateId;
 use pre_vote::{Added, PreVotes, Reply, answer};
 use state_journal::Keeper;
 use voting_config::{NodeId, VotingConfig};
-use wire_frames::Message;
+use wire_frames::WireMessage;
 
 // An answer is added to an open round, where it fits.
 fn count(
@@ -48,11 +48,11 @@ impl<K: Keeper> Coordinator<K> {
         ensures uses { Uses out.old out.new 0 1 0 }
     {
         let message = match answer(from, leader_of(self.settings.me, self.mode)) {
-            Reply::Answer => Message::PreVoteAnswer {
+            Reply::Answer => WireMessage::PreVoteAnswer {
                 term: self.core.term(),
                 last: self.core.accepted().id(),
             },
-            Reply::Refused(leader) => Message::PreVoteRefuse { leader },
+            Reply::Refused(leader) => WireMessage::PreVoteRefuse { leader },
         };
         self.send(out, from, message);
     }

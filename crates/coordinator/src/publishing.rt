@@ -12,7 +12,7 @@ use crate::output::Output;
 use cluster_state::{ClusterState, StateId};
 use state_journal::{Keeper, Ready};
 use voting_config::NodeId;
-use wire_frames::Message;
+use wire_frames::WireMessage;
 
 impl<K: Keeper> Coordinator<K> {
     // The publisher is followed, unless it is the node itself.
@@ -33,7 +33,7 @@ impl<K: Keeper> Coordinator<K> {
         requires replies { length self.old.tasks.waiting ≤ out.old.replies.room }
         ensures does { Does K.Keeper self.old self.new out.old out.new (λ s v. responds s v p id) true }
     {
-        self.send(out, p, Message::Response(id));
+        self.send(out, p, WireMessage::Response(id));
         self.follow_other(out, p);
     }
 

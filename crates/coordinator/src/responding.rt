@@ -1,7 +1,7 @@
 //! Responses to a publication, and the commit that they come to.
 ghost use Rattle.std.specs.Prelude.{◌≡◌, ◌≤◌, ◌+◌, ◌++◌, ◌&&◌, true, map, length, is_some};
 ghost use Rattle.voting_config.specs.Ids.{Id, among, has_room as has_room_of};
-ghost use Rattle.wire_frames.specs.declared.frame.Message.TheVariants as message;
+ghost use Rattle.wire_frames.specs.declared.frame.WireMessage.TheVariants as message;
 ghost use Rattle.policy_model.specs.Doing.{is_leader as is_leader_of};
 ghost use Rattle.policy_model.specs.NextState.{responders_of, targets_of};
 ghost use Rattle.policy_model.specs.Publications.{is_commit_sent as is_commit_sent_of, counts_response, sends_commit, sends_first_commit};
@@ -18,7 +18,7 @@ use cluster_state::{PublishResponse, StateId};
 use publication::Publication;
 use state_journal::Keeper;
 use voting_config::{NodeId, NodeSet};
-use wire_frames::Message;
+use wire_frames::WireMessage;
 
 // Whether its commit was sent.
 fn is_commit_sent(publication: &Option<Publication>) -> bool
@@ -38,7 +38,7 @@ fn send_commits(out: &mut Output, me: NodeId, ids: &[NodeId], others: &NodeSet, 
 {
     for to in ids {
         if others.contains(*to) {
-            out.send(me, *to, Message::Commit(id));
+            out.send(me, *to, WireMessage::Commit(id));
         }
     }
 }
@@ -103,7 +103,7 @@ impl<K: Keeper> Coordinator<K> {
         ensures does { Does K.Keeper self.old self.new out.old out.new (λ s v. sends_commit s v sent p id) true }
     {
         if sent {
-            self.send(out, p, Message::Commit(id));
+            self.send(out, p, WireMessage::Commit(id));
         } else {
             self.send_first_commit(out, id);
         }

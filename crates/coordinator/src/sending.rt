@@ -13,7 +13,7 @@ use crate::output::Output;
 use cluster_state::StateId;
 use state_journal::Keeper;
 use voting_config::{NodeId, NodeSet};
-use wire_frames::Message;
+use wire_frames::WireMessage;
 
 /// A message that goes to several nodes, and takes no memory.
 #[derive(Drop)]
@@ -27,20 +27,20 @@ pub enum Broadcast {
 
 impl Broadcast {
     /// The message once more.
-    pub fn message(&self) -> Message
+    pub fn message(&self) -> WireMessage
         ensures { result ≡ message_of self.now }
     {
         match self {
-            Broadcast::StartJoin(candidate, term) => Message::StartJoin {
+            Broadcast::StartJoin(candidate, term) => WireMessage::StartJoin {
                 candidate: *candidate,
                 term: *term,
             },
-            Broadcast::Commit(id) => Message::Commit(*id),
-            Broadcast::PeersAsk(known) => Message::PeersAsk {
+            Broadcast::Commit(id) => WireMessage::Commit(*id),
+            Broadcast::PeersAsk(known) => WireMessage::PeersAsk {
                 known: known.copy(),
             },
-            Broadcast::PreVoteAsk => Message::PreVoteAsk,
-            Broadcast::FollowerCheck(term) => Message::FollowerCheck { term: *term },
+            Broadcast::PreVoteAsk => WireMessage::PreVoteAsk,
+            Broadcast::FollowerCheck(term) => WireMessage::FollowerCheck { term: *term },
         }
     }
 }
@@ -60,7 +60,7 @@ impl Output {
 
 impl<K: Keeper> Coordinator<K> {
     // Sends a frame.
-    pub(crate) fn send(&self, out: &mut Output, to: NodeId, message: Message)
+    pub(crate) fn send(&self, out: &mut Output, to: NodeId, message: WireMessage)
         requires { 1 ≤ out.old.frames.room }
         ensures does { Does K.Keeper self.now self.now out.old out.new (λ s v. send s to message ∷ []) true }
         ensures uses { Uses out.old out.new 0 1 0 }

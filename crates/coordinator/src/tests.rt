@@ -20,8 +20,8 @@ use std::alloc::{AllocError, Global};
 use std::marker::Model;
 use std::test::*;
 use voting_config::{NodeId, NodeSet};
-use wire_frames::{Frame, Message};
-use world_model::{Act, Outcome, Reply};
+use wire_frames::{Frame, WireMessage};
+use world_model::{Act, ActReply, Outcome};
 use zen_disk::{Fuse, MemDisks, Order, Way};
 
 // ---- nodes and frames within the limits, as `step` requires them
@@ -119,11 +119,11 @@ fn list(alloc: Global, ids: &NodeSet) -> Result<String, AllocError> {
     Ok(text)
 }
 
-fn reply_ending(reply: &Reply) -> &'static str {
+fn reply_ending(reply: &ActReply) -> &'static str {
     match reply {
-        Reply::Taken(_, _) => "ok",
-        Reply::Refused(_) => "refused",
-        Reply::Stopped => "stopped",
+        ActReply::Taken(_, _) => "ok",
+        ActReply::Refused(_) => "refused",
+        ActReply::Stopped => "stopped",
     }
 }
 
@@ -135,10 +135,10 @@ fn ending(outcome: &Outcome) -> &'static str {
     }
 }
 
-fn reply_wins(reply: &Reply) -> bool {
+fn reply_wins(reply: &ActReply) -> bool {
     match reply {
-        Reply::Taken(_, wins) => *wins,
-        Reply::Refused(_) | Reply::Stopped => false,
+        ActReply::Taken(_, wins) => *wins,
+        ActReply::Refused(_) | ActReply::Stopped => false,
     }
 }
 
@@ -186,18 +186,21 @@ fn mode_text(alloc: Global, mode: Mode) -> Result<String, AllocError> {
 }
 
 // The kind and the fields, a state by its id, for the messages that the worlds below send.
-fn message_text(alloc: Global, message: &Message) -> Result<String, AllocError> {
+fn message_text(alloc: Global, message: &WireMessage) -> Result<String, AllocError> {
     match message {
-        Message::StartJoin { candidate, term } => {
+        WireMessage::StartJoin { candidate, term } => {
             format!(in alloc; "startjoin {candidate} {term}")
         }
-        Message::Join { term, last } => {
+        WireMessage::Join { term, last } => {
             format!(in alloc; "join {term} {}/{}", last.term, last.version)
         }
-        Message::Publish(state) => format!(in alloc; "publish {}/{}", state.term, state.version),
-        Message::Response(id) => format!(in alloc; "response {}/{}", id.term, id.version),
-        Message::Commit(id) => format!(in alloc; "commit {}/{}", id.term, id.version),
-        Message::PeersAsk { known } => {
+        WireMessage::Publish(state) => format!(in alloc;
+            "publish {}/{}",
+            state.term, state.version
+        ),
+        WireMessage::Response(id) => format!(in alloc; "response {}/{}", id.term, id.version),
+        WireMessage::Commit(id) => format!(in alloc; "commit {}/{}", id.term, id.version),
+        WireMessage::PeersAsk { known } => {
             let known = list(alloc, known)?;
             format!(in alloc; "peersask {known}")
         }
@@ -266,7 +269,7 @@ fn show_reply(
     alloc: Global,
     lines: &mut Vec<String>,
     me: NodeId,
-    reply: &client_lines::Reply,
+    reply: &client_lines::ActReply,
 ) -> Result<(), Fail> {
     let json = write_reply(alloc, reply)?;
     let text = str::from_utf8(&json)?;

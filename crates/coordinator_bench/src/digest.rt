@@ -4,8 +4,8 @@ use client_lines::{Answer, Reply};
 use cluster_state::{ClusterState, ClusterValue, StateId};
 use policy_model::{Mode, Step};
 use voting_config::{NodeId, NodeSet};
-use wire_frames::{Frame, Message};
-use world_model::{Act, Outcome, Reply as ActReply};
+use wire_frames::{Frame, WireMessage};
+use world_model::{Act, ActReply, Outcome};
 
 /// The digest FNV-1a of the bytes so far, of 64 bits.
 #[derive(Clone, Copy)]
@@ -72,22 +72,22 @@ fn add_state(digest: &mut Digest, state: &ClusterState) {
     add_value(digest, &state.value);
 }
 
-fn add_message(digest: &mut Digest, message: &Message) {
+fn add_message(digest: &mut Digest, message: &WireMessage) {
     match message {
-        Message::StartJoin { candidate, term } => {
+        WireMessage::StartJoin { candidate, term } => {
             digest.add_bytes(candidate.as_bytes());
             digest.add(*term);
         }
-        Message::Join { term, last } => {
+        WireMessage::Join { term, last } => {
             digest.add(*term);
             add_id(digest, *last);
         }
-        Message::Publish(state) => add_state(digest, state),
-        Message::Response(id) => add_id(digest, *id),
-        Message::Commit(id) => add_id(digest, *id),
-        Message::JoinAsk { term } => digest.add(*term),
-        Message::PeersAsk { known } => add_nodes(digest, known),
-        Message::PeersAnswer {
+        WireMessage::Publish(state) => add_state(digest, state),
+        WireMessage::Response(id) => add_id(digest, *id),
+        WireMessage::Commit(id) => add_id(digest, *id),
+        WireMessage::JoinAsk { term } => digest.add(*term),
+        WireMessage::PeersAsk { known } => add_nodes(digest, known),
+        WireMessage::PeersAnswer {
             master,
             term,
             known,
@@ -96,14 +96,14 @@ fn add_message(digest: &mut Digest, message: &Message) {
             digest.add(*term);
             add_nodes(digest, known);
         }
-        Message::PreVoteAsk => {}
-        Message::PreVoteAnswer { term, last } => {
+        WireMessage::PreVoteAsk => {}
+        WireMessage::PreVoteAnswer { term, last } => {
             digest.add(*term);
             add_id(digest, *last);
         }
-        Message::PreVoteRefuse { leader } => digest.add_bytes(leader.as_bytes()),
-        Message::FollowerCheck { term } => digest.add(*term),
-        Message::FollowerAnswer {
+        WireMessage::PreVoteRefuse { leader } => digest.add_bytes(leader.as_bytes()),
+        WireMessage::FollowerCheck { term } => digest.add(*term),
+        WireMessage::FollowerAnswer {
             good,
             term,
             applied,
@@ -112,8 +112,8 @@ fn add_message(digest: &mut Digest, message: &Message) {
             digest.add(*term);
             add_id(digest, *applied);
         }
-        Message::LeaderCheck { term } => digest.add(*term),
-        Message::LeaderAnswer { good } => digest.add(flag(*good)),
+        WireMessage::LeaderCheck { term } => digest.add(*term),
+        WireMessage::LeaderAnswer { good } => digest.add(flag(*good)),
     }
 }
 

@@ -10,7 +10,7 @@ use cluster_state::{
     ClusterState, ClusterValue, LAST_NUMBER, MAX_KEY, MAX_VALUE, Settings, StateId,
 };
 use std::collections::BTreeMap;
-use wire_frames::Message;
+use wire_frames::WireMessage;
 
 fn is_fit_id(id: &StateId) -> bool
     ensures { IsTrue result → IsFitId id.now }
@@ -54,25 +54,25 @@ fn is_fit_state(state: &ClusterState) -> bool
 }
 
 /// Whether the numbers and the state of a message are within the limits.
-pub fn is_fit(message: &Message) -> bool
+pub fn is_fit(message: &WireMessage) -> bool
     ensures { IsTrue result → IsFitMessage message.now }
 {
     match message {
-        Message::PeersAsk { .. }
-        | Message::PreVoteAsk
-        | Message::PreVoteRefuse { .. }
-        | Message::LeaderAnswer { .. } => true,
-        Message::Publish(state) => is_fit_state(state),
-        Message::Response(id) | Message::Commit(id) => is_fit_id(id),
-        Message::StartJoin { term, .. }
-        | Message::JoinAsk { term }
-        | Message::PeersAnswer { term, .. }
-        | Message::FollowerCheck { term }
-        | Message::LeaderCheck { term } => *term <= LAST_NUMBER,
-        Message::Join { term, last } | Message::PreVoteAnswer { term, last } => {
+        WireMessage::PeersAsk { .. }
+        | WireMessage::PreVoteAsk
+        | WireMessage::PreVoteRefuse { .. }
+        | WireMessage::LeaderAnswer { .. } => true,
+        WireMessage::Publish(state) => is_fit_state(state),
+        WireMessage::Response(id) | WireMessage::Commit(id) => is_fit_id(id),
+        WireMessage::StartJoin { term, .. }
+        | WireMessage::JoinAsk { term }
+        | WireMessage::PeersAnswer { term, .. }
+        | WireMessage::FollowerCheck { term }
+        | WireMessage::LeaderCheck { term } => *term <= LAST_NUMBER,
+        WireMessage::Join { term, last } | WireMessage::PreVoteAnswer { term, last } => {
             *term <= LAST_NUMBER && is_fit_id(last)
         }
-        Message::FollowerAnswer { term, applied, .. } => {
+        WireMessage::FollowerAnswer { term, applied, .. } => {
             *term <= LAST_NUMBER && is_fit_id(applied)
         }
     }

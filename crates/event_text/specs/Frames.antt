@@ -3,8 +3,8 @@ use Rattle.std.specs.Prelude.{ℕ, ◌+◌, Bool, true, false, Option, None, Som
 use Rattle.voting_config.specs.Ids.{Id}
 use Rattle.cluster_state.specs.declared.state.StateId.{StateId}
 use Rattle.wire_frames.specs.declared.frame.Frame.{Frame}
-use Rattle.wire_frames.specs.declared.frame.Message.{Message}
-use Rattle.wire_frames.specs.declared.frame.Message.TheVariants as message
+use Rattle.wire_frames.specs.declared.frame.WireMessage.{WireMessage}
+use Rattle.wire_frames.specs.declared.frame.WireMessage.TheVariants as message
 use Rattle.voting_config.specs.Lists.{list_text}
 use Rattle.trace_text.specs.Trace.{id_text, state_text}
 
@@ -20,7 +20,7 @@ abbrev pub state_id_text : StateId → List ℕ
 state_id_text id = id_text id.term id.version
 
 -- the word of the message, and its fields
-abbrev pub message_text : Message → List ℕ
+abbrev pub message_text : WireMessage → List ℕ
 message_text (message.StartJoin candidate term) = codes "startjoin " ++ candidate ++ codes " " ++ decimal term
 message_text (message.Join term last) = codes "join " ++ decimal term ++ codes " " ++ state_id_text last
 message_text (message.Publish state) = codes "publish " ++ state_text state

@@ -12,7 +12,7 @@ use trace_text::{
     write_response, write_start_join, write_value, write_won,
 };
 use voting_config::NodeId;
-use world_model::{Act, Outcome, Reply};
+use world_model::{Act, ActReply, Outcome};
 
 fn write_act(text: &mut Text, alloc: Global, act: &Act) -> Result<(), AllocError>
     ensures { OnOk result (text.new ≡ text.old ++ act_text act.now) }
@@ -29,13 +29,13 @@ fn write_act(text: &mut Text, alloc: Global, act: &Act) -> Result<(), AllocError
     }
 }
 
-fn reply_end(reply: &Reply) -> Ending
+fn reply_end(reply: &ActReply) -> Ending
     ensures { result ≡ reply_ending reply.now }
 {
     match reply {
-        Reply::Taken(_, _) => Ending::Taken,
-        Reply::Refused(cause) => Ending::Refused(*cause),
-        Reply::Stopped => Ending::Stopped,
+        ActReply::Taken(_, _) => Ending::Taken,
+        ActReply::Refused(cause) => Ending::Refused(*cause),
+        ActReply::Stopped => Ending::Stopped,
     }
 }
 
@@ -79,12 +79,12 @@ pub(crate) fn write_outcome(
     }
 }
 
-fn is_winning(reply: &Reply) -> bool
+fn is_winning(reply: &ActReply) -> bool
     ensures { result ≡ wins (outcome.Answered reply.now) }
 {
     match reply {
-        Reply::Taken(_, wins) => *wins,
-        Reply::Refused(_) | Reply::Stopped => false,
+        ActReply::Taken(_, wins) => *wins,
+        ActReply::Refused(_) | ActReply::Stopped => false,
     }
 }
 

@@ -1,14 +1,14 @@
 //! What an act shows that sends a commit: the state that is committed, which the node published last.
 ghost use Rattle.std.specs.Prelude.{◌≡◌, ◌++◌, Bool, OnOk, Some};
 ghost use Rattle.world_model.specs.declared.acts.Outcome.TheVariants as outcome;
-ghost use Rattle.world_model.specs.declared.acts.Reply.TheVariants as reply;
+ghost use Rattle.world_model.specs.declared.acts.ActReply.TheVariants as reply;
 ghost use Rattle.trace_text.specs.Trace.{committed_line, committed_text};
 
 use cluster_state::ClusterState;
 use schedule_text::Text;
 use std::alloc::{AllocError, Global};
 use trace_text::write_committed;
-use world_model::{Message, Outcome, Reply};
+use world_model::{ActReply, Message, Outcome};
 
 fn write_last(
     text: &mut Text,
@@ -55,13 +55,13 @@ fn write_by_reply(
     text: &mut Text,
     alloc: Global,
     published: &Option<ClusterState>,
-    reply: &Reply,
+    reply: &ActReply,
 ) -> Result<(), AllocError>
     ensures { OnOk result (text.new ≡ text.old ++ committed_line (outcome.Answered reply.now) published.now) }
 {
     match reply {
-        Reply::Taken(sends, _) => write_by_sends(text, alloc, published, sends),
-        Reply::Refused(_) | Reply::Stopped => Ok(()),
+        ActReply::Taken(sends, _) => write_by_sends(text, alloc, published, sends),
+        ActReply::Refused(_) | ActReply::Stopped => Ok(()),
     }
 }
 

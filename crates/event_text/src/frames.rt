@@ -1,7 +1,7 @@
 //! The line of a frame, by the kind of its message.
 ghost use Rattle.std.specs.Prelude.{◌≡◌, ◌<◌, ◌^◌, ◌++◌, OnOk, codes, decimal};
 ghost use Rattle.voting_config.specs.Lists.{list_text};
-ghost use Rattle.wire_frames.specs.declared.frame.Message.TheVariants as message;
+ghost use Rattle.wire_frames.specs.declared.frame.WireMessage.TheVariants as message;
 ghost use Rattle.event_text.specs.Frames.{answer_text, frame_line, frames_text, master_text, message_text, state_id_text};
 
 use cluster_state::StateId;
@@ -9,7 +9,7 @@ use schedule_text::Text;
 use std::alloc::{AllocError, Global};
 use trace_text::acts::{write_state_id, write_state_json};
 use voting_config::{NodeId, NodeSet};
-use wire_frames::{Frame, Message};
+use wire_frames::{Frame, WireMessage};
 
 fn write_answer(text: &mut Text, good: bool) -> Result<(), AllocError>
     ensures { OnOk result (text.new ≡ text.old ++ answer_text good) }
@@ -94,41 +94,45 @@ fn write_follower_answer(
 }
 
 /// Writes a message: its word, and its fields, each after a space.
-pub fn write_message(text: &mut Text, alloc: Global, message: &Message) -> Result<(), AllocError>
+pub fn write_message(
+    text: &mut Text,
+    alloc: Global,
+    message: &WireMessage,
+) -> Result<(), AllocError>
     ensures { OnOk result (text.new ≡ text.old ++ message_text message.now) }
 {
     match message {
-        Message::StartJoin { candidate, term } => {
+        WireMessage::StartJoin { candidate, term } => {
             write_node(text, "startjoin ", *candidate)?;
             write_term(text, " ", *term)
         }
-        Message::Join { term, last } => write_term_and_id(text, "join ", *term, *last),
-        Message::Publish(state) => {
+        WireMessage::Join { term, last } => write_term_and_id(text, "join ", *term, *last),
+        WireMessage::Publish(state) => {
             text.word("publish ")?;
             write_state_json(text, alloc, state)
         }
-        Message::Response(id) => write_id(text, "response ", *id),
-        Message::Commit(id) => write_id(text, "commit ", *id),
-        Message::JoinAsk { term } => write_term(text, "joinask ", *term),
-        Message::PeersAsk { known } => write_peers(text, "peersask ", known),
-        Message::PeersAnswer {
+        WireMessage::Response(id) => write_id(text, "response ", *id),
+        WireMessage::Commit(id) => write_id(text, "commit ", *id),
+        WireMessage::JoinAsk { term } => write_term(text, "joinask ", *term),
+        WireMessage::PeersAsk { known } => write_peers(text, "peersask ", known),
+        WireMessage::PeersAnswer {
             master,
             term,
             known,
         } => write_peers_answer(text, *master, *term, known),
-        Message::PreVoteAsk => text.word("prevoteask"),
-        Message::PreVoteAnswer { term, last } => {
+        WireMessage::PreVoteAsk => text.word("prevoteask"),
+        WireMessage::PreVoteAnswer { term, last } => {
             write_term_and_id(text, "prevoteanswer ", *term, *last)
         }
-        Message::PreVoteRefuse { leader } => write_node(text, "prevoterefuse ", *leader),
-        Message::FollowerCheck { term } => write_term(text, "followercheck ", *term),
-        Message::FollowerAnswer {
+        WireMessage::PreVoteRefuse { leader } => write_node(text, "prevoterefuse ", *leader),
+        WireMessage::FollowerCheck { term } => write_term(text, "followercheck ", *term),
+        WireMessage::FollowerAnswer {
             good,
             term,
             applied,
         } => write_follower_answer(text, *good, *term, *applied),
-        Message::LeaderCheck { term } => write_term(text, "leadercheck ", *term),
-        Message::LeaderAnswer { good } => {
+        WireMessage::LeaderCheck { term } => write_term(text, "leadercheck ", *term),
+        WireMessage::LeaderAnswer { good } => {
             text.word("leaderanswer ")?;
             write_answer(text, *good)
         }

@@ -1,14 +1,14 @@
 //! Which state a node published last.
 ghost use Rattle.std.specs.Prelude.{◌≡◌, Bool, OnOk, Some};
 ghost use Rattle.world_model.specs.declared.acts.Outcome.TheVariants as outcome;
-ghost use Rattle.world_model.specs.declared.acts.Reply.TheVariants as reply;
+ghost use Rattle.world_model.specs.declared.acts.ActReply.TheVariants as reply;
 ghost use Rattle.policy_model.specs.declared.events.Step.TheVariants as step;
 ghost use Rattle.trace_text.specs.Published.{published_by};
 ghost use Rattle.event_text.specs.Published.{published_in};
 
 use cluster_state::ClusterState;
 use std::alloc::AllocError;
-use world_model::{Act, Message, Outcome, Reply};
+use world_model::{Act, ActReply, Message, Outcome};
 
 fn keep_message(published: &mut Option<ClusterState>, message: &Message) -> Result<(), AllocError>
     ensures { OnOk result ((wins : Bool) → published.new ≡ published_by (outcome.Answered (reply.Taken (Some message.now) wins)) published.old) }
@@ -34,12 +34,12 @@ fn keep_sends(
     }
 }
 
-fn keep_reply(published: &mut Option<ClusterState>, reply: &Reply) -> Result<(), AllocError>
+fn keep_reply(published: &mut Option<ClusterState>, reply: &ActReply) -> Result<(), AllocError>
     ensures { OnOk result (published.new ≡ published_by (outcome.Answered reply.now) published.old) }
 {
     match reply {
-        Reply::Taken(sends, _) => keep_sends(published, sends),
-        Reply::Refused(_) | Reply::Stopped => Ok(()),
+        ActReply::Taken(sends, _) => keep_sends(published, sends),
+        ActReply::Refused(_) | ActReply::Stopped => Ok(()),
     }
 }
 

@@ -11,8 +11,8 @@ use schedule_text::Text;
 use std::alloc::{AllocError, Global};
 use std::test::*;
 use voting_config::{NodeId, NodeSet, VotingConfig};
-use wire_frames::{Frame, Message};
-use world_model::{Act, Cause, Message as Sent, Outcome, Reply};
+use wire_frames::{Frame, WireMessage};
+use world_model::{Act, ActReply, Cause, Message as Sent, Outcome};
 
 fn id(text: &str) -> NodeId {
     NodeId::parse(text).unwrap_or_default()
@@ -43,27 +43,27 @@ fn state(alloc: Global) -> ClusterState {
     state
 }
 
-fn asks(alloc: Global) -> Result<Vec<Message>, AllocError> {
+fn asks(alloc: Global) -> Result<Vec<WireMessage>, AllocError> {
     Ok(vec![in alloc;
-        Message::StartJoin {
+        WireMessage::StartJoin {
             candidate: id("a"),
             term: 1,
         },
-        Message::Join {
+        WireMessage::Join {
             term: 1,
             last: state_id(0, 0),
         },
-        Message::Publish(state(alloc)),
-        Message::Response(state_id(1, 1)),
-        Message::Commit(state_id(1, 2)),
-        Message::JoinAsk { term: 7 },
-        Message::PeersAsk { known: both() },
-        Message::PeersAnswer {
+        WireMessage::Publish(state(alloc)),
+        WireMessage::Response(state_id(1, 1)),
+        WireMessage::Commit(state_id(1, 2)),
+        WireMessage::JoinAsk { term: 7 },
+        WireMessage::PeersAsk { known: both() },
+        WireMessage::PeersAnswer {
             master: None,
             term: 3,
             known: both(),
         },
-        Message::PeersAnswer {
+        WireMessage::PeersAnswer {
             master: Some(id("a")),
             term: 3,
             known: NodeSet::new(),
@@ -71,32 +71,32 @@ fn asks(alloc: Global) -> Result<Vec<Message>, AllocError> {
     ]?)
 }
 
-fn votes_and_checks(alloc: Global) -> Result<Vec<Message>, AllocError> {
+fn votes_and_checks(alloc: Global) -> Result<Vec<WireMessage>, AllocError> {
     Ok(vec![in alloc;
-        Message::PreVoteAsk,
-        Message::PreVoteAnswer {
+        WireMessage::PreVoteAsk,
+        WireMessage::PreVoteAnswer {
             term: 2,
             last: state_id(1, 4),
         },
-        Message::PreVoteRefuse { leader: id("a") },
-        Message::FollowerCheck { term: 5 },
-        Message::FollowerAnswer {
+        WireMessage::PreVoteRefuse { leader: id("a") },
+        WireMessage::FollowerCheck { term: 5 },
+        WireMessage::FollowerAnswer {
             good: true,
             term: 1,
             applied: state_id(1, 2),
         },
-        Message::FollowerAnswer {
+        WireMessage::FollowerAnswer {
             good: false,
             term: 6,
             applied: state_id(0, 0),
         },
-        Message::LeaderCheck { term: 5 },
-        Message::LeaderAnswer { good: true },
-        Message::LeaderAnswer { good: false },
+        WireMessage::LeaderCheck { term: 5 },
+        WireMessage::LeaderAnswer { good: true },
+        WireMessage::LeaderAnswer { good: false },
     ]?)
 }
 
-fn write_all(text: &mut Text, alloc: Global, messages: &[Message]) -> Result<(), AllocError> {
+fn write_all(text: &mut Text, alloc: Global, messages: &[WireMessage]) -> Result<(), AllocError> {
     for message in messages {
         write_message(text, alloc, message)?;
         text.word("\n")?;
@@ -125,12 +125,12 @@ fn joins(alloc: Global) -> Result<Vec<Frame>, AllocError> {
         Frame {
             from: id("a"),
             to: id("b"),
-            message: Message::JoinAsk { term: 7 },
+            message: WireMessage::JoinAsk { term: 7 },
         },
         Frame {
             from: id("a"),
             to: id("c"),
-            message: Message::PreVoteAsk,
+            message: WireMessage::PreVoteAsk,
         },
     ]?)
 }
@@ -233,10 +233,10 @@ fn winning(alloc: Global) -> Result<Vec<Step>, AllocError> {
     Ok(vec![in alloc;
         Step::Act(
             Act::TakeJoin(join),
-            Outcome::Answered(Reply::Taken(None, true))
+            Outcome::Answered(ActReply::Taken(None, true))
         ),
         Step::Mode(Mode::Leader, 2),
-        Step::Act(value, Outcome::Answered(Reply::Taken(sent, false))),
+        Step::Act(value, Outcome::Answered(ActReply::Taken(sent, false))),
     ]?)
 }
 
@@ -288,13 +288,13 @@ fn responding(alloc: Global) -> Result<Vec<Step>, AllocError> {
     Ok(vec![in alloc;
         Step::Act(
             Act::Response(response),
-            Outcome::Answered(Reply::Taken(sent, false))
+            Outcome::Answered(ActReply::Taken(sent, false))
         ),
         Step::Act(
             Act::StartJoin(id("b"), 2),
-            Outcome::Answered(Reply::Refused(late))
+            Outcome::Answered(ActReply::Refused(late))
         ),
-        Step::Act(Act::Commit(commit), Outcome::Answered(Reply::Stopped)),
+        Step::Act(Act::Commit(commit), Outcome::Answered(ActReply::Stopped)),
         Step::Act(Act::Publish(request(alloc)), Outcome::Crashed(true)),
         Step::Act(
             Act::Bootstrap(VotingConfig::of(&both())),

@@ -13,7 +13,7 @@ use cluster_state::{
     Settings, StateId,
 };
 use std::collections::BTreeMap;
-use wire_frames::{Frame, Message};
+use wire_frames::{Frame, WireMessage};
 
 fn is_fit_number(number: u64) -> bool
     ensures { IsTrue result ↔ (number ≤ last_number) }
@@ -63,33 +63,33 @@ fn is_fit_state(state: &ClusterState) -> bool
     is_fit_number(state.term) && is_fit_number(state.version) && is_fit_value(&state.value)
 }
 
-fn is_fit_message(message: &Message) -> bool
+fn is_fit_message(message: &WireMessage) -> bool
     ensures { IsTrue result ↔ IsFitMessage message.now }
 {
     match message {
-        Message::StartJoin { candidate: _, term } => is_fit_number(*term),
-        Message::Join { term, last } => is_fit_number(*term) && is_fit_id(*last),
-        Message::Publish(state) => is_fit_state(state),
-        Message::Response(id) => is_fit_id(*id),
-        Message::Commit(id) => is_fit_id(*id),
-        Message::JoinAsk { term } => is_fit_number(*term),
-        Message::PeersAsk { known: _ } => true,
-        Message::PeersAnswer {
+        WireMessage::StartJoin { candidate: _, term } => is_fit_number(*term),
+        WireMessage::Join { term, last } => is_fit_number(*term) && is_fit_id(*last),
+        WireMessage::Publish(state) => is_fit_state(state),
+        WireMessage::Response(id) => is_fit_id(*id),
+        WireMessage::Commit(id) => is_fit_id(*id),
+        WireMessage::JoinAsk { term } => is_fit_number(*term),
+        WireMessage::PeersAsk { known: _ } => true,
+        WireMessage::PeersAnswer {
             master: _,
             term,
             known: _,
         } => is_fit_number(*term),
-        Message::PreVoteAsk => true,
-        Message::PreVoteAnswer { term, last } => is_fit_number(*term) && is_fit_id(*last),
-        Message::PreVoteRefuse { leader: _ } => true,
-        Message::FollowerCheck { term } => is_fit_number(*term),
-        Message::FollowerAnswer {
+        WireMessage::PreVoteAsk => true,
+        WireMessage::PreVoteAnswer { term, last } => is_fit_number(*term) && is_fit_id(*last),
+        WireMessage::PreVoteRefuse { leader: _ } => true,
+        WireMessage::FollowerCheck { term } => is_fit_number(*term),
+        WireMessage::FollowerAnswer {
             good: _,
             term,
             applied,
         } => is_fit_number(*term) && is_fit_id(*applied),
-        Message::LeaderCheck { term } => is_fit_number(*term),
-        Message::LeaderAnswer { good: _ } => true,
+        WireMessage::LeaderCheck { term } => is_fit_number(*term),
+        WireMessage::LeaderAnswer { good: _ } => true,
     }
 }
 

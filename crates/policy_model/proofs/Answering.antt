@@ -8,8 +8,8 @@ use Rattle.cluster_state.specs.JoinCheck.{is_empty}
 use Rattle.cluster_state.specs.declared.state.ClusterState.{ClusterState}
 use Rattle.cluster_state.specs.declared.state.StateId.{StateId}
 use Rattle.wire_frames.specs.declared.frame.Frame.{Frame}
-use Rattle.wire_frames.specs.declared.frame.Message.{Message}
-use Rattle.wire_frames.specs.declared.frame.Message.TheVariants as message
+use Rattle.wire_frames.specs.declared.frame.WireMessage.{WireMessage}
+use Rattle.wire_frames.specs.declared.frame.WireMessage.TheVariants as message
 use Rattle.cluster_state.specs.declared.reply.LineFault.{LineFault}
 use Rattle.cluster_state.specs.declared.request.Request.{Request}
 use Rattle.client_lines.specs.Reading.{line_request}
@@ -53,7 +53,7 @@ quiet-if true xs ys q r = q
 quiet-if false xs ys q r = r
 
 module _ (s : Settings) where
-  pub quiet-sends : (ids : List Id) (m : Message) → IsQuiet (doing.send_all s ids m)
+  pub quiet-sends : (ids : List Id) (m : WireMessage) → IsQuiet (doing.send_all s ids m)
   quiet-sends [] m = Silent
   quiet-sends (x ∷ xs) m = Also _ _ refl (quiet-sends xs m)
 
@@ -285,7 +285,7 @@ module _ (s : Settings) where
   answered-ticks v word (Follower leader) = answered-quiet v _ (quiet-checks_leader v leader v.leader_check)
 
   -- a frame, by its message
-  answered-message : (v : View) (p : Id) (m : Message) → IsAnswered s v (rules.takes_message s v p m)
+  answered-message : (v : View) (p : Id) (m : WireMessage) → IsAnswered s v (rules.takes_message s v p m)
   answered-message v p (message.StartJoin candidate term) = answered-starts_join v candidate term
   answered-message v p (message.Join term last) = answered-joined v p term last
   answered-message v p (message.Publish state) = answered-published_to v p state

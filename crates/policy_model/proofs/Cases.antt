@@ -3,8 +3,8 @@ use Rattle.std.proofs.Common.{◌≡◌, ℕ, true, false, None, Some, List, [],
 use Rattle.voting_config.specs.Ids.{Id}
 use Rattle.cluster_state.specs.declared.state.StateId.{StateId}
 use Rattle.cluster_state.specs.States.{id_of}
-use Rattle.wire_frames.specs.declared.frame.Message.{Message}
-use Rattle.wire_frames.specs.declared.frame.Message.TheVariants as message
+use Rattle.wire_frames.specs.declared.frame.WireMessage.{WireMessage}
+use Rattle.wire_frames.specs.declared.frame.WireMessage.TheVariants as message
 use Rattle.cluster_state.specs.declared.request.Ask.TheVariants as ask
 use Rattle.cluster_state.specs.declared.reply.Answer.TheVariants as answer
 use Rattle.cluster_state.specs.declared.reply.Reply.TheVariants as reply
@@ -42,7 +42,7 @@ state_id term version = record { term = term; version = version }
 abbrev three : Settings
 three = record { me = a; peers = []; initial = a ∷ b ∷ c ∷ []; shrink = true }
 
-abbrev to : Id → Message → Item
+abbrev to : Id → WireMessage → Item
 to id m = Sends (record { from = a; to = id; message = m })
 
 module _ (v : View) where

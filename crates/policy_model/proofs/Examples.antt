@@ -6,8 +6,8 @@ use Rattle.cluster_state.specs.declared.state.ClusterState.{ClusterState}
 use Rattle.cluster_state.specs.declared.state.ClusterValue.{ClusterValue}
 use Rattle.cluster_state.specs.declared.state.StateId.{StateId}
 use Rattle.wire_frames.specs.declared.frame.Frame.{Frame}
-use Rattle.wire_frames.specs.declared.frame.Message.{Message}
-use Rattle.wire_frames.specs.declared.frame.Message.TheVariants as message
+use Rattle.wire_frames.specs.declared.frame.WireMessage.{WireMessage}
+use Rattle.wire_frames.specs.declared.frame.WireMessage.TheVariants as message
 use Rattle.cluster_state.specs.declared.request.Ask.TheVariants as ask
 use Rattle.cluster_state.specs.declared.request.Request.{Request}
 use Rattle.cluster_state.specs.declared.reply.Answer.TheVariants as answer
@@ -16,7 +16,7 @@ use Rattle.master_tasks.specs.declared.waiting.Waiting.{Waiting}
 use Rattle.master_tasks.specs.Queue.{no_tasks, is_full_of}
 use Rattle.master_tasks.specs.NextState.{processed_by, next_value, config_for, next_config, is_accepted, is_nothing_new, next_answers, tasks_after}
 use Rattle.world_model.specs.declared.acts.Act.TheVariants.{Bootstrap}
-use Rattle.world_model.specs.declared.acts.Reply.TheVariants.{Taken}
+use Rattle.world_model.specs.declared.acts.ActReply.TheVariants.{Taken}
 use Rattle.world_model.specs.declared.acts.Outcome.TheVariants.{Answered}
 use Rattle.policy_model.specs.declared.settings.Settings.{Settings}
 use Rattle.policy_model.specs.Events.{Candidate, Leader, Follower, Event, Start, Tick, FrameCame, Item, Acts, Turns, Sends, Replies, Notes, Met, PeersAsked, ElectionSet, RoundBegun, RoundEnded, CommitAcked, HandedOver, Begins, Log, NoItems, And, added}
@@ -64,13 +64,13 @@ second_tick_elects = refl
 abbrev after : Log → Event → Log
 after l event = added (And l (Begins event)) (items_of alone l event)
 
-abbrev from_itself : Message → Event
+abbrev from_itself : WireMessage → Event
 from_itself m = FrameCame (record { from = a; to = a; message = m })
 
 abbrev shows : Log → Event → List Frame
 shows l event = frames_of (items_of alone l event)
 
-abbrev sends : Message → List Frame
+abbrev sends : WireMessage → List Frame
 sends m = record { from = a; to = a; message = m } ∷ []
 
 abbrev first_value : ClusterValue

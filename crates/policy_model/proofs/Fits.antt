@@ -23,8 +23,8 @@ use Rattle.cluster_state.specs.Settings.{IsSettings}
 use Rattle.cluster_state.specs.States.{IsFit, IsFitValue, id_of}
 use Rattle.cluster_state.proofs.JsonLaws.{ascending_keys}
 use Rattle.wire_frames.specs.declared.frame.Frame.{Frame}
-use Rattle.wire_frames.specs.declared.frame.Message.{Message}
-use Rattle.wire_frames.specs.declared.frame.Message.TheVariants as message
+use Rattle.wire_frames.specs.declared.frame.WireMessage.{WireMessage}
+use Rattle.wire_frames.specs.declared.frame.WireMessage.TheVariants as message
 use Rattle.wire_frames.specs.Messages.{IsFitId, IsFitMessage}
 use Rattle.wire_frames.specs.Frames.{IsFitFrame}
 use Rattle.client_lines.specs.Reading.{line_request}
@@ -50,8 +50,8 @@ use Rattle.world_model.specs.declared.acts.Cause.TheVariants.{Start as StartRefu
 use Rattle.world_model.specs.declared.acts.Message.{Message as SentMessage}
 use Rattle.world_model.specs.declared.acts.Message.TheVariants.{Publish as PublishSent}
 use Rattle.world_model.specs.declared.acts.Outcome.TheVariants.{Answered}
-use Rattle.world_model.specs.declared.acts.Reply.{Reply}
-use Rattle.world_model.specs.declared.acts.Reply.TheVariants.{Taken, Refused, Stopped}
+use Rattle.world_model.specs.declared.acts.ActReply.{ActReply}
+use Rattle.world_model.specs.declared.acts.ActReply.TheVariants.{Taken, Refused, Stopped}
 use Rattle.world_model.specs.Acts.{is_effective}
 use Rattle.world_model.specs.NodeState.{NodeState}
 use Rattle.world_model.specs.Replies.{reply_at, is_taken, after_check, start_checked, start_reply, value_reply}
@@ -163,15 +163,15 @@ module _ (s : Settings) where
 
 -- ---- acts
 
-unless-halted : (b : Bool) (r : Reply) (P : Type 0) → (is_taken r ≡ true → P) → is_taken (cond b Stopped r) ≡ true → P
+unless-halted : (b : Bool) (r : ActReply) (P : Type 0) → (is_taken r ≡ true → P) → is_taken (cond b Stopped r) ≡ true → P
 unless-halted true r P f e = absurd (cc)
 unless-halted false r P f e = f e
 
-unless-refused : (b : Bool) (c : Cause) (r : Reply) (P : Type 0) → (b ≡ false → is_taken r ≡ true → P) → is_taken (cond b (Refused c) r) ≡ true → P
+unless-refused : (b : Bool) (c : Cause) (r : ActReply) (P : Type 0) → (b ≡ false → is_taken r ≡ true → P) → is_taken (cond b (Refused c) r) ≡ true → P
 unless-refused true c r P f e = absurd (cc)
 unless-refused false c r P f e = f refl e
 
-start-checked : (p : NodeState) (t : ℕ) (r : Reply) → is_taken (after_check StartRefused (start_checked p t) r) ≡ true → t ≤ 2 ^ 62
+start-checked : (p : NodeState) (t : ℕ) (r : ActReply) → is_taken (after_check StartRefused (start_checked p t) r) ≡ true → t ≤ 2 ^ 62
 start-checked p t r =
     elim (nat_le t p.term) as (λ b. is_taken (after_check StartRefused (cond b (Err (start_cause.TermNotGreater p.term t)) (cond (nat_lt last_number t) (Err (start_cause.TermTooLarge t)) (Ok tt))) r) ≡ true → t ≤ 2 ^ 62) [
       | true ↦ λ e. absurd (cc)
@@ -189,14 +189,14 @@ started-fits me p c t e = unless-halted p.halted (start_reply me p c t) (t ≤ 2
 pub value-fits : (me : Id) (p : NodeState) (version : ℕ) (config : List Id) (value : ClusterValue) → is_taken (reply_at me p (Value version config value)) ≡ true → version ≤ 2 ^ 62
 value-fits me p version config value e =
     let P : Type 0 = version ≤ 2 ^ 62 in
-    let r3 : Reply =
+    let r3 : ActReply =
     cond (not (same_config config p.accepted.config) && not (same_config p.committed p.accepted.config)) (Refused (ValueRefused value_cause.Reconfiguring))
     (cond (not (is_quorum_of config p.join_votes)) (Refused (ValueRefused value_cause.NoJoinQuorum))
     (Taken (Some (published me p version config value)) false))
     in
-    let r2 : Reply = cond (nat_lt last_number version) (Refused (ValueRefused (value_cause.VersionTooLarge version))) r3 in
-    let r1 : Reply = cond (nat_le version p.published_version) (Refused (ValueRefused (value_cause.VersionNotGreater p.published_version version))) r2 in
-    let r0 : Reply = cond (not (nat_eq p.published_version p.accepted.version)) (Refused (ValueRefused (value_cause.NotAccepted p.published_version p.accepted.version))) r1 in
+    let r2 : ActReply = cond (nat_lt last_number version) (Refused (ValueRefused (value_cause.VersionTooLarge version))) r3 in
+    let r1 : ActReply = cond (nat_le version p.published_version) (Refused (ValueRefused (value_cause.VersionNotGreater p.published_version version))) r2 in
+    let r0 : ActReply = cond (not (nat_eq p.published_version p.accepted.version)) (Refused (ValueRefused (value_cause.NotAccepted p.published_version p.accepted.version))) r1 in
     unless-halted p.halted (value_reply me p version config value) P
     (unless-refused (not p.election_won) (ValueRefused value_cause.NotWon) r0 P (λ a.
     unless-refused (not (nat_eq p.published_version p.accepted.version)) (ValueRefused (value_cause.NotAccepted p.published_version p.accepted.version)) r1 P (λ b.
@@ -206,7 +206,7 @@ value-fits me p version config value e =
     published : Id → NodeState → ℕ → List Id → ClusterValue → SentMessage
     published me p version config value = PublishSent (record { source = me; state = record { term = p.term; version = version; config = config; committed = p.committed; value = value } })
 
-taken-effective : (r : Reply) → is_effective (Answered r) ≡ is_taken r
+taken-effective : (r : ActReply) → is_effective (Answered r) ≡ is_taken r
 taken-effective (Taken sends wins) = refl
 taken-effective (Refused cause) = refl
 taken-effective Stopped = refl
@@ -330,7 +330,7 @@ module _ (s : Settings) where
 
   -- ---- changes of mode
 
-  sound-sends : (ids : List Id) (m : Message) → IsFitMessage m → AreSound (doing.send_all s ids m)
+  sound-sends : (ids : List Id) (m : WireMessage) → IsFitMessage m → AreSound (doing.send_all s ids m)
   sound-sends [] m e = Silent
   sound-sends (x ∷ xs) m e = Also _ _ e (sound-sends xs m e)
 
@@ -578,7 +578,7 @@ module _ (s : Settings) where
   fit-ticks v word Leader f = fit-leader v f
   fit-ticks v word (Follower leader) f = fit-checks_leader v leader v.leader_check f
 
-  fit-message : (v : View) (p : Id) (m : Message) → IsFitView v → IsFitMessage m → HoldsSettings m → Fit v (rules.takes_message s v p m)
+  fit-message : (v : View) (p : Id) (m : WireMessage) → IsFitView v → IsFitMessage m → HoldsSettings m → Fit v (rules.takes_message s v p m)
   fit-message v p (message.StartJoin candidate term) f e h = fit-starts_join v candidate term f
   fit-message v p (message.Join term last) f e h = fit-joined v p term last f
   fit-message v p (message.Publish state) f e h = fit-published_to v p state f e h

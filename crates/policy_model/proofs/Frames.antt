@@ -29,8 +29,8 @@ use Rattle.cluster_state.specs.declared.reply.Answer.TheVariants as answer
 use Rattle.cluster_state.specs.Initial.{initial_state}
 use Rattle.cluster_state.specs.Puts.{bad_setting_of}
 use Rattle.wire_frames.specs.declared.frame.Frame.{Frame}
-use Rattle.wire_frames.specs.declared.frame.Message.{Message}
-use Rattle.wire_frames.specs.declared.frame.Message.TheVariants as message
+use Rattle.wire_frames.specs.declared.frame.WireMessage.{WireMessage}
+use Rattle.wire_frames.specs.declared.frame.WireMessage.TheVariants as message
 use Rattle.client_lines.specs.Reading.{line_request}
 use Rattle.pre_vote.specs.declared.rounds.Added.{Added as RoundAdded}
 use Rattle.pre_vote.specs.declared.rounds.Added.TheVariants.{Counted, Fresher, Quorum}
@@ -397,7 +397,7 @@ module _ (s : Settings) where
   none-within : (n : ℕ) (v : View) → IsSmallView v → Few n v []
   none-within n v f = few-more 0 n v [] (omega arith) (few-none v f)
 
-  few-sends : (n : ℕ) (v : View) (ids : List Id) (m : Message) → length ids ≤ n → IsSmallView v → Few n v (doing.send_all s ids m)
+  few-sends : (n : ℕ) (v : View) (ids : List Id) (m : WireMessage) → length ids ≤ n → IsSmallView v → Few n v (doing.send_all s ids m)
   few-sends n v ids m le f = record {
     sent = rw (frames-sends s ids m) (rw (length-map ids (λ to. let frame : Frame = record { from = s.me; to = to; message = m } in frame)) le);
     after = rw (moved_all-sends s v ids m) f;
@@ -679,7 +679,7 @@ module _ (s : Settings) where
   few-ticks v word Leader f = few-more 64 94 v _ (omega arith) (few-leader v f)
   few-ticks v word (Follower leader) f = few-more 1 94 v _ (omega arith) (few-checks_leader v leader v.leader_check f)
 
-  few-message : (v : View) (p : Id) (m : Message) → IsSmallView v → HoldsSet m → Few 33 v (rules.takes_message s v p m)
+  few-message : (v : View) (p : Id) (m : WireMessage) → IsSmallView v → HoldsSet m → Few 33 v (rules.takes_message s v p m)
   few-message v p (message.StartJoin candidate term) f h = few-more 1 33 v _ (omega arith) (few-starts_join v candidate term f)
   few-message v p (message.Join term last) f h = few-is_joined v p term last f
   few-message v p (message.Publish state) f h = few-more 2 33 v _ (omega arith) (few-published_to v p state f h)

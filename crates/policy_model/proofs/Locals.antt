@@ -2,8 +2,8 @@
 use Rattle.std.proofs.Common.{◌≡◌, ℕ, Bool, true, false, not, ◌||◌, List, [], ◌∷◌, ◌++◌, refl, sym, ap, subst, ◌∙◌, ◌⊎◌, inl, inr}
 use Rattle.world_model.specs.declared.acts.Act.{Act}
 use Rattle.world_model.specs.declared.acts.Act.TheVariants.{Bootstrap, StartJoin, TakeJoin, Value, Publish, Response, Commit, Open}
-use Rattle.world_model.specs.declared.acts.Reply.{Reply}
-use Rattle.world_model.specs.declared.acts.Reply.TheVariants.{Taken, Refused, Stopped}
+use Rattle.world_model.specs.declared.acts.ActReply.{ActReply}
+use Rattle.world_model.specs.declared.acts.ActReply.TheVariants.{Taken, Refused, Stopped}
 use Rattle.world_model.specs.declared.acts.Outcome.{Outcome}
 use Rattle.world_model.specs.declared.acts.Outcome.TheVariants.{Answered, Disk, Crashed}
 use Rattle.world_model.specs.Acts.{NodeHistory, NoActs, Then, is_ok}
@@ -97,7 +97,7 @@ fine_after s l v (Notes note ∷ is) h a f =
     fine_after s (And l (Notes note)) (moved s v (Notes note)) is (ap (λ (u : View). moved s u (Notes note)) h ∙ sym (view_of-And s l (Notes note) refl)) a
     (record { local = f.local; up = f.up })
 
-taken_of : (r : Reply) → is_ok (Answered r) ≡ is_taken r
+taken_of : (r : ActReply) → is_ok (Answered r) ≡ is_taken r
 taken_of (Taken sends wins) = refl
 taken_of (Refused cause) = refl
 taken_of Stopped = refl

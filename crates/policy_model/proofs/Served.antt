@@ -7,8 +7,8 @@ use Rattle.peer_finder.specs.Peers.{answered_set}
 use Rattle.cluster_state.specs.JoinCheck.{is_empty}
 use Rattle.cluster_state.specs.declared.state.ClusterState.{ClusterState}
 use Rattle.cluster_state.specs.declared.state.StateId.{StateId}
-use Rattle.wire_frames.specs.declared.frame.Message.{Message}
-use Rattle.wire_frames.specs.declared.frame.Message.TheVariants as message
+use Rattle.wire_frames.specs.declared.frame.WireMessage.{WireMessage}
+use Rattle.wire_frames.specs.declared.frame.WireMessage.TheVariants as message
 use Rattle.cluster_state.specs.declared.reply.LineFault.{LineFault}
 use Rattle.cluster_state.specs.declared.request.Request.{Request}
 use Rattle.client_lines.specs.Reading.{line_request}
@@ -105,7 +105,7 @@ aside-if true xs ys q r = q
 aside-if false xs ys q r = r
 
 module _ (s : Settings) where
-  aside-sends : (ids : List Id) (m : Message) → AreAside (doing.send_all s ids m)
+  aside-sends : (ids : List Id) (m : WireMessage) → AreAside (doing.send_all s ids m)
   aside-sends [] m = Nothing
   aside-sends (x ∷ xs) m = Also _ _ refl (aside-sends xs m)
 
@@ -362,7 +362,7 @@ module _ (s : Settings) where
   served-ticks v word (Follower leader) = served-checks_leader v leader v.leader_check
 
   -- a frame, by its message
-  served-message : (v : View) (p : Id) (m : Message) → IsServed s v (rules.takes_message s v p m)
+  served-message : (v : View) (p : Id) (m : WireMessage) → IsServed s v (rules.takes_message s v p m)
   served-message v p (message.StartJoin candidate term) = served-starts_join v candidate term
   served-message v p (message.Join term last) = served-joined v p term last
   served-message v p (message.Publish state) = served-published_to v p state

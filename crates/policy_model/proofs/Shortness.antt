@@ -12,8 +12,8 @@ use Rattle.cluster_state.specs.declared.reply.LineFault.{LineFault}
 use Rattle.cluster_state.specs.declared.request.Request.{Request}
 use Rattle.cluster_state.specs.declared.state.ClusterState.{ClusterState}
 use Rattle.cluster_state.specs.declared.state.StateId.{StateId}
-use Rattle.wire_frames.specs.declared.frame.Message.{Message}
-use Rattle.wire_frames.specs.declared.frame.Message.TheVariants as message
+use Rattle.wire_frames.specs.declared.frame.WireMessage.{WireMessage}
+use Rattle.wire_frames.specs.declared.frame.WireMessage.TheVariants as message
 use Rattle.client_lines.specs.Reading.{line_request}
 use Rattle.pre_vote.specs.declared.rounds.Added.{Added}
 use Rattle.pre_vote.specs.declared.rounds.Added.TheVariants.{Counted, Fresher, Quorum}
@@ -126,7 +126,7 @@ module _ (s : Settings) where
 
   -- ---- changes of mode
 
-  silent-sends : (ids : List Id) (m : Message) → AreSilent (doing.send_all s ids m)
+  silent-sends : (ids : List Id) (m : WireMessage) → AreSilent (doing.send_all s ids m)
   silent-sends [] m = Silent
   silent-sends (x ∷ xs) m = Also _ _ refl (silent-sends xs m)
 
@@ -356,7 +356,7 @@ module _ (s : Settings) where
   most-ticks v word Leader = most-more 1 2 3 6 _ (most-leader v) (omega arith) (omega arith)
   most-ticks v word (Follower leader) = most-more 0 1 3 6 _ (most-checks_leader v leader v.leader_check) (omega arith) (omega arith)
 
-  most-message : (v : View) (p : Id) (m : Message) → AtMost 3 6 (rules.takes_message s v p m)
+  most-message : (v : View) (p : Id) (m : WireMessage) → AtMost 3 6 (rules.takes_message s v p m)
   most-message v p (message.StartJoin candidate term) = most-more 1 2 3 6 _ (most-starts_join v candidate term) (omega arith) (omega arith)
   most-message v p (message.Join term last) = most-joined v p term last
   most-message v p (message.Publish state) = most-more 2 5 3 6 _ (most-published_to v p state) (omega arith) (omega arith)

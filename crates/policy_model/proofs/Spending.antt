@@ -15,8 +15,8 @@ use Rattle.cluster_state.specs.declared.state.ClusterState.{ClusterState}
 use Rattle.cluster_state.specs.declared.state.StateId.{StateId}
 use Rattle.cluster_state.specs.Puts.{bad_setting_of}
 use Rattle.cluster_state.specs.States.{id_of}
-use Rattle.wire_frames.specs.declared.frame.Message.{Message}
-use Rattle.wire_frames.specs.declared.frame.Message.TheVariants as message
+use Rattle.wire_frames.specs.declared.frame.WireMessage.{WireMessage}
+use Rattle.wire_frames.specs.declared.frame.WireMessage.TheVariants as message
 use Rattle.client_lines.specs.Reading.{line_request}
 use Rattle.pre_vote.specs.declared.rounds.Added.{Added}
 use Rattle.pre_vote.specs.declared.rounds.Added.TheVariants.{Counted, Fresher, Quorum}
@@ -193,7 +193,7 @@ module _ (s : Settings) where
 
   -- ---- changes of mode
 
-  calm-sends : (ids : List Id) (m : Message) → AreCalm (doing.send_all s ids m)
+  calm-sends : (ids : List Id) (m : WireMessage) → AreCalm (doing.send_all s ids m)
   calm-sends [] m = Silent
   calm-sends (x ∷ xs) m = Also _ _ refl (calm-sends xs m)
 
@@ -426,7 +426,7 @@ module _ (s : Settings) where
   spends-ticks v word Leader = spends-leader v
   spends-ticks v word (Follower leader) = spends-checks_leader v leader v.leader_check
 
-  spends-message : (v : View) (p : Id) (m : Message) → Spends s v (rules.takes_message s v p m)
+  spends-message : (v : View) (p : Id) (m : WireMessage) → Spends s v (rules.takes_message s v p m)
   spends-message v p (message.StartJoin candidate term) = spends-starts_join v candidate term
   spends-message v p (message.Join term last) = spends-joined v p term last
   spends-message v p (message.Publish state) = spends-published_to v p state

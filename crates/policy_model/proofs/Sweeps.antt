@@ -4,7 +4,7 @@ use Rattle.std.proofs.lemmas.List.{append_assoc}
 use Rattle.std.specs.List.{flat_map}
 use Rattle.voting_config.specs.Ids.{Id}
 use Rattle.wire_frames.specs.declared.frame.Frame.{Frame}
-use Rattle.wire_frames.specs.declared.frame.Message.{Message}
+use Rattle.wire_frames.specs.declared.frame.WireMessage.{WireMessage}
 use Rattle.master_tasks.specs.declared.waiting.Outgoing.{Outgoing}
 use Rattle.policy_model.specs.declared.settings.Settings.{Settings}
 use Rattle.policy_model.specs.Events.{Item}
@@ -22,7 +22,7 @@ pub moved_all-replies : (s : Settings) (v : View) (answers : List Outgoing) → 
 moved_all-replies s v [] = refl
 moved_all-replies s v (x ∷ xs) = moved_all-replies s v xs
 
-pub moved_all-sends : (s : Settings) (v : View) (ids : List Id) (m : Message) → moved_all s v (send_all s ids m) ≡ v
+pub moved_all-sends : (s : Settings) (v : View) (ids : List Id) (m : WireMessage) → moved_all s v (send_all s ids m) ≡ v
 moved_all-sends s v [] m = refl
 moved_all-sends s v (x ∷ xs) m = moved_all-sends s v xs m
 
@@ -46,6 +46,6 @@ pub replies-replies : (s : Settings) (answers : List Outgoing) → flat_map repl
 replies-replies s [] = refl
 replies-replies s (x ∷ xs) = ap (λ (l : List Outgoing). x ∷ l) (replies-replies s xs)
 
-pub frames-sends : (s : Settings) (ids : List Id) (m : Message) → flat_map frames_in (send_all s ids m) ≡ map (λ to. record { from = s.me; to = to; message = m }) ids
+pub frames-sends : (s : Settings) (ids : List Id) (m : WireMessage) → flat_map frames_in (send_all s ids m) ≡ map (λ to. record { from = s.me; to = to; message = m }) ids
 frames-sends s [] m = refl
 frames-sends s (x ∷ xs) m = ap (λ (l : List Frame). record { from = s.me; to = x; message = m } ∷ l) (frames-sends s xs m)

@@ -2,8 +2,8 @@
 use Rattle.std.specs.Prelude.{ℕ, ◌+◌, ◌≤◌, Option, List, [], ◌∷◌, length}
 use Rattle.voting_config.specs.Ids.{most_ids}
 use Rattle.cluster_state.specs.declared.state.Kept.{Kept}
-use Rattle.wire_frames.specs.declared.frame.Message.{Message}
-use Rattle.wire_frames.specs.declared.frame.Message.TheVariants as message
+use Rattle.wire_frames.specs.declared.frame.WireMessage.{WireMessage}
+use Rattle.wire_frames.specs.declared.frame.WireMessage.TheVariants as message
 use Rattle.peer_finder.specs.Peers.{PeerFinder, most_peers}
 use Rattle.publication.specs.Publications.{Publication}
 use Rattle.fault_checks.specs.Followers.{Followers}
@@ -56,7 +56,7 @@ abbrev pub IsSmallView : View → Type 0
 IsSmallView v = AreSmall v.node v.finder v.followers v.publication
 
 -- a published state has such a set of members, as each state in memory does
-abbrev pub HoldsSet : Message → Type 0
+abbrev pub HoldsSet : WireMessage → Type 0
 HoldsSet (message.Publish state) = length state.value.members ≤ most_ids
 HoldsSet m = Unit {0}
 

@@ -2,7 +2,7 @@
 use Rattle.std.specs.Prelude.{ℕ, Bool, true, false, ◌&&◌, Option, None, Some, List, [], ◌∷◌, ◌++◌, map, nat_lt, nat_eq, if◌then◌else◌}
 use Rattle.voting_config.specs.Ids.{Id, has}
 use Rattle.cluster_state.specs.declared.state.StateId.{StateId}
-use Rattle.wire_frames.specs.declared.frame.Message.TheVariants as message
+use Rattle.wire_frames.specs.declared.frame.WireMessage.TheVariants as message
 use Rattle.fault_checks.specs.declared.leader.LeaderTick.{LeaderTick}
 use Rattle.fault_checks.specs.declared.leader.LeaderTick.TheVariants.{Quiet, Ask, Lost}
 use Rattle.fault_checks.specs.Followers.{to_ask, to_drop_for_checks, to_drop_for_lag}

@@ -1,7 +1,7 @@
 -- Part of the statement: how nodes find each other, and a master to join.
 use Rattle.std.specs.Prelude.{ℕ, Bool, false, Option, None, Some, List, [], ◌∷◌, nat_lt, if◌then◌else◌}
 use Rattle.voting_config.specs.Ids.{Id, same, with_id}
-use Rattle.wire_frames.specs.declared.frame.Message.TheVariants as message
+use Rattle.wire_frames.specs.declared.frame.WireMessage.TheVariants as message
 use Rattle.election_clock.specs.Delays.{is_due}
 use Rattle.peer_finder.specs.Peers.{known_set}
 use Rattle.policy_model.specs.declared.settings.Settings.{Settings}

@@ -2,15 +2,15 @@
 -- node adds that is v.
 use Rattle.std.specs.Prelude.{ℕ, Bool, true, false, Option, None, Some, List, [], ◌∷◌, ◌++◌, map, nat_lt, if◌then◌else◌}
 use Rattle.voting_config.specs.Ids.{Id, same}
-use Rattle.wire_frames.specs.declared.frame.Message.{Message}
-use Rattle.wire_frames.specs.declared.frame.Message.TheVariants as message
+use Rattle.wire_frames.specs.declared.frame.WireMessage.{WireMessage}
+use Rattle.wire_frames.specs.declared.frame.WireMessage.TheVariants as message
 use Rattle.master_tasks.specs.declared.waiting.Outgoing.{Outgoing}
 use Rattle.master_tasks.specs.Answering.{answers_by, failed}
 use Rattle.exclusions.specs.Exclusions.{may_win_of}
 use Rattle.world_model.specs.declared.acts.Act.{Act}
 use Rattle.world_model.specs.declared.acts.Act.TheVariants.{StartJoin}
 use Rattle.world_model.specs.declared.acts.Outcome.TheVariants.{Answered}
-use Rattle.world_model.specs.declared.acts.Reply.{Reply}
+use Rattle.world_model.specs.declared.acts.ActReply.{ActReply}
 use Rattle.cluster_state.specs.States.{id_of}
 use Rattle.world_model.specs.Replies.{reply_at, is_taken}
 use Rattle.policy_model.specs.declared.settings.Settings.{Settings}
@@ -45,7 +45,7 @@ module _ (s : Settings) where
   then_rule v items rule = items ++ rule (moved_all s v items)
 
   -- an act with the answer that it gets, and the view after it
-  abbrev pub reply_now : View → Act → Reply
+  abbrev pub reply_now : View → Act → ActReply
   reply_now v act = reply_at s.me v.node act
 
   abbrev pub act_now : View → Act → Item
@@ -57,10 +57,10 @@ module _ (s : Settings) where
   abbrev pub takes : View → Act → Bool
   takes v act = is_taken (reply_now v act)
 
-  abbrev pub send : Id → Message → Item
+  abbrev pub send : Id → WireMessage → Item
   send to m = Sends (record { from = s.me; to = to; message = m })
 
-  abbrev pub send_all : List Id → Message → List Item
+  abbrev pub send_all : List Id → WireMessage → List Item
   send_all ids m = map (λ id. send id m) ids
 
   abbrev pub reply_all : List Outgoing → List Item

@@ -10,7 +10,7 @@ use Rattle.world_model.specs.declared.acts.Act.{Act}
 use Rattle.world_model.specs.declared.acts.Act.TheVariants.{Open}
 use Rattle.world_model.specs.declared.acts.Outcome.{Outcome}
 use Rattle.world_model.specs.declared.acts.Outcome.TheVariants.{Answered}
-use Rattle.world_model.specs.declared.acts.Reply.TheVariants.{Taken}
+use Rattle.world_model.specs.declared.acts.ActReply.TheVariants.{Taken}
 use Rattle.world_model.specs.Acts.{NodeHistory, NoActs, Then}
 pub use Rattle.policy_model.specs.declared.events.Mode.{Mode}
 pub use Rattle.policy_model.specs.declared.events.Mode.TheVariants.{Candidate, Leader, Follower}

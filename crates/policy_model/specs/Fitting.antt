@@ -6,8 +6,8 @@ use Rattle.cluster_state.specs.declared.state.Kept.{Kept}
 use Rattle.cluster_state.specs.declared.state.StateId.{StateId}
 use Rattle.cluster_state.specs.Settings.{IsSettings}
 use Rattle.cluster_state.specs.States.{IsFit}
-use Rattle.wire_frames.specs.declared.frame.Message.{Message}
-use Rattle.wire_frames.specs.declared.frame.Message.TheVariants as message
+use Rattle.wire_frames.specs.declared.frame.WireMessage.{WireMessage}
+use Rattle.wire_frames.specs.declared.frame.WireMessage.TheVariants as message
 use Rattle.wire_frames.specs.Messages.{IsFitId}
 use Rattle.wire_frames.specs.Frames.{IsFitFrame}
 use Rattle.pre_vote.specs.Rounds.{Round}
@@ -52,7 +52,7 @@ IsFitEvent (FrameCame frame) = IsFitFrame frame
 IsFitEvent (LineCame conn line) = Unit {0}
 
 -- a published state holds settings, as each state in memory does
-abbrev pub HoldsSettings : Message → Type 0
+abbrev pub HoldsSettings : WireMessage → Type 0
 HoldsSettings (message.Publish state) = IsSettings state.value.settings
 HoldsSettings m = Unit {0}
 

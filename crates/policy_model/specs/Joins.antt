@@ -5,8 +5,8 @@ use Rattle.cluster_state.specs.declared.messages.Join.{Join}
 use Rattle.cluster_state.specs.declared.state.StateId.{StateId}
 use Rattle.world_model.specs.declared.acts.Act.{Act}
 use Rattle.world_model.specs.declared.acts.Act.TheVariants.{TakeJoin}
-use Rattle.world_model.specs.declared.acts.Reply.{Reply}
-use Rattle.world_model.specs.declared.acts.Reply.TheVariants.{Taken, Refused, Stopped}
+use Rattle.world_model.specs.declared.acts.ActReply.{ActReply}
+use Rattle.world_model.specs.declared.acts.ActReply.TheVariants.{Taken, Refused, Stopped}
 use Rattle.policy_model.specs.declared.settings.Settings.{Settings}
 use Rattle.policy_model.specs.Events.{Leader, Item, Turns, Notes, Joined}
 use Rattle.policy_model.specs.Views.{View}
@@ -14,7 +14,7 @@ use Rattle.policy_model.specs.Doing.{is_leader, then_rule, reply_now, act_now, a
 use Rattle.policy_model.specs.NextState.{goes_on}
 
 -- a join wins the election
-abbrev pub wins_now : Reply → Bool
+abbrev pub wins_now : ActReply → Bool
 wins_now (Taken sends wins) = wins
 wins_now (Refused cause) = false
 wins_now Stopped = false

@@ -4,7 +4,7 @@ use Rattle.cluster_state.specs.declared.state.StateId.{StateId}
 use Rattle.world_model.specs.declared.acts.Act.TheVariants.{Value, Response, Commit}
 use Rattle.world_model.specs.declared.acts.Outcome.{Outcome}
 use Rattle.world_model.specs.declared.acts.Outcome.TheVariants.{Answered}
-use Rattle.world_model.specs.declared.acts.Reply.TheVariants.{Taken}
+use Rattle.world_model.specs.declared.acts.ActReply.TheVariants.{Taken}
 use Rattle.world_model.specs.Acts.{is_ok}
 use Rattle.world_model.specs.NodeState.{NodeState, node_state}
 use Rattle.cluster_state.specs.States.{id_of}

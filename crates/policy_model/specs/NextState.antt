@@ -4,7 +4,7 @@ use Rattle.cluster_state.specs.Field.{last_number}
 use Rattle.voting_config.specs.Ids.{Id, has}
 use Rattle.cluster_state.specs.declared.state.ClusterState.{ClusterState}
 use Rattle.cluster_state.specs.declared.state.ClusterValue.{ClusterValue}
-use Rattle.wire_frames.specs.declared.frame.Message.TheVariants as message
+use Rattle.wire_frames.specs.declared.frame.WireMessage.TheVariants as message
 use Rattle.election_clock.specs.Delays.{is_due}
 use Rattle.publication.specs.Publications.{Publication}
 use Rattle.master_tasks.specs.NextState.{next_value, next_config, next_answers, is_nothing_new}

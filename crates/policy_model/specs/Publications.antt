@@ -3,12 +3,12 @@ use Rattle.std.specs.Prelude.{Bool, false, ◌&&◌, Option, None, Some, List, [
 use Rattle.voting_config.specs.Ids.{Id, same, among, has_room}
 use Rattle.cluster_state.specs.declared.state.ClusterState.{ClusterState}
 use Rattle.cluster_state.specs.declared.state.StateId.{StateId}
-use Rattle.wire_frames.specs.declared.frame.Message.TheVariants as message
+use Rattle.wire_frames.specs.declared.frame.WireMessage.TheVariants as message
 use Rattle.publication.specs.Publications.{Publication}
 use Rattle.master_tasks.specs.Answering.{answers_by, committed_in, exclusion_done}
 use Rattle.world_model.specs.declared.acts.Act.TheVariants.{Publish, Response, Commit}
-use Rattle.world_model.specs.declared.acts.Reply.{Reply}
-use Rattle.world_model.specs.declared.acts.Reply.TheVariants.{Taken, Refused, Stopped}
+use Rattle.world_model.specs.declared.acts.ActReply.{ActReply}
+use Rattle.world_model.specs.declared.acts.ActReply.TheVariants.{Taken, Refused, Stopped}
 use Rattle.cluster_state.specs.States.{id_of}
 use Rattle.policy_model.specs.declared.settings.Settings.{Settings}
 use Rattle.policy_model.specs.Events.{Item, Notes, CommitAcked, ExclusionsAcked}
@@ -23,7 +23,7 @@ is_commit_sent None = false
 is_commit_sent (Some p) = p.commit_sent
 
 -- a response sends a commit
-abbrev pub commits_now : Reply → Bool
+abbrev pub commits_now : ActReply → Bool
 commits_now (Taken sends wins) = is_some sends
 commits_now (Refused cause) = false
 commits_now Stopped = false

@@ -2,8 +2,8 @@
 use Rattle.std.specs.Prelude.{ℕ, Bool, true, false, Option, None, Some, List, [], if◌then◌else◌}
 use Rattle.voting_config.specs.Ids.{Id, same}
 use Rattle.wire_frames.specs.declared.frame.Frame.{Frame}
-use Rattle.wire_frames.specs.declared.frame.Message.{Message}
-use Rattle.wire_frames.specs.declared.frame.Message.TheVariants as message
+use Rattle.wire_frames.specs.declared.frame.WireMessage.{WireMessage}
+use Rattle.wire_frames.specs.declared.frame.WireMessage.TheVariants as message
 use Rattle.client_lines.specs.Reading.{line_request}
 use Rattle.publication.specs.declared.Stage.{Stage}
 use Rattle.publication.specs.declared.Stage.TheVariants.{Running, Failed, Done}
@@ -45,7 +45,7 @@ module _ (s : Settings) where
   ticks v word Leader = ticks_leader v
   ticks v word (Follower leader) = checks_leader s v leader v.leader_check
 
-  abbrev pub takes_message : View → Id → Message → List Item
+  abbrev pub takes_message : View → Id → WireMessage → List Item
   takes_message v p (message.StartJoin candidate term) = starts_join s v candidate term
   takes_message v p (message.Join term last) = is_joined s v p term last
   takes_message v p (message.Publish state) = is_published_to s v p state

@@ -4,7 +4,7 @@ ghost use Rattle.policy_model.specs.Bounds.{EventHoldsSet, LawAnswersFew, LawEve
 ghost use Rattle.policy_model.specs.Fitting.{EventHoldsSettings, LawOpenedIsFit, LawStaysFit};
 
 use crate::events::Event;
-use wire_frames::Message;
+use wire_frames::WireMessage;
 
 /// Acts that follow the policy are right by themselves: each outcome is the reply that the node's acts so far call
 /// for, or a fault of the disk or a crash where the act would be taken; and each opening finds what was kept.
@@ -38,7 +38,7 @@ pub fn law_event_holds_settings(event: &Event)
     ensures { EventHoldsSettings event.now }
 {
     if let Event::Frame(frame) = event {
-        if let Message::Publish(state) = &frame.message {
+        if let WireMessage::Publish(state) = &frame.message {
             // The contract of this call is the law.
             let _ = state.value.settings.texts();
         }
@@ -76,7 +76,7 @@ pub fn law_event_holds_set(event: &Event)
     ensures { EventHoldsSet event.now }
 {
     if let Event::Frame(frame) = event {
-        if let Message::Publish(state) = &frame.message {
+        if let WireMessage::Publish(state) = &frame.message {
             // The contract of this call is the law.
             let _ = state.value.members.len();
         }

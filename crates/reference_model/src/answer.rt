@@ -8,17 +8,21 @@ use crate::no_answer::NoAnswer;
 use crate::node_now::NodeNow;
 use std::alloc::Global;
 use voting_config::NodeId;
-use world_model::{Act, Reply};
+use world_model::{Act, ActReply};
 
 impl NodeNow {
-    fn unless_halted(&self, reply: Reply) -> Reply
+    fn unless_halted(&self, reply: ActReply) -> ActReply
         ensures { result ≡ unless_halted (seen self.now) reply }
     {
-        if self.stopped { Reply::Stopped } else { reply }
+        if self.stopped {
+            ActReply::Stopped
+        } else {
+            reply
+        }
     }
 
     /// What the node answers to an act, by what it is.
-    pub fn reply(&self, me: NodeId, act: &Act) -> Result<Reply, NoAnswer>
+    pub fn reply(&self, me: NodeId, act: &Act) -> Result<ActReply, NoAnswer>
         ensures value { IfOk result (λ r. r ≡ reply_at me (seen self.now) act.now) }
         ensures err { IfErr result (ExcusesNode self.now) }
     {
@@ -30,7 +34,7 @@ impl NodeNow {
             Act::Publish(request) => self.publish_reply(me, request),
             Act::Response(response) => self.response_reply(me, response)?,
             Act::Commit(commit) => self.commit_reply(commit),
-            Act::Open(_) => return Ok(Reply::Taken(None, false)),
+            Act::Open(_) => return Ok(ActReply::Taken(None, false)),
         };
         Ok(self.unless_halted(reply))
     }
@@ -38,7 +42,7 @@ impl NodeNow {
 
 /// What the node `me` answers to an act after these entries, the oldest first. Nothing is answered only where memory runs out, or where
 /// at some moment there were as many votes or responses as a set of ids holds.
-pub fn reply(alloc: Global, me: NodeId, entries: &[Entry], act: &Act) -> Result<Reply, NoAnswer>
+pub fn reply(alloc: Global, me: NodeId, entries: &[Entry], act: &Act) -> Result<ActReply, NoAnswer>
     ensures value { IfOk result (λ r. r ≡ reply_of me (history_of entries.now) act.now) }
     ensures err { IfErr result (Excuses entries.now) }
 {

@@ -3,7 +3,7 @@ ghost use Rattle.std.specs.Prelude.{◌≡◌};
 ghost use Rattle.world_model.specs.Acts.{is_ok, is_effective, is_disk, wins};
 ghost use Rattle.world_model.specs.declared.acts.Outcome.TheVariants as ending;
 
-use world_model::{Act, Outcome, Reply};
+use world_model::{Act, ActReply, Outcome};
 
 /// An act of a node, and how it ended.
 #[derive(Drop)]
@@ -12,24 +12,24 @@ pub struct Entry {
     pub outcome: Outcome,
 }
 
-fn is_taken(reply: &Reply) -> bool
+fn is_taken(reply: &ActReply) -> bool
     ensures taken { result ≡ is_ok (ending.Answered reply.now) }
     ensures kept { result ≡ is_effective (ending.Answered reply.now) }
 {
     match reply {
-        Reply::Taken(_, _) => true,
-        Reply::Refused(_) => false,
-        Reply::Stopped => false,
+        ActReply::Taken(_, _) => true,
+        ActReply::Refused(_) => false,
+        ActReply::Stopped => false,
     }
 }
 
-fn is_won(reply: &Reply) -> bool
+fn is_won(reply: &ActReply) -> bool
     ensures { result ≡ wins (ending.Answered reply.now) }
 {
     match reply {
-        Reply::Taken(_, won) => *won,
-        Reply::Refused(_) => false,
-        Reply::Stopped => false,
+        ActReply::Taken(_, won) => *won,
+        ActReply::Refused(_) => false,
+        ActReply::Stopped => false,
     }
 }
 

@@ -14,7 +14,7 @@ use cluster_state::{
     ValueCause,
 };
 use voting_config::{NodeId, NodeSet, VotingConfig};
-use world_model::{Cause, Message, Reply};
+use world_model::{ActReply, Cause, Message};
 
 impl NodeNow {
     // Whether the votes elect: a quorum of the committed configuration and of the accepted one.
@@ -32,29 +32,29 @@ impl NodeNow {
     }
 
     /// What the node answers to the initial configuration.
-    pub fn bootstrap_reply(&self, config: &VotingConfig) -> Reply
+    pub fn bootstrap_reply(&self, config: &VotingConfig) -> ActReply
         ensures { result ≡ bootstrap_reply (seen self.now) config.now }
     {
         if !self.accepted.config.is_empty() {
-            return Reply::Refused(Cause::Initial(InitialCause::AlreadySet));
+            return ActReply::Refused(Cause::Initial(InitialCause::AlreadySet));
         }
         if config.is_empty() {
-            return Reply::Refused(Cause::Initial(InitialCause::EmptyConfig));
+            return ActReply::Refused(Cause::Initial(InitialCause::EmptyConfig));
         }
-        Reply::Taken(None, false)
+        ActReply::Taken(None, false)
     }
 
     /// What the node answers to a start of a join.
-    pub fn start_reply(&self, me: NodeId, candidate: NodeId, term: u64) -> Reply
+    pub fn start_reply(&self, me: NodeId, candidate: NodeId, term: u64) -> ActReply
         ensures { result ≡ start_reply me (seen self.now) candidate term }
     {
         if term <= self.term {
-            return Reply::Refused(Cause::Start(StartCause::TermNotGreater(self.term, term)));
+            return ActReply::Refused(Cause::Start(StartCause::TermNotGreater(self.term, term)));
         }
         if term > LAST_NUMBER {
-            return Reply::Refused(Cause::Start(StartCause::TermTooLarge(term)));
+            return ActReply::Refused(Cause::Start(StartCause::TermTooLarge(term)));
         }
-        Reply::Taken(
+        ActReply::Taken(
             Some(Message::Join(Join {
                 source: me,
                 target: candidate,
@@ -93,16 +93,16 @@ impl NodeNow {
     }
 
     /// What the node answers to a join.
-    pub fn join_reply(&self, me: NodeId, join: &Join) -> Result<Reply, NoAnswer>
+    pub fn join_reply(&self, me: NodeId, join: &Join) -> Result<ActReply, NoAnswer>
         ensures value { IfOk result (λ r. r ≡ join_reply me (seen self.now) join.now) }
         ensures err { IfErr result (ExcusesNode self.now) }
     {
         if let Err(cause) = self.check_join(me, join) {
-            return Ok(Reply::Refused(Cause::Join(cause)));
+            return Ok(ActReply::Refused(Cause::Join(cause)));
         }
         let mut votes = self.votes.copy();
         votes.insert(join.source)?;
-        Ok(Reply::Taken(None, !self.won && self.elects(&votes)))
+        Ok(ActReply::Taken(None, !self.won && self.elects(&votes)))
     }
 
     /// What the node answers to a client's value.
@@ -112,11 +112,11 @@ impl NodeNow {
         version: u64,
         config: &VotingConfig,
         value: &ClusterValue,
-    ) -> Result<Reply, NoAnswer>
+    ) -> Result<ActReply, NoAnswer>
         ensures value { IfOk result (λ r. r ≡ value_reply me (seen self.now) version config.now value.now) }
         ensures err { IfErr result (ExcusesNode self.now) }
     {
-        let refused = |cause| Ok(Reply::Refused(Cause::Value(cause)));
+        let refused = |cause| Ok(ActReply::Refused(Cause::Value(cause)));
         let accepted = self.accepted.version;
         if !self.won {
             return refused(ValueCause::NotWon);
@@ -145,28 +145,28 @@ impl NodeNow {
             committed: VotingConfig::of(self.committed.members()),
             value: value.copy()?,
         };
-        Ok(Reply::Taken(
+        Ok(ActReply::Taken(
             Some(Message::Publish(PublishRequest { source: me, state })),
             false,
         ))
     }
 
     /// What the node answers to a published state.
-    pub fn publish_reply(&self, me: NodeId, request: &PublishRequest) -> Reply
+    pub fn publish_reply(&self, me: NodeId, request: &PublishRequest) -> ActReply
         ensures { result ≡ publish_reply me (seen self.now) request.now }
     {
         let term = request.state.term;
         let version = request.state.version;
         if self.term != term {
-            return Reply::Refused(Cause::Publish(PublishCause::TermMismatch(self.term, term)));
+            return ActReply::Refused(Cause::Publish(PublishCause::TermMismatch(self.term, term)));
         }
         let accepted = self.accepted.version;
         if term == self.accepted.term && version <= accepted {
-            return Reply::Refused(Cause::Publish(PublishCause::VersionNotGreater(
+            return ActReply::Refused(Cause::Publish(PublishCause::VersionNotGreater(
                 accepted, version,
             )));
         }
-        Reply::Taken(
+        ActReply::Taken(
             Some(Message::Response(PublishResponse {
                 source: me,
                 target: request.source,
@@ -199,11 +199,15 @@ impl NodeNow {
     }
 
     /// What the node answers to the response to a publication.
-    pub fn response_reply(&self, me: NodeId, response: &PublishResponse) -> Result<Reply, NoAnswer>
+    pub fn response_reply(
+        &self,
+        me: NodeId,
+        response: &PublishResponse,
+    ) -> Result<ActReply, NoAnswer>
         ensures value { IfOk result (λ r. r ≡ response_reply me (seen self.now) response.now) }
         ensures err { IfErr result (ExcusesNode self.now) }
     {
-        let refused = |cause| Ok(Reply::Refused(Cause::Response(cause)));
+        let refused = |cause| Ok(ActReply::Refused(Cause::Response(cause)));
         if response.target != me {
             return refused(ResponseCause::NotForMe(response.target));
         }
@@ -217,35 +221,38 @@ impl NodeNow {
             return refused(ResponseCause::VersionMismatch(self.version, response.version));
         }
         let sends = self.commit_sent(me, response)?;
-        Ok(Reply::Taken(sends, false))
+        Ok(ActReply::Taken(sends, false))
     }
 
     /// What the node answers to a commit.
-    pub fn commit_reply(&self, commit: &ApplyCommit) -> Reply
+    pub fn commit_reply(&self, commit: &ApplyCommit) -> ActReply
         ensures { result ≡ commit_reply (seen self.now) commit.now }
     {
         let accepted = &self.accepted;
         if self.term != commit.term {
-            return Reply::Refused(Cause::Commit(CommitCause::TermMismatch(self.term, commit.term)));
+            return ActReply::Refused(Cause::Commit(CommitCause::TermMismatch(
+                self.term,
+                commit.term,
+            )));
         }
         if accepted.term != commit.term {
-            return Reply::Refused(Cause::Commit(CommitCause::AcceptedTermMismatch(
+            return ActReply::Refused(Cause::Commit(CommitCause::AcceptedTermMismatch(
                 accepted.term,
                 commit.term,
             )));
         }
         if accepted.version != commit.version {
-            return Reply::Refused(Cause::Commit(CommitCause::VersionMismatch(
+            return ActReply::Refused(Cause::Commit(CommitCause::VersionMismatch(
                 accepted.version,
                 commit.version,
             )));
         }
         if self.won && accepted.version != self.version {
-            return Reply::Refused(Cause::Commit(CommitCause::Publishing(
+            return ActReply::Refused(Cause::Commit(CommitCause::Publishing(
                 accepted.version,
                 self.version,
             )));
         }
-        Reply::Taken(None, false)
+        ActReply::Taken(None, false)
     }
 }

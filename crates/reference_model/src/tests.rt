@@ -9,7 +9,7 @@ use state_journal::{PlainKeeper, Ready};
 use std::alloc::{AllocError, Global};
 use std::test::Fail;
 use voting_config::{NodeId, NodeSet, VotingConfig};
-use world_model::{Act, Message, Outcome, Reply};
+use world_model::{Act, ActReply, Message, Outcome};
 
 // The state ready to be kept, where its value is the empty one, as in each act here.
 fn ready(alloc: Global, state: &ClusterState) -> Result<Ready, AllocError> {
@@ -56,7 +56,7 @@ fn core_outcome(
         }
         Act::Response(response) => Ok(outcome_of(node.publish_response(response))),
         Act::Commit(commit) => Ok(outcome_of(node.commit(commit))),
-        Act::Open(_) => Ok(Outcome::Answered(Reply::Taken(None, false))),
+        Act::Open(_) => Ok(Outcome::Answered(ActReply::Taken(None, false))),
     }
 }
 
@@ -108,11 +108,11 @@ fn taken_text(alloc: Global, sends: &Option<Message>, won: bool) -> Result<Strin
     }
 }
 
-fn reply_text(alloc: Global, reply: &Reply) -> Result<String, AllocError> {
+fn reply_text(alloc: Global, reply: &ActReply) -> Result<String, AllocError> {
     match reply {
-        Reply::Taken(sends, won) => taken_text(alloc, sends, *won),
-        Reply::Refused(cause) => format!(in alloc; "{cause:?}"),
-        Reply::Stopped => format!(in alloc; "stopped"),
+        ActReply::Taken(sends, won) => taken_text(alloc, sends, *won),
+        ActReply::Refused(cause) => format!(in alloc; "{cause:?}"),
+        ActReply::Stopped => format!(in alloc; "stopped"),
     }
 }
 
@@ -136,7 +136,7 @@ fn opened(alloc: Global, me: NodeId) -> Result<Driven, AllocError> {
     let mut entries = Vec::new(alloc);
     entries.push(Entry {
         act: Act::Open(Kept::empty(alloc)),
-        outcome: Outcome::Answered(Reply::Taken(None, false)),
+        outcome: Outcome::Answered(ActReply::Taken(None, false)),
     })?;
     Ok(Driven {
         me,

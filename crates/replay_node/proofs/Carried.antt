@@ -5,7 +5,7 @@ use Rattle.voting_config.specs.Ids.{Id}
 use Rattle.coord_state.specs.declared.coord.CoordState.{CoordState}
 use Rattle.coord_state.specs.declared.ending.NotTaken.TheVariants as untaken
 use Rattle.world_model.specs.declared.acts.Act.{Act}
-use Rattle.world_model.specs.declared.acts.Reply.{Reply}
+use Rattle.world_model.specs.declared.acts.ActReply.{ActReply}
 use Rattle.world_model.specs.declared.acts.Outcome.{Outcome}
 use Rattle.world_model.specs.declared.acts.Outcome.TheVariants.{Answered, Disk}
 use Rattle.world_model.specs.Histories.{is_opening}
@@ -35,7 +35,7 @@ is_struck (Struck d) = true
 -- the core went from one state to the other by the acts of these items, of which those were done
 pub data Carries : CoordState Journal → CoordState Journal → List Item → List Item → Ending → Type 0 where
   Nothing : (c : CoordState Journal) → Carries c c [] [] All
-  ByAct : (old mid new : CoordState Journal) (act : Act) (o : Outcome) (reply : Reply) (is done : List Item) (e : Ending) → is_opening act ≡ false → Step old mid act (Answered reply) → Carries mid new is done e
+  ByAct : (old mid new : CoordState Journal) (act : Act) (o : Outcome) (reply : ActReply) (is done : List Item) (e : Ending) → is_opening act ≡ false → Step old mid act (Answered reply) → Carries mid new is done e
       → Carries old new (Acts act o ∷ is) (Acts act (Answered reply) ∷ done) e
   ByFault : (old new : CoordState Journal) (act : Act) (o f : Outcome) (is : List Item) (d : Did) → is_opening act ≡ false → Step old new act (Disk false) → IsToldBy new untaken.Disk d → outcome_of d ≡ Some f
       → Carries old new (Acts act o ∷ is) (Acts act f ∷ []) (Struck d)
@@ -79,13 +79,13 @@ act_front me new i c done e keeps h =
     from false = refl
 
 -- an act that was answered made all its calls
-done_is : (end : CallsEnd) (r reply : Reply) → Answered reply ≡ outcome_by end r → end ≡ Done
+done_is : (end : CallsEnd) (r reply : ActReply) → Answered reply ≡ outcome_by end r → end ≡ Done
 done_is Done r reply h = refl
 done_is Failed r reply h = absurd (cc)
 done_is (CrashedIn way) r reply h = absurd (cc)
 
 -- one that the disk struck did not
-struck_course : (me : Id) (new : CoordState Journal) (x : NodeWorld) (act : Act) (rest : NodeWorld → NodeCourse) (d : Did) (end : CallsEnd) (r : Reply) → IsToldBy new untaken.Disk d → outcome_of d ≡ Some (outcome_by end r) → StandsAfter me new x d
+struck_course : (me : Id) (new : CoordState Journal) (x : NodeWorld) (act : Act) (rest : NodeWorld → NodeCourse) (d : Did) (end : CallsEnd) (r : ActReply) → IsToldBy new untaken.Disk d → outcome_of d ≡ Some (outcome_by end r) → StandsAfter me new x d
     → Carried me new (node_act_then end (Acts act (outcome_by end r)) x rest) (Acts act (outcome_by end r) ∷ []) (Struck d)
 struck_course me new x act rest d Failed r told is stands = record { items = refl; struck = refl; stands = stands }
 struck_course me new x act rest d (CrashedIn way) r told is stands = record { items = refl; struck = refl; stands = stands }

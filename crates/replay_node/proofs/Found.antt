@@ -4,8 +4,8 @@ use Rattle.voting_config.specs.Ids.{Id}
 use Rattle.cluster_state.specs.declared.state.Kept.{Kept}
 use Rattle.world_model.specs.declared.acts.Act.{Act}
 use Rattle.world_model.specs.declared.acts.Act.TheVariants.{Open}
-use Rattle.world_model.specs.declared.acts.Reply.{Reply}
-use Rattle.world_model.specs.declared.acts.Reply.TheVariants.{Stopped}
+use Rattle.world_model.specs.declared.acts.ActReply.{ActReply}
+use Rattle.world_model.specs.declared.acts.ActReply.TheVariants.{Stopped}
 use Rattle.world_model.specs.declared.acts.Outcome.TheVariants.{Answered, Disk, Crashed}
 use Rattle.world_model.specs.Acts.{NodeHistory, NoActs, Then}
 use Rattle.world_model.specs.NodeState.{durable_of}
@@ -29,7 +29,7 @@ tells_of a b c d p q t e = p ∙ t (subst (λ (x : Kept). shows_as x d ≡ true)
 pub struck_tells : (me : Id) (g : NodeHistory) (act : Act) → (is_taken (reply_of me g act) ≡ true) × (writes act ≡ true) → Tells (durable_of g) (durable_of (Then g act (Crashed true)))
 struck_tells me g act t = shown_same me g act (closed_of_writes act t.1) t.0
 
-then_tells : (me : Id) (g : NodeHistory) (act : Act) (reply : Reply) → is_opening act ≡ false → MayFollow me g act (Answered reply) → IsStill g → TellsApart g
+then_tells : (me : Id) (g : NodeHistory) (act : Act) (reply : ActReply) → is_opening act ≡ false → MayFollow me g act (Answered reply) → IsStill g → TellsApart g
     → Tells (durable_of (Then (settled false g) act (Answered reply))) (durable_of (Then (settled true g) act (Answered reply)))
 then_tells me g act reply o f (inl u) t = λ e. ap (λ (x : NodeHistory). durable_of (Then x act (Answered reply))) (unstruck g false u ∙ sym (unstruck g true u))
 then_tells me g act reply o f (inr (inl stopped)) t =

@@ -9,8 +9,8 @@ use Rattle.world_model.specs.declared.acts.Act.{Act}
 use Rattle.world_model.specs.declared.acts.Act.TheVariants.{Bootstrap, StartJoin, TakeJoin, Value, Publish, Response, Commit, Open}
 use Rattle.world_model.specs.declared.acts.Message.{Message}
 use Rattle.world_model.specs.declared.acts.Message.TheVariants.{Join as JoinMessage, Publish as PublishMessage, Response as ResponseMessage, Commit as CommitMessage}
-use Rattle.world_model.specs.declared.acts.Reply.{Reply}
-use Rattle.world_model.specs.declared.acts.Reply.TheVariants.{Taken, Refused, Stopped}
+use Rattle.world_model.specs.declared.acts.ActReply.{ActReply}
+use Rattle.world_model.specs.declared.acts.ActReply.TheVariants.{Taken, Refused, Stopped}
 use Rattle.world_model.specs.Acts.{NodeHistory}
 use Rattle.world_model.specs.NodeState.{durable_of}
 use Rattle.world_model.specs.Histories.{node_history, sent, is_down, is_opening, Continues, IsSourced, MayHappen}
@@ -21,7 +21,7 @@ use Rattle.replay_node.specs.Sent.{taking}
 use Rattle.replay_node.specs.Worlds.{World, node_world}
 
 -- the calls of an act end well, unless it is taken and writes
-ends_well : (disk : NodeDisk) (reply : Reply) (act : Act) (kept : Kept) (files : Files) → ((calls_made disk (act_calls reply (change_of act) kept files)).ended ≡ Done) ⊎ ((is_taken reply ≡ true) × (writes act ≡ true))
+ends_well : (disk : NodeDisk) (reply : ActReply) (act : Act) (kept : Kept) (files : Files) → ((calls_made disk (act_calls reply (change_of act) kept files)).ended ≡ Done) ⊎ ((is_taken reply ≡ true) × (writes act ≡ true))
 ends_well disk (Refused cause) act kept files = inl refl
 ends_well disk Stopped act kept files = inl refl
 ends_well disk (Taken sends wins) (Bootstrap config) kept files = inr (refl, refl)

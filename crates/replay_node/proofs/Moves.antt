@@ -7,7 +7,7 @@ use Rattle.zen_disk.specs.declared.orders.Order.{Order}
 use Rattle.zen_disk.specs.declared.orders.Way.{Way}
 use Rattle.world_model.specs.declared.acts.Act.{Act}
 use Rattle.world_model.specs.declared.acts.Act.TheVariants.{Open}
-use Rattle.world_model.specs.declared.acts.Reply.TheVariants.{Taken}
+use Rattle.world_model.specs.declared.acts.ActReply.TheVariants.{Taken}
 use Rattle.world_model.specs.declared.acts.Outcome.{Outcome}
 use Rattle.world_model.specs.declared.acts.Outcome.TheVariants.{Answered}
 use Rattle.world_model.specs.Acts.{NodeHistory, Then}

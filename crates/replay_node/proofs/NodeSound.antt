@@ -31,8 +31,8 @@ use Rattle.coord_state.specs.Writes.{change_of, kept_after}
 use Rattle.world_model.specs.declared.acts.Act.{Act}
 use Rattle.world_model.specs.declared.acts.Act.TheVariants.{Bootstrap, StartJoin, TakeJoin, Value, Publish, Response, Commit, Open}
 use Rattle.world_model.specs.declared.acts.Message.{Message}
-use Rattle.world_model.specs.declared.acts.Reply.{Reply}
-use Rattle.world_model.specs.declared.acts.Reply.TheVariants.{Taken, Refused, Stopped}
+use Rattle.world_model.specs.declared.acts.ActReply.{ActReply}
+use Rattle.world_model.specs.declared.acts.ActReply.TheVariants.{Taken, Refused, Stopped}
 use Rattle.world_model.specs.declared.acts.Outcome.TheVariants.{Answered, Disk, Crashed}
 use Rattle.world_model.specs.Acts.{NodeHistory, NoActs, Then}
 use Rattle.world_model.specs.NodeState.{term_of, accepted_of, committed_of, durable_of, halted_of}
@@ -200,7 +200,7 @@ leaves_acts w s = from (needs_opening w) refl
 -- ---- an act
 
 -- one that changes nothing that is kept
-quiet_sound : (w : NodeWorld) (act : Act) (reply : Reply) → is_opening act ≡ false → ((g : NodeHistory) → durable_of (Then g act (Answered reply)) ≡ durable_of g) → Sound w → w.down ≡ false → Sound (record { acts = Then w.acts act (Answered reply); disk = w.disk; down = false })
+quiet_sound : (w : NodeWorld) (act : Act) (reply : ActReply) → is_opening act ≡ false → ((g : NodeHistory) → durable_of (Then g act (Answered reply)) ≡ durable_of g) → Sound w → w.down ≡ false → Sound (record { acts = Then w.acts act (Answered reply); disk = w.disk; down = false })
 quiet_sound w act reply o same s up =
     let needs : halted_of (Then w.acts act (Answered reply)) ≡ needs_opening w = halted_then w.acts act reply o ∙ sym (ap (λ (b : Bool). b || halted_of w.acts) up) in
     let own : (k : Bool) → durable_of (settled k (Then w.acts act (Answered reply))) ≡ durable_of (settled k w.acts) = λ k. ap durable_of (settled_then k w.acts act reply o) ∙ same (settled k w.acts) in
@@ -215,7 +215,7 @@ quiet_sound w act reply o same s up =
     }
 
 -- one that keeps a change, by how its calls ended
-abbrev acted_by : CallsEnd → NodeDisk → NodeHistory → Act → Reply → NodeWorld
+abbrev acted_by : CallsEnd → NodeDisk → NodeHistory → Act → ActReply → NodeWorld
 acted_by end disk g act reply = record { acts = Then g act (outcome_by end reply); disk = disk; down = ends_in_a_crash end }
 
 module _ (g : NodeHistory) (act : Act) (o : is_opening act ≡ false) (k : Keeps g act) (free : IsUnstruck g) (going : halted_of g ≡ false) (fit : MayBegin (durable_of g)) where
@@ -248,7 +248,7 @@ module _ (g : NodeHistory) (act : Act) (o : is_opening act ≡ false) (k : Keeps
       halted_sound h disk true refl (λ d. absurd (cc)) (struck_fit h lost kept) (struck_left disk.files h lost kept left)
 
 -- an act by its reply
-abbrev after_reply : NodeWorld → Act → Reply → NodeWorld
+abbrev after_reply : NodeWorld → Act → ActReply → NodeWorld
 after_reply w act reply =
     let called : Called = calls_made w.disk (act_calls reply (change_of act) (durable_of w.acts) (bytes_read w.disk.files)) in
     acted_by called.ended called.disk w.acts act reply
@@ -282,7 +282,7 @@ module _ (me : Id) (w : NodeWorld) (act : Act) (s : Sound w) (up : w.down ≡ fa
       subst (λ (c : Option Change). let called : Called = calls_made w.disk (act_calls (Taken sends wins) c (durable_of w.acts) (bytes_read w.disk.files)) in Sound (acted_by called.ended called.disk w.acts act (Taken sends wins))) (sym none.0)
       (quiet_sound w act (Taken sends wins) o none.1 s up)
 
-  by_reply : (reply : Reply) → reply ≡ reply_of me w.acts act → halted_of w.acts ≡ false → Sound (after_reply w act reply)
+  by_reply : (reply : ActReply) → reply ≡ reply_of me w.acts act → halted_of w.acts ≡ false → Sound (after_reply w act reply)
   by_reply (Taken sends wins) is going = taking sends wins is (writes act) refl going
   by_reply (Refused cause) is going = quiet_sound w act (Refused cause) o (λ g. durable_refused g act (Refused cause) o refl) s up
   by_reply Stopped is going = quiet_sound w act Stopped o (λ g. durable_refused g act Stopped o refl) s up
@@ -292,7 +292,7 @@ module _ (me : Id) (w : NodeWorld) (act : Act) (s : Sound w) (up : w.down ≡ fa
     where
       from : (b : Bool) → halted_of w.acts ≡ b → Sound (after_act me w act)
       from false going = by_reply (reply_of me w.acts act) refl going
-      from true stopped = subst (λ (r : Reply). Sound (after_reply w act r)) (sym (halted_reply me w.acts act o stopped)) (quiet_sound w act Stopped o (λ g. durable_refused g act Stopped o refl) s up)
+      from true stopped = subst (λ (r : ActReply). Sound (after_reply w act r)) (sym (halted_reply me w.acts act o stopped)) (quiet_sound w act Stopped o (λ g. durable_refused g act Stopped o refl) s up)
 
 -- ---- other lines
 

@@ -23,7 +23,7 @@ use Rattle.state_journal.specs.declared.why.Why.{Why}
 use Rattle.coord_state.specs.StandsFor.{StandsFor}
 use Rattle.coord_state.specs.declared.coord.CoordState.{CoordState}
 use Rattle.world_model.specs.declared.acts.Act.TheVariants.{Open as OpenAct}
-use Rattle.world_model.specs.declared.acts.Reply.TheVariants.{Taken}
+use Rattle.world_model.specs.declared.acts.ActReply.TheVariants.{Taken}
 use Rattle.world_model.specs.declared.acts.Outcome.TheVariants.{Answered}
 use Rattle.world_model.specs.Acts.{NodeHistory, NoActs, Then}
 use Rattle.world_model.specs.Histories.{is_down}

@@ -3,8 +3,8 @@ use Rattle.std.proofs.Common.{◌≡◌, Bool, true, false, refl, sym, ◌∙◌
 use Rattle.voting_config.specs.Ids.{Id}
 use Rattle.world_model.specs.declared.acts.Act.{Act}
 use Rattle.world_model.specs.declared.acts.Act.TheVariants.{Open}
-use Rattle.world_model.specs.declared.acts.Reply.{Reply}
-use Rattle.world_model.specs.declared.acts.Reply.TheVariants.{Stopped}
+use Rattle.world_model.specs.declared.acts.ActReply.{ActReply}
+use Rattle.world_model.specs.declared.acts.ActReply.TheVariants.{Stopped}
 use Rattle.world_model.specs.declared.acts.Outcome.{Outcome}
 use Rattle.world_model.specs.declared.acts.Outcome.TheVariants.{Answered, Disk, Crashed}
 use Rattle.world_model.specs.Acts.{NodeHistory, NoActs, Then}
@@ -24,7 +24,7 @@ halted_by_disk g act kept w = refl
 abbrev pub IsStill : NodeHistory → Type 0
 IsStill g = IsUnstruck g ⊎ ((halted_of g ≡ true) ⊎ (is_down g ≡ true))
 
-still_then : (me : Id) (g : NodeHistory) (act : Act) (reply : Reply) → MayFollow me g act (Answered reply) → IsStill g → IsStill (Then g act (Answered reply))
+still_then : (me : Id) (g : NodeHistory) (act : Act) (reply : ActReply) → MayFollow me g act (Answered reply) → IsStill g → IsStill (Then g act (Answered reply))
 still_then me g (Open found) reply f s = inl tt
 still_then me g act reply f (inl u) = inl u
 still_then me g act reply f (inr (inl e)) = inr (inl e)
@@ -62,7 +62,7 @@ up_before me g act o f c = from (is_down g) refl
     from false e = refl
     from true e = let up = f.up e in cc
 
-local_then : (me : Id) (k : Bool) (g : NodeHistory) (act : Act) (reply : Reply) → is_opening act ≡ false → IsLocal me (Then g act (Answered reply)) → IsLocal me (settled k g) → IsLocal me (Then (settled k g) act (Answered reply))
+local_then : (me : Id) (k : Bool) (g : NodeHistory) (act : Act) (reply : ActReply) → is_opening act ≡ false → IsLocal me (Then g act (Answered reply)) → IsLocal me (settled k g) → IsLocal me (Then (settled k g) act (Answered reply))
 local_then me k g act reply o l s =
     let reply_is = settled_reply me k g act l.0 o (up_before me g act (Answered reply) l.1 o) in
     (s, record { follows = l.1.follows ∙ sym reply_is; up = λ d. l.1.up (sym (settled_down k g) ∙ d) }, continues_any (settled k g) act o)
@@ -75,7 +75,7 @@ settled_local me k (Then g (Open found) (Answered reply)) l = l
 settled_local me k (Then g act (Answered reply)) l = local_then me k g act reply refl l (settled_local me k g l.0)
 
 -- and the other way round
-local_before : (me : Id) (k : Bool) (g : NodeHistory) (act : Act) (reply : Reply) → is_opening act ≡ false → IsLocal me g → MayFollow me (settled k g) act (Answered reply) → IsLocal me (Then g act (Answered reply))
+local_before : (me : Id) (k : Bool) (g : NodeHistory) (act : Act) (reply : ActReply) → is_opening act ≡ false → IsLocal me g → MayFollow me (settled k g) act (Answered reply) → IsLocal me (Then g act (Answered reply))
 local_before me k g act reply o l f =
     let up : is_down g ≡ false = sym (settled_down k g) ∙ up_before me (settled k g) act (Answered reply) f o in
     (l, record { follows = f.follows ∙ settled_reply me k g act l o up; up = λ d. f.up (settled_down k g ∙ d) }, continues_any g act o)

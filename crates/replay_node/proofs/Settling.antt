@@ -3,7 +3,7 @@ use Rattle.std.proofs.Common.{◌≡◌, Bool, false, List, refl, ap}
 use Rattle.voting_config.specs.Ids.{Id}
 use Rattle.world_model.specs.declared.acts.Act.{Act}
 use Rattle.world_model.specs.declared.acts.Act.TheVariants.{TakeJoin, Value, Response, Open}
-use Rattle.world_model.specs.declared.acts.Reply.{Reply}
+use Rattle.world_model.specs.declared.acts.ActReply.{ActReply}
 use Rattle.world_model.specs.declared.acts.Outcome.{Outcome}
 use Rattle.world_model.specs.declared.acts.Outcome.TheVariants.{Answered, Disk, Crashed}
 use Rattle.world_model.specs.Acts.{NodeHistory, NoActs, Then, is_disk}
@@ -15,11 +15,11 @@ use Rattle.trace_text.specs.Published.{published_by, last_published}
 
 -- one more act
 
-pub unstruck_then : (g : NodeHistory) (act : Act) (reply : Reply) → IsUnstruck g → IsUnstruck (Then g act (Answered reply))
+pub unstruck_then : (g : NodeHistory) (act : Act) (reply : ActReply) → IsUnstruck g → IsUnstruck (Then g act (Answered reply))
 unstruck_then g (Open found) reply u = tt
 unstruck_then g act reply u = u
 
-pub settled_then : (k : Bool) (g : NodeHistory) (act : Act) (reply : Reply) → is_opening act ≡ false → settled k (Then g act (Answered reply)) ≡ Then (settled k g) act (Answered reply)
+pub settled_then : (k : Bool) (g : NodeHistory) (act : Act) (reply : ActReply) → is_opening act ≡ false → settled k (Then g act (Answered reply)) ≡ Then (settled k g) act (Answered reply)
 settled_then k g (Open found) reply e = cc
 settled_then k g act reply e = refl
 

@@ -36,8 +36,8 @@ use Rattle.world_model.specs.declared.acts.Act.{Act}
 use Rattle.world_model.specs.declared.acts.Act.TheVariants.{Bootstrap, StartJoin, Publish, Commit, Open}
 use Rattle.world_model.specs.declared.acts.Cause.TheVariants.{Publish as PublishRefused}
 use Rattle.world_model.specs.declared.acts.Message.{Message}
-use Rattle.world_model.specs.declared.acts.Reply.{Reply}
-use Rattle.world_model.specs.declared.acts.Reply.TheVariants.{Taken, Refused, Stopped}
+use Rattle.world_model.specs.declared.acts.ActReply.{ActReply}
+use Rattle.world_model.specs.declared.acts.ActReply.TheVariants.{Taken, Refused, Stopped}
 use Rattle.world_model.specs.declared.acts.Outcome.{Outcome}
 use Rattle.world_model.specs.declared.acts.Outcome.TheVariants.{Answered, Disk, Crashed}
 use Rattle.world_model.specs.Acts.{NodeHistory, Then}
@@ -82,14 +82,14 @@ module _ (old new : Journal) (d : NodeDisk) (kept : Kept) (stands : DiskStands o
       said_done (keeping_calls (place_of (standing_in (bytes_read d.files))) kept change) old.log.disk new.log.disk d true stands ran refl
   taken_done None sends wins running wrote = (refl, subst (λ (j : Journal). DiskStands j.log.disk d) (sym wrote) stands)
 
-  answered_done : (act : Act) (reply : Reply) → (is_taken reply ≡ true → old.log.stopped ≡ false) → WritesBy journal_ghosts old act new (Answered reply) → CallsDone new (calls_made d (act_calls reply (change_of act) kept (bytes_read d.files)))
+  answered_done : (act : Act) (reply : ActReply) → (is_taken reply ≡ true → old.log.stopped ≡ false) → WritesBy journal_ghosts old act new (Answered reply) → CallsDone new (calls_made d (act_calls reply (change_of act) kept (bytes_read d.files)))
   answered_done act (Taken sends wins) running wrote = taken_done (change_of act) sends wins (running refl) wrote
   answered_done act (Refused cause) running wrote = (refl, subst (λ (j : Journal). DiskStands j.log.disk d) (sym wrote) stands)
   answered_done act Stopped running wrote = (refl, subst (λ (j : Journal). DiskStands j.log.disk d) (sym wrote) stands)
 
 -- ---- the journal is halted as the acts say
 
-pub halted_then : (g : NodeHistory) (act : Act) (reply : Reply) → is_opening act ≡ false → halted_of (Then g act (Answered reply)) ≡ halted_of g
+pub halted_then : (g : NodeHistory) (act : Act) (reply : ActReply) → is_opening act ≡ false → halted_of (Then g act (Answered reply)) ≡ halted_of g
 halted_then g (Open found) reply o = cc
 halted_then g act reply o = refl
 
@@ -115,7 +115,7 @@ runs_of me c g act o s taken = from c.keeper.log.stopped refl
 
 -- ---- an act that is answered
 
-leaves_halted : (fuse : MemFuse) (g : NodeHistory) (act : Act) (reply : Reply) → is_opening act ≡ false → is_taken reply ≡ false → LeavesActs fuse g → LeavesActs fuse (Then g act (Answered reply))
+leaves_halted : (fuse : MemFuse) (g : NodeHistory) (act : Act) (reply : ActReply) → is_opening act ≡ false → is_taken reply ≡ false → LeavesActs fuse g → LeavesActs fuse (Then g act (Answered reply))
 leaves_halted fuse g act reply o refused leaves =
     let same : (k : Bool) → durable_of (settled k (Then g act (Answered reply))) ≡ durable_of (settled k g) = λ k. ap durable_of (settled_then k g act reply o) ∙ durable_refused (settled k g) act reply o refused in
     record {
@@ -124,14 +124,14 @@ leaves_halted fuse g act reply o refused leaves =
       shown = tells_of _ _ _ _ (same false) (same true) leaves.shown;
     }
 
-module _ (old new : CoordState Journal) (act : Act) (reply : Reply) (step : Step old new act (Answered reply)) (o : is_opening act ≡ false) (w : NodeWorld) (stands : OpenStands old.me old w) where
+module _ (old new : CoordState Journal) (act : Act) (reply : ActReply) (step : Step old new act (Answered reply)) (o : is_opening act ≡ false) (w : NodeWorld) (stands : OpenStands old.me old w) where
   reply_is : reply ≡ reply_of old.me w.acts act
   reply_is = step.acts.answers w.acts stands.acts
 
   answered_calls : CallsDone new.keeper (act_called old.me w act)
   answered_calls =
-      let running = λ (taken : is_taken reply ≡ true). runs_of old.me old w.acts act o stands.acts (subst (λ (r : Reply). is_taken r ≡ true) reply_is taken) in
-      subst (λ (r : Reply). CallsDone new.keeper (calls_made w.disk (act_calls r (change_of act) (durable_of w.acts) (bytes_read w.disk.files)))) reply_is
+      let running = λ (taken : is_taken reply ≡ true). runs_of old.me old w.acts act o stands.acts (subst (λ (r : ActReply). is_taken r ≡ true) reply_is taken) in
+      subst (λ (r : ActReply). CallsDone new.keeper (calls_made w.disk (act_calls r (change_of act) (durable_of w.acts) (bytes_read w.disk.files)))) reply_is
       (answered_done old.keeper new.keeper w.disk (durable_of w.acts) stands.disk (stands_durable old w.acts stands.acts) act reply running step.wrote)
 
   pub answered_at : Answered reply ≡ outcome_at old.me w act
@@ -143,7 +143,7 @@ module _ (old new : CoordState Journal) (act : Act) (reply : Reply) (step : Step
   answered_halted : old.keeper.log.stopped ≡ true → LeavesActs new.keeper.log.disk (Then w.acts act (Answered reply))
   answered_halted stopped =
       let halted_is : reply ≡ Stopped = reply_is ∙ halted_reply old.me w.acts act o (sym (stands_halted old w.acts stands.acts) ∙ stopped) in
-      let same : new.keeper ≡ old.keeper = subst (λ (r : Reply). WritesBy journal_ghosts old.keeper act new.keeper (Answered r)) halted_is step.wrote in
+      let same : new.keeper ≡ old.keeper = subst (λ (r : ActReply). WritesBy journal_ghosts old.keeper act new.keeper (Answered r)) halted_is step.wrote in
       subst (λ (j : Journal). LeavesActs j.log.disk (Then w.acts act (Answered reply))) (sym same) (leaves_halted old.keeper.log.disk w.acts act reply o (ap is_taken halted_is) (stands.stopped stopped))
 
   pub answered_stands : OpenStands old.me new (after_act old.me w act)
@@ -217,7 +217,7 @@ module _ (old new : CoordState Journal) (act : Act) (step : Step old new act (Di
   struck_calls : act_called old.me w act ≡ calls_made w.disk calls
   struck_calls =
       let taken = taken_is (reply_of old.me w.acts act) struck_taken.0 in
-      ap (calls_made w.disk) (ap (λ (c : Option Change). act_calls (reply_of old.me w.acts act) c (durable_of w.acts) (bytes_read w.disk.files)) change.1 ∙ ap (λ (r : Reply). act_calls r (Some change.0) (durable_of w.acts) (bytes_read w.disk.files)) (sym taken.2))
+      ap (calls_made w.disk) (ap (λ (c : Option Change). act_calls (reply_of old.me w.acts act) c (durable_of w.acts) (bytes_read w.disk.files)) change.1 ∙ ap (λ (r : ActReply). act_calls r (Some change.0) (durable_of w.acts) (bytes_read w.disk.files)) (sym taken.2))
 
   ended_at : (e : CallsEnd) → (calls_made w.disk calls).ended ≡ e → outcome_by e (reply_of old.me w.acts act) ≡ outcome_at old.me w act
   ended_at e is = sym (ap (λ (x : CallsEnd). outcome_by x (reply_of old.me w.acts act)) (ap (λ (c : Called). c.ended) struck_calls ∙ is))
@@ -265,13 +265,13 @@ module _ (old new : CoordState Journal) (act : Act) (step : Step old new act (Di
 
 -- ---- an act, by what is said of it
 
-answered_after : (me : Id) (state : CoordState Journal) (w : NodeWorld) (d : Did) (reply : Reply) → outcome_of d ≡ Some (Answered reply) → OpenStands me state w → StandsAfter me state w d
+answered_after : (me : Id) (state : CoordState Journal) (w : NodeWorld) (d : Did) (reply : ActReply) → outcome_of d ≡ Some (Answered reply) → OpenStands me state w → StandsAfter me state w d
 answered_after me state w did.Crashed reply is stands = absurd (cc is)
 answered_after me state w did.Down reply is stands = absurd (cc is)
 answered_after me state w d reply is stands = stands
 
 module _ (old new : CoordState Journal) (act : Act) (closed : is_opening act ≡ false) (w : NodeWorld) (stands : OpenStands old.me old w) where
-  answered_did : (d : Did) (reply : Reply) → outcome_of d ≡ Some (Answered reply) → Step old new act (Answered reply) → StateDid old.me new w act d
+  answered_did : (d : Did) (reply : ActReply) → outcome_of d ≡ Some (Answered reply) → Step old new act (Answered reply) → StateDid old.me new w act d
   answered_did d reply is step = record {
     outcome = is ∙ ap Some (answered_at old new act reply step closed w stands);
     stands = answered_after old.me new (after_act old.me w act) d reply is (answered_stands old new act reply step closed w stands);
@@ -288,7 +288,7 @@ module _ (old new : CoordState Journal) (act : Act) (closed : is_opening act ≡
   ended_did untaken.Disk d step told = struck_did d step told
 
 -- an act that was taken
-pub taken_does : (old new : CoordState Journal) (act : Act) (reply : Reply) (d : Did) → is_opening act ≡ false → Step old new act (Answered reply) → outcome_of d ≡ Some (Answered reply) → StateDoes old new act d
+pub taken_does : (old new : CoordState Journal) (act : Act) (reply : ActReply) (d : Did) → is_opening act ≡ false → Step old new act (Answered reply) → outcome_of d ≡ Some (Answered reply) → StateDoes old new act d
 taken_does old new act reply d closed step is = record { me = step.acts.at.me; does = λ w stands. answered_did old new act closed w stands d reply is step }
 
 -- one that was not
@@ -302,7 +302,7 @@ told_does old new act why same_why closed same step r told =
 
 -- ---- a publication that is refused before it is copied
 
-still_step : (c : CoordState Journal) (request : PublishRequest) (reply : Reply) → is_taken reply ≡ false → reply ≡ reply_at c.me (fields_of journal_ghosts c) (Publish request) → Step c c (Publish request) (Answered reply)
+still_step : (c : CoordState Journal) (request : PublishRequest) (reply : ActReply) → is_taken reply ≡ false → reply ≡ reply_at c.me (fields_of journal_ghosts c) (Publish request) → Step c c (Publish request) (Answered reply)
 still_step c request (Taken sends wins) refused is = cc
 still_step c request (Refused cause) refused is = record {
   acts = acts journal_ghosts c c (Publish request) (Answered (Refused cause)) refl (record { me = refl; answers = is; after = refl; runs = refl; later = omega arith; fault = λ e. absurd (cc e) });

@@ -6,8 +6,8 @@ use Rattle.cluster_state.specs.declared.state.Kept.{Kept}
 use Rattle.world_model.specs.declared.acts.Act.{Act}
 use Rattle.world_model.specs.declared.acts.Act.TheVariants.{Bootstrap, StartJoin, Publish, Commit, Open}
 use Rattle.world_model.specs.declared.acts.Message.{Message}
-use Rattle.world_model.specs.declared.acts.Reply.{Reply}
-use Rattle.world_model.specs.declared.acts.Reply.TheVariants.{Taken, Refused, Stopped}
+use Rattle.world_model.specs.declared.acts.ActReply.{ActReply}
+use Rattle.world_model.specs.declared.acts.ActReply.TheVariants.{Taken, Refused, Stopped}
 use Rattle.world_model.specs.declared.acts.Outcome.TheVariants.{Answered, Disk, Crashed}
 use Rattle.world_model.specs.Acts.{NodeHistory, Then}
 use Rattle.world_model.specs.NodeState.{term_of, accepted_of, committed_of, durable_of}
@@ -19,7 +19,7 @@ use Rattle.replay_node.specs.Settled.{settled, shows_as, is_kept}
 
 -- an act that is not taken changes nothing
 
-pub durable_refused : (g : NodeHistory) (act : Act) (reply : Reply) → is_opening act ≡ false → is_taken reply ≡ false → durable_of (Then g act (Answered reply)) ≡ durable_of g
+pub durable_refused : (g : NodeHistory) (act : Act) (reply : ActReply) → is_opening act ≡ false → is_taken reply ≡ false → durable_of (Then g act (Answered reply)) ≡ durable_of g
 durable_refused g act (Taken sends wins) e r = cc
 durable_refused g (Open found) (Refused cause) e r = cc
 durable_refused g act (Refused cause) e r = refl
@@ -82,7 +82,7 @@ shows_self a =
 
 -- an act that was taken and kept shows in the record, unless it changed nothing
 
-pub taken_is : (r : Reply) → is_taken r ≡ true → (s : Option Message) × (w : Bool) × (Taken s w ≡ r)
+pub taken_is : (r : ActReply) → is_taken r ≡ true → (s : Option Message) × (w : Bool) × (Taken s w ≡ r)
 taken_is (Taken s w) e = (s, w, refl)
 taken_is r e = cc
 

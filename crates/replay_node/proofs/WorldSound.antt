@@ -15,8 +15,8 @@ use Rattle.world_model.specs.declared.acts.Act.{Act}
 use Rattle.world_model.specs.declared.acts.Act.TheVariants.{Value}
 use Rattle.world_model.specs.declared.acts.Message.{Message}
 use Rattle.world_model.specs.declared.acts.Message.TheVariants.{Join as JoinMessage, Publish as PublishMessage, Response as ResponseMessage, Commit as CommitMessage}
-use Rattle.world_model.specs.declared.acts.Reply.{Reply}
-use Rattle.world_model.specs.declared.acts.Reply.TheVariants.{Taken, Refused, Stopped}
+use Rattle.world_model.specs.declared.acts.ActReply.{ActReply}
+use Rattle.world_model.specs.declared.acts.ActReply.TheVariants.{Taken, Refused, Stopped}
 use Rattle.world_model.specs.declared.acts.Outcome.TheVariants.{Answered}
 use Rattle.world_model.specs.Acts.{NodeHistory}
 use Rattle.world_model.specs.NodeState.{durable_of, halted_of}
@@ -102,13 +102,13 @@ sent_fits me w act (PublishMessage r) wins s up fits is by = published_fits me w
 sent_fits me w act (ResponseMessage r) wins s up fits is by = tt
 sent_fits me w act (CommitMessage c) wins s up fits is by = tt
 
-reply_fits : (me : Id) (w : NodeWorld) (act : Act) (reply : Reply) → Sound w → w.down ≡ false → IsFitAct act → reply ≡ reply_of me w.acts act → AllByRecursion IsFitMessage (sent_by (Answered reply))
+reply_fits : (me : Id) (w : NodeWorld) (act : Act) (reply : ActReply) → Sound w → w.down ≡ false → IsFitAct act → reply ≡ reply_of me w.acts act → AllByRecursion IsFitMessage (sent_by (Answered reply))
 reply_fits me w act (Taken (Some m) wins) s up fits is = (sent_fits me w act m wins s up fits is (origin me w.acts act m wins is), tt)
 reply_fits me w act (Taken None wins) s up fits is = tt
 reply_fits me w act (Refused cause) s up fits is = tt
 reply_fits me w act Stopped s up fits is = tt
 
-outcome_fits : (end : CallsEnd) (reply : Reply) → AllByRecursion IsFitMessage (sent_by (Answered reply)) → AllByRecursion IsFitMessage (sent_by (outcome_by end reply))
+outcome_fits : (end : CallsEnd) (reply : ActReply) → AllByRecursion IsFitMessage (sent_by (Answered reply)) → AllByRecursion IsFitMessage (sent_by (outcome_by end reply))
 outcome_fits Done reply f = f
 outcome_fits Failed reply f = tt
 outcome_fits (CrashedIn way) reply f = tt

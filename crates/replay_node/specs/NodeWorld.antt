@@ -15,9 +15,9 @@ use Rattle.state_journal.specs.Keeping.{keeping_calls}
 use Rattle.state_journal.specs.declared.change.Change.{Change}
 use Rattle.world_model.specs.declared.acts.Act.{Act}
 use Rattle.world_model.specs.declared.acts.Outcome.{Outcome}
-use Rattle.world_model.specs.declared.acts.Reply.{Reply}
+use Rattle.world_model.specs.declared.acts.ActReply.{ActReply}
 use Rattle.world_model.specs.declared.acts.Act.TheVariants.{Open}
-use Rattle.world_model.specs.declared.acts.Reply.TheVariants.{Taken, Refused, Stopped}
+use Rattle.world_model.specs.declared.acts.ActReply.TheVariants.{Taken, Refused, Stopped}
 use Rattle.world_model.specs.declared.acts.Outcome.TheVariants.{Answered, Disk, Crashed}
 use Rattle.world_model.specs.Acts.{NodeHistory, NoActs, Then}
 use Rattle.world_model.specs.NodeState.{durable_of, halted_of}
@@ -40,14 +40,14 @@ fresh_node = record { acts = NoActs; disk = fresh_disk; down = false }
 
 -- The device calls of an act that is answered so, where the node keeps this record in files that read so: those that keep its change, where
 -- it is taken and has one.
-abbrev pub act_calls : Reply → Option Change → Kept → Files → List DeviceCall
+abbrev pub act_calls : ActReply → Option Change → Kept → Files → List DeviceCall
 act_calls (Taken sends wins) (Some change) kept files = keeping_calls (place_of (standing_in files)) kept change
 act_calls (Taken sends wins) None kept files = []
 act_calls (Refused cause) change kept files = []
 act_calls Stopped change kept files = []
 
 -- its outcome by how these calls end; what the disk failed or stopped in counts as not kept until the node is opened
-abbrev pub outcome_by : CallsEnd → Reply → Outcome
+abbrev pub outcome_by : CallsEnd → ActReply → Outcome
 outcome_by Done reply = Answered reply
 outcome_by Failed reply = Disk false
 outcome_by (CrashedIn way) reply = Crashed false

@@ -4,7 +4,7 @@ ghost use Rattle.cluster_state.specs.States.{IsFitValue};
 ghost use Rattle.world_model.specs.declared.acts.Act.TheVariants as act;
 ghost use Rattle.zen_disk.specs.declared.orders.Order.{Order as DiskOrder};
 ghost use Rattle.world_model.specs.declared.acts.Outcome.TheVariants as outcome;
-ghost use Rattle.world_model.specs.declared.acts.Reply.TheVariants as reply;
+ghost use Rattle.world_model.specs.declared.acts.ActReply.TheVariants as reply;
 ghost use Rattle.replay_node.specs.Did.{outcome_of};
 ghost use Rattle.trace_text.specs.Published.{published_by};
 ghost use Rattle.replay_node.specs.Published.{state_published};

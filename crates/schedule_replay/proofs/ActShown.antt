@@ -6,8 +6,8 @@ use Rattle.world_model.specs.declared.acts.Act.{Act}
 use Rattle.world_model.specs.declared.acts.Act.TheVariants.{Bootstrap, StartJoin, TakeJoin, Value, Publish, Response, Commit, Open}
 use Rattle.world_model.specs.declared.acts.Message.{Message}
 use Rattle.world_model.specs.declared.acts.Message.TheVariants.{Commit as CommitMessage}
-use Rattle.world_model.specs.declared.acts.Reply.{Reply}
-use Rattle.world_model.specs.declared.acts.Reply.TheVariants.{Taken, Refused, Stopped}
+use Rattle.world_model.specs.declared.acts.ActReply.{ActReply}
+use Rattle.world_model.specs.declared.acts.ActReply.TheVariants.{Taken, Refused, Stopped}
 use Rattle.world_model.specs.declared.acts.Outcome.{Outcome}
 use Rattle.world_model.specs.declared.acts.Outcome.TheVariants.{Answered}
 use Rattle.world_model.specs.Acts.{NodeHistory, wins}
@@ -74,7 +74,7 @@ message_is number (Some m) w = refl
 abbrev pub ShowsOutcome : Id → Act → Outcome → Type 0
 ShowsOutcome n act o = (number : ℕ) → outcome_shown (ending_of o) (won_term act o) (message_sent number o) ≡ o
 
-reply_shown : (me : Id) (g : NodeHistory) (act : Act) (reply : Reply) → is_opening act ≡ false → reply ≡ reply_of me g act → ShowsOutcome me act (Answered reply)
+reply_shown : (me : Id) (g : NodeHistory) (act : Act) (reply : ActReply) → is_opening act ≡ false → reply ≡ reply_of me g act → ShowsOutcome me act (Answered reply)
 reply_shown me g act (Taken s w) shut h number = λ i. Answered (Taken (message_is number s w i) (no_win me g act s w shut h i))
 reply_shown me g act (Refused cause) shut h number = refl
 reply_shown me g act Stopped shut h number = refl

@@ -20,7 +20,7 @@ use Rattle.policy_model.specs.Events.{Item, Opens, Begins, Acts, Turns, Drops, S
 use Rattle.policy_model.specs.Local.{IsAnswered, Ended, ByAct as AnsweredAct, ByQuiet}
 use Rattle.policy_model.specs.Follows.{IsStruck, Here, Later, is_fault}
 use Rattle.world_model.specs.Replies.{writes}
-use Rattle.world_model.specs.declared.acts.Reply.TheVariants.{Taken}
+use Rattle.world_model.specs.declared.acts.ActReply.TheVariants.{Taken}
 use Rattle.policy_model.specs.declared.events.Step.TheVariants as step
 use Rattle.policy_model.specs.declared.events.MemberDrop.{MemberDrop}
 use Rattle.zen_disk.specs.declared.orders.Struck.TheVariants.{Stop, Fault}

@@ -13,7 +13,7 @@ use Rattle.cluster_state.specs.Initial.{initial_state}
 use Rattle.cluster_state.specs.declared.state.Kept.{Kept as KeptRecord}
 use Rattle.world_model.specs.declared.acts.Act.TheVariants.{Bootstrap, Open}
 use Rattle.world_model.specs.declared.acts.Act.TheVariants as act
-use Rattle.world_model.specs.declared.acts.Reply.TheVariants.{Taken}
+use Rattle.world_model.specs.declared.acts.ActReply.TheVariants.{Taken}
 use Rattle.world_model.specs.declared.acts.Outcome.TheVariants.{Answered, Crashed}
 use Rattle.world_model.specs.Histories.{History, NoEntries, Next}
 use Rattle.schedule_text.specs.declared.schedule.Line.{Line}

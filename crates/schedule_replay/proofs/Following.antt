@@ -9,8 +9,8 @@ use Rattle.zen_disk.specs.declared.orders.Way.{Way}
 use Rattle.world_model.specs.declared.acts.Act.{Act}
 use Rattle.world_model.specs.declared.acts.Act.TheVariants.{Bootstrap, StartJoin, Value}
 use Rattle.world_model.specs.declared.acts.Message.{Message}
-use Rattle.world_model.specs.declared.acts.Reply.{Reply}
-use Rattle.world_model.specs.declared.acts.Reply.TheVariants.{Taken, Refused, Stopped}
+use Rattle.world_model.specs.declared.acts.ActReply.{ActReply}
+use Rattle.world_model.specs.declared.acts.ActReply.TheVariants.{Taken, Refused, Stopped}
 use Rattle.world_model.specs.Acts.{NodeHistory}
 use Rattle.world_model.specs.NodeState.{halted_of}
 use Rattle.world_model.specs.Replies.{reply_of}
@@ -35,7 +35,7 @@ Knows down w = (n : Id) → down n ≡ w.down n
 
 -- ---- an act
 
-crash_is : (end : CallsEnd) (reply : Reply) → is_crash (ending_of (outcome_by end reply)) ≡ ends_in_a_crash end
+crash_is : (end : CallsEnd) (reply : ActReply) → is_crash (ending_of (outcome_by end reply)) ≡ ends_in_a_crash end
 crash_is Done (Taken s w) = refl
 crash_is Done (Refused c) = refl
 crash_is Done Stopped = refl

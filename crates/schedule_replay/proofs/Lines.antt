@@ -9,7 +9,7 @@ use Rattle.voting_config.specs.Ids.{Id, has}
 use Rattle.world_model.specs.declared.acts.Act.{Act}
 use Rattle.world_model.specs.declared.acts.Message.{Message}
 use Rattle.world_model.specs.declared.acts.Message.TheVariants.{Join as JoinMessage, Publish as PublishMessage, Response as ResponseMessage, Commit as CommitMessage}
-use Rattle.world_model.specs.declared.acts.Reply.TheVariants.{Stopped}
+use Rattle.world_model.specs.declared.acts.ActReply.TheVariants.{Stopped}
 use Rattle.world_model.specs.declared.acts.Outcome.{Outcome}
 use Rattle.world_model.specs.declared.acts.Outcome.TheVariants.{Answered}
 use Rattle.world_model.specs.Acts.{NoActs, Then}

@@ -14,7 +14,7 @@ use Rattle.gate_log.specs.Journal.{bodies_of}
 use Rattle.state_journal.specs.Journal.{folded_from, found_of}
 use Rattle.state_journal.specs.declared.why.Why.{Why}
 use Rattle.world_model.specs.declared.acts.Act.TheVariants.{Open as OpenAct}
-use Rattle.world_model.specs.declared.acts.Reply.TheVariants.{Taken}
+use Rattle.world_model.specs.declared.acts.ActReply.TheVariants.{Taken}
 use Rattle.world_model.specs.declared.acts.Outcome.TheVariants.{Answered}
 use Rattle.world_model.specs.Acts.{NodeHistory, NoActs, Then}
 use Rattle.world_model.specs.Histories.{ContinuesUnlessFirst}

@@ -5,8 +5,8 @@ use Rattle.std.proofs.lemmas.Bool.{both_ways}
 use Rattle.voting_config.specs.Ids.{Id, same}
 use Rattle.world_model.specs.declared.acts.Act.{Act}
 use Rattle.world_model.specs.declared.acts.Message.TheVariants.{Publish as PublishMessage}
-use Rattle.world_model.specs.declared.acts.Reply.{Reply}
-use Rattle.world_model.specs.declared.acts.Reply.TheVariants.{Taken, Refused, Stopped}
+use Rattle.world_model.specs.declared.acts.ActReply.{ActReply}
+use Rattle.world_model.specs.declared.acts.ActReply.TheVariants.{Taken, Refused, Stopped}
 use Rattle.world_model.specs.declared.acts.Outcome.{Outcome}
 use Rattle.world_model.specs.declared.acts.Outcome.TheVariants.{Answered, Disk, Crashed}
 use Rattle.world_model.specs.Acts.{NodeHistory, is_ok, wins}
@@ -27,13 +27,13 @@ differs x y e = from (same y x) refl
     from false d = refl
     from true d = absurd (both_ways _ e (subst (λ (z : Id). same x z ≡ true) (sym (same_is y x d)) (same_self x)))
 
-not_taken : {A : Type 0} (reply : Reply) → reply ≡ Stopped → is_ok (Answered reply) ≡ true → A
+not_taken : {A : Type 0} (reply : ActReply) → reply ≡ Stopped → is_ok (Answered reply) ≡ true → A
 not_taken (Taken s w) e k = cc
 not_taken (Refused c) e k = cc
 not_taken Stopped e k = cc
 
 -- a node that takes an act other than an opening has no act that was struck
-taken_unstruck : (me : Id) (g : NodeHistory) (act : Act) (reply : Reply) → IsLocal me g → MayFollow me g act (Answered reply) → is_opening act ≡ false → is_ok (Answered reply) ≡ true → IsUnstruck g
+taken_unstruck : (me : Id) (g : NodeHistory) (act : Act) (reply : ActReply) → IsLocal me g → MayFollow me g act (Answered reply) → is_opening act ≡ false → is_ok (Answered reply) ≡ true → IsUnstruck g
 taken_unstruck me g act reply l f shut k = from (still me g l)
   where
     from : IsUnstruck g ⊎ ((halted_of g ≡ true) ⊎ (is_down g ≡ true)) → IsUnstruck g

@@ -7,8 +7,8 @@ use Rattle.world_model.specs.declared.acts.Act.{Act}
 use Rattle.world_model.specs.declared.acts.Act.TheVariants.{Bootstrap, StartJoin, TakeJoin, Value, Publish, Response, Commit, Open}
 use Rattle.world_model.specs.declared.acts.Message.{Message}
 use Rattle.world_model.specs.declared.acts.Message.TheVariants.{Join as JoinMessage, Publish as PublishMessage, Response as ResponseMessage, Commit as CommitMessage}
-use Rattle.world_model.specs.declared.acts.Reply.{Reply}
-use Rattle.world_model.specs.declared.acts.Reply.TheVariants.{Taken, Refused, Stopped}
+use Rattle.world_model.specs.declared.acts.ActReply.{ActReply}
+use Rattle.world_model.specs.declared.acts.ActReply.TheVariants.{Taken, Refused, Stopped}
 use Rattle.world_model.specs.declared.acts.Outcome.{Outcome}
 use Rattle.world_model.specs.declared.acts.Outcome.TheVariants.{Answered}
 use Rattle.world_model.specs.Acts.{NodeHistory, NoActs, Then}
@@ -30,14 +30,14 @@ source_is me g act (CommitMessage c) o = o.source_is
 reply_from : (ids : List Id) (me : Id) (g : NodeHistory) (act : Act) → has me ids ≡ true → are_from ids (sent_by (Answered (reply_of me g act))) ≡ true
 reply_from ids me g act listed = from (reply_of me g act) refl
   where
-    from : (r : Reply) → r ≡ reply_of me g act → are_from ids (sent_by (Answered r)) ≡ true
+    from : (r : ActReply) → r ≡ reply_of me g act → are_from ids (sent_by (Answered r)) ≡ true
     from (Taken (Some m) w) e = and_from _ _ (subst (λ (i : Id). has i ids ≡ true) (sym (source_is me g act m (origin me g act m w e))) listed) refl
     from (Taken None w) e = refl
     from (Refused cause) e = refl
     from Stopped e = refl
 
 -- an act that the disk failed or stopped in sends nothing
-outcome_from : (ids : List Id) (end : CallsEnd) (reply : Reply) → are_from ids (sent_by (Answered reply)) ≡ true → are_from ids (sent_by (outcome_by end reply)) ≡ true
+outcome_from : (ids : List Id) (end : CallsEnd) (reply : ActReply) → are_from ids (sent_by (Answered reply)) ≡ true → are_from ids (sent_by (outcome_by end reply)) ≡ true
 outcome_from ids Done reply f = f
 outcome_from ids Failed reply f = refl
 outcome_from ids (CrashedIn way) reply f = refl

@@ -7,7 +7,7 @@ use Rattle.cluster_state.specs.declared.state.ClusterState.{ClusterState}
 use Rattle.world_model.specs.declared.acts.Act.TheVariants.{Open}
 use Rattle.world_model.specs.declared.acts.Message.{Message}
 use Rattle.world_model.specs.declared.acts.Message.TheVariants.{Commit as CommitMessage}
-use Rattle.world_model.specs.declared.acts.Reply.TheVariants as reply
+use Rattle.world_model.specs.declared.acts.ActReply.TheVariants as reply
 use Rattle.world_model.specs.declared.acts.Outcome.{Outcome}
 use Rattle.world_model.specs.declared.acts.Outcome.TheVariants.{Answered, Disk, Crashed}
 use Rattle.world_model.specs.Histories.{History, NoEntries, Next, node_history}

@@ -7,7 +7,7 @@ use Rattle.std.proofs.lemmas.Bool.Decides.{nat_tests}
 use Rattle.std.proofs.lemmas.List.{length-append}
 use Rattle.std.proofs.lemmas.Slice.Eq.{bytes_eq-Decides}
 use Rattle.voting_config.specs.Ids.{Id, is_id, most_ids, are_among}
-use Rattle.schedule_text.specs.declared.fault.Why.{Why}
+use Rattle.schedule_text.specs.declared.fault.WhyBad.{WhyBad}
 use Rattle.schedule_text.specs.declared.fault.BadSchedule.{BadSchedule}
 use Rattle.schedule_text.specs.declared.level.Level.{Level}
 use Rattle.schedule_text.specs.declared.place.Place.{Place}
@@ -32,10 +32,10 @@ failed_is x y e = cc
 not_both : {A : Type 0} (r : Result A BadSchedule) (x : A) (bad : BadSchedule) → r ≡ Ok x → r ≡ Err bad → ⊥
 not_both r x bad e f = absurd cc
 
-number_is : (n : ℕ) (why : Why) (bad : BadSchedule) → (let made : BadSchedule = record { line = n; why = why } in made) ≡ bad → bad.line ≡ n
+number_is : (n : ℕ) (why : WhyBad) (bad : BadSchedule) → (let made : BadSchedule = record { line = n; why = why } in made) ≡ bad → bad.line ≡ n
 number_is n why bad e = ap (λ (b : BadSchedule). b.line) (sym e)
 
-in_line_err : {A : Type 0} (p : Place) (r : Result A Why) (bad : BadSchedule) → in_line p r ≡ Err bad → bad.line ≡ p.number
+in_line_err : {A : Type 0} (p : Place) (r : Result A WhyBad) (bad : BadSchedule) → in_line p r ≡ Err bad → bad.line ≡ p.number
 in_line_err p (Ok x) bad e = absurd cc
 in_line_err {A} p (Err why) bad e = number_is p.number why bad (failed_is {A = A} _ bad e)
 
@@ -272,7 +272,7 @@ fault_err (Ok x) bad e = absurd cc
 fault_err {A} (Err d) bad e = let same : d ≡ bad = cc in ap (λ b. failed {A = A} b) same
 
 abbrev Named : Level → ℕ → List ℕ → Type 0
-Named level line bytes = (why : Why) × (fault_of level bytes ≡ Some (record { line = line; why = why }))
+Named level line bytes = (why : WhyBad) × (fault_of level bytes ≡ Some (record { line = line; why = why }))
 
 named : (level : Level) (bytes : List ℕ) (line : ℕ) (r : Result Schedule BadSchedule) → schedule_at level bytes ≡ r → IsFirstBad level line bytes → Named level line bytes
 named level bytes line (Ok s) e is = absurd (is.here (bytes, s, schedule_takes level bytes s e, refl))

@@ -7,7 +7,7 @@ use Rattle.std.specs.List.{list_all, join_with_byte}
 use Rattle.std.proofs.lemmas.Bool.{and_parts, and_from}
 use Rattle.std.proofs.lemmas.Bool.Decides.{nat_tests}
 use Rattle.voting_config.specs.Ids.{Id, is_id, are_among}
-use Rattle.schedule_text.specs.declared.fault.Why.{Why}
+use Rattle.schedule_text.specs.declared.fault.WhyBad.{WhyBad}
 use Rattle.schedule_text.specs.declared.level.Level.{Level}
 use Rattle.schedule_text.specs.declared.level.Level.TheVariants.{Core, Node}
 use Rattle.schedule_text.specs.declared.schedule.Line.{Line}
@@ -27,7 +27,7 @@ pub record IsArgs {A : Type 0} (a : Args A) : Type 0 where
 pub record AreIds (ids : List Id) : Type 0 where
   pub each : list_all is_id ids ≡ true
 
-abbrev done : {A : Type 0} → A → Result A Why
+abbrev done : {A : Type 0} → A → Result A WhyBad
 done x = Ok x
 
 pub one_is : (ws : List (List ℕ)) (w : List ℕ) → one_word ws ≡ Ok w → ws ≡ w ∷ []
@@ -185,7 +185,7 @@ made args make level ids name law words fits ws l e =
     subst (IsLine level ids (name ∷ ws)) (ok_is (make got.0) l got.2) (ap (λ t. join_with_byte 32 (name ∷ t)) taken.0 ∙ ap (join_with_byte 32) (words got.0), fits got.0 taken.1)
 
 -- a verb is this one, or another
-chosen : (level : Level) (ids : List Id) (verb name : List ℕ) (ws : List (List ℕ)) (l : Line) (r other : Result Line Why) → (r ≡ Ok l → IsLine level ids (name ∷ ws) l) → (other ≡ Ok l → IsLine level ids (verb ∷ ws) l)
+chosen : (level : Level) (ids : List Id) (verb name : List ℕ) (ws : List (List ℕ)) (l : Line) (r other : Result Line WhyBad) → (r ≡ Ok l → IsLine level ids (name ∷ ws) l) → (other ≡ Ok l → IsLine level ids (verb ∷ ws) l)
     → cond (bytes_eq verb name) r other ≡ Ok l → IsLine level ids (verb ∷ ws) l
 chosen level ids verb name ws l r other this that =
     elim (bytes_eq verb name) as (λ b. bytes_eq verb name ≡ b → cond b r other ≡ Ok l → IsLine level ids (verb ∷ ws) l) [

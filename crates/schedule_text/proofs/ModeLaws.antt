@@ -9,12 +9,12 @@ use Rattle.std.proofs.lemmas.Bool.Decides.{nat_tests}
 use Rattle.std.proofs.lemmas.List.{drop_all, take-append-drop}
 use Rattle.zen_disk.specs.declared.orders.Way.{Way}
 use Rattle.zen_disk.specs.declared.orders.Way.TheVariants.{Lost, Kept, Torn}
-use Rattle.schedule_text.specs.declared.fault.Why.{Why}
-use Rattle.schedule_text.specs.declared.fault.Why.TheVariants as why
+use Rattle.schedule_text.specs.declared.fault.WhyBad.{WhyBad}
+use Rattle.schedule_text.specs.declared.fault.WhyBad.TheVariants as why
 use Rattle.schedule_text.specs.Words.{◌>>=◌, is_digit, hex_byte, hex_at, byte_at, mode_text, torn_at, mode_at, FitsMode, mode}
 use Rattle.schedule_text.proofs.WordLaws.{is_plain, IsWord, bind_ok, want_ok, ok_is}
 
-abbrev done : {A : Type 0} → A → Result A Why
+abbrev done : {A : Type 0} → A → Result A WhyBad
 done x = Ok x
 
 -- ---- digits
@@ -144,7 +144,7 @@ torn_takes bytes w e =
     (seven bytes size ∙ ap (λ t. t ++ get_or bytes 5 0 ∷ get_or bytes 6 0 ∷ []) front ∙ byte.spelled, byte.fits)
 
 -- the word is this one, or another
-word_chosen : (bytes name : List ℕ) (v w : Way) (other : Result Way Why) → Spells name v → (other ≡ Ok w → Spells bytes w) → cond (bytes_eq bytes name) (Ok v) other ≡ Ok w → Spells bytes w
+word_chosen : (bytes name : List ℕ) (v w : Way) (other : Result Way WhyBad) → Spells name v → (other ≡ Ok w → Spells bytes w) → cond (bytes_eq bytes name) (Ok v) other ≡ Ok w → Spells bytes w
 word_chosen bytes name v w other this that =
     elim (bytes_eq bytes name) as (λ b. bytes_eq bytes name ≡ b → cond b (Ok v) other ≡ Ok w → Spells bytes w) [
       | true ↦ λ e k. subst (λ (u : Way). Spells bytes u) (ok_is v w k) (same_text bytes name (sym e) ∙ this.0, this.1)

@@ -8,8 +8,8 @@ use Rattle.std.proofs.lemmas.Bool.{and_parts, and_from, le-ltb, ltb-false, lt-lt
 use Rattle.std.proofs.lemmas.Bool.Decides.{nat_tests}
 use Rattle.std.proofs.lemmas.List.{length-append, append-nil}
 use Rattle.voting_config.specs.Ids.{Id, is_id, are_among}
-use Rattle.schedule_text.specs.declared.fault.Why.{Why}
-use Rattle.schedule_text.specs.declared.fault.Why.TheVariants as why
+use Rattle.schedule_text.specs.declared.fault.WhyBad.{WhyBad}
+use Rattle.schedule_text.specs.declared.fault.WhyBad.TheVariants as why
 use Rattle.schedule_text.specs.declared.fault.BadSchedule.{BadSchedule}
 use Rattle.schedule_text.specs.declared.fault.ReadError.{ReadError}
 use Rattle.schedule_text.specs.Answers.{Answers}
@@ -36,11 +36,11 @@ pub then_ok : {A B : Type 0} (r : Result A BadSchedule) (f : A → Result B BadS
 then_ok (Ok x) f y e = (x, refl, e)
 then_ok (Err d) f y e = absurd cc
 
-in_line_ok : {A : Type 0} (p : Place) (r : Result A Why) (x : A) → in_line p r ≡ Ok x → r ≡ Ok x
-in_line_ok p (Ok y) x e = ap (λ (z : _). let s : Result _ Why = Ok z in s) (read_is y x e)
+in_line_ok : {A : Type 0} (p : Place) (r : Result A WhyBad) (x : A) → in_line p r ≡ Ok x → r ≡ Ok x
+in_line_ok p (Ok y) x e = ap (λ (z : _). let s : Result _ WhyBad = Ok z in s) (read_is y x e)
 in_line_ok p (Err d) x e = absurd cc
 
-guard_ok : {A : Type 0} (b : Bool) (d : Why) (r : Result A Why) (y : A) → cond b (Err d) r ≡ Ok y → (b ≡ false) × (r ≡ Ok y)
+guard_ok : {A : Type 0} (b : Bool) (d : WhyBad) (r : Result A WhyBad) (y : A) → cond b (Err d) r ≡ Ok y → (b ≡ false) × (r ≡ Ok y)
 guard_ok true d r y e = absurd cc
 guard_ok false d r y e = (refl, e)
 
@@ -51,7 +51,7 @@ pub record IsSized (p : Place) (line : List ℕ) : Type 0 where
   pub count : p.number ≤ most_lines
   pub long : length line ≤ most_line_bytes
 
-pub sized_takes : {A : Type 0} (p : Place) (line : List ℕ) (f : List ℕ → Result A Why) (x : A) → in_line p (sized_at p line >>= f) ≡ Ok x → IsSized p line × (f line ≡ Ok x)
+pub sized_takes : {A : Type 0} (p : Place) (line : List ℕ) (f : List ℕ → Result A WhyBad) (x : A) → in_line p (sized_at p line >>= f) ≡ Ok x → IsSized p line × (f line ≡ Ok x)
 sized_takes p line f x e =
     let got = bind_ok (sized_at p line) f x (in_line_ok p (sized_at p line >>= f) x e) in
     let big = guard_ok (nat_lt most_bytes (p.before + length line + 1)) why.TooBig _ got.0 got.1 in
@@ -59,7 +59,7 @@ sized_takes p line f x e =
     let long = guard_ok (nat_lt most_line_bytes (length line)) why.TooLong _ got.0 many.1 in
     (record { bytes = ltb-false _ _ big.0; count = ltb-false _ _ many.0; long = ltb-false _ _ long.0 }, ap f (ok_is line got.0 long.1) ∙ got.2)
 
-pub sized_again : {A : Type 0} (p : Place) (line : List ℕ) (f : List ℕ → Result A Why) (x : A) → IsSized p line → f line ≡ Ok x → in_line p (sized_at p line >>= f) ≡ Ok x
+pub sized_again : {A : Type 0} (p : Place) (line : List ℕ) (f : List ℕ → Result A WhyBad) (x : A) → IsSized p line → f line ≡ Ok x → in_line p (sized_at p line >>= f) ≡ Ok x
 sized_again p line f x h e =
     let big : nat_lt most_bytes (p.before + length line + 1) ≡ false = le-ltb _ _ h.bytes in
     let many : nat_lt most_lines p.number ≡ false = le-ltb _ _ h.count in
@@ -73,7 +73,7 @@ pub record IsHeader (name line : List ℕ) (xs : List Id) : Type 0 where
   pub ids : are_ids_after [] xs ≡ true
   pub some : 0 < length xs
 
-header_ok : (r : Result (List Id) Why) (xs : List Id) → as_header r ≡ Ok xs → r ≡ Ok xs
+header_ok : (r : Result (List Id) WhyBad) (xs : List Id) → as_header r ≡ Ok xs → r ≡ Ok xs
 header_ok (Ok ys) xs e = e
 header_ok (Err d) xs e = absurd cc
 

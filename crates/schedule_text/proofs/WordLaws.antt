@@ -10,8 +10,8 @@ use Rattle.std.proofs.lemmas.Fmt.{decimal-digits_value, digits_decimal, digits_v
 use Rattle.std.proofs.lemmas.Str.Parse.{IsNumeralModel, numerals_by_fold}
 use Rattle.std.proofs.lemmas.List.Splits.{join_with_byte-slice_split, length-slice_split}
 use Rattle.voting_config.specs.Ids.{Id, is_id, is_id_byte, has, most_ids}
-use Rattle.schedule_text.specs.declared.fault.Why.{Why}
-use Rattle.schedule_text.specs.declared.fault.Why.TheVariants as why
+use Rattle.schedule_text.specs.declared.fault.WhyBad.{WhyBad}
+use Rattle.schedule_text.specs.declared.fault.WhyBad.TheVariants as why
 use Rattle.voting_config.specs.Lists.{may_follow, are_ids_after, parts_of, items_of, list_text}
 use Rattle.schedule_text.specs.Words.{◌>>=◌, Word, itself, listed, text, is_digit, value_from, is_decimal, number, list}
 
@@ -26,15 +26,15 @@ pub record IsWord {A : Type 0} (w : Word A) : Type 0 where
 
 -- ---- steps
 
-pub bind_ok : {A B : Type 0} (r : Result A Why) (f : A → Result B Why) (y : B) → (r >>= f) ≡ Ok y → (x : A) × (r ≡ Ok x) × (f x ≡ Ok y)
+pub bind_ok : {A B : Type 0} (r : Result A WhyBad) (f : A → Result B WhyBad) (y : B) → (r >>= f) ≡ Ok y → (x : A) × (r ≡ Ok x) × (f x ≡ Ok y)
 bind_ok (Ok x) f y e = (x, refl, e)
 bind_ok (Err d) f y e = absurd cc
 
-pub want_ok : {A : Type 0} (b : Bool) (d : Why) (r : Result A Why) (y : A) → cond b r (Err d) ≡ Ok y → (b ≡ true) × (r ≡ Ok y)
+pub want_ok : {A : Type 0} (b : Bool) (d : WhyBad) (r : Result A WhyBad) (y : A) → cond b r (Err d) ≡ Ok y → (b ≡ true) × (r ≡ Ok y)
 want_ok true d r y e = (refl, e)
 want_ok false d r y e = absurd cc
 
-abbrev done : {A : Type 0} → A → Result A Why
+abbrev done : {A : Type 0} → A → Result A WhyBad
 done x = Ok x
 
 pub ok_is : {A : Type 0} (x y : A) → done x ≡ done y → x ≡ y
@@ -50,7 +50,7 @@ all_append p (x ∷ xs) ys h k = let parts = and_parts (p x) _ h in and_from _ _
 
 -- ---- words that stand for themselves
 
-pub itself_law : (good : List ℕ → Bool) (bad : Why) → ((w : List ℕ) → good w ≡ true → is_plain w ≡ true) → IsWord (itself good bad)
+pub itself_law : (good : List ℕ → Bool) (bad : WhyBad) → ((w : List ℕ) → good w ≡ true → is_plain w ≡ true) → IsWord (itself good bad)
 itself_law good bad plain = record {
   takes = λ bytes x e. let got = want_ok (good bytes) bad (Ok bytes) x e in let same = ok_is bytes x got.1 in (same, subst (λ (w : List ℕ). IsTrue (good w)) same got.0);
   again = λ x h. rw h refl;

@@ -1,7 +1,7 @@
 -- Part of the statement: which line is the first bad one, by the schedules that there are.
 use Rattle.std.specs.Prelude.{◌≡◌, ◌↔◌, ℕ, zero, suc, ◌-◌, ◌==◌, List, [], ◌∷◌, Some, if◌then◌else◌}
 use Rattle.voting_config.specs.Lists.{line_feed}
-use Rattle.schedule_text.specs.declared.fault.Why.{Why}
+use Rattle.schedule_text.specs.declared.fault.WhyBad.{WhyBad}
 use Rattle.schedule_text.specs.declared.level.Level.{Level}
 use Rattle.schedule_text.specs.declared.schedule.Schedule.{Schedule}
 use Rattle.schedule_text.specs.Reading.{fault_of}
@@ -24,4 +24,4 @@ pub record IsFirstBad (level : Level) (line : ℕ) (bytes : List ℕ) : Type 0 w
 
 -- A fault names a line exactly where it is the first bad one.
 abbrev pub LawFirstBadLine : Type 0
-LawFirstBadLine = (level : Level) (bytes : List ℕ) (line : ℕ) → ((why : Why) × (fault_of level bytes ≡ Some (record { line = line; why = why }))) ↔ IsFirstBad level line bytes
+LawFirstBadLine = (level : Level) (bytes : List ℕ) (line : ℕ) → ((why : WhyBad) × (fault_of level bytes ≡ Some (record { line = line; why = why }))) ↔ IsFirstBad level line bytes

@@ -3,8 +3,8 @@ use Rattle.std.specs.Prelude.{ℕ, ◌-◌, ◌^◌, ◌==◌, Bool, not, Result
 use Rattle.std.specs.List.{join_with_byte, list_all}
 use Rattle.std.specs.Str.{bytes_eq}
 use Rattle.voting_config.specs.Ids.{Id}
-use Rattle.schedule_text.specs.declared.fault.Why.{Why}
-use Rattle.schedule_text.specs.declared.fault.Why.TheVariants as why
+use Rattle.schedule_text.specs.declared.fault.WhyBad.{WhyBad}
+use Rattle.schedule_text.specs.declared.fault.WhyBad.TheVariants as why
 use Rattle.schedule_text.specs.declared.level.Level.{Level}
 use Rattle.schedule_text.specs.declared.level.Level.TheVariants.{Core, Node}
 use Rattle.schedule_text.specs.declared.schedule.Line.{Line}
@@ -19,23 +19,23 @@ use Rattle.schedule_text.specs.Words.{◌>>=◌, Word, listed, text, number, con
 -- then the first bad word from the left says why.
 pub record Args (A : Type 0) : Type 1 where
   pub spelling : A → List (List ℕ)
-  pub at : List (List ℕ) → Result A Why
+  pub at : List (List ℕ) → Result A WhyBad
   pub Fits : A → Type 0
 
-abbrev pub one_word : List (List ℕ) → Result (List ℕ) Why
+abbrev pub one_word : List (List ℕ) → Result (List ℕ) WhyBad
 one_word [] = Err why.Arity
 one_word (v ∷ []) = Ok v
 one_word (v ∷ w ∷ ws) = Err why.Arity
 
-abbrev pub two_words : List (List ℕ) → Result (List ℕ × List ℕ) Why
+abbrev pub two_words : List (List ℕ) → Result (List ℕ × List ℕ) WhyBad
 two_words [] = Err why.Arity
 two_words (v ∷ ws) = one_word ws >>= λ w. Ok (v, w)
 
-abbrev pub three_words : List (List ℕ) → Result (List ℕ × List ℕ × List ℕ) Why
+abbrev pub three_words : List (List ℕ) → Result (List ℕ × List ℕ × List ℕ) WhyBad
 three_words [] = Err why.Arity
 three_words (v ∷ ws) = two_words ws >>= λ w. Ok (v, w.0, w.1)
 
-abbrev pub four_words : List (List ℕ) → Result (List ℕ × List ℕ × List ℕ × List ℕ) Why
+abbrev pub four_words : List (List ℕ) → Result (List ℕ × List ℕ × List ℕ × List ℕ) WhyBad
 four_words [] = Err why.Arity
 four_words (v ∷ ws) = three_words ws >>= λ w. Ok (v, w.0, w.1, w.2)
 
@@ -72,7 +72,7 @@ abbrev pub is_one_line : List ℕ → Bool
 is_one_line bytes = list_all (λ b. not (b == line_feed)) bytes
 
 -- the first word, and what follows the space after it
-abbrev pub word_and_rest : List (List ℕ) → Result (List ℕ × List ℕ) Why
+abbrev pub word_and_rest : List (List ℕ) → Result (List ℕ × List ℕ) WhyBad
 word_and_rest [] = Err why.Arity
 word_and_rest (v ∷ []) = Err why.Arity
 word_and_rest (v ∷ w ∷ ws) = Ok (v, join_with_byte space (w ∷ ws))
@@ -187,38 +187,38 @@ FitsLine Core ids l = FitsCore ids l
 FitsLine Node ids l = FitsNode ids l
 
 -- what the words after a verb are read as
-abbrev pub boot_at : List Id → List (List ℕ) → Result Line Why
+abbrev pub boot_at : List Id → List (List ℕ) → Result Line WhyBad
 boot_at ids ws = (boot ids).at ws >>= λ x. Ok (line.Boot x)
 
-abbrev pub start_join_at : List Id → List (List ℕ) → Result Line Why
+abbrev pub start_join_at : List Id → List (List ℕ) → Result Line WhyBad
 start_join_at ids ws = (start_join ids).at ws >>= λ x. Ok (line.StartJoin x.0 x.1 x.2)
 
-abbrev pub value_at : List Id → List (List ℕ) → Result Line Why
+abbrev pub value_at : List Id → List (List ℕ) → Result Line WhyBad
 value_at ids ws = (value ids).at ws >>= λ x. Ok (line.Value x.0 x.1 x.2 x.3)
 
-abbrev pub deliver_at : List Id → List (List ℕ) → Result Line Why
+abbrev pub deliver_at : List Id → List (List ℕ) → Result Line WhyBad
 deliver_at ids ws = (deliver ids).at ws >>= λ x. Ok (line.Deliver x.0 x.1)
 
-abbrev pub crash_at : List Id → List (List ℕ) → Result Line Why
+abbrev pub crash_at : List Id → List (List ℕ) → Result Line WhyBad
 crash_at ids ws = (crash ids).at ws >>= λ x. Ok (line.Crash x.0 x.1)
 
-abbrev pub restart_at : List Id → List (List ℕ) → Result Line Why
+abbrev pub restart_at : List Id → List (List ℕ) → Result Line WhyBad
 restart_at ids ws = (restart ids).at ws >>= λ x. Ok (line.Restart x)
 
-abbrev pub fuse_at : List Id → List (List ℕ) → Result Line Why
+abbrev pub fuse_at : List Id → List (List ℕ) → Result Line WhyBad
 fuse_at ids ws = (fuse ids).at ws >>= λ x. Ok (line.Fuse x.0 x.1 x.2)
 
-abbrev pub fail_at : List Id → List (List ℕ) → Result Line Why
+abbrev pub fail_at : List Id → List (List ℕ) → Result Line WhyBad
 fail_at ids ws = (fail ids).at ws >>= λ x. Ok (line.Fail x.0 x.1)
 
-abbrev pub tick_at : List Id → List (List ℕ) → Result Line Why
+abbrev pub tick_at : List Id → List (List ℕ) → Result Line WhyBad
 tick_at ids ws = (tick ids).at ws >>= λ x. Ok (line.Tick x.0 x.1 x.2)
 
-abbrev pub client_at : List Id → List (List ℕ) → Result Line Why
+abbrev pub client_at : List Id → List (List ℕ) → Result Line WhyBad
 client_at ids ws = (client ids).at ws >>= λ x. Ok (line.Client x.0 x.1)
 
 -- a line that crashes a node, starts it again or lets its disk fail, by its verb
-abbrev pub stop_verb_at : List Id → List ℕ → List (List ℕ) → Result Line Why
+abbrev pub stop_verb_at : List Id → List ℕ → List (List ℕ) → Result Line WhyBad
 stop_verb_at ids verb ws =
     if bytes_eq verb (codes "crash") then crash_at ids ws
     else (if bytes_eq verb (codes "restart") then restart_at ids ws
@@ -227,33 +227,33 @@ stop_verb_at ids verb ws =
     else Err why.Verb)))
 
 -- a line of both levels, by its verb
-abbrev pub shared_verb_at : List Id → List ℕ → List (List ℕ) → Result Line Why
+abbrev pub shared_verb_at : List Id → List ℕ → List (List ℕ) → Result Line WhyBad
 shared_verb_at ids verb ws = if bytes_eq verb (codes "deliver") then deliver_at ids ws else stop_verb_at ids verb ws
 
 -- a line of level core by its verb; the line `value` has a list of its own, and stands first
-abbrev pub core_verb_at : List Id → List ℕ → List (List ℕ) → Result Line Why
+abbrev pub core_verb_at : List Id → List ℕ → List (List ℕ) → Result Line WhyBad
 core_verb_at ids verb ws =
     if bytes_eq verb (codes "boot") then boot_at ids ws
     else (if bytes_eq verb (codes "startjoin") then start_join_at ids ws
     else shared_verb_at ids verb ws)
 
-abbrev pub core_line_at : List Id → List ℕ → List (List ℕ) → Result Line Why
+abbrev pub core_line_at : List Id → List ℕ → List (List ℕ) → Result Line WhyBad
 core_line_at ids verb ws = if bytes_eq verb (codes "value") then value_at ids ws else core_verb_at ids verb ws
 
 -- a line of level node by its verb; the line `client` has bytes of its own, and stands first
-abbrev pub node_verb_at : List Id → List ℕ → List (List ℕ) → Result Line Why
+abbrev pub node_verb_at : List Id → List ℕ → List (List ℕ) → Result Line WhyBad
 node_verb_at ids verb ws = if bytes_eq verb (codes "tick") then tick_at ids ws else shared_verb_at ids verb ws
 
-abbrev pub node_line_at : List Id → List ℕ → List (List ℕ) → Result Line Why
+abbrev pub node_line_at : List Id → List ℕ → List (List ℕ) → Result Line WhyBad
 node_line_at ids verb ws = if bytes_eq verb (codes "client") then client_at ids ws else node_verb_at ids verb ws
 
-abbrev pub verb_at : Level → List Id → List ℕ → List (List ℕ) → Result Line Why
+abbrev pub verb_at : Level → List Id → List ℕ → List (List ℕ) → Result Line WhyBad
 verb_at Core ids verb ws = core_line_at ids verb ws
 verb_at Node ids verb ws = node_line_at ids verb ws
 
-abbrev pub words_at : Level → List Id → List (List ℕ) → Result Line Why
+abbrev pub words_at : Level → List Id → List (List ℕ) → Result Line WhyBad
 words_at level ids [] = Err why.Verb
 words_at level ids (verb ∷ ws) = verb_at level ids verb ws
 
-abbrev pub line_at : Level → List Id → List ℕ → Result Line Why
+abbrev pub line_at : Level → List Id → List ℕ → Result Line WhyBad
 line_at level ids bytes = words_at level ids (words_of bytes)

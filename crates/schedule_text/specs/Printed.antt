@@ -1,11 +1,11 @@
 -- Part of the statement: the printed form of a fault.
 use Rattle.std.specs.Prelude.{ℕ, List, ◌++◌, codes, decimal}
-use Rattle.schedule_text.specs.declared.fault.Why.{Why}
-use Rattle.schedule_text.specs.declared.fault.Why.TheVariants as why
+use Rattle.schedule_text.specs.declared.fault.WhyBad.{WhyBad}
+use Rattle.schedule_text.specs.declared.fault.WhyBad.TheVariants as why
 use Rattle.schedule_text.specs.declared.fault.BadSchedule.{BadSchedule}
 
 -- the name of a reason
-abbrev pub why_text : Why → List ℕ
+abbrev pub why_text : WhyBad → List ℕ
 why_text why.TooBig = codes "TooBig"
 why_text why.TooMany = codes "TooMany"
 why_text why.NoNewline = codes "NoNewline"
@@ -20,7 +20,7 @@ why_text why.List = codes "List"
 why_text why.Mode = codes "Mode"
 
 -- the reason at the end of a line
-abbrev pub reason_text : Why → List ℕ
+abbrev pub reason_text : WhyBad → List ℕ
 reason_text why = codes ": " ++ (why_text why ++ codes "\n")
 
 -- the line that says which line is the first bad one, and why

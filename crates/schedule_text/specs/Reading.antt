@@ -2,8 +2,8 @@
 use Rattle.std.specs.Prelude.{ℕ, ◌+◌, Option, None, Some, Result, Ok, Err, List, [], ◌∷◌, ◌++◌, length, codes, nat_lt, if◌then◌else◌}
 use Rattle.std.specs.Str.{bytes_eq}
 use Rattle.voting_config.specs.Ids.{Id, are_among}
-use Rattle.schedule_text.specs.declared.fault.Why.{Why}
-use Rattle.schedule_text.specs.declared.fault.Why.TheVariants as why
+use Rattle.schedule_text.specs.declared.fault.WhyBad.{WhyBad}
+use Rattle.schedule_text.specs.declared.fault.WhyBad.TheVariants as why
 use Rattle.schedule_text.specs.declared.fault.BadSchedule.{BadSchedule}
 use Rattle.schedule_text.specs.declared.level.Level.{Level}
 use Rattle.schedule_text.specs.declared.place.Place.{Place}
@@ -22,7 +22,7 @@ abbrev pub after_line : Place → List ℕ → Place
 after_line p line = record { number = p.number + 1; before = p.before + length line + 1 }
 
 -- the line with its line feed, where it has one, reaches past the greatest size; or it is one too many; or it ends without a line feed; or it is too long
-abbrev pub sized_at : Place → List ℕ → Result (List ℕ) Why
+abbrev pub sized_at : Place → List ℕ → Result (List ℕ) WhyBad
 sized_at p line =
     if nat_lt most_bytes (p.before + length line + 1) then Err why.TooBig
     else (if nat_lt most_lines p.number then Err why.TooMany
@@ -30,14 +30,14 @@ sized_at p line =
     else Ok line))
 
 -- why a last line without a line feed is bad
-abbrev pub why_cut : Place → List ℕ → Why
+abbrev pub why_cut : Place → List ℕ → WhyBad
 why_cut p line =
     if nat_lt most_bytes (p.before + length line) then why.TooBig
     else (if nat_lt most_lines p.number then why.TooMany
     else why.NoNewline)
 
 -- a fault of a line, by its number
-abbrev pub in_line : {A : Type 0} → Place → Result A Why → Result A BadSchedule
+abbrev pub in_line : {A : Type 0} → Place → Result A WhyBad → Result A BadSchedule
 in_line p (Ok x) = Ok x
 in_line p (Err why) = Err (record { line = p.number; why = why })
 
@@ -49,20 +49,20 @@ abbrev pub ◌>>>◌ : {A B : Type 0} → Result A BadSchedule → (A → Result
 -- ---- the header
 
 -- each fault of a header line is Header
-abbrev pub as_header : Result (List Id) Why → Result (List Id) Why
+abbrev pub as_header : Result (List Id) WhyBad → Result (List Id) WhyBad
 as_header (Ok ids) = Ok ids
 as_header (Err e) = Err why.Header
 
-abbrev pub header_words : List ℕ → List (List ℕ) → Result (List Id) Why
+abbrev pub header_words : List ℕ → List (List ℕ) → Result (List Id) WhyBad
 header_words name [] = Err why.Header
 header_words name (v ∷ ws) = if bytes_eq v name then as_header (one_word ws >>= (list is_some_list).at) else Err why.Header
 
 -- a header line: its name, and a list that isn't empty
-abbrev pub header_at : List ℕ → List ℕ → Result (List Id) Why
+abbrev pub header_at : List ℕ → List ℕ → Result (List Id) WhyBad
 header_at name line = header_words name (words_of line)
 
 -- the second one, whose ids are among those of the first
-abbrev pub initial_line_at : List Id → List ℕ → Result (List Id) Why
+abbrev pub initial_line_at : List Id → List ℕ → Result (List Id) WhyBad
 initial_line_at ids line = header_at (codes "initial") line >>= λ xs. if are_among ids xs then Ok xs else Err why.Header
 
 -- ---- the lines

@@ -6,22 +6,22 @@ use Rattle.voting_config.specs.Ids.{Id, are_among, has, is_id}
 use Rattle.voting_config.specs.Lists.{are_ids_after, items_of, list_text}
 use Rattle.zen_disk.specs.declared.orders.Way.{Way}
 use Rattle.zen_disk.specs.declared.orders.Way.TheVariants.{Lost, Kept, Torn}
-use Rattle.schedule_text.specs.declared.fault.Why.{Why}
-use Rattle.schedule_text.specs.declared.fault.Why.TheVariants as why
+use Rattle.schedule_text.specs.declared.fault.WhyBad.{WhyBad}
+use Rattle.schedule_text.specs.declared.fault.WhyBad.TheVariants as why
 
 infixl 10 ◌>>=◌
-abbrev pub ◌>>=◌ : {A B : Type 0} → Result A Why → (A → Result B Why) → Result B Why
+abbrev pub ◌>>=◌ : {A B : Type 0} → Result A WhyBad → (A → Result B WhyBad) → Result B WhyBad
 (Ok x) >>= f = f x
 (Err e) >>= f = Err e
 
 -- A kind of word: how a value is spelled, what a word is read as, and which values have a spelling.
 pub record Word (A : Type 0) : Type 1 where
   pub spelling : A → List ℕ
-  pub at : List ℕ → Result A Why
+  pub at : List ℕ → Result A WhyBad
   pub Fits : A → Type 0
 
 -- a word that stands for itself, where it passes the test
-abbrev pub itself : (List ℕ → Bool) → Why → Word (List ℕ)
+abbrev pub itself : (List ℕ → Bool) → WhyBad → Word (List ℕ)
 itself good bad = record {
   spelling = λ w. w;
   at = λ w. if good w then Ok w else Err bad;
@@ -82,14 +82,14 @@ is_some_list xs = nat_lt 0 (length xs)
 abbrev pub hex_byte : ℕ → ℕ
 hex_byte n = if nat_lt n 10 then 48 + n else 97 + (n - 10)
 
-abbrev pub hex_at : ℕ → Result ℕ Why
+abbrev pub hex_at : ℕ → Result ℕ WhyBad
 hex_at b = if is_digit b then Ok (b - 48) else (if nat_le 97 b && nat_le b 102 then Ok (b - 97 + 10) else Err why.Mode)
 
 -- a byte in two digits
 abbrev pub byte_text : ℕ → List ℕ
 byte_text x = hex_byte (x / 16) ∷ hex_byte (x % 16) ∷ []
 
-abbrev pub byte_at : ℕ → ℕ → Result Way Why
+abbrev pub byte_at : ℕ → ℕ → Result Way WhyBad
 byte_at high low = hex_at high >>= λ h. hex_at low >>= λ l. Ok (Torn (h * 16 + l))
 
 -- what a stop leaves
@@ -98,10 +98,10 @@ mode_text Lost = codes "none"
 mode_text Kept = codes "all"
 mode_text (Torn x) = codes "torn:" ++ byte_text x
 
-abbrev pub torn_at : List ℕ → Result Way Why
+abbrev pub torn_at : List ℕ → Result Way WhyBad
 torn_at w = if length w == 7 && bytes_eq (take 5 w) (codes "torn:") then byte_at (get_or w 5 0) (get_or w 6 0) else Err why.Mode
 
-abbrev pub mode_at : List ℕ → Result Way Why
+abbrev pub mode_at : List ℕ → Result Way WhyBad
 mode_at w =
     if bytes_eq w (codes "none") then Ok Lost
     else (if bytes_eq w (codes "all") then Ok Kept

@@ -9,7 +9,7 @@ use thiserror::Error;
 /// Why a line is bad. Where several hold, it is the first of them in this order, and among the last five that of the
 /// first bad word from the left.
 #[derive(Clone, Copy, Debug, PartialEq, Eq, Error)]
-pub enum Why {
+pub enum WhyBad {
     /// The line, its line feed counted, reaches past [`MAX_BYTES`](crate::MAX_BYTES) bytes of text.
     #[error("the text has too many bytes")]
     TooBig,
@@ -48,24 +48,24 @@ pub enum Why {
     Mode,
 }
 
-impl Why {
+impl WhyBad {
     /// The name of the reason, as it stands in the printed form of a fault.
     pub fn name(self) -> &'static str
         ensures { result.now ≡ why_text self }
     {
         match self {
-            Why::TooBig => "TooBig",
-            Why::TooMany => "TooMany",
-            Why::NoNewline => "NoNewline",
-            Why::TooLong => "TooLong",
-            Why::Header => "Header",
-            Why::Verb => "Verb",
-            Why::Arity => "Arity",
-            Why::Id => "Id",
-            Why::Number => "Number",
-            Why::Text => "Text",
-            Why::List => "List",
-            Why::Mode => "Mode",
+            WhyBad::TooBig => "TooBig",
+            WhyBad::TooMany => "TooMany",
+            WhyBad::NoNewline => "NoNewline",
+            WhyBad::TooLong => "TooLong",
+            WhyBad::Header => "Header",
+            WhyBad::Verb => "Verb",
+            WhyBad::Arity => "Arity",
+            WhyBad::Id => "Id",
+            WhyBad::Number => "Number",
+            WhyBad::Text => "Text",
+            WhyBad::List => "List",
+            WhyBad::Mode => "Mode",
         }
     }
 }
@@ -76,7 +76,7 @@ impl Why {
 pub struct BadSchedule {
     /// The number of the line, counted from 1.
     pub line: usize,
-    pub why: Why,
+    pub why: WhyBad,
 }
 
 /// Why nothing was read: a fault of the bytes, or that memory ran out.
@@ -89,10 +89,10 @@ pub enum ReadError<E> {
     Memory,
 }
 
-impl From<Why> for ReadError<Why> {
+impl From<WhyBad> for ReadError<WhyBad> {
     ghost from_gives = { λ why e. e ≡ error.Bad why };
 
-    fn from(why: Why) -> ReadError<Why> {
+    fn from(why: WhyBad) -> ReadError<WhyBad> {
         ReadError::Bad(why)
     }
 }

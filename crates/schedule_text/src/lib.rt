@@ -18,7 +18,7 @@ pub mod text;
 pub mod words;
 
 pub use boxed::Boxed;
-pub use fault::{BadSchedule, ReadError, Why};
+pub use fault::{BadSchedule, ReadError, WhyBad};
 pub use id_list::IdList;
 pub use laws::{law_first_bad_line, law_no_fault, law_one_schedule};
 pub use level::Level;

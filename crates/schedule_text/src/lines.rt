@@ -5,7 +5,7 @@ ghost use Rattle.schedule_text.specs.Lines.{one_word as one_word_of, two_words a
 ghost use Rattle.schedule_text.specs.Answers.{Gives, Answers};
 
 use crate::boxed::Boxed;
-use crate::fault::{ReadError, Why};
+use crate::fault::{ReadError, WhyBad};
 use crate::id_list::IdList;
 use crate::level::Level;
 use crate::line_bytes::LineBytes;
@@ -24,42 +24,42 @@ pub const MAX_MOMENT: u64 = 4611686018427387904;
 
 /// The one word after a verb, and `Arity` where there is another number of words.
 #[tactic(auto, using(crate::proofs::Splitting::words_are))]
-pub fn one_word(rest: Option<&[u8]>) -> Result<&[u8], Why>
+pub fn one_word(rest: Option<&[u8]>) -> Result<&[u8], WhyBad>
     ensures { Gives (λ w. w.now) result (one_word_of (parts_in space rest.entry)) }
 {
     let Some(rest) = rest else {
-        return Err(Why::Arity);
+        return Err(WhyBad::Arity);
     };
     let (word, rest) = cut(rest, b' ');
     match rest {
         None => Ok(word),
-        Some(_) => Err(Why::Arity),
+        Some(_) => Err(WhyBad::Arity),
     }
 }
 
-fn two_words(rest: Option<&[u8]>) -> Result<(&[u8], &[u8]), Why>
+fn two_words(rest: Option<&[u8]>) -> Result<(&[u8], &[u8]), WhyBad>
     ensures { Gives (λ w. (w.0.now, w.1.now)) result (two_words_of (parts_in space rest.entry)) }
 {
     let Some(rest) = rest else {
-        return Err(Why::Arity);
+        return Err(WhyBad::Arity);
     };
     let (first, rest) = cut(rest, b' ');
     let last = one_word(rest)?;
     Ok((first, last))
 }
 
-fn three_words(rest: Option<&[u8]>) -> Result<(&[u8], &[u8], &[u8]), Why>
+fn three_words(rest: Option<&[u8]>) -> Result<(&[u8], &[u8], &[u8]), WhyBad>
     ensures { Gives (λ w. (w.0.now, w.1.now, w.2.now)) result (three_words_of (parts_in space rest.entry)) }
 {
     let Some(rest) = rest else {
-        return Err(Why::Arity);
+        return Err(WhyBad::Arity);
     };
     let (first, rest) = cut(rest, b' ');
     let (second, third) = two_words(rest)?;
     Ok((first, second, third))
 }
 
-fn boot(ids: &NodeSet, rest: Option<&[u8]>) -> Result<Line, ReadError<Why>>
+fn boot(ids: &NodeSet, rest: Option<&[u8]>) -> Result<Line, ReadError<WhyBad>>
     ensures { Answers result (boot_at ids.now (parts_in space rest.entry)) }
 {
     let node = one_word(rest)?;
@@ -67,7 +67,7 @@ fn boot(ids: &NodeSet, rest: Option<&[u8]>) -> Result<Line, ReadError<Why>>
     Ok(Line::Boot(node))
 }
 
-fn start_join(alloc: Global, ids: &NodeSet, rest: Option<&[u8]>) -> Result<Line, ReadError<Why>>
+fn start_join(alloc: Global, ids: &NodeSet, rest: Option<&[u8]>) -> Result<Line, ReadError<WhyBad>>
     ensures { Answers result (start_join_at ids.now (parts_in space rest.entry)) }
 {
     let (node, candidate, term) = three_words(rest)?;
@@ -80,7 +80,7 @@ fn start_join(alloc: Global, ids: &NodeSet, rest: Option<&[u8]>) -> Result<Line,
     Ok(Line::StartJoin(node, candidate, term))
 }
 
-fn deliver(ids: &NodeSet, rest: Option<&[u8]>) -> Result<Line, ReadError<Why>>
+fn deliver(ids: &NodeSet, rest: Option<&[u8]>) -> Result<Line, ReadError<WhyBad>>
     ensures { Answers result (deliver_at ids.now (parts_in space rest.entry)) }
 {
     let (node, message) = two_words(rest)?;
@@ -89,11 +89,11 @@ fn deliver(ids: &NodeSet, rest: Option<&[u8]>) -> Result<Line, ReadError<Why>>
     Ok(Line::Deliver(node, message))
 }
 
-fn four_words(rest: Option<&[u8]>) -> Result<(&[u8], &[u8], &[u8], &[u8]), Why>
+fn four_words(rest: Option<&[u8]>) -> Result<(&[u8], &[u8], &[u8], &[u8]), WhyBad>
     ensures { Gives (λ w. (w.0.now, w.1.now, w.2.now, w.3.now)) result (four_words_of (parts_in space rest.entry)) }
 {
     let Some(rest) = rest else {
-        return Err(Why::Arity);
+        return Err(WhyBad::Arity);
     };
     let (first, rest) = cut(rest, b' ');
     let (second, third, fourth) = three_words(rest)?;
@@ -101,7 +101,7 @@ fn four_words(rest: Option<&[u8]>) -> Result<(&[u8], &[u8], &[u8], &[u8]), Why>
 }
 
 // The line `value`, but for its configuration, which is not yet copied.
-fn value_parts(ids: &NodeSet, rest: Option<&[u8]>) -> Result<ValueParts, Why>
+fn value_parts(ids: &NodeSet, rest: Option<&[u8]>) -> Result<ValueParts, WhyBad>
     ensures { Gives (λ v. Line.Value v.node v.version v.text v.config) result (value_at ids.now (parts_in space rest.entry)) }
 {
     let (node, version, text, config) = four_words(rest)?;
@@ -125,7 +125,7 @@ struct ValueParts {
     config: NodeSet,
 }
 
-fn value(alloc: Global, ids: &NodeSet, rest: Option<&[u8]>) -> Result<Line, ReadError<Why>>
+fn value(alloc: Global, ids: &NodeSet, rest: Option<&[u8]>) -> Result<Line, ReadError<WhyBad>>
     ensures { Answers result (value_at ids.now (parts_in space rest.entry)) }
 {
     let parts = value_parts(ids, rest)?;
@@ -138,7 +138,7 @@ fn value(alloc: Global, ids: &NodeSet, rest: Option<&[u8]>) -> Result<Line, Read
     Ok(Line::Value(parts.node, parts.version, text, config))
 }
 
-fn crash(ids: &NodeSet, rest: Option<&[u8]>) -> Result<Line, ReadError<Why>>
+fn crash(ids: &NodeSet, rest: Option<&[u8]>) -> Result<Line, ReadError<WhyBad>>
     ensures { Answers result (crash_at ids.now (parts_in space rest.entry)) }
 {
     let (node, mode) = two_words(rest)?;
@@ -147,7 +147,7 @@ fn crash(ids: &NodeSet, rest: Option<&[u8]>) -> Result<Line, ReadError<Why>>
     Ok(Line::Crash(node, mode))
 }
 
-fn restart(ids: &NodeSet, rest: Option<&[u8]>) -> Result<Line, ReadError<Why>>
+fn restart(ids: &NodeSet, rest: Option<&[u8]>) -> Result<Line, ReadError<WhyBad>>
     ensures { Answers result (restart_at ids.now (parts_in space rest.entry)) }
 {
     let node = one_word(rest)?;
@@ -155,7 +155,7 @@ fn restart(ids: &NodeSet, rest: Option<&[u8]>) -> Result<Line, ReadError<Why>>
     Ok(Line::Restart(node))
 }
 
-fn fuse(ids: &NodeSet, rest: Option<&[u8]>) -> Result<Line, ReadError<Why>>
+fn fuse(ids: &NodeSet, rest: Option<&[u8]>) -> Result<Line, ReadError<WhyBad>>
     ensures { Answers result (fuse_at ids.now (parts_in space rest.entry)) }
 {
     let (node, count, mode) = three_words(rest)?;
@@ -165,7 +165,7 @@ fn fuse(ids: &NodeSet, rest: Option<&[u8]>) -> Result<Line, ReadError<Why>>
     Ok(Line::Fuse(node, count, mode))
 }
 
-fn fail(ids: &NodeSet, rest: Option<&[u8]>) -> Result<Line, ReadError<Why>>
+fn fail(ids: &NodeSet, rest: Option<&[u8]>) -> Result<Line, ReadError<WhyBad>>
     ensures { Answers result (fail_at ids.now (parts_in space rest.entry)) }
 {
     let (node, call) = two_words(rest)?;
@@ -174,7 +174,7 @@ fn fail(ids: &NodeSet, rest: Option<&[u8]>) -> Result<Line, ReadError<Why>>
     Ok(Line::Fail(node, call))
 }
 
-fn tick(ids: &NodeSet, rest: Option<&[u8]>) -> Result<Line, ReadError<Why>>
+fn tick(ids: &NodeSet, rest: Option<&[u8]>) -> Result<Line, ReadError<WhyBad>>
     ensures { Answers result (tick_at ids.now (parts_in space rest.entry)) }
 {
     let (node, now, word) = three_words(rest)?;
@@ -185,21 +185,21 @@ fn tick(ids: &NodeSet, rest: Option<&[u8]>) -> Result<Line, ReadError<Why>>
 }
 
 // The first word after a verb, and all that follows the space after it, further spaces included.
-fn word_and_rest(rest: Option<&[u8]>) -> Result<(&[u8], &[u8]), Why>
+fn word_and_rest(rest: Option<&[u8]>) -> Result<(&[u8], &[u8]), WhyBad>
     ensures { Gives (λ w. (w.0.now, w.1.now)) result (word_and_rest_of (parts_in space rest.entry)) }
 {
     let Some(rest) = rest else {
-        return Err(Why::Arity);
+        return Err(WhyBad::Arity);
     };
     let (word, rest) = cut(rest, b' ');
     let Some(rest) = rest else {
-        return Err(Why::Arity);
+        return Err(WhyBad::Arity);
     };
     Ok((word, rest))
 }
 
 // The line `client`, but for its bytes, which are not yet copied.
-fn client_parts<'a>(ids: &NodeSet, rest: Option<&'a [u8]>) -> Result<(NodeId, &'a [u8]), Why>
+fn client_parts<'a>(ids: &NodeSet, rest: Option<&'a [u8]>) -> Result<(NodeId, &'a [u8]), WhyBad>
     ensures { Gives (λ c. Line.Client c.0 c.1.now) result (client_at ids.now (parts_in space rest.entry)) }
 {
     let (node, line) = word_and_rest(rest)?;
@@ -207,7 +207,7 @@ fn client_parts<'a>(ids: &NodeSet, rest: Option<&'a [u8]>) -> Result<(NodeId, &'
     Ok((node, line))
 }
 
-fn client(alloc: Global, ids: &NodeSet, rest: Option<&[u8]>) -> Result<Line, ReadError<Why>>
+fn client(alloc: Global, ids: &NodeSet, rest: Option<&[u8]>) -> Result<Line, ReadError<WhyBad>>
     ensures { Answers result (client_at ids.now (parts_in space rest.entry)) }
 {
     let (node, line) = match client_parts(ids, rest) {
@@ -220,7 +220,11 @@ fn client(alloc: Global, ids: &NodeSet, rest: Option<&[u8]>) -> Result<Line, Rea
     Ok(Line::Client(node, line))
 }
 
-fn stop_verb_line(ids: &NodeSet, verb: &[u8], rest: Option<&[u8]>) -> Result<Line, ReadError<Why>>
+fn stop_verb_line(
+    ids: &NodeSet,
+    verb: &[u8],
+    rest: Option<&[u8]>,
+) -> Result<Line, ReadError<WhyBad>>
     ensures { Answers result (stop_verb_at ids.now verb.now (parts_in space rest.entry)) }
 {
     if verb == b"crash".as_slice() {
@@ -235,11 +239,11 @@ fn stop_verb_line(ids: &NodeSet, verb: &[u8], rest: Option<&[u8]>) -> Result<Lin
     if verb == b"fail".as_slice() {
         return fail(ids, rest);
     }
-    Err(ReadError::Bad(Why::Verb))
+    Err(ReadError::Bad(WhyBad::Verb))
 }
 
 // A line that stands at both levels.
-fn shared_line(ids: &NodeSet, verb: &[u8], rest: Option<&[u8]>) -> Result<Line, ReadError<Why>>
+fn shared_line(ids: &NodeSet, verb: &[u8], rest: Option<&[u8]>) -> Result<Line, ReadError<WhyBad>>
     ensures { Answers result (shared_verb_at ids.now verb.now (parts_in space rest.entry)) }
 {
     if verb == b"deliver".as_slice() {
@@ -253,7 +257,7 @@ fn core_line(
     ids: &NodeSet,
     verb: &[u8],
     rest: Option<&[u8]>,
-) -> Result<Line, ReadError<Why>>
+) -> Result<Line, ReadError<WhyBad>>
     ensures { Answers result (core_line_at ids.now verb.now (parts_in space rest.entry)) }
 {
     if verb == b"value".as_slice() {
@@ -273,7 +277,7 @@ fn node_line(
     ids: &NodeSet,
     verb: &[u8],
     rest: Option<&[u8]>,
-) -> Result<Line, ReadError<Why>>
+) -> Result<Line, ReadError<WhyBad>>
     ensures { Answers result (node_line_at ids.now verb.now (parts_in space rest.entry)) }
 {
     if verb == b"client".as_slice() {
@@ -291,7 +295,7 @@ pub fn read_line(
     level: Level,
     ids: &NodeSet,
     bytes: &[u8],
-) -> Result<Line, ReadError<Why>>
+) -> Result<Line, ReadError<WhyBad>>
     ensures { Answers result (line_at level ids.now bytes.now) }
 {
     let (verb, rest) = cut(bytes, b' ');

@@ -3,7 +3,7 @@ ghost use Rattle.std.specs.Prelude.{◌≡◌, ◌+◌, ◌<◌, ◌^◌, length
 ghost use Rattle.schedule_text.specs.Reading.{first_place, after_line, sized_at, why_cut};
 ghost use Rattle.schedule_text.specs.Answers.{Gives};
 
-use crate::fault::{BadSchedule, Why};
+use crate::fault::{BadSchedule, WhyBad};
 
 /// How many bytes a schedule has at most.
 pub const MAX_BYTES: usize = 16777216;
@@ -33,7 +33,7 @@ impl Place {
     }
 
     /// The fault of this line.
-    pub fn bad(self, why: Why) -> BadSchedule
+    pub fn bad(self, why: WhyBad) -> BadSchedule
         ensures { result ≡ record { line = self.number; why = why } }
     {
         BadSchedule {
@@ -55,33 +55,33 @@ impl Place {
     }
 
     /// Whether a line that has its line feed is within the limits: `TooBig`, `TooMany` or `TooLong` where it is not.
-    pub fn check_size(self, line: &[u8]) -> Result<(), Why>
+    pub fn check_size(self, line: &[u8]) -> Result<(), WhyBad>
         requires { self.before + length line.now + 1 < 2 ^ 64 }
         ensures { Gives (λ u. line.now) result (sized_at self line.now) }
     {
         if self.before + line.len() + 1 > MAX_BYTES {
-            return Err(Why::TooBig);
+            return Err(WhyBad::TooBig);
         }
         if self.number > MAX_LINES {
-            return Err(Why::TooMany);
+            return Err(WhyBad::TooMany);
         }
         if line.len() > MAX_LINE_BYTES {
-            return Err(Why::TooLong);
+            return Err(WhyBad::TooLong);
         }
         Ok(())
     }
 
     /// Why a last line without a line feed is bad: `TooBig`, `TooMany` or `NoNewline`.
-    pub fn why_cut(self, line: &[u8]) -> Why
+    pub fn why_cut(self, line: &[u8]) -> WhyBad
         requires { self.before + length line.now < 2 ^ 64 }
         ensures { result ≡ why_cut self line.now }
     {
         if self.before + line.len() > MAX_BYTES {
-            return Why::TooBig;
+            return WhyBad::TooBig;
         }
         if self.number > MAX_LINES {
-            return Why::TooMany;
+            return WhyBad::TooMany;
         }
-        Why::NoNewline
+        WhyBad::NoNewline
     }
 }

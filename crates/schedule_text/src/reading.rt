@@ -7,7 +7,7 @@ ghost use Rattle.schedule_text.specs.Answers.{Adds, Answers, Faulted};
 ghost use Rattle.schedule_text.specs.Spelled.{Spells};
 ghost use Rattle.schedule_text.specs.declared.schedule.Schedule.{Schedule};
 
-use crate::fault::{BadSchedule, ReadError, Why};
+use crate::fault::{BadSchedule, ReadError, WhyBad};
 use crate::level::Level;
 use crate::lines::{one_word, read_line};
 use crate::place::Place;
@@ -15,31 +15,31 @@ use crate::schedule::{Line, Lines, Schedule};
 use std::alloc::Global;
 use voting_config::{NodeSet, cut};
 
-fn header(name: &[u8], line: &[u8]) -> Result<NodeSet, Why>
+fn header(name: &[u8], line: &[u8]) -> Result<NodeSet, WhyBad>
     ensures { result ≡ header_at name.now line.now }
 {
     let (verb, rest) = cut(line, b' ');
     if verb != name {
-        return Err(Why::Header);
+        return Err(WhyBad::Header);
     }
     let Ok(word) = one_word(rest) else {
-        return Err(Why::Header);
+        return Err(WhyBad::Header);
     };
     let Some(ids) = NodeSet::from_bytes(word) else {
-        return Err(Why::Header);
+        return Err(WhyBad::Header);
     };
     if ids.len() == 0 {
-        return Err(Why::Header);
+        return Err(WhyBad::Header);
     }
     Ok(ids)
 }
 
-fn initial_line(ids: &NodeSet, line: &[u8]) -> Result<NodeSet, Why>
+fn initial_line(ids: &NodeSet, line: &[u8]) -> Result<NodeSet, WhyBad>
     ensures { result ≡ initial_line_at ids.now line.now }
 {
     let initial = header(b"initial", line)?;
     if !ids.has_all(&initial) {
-        return Err(Why::Header);
+        return Err(WhyBad::Header);
     }
     Ok(initial)
 }
@@ -170,7 +170,7 @@ fn no_second(place: Place, line: &[u8]) -> BadSchedule
     ensures { no_initial {A = Unit {0}} place line.now ≡ Err result }
 {
     if line.is_empty() {
-        return place.bad(Why::Header);
+        return place.bad(WhyBad::Header);
     }
     place.bad(place.why_cut(line))
 }

@@ -1,5 +1,5 @@
 //! Texts with their first bad lines, and texts that are printed as they were read.
-use crate::fault::{BadSchedule, ReadError, Why};
+use crate::fault::{BadSchedule, ReadError, WhyBad};
 use crate::level::Level;
 use crate::printing::write_schedule;
 use crate::reading::read_schedule;
@@ -12,7 +12,7 @@ use zen_disk::Way;
 const HEADER: &[u8] = b"nodes a\ninitial a\n";
 
 // The line and the reason of a text's fault.
-fn fault(alloc: Global, level: Level, text: &[u8]) -> Option<(usize, Why)> {
+fn fault(alloc: Global, level: Level, text: &[u8]) -> Option<(usize, WhyBad)> {
     match read_schedule(alloc, text, level) {
         Err(ReadError::Bad(bad)) => Some((bad.line, bad.why)),
         _ => None,
@@ -33,7 +33,12 @@ fn many(alloc: Global, count: usize, bytes: &[u8]) -> Option<Vec<u8>> {
 }
 
 // The fault of a text with so many times these bytes after a header.
-fn fault_of_many(alloc: Global, level: Level, count: usize, bytes: &[u8]) -> Option<(usize, Why)> {
+fn fault_of_many(
+    alloc: Global,
+    level: Level,
+    count: usize,
+    bytes: &[u8],
+) -> Option<(usize, WhyBad)> {
     match many(alloc, count, bytes) {
         Some(text) => fault(alloc, level, text.as_slice()),
         None => None,
@@ -44,43 +49,43 @@ fn fault_of_many(alloc: Global, level: Level, count: usize, bytes: &[u8]) -> Opt
 fn names_the_reason_of_a_third_line_at_level_core(rt: HostRuntime) {
     let a = rt.alloc();
     for (line, why) in [
-        ("tick a 0 0\n", Why::Verb),
-        ("client a x\n", Why::Verb),
-        ("deliver a\n", Why::Arity),
-        ("deliver z x\n", Why::Id),
-        ("deliver a 01\n", Why::Number),
-        ("deliver a 0\n", Why::Number),
-        ("deliver a 4294967296\n", Why::Number),
-        ("startjoin a a 18446744073709551616\n", Why::Number),
-        ("value a 1 X a\n", Why::Text),
-        ("value a 1 x a,a\n", Why::List),
-        ("boot a", Why::NoNewline),
-        ("boot  a\n", Why::Arity),
-        ("boot a \n", Why::Arity),
-        (" boot a\n", Why::Verb),
-        ("boot \n", Why::Id),
-        ("boot\ta\n", Why::Verb),
-        ("\n", Why::Verb),
-        ("crash a\n", Why::Arity),
-        ("crash a all all\n", Why::Arity),
-        ("crash z all\n", Why::Id),
-        ("crash a most\n", Why::Mode),
-        ("crash a \n", Why::Mode),
-        ("crash a torn:\n", Why::Mode),
-        ("crash a torn:1\n", Why::Mode),
-        ("crash a torn:123\n", Why::Mode),
-        ("crash a torn:0G\n", Why::Mode),
-        ("crash a torn:AB\n", Why::Mode),
-        ("crash a Torn:ab\n", Why::Mode),
-        ("restart\n", Why::Arity),
-        ("restart \n", Why::Id),
-        ("fuse a 1\n", Why::Arity),
-        ("fuse a 0 all\n", Why::Number),
-        ("fuse a 4294967296 all\n", Why::Number),
-        ("fuse a 0 x\n", Why::Number),
-        ("fuse a 1 x\n", Why::Mode),
-        ("fail a\n", Why::Arity),
-        ("fail a 0\n", Why::Number),
+        ("tick a 0 0\n", WhyBad::Verb),
+        ("client a x\n", WhyBad::Verb),
+        ("deliver a\n", WhyBad::Arity),
+        ("deliver z x\n", WhyBad::Id),
+        ("deliver a 01\n", WhyBad::Number),
+        ("deliver a 0\n", WhyBad::Number),
+        ("deliver a 4294967296\n", WhyBad::Number),
+        ("startjoin a a 18446744073709551616\n", WhyBad::Number),
+        ("value a 1 X a\n", WhyBad::Text),
+        ("value a 1 x a,a\n", WhyBad::List),
+        ("boot a", WhyBad::NoNewline),
+        ("boot  a\n", WhyBad::Arity),
+        ("boot a \n", WhyBad::Arity),
+        (" boot a\n", WhyBad::Verb),
+        ("boot \n", WhyBad::Id),
+        ("boot\ta\n", WhyBad::Verb),
+        ("\n", WhyBad::Verb),
+        ("crash a\n", WhyBad::Arity),
+        ("crash a all all\n", WhyBad::Arity),
+        ("crash z all\n", WhyBad::Id),
+        ("crash a most\n", WhyBad::Mode),
+        ("crash a \n", WhyBad::Mode),
+        ("crash a torn:\n", WhyBad::Mode),
+        ("crash a torn:1\n", WhyBad::Mode),
+        ("crash a torn:123\n", WhyBad::Mode),
+        ("crash a torn:0G\n", WhyBad::Mode),
+        ("crash a torn:AB\n", WhyBad::Mode),
+        ("crash a Torn:ab\n", WhyBad::Mode),
+        ("restart\n", WhyBad::Arity),
+        ("restart \n", WhyBad::Id),
+        ("fuse a 1\n", WhyBad::Arity),
+        ("fuse a 0 all\n", WhyBad::Number),
+        ("fuse a 4294967296 all\n", WhyBad::Number),
+        ("fuse a 0 x\n", WhyBad::Number),
+        ("fuse a 1 x\n", WhyBad::Mode),
+        ("fail a\n", WhyBad::Arity),
+        ("fail a 0\n", WhyBad::Number),
     ] {
         assert_eq!(rt;
             fault_of_many(a, Level::Core, 1, line.as_bytes()),
@@ -94,29 +99,29 @@ fn names_the_reason_of_a_third_line_at_level_core(rt: HostRuntime) {
 fn names_the_reason_of_a_third_line_at_level_node(rt: HostRuntime) {
     let a = rt.alloc();
     for (line, why) in [
-        ("boot a\n", Why::Verb),
-        ("startjoin a a 1\n", Why::Verb),
-        ("value a 1 x a\n", Why::Verb),
-        ("clients a x\n", Why::Verb),
-        ("tick a 0\n", Why::Arity),
-        ("tick a 0 0 0\n", Why::Arity),
-        ("tick z x x\n", Why::Id),
-        ("tick a 00 0\n", Why::Number),
-        ("tick a 0 \n", Why::Number),
-        ("tick a 4611686018427387905 0\n", Why::Number),
-        ("tick a 0 18446744073709551616\n", Why::Number),
-        ("client\n", Why::Arity),
-        ("client \n", Why::Arity),
-        ("client a\n", Why::Arity),
-        ("client  a\n", Why::Id),
-        ("client z \n", Why::Id),
-        ("client a x", Why::NoNewline),
-        ("deliver a\n", Why::Arity),
-        ("deliver a 0\n", Why::Number),
-        ("crash a most\n", Why::Mode),
-        ("restart z\n", Why::Id),
-        ("fuse a 1\n", Why::Arity),
-        ("fail a 0\n", Why::Number),
+        ("boot a\n", WhyBad::Verb),
+        ("startjoin a a 1\n", WhyBad::Verb),
+        ("value a 1 x a\n", WhyBad::Verb),
+        ("clients a x\n", WhyBad::Verb),
+        ("tick a 0\n", WhyBad::Arity),
+        ("tick a 0 0 0\n", WhyBad::Arity),
+        ("tick z x x\n", WhyBad::Id),
+        ("tick a 00 0\n", WhyBad::Number),
+        ("tick a 0 \n", WhyBad::Number),
+        ("tick a 4611686018427387905 0\n", WhyBad::Number),
+        ("tick a 0 18446744073709551616\n", WhyBad::Number),
+        ("client\n", WhyBad::Arity),
+        ("client \n", WhyBad::Arity),
+        ("client a\n", WhyBad::Arity),
+        ("client  a\n", WhyBad::Id),
+        ("client z \n", WhyBad::Id),
+        ("client a x", WhyBad::NoNewline),
+        ("deliver a\n", WhyBad::Arity),
+        ("deliver a 0\n", WhyBad::Number),
+        ("crash a most\n", WhyBad::Mode),
+        ("restart z\n", WhyBad::Id),
+        ("fuse a 1\n", WhyBad::Arity),
+        ("fail a 0\n", WhyBad::Number),
     ] {
         assert_eq!(rt;
             fault_of_many(a, Level::Node, 1, line.as_bytes()),
@@ -130,13 +135,13 @@ fn names_the_reason_of_a_third_line_at_level_node(rt: HostRuntime) {
 fn names_the_reason_of_a_header(rt: HostRuntime) {
     let a = rt.alloc();
     for (text, line, why) in [
-        ("nodes a\ninitial _\n", 2, Why::Header),
-        ("nodes a\ninitial b\n", 2, Why::Header),
-        ("nodes a\ninitial a", 2, Why::NoNewline),
-        ("nodes a\n", 2, Why::Header),
-        ("nodes a", 1, Why::NoNewline),
-        ("nodes b,a\n", 1, Why::Header),
-        ("\n", 1, Why::Header),
+        ("nodes a\ninitial _\n", 2, WhyBad::Header),
+        ("nodes a\ninitial b\n", 2, WhyBad::Header),
+        ("nodes a\ninitial a", 2, WhyBad::NoNewline),
+        ("nodes a\n", 2, WhyBad::Header),
+        ("nodes a", 1, WhyBad::NoNewline),
+        ("nodes b,a\n", 1, WhyBad::Header),
+        ("\n", 1, WhyBad::Header),
     ] {
         for level in [Level::Core, Level::Node] {
             assert_eq!(rt;
@@ -261,7 +266,7 @@ fn prints_a_fault(rt: HostRuntime) {
     let mut text = Text::new(rt.alloc());
     let bad = BadSchedule {
         line: 3,
-        why: Why::Id,
+        why: WhyBad::Id,
     };
     assert!(rt; text.word("act ").is_ok());
     assert_eq!(rt; text.len(), 4);
@@ -281,7 +286,7 @@ fn takes_a_million_lines(rt: HostRuntime) {
     assert!(rt; text.push(b'x').is_ok());
     assert_eq!(rt;
         fault(a, Level::Core, text.as_slice()),
-        Some((1000001, Why::TooMany))
+        Some((1000001, WhyBad::TooMany))
     );
 }
 
@@ -289,13 +294,13 @@ fn takes_a_million_lines(rt: HostRuntime) {
 fn names_a_text_that_is_too_big(rt: HostRuntime) {
     // The header has 18 bytes.
     let too_big = fault_of_many(rt.alloc(), Level::Core, 16777199, b"x");
-    assert_eq!(rt; too_big, Some((3, Why::TooBig)));
+    assert_eq!(rt; too_big, Some((3, WhyBad::TooBig)));
 }
 
 #[test]
 fn names_a_line_that_is_too_long(rt: HostRuntime) {
     let a = rt.alloc();
-    for (bytes, why) in [(16384, Why::Verb), (16385, Why::TooLong)] {
+    for (bytes, why) in [(16384, WhyBad::Verb), (16385, WhyBad::TooLong)] {
         let Some(mut text) = many(a, bytes, b"x") else {
             assert!(rt; false);
             return;

@@ -5,7 +5,7 @@ ghost use Rattle.schedule_text.specs.Words.{byte_text, mode_text};
 ghost use Rattle.schedule_text.specs.Lines.{line_text};
 ghost use Rattle.schedule_text.specs.Printed.{bad_line, reason_text};
 
-use crate::fault::{BadSchedule, Why};
+use crate::fault::{BadSchedule, WhyBad};
 use crate::modes::hex_byte;
 use crate::schedule::Line;
 use crate::setting_text::SettingText;
@@ -244,7 +244,7 @@ impl Text {
         self.number(line as u64)
     }
 
-    fn reason(&mut self, why: Why) -> Result<(), AllocError>
+    fn reason(&mut self, why: WhyBad) -> Result<(), AllocError>
         ensures { OnOk result (self.new ≡ self.old ++ reason_text why) }
     {
         self.word(": ")?;

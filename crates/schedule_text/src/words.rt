@@ -3,12 +3,12 @@ ghost use Rattle.std.specs.Prelude.{◌≡◌, ◌==◌, ◌^◌, ◌<◌, List,
 ghost use Rattle.std.specs.List.{list_all};
 ghost use Rattle.schedule_text.specs.Words.{config, listed, text as text_word, number as number_word, is_digit as is_digit_of, is_decimal as is_decimal_of, value_from};
 
-use crate::fault::Why;
+use crate::fault::WhyBad;
 use crate::setting_text::SettingText;
 use voting_config::{NodeId, NodeSet};
 
 /// The listed node that a word names, and else `Id`.
-pub fn node_at(ids: &NodeSet, word: &[u8]) -> Result<NodeId, Why>
+pub fn node_at(ids: &NodeSet, word: &[u8]) -> Result<NodeId, WhyBad>
     ensures { result ≡ (listed ids.now).at word.now }
 {
     for id in ids.as_slice() {
@@ -16,34 +16,34 @@ pub fn node_at(ids: &NodeSet, word: &[u8]) -> Result<NodeId, Why>
             return Ok(*id);
         }
     }
-    Err(Why::Id)
+    Err(WhyBad::Id)
 }
 
 /// The text that a word is, and else `Text`.
-pub fn text_at(word: &[u8]) -> Result<SettingText, Why>
+pub fn text_at(word: &[u8]) -> Result<SettingText, WhyBad>
     ensures { result ≡ text_word.at word.now }
 {
     match SettingText::from_bytes(word) {
         Some(text) => Ok(text),
-        None => Err(Why::Text),
+        None => Err(WhyBad::Text),
     }
 }
 
 /// The number from `low` to `high` that a word is in decimal, and else `Number`.
-pub fn number_at(word: &[u8], low: u64, high: u64) -> Result<u64, Why>
+pub fn number_at(word: &[u8], low: u64, high: u64) -> Result<u64, WhyBad>
     ensures { result ≡ (number_word low high).at word.now }
 {
     if !is_decimal(word) {
-        return Err(Why::Number);
+        return Err(WhyBad::Number);
     }
     let Some(value) = value_of(word) else {
-        return Err(Why::Number);
+        return Err(WhyBad::Number);
     };
     if value < low {
-        return Err(Why::Number);
+        return Err(WhyBad::Number);
     }
     if value > high {
-        return Err(Why::Number);
+        return Err(WhyBad::Number);
     }
     Ok(value)
 }
@@ -86,14 +86,14 @@ fn value_of(word: &[u8]) -> Option<u64>
 }
 
 /// The listed nodes that a word lists, and else `List`.
-pub fn config_at(ids: &NodeSet, word: &[u8]) -> Result<NodeSet, Why>
+pub fn config_at(ids: &NodeSet, word: &[u8]) -> Result<NodeSet, WhyBad>
     ensures { result ≡ (config ids.now).at word.now }
 {
     let Some(some) = NodeSet::from_bytes(word) else {
-        return Err(Why::List);
+        return Err(WhyBad::List);
     };
     if !ids.has_all(&some) {
-        return Err(Why::List);
+        return Err(WhyBad::List);
     }
     Ok(some)
 }

@@ -2,7 +2,7 @@
 use Rattle.std.specs.Prelude.{ℕ, ◌+◌, ◌-◌, ◌*◌, ◌/◌, ◌%◌, ◌==◌, Bool, true, false, Option, None, Some, Result, Ok, Err, List, [], ◌++◌, length, codes, decimal, nat_lt, if◌then◌else◌}
 use Rattle.voting_config.specs.Lists.{space}
 use Rattle.voting_config.specs.Ids.{Id}
-use Rattle.schedule_text.specs.declared.fault.Why.{Why}
+use Rattle.schedule_text.specs.declared.fault.WhyBad.{WhyBad}
 use Rattle.schedule_text.specs.Lines.{any_number}
 use Rattle.trace_reader.specs.declared.told.Ending.{Ending}
 use Rattle.trace_reader.specs.declared.told.Ending.TheVariants as ending
@@ -41,7 +41,7 @@ term_class term =
     else (if term % 5 == 3 then codes "t3"
     else codes "t4")))
 
-abbrev pub class_by : Result ℕ Why → List ℕ
+abbrev pub class_by : Result ℕ WhyBad → List ℕ
 class_by (Ok term) = term_class term
 class_by (Err e) = codes "other"
 

@@ -1,7 +1,7 @@
 -- Part of the statement of `zen_chart`: what of a line is shown, and how it is escaped.
 use Rattle.std.specs.Prelude.{ℕ, ◌/◌, ◌%◌, ◌==◌, ◌&&◌, Result, Ok, Err, List, [], ◌∷◌, ◌++◌, length, take, drop, get_or, codes, decimal, nat_le, nat_lt, if◌then◌else◌}
 use Rattle.std.specs.List.{flat_map, join_with_byte}
-use Rattle.schedule_text.specs.declared.fault.Why.{Why}
+use Rattle.schedule_text.specs.declared.fault.WhyBad.{WhyBad}
 use Rattle.schedule_text.specs.Words.{hex_byte}
 use Rattle.voting_config.specs.Lists.{parts_of, comma}
 use Rattle.schedule_text.specs.Lines.{any_number}
@@ -45,7 +45,7 @@ term_word json = before comma (behind colon (behind colon (behind colon json)))
 abbrev pub version_word : List ℕ → List ℕ
 version_word json = before close_brace (last_part colon json)
 
-abbrev pub id_by : Result ℕ Why → Result ℕ Why → List ℕ
+abbrev pub id_by : Result ℕ WhyBad → Result ℕ WhyBad → List ℕ
 id_by (Ok term) (Ok version) = decimal term ++ (codes "/" ++ decimal version)
 id_by (Ok term) (Err e) = codes "{..}"
 id_by (Err e) version = codes "{..}"

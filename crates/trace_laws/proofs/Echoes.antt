@@ -8,8 +8,8 @@ use Rattle.std.proofs.lemmas.Bool.{and_parts, and_from}
 use Rattle.std.proofs.lemmas.Bool.Decides.{nat_tests}
 use Rattle.voting_config.specs.Ids.{Id, is_id, has, put, with_id, most_ids, same, IsIdSet}
 use Rattle.voting_config.proofs.Sorted.{has-with_id}
-use Rattle.schedule_text.specs.declared.fault.Why.{Why}
-use Rattle.schedule_text.specs.declared.fault.Why.TheVariants as why
+use Rattle.schedule_text.specs.declared.fault.WhyBad.{WhyBad}
+use Rattle.schedule_text.specs.declared.fault.WhyBad.TheVariants as why
 use Rattle.schedule_text.specs.declared.level.Level.{Level}
 use Rattle.schedule_text.specs.declared.level.Level.TheVariants.{Core, Node}
 use Rattle.schedule_text.specs.declared.schedule.Line.{Line}
@@ -90,7 +90,7 @@ echo_by l ws e fits =
     let again : line_at (level_of (get_or ws 0 [])) (named_by ws) (line_text l) ≡ Ok l = line_again (level_of (get_or ws 0 [])) {ids = named_by ws} (record { each = all_named ws }) l fits in
     let read : line_at (level_of (word_at 0 (line_text l))) (named_in (line_text l)) (line_text l) ≡ Ok l =
     ap (λ (us : List (List ℕ)). line_at (level_of (get_or us 0 [])) (named_by us) (line_text l)) e ∙ again in
-    ap (λ (r : Result Line Why). r >>= λ (x : Line). done (told_by x)) read
+    ap (λ (r : Result Line WhyBad). r >>= λ (x : Line). done (told_by x)) read
 
 -- a verb and a node, and what stands behind them
 two_cut : (v n : List ℕ) → lacks 32 v ≡ true → lacks 32 n ≡ true → words_of (v ++ 32 ∷ n) ≡ v ∷ n ∷ []
@@ -183,5 +183,5 @@ pub echo_read : LawEcho
 echo_read p level ids l set fits =
     let words : words_of (codes ">" ++ 32 ∷ line_text l) ≡ codes ">" ∷ words_of (line_text l) = split_first 32 (codes ">") (line_text l) refl in
     let read : (rest_of (words_of (line_text l)) >>= echo_at) ≡ Ok (told_by l) =
-    ap (λ (r : Result (List ℕ) Why). r >>= echo_at) (rest_again (line_text l)) ∙ echo_again set level l fits in
+    ap (λ (r : Result (List ℕ) WhyBad). r >>= echo_at) (rest_again (line_text l)) ∙ echo_again set level l fits in
     read_by p (codes ">" ++ 32 ∷ line_text l) (told_by l) (line_lacks level (record { each = set.each }) l fits) (ap (words_told p) words ∙ read)

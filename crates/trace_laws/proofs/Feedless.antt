@@ -17,8 +17,8 @@ use Rattle.world_model.specs.declared.acts.Act.{Act}
 use Rattle.world_model.specs.declared.acts.Act.TheVariants.{Bootstrap, StartJoin, TakeJoin, Value, Publish, Response, Commit, Open}
 use Rattle.world_model.specs.declared.acts.Message.{Message}
 use Rattle.world_model.specs.declared.acts.Message.TheVariants.{Join as JoinMessage, Publish as PublishMessage, Response as ResponseMessage, Commit as CommitMessage}
-use Rattle.wire_frames.specs.declared.frame.Message.{Message as FrameMessage}
-use Rattle.wire_frames.specs.declared.frame.Message.TheVariants as frame
+use Rattle.wire_frames.specs.declared.frame.WireMessage.{WireMessage as FrameMessage}
+use Rattle.wire_frames.specs.declared.frame.WireMessage.TheVariants as frame
 use Rattle.voting_config.specs.Lists.{list_text}
 use Rattle.schedule_text.proofs.WordLaws.{lacks, id_plain, join_all}
 use Rattle.trace_text.specs.Trace.{act_text, id_text, message_text, state_text}

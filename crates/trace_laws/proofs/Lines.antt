@@ -1,7 +1,7 @@
 -- Lines cut at their spaces.
 use Rattle.std.proofs.Common.{◌≡◌, ℕ, true, Result, Ok, Option, List, ◌∷◌, ◌++◌, refl, ap, ◌∙◌, codes, append_assoc, IsTrue}
 use Rattle.voting_config.specs.Ids.{Id, is_id}
-use Rattle.schedule_text.specs.declared.fault.Why.{Why}
+use Rattle.schedule_text.specs.declared.fault.WhyBad.{WhyBad}
 use Rattle.schedule_text.specs.Words.{◌>>=◌}
 use Rattle.schedule_text.specs.Lines.{word_and_rest, words_of}
 use Rattle.schedule_text.proofs.WordLaws.{lacks, split_first, id_plain}
@@ -13,7 +13,7 @@ use Rattle.trace_reader.specs.Results.{node, result_at}
 use Rattle.trace_laws.specs.Laws.{IsRead, IsResult}
 use Rattle.trace_laws.proofs.Plain.{spaceless}
 
-abbrev pub done : {A : Type 0} → A → Result A Why
+abbrev pub done : {A : Type 0} → A → Result A WhyBad
 done x = Ok x
 
 -- what the words of a line tell, the line tells
@@ -22,7 +22,7 @@ read_by p text t h e = record {
   line = text;
   is = refl;
   alone = h;
-  tells = λ sized. ap (λ (r : Result (Unit {0}) Why). r >>= λ (u : Unit {0}). words_told p (words_of text)) sized ∙ e;
+  tells = λ sized. ap (λ (r : Result (Unit {0}) WhyBad). r >>= λ (u : Unit {0}). words_told p (words_of text)) sized ∙ e;
 }
 
 -- one word, two words and what stands behind them

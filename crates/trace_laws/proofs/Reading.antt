@@ -17,7 +17,7 @@ use Rattle.policy_model.specs.declared.events.Mode.{Mode}
 use Rattle.policy_model.specs.declared.events.Mode.TheVariants as mode
 use Rattle.world_model.specs.declared.acts.Act.TheVariants.{Bootstrap, StartJoin, TakeJoin, Value, Publish, Response, Commit, Open}
 use Rattle.world_model.specs.declared.acts.Message.TheVariants.{Join as JoinMessage, Publish as PublishMessage, Response as ResponseMessage, Commit as CommitMessage}
-use Rattle.schedule_text.specs.declared.fault.Why.TheVariants as why
+use Rattle.schedule_text.specs.declared.fault.WhyBad.TheVariants as why
 use Rattle.voting_config.specs.Lists.{list_text, parts_of}
 use Rattle.schedule_text.specs.Lines.{any_number, two, words_of}
 use Rattle.schedule_text.proofs.WordLaws.{lacks, all_append, all_weaker, split_first, split_alone, parts_not_empty}

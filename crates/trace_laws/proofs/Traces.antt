@@ -1,6 +1,6 @@
 -- Lines that are read one by one are read whole.
 use Rattle.std.proofs.Common.{◌≡◌, ◌≢◌, ℕ, Result, Ok, List, [], ◌∷◌, ◌++◌, refl, sym, ap, ◌∙◌, append-nil, append_assoc}
-use Rattle.schedule_text.specs.declared.fault.Why.{Why}
+use Rattle.schedule_text.specs.declared.fault.WhyBad.{WhyBad}
 use Rattle.schedule_text.specs.Words.{◌>>=◌}
 use Rattle.voting_config.specs.Lists.{parts_of}
 use Rattle.schedule_text.proofs.WordLaws.{split_first, parts_not_empty}
@@ -26,7 +26,7 @@ line_by_line p front line [] some = absurd (some refl)
 line_by_line p front line (w ∷ ws) some = refl
 
 line_told : (p : Progress) (line : List ℕ) (t : Told) → told_at p line ≡ Ok t → line_at p line ≡ whole (record { text = line; told = t })
-line_told p line t e = ap (λ (r : Result Told Why). in_line p (r >>= λ (u : Told). done {A = TraceLine} (record { text = line; told = u }))) e
+line_told p line t e = ap (λ (r : Result Told WhyBad). in_line p (r >>= λ (u : Told). done {A = TraceLine} (record { text = line; told = u }))) e
 
 lines_read : {p : Progress} (front : List TraceLine) {bytes : List ℕ} {lines : List TraceLine} → AreRead p bytes lines → lines_at p front (parts_of 10 bytes) ≡ whole (front ++ lines)
 unfolding behind

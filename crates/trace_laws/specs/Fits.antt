@@ -28,8 +28,8 @@ use Rattle.world_model.specs.declared.acts.Cause.TheVariants.{Initial as Initial
 use Rattle.world_model.specs.declared.acts.Message.{Message}
 use Rattle.world_model.specs.declared.acts.Message.TheVariants.{Join as JoinMessage, Publish as PublishMessage, Response as ResponseMessage, Commit as CommitMessage}
 use Rattle.wire_frames.specs.declared.frame.Frame.{Frame}
-use Rattle.wire_frames.specs.declared.frame.Message.{Message as FrameMessage}
-use Rattle.wire_frames.specs.declared.frame.Message.TheVariants as frame
+use Rattle.wire_frames.specs.declared.frame.WireMessage.{WireMessage as FrameMessage}
+use Rattle.wire_frames.specs.declared.frame.WireMessage.TheVariants as frame
 use Rattle.trace_text.specs.declared.ending.Ending.{Ending}
 use Rattle.trace_text.specs.declared.ending.Ending.TheVariants as ending
 use Rattle.policy_model.specs.declared.events.Mode.{Mode}

@@ -1,12 +1,12 @@
 -- What stands after a word, from its parts.
 use Rattle.std.proofs.Common.{◌≡◌, ◌≢◌, ℕ, Result, Ok, List, [], ◌∷◌, refl, ap, ◌∙◌}
 use Rattle.std.specs.List.{join_with_byte}
-use Rattle.schedule_text.specs.declared.fault.Why.{Why}
+use Rattle.schedule_text.specs.declared.fault.WhyBad.{WhyBad}
 use Rattle.voting_config.specs.Lists.{parts_of}
 use Rattle.schedule_text.proofs.WordLaws.{join_split, parts_not_empty}
 use Rattle.trace_reader.specs.Reading.{rest_of}
 
-abbrev read : List ℕ → Result (List ℕ) Why
+abbrev read : List ℕ → Result (List ℕ) WhyBad
 read bytes = Ok bytes
 
 rest_by : (parts : List (List ℕ)) → parts ≢ [] → rest_of parts ≡ read (join_with_byte 32 parts)

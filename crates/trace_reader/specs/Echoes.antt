@@ -2,7 +2,7 @@
 use Rattle.std.specs.Prelude.{ℕ, ◌==◌, Result, Ok, List, [], ◌&&◌, not, length, codes, get_or, if◌then◌else◌}
 use Rattle.std.specs.Str.{bytes_eq}
 use Rattle.voting_config.specs.Ids.{Id, is_id, has, with_id, most_ids}
-use Rattle.schedule_text.specs.declared.fault.Why.{Why}
+use Rattle.schedule_text.specs.declared.fault.WhyBad.{WhyBad}
 use Rattle.schedule_text.specs.declared.level.Level.{Level}
 use Rattle.schedule_text.specs.declared.level.Level.TheVariants.{Core, Node}
 use Rattle.schedule_text.specs.declared.schedule.Line.{Line}
@@ -51,5 +51,5 @@ told_by (line.Tick n m w) = told.Event n
 told_by (line.Client n r) = told.Event n
 
 -- What is echoed must be a line of the schedules of the nodes that it names.
-abbrev pub echo_at : List ℕ → Result Told Why
+abbrev pub echo_at : List ℕ → Result Told WhyBad
 echo_at bytes = line_at (level_of (word_at 0 bytes)) (named_in bytes) bytes >>= λ l. Ok (told_by l)

@@ -3,8 +3,8 @@ use Rattle.std.specs.Prelude.{ℕ, ◌+◌, Option, None, Some, Result, Ok, Err,
 use Rattle.std.specs.List.{join_with_byte}
 use Rattle.std.specs.Str.{bytes_eq}
 use Rattle.voting_config.specs.Ids.{Id}
-use Rattle.schedule_text.specs.declared.fault.Why.{Why}
-use Rattle.schedule_text.specs.declared.fault.Why.TheVariants as why
+use Rattle.schedule_text.specs.declared.fault.WhyBad.{WhyBad}
+use Rattle.schedule_text.specs.declared.fault.WhyBad.TheVariants as why
 use Rattle.schedule_text.specs.Words.{◌>>=◌}
 use Rattle.voting_config.specs.Lists.{parts_of, space, line_feed}
 use Rattle.schedule_text.specs.Lines.{words_of}
@@ -39,41 +39,41 @@ after_line p line t = record { number = p.number + 1; before = p.before + length
 -- ---- a line
 
 -- the line with its line feed reaches past the greatest size, or it is one too many
-abbrev pub sized_at : Progress → List ℕ → Result (Unit {0}) Why
+abbrev pub sized_at : Progress → List ℕ → Result (Unit {0}) WhyBad
 sized_at p line =
     if nat_lt most_trace_bytes (p.before + length line + 1) then Err why.TooBig
     else (if nat_lt most_trace_lines p.number then Err why.TooMany
     else Ok tt)
 
 -- why a last line without a line feed is bad
-abbrev pub why_cut : Progress → List ℕ → Why
+abbrev pub why_cut : Progress → List ℕ → WhyBad
 why_cut p line =
     if nat_lt most_trace_bytes (p.before + length line) then why.TooBig
     else (if nat_lt most_trace_lines p.number then why.TooMany
     else why.NoNewline)
 
 -- the words after the first one as they stood
-abbrev pub rest_of : List (List ℕ) → Result (List ℕ) Why
+abbrev pub rest_of : List (List ℕ) → Result (List ℕ) WhyBad
 rest_of [] = Err why.Arity
 rest_of (w ∷ ws) = Ok (join_with_byte space (w ∷ ws))
 
 -- a result stands after a line of the schedule
-abbrev pub result_behind : Option Id → ℕ → List ℕ → List (List ℕ) → Result Told Why
+abbrev pub result_behind : Option Id → ℕ → List ℕ → List (List ℕ) → Result Told WhyBad
 result_behind None next verb ws = Err why.Header
 result_behind (Some actor) next verb ws = result_at actor next verb ws
 
-abbrev pub words_told : Progress → List (List ℕ) → Result Told Why
+abbrev pub words_told : Progress → List (List ℕ) → Result Told WhyBad
 words_told p [] = Err why.Verb
 words_told p (verb ∷ ws) = if bytes_eq verb (codes ">") then rest_of ws >>= echo_at else result_behind p.actor p.next verb ws
 
 -- what a line tells
-abbrev pub told_at : Progress → List ℕ → Result Told Why
+abbrev pub told_at : Progress → List ℕ → Result Told WhyBad
 told_at p line = sized_at p line >>= λ u. words_told p (words_of line)
 
 -- ---- the lines
 
 -- a fault of a line, by its number
-abbrev pub in_line : {A : Type 0} → Progress → Result A Why → Result A BadTrace
+abbrev pub in_line : {A : Type 0} → Progress → Result A WhyBad → Result A BadTrace
 in_line p (Ok x) = Ok x
 in_line p (Err why) = Err (record { line = p.number; why = why })
 

@@ -3,8 +3,8 @@ use Rattle.std.specs.Prelude.{ℕ, ◌-◌, ◌==◌, Bool, ◌&&◌, ◌||◌, 
 use Rattle.std.specs.List.{starts_with, join_with_byte}
 use Rattle.std.specs.Str.{bytes_eq}
 use Rattle.voting_config.specs.Ids.{Id, is_id}
-use Rattle.schedule_text.specs.declared.fault.Why.{Why}
-use Rattle.schedule_text.specs.declared.fault.Why.TheVariants as why
+use Rattle.schedule_text.specs.declared.fault.WhyBad.{WhyBad}
+use Rattle.schedule_text.specs.declared.fault.WhyBad.TheVariants as why
 use Rattle.schedule_text.specs.Words.{◌>>=◌, Word, itself}
 use Rattle.voting_config.specs.Lists.{parts_of}
 use Rattle.schedule_text.specs.Lines.{one, two, word_and_rest, words_of, any_number}
@@ -21,26 +21,26 @@ node = itself is_id why.Id
 -- ---- the words after the first one
 
 -- none
-abbrev pub no_word : List (List ℕ) → Result (Unit {0}) Why
+abbrev pub no_word : List (List ℕ) → Result (Unit {0}) WhyBad
 no_word [] = Ok tt
 no_word (v ∷ ws) = Err why.Arity
 
 -- at least one
-abbrev pub some_word : List (List ℕ) → Result (Unit {0}) Why
+abbrev pub some_word : List (List ℕ) → Result (Unit {0}) WhyBad
 some_word [] = Err why.Arity
 some_word (v ∷ ws) = Ok tt
 
 -- a node alone
-abbrev pub node_alone : List (List ℕ) → Result Id Why
+abbrev pub node_alone : List (List ℕ) → Result Id WhyBad
 node_alone ws = (one node).at ws
 
 -- a node with something after it
-abbrev pub node_with_rest : List (List ℕ) → Result Id Why
+abbrev pub node_with_rest : List (List ℕ) → Result Id WhyBad
 node_with_rest ws = word_and_rest ws >>= λ w. node.at w.0
 
 -- ---- acts
 
-abbrev pub ending_at : List ℕ → Result Ending Why
+abbrev pub ending_at : List ℕ → Result Ending WhyBad
 ending_at w =
     if bytes_eq w (codes "ok") then Ok ending.Taken
     else (if starts_with nat_eq w (codes "refused:") then Ok ending.Refused
@@ -56,68 +56,68 @@ is_act_word w =
     || bytes_eq w (codes "publish") || bytes_eq w (codes "response") || bytes_eq w (codes "commit")
 
 -- the word of an act and its fields
-abbrev pub act_words : List (List ℕ) → Result (Unit {0}) Why
+abbrev pub act_words : List (List ℕ) → Result (Unit {0}) WhyBad
 act_words ws = word_and_rest ws >>= λ w. if is_act_word w.0 then Ok tt else Err why.Verb
 
 -- how an act ended, and the act
-abbrev pub ended_act : Id → List (List ℕ) → Result Told Why
+abbrev pub ended_act : Id → List (List ℕ) → Result Told WhyBad
 ended_act n ws = word_and_rest ws >>= λ w. ending_at w.0 >>= λ e. act_words (words_of w.1) >>= λ u. Ok (told.Act n e)
 
-abbrev pub act_at : List (List ℕ) → Result Told Why
+abbrev pub act_at : List (List ℕ) → Result Told WhyBad
 act_at ws = word_and_rest ws >>= λ w. node.at w.0 >>= λ n. ended_act n (words_of w.1)
 
-abbrev pub won_at : List (List ℕ) → Result Told Why
+abbrev pub won_at : List (List ℕ) → Result Told WhyBad
 won_at ws = (two node any_number).at ws >>= λ x. Ok (told.Won x.0 x.1)
 
-abbrev pub committed_at : Id → List (List ℕ) → Result Told Why
+abbrev pub committed_at : Id → List (List ℕ) → Result Told WhyBad
 committed_at actor ws = some_word ws >>= λ u. Ok (told.Committed actor)
 
 -- ---- modes
 
-abbrev pub mode_words : Id → List ℕ → List ℕ → Result Told Why
+abbrev pub mode_words : Id → List ℕ → List ℕ → Result Told WhyBad
 mode_words n w rest =
     if bytes_eq w (codes "follower") then ((two node any_number).at (words_of rest) >>= λ x. Ok (told.Mode n mode.Follower x.1))
     else (if bytes_eq w (codes "candidate") then (any_number.at rest >>= λ t. Ok (told.Mode n mode.Candidate t))
     else (if bytes_eq w (codes "leader") then (any_number.at rest >>= λ t. Ok (told.Mode n mode.Leader t))
     else Err why.Verb))
 
-abbrev pub mode_at : List (List ℕ) → Result Told Why
+abbrev pub mode_at : List (List ℕ) → Result Told WhyBad
 mode_at ws = word_and_rest ws >>= λ w. node.at w.0 >>= λ n. word_and_rest (words_of w.1) >>= λ v. mode_words n v.0 v.1
 
 -- ---- messages
 
 -- the one part, where there is one
-abbrev pub only_part : List (List ℕ) → Result (List ℕ) Why
+abbrev pub only_part : List (List ℕ) → Result (List ℕ) WhyBad
 only_part [] = Err why.Id
 only_part (v ∷ []) = Ok v
 only_part (v ∷ w ∷ ws) = Err why.Id
 
 -- a sender has a hyphen after it
-abbrev pub sender_at : List ℕ → Result Id Why
+abbrev pub sender_at : List ℕ → Result Id WhyBad
 sender_at w = if bytes_eq (drop (length w - 1) w) (codes "-") then node.at (take (length w - 1) w) else Err why.Id
 
 -- a receiver, or none for any node
-abbrev pub receiver_at : List ℕ → Result (Option Id) Why
+abbrev pub receiver_at : List ℕ → Result (Option Id) WhyBad
 receiver_at w = if bytes_eq w (codes "*") then Ok None else (node.at w >>= λ n. Ok (Some n))
 
-abbrev pub ends_of : List (List ℕ) → Result Told Why
+abbrev pub ends_of : List (List ℕ) → Result Told WhyBad
 ends_of [] = Err why.Id
 ends_of (f ∷ ts) = only_part ts >>= λ t. sender_at f >>= λ from. receiver_at t >>= λ to. Ok (told.Sent from to)
 
 -- the ends of a message
-abbrev pub ends_at : List ℕ → Result Told Why
+abbrev pub ends_at : List ℕ → Result Told WhyBad
 ends_at w = ends_of (parts_of 62 w)
 
 -- a message by its number, which is the next one
-abbrev pub sent_at : ℕ → List ℕ → List (List ℕ) → Result Told Why
+abbrev pub sent_at : ℕ → List ℕ → List (List ℕ) → Result Told WhyBad
 sent_at next digits ws = any_number.at digits >>= λ k. if k == next then (word_and_rest ws >>= λ w. ends_at w.0) else Err why.Number
 
-abbrev pub message_at : ℕ → List ℕ → List (List ℕ) → Result Told Why
+abbrev pub message_at : ℕ → List ℕ → List (List ℕ) → Result Told WhyBad
 message_at next verb ws = if bytes_eq (take 1 verb) (codes "m") then sent_at next (drop 1 verb) ws else Err why.Verb
 
 -- ---- all lines, by their first words
 
-abbrev pub state_at : ℕ → List ℕ → List (List ℕ) → Result Told Why
+abbrev pub state_at : ℕ → List ℕ → List (List ℕ) → Result Told WhyBad
 state_at next verb ws =
     if bytes_eq verb (codes "crashed") then (node_alone ws >>= λ n. Ok (told.Crashed n))
     else (if bytes_eq verb (codes "disk") then (node_alone ws >>= λ n. Ok (told.Disk n))
@@ -125,21 +125,21 @@ state_at next verb ws =
     else (if bytes_eq verb (codes "up") then (node_alone ws >>= λ n. Ok (told.Up n))
     else message_at next verb ws)))
 
-abbrev pub note_at : ℕ → List ℕ → List (List ℕ) → Result Told Why
+abbrev pub note_at : ℕ → List ℕ → List (List ℕ) → Result Told WhyBad
 note_at next verb ws =
     if bytes_eq verb (codes "record") then (node_with_rest ws >>= λ n. Ok (told.Opened n))
     else (if bytes_eq verb (codes "drop") then (node_with_rest ws >>= λ n. Ok (told.Dropped n))
     else (if bytes_eq verb (codes "reply") then (node_with_rest ws >>= λ n. Ok (told.Replied n))
     else state_at next verb ws))
 
-abbrev pub delivery_at : Id → ℕ → List ℕ → List (List ℕ) → Result Told Why
+abbrev pub delivery_at : Id → ℕ → List ℕ → List (List ℕ) → Result Told WhyBad
 delivery_at actor next verb ws =
     if bytes_eq verb (codes "unsent") then (no_word ws >>= λ u. Ok (told.Unsent actor))
     else (if bytes_eq verb (codes "misrouted") then (no_word ws >>= λ u. Ok (told.Misrouted actor))
     else note_at next verb ws)
 
 -- The line of a result after a line of the schedule of this node, where the next message has this number.
-abbrev pub result_at : Id → ℕ → List ℕ → List (List ℕ) → Result Told Why
+abbrev pub result_at : Id → ℕ → List ℕ → List (List ℕ) → Result Told WhyBad
 result_at actor next verb ws =
     if bytes_eq verb (codes "act") then act_at ws
     else (if bytes_eq verb (codes "won") then won_at ws

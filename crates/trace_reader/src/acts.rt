@@ -6,10 +6,10 @@ ghost use Rattle.trace_reader.specs.Results.{ending_at as ending_at_of, is_act_w
 
 use crate::told::{Ending, Mode, Told};
 use crate::words::{any_number_at, id_at, node_and_number, some_word, word_and_rest};
-use schedule_text::Why;
+use schedule_text::WhyBad;
 use voting_config::NodeId;
 
-fn ending_at(word: &[u8]) -> Result<Ending, Why>
+fn ending_at(word: &[u8]) -> Result<Ending, WhyBad>
     ensures { result ≡ ending_at_of word.now }
 {
     if word == b"ok".as_slice() {
@@ -27,7 +27,7 @@ fn ending_at(word: &[u8]) -> Result<Ending, Why>
     if word == b"crashed".as_slice() {
         return Ok(Ending::Crashed);
     }
-    Err(Why::Verb)
+    Err(WhyBad::Verb)
 }
 
 fn is_act_word(word: &[u8]) -> bool
@@ -43,17 +43,17 @@ fn is_act_word(word: &[u8]) -> bool
 }
 
 // Whether these words are an act: its word, and its fields.
-fn act_words(rest: Option<&[u8]>) -> Result<(), Why>
+fn act_words(rest: Option<&[u8]>) -> Result<(), WhyBad>
     ensures { result ≡ act_words_of (parts_in space rest.entry) }
 {
     let (word, _) = word_and_rest(rest)?;
     if !is_act_word(word) {
-        return Err(Why::Verb);
+        return Err(WhyBad::Verb);
     }
     Ok(())
 }
 
-fn ended_act(node: NodeId, rest: Option<&[u8]>) -> Result<Told, Why>
+fn ended_act(node: NodeId, rest: Option<&[u8]>) -> Result<Told, WhyBad>
     ensures { result ≡ ended_act_of node (parts_in space rest.entry) }
 {
     let (ending, act) = word_and_rest(rest)?;
@@ -63,7 +63,7 @@ fn ended_act(node: NodeId, rest: Option<&[u8]>) -> Result<Told, Why>
 }
 
 /// What a line `act` tells, by the words after its first one.
-pub fn act(rest: Option<&[u8]>) -> Result<Told, Why>
+pub fn act(rest: Option<&[u8]>) -> Result<Told, WhyBad>
     ensures { result ≡ act_at (parts_in space rest.entry) }
 {
     let (word, rest) = word_and_rest(rest)?;
@@ -72,7 +72,7 @@ pub fn act(rest: Option<&[u8]>) -> Result<Told, Why>
 }
 
 /// What a line `won` tells.
-pub fn won(rest: Option<&[u8]>) -> Result<Told, Why>
+pub fn won(rest: Option<&[u8]>) -> Result<Told, WhyBad>
     ensures { result ≡ won_at (parts_in space rest.entry) }
 {
     let (node, term) = node_and_number(rest)?;
@@ -80,14 +80,14 @@ pub fn won(rest: Option<&[u8]>) -> Result<Told, Why>
 }
 
 /// What a line `committed` tells of the node of the last line of the schedule.
-pub fn committed(actor: NodeId, rest: Option<&[u8]>) -> Result<Told, Why>
+pub fn committed(actor: NodeId, rest: Option<&[u8]>) -> Result<Told, WhyBad>
     ensures { result ≡ committed_at actor (parts_in space rest.entry) }
 {
     some_word(rest)?;
     Ok(Told::Committed(actor))
 }
 
-fn mode_words(node: NodeId, word: &[u8], rest: &[u8]) -> Result<Told, Why>
+fn mode_words(node: NodeId, word: &[u8], rest: &[u8]) -> Result<Told, WhyBad>
     ensures { result ≡ mode_words_of node word.now rest.now }
 {
     if word == b"follower".as_slice() {
@@ -102,11 +102,11 @@ fn mode_words(node: NodeId, word: &[u8], rest: &[u8]) -> Result<Told, Why>
         let term = any_number_at(rest)?;
         return Ok(Told::Mode(node, Mode::Leader, term));
     }
-    Err(Why::Verb)
+    Err(WhyBad::Verb)
 }
 
 /// What a line `mode` tells.
-pub fn mode(rest: Option<&[u8]>) -> Result<Told, Why>
+pub fn mode(rest: Option<&[u8]>) -> Result<Told, WhyBad>
     ensures { result ≡ mode_at (parts_in space rest.entry) }
 {
     let (word, rest) = word_and_rest(rest)?;

@@ -5,7 +5,7 @@ ghost use Rattle.trace_reader.specs.Echoes.{word_at, level_of as level_of_verb, 
 
 use crate::told::Told;
 use schedule_text::lines::read_line;
-use schedule_text::{Level, Line, ReadError, Why};
+use schedule_text::{Level, Line, ReadError, WhyBad};
 use std::alloc::Global;
 use voting_config::{NodeId, NodeSet, cut};
 
@@ -123,7 +123,7 @@ fn told_by(line: &Line) -> Told
 }
 
 /// What the echo of a line of a schedule tells, whose bytes stand after `> `, or why it is no such line.
-pub fn read_echo(alloc: Global, bytes: &[u8]) -> Result<Told, ReadError<Why>>
+pub fn read_echo(alloc: Global, bytes: &[u8]) -> Result<Told, ReadError<WhyBad>>
     ensures { Answers result (echo_at bytes.now) }
 {
     let ids = named(bytes);

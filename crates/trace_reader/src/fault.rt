@@ -3,7 +3,7 @@ ghost use Rattle.std.specs.Prelude.{◌≡◌, ◌++◌, OnOk, decimal};
 ghost use Rattle.schedule_text.specs.Printed.{reason_text};
 ghost use Rattle.trace_reader.specs.Printed.{bad_line};
 
-use schedule_text::{Text, Why};
+use schedule_text::{Text, WhyBad};
 use std::alloc::AllocError;
 use thiserror::Error;
 
@@ -17,7 +17,7 @@ pub struct BadTrace {
     /// `TooBig` and `TooMany` by [`MAX_TRACE_BYTES`](crate::MAX_TRACE_BYTES) and [`MAX_TRACE_LINES`](crate::MAX_TRACE_LINES);
     /// `Header` where a result stands before the first line of the schedule; `Verb` where a word that must be one of a few is
     /// none of them; after `>` what a reader of schedules says of the line.
-    pub why: Why,
+    pub why: WhyBad,
 }
 
 fn write_line_number(text: &mut Text, line: usize) -> Result<(), AllocError>
@@ -26,7 +26,7 @@ fn write_line_number(text: &mut Text, line: usize) -> Result<(), AllocError>
     text.number(line as u64)
 }
 
-fn write_reason(text: &mut Text, why: Why) -> Result<(), AllocError>
+fn write_reason(text: &mut Text, why: WhyBad) -> Result<(), AllocError>
     ensures { OnOk result (text.new ≡ text.old ++ reason_text why) }
 {
     text.word(": ")?;

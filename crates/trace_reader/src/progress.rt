@@ -6,7 +6,7 @@ ghost use Rattle.trace_reader.specs.Reading.{first_progress, actor_after, next_a
 
 use crate::fault::BadTrace;
 use crate::told::Told;
-use schedule_text::Why;
+use schedule_text::WhyBad;
 use voting_config::NodeId;
 
 /// How many bytes a trace has at most.
@@ -62,7 +62,7 @@ impl Progress {
     }
 
     /// The fault of this line.
-    pub fn bad(&self, why: Why) -> BadTrace
+    pub fn bad(&self, why: WhyBad) -> BadTrace
         ensures { result ≡ record { line = self.now.number; why = why } }
     {
         BadTrace {
@@ -87,31 +87,31 @@ impl Progress {
     }
 
     /// Whether a line that has its line feed is within the limits: `TooBig` or `TooMany` where it is not.
-    pub fn check_size(&self, line: &[u8]) -> Result<(), Why>
+    pub fn check_size(&self, line: &[u8]) -> Result<(), WhyBad>
         requires { self.now.before + length line.now + 1 < 2 ^ 64 }
         ensures is { result ≡ sized_at self.now line.now }
         ensures counted { OnOk result (self.now.number ≤ most_trace_lines) }
     {
         if self.before + line.len() + 1 > MAX_TRACE_BYTES {
-            return Err(Why::TooBig);
+            return Err(WhyBad::TooBig);
         }
         if self.number > MAX_TRACE_LINES {
-            return Err(Why::TooMany);
+            return Err(WhyBad::TooMany);
         }
         Ok(())
     }
 
     /// Why a last line without a line feed is bad: `TooBig`, `TooMany` or `NoNewline`.
-    pub fn why_cut(&self, line: &[u8]) -> Why
+    pub fn why_cut(&self, line: &[u8]) -> WhyBad
         requires { self.now.before + length line.now < 2 ^ 64 }
         ensures { result ≡ why_cut self.now line.now }
     {
         if self.before + line.len() > MAX_TRACE_BYTES {
-            return Why::TooBig;
+            return WhyBad::TooBig;
         }
         if self.number > MAX_TRACE_LINES {
-            return Why::TooMany;
+            return WhyBad::TooMany;
         }
-        Why::NoNewline
+        WhyBad::NoNewline
     }
 }

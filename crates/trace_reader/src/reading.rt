@@ -11,20 +11,20 @@ use crate::progress::Progress;
 use crate::results::read_result;
 use crate::told::{Told, Trace, TraceLine};
 use crate::words::rest_of;
-use schedule_text::{LineBytes, ReadError, Why};
+use schedule_text::{LineBytes, ReadError, WhyBad};
 use std::alloc::Global;
 use voting_config::cut;
 
-fn result(progress: &Progress, verb: &[u8], rest: Option<&[u8]>) -> Result<Told, Why>
+fn result(progress: &Progress, verb: &[u8], rest: Option<&[u8]>) -> Result<Told, WhyBad>
     ensures { result ≡ result_behind progress.now.actor progress.now.next verb.now (parts_in space rest.entry) }
 {
     let Some(actor) = progress.actor else {
-        return Err(Why::Header);
+        return Err(WhyBad::Header);
     };
     read_result(actor, progress.next, verb, rest)
 }
 
-fn told_at(alloc: Global, progress: &Progress, line: &[u8]) -> Result<Told, ReadError<Why>>
+fn told_at(alloc: Global, progress: &Progress, line: &[u8]) -> Result<Told, ReadError<WhyBad>>
     requires { progress.now.before + length line.now + 1 < 2 ^ 64 }
     ensures read { Answers result (told_at_of progress.now line.now) }
     ensures counted { OnOk result (progress.now.number ≤ most_trace_lines) }

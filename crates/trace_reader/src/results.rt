@@ -7,35 +7,35 @@ ghost use Rattle.trace_reader.specs.Results.{only_part as only_part_of, sender_a
 use crate::acts::{act, committed, mode, won};
 use crate::told::Told;
 use crate::words::{any_number_at, id_at, no_word, node_alone, node_with_rest, word_and_rest};
-use schedule_text::Why;
+use schedule_text::WhyBad;
 use voting_config::{NodeId, cut};
 
 // What stands after the arrow of a message.
-fn only_part(rest: Option<&[u8]>) -> Result<&[u8], Why>
+fn only_part(rest: Option<&[u8]>) -> Result<&[u8], WhyBad>
     ensures { Gives (λ w. w.now) result (only_part_of (parts_in 62 rest.entry)) }
 {
     let Some(rest) = rest else {
-        return Err(Why::Id);
+        return Err(WhyBad::Id);
     };
     let (part, rest) = cut(rest, b'>');
     let Some(rest) = rest else {
         return Ok(part);
     };
     let _ = cut(rest, b'>');
-    Err(Why::Id)
+    Err(WhyBad::Id)
 }
 
-fn sender_at(word: &[u8]) -> Result<NodeId, Why>
+fn sender_at(word: &[u8]) -> Result<NodeId, WhyBad>
     ensures { result ≡ sender_at_of word.now }
 {
     let last = word.len().saturating_sub(1);
     if &word[last..] != b"-".as_slice() {
-        return Err(Why::Id);
+        return Err(WhyBad::Id);
     }
     id_at(&word[..last])
 }
 
-fn receiver_at(word: &[u8]) -> Result<Option<NodeId>, Why>
+fn receiver_at(word: &[u8]) -> Result<Option<NodeId>, WhyBad>
     ensures { result ≡ receiver_at_of word.now }
 {
     if word == b"*".as_slice() {
@@ -45,7 +45,7 @@ fn receiver_at(word: &[u8]) -> Result<Option<NodeId>, Why>
     Ok(Some(id))
 }
 
-fn ends_at(word: &[u8]) -> Result<Told, Why>
+fn ends_at(word: &[u8]) -> Result<Told, WhyBad>
     ensures { result ≡ ends_at_of word.now }
 {
     let (from, to) = cut(word, b'>');
@@ -55,28 +55,28 @@ fn ends_at(word: &[u8]) -> Result<Told, Why>
     Ok(Told::Sent(from, to))
 }
 
-fn sent(next: u64, digits: &[u8], rest: Option<&[u8]>) -> Result<Told, Why>
+fn sent(next: u64, digits: &[u8], rest: Option<&[u8]>) -> Result<Told, WhyBad>
     ensures { result ≡ sent_at next digits.now (parts_in space rest.entry) }
 {
     let number = any_number_at(digits)?;
     if number != next {
-        return Err(Why::Number);
+        return Err(WhyBad::Number);
     }
     let (ends, _) = word_and_rest(rest)?;
     ends_at(ends)
 }
 
-fn message(next: u64, verb: &[u8], rest: Option<&[u8]>) -> Result<Told, Why>
+fn message(next: u64, verb: &[u8], rest: Option<&[u8]>) -> Result<Told, WhyBad>
     ensures { result ≡ message_at next verb.now (parts_in space rest.entry) }
 {
     let first = verb.len().min(1);
     if &verb[..first] != b"m".as_slice() {
-        return Err(Why::Verb);
+        return Err(WhyBad::Verb);
     }
     sent(next, &verb[first..], rest)
 }
 
-fn state(next: u64, verb: &[u8], rest: Option<&[u8]>) -> Result<Told, Why>
+fn state(next: u64, verb: &[u8], rest: Option<&[u8]>) -> Result<Told, WhyBad>
     ensures { result ≡ state_at next verb.now (parts_in space rest.entry) }
 {
     if verb == b"crashed".as_slice() {
@@ -98,7 +98,7 @@ fn state(next: u64, verb: &[u8], rest: Option<&[u8]>) -> Result<Told, Why>
     message(next, verb, rest)
 }
 
-fn note(next: u64, verb: &[u8], rest: Option<&[u8]>) -> Result<Told, Why>
+fn note(next: u64, verb: &[u8], rest: Option<&[u8]>) -> Result<Told, WhyBad>
     ensures { result ≡ note_at next verb.now (parts_in space rest.entry) }
 {
     if verb == b"record".as_slice() {
@@ -116,7 +116,7 @@ fn note(next: u64, verb: &[u8], rest: Option<&[u8]>) -> Result<Told, Why>
     state(next, verb, rest)
 }
 
-fn delivery(actor: NodeId, next: u64, verb: &[u8], rest: Option<&[u8]>) -> Result<Told, Why>
+fn delivery(actor: NodeId, next: u64, verb: &[u8], rest: Option<&[u8]>) -> Result<Told, WhyBad>
     ensures { result ≡ delivery_at actor next verb.now (parts_in space rest.entry) }
 {
     if verb == b"unsent".as_slice() {
@@ -132,7 +132,12 @@ fn delivery(actor: NodeId, next: u64, verb: &[u8], rest: Option<&[u8]>) -> Resul
 
 /// What the line of a result tells, by its first word and those after it. `actor` is the node of the last line of the schedule,
 /// and `next` the number of the next message.
-pub fn read_result(actor: NodeId, next: u64, verb: &[u8], rest: Option<&[u8]>) -> Result<Told, Why>
+pub fn read_result(
+    actor: NodeId,
+    next: u64,
+    verb: &[u8],
+    rest: Option<&[u8]>,
+) -> Result<Told, WhyBad>
     ensures { result ≡ result_at actor next verb.now (parts_in space rest.entry) }
 {
     if verb == b"act".as_slice() {

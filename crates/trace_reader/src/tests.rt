@@ -1,6 +1,6 @@
 //! Traces that are read, and texts that are refused.
 use crate::{BadTrace, Told, Trace, read_trace, write_bad_trace};
-use schedule_text::{ReadError, Text, Why};
+use schedule_text::{ReadError, Text, WhyBad};
 use std::alloc::Global;
 use std::test::Fail;
 
@@ -52,21 +52,21 @@ fn fault_of(alloc: Global, text: &str) -> Option<BadTrace> {
 }
 
 // Texts that are no trace: which line is the first bad one, and why.
-const BAD: [(&str, usize, Why); 14] = [
-    ("act a ok boot a\n", 1, Why::Header),
-    ("> boot a", 1, Why::NoNewline),
-    ("> boot a\n\n", 2, Why::Verb),
-    ("> boot a b\n", 1, Why::Arity),
-    ("> boat a\n", 1, Why::Verb),
-    ("> deliver a 0\n", 1, Why::Number),
-    ("> boot A\n", 1, Why::Id),
-    ("> boot a\nact a maybe boot a\n", 2, Why::Verb),
-    ("> boot a\nact a ok\n", 2, Why::Arity),
-    ("> boot a\nact a ok open a\n", 2, Why::Verb),
-    ("> boot a\nm2 a->a join 1 0/0\n", 2, Why::Number),
-    ("> boot a\nm1 a=>a join 1 0/0\n", 2, Why::Id),
-    ("> boot a\nwon a 01\n", 2, Why::Number),
-    ("> boot a\nunsent a\n", 2, Why::Arity),
+const BAD: [(&str, usize, WhyBad); 14] = [
+    ("act a ok boot a\n", 1, WhyBad::Header),
+    ("> boot a", 1, WhyBad::NoNewline),
+    ("> boot a\n\n", 2, WhyBad::Verb),
+    ("> boot a b\n", 1, WhyBad::Arity),
+    ("> boat a\n", 1, WhyBad::Verb),
+    ("> deliver a 0\n", 1, WhyBad::Number),
+    ("> boot A\n", 1, WhyBad::Id),
+    ("> boot a\nact a maybe boot a\n", 2, WhyBad::Verb),
+    ("> boot a\nact a ok\n", 2, WhyBad::Arity),
+    ("> boot a\nact a ok open a\n", 2, WhyBad::Verb),
+    ("> boot a\nm2 a->a join 1 0/0\n", 2, WhyBad::Number),
+    ("> boot a\nm1 a=>a join 1 0/0\n", 2, WhyBad::Id),
+    ("> boot a\nwon a 01\n", 2, WhyBad::Number),
+    ("> boot a\nunsent a\n", 2, WhyBad::Arity),
 ];
 
 #[test]

@@ -3,7 +3,7 @@ use Rattle.std.specs.Prelude.{Option, None, Some}
 use Rattle.cluster_state.specs.declared.state.ClusterState.{ClusterState}
 use Rattle.world_model.specs.declared.acts.Outcome.{Outcome}
 use Rattle.world_model.specs.declared.acts.Act.TheVariants.{Value}
-use Rattle.world_model.specs.declared.acts.Reply.TheVariants.{Taken}
+use Rattle.world_model.specs.declared.acts.ActReply.TheVariants.{Taken}
 use Rattle.world_model.specs.declared.acts.Outcome.TheVariants.{Answered}
 use Rattle.world_model.specs.declared.acts.Message.TheVariants.{Publish as PublishMessage}
 use Rattle.world_model.specs.Acts.{NodeHistory, NoActs, Then}

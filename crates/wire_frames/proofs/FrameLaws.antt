@@ -14,8 +14,8 @@ use Rattle.cluster_state.proofs.Whole.{whole_ok, is_fit}
 use Rattle.wire_frames.specs.declared.fault.FrameError.{FrameError}
 use Rattle.wire_frames.specs.declared.frame.Kind.{Kind}
 use Rattle.wire_frames.specs.declared.frame.Kind.TheVariants as kind
-use Rattle.wire_frames.specs.declared.frame.Message.{Message}
-use Rattle.wire_frames.specs.declared.frame.Message.TheVariants as message
+use Rattle.wire_frames.specs.declared.frame.WireMessage.{WireMessage}
+use Rattle.wire_frames.specs.declared.frame.WireMessage.TheVariants as message
 use Rattle.wire_frames.specs.declared.frame.Frame.{Frame}
 use Rattle.wire_frames.specs.Faults.{ReadsFrame}
 use Rattle.wire_frames.specs.Kinds.{code, kinds, kind_of, kind_of_message}
@@ -75,18 +75,18 @@ kind_of_code kind.LeaderAnswer = refl
 -- ---- messages
 
 -- all of the bytes are the fields of a message of this kind
-abbrev IsMessageOf : Kind → List ℕ → Message → Type 0
+abbrev IsMessageOf : Kind → List ℕ → WireMessage → Type 0
 IsMessageOf k bytes m = (kind_of_message m ≡ k) × SpellsFields m bytes
 
-as_message_takes : {A : Type 0} (f : Field A) → IsField f → (make : A → Message) (bytes : List ℕ) (m : Message) → IsBytes bytes → as_message make (f.at bytes) ≡ Ok (m, []) → (x : A) × (make x ≡ m) × Spells f x bytes
+as_message_takes : {A : Type 0} (f : Field A) → IsField f → (make : A → WireMessage) (bytes : List ℕ) (m : WireMessage) → IsBytes bytes → as_message make (f.at bytes) ≡ Ok (m, []) → (x : A) × (make x ≡ m) × Spells f x bytes
 as_message_takes f law make bytes m fits e =
     let x = bind_ok (f.at bytes) _ (m, []) e in
     let same = ok_is (make x.0.0, x.0.1) (m, []) x.2 in
-    let ended : x.0.1 ≡ [] = ap (λ (p : Message × List ℕ). p.1) same in
+    let ended : x.0.1 ≡ [] = ap (λ (p : WireMessage × List ℕ). p.1) same in
     let read = law.takes bytes x.0.0 x.0.1 fits x.1 in
-    (x.0.0, ap (λ (p : Message × List ℕ). p.0) same, (read.1, read.0 ∙ ap (λ t. f.spelling x.0.0 ++ t) ended ∙ append-nil (f.spelling x.0.0)))
+    (x.0.0, ap (λ (p : WireMessage × List ℕ). p.0) same, (read.1, read.0 ∙ ap (λ t. f.spelling x.0.0 ++ t) ended ∙ append-nil (f.spelling x.0.0)))
 
-message_takes : (k : Kind) (bytes : List ℕ) (m : Message) → IsBytes bytes → message_at k bytes ≡ Ok (m, []) → IsMessageOf k bytes m
+message_takes : (k : Kind) (bytes : List ℕ) (m : WireMessage) → IsBytes bytes → message_at k bytes ≡ Ok (m, []) → IsMessageOf k bytes m
 message_takes kind.StartJoin bytes m fits e = let t = as_message_takes start_join start_join_law (λ x. message.StartJoin x.0 x.1) bytes m fits e in subst (IsMessageOf kind.StartJoin bytes) t.1 (refl, t.2)
 message_takes kind.Join bytes m fits e = let t = as_message_takes term_and_last term_and_last_law (λ x. message.Join x.0 x.1) bytes m fits e in subst (IsMessageOf kind.Join bytes) t.1 (refl, t.2)
 message_takes kind.Publish bytes m fits e = let t = as_message_takes state state_law (λ x. message.Publish x) bytes m fits e in subst (IsMessageOf kind.Publish bytes) t.1 (refl, t.2)
@@ -97,7 +97,7 @@ message_takes kind.PeersAsk bytes m fits e = let t = as_message_takes known_peer
 message_takes kind.PeersAnswer bytes m fits e = let t = as_message_takes peers_answer peers_answer_law (λ x. message.PeersAnswer x.0 x.1.0 x.1.1) bytes m fits e in subst (IsMessageOf kind.PeersAnswer bytes) t.1 (refl, t.2)
 message_takes kind.PreVoteAsk bytes m fits e =
     let same = ok_is (message.PreVoteAsk, bytes) (m, []) e in
-    subst (IsMessageOf kind.PreVoteAsk bytes) (ap (λ (p : Message × List ℕ). p.0) same) (refl, (tt, ap (λ (p : Message × List ℕ). p.1) same))
+    subst (IsMessageOf kind.PreVoteAsk bytes) (ap (λ (p : WireMessage × List ℕ). p.0) same) (refl, (tt, ap (λ (p : WireMessage × List ℕ). p.1) same))
 message_takes kind.PreVoteAnswer bytes m fits e = let t = as_message_takes term_and_last term_and_last_law (λ x. message.PreVoteAnswer x.0 x.1) bytes m fits e in subst (IsMessageOf kind.PreVoteAnswer bytes) t.1 (refl, t.2)
 message_takes kind.PreVoteRefuse bytes m fits e = let t = as_message_takes id id_law (λ x. message.PreVoteRefuse x) bytes m fits e in subst (IsMessageOf kind.PreVoteRefuse bytes) t.1 (refl, t.2)
 message_takes kind.FollowerCheck bytes m fits e = let t = as_message_takes term term_law (λ x. message.FollowerCheck x) bytes m fits e in subst (IsMessageOf kind.FollowerCheck bytes) t.1 (refl, t.2)
@@ -105,12 +105,12 @@ message_takes kind.FollowerAnswer bytes m fits e = let t = as_message_takes foll
 message_takes kind.LeaderCheck bytes m fits e = let t = as_message_takes term term_law (λ x. message.LeaderCheck x) bytes m fits e in subst (IsMessageOf kind.LeaderCheck bytes) t.1 (refl, t.2)
 message_takes kind.LeaderAnswer bytes m fits e = let t = as_message_takes flag flag_law (λ x. message.LeaderAnswer x) bytes m fits e in subst (IsMessageOf kind.LeaderAnswer bytes) t.1 (refl, t.2)
 
-as_message_again : {A : Type 0} (f : Field A) → IsField f → (make : A → Message) (bytes : List ℕ) (x : A) → Spells f x bytes → as_message make (f.at bytes) ≡ Ok (make x, [])
+as_message_again : {A : Type 0} (f : Field A) → IsField f → (make : A → WireMessage) (bytes : List ℕ) (x : A) → Spells f x bytes → as_message make (f.at bytes) ≡ Ok (make x, [])
 as_message_again f law make bytes x spelled =
     let read : f.at bytes ≡ Ok (x, []) = ap f.at (spelled.1 ∙ sym (append-nil (f.spelling x))) ∙ law.again x [] spelled.0 in
     rw read refl
 
-message_again : (m : Message) (bytes : List ℕ) → SpellsFields m bytes → message_at (kind_of_message m) bytes ≡ Ok (m, [])
+message_again : (m : WireMessage) (bytes : List ℕ) → SpellsFields m bytes → message_at (kind_of_message m) bytes ≡ Ok (m, [])
 message_again (message.StartJoin c n) bytes s = as_message_again start_join start_join_law (λ x. message.StartJoin x.0 x.1) bytes (c, n) s
 message_again (message.Join n last) bytes s = as_message_again term_and_last term_and_last_law (λ x. message.Join x.0 x.1) bytes (n, last) s
 message_again (message.Publish c) bytes s = as_message_again state state_law (λ x. message.Publish x) bytes c s
@@ -128,7 +128,7 @@ message_again (message.LeaderCheck n) bytes s = as_message_again term term_law (
 message_again (message.LeaderAnswer g) bytes s = as_message_again flag flag_law (λ x. message.LeaderAnswer x) bytes g s
 
 -- what has a spelling is within the limits
-fit_message : (m : Message) → FitsMessage m → IsFitMessage m
+fit_message : (m : WireMessage) → FitsMessage m → IsFitMessage m
 fit_message (message.StartJoin c n) h = h.1
 fit_message (message.Join n last) h = (h.0, record { term = h.1.0; version = h.1.1 })
 fit_message (message.Publish s) h = is_fit s h

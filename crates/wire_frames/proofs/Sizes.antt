@@ -5,8 +5,8 @@ use Rattle.cluster_state.specs.Field.{eight_bytes, optional}
 use Rattle.cluster_state.specs.Fields.{id, ids}
 use Rattle.cluster_state.proofs.Sizes.{length-eight, ids_short, optional_short, state_short}
 use Rattle.wire_frames.specs.declared.frame.Frame.{Frame}
-use Rattle.wire_frames.specs.declared.frame.Message.{Message}
-use Rattle.wire_frames.specs.declared.frame.Message.TheVariants as message
+use Rattle.wire_frames.specs.declared.frame.WireMessage.{WireMessage}
+use Rattle.wire_frames.specs.declared.frame.WireMessage.TheVariants as message
 use Rattle.wire_frames.specs.Messages.{state_id, payload, FitsMessage}
 use Rattle.wire_frames.specs.Frames.{SpellsBody}
 
@@ -14,7 +14,7 @@ use Rattle.wire_frames.specs.Frames.{SpellsBody}
 number_then : (n : ℕ) (rest : List ℕ) → length (eight_bytes n ++ rest) ≡ 8 + length rest
 number_then n rest = omega (arith, length-append (eight_bytes n) rest, length-eight n)
 
-payload_short : (m : Message) → FitsMessage m → length (payload m) ≤ 1200000
+payload_short : (m : WireMessage) → FitsMessage m → length (payload m) ≤ 1200000
 payload_short (message.StartJoin c n) h = omega (arith, h.0.1, length-append (id.spelling c) (eight_bytes n), length-eight n)
 payload_short (message.Join n last) h = omega (arith, number_then n (state_id.spelling last), number_then last.term (eight_bytes last.version), length-eight last.version)
 payload_short (message.Publish s) h = state_short s h

@@ -2,8 +2,8 @@
 use Rattle.std.specs.Prelude.{ℕ, ◌==◌, List, [], ◌∷◌, Option, find}
 use Rattle.wire_frames.specs.declared.frame.Kind.{Kind}
 use Rattle.wire_frames.specs.declared.frame.Kind.TheVariants as kind
-use Rattle.wire_frames.specs.declared.frame.Message.{Message}
-use Rattle.wire_frames.specs.declared.frame.Message.TheVariants as message
+use Rattle.wire_frames.specs.declared.frame.WireMessage.{WireMessage}
+use Rattle.wire_frames.specs.declared.frame.WireMessage.TheVariants as message
 
 -- the byte that stands for the kind
 abbrev pub code : Kind → ℕ
@@ -32,7 +32,7 @@ abbrev pub kind_of : ℕ → Option Kind
 kind_of byte = find (λ k. code k == byte) kinds
 
 -- what the message is about
-abbrev pub kind_of_message : Message → Kind
+abbrev pub kind_of_message : WireMessage → Kind
 kind_of_message (message.StartJoin candidate term) = kind.StartJoin
 kind_of_message (message.Join term last) = kind.Join
 kind_of_message (message.Publish state) = kind.Publish

@@ -8,8 +8,8 @@ use Rattle.cluster_state.specs.Fields.{term, version, id, ids}
 use Rattle.cluster_state.specs.States.{state, IsFit}
 use Rattle.wire_frames.specs.declared.frame.Kind.{Kind}
 use Rattle.wire_frames.specs.declared.frame.Kind.TheVariants as kind
-use Rattle.wire_frames.specs.declared.frame.Message.{Message}
-use Rattle.wire_frames.specs.declared.frame.Message.TheVariants as message
+use Rattle.wire_frames.specs.declared.frame.WireMessage.{WireMessage}
+use Rattle.wire_frames.specs.declared.frame.WireMessage.TheVariants as message
 
 abbrev pub state_id : Field StateId
 state_id = shaped (λ p. record { term = p.0; version = p.1 }) (λ s. (s.term, s.version)) (term then version)
@@ -31,11 +31,11 @@ abbrev pub follower_answer : Field (Bool × (ℕ × StateId))
 follower_answer = flag then term then state_id
 
 -- what reading gave, as a message
-abbrev pub as_message : {A : Type 0} → (A → Message) → Result (A × List ℕ) FieldError → Result (Message × List ℕ) FieldError
+abbrev pub as_message : {A : Type 0} → (A → WireMessage) → Result (A × List ℕ) FieldError → Result (WireMessage × List ℕ) FieldError
 as_message make read = read >>= λ x. Ok (make x.0, x.1)
 
 -- the message of a kind at the start of bytes, and the bytes after it, or the first fault
-abbrev pub message_at : Kind → List ℕ → Result (Message × List ℕ) FieldError
+abbrev pub message_at : Kind → List ℕ → Result (WireMessage × List ℕ) FieldError
 message_at kind.StartJoin bytes = as_message (λ x. message.StartJoin x.0 x.1) (start_join.at bytes)
 message_at kind.Join bytes = as_message (λ x. message.Join x.0 x.1) (term_and_last.at bytes)
 message_at kind.Publish bytes = as_message (λ x. message.Publish x) (state.at bytes)
@@ -53,7 +53,7 @@ message_at kind.LeaderCheck bytes = as_message (λ x. message.LeaderCheck x) (te
 message_at kind.LeaderAnswer bytes = as_message (λ x. message.LeaderAnswer x) (flag.at bytes)
 
 -- the bytes of the message's fields
-abbrev pub payload : Message → List ℕ
+abbrev pub payload : WireMessage → List ℕ
 payload (message.StartJoin candidate n) = start_join.spelling (candidate, n)
 payload (message.Join n last) = term_and_last.spelling (n, last)
 payload (message.Publish s) = state.spelling s
@@ -71,7 +71,7 @@ payload (message.LeaderCheck n) = term.spelling n
 payload (message.LeaderAnswer good) = flag.spelling good
 
 -- which messages have a spelling
-abbrev pub FitsMessage : Message → Type 0
+abbrev pub FitsMessage : WireMessage → Type 0
 FitsMessage (message.StartJoin candidate n) = start_join.Fits (candidate, n)
 FitsMessage (message.Join n last) = term_and_last.Fits (n, last)
 FitsMessage (message.Publish s) = state.Fits s
@@ -89,7 +89,7 @@ FitsMessage (message.LeaderCheck n) = term.Fits n
 FitsMessage (message.LeaderAnswer good) = flag.Fits good
 
 -- the bytes are the message's fields
-abbrev pub SpellsFields : Message → List ℕ → Type 0
+abbrev pub SpellsFields : WireMessage → List ℕ → Type 0
 SpellsFields m bytes = FitsMessage m × (bytes ≡ payload m)
 
 -- numbers to 2^62
@@ -98,7 +98,7 @@ pub record IsFitId (s : StateId) : Type 0 where
   pub version : s.version ≤ last_number
 
 -- what a sender knows of its message: numbers to 2^62, a state within the limits
-abbrev pub IsFitMessage : Message → Type 0
+abbrev pub IsFitMessage : WireMessage → Type 0
 IsFitMessage (message.StartJoin candidate n) = n ≤ last_number
 IsFitMessage (message.Join n last) = (n ≤ last_number) × IsFitId last
 IsFitMessage (message.Publish s) = IsFit s

@@ -82,7 +82,7 @@ impl Kind {
 
 /// What a node says to another.
 #[derive(Drop)]
-pub enum Message {
+pub enum WireMessage {
     /// Vote for the candidate in this term.
     StartJoin {
         candidate: NodeId,
@@ -144,7 +144,7 @@ pub enum Message {
     },
 }
 
-impl Message {
+impl WireMessage {
     ghost use Rattle.wire_frames.specs.Kinds.{kind_of_message};
 
     /// What the message is about.
@@ -152,71 +152,71 @@ impl Message {
         ensures { result ≡ kind_of_message self.now }
     {
         match self {
-            Message::StartJoin { .. } => Kind::StartJoin,
-            Message::Join { .. } => Kind::Join,
-            Message::Publish(_) => Kind::Publish,
-            Message::Response(_) => Kind::Response,
-            Message::Commit(_) => Kind::Commit,
-            Message::JoinAsk { .. } => Kind::JoinAsk,
-            Message::PeersAsk { .. } => Kind::PeersAsk,
-            Message::PeersAnswer { .. } => Kind::PeersAnswer,
-            Message::PreVoteAsk => Kind::PreVoteAsk,
-            Message::PreVoteAnswer { .. } => Kind::PreVoteAnswer,
-            Message::PreVoteRefuse { .. } => Kind::PreVoteRefuse,
-            Message::FollowerCheck { .. } => Kind::FollowerCheck,
-            Message::FollowerAnswer { .. } => Kind::FollowerAnswer,
-            Message::LeaderCheck { .. } => Kind::LeaderCheck,
-            Message::LeaderAnswer { .. } => Kind::LeaderAnswer,
+            WireMessage::StartJoin { .. } => Kind::StartJoin,
+            WireMessage::Join { .. } => Kind::Join,
+            WireMessage::Publish(_) => Kind::Publish,
+            WireMessage::Response(_) => Kind::Response,
+            WireMessage::Commit(_) => Kind::Commit,
+            WireMessage::JoinAsk { .. } => Kind::JoinAsk,
+            WireMessage::PeersAsk { .. } => Kind::PeersAsk,
+            WireMessage::PeersAnswer { .. } => Kind::PeersAnswer,
+            WireMessage::PreVoteAsk => Kind::PreVoteAsk,
+            WireMessage::PreVoteAnswer { .. } => Kind::PreVoteAnswer,
+            WireMessage::PreVoteRefuse { .. } => Kind::PreVoteRefuse,
+            WireMessage::FollowerCheck { .. } => Kind::FollowerCheck,
+            WireMessage::FollowerAnswer { .. } => Kind::FollowerAnswer,
+            WireMessage::LeaderCheck { .. } => Kind::LeaderCheck,
+            WireMessage::LeaderAnswer { .. } => Kind::LeaderAnswer,
         }
     }
 
     /// The same message once more.
-    pub fn copy(&self) -> Result<Message, AllocError>
+    pub fn copy(&self) -> Result<WireMessage, AllocError>
         ensures { IfOk result (λ message. message ≡ self.now) }
     {
         Ok(match self {
-            Message::StartJoin { candidate, term } => Message::StartJoin {
+            WireMessage::StartJoin { candidate, term } => WireMessage::StartJoin {
                 candidate: *candidate,
                 term: *term,
             },
-            Message::Join { term, last } => Message::Join {
+            WireMessage::Join { term, last } => WireMessage::Join {
                 term: *term,
                 last: *last,
             },
-            Message::Publish(state) => Message::Publish(state.copy()?),
-            Message::Response(id) => Message::Response(*id),
-            Message::Commit(id) => Message::Commit(*id),
-            Message::JoinAsk { term } => Message::JoinAsk { term: *term },
-            Message::PeersAsk { known } => Message::PeersAsk {
+            WireMessage::Publish(state) => WireMessage::Publish(state.copy()?),
+            WireMessage::Response(id) => WireMessage::Response(*id),
+            WireMessage::Commit(id) => WireMessage::Commit(*id),
+            WireMessage::JoinAsk { term } => WireMessage::JoinAsk { term: *term },
+            WireMessage::PeersAsk { known } => WireMessage::PeersAsk {
                 known: known.copy(),
             },
-            Message::PeersAnswer {
+            WireMessage::PeersAnswer {
                 master,
                 term,
                 known,
-            } => Message::PeersAnswer {
+            } => WireMessage::PeersAnswer {
                 master: *master,
                 term: *term,
                 known: known.copy(),
             },
-            Message::PreVoteAsk => Message::PreVoteAsk,
-            Message::PreVoteAnswer { term, last } => Message::PreVoteAnswer {
+            WireMessage::PreVoteAsk => WireMessage::PreVoteAsk,
+            WireMessage::PreVoteAnswer { term, last } => WireMessage::PreVoteAnswer {
                 term: *term,
                 last: *last,
             },
-            Message::PreVoteRefuse { leader } => Message::PreVoteRefuse { leader: *leader },
-            Message::FollowerCheck { term } => Message::FollowerCheck { term: *term },
-            Message::FollowerAnswer {
+            WireMessage::PreVoteRefuse { leader } => WireMessage::PreVoteRefuse { leader: *leader },
+            WireMessage::FollowerCheck { term } => WireMessage::FollowerCheck { term: *term },
+            WireMessage::FollowerAnswer {
                 good,
                 term,
                 applied,
-            } => Message::FollowerAnswer {
+            } => WireMessage::FollowerAnswer {
                 good: *good,
                 term: *term,
                 applied: *applied,
             },
-            Message::LeaderCheck { term } => Message::LeaderCheck { term: *term },
-            Message::LeaderAnswer { good } => Message::LeaderAnswer { good: *good },
+            WireMessage::LeaderCheck { term } => WireMessage::LeaderCheck { term: *term },
+            WireMessage::LeaderAnswer { good } => WireMessage::LeaderAnswer { good: *good },
         })
     }
 }
@@ -226,7 +226,7 @@ impl Message {
 pub struct Frame {
     pub from: NodeId,
     pub to: NodeId,
-    pub message: Message,
+    pub message: WireMessage,
 }
 
 impl Frame {

@@ -9,7 +9,7 @@ pub mod reading;
 pub mod writing;
 
 pub use fault::{FrameError, FrameFault};
-pub use frame::{Frame, Kind, MAX_BODY, Message};
+pub use frame::{Frame, Kind, MAX_BODY, WireMessage};
 pub use laws::{law_cut, law_first_frame, law_one_frame, law_stream};
 pub use reader::{Fed, FrameReader};
 pub use reading::read_frame;

@@ -9,7 +9,7 @@ ghost use Rattle.wire_frames.specs.Messages.{state_id, message_at};
 ghost use Rattle.wire_frames.specs.Frames.{frame_at, as_frame, frame_of, SpellsBody, IsFitFrame};
 
 use crate::fault::{FrameError, FrameFault};
-use crate::frame::{Frame, Kind, Message};
+use crate::frame::{Frame, Kind, WireMessage};
 use cluster_state::{FieldError, ReadError, Reader, StateId};
 use std::alloc::Global;
 use voting_config::MAX_IDS;
@@ -22,85 +22,85 @@ fn state_id(reader: &mut Reader) -> Result<StateId, FieldError>
     Ok(StateId { term, version })
 }
 
-fn start_join(reader: &mut Reader) -> Result<Message, FieldError>
+fn start_join(reader: &mut Reader) -> Result<WireMessage, FieldError>
     ensures { Reads (λ x. x) result reader.new (message_at kind.StartJoin reader.old) }
 {
     let candidate = reader.id()?;
     let term = reader.term()?;
-    Ok(Message::StartJoin { candidate, term })
+    Ok(WireMessage::StartJoin { candidate, term })
 }
 
-fn join(reader: &mut Reader) -> Result<Message, FieldError>
+fn join(reader: &mut Reader) -> Result<WireMessage, FieldError>
     ensures { Reads (λ x. x) result reader.new (message_at kind.Join reader.old) }
 {
     let term = reader.term()?;
     let last = state_id(reader)?;
-    Ok(Message::Join { term, last })
+    Ok(WireMessage::Join { term, last })
 }
 
-fn peers_answer(reader: &mut Reader) -> Result<Message, FieldError>
+fn peers_answer(reader: &mut Reader) -> Result<WireMessage, FieldError>
     ensures { Reads (λ x. x) result reader.new (message_at kind.PeersAnswer reader.old) }
 {
     let master = reader.optional_id()?;
     let term = reader.term()?;
     let known = reader.ids(MAX_IDS as u8)?;
-    Ok(Message::PeersAnswer {
+    Ok(WireMessage::PeersAnswer {
         master,
         term,
         known,
     })
 }
 
-fn pre_vote_answer(reader: &mut Reader) -> Result<Message, FieldError>
+fn pre_vote_answer(reader: &mut Reader) -> Result<WireMessage, FieldError>
     ensures { Reads (λ x. x) result reader.new (message_at kind.PreVoteAnswer reader.old) }
 {
     let term = reader.term()?;
     let last = state_id(reader)?;
-    Ok(Message::PreVoteAnswer { term, last })
+    Ok(WireMessage::PreVoteAnswer { term, last })
 }
 
-fn follower_answer(reader: &mut Reader) -> Result<Message, FieldError>
+fn follower_answer(reader: &mut Reader) -> Result<WireMessage, FieldError>
     ensures { Reads (λ x. x) result reader.new (message_at kind.FollowerAnswer reader.old) }
 {
     let good = reader.flag()?;
     let term = reader.term()?;
     let applied = state_id(reader)?;
-    Ok(Message::FollowerAnswer {
+    Ok(WireMessage::FollowerAnswer {
         good,
         term,
         applied,
     })
 }
 
-fn message(alloc: Global, reader: &mut Reader, kind: Kind) -> Result<Message, ReadError>
+fn message(alloc: Global, reader: &mut Reader, kind: Kind) -> Result<WireMessage, ReadError>
     ensures { ReadsInMemory result reader.new (message_at kind reader.old) }
 {
     match kind {
         Kind::StartJoin => Ok(start_join(reader)?),
         Kind::Join => Ok(join(reader)?),
-        Kind::Publish => Ok(Message::Publish(reader.state(alloc)?)),
-        Kind::Response => Ok(Message::Response(state_id(reader)?)),
-        Kind::Commit => Ok(Message::Commit(state_id(reader)?)),
-        Kind::JoinAsk => Ok(Message::JoinAsk {
+        Kind::Publish => Ok(WireMessage::Publish(reader.state(alloc)?)),
+        Kind::Response => Ok(WireMessage::Response(state_id(reader)?)),
+        Kind::Commit => Ok(WireMessage::Commit(state_id(reader)?)),
+        Kind::JoinAsk => Ok(WireMessage::JoinAsk {
             term: reader.term()?,
         }),
-        Kind::PeersAsk => Ok(Message::PeersAsk {
+        Kind::PeersAsk => Ok(WireMessage::PeersAsk {
             known: reader.ids(MAX_IDS as u8)?,
         }),
         Kind::PeersAnswer => Ok(peers_answer(reader)?),
-        Kind::PreVoteAsk => Ok(Message::PreVoteAsk),
+        Kind::PreVoteAsk => Ok(WireMessage::PreVoteAsk),
         Kind::PreVoteAnswer => Ok(pre_vote_answer(reader)?),
-        Kind::PreVoteRefuse => Ok(Message::PreVoteRefuse {
+        Kind::PreVoteRefuse => Ok(WireMessage::PreVoteRefuse {
             leader: reader.id()?,
         }),
-        Kind::FollowerCheck => Ok(Message::FollowerCheck {
+        Kind::FollowerCheck => Ok(WireMessage::FollowerCheck {
             term: reader.term()?,
         }),
         Kind::FollowerAnswer => Ok(follower_answer(reader)?),
-        Kind::LeaderCheck => Ok(Message::LeaderCheck {
+        Kind::LeaderCheck => Ok(WireMessage::LeaderCheck {
             term: reader.term()?,
         }),
-        Kind::LeaderAnswer => Ok(Message::LeaderAnswer {
+        Kind::LeaderAnswer => Ok(WireMessage::LeaderAnswer {
             good: reader.flag()?,
         }),
     }

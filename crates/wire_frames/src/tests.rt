@@ -3,7 +3,7 @@ ghost use Rattle.std.specs.Prelude.{◌+◌, ◌<◌, ◌^◌, length};
 ghost use Rattle.wire_frames.specs.Messages.{IsFitMessage};
 
 use crate::{
-    Frame, FrameFault, FrameReader, Kind, Message, law_cut, law_first_frame, law_one_frame,
+    Frame, FrameFault, FrameReader, Kind, WireMessage, law_cut, law_first_frame, law_one_frame,
     law_stream, read_frame, write_frame,
 };
 use cluster_state::{ClusterState, FieldError, StateId};
@@ -28,9 +28,9 @@ fn set(text: &str) -> NodeSet {
     NodeSet::parse(text).unwrap_or(NodeSet::new())
 }
 
-fn is_join(message: &Message) -> bool {
+fn is_join(message: &WireMessage) -> bool {
     match message {
-        Message::Join { term, last } => *term == 1 && last.term == 0 && last.version == 0,
+        WireMessage::Join { term, last } => *term == 1 && last.term == 0 && last.version == 0,
         _ => false,
     }
 }
@@ -116,7 +116,7 @@ fn a_fault_behind_a_frame(rt: HostRuntime) -> Result<(), Fail> {
 }
 
 // Whether the frame of a message from a to b has these bytes after the kind and the ids, and is read back from them.
-fn is_spelled(rt: &HostRuntime, message: Message, kind: u8, fields: &[u8]) -> Result<bool, Fail>
+fn is_spelled(rt: &HostRuntime, message: WireMessage, kind: u8, fields: &[u8]) -> Result<bool, Fail>
     requires fit { IsFitMessage message }
     requires short { length fields.now < 200 }
 {
@@ -150,18 +150,18 @@ const ID_BYTES: [u8; 16] = [0, 0, 0, 0, 0, 0, 0, 1, 0, 0, 0, 0, 0, 0, 0, 2];
 #[test]
 fn spelled_elections(rt: HostRuntime) -> Result<(), Fail> {
     let candidate = letter(b'c');
-    let start = Message::StartJoin { candidate, term: 1 };
+    let start = WireMessage::StartJoin { candidate, term: 1 };
     assert!(rt; is_spelled(&rt, start, 1, &[1, 99, 0, 0, 0, 0, 0, 0, 0, 1])?);
-    let join = Message::Join { term: 1, last: ID };
+    let join = WireMessage::Join { term: 1, last: ID };
     let mut fields = [0; 24];
     fields[7] = 1;
     fields[15] = 1;
     fields[23] = 2;
     assert!(rt; is_spelled(&rt, join, 2, &fields)?);
-    assert!(rt; is_spelled(&rt, Message::PreVoteAsk, 9, &[])?);
-    let answer = Message::PreVoteAnswer { term: 1, last: ID };
+    assert!(rt; is_spelled(&rt, WireMessage::PreVoteAsk, 9, &[])?);
+    let answer = WireMessage::PreVoteAnswer { term: 1, last: ID };
     assert!(rt; is_spelled(&rt, answer, 10, &fields)?);
-    let refuse = Message::PreVoteRefuse { leader: candidate };
+    let refuse = WireMessage::PreVoteRefuse { leader: candidate };
     assert!(rt; is_spelled(&rt, refuse, 11, &[1, 99])?);
     Ok(())
 }
@@ -176,19 +176,19 @@ fn spelled_publications(rt: HostRuntime) -> Result<(), Fail> {
     fields[19] = 1;
     fields[20] = 1;
     fields[21] = 97;
-    assert!(rt; is_spelled(&rt, Message::Publish(state), 3, &fields)?);
-    assert!(rt; is_spelled(&rt, Message::Response(ID), 4, &ID_BYTES)?);
-    assert!(rt; is_spelled(&rt, Message::Commit(ID), 5, &ID_BYTES)?);
+    assert!(rt; is_spelled(&rt, WireMessage::Publish(state), 3, &fields)?);
+    assert!(rt; is_spelled(&rt, WireMessage::Response(ID), 4, &ID_BYTES)?);
+    assert!(rt; is_spelled(&rt, WireMessage::Commit(ID), 5, &ID_BYTES)?);
     Ok(())
 }
 
 #[test]
 fn spelled_peers(rt: HostRuntime) -> Result<(), Fail> {
     let term = [0, 0, 0, 0, 0, 0, 0, 3];
-    assert!(rt; is_spelled(&rt, Message::JoinAsk { term: 3 }, 6, &term)?);
-    let ask = Message::PeersAsk { known: set("a,b") };
+    assert!(rt; is_spelled(&rt, WireMessage::JoinAsk { term: 3 }, 6, &term)?);
+    let ask = WireMessage::PeersAsk { known: set("a,b") };
     assert!(rt; is_spelled(&rt, ask, 7, &[2, 1, 97, 1, 98])?);
-    let answer = Message::PeersAnswer {
+    let answer = WireMessage::PeersAnswer {
         master: None,
         term: 3,
         known: set("a"),
@@ -200,8 +200,8 @@ fn spelled_peers(rt: HostRuntime) -> Result<(), Fail> {
 #[test]
 fn spelled_checks(rt: HostRuntime) -> Result<(), Fail> {
     let term = [0, 0, 0, 0, 0, 0, 0, 3];
-    assert!(rt; is_spelled(&rt, Message::FollowerCheck { term: 3 }, 12, &term)?);
-    let answer = Message::FollowerAnswer {
+    assert!(rt; is_spelled(&rt, WireMessage::FollowerCheck { term: 3 }, 12, &term)?);
+    let answer = WireMessage::FollowerAnswer {
         good: true,
         term: 1,
         applied: ID,
@@ -212,8 +212,8 @@ fn spelled_checks(rt: HostRuntime) -> Result<(), Fail> {
     fields[16] = 1;
     fields[24] = 2;
     assert!(rt; is_spelled(&rt, answer, 13, &fields)?);
-    assert!(rt; is_spelled(&rt, Message::LeaderCheck { term: 3 }, 14, &term)?);
-    assert!(rt; is_spelled(&rt, Message::LeaderAnswer { good: false }, 15, &[0])?);
+    assert!(rt; is_spelled(&rt, WireMessage::LeaderCheck { term: 3 }, 14, &term)?);
+    assert!(rt; is_spelled(&rt, WireMessage::LeaderAnswer { good: false }, 15, &[0])?);
     Ok(())
 }
 

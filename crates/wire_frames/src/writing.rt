@@ -4,7 +4,7 @@ ghost use Rattle.cluster_state.specs.Fields.{id};
 ghost use Rattle.wire_frames.specs.Messages.{state_id, term_and_last, payload, FitsMessage, IsFitId, IsFitMessage};
 ghost use Rattle.wire_frames.specs.Frames.{SpellsBody, SpellsFrame, IsFitFrame, most_body};
 
-use crate::frame::{Frame, Message};
+use crate::frame::{Frame, WireMessage};
 use bytes::{BufMut, Bytes, BytesMut};
 use cluster_state::StateId;
 use cluster_state::encoding::write_state;
@@ -30,23 +30,23 @@ fn write_term_and_last(out: &mut Vec<u8>, term: u64, last: StateId) -> Result<()
     write_state_id(out, last)
 }
 
-fn write_message(out: &mut Vec<u8>, message: &Message) -> Result<(), AllocError>
+fn write_message(out: &mut Vec<u8>, message: &WireMessage) -> Result<(), AllocError>
     requires { IsFitMessage message.now }
     ensures written { OnOk result (out.new.items ≡ out.old.items ++ payload message.now) }
     ensures fits { OnOk result (FitsMessage message.now) }
 {
     match message {
-        Message::StartJoin { candidate, term } => {
+        WireMessage::StartJoin { candidate, term } => {
             write_id(out, *candidate)?;
             write_term(out, *term)
         }
-        Message::Join { term, last } => write_term_and_last(out, *term, *last),
-        Message::Publish(state) => write_state(out, state),
-        Message::Response(id) => write_state_id(out, *id),
-        Message::Commit(id) => write_state_id(out, *id),
-        Message::JoinAsk { term } => write_term(out, *term),
-        Message::PeersAsk { known } => write_ids(out, known),
-        Message::PeersAnswer {
+        WireMessage::Join { term, last } => write_term_and_last(out, *term, *last),
+        WireMessage::Publish(state) => write_state(out, state),
+        WireMessage::Response(id) => write_state_id(out, *id),
+        WireMessage::Commit(id) => write_state_id(out, *id),
+        WireMessage::JoinAsk { term } => write_term(out, *term),
+        WireMessage::PeersAsk { known } => write_ids(out, known),
+        WireMessage::PeersAnswer {
             master,
             term,
             known,
@@ -55,11 +55,11 @@ fn write_message(out: &mut Vec<u8>, message: &Message) -> Result<(), AllocError>
             write_term(out, *term)?;
             write_ids(out, known)
         }
-        Message::PreVoteAsk => Ok(()),
-        Message::PreVoteAnswer { term, last } => write_term_and_last(out, *term, *last),
-        Message::PreVoteRefuse { leader } => write_id(out, *leader),
-        Message::FollowerCheck { term } => write_term(out, *term),
-        Message::FollowerAnswer {
+        WireMessage::PreVoteAsk => Ok(()),
+        WireMessage::PreVoteAnswer { term, last } => write_term_and_last(out, *term, *last),
+        WireMessage::PreVoteRefuse { leader } => write_id(out, *leader),
+        WireMessage::FollowerCheck { term } => write_term(out, *term),
+        WireMessage::FollowerAnswer {
             good,
             term,
             applied,
@@ -67,8 +67,8 @@ fn write_message(out: &mut Vec<u8>, message: &Message) -> Result<(), AllocError>
             write_flag(out, *good)?;
             write_term_and_last(out, *term, *applied)
         }
-        Message::LeaderCheck { term } => write_term(out, *term),
-        Message::LeaderAnswer { good } => write_flag(out, *good),
+        WireMessage::LeaderCheck { term } => write_term(out, *term),
+        WireMessage::LeaderAnswer { good } => write_flag(out, *good),
     }
 }
 

@@ -10,18 +10,18 @@ use Rattle.cluster_state.specs.declared.messages.Join.{Join}
 use Rattle.cluster_state.specs.declared.messages.PublishRequest.{PublishRequest}
 use Rattle.cluster_state.specs.declared.messages.PublishResponse.{PublishResponse}
 use Rattle.cluster_state.specs.declared.messages.ApplyCommit.{ApplyCommit}
-use Rattle.world_model.specs.Acts.{Act, Outcome, NodeHistory, Reply, Message, Cause, Bootstrap, StartJoin, TakeJoin, Value, Publish, Response, Commit, Taken, Refused, Stopped, Answered, Disk, Crashed, JoinMessage, PublishMessage, ResponseMessage, StartRefused, JoinRefused, is_effective}
+use Rattle.world_model.specs.Acts.{Act, Outcome, NodeHistory, ActReply, Message, Cause, Bootstrap, StartJoin, TakeJoin, Value, Publish, Response, Commit, Taken, Refused, Stopped, Answered, Disk, Crashed, JoinMessage, PublishMessage, ResponseMessage, StartRefused, JoinRefused, is_effective}
 use Rattle.world_model.specs.NodeState.{node_state, term_of, accepted_of, committed_of, started_join_of, join_votes_of, election_won_of, published_version_of, halted_of}
 use Rattle.world_model.proofs.Facts.{IsIdAtMost}
 use Rattle.world_model.specs.Replies.{is_empty, elects, reply_of, is_taken, join_checked, after_check, IsOutcome, commit_sent}
 
 -- past a test that refuses
-past : (b : Bool) (c : Cause) (r : Reply) (s : Option Message) (w : Bool) → Taken s w ≡ cond b (Refused c) r → (b ≡ false) × (Taken s w ≡ r)
+past : (b : Bool) (c : Cause) (r : ActReply) (s : Option Message) (w : Bool) → Taken s w ≡ cond b (Refused c) r → (b ≡ false) × (Taken s w ≡ r)
 past true c r s w h = cc
 past false c r s w h = (refl, h)
 
 -- past the test for a halted node
-running : (b : Bool) (r : Reply) (s : Option Message) (w : Bool) → Taken s w ≡ cond b Stopped r → (b ≡ false) × (Taken s w ≡ r)
+running : (b : Bool) (r : ActReply) (s : Option Message) (w : Bool) → Taken s w ≡ cond b Stopped r → (b ≡ false) × (Taken s w ≡ r)
 running true r s w h = cc
 running false r s w h = (refl, h)
 
@@ -30,7 +30,7 @@ passed : {C : Type 0} (b : Bool) (c : C) (r : Result (Unit {0}) C) → Ok tt ≡
 passed true c r h = cc
 passed false c r h = (refl, h)
 
-checked : {C : Type 0} (cause_of : C → Cause) (r : Result (Unit {0}) C) (q : Reply) (s : Option Message) (w : Bool) → Taken s w ≡ after_check cause_of r q → (Ok tt ≡ r) × (Taken s w ≡ q)
+checked : {C : Type 0} (cause_of : C → Cause) (r : Result (Unit {0}) C) (q : ActReply) (s : Option Message) (w : Bool) → Taken s w ≡ after_check cause_of r q → (Ok tt ≡ r) × (Taken s w ≡ q)
 checked cause_of (Ok u) q s w h = (refl, h)
 checked cause_of (Err c) q s w h = cc
 
@@ -55,13 +55,13 @@ kept_is_taken me g act (Answered (Refused c)) h k = cc
 kept_is_taken me g act (Answered Stopped) h k = cc
 kept_is_taken me g act (Disk kept) h k = as_taken _ h.0
   where
-    as_taken : (r : Reply) → is_taken r ≡ true → (s : Option Message) × (w : Bool) × (Taken s w ≡ r)
+    as_taken : (r : ActReply) → is_taken r ≡ true → (s : Option Message) × (w : Bool) × (Taken s w ≡ r)
     as_taken (Taken s w) h = (s, w, refl)
     as_taken (Refused c) h = cc
     as_taken Stopped h = cc
 kept_is_taken me g act (Crashed kept) h k = as_taken _ h.0
   where
-    as_taken : (r : Reply) → is_taken r ≡ true → (s : Option Message) × (w : Bool) × (Taken s w ≡ r)
+    as_taken : (r : ActReply) → is_taken r ≡ true → (s : Option Message) × (w : Bool) × (Taken s w ≡ r)
     as_taken (Taken s w) h = (s, w, refl)
     as_taken (Refused c) h = cc
     as_taken Stopped h = cc

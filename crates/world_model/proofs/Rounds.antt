@@ -9,7 +9,7 @@ use Rattle.cluster_state.specs.declared.messages.Join.{Join}
 use Rattle.cluster_state.specs.declared.messages.PublishRequest.{PublishRequest}
 use Rattle.cluster_state.specs.declared.messages.PublishResponse.{PublishResponse}
 use Rattle.cluster_state.specs.declared.messages.ApplyCommit.{ApplyCommit}
-use Rattle.world_model.specs.Acts.{Act, Outcome, NodeHistory, Reply, Message, Bootstrap, StartJoin, TakeJoin, Value, Publish, Response, Commit, Open, NoActs, Then, Taken, Refused, Stopped, Answered, Disk, Crashed, JoinMessage, PublishMessage, ResponseMessage, is_ok, is_first, wins}
+use Rattle.world_model.specs.Acts.{Act, Outcome, NodeHistory, ActReply, Message, Bootstrap, StartJoin, TakeJoin, Value, Publish, Response, Commit, Open, NoActs, Then, Taken, Refused, Stopped, Answered, Disk, Crashed, JoinMessage, PublishMessage, ResponseMessage, is_ok, is_first, wins}
 use Rattle.world_model.specs.NodeState.{NodeState, node_state, term_of, accepted_of, committed_of, started_join_of, join_votes_of, election_won_of, published_version_of, published_config_of, publish_votes_of, initial_state}
 use Rattle.world_model.specs.Replies.{IsOutcome}
 use Rattle.world_model.specs.Histories.{is_down, is_opening, MayFollow}
@@ -28,7 +28,7 @@ abbrev pub ok : Option Message → Bool → Outcome
 ok sends flag = Answered (Taken sends flag)
 
 -- a node that runs ran before its last act, if that is no opening
-up_before : (me : Id) (g : NodeHistory) (a : Act) (r : Reply) → MayFollow me g a (Answered r) → is_opening a ≡ false → IsUp (Then g a (Answered r)) → IsUp g
+up_before : (me : Id) (g : NodeHistory) (a : Act) (r : ActReply) → MayFollow me g a (Answered r) → is_opening a ≡ false → IsUp (Then g a (Answered r)) → IsUp g
 up_before me g (Open found) r m h u = cc
 up_before me g a r m h u = record { runs = u.runs; alive = alive (is_down g) m.up }
   where

@@ -6,8 +6,8 @@ pub use Rattle.world_model.specs.declared.acts.Message.{Message}
 pub use Rattle.world_model.specs.declared.acts.Message.TheVariants.{Join as JoinMessage, Publish as PublishMessage, Response as ResponseMessage, Commit as CommitMessage}
 pub use Rattle.world_model.specs.declared.acts.Cause.{Cause}
 pub use Rattle.world_model.specs.declared.acts.Cause.TheVariants.{Initial as InitialRefused, Start as StartRefused, Join as JoinRefused, Value as ValueRefused, Publish as PublishRefused, Response as ResponseRefused, Commit as CommitRefused}
-pub use Rattle.world_model.specs.declared.acts.Reply.{Reply}
-pub use Rattle.world_model.specs.declared.acts.Reply.TheVariants.{Taken, Refused, Stopped}
+pub use Rattle.world_model.specs.declared.acts.ActReply.{ActReply}
+pub use Rattle.world_model.specs.declared.acts.ActReply.TheVariants.{Taken, Refused, Stopped}
 pub use Rattle.world_model.specs.declared.acts.Outcome.{Outcome}
 pub use Rattle.world_model.specs.declared.acts.Outcome.TheVariants.{Answered, Disk, Crashed}
 

@@ -50,7 +50,7 @@ pub enum Cause {
 
 /// What an act answers.
 #[derive(Drop)]
-pub enum Reply {
+pub enum ActReply {
     /// It is taken. It may send a message, and a join may win the election.
     Taken(Option<Message>, bool),
     Refused(Cause),
@@ -61,7 +61,7 @@ pub enum Reply {
 /// How an act ended: with its reply, at a fault of the disk, or at a crash. The last two kept what the act writes, or not.
 #[derive(Drop)]
 pub enum Outcome {
-    Answered(Reply),
+    Answered(ActReply),
     Disk(bool),
     Crashed(bool),
 }

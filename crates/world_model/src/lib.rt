@@ -4,7 +4,7 @@
 pub mod acts;
 pub mod laws;
 
-pub use acts::{Act, Cause, Message, Outcome, Reply};
+pub use acts::{Act, ActReply, Cause, Message, Outcome};
 pub use laws::{
     law_assemble, law_assemble_runs, law_kept, law_kept_alone, law_literal, law_literal_kept,
     law_set,

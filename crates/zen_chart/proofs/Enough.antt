@@ -6,7 +6,7 @@ use Rattle.std.proofs.Math.Seq.{take-append-add}
 use Rattle.std.proofs.lemmas.Bool.{and_from, and_parts, cases_lt, lt-ltb}
 use Rattle.std.proofs.lemmas.List.{length-append, length-take, take_all, take-append-le}
 use Rattle.voting_config.specs.Lists.{parts_of}
-use Rattle.schedule_text.specs.declared.fault.Why.TheVariants as why
+use Rattle.schedule_text.specs.declared.fault.WhyBad.TheVariants as why
 use Rattle.schedule_text.proofs.WordLaws.{join_split, lacks, parts_lack, parts_not_empty, split_alone, split_first}
 use Rattle.trace_reader.specs.declared.fault.BadTrace.{BadTrace}
 use Rattle.trace_reader.specs.declared.progress.Progress.{Progress}

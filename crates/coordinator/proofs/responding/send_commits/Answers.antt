@@ -1,7 +1,7 @@
 use Rattle.std.proofs.Common.{arith, List, map, ap, ◌++◌, ◌∙◌}
 use Rattle.std.proofs.lemmas.List.{take_all}
 use Rattle.voting_config.specs.Ids.{Id, among}
-use Rattle.wire_frames.specs.declared.frame.Message.TheVariants as message
+use Rattle.wire_frames.specs.declared.frame.WireMessage.TheVariants as message
 use Rattle.coordinator.specs.Plans.{frame_to}
 use Rattle.coordinator.specs.Showing.{shown_in}
 use Rattle.coordinator.proofs.responding.send_commits.Goals as goal

@@ -1,7 +1,7 @@
 use Rattle.std.proofs.Common.{◌≡◌, ◌++◌, map, take}
 use Rattle.voting_config.specs.Ids.{Id, among}
 use Rattle.wire_frames.specs.declared.frame.Frame.{Frame}
-use Rattle.wire_frames.specs.declared.frame.Message.TheVariants as message
+use Rattle.wire_frames.specs.declared.frame.WireMessage.TheVariants as message
 use Rattle.coordinator.specs.Plans.{frame_to}
 use Rattle.coordinator.specs.Rooms.{Uses}
 use Rattle.coordinator.specs.Showing.{shown_in}

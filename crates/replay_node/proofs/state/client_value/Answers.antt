@@ -10,8 +10,8 @@ use Rattle.world_model.specs.declared.acts.Act.TheVariants as act
 use Rattle.world_model.specs.declared.acts.Cause.{Cause}
 use Rattle.world_model.specs.declared.acts.Message.{Message}
 use Rattle.world_model.specs.declared.acts.Message.TheVariants.{Publish as PublishMessage}
-use Rattle.world_model.specs.declared.acts.Reply.{Reply}
-use Rattle.world_model.specs.declared.acts.Reply.TheVariants.{Taken, Refused, Stopped}
+use Rattle.world_model.specs.declared.acts.ActReply.{ActReply}
+use Rattle.world_model.specs.declared.acts.ActReply.TheVariants.{Taken, Refused, Stopped}
 use Rattle.world_model.specs.NodeState.{NodeState}
 use Rattle.world_model.specs.Replies.{reply_at}
 use Rattle.replay_node.specs.Stands.{Journal, journal_ghosts}
@@ -20,11 +20,11 @@ use Rattle.replay_node.proofs.state.client_value.Goals as goal
 
 -- past a test, where the act was taken
 
-running : (b : Bool) (r : Reply) (s : Option Message) (w : Bool) → Taken s w ≡ cond b Stopped r → Taken s w ≡ r
+running : (b : Bool) (r : ActReply) (s : Option Message) (w : Bool) → Taken s w ≡ cond b Stopped r → Taken s w ≡ r
 running true r s w h = cc
 running false r s w h = h
 
-past : (b : Bool) (cause : Cause) (r : Reply) (s : Option Message) (w : Bool) → Taken s w ≡ cond b (Refused cause) r → (b ≡ false) × (Taken s w ≡ r)
+past : (b : Bool) (cause : Cause) (r : ActReply) (s : Option Message) (w : Bool) → Taken s w ≡ cond b (Refused cause) r → (b ≡ false) × (Taken s w ≡ r)
 past true cause r s w h = cc
 past false cause r s w h = (refl, h)
 

@@ -1,6 +1,6 @@
 use Rattle.std.proofs.Common.{List, map, ap, ◌++◌, ◌∙◌}
 use Rattle.voting_config.specs.Ids.{Id}
-use Rattle.wire_frames.specs.declared.frame.Message.TheVariants as message
+use Rattle.wire_frames.specs.declared.frame.WireMessage.TheVariants as message
 use Rattle.policy_model.specs.declared.events.DropCause.TheVariants.{Checks, Lag}
 use Rattle.coordinator.specs.Plans.{frame_to}
 use Rattle.coordinator.specs.Showing.{shown_in}
