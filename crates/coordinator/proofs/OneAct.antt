@@ -32,7 +32,7 @@ use Rattle.coordinator.specs.Verdicts.{verdict}
 use Rattle.coordinator.specs.Views.{view_in, IsReady}
 use Rattle.coordinator.specs.Does.{Goes, Makes, Fails, Ends}
 use Rattle.coordinator.specs.declared.coordinator.Coordinator.{Coordinator}
-use Rattle.coordinator.specs.declared.coordinator.Struck.{Struck}
+use Rattle.coordinator.specs.declared.coordinator.DiskFailed.{DiskFailed}
 
 -- a reply that takes the act
 pub taken_is : (r : ActReply) → is_taken r ≡ true → (sends : Option Message) × ((win : Bool) × (r ≡ Taken sends win))
@@ -115,11 +115,11 @@ module _ {K : Type 0} (k : Ghosts K) where
   ends_told old new act (Crashed b) sent sent_now ready did is_told settings moment_is is shown = absurd is_told
 
   -- an act, however it ended: the outcome that was reported is the core's
-  pub ends_act : (old new : Coordinator K) (act : Act) (o told : Outcome) (r : Result Bool Struck) (sent sent_now : Shown) → IsReady old → Act1 old.core new.core act o → told ≡ o → IsTold told
+  pub ends_act : (old new : Coordinator K) (act : Act) (o told : Outcome) (r : Result Bool DiskFailed) (sent sent_now : Shown) → IsReady old → Act1 old.core new.core act o → told ≡ o → IsTold told
       → new.settings ≡ old.settings → new.moment ≡ old.moment → view new ≡ acted old.settings (view old) act o → sent_now ≡ showing sent (Acts act told) → r ≡ verdict told
       → Ends k (is_ok r) old new sent sent_now (act_now old.settings (view old) act ∷ [])
   ends_act old new act o told r sent sent_now ready did same is_told settings moment_is is shown r_is =
-      subst (λ (x : Result Bool Struck). Ends k (is_ok x) old new sent sent_now (act_now old.settings (view old) act ∷ [])) (sym r_is)
+      subst (λ (x : Result Bool DiskFailed). Ends k (is_ok x) old new sent sent_now (act_now old.settings (view old) act ∷ [])) (sym r_is)
       (ends_told old new act told sent sent_now ready (subst (λ (x : Outcome). Act1 old.core new.core act x) (sym same) did) is_told settings moment_is
       (subst (λ (x : Outcome). view new ≡ acted old.settings (view old) act x) (sym same) is) shown)
 
@@ -129,10 +129,10 @@ module _ {K : Type 0} (k : Ghosts K) where
   taken_told old core act (Crashed b) ready did = tt
 
   -- and whether it was taken
-  pub taken_act : (old : Coordinator K) (core : CoordState K) (act : Act) (o told : Outcome) (r : Result Bool Struck) → IsReady old → Act1 old.core core act o → told ≡ o → r ≡ verdict told
+  pub taken_act : (old : Coordinator K) (core : CoordState K) (act : Act) (o told : Outcome) (r : Result Bool DiskFailed) → IsReady old → Act1 old.core core act o → told ≡ o → r ≡ verdict told
       → IfOk r (λ (taken : Bool). taken ≡ takes old.settings (view old) act)
   taken_act old core act o told r ready did same r_is =
-      subst (λ (x : Result Bool Struck). IfOk x (λ (taken : Bool). taken ≡ takes old.settings (view old) act)) (sym (r_is ∙ ap (λ (x : Outcome). verdict x) same)) (taken_told old core act o ready did)
+      subst (λ (x : Result Bool DiskFailed). IfOk x (λ (taken : Bool). taken ≡ takes old.settings (view old) act)) (sym (r_is ∙ ap (λ (x : Outcome). verdict x) same)) (taken_told old core act o ready did)
 
   -- an act that writes nothing is answered
   pub makes_act : (old new : Coordinator K) (act : Act) (o told : Outcome) (sent sent_now : Shown) → IsReady old → writes act ≡ false → Act1 old.core new.core act o → told ≡ o

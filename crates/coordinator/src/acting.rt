@@ -11,7 +11,7 @@ ghost use Rattle.coordinator.specs.Does.{Does};
 ghost use Rattle.coordinator.specs.Rooms.{Uses};
 ghost use Rattle.coordinator.specs.Views.{view_in, IsReady};
 
-use crate::coordinator::{Coordinator, Struck};
+use crate::coordinator::{Coordinator, DiskFailed};
 use crate::outcomes::{has_sent, has_won, verdict, was_taken};
 use crate::output::Output;
 use cluster_state::{
@@ -37,7 +37,7 @@ impl<K: Keeper> Coordinator<K> {
         &mut self,
         out: &mut Output,
         initial: Ready,
-    ) -> Result<bool, Struck>
+    ) -> Result<bool, DiskFailed>
         requires ready { IsReady self.old }
         requires steps { 1 ≤ out.old.steps.room }
         requires initial { initial.state ≡ initial_state initial.state.config }
@@ -59,7 +59,7 @@ impl<K: Keeper> Coordinator<K> {
         out: &mut Output,
         candidate: NodeId,
         term: u64,
-    ) -> Result<bool, Struck>
+    ) -> Result<bool, DiskFailed>
         requires ready { IsReady self.old }
         requires steps { 1 ≤ out.old.steps.room }
         ensures does { Does K.Keeper self.old self.new out.old out.new (λ s v. act_now s v (act.StartJoin candidate term) ∷ []) (is_ok result) }
@@ -139,7 +139,7 @@ impl<K: Keeper> Coordinator<K> {
         source: NodeId,
         state: Ready,
         entry: ClusterState,
-    ) -> Result<bool, Struck>
+    ) -> Result<bool, DiskFailed>
         requires ready { IsReady self.old }
         requires steps { 1 ≤ out.old.steps.room }
         requires entry { entry ≡ state.state }
@@ -186,7 +186,7 @@ impl<K: Keeper> Coordinator<K> {
         &mut self,
         out: &mut Output,
         commit: &ApplyCommit,
-    ) -> Result<bool, Struck>
+    ) -> Result<bool, DiskFailed>
         requires ready { IsReady self.old }
         requires steps { 1 ≤ out.old.steps.room }
         ensures does { Does K.Keeper self.old self.new out.old out.new (λ s v. act_now s v (act.Commit commit.now) ∷ []) (is_ok result) }

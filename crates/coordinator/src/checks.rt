@@ -11,7 +11,7 @@ ghost use Rattle.coordinator.specs.Does.{Does};
 ghost use Rattle.coordinator.specs.Rooms.{Uses};
 ghost use Rattle.coordinator.specs.Views.{IsReady};
 
-use crate::coordinator::{Acted, Coordinator, Struck};
+use crate::coordinator::{Acted, Coordinator, DiskFailed};
 use crate::following::follows;
 use crate::output::Output;
 use cluster_state::StateId;
@@ -143,7 +143,7 @@ impl<K: Keeper> Coordinator<K> {
         ensures does { Does K.Keeper self.old self.new out.old out.new (λ s v. then_rule s v (raises_term s v leader term) (λ u. follows_checker s u leader)) (is_ok result) }
     {
         match self.raise_term(out, leader, term) {
-            Err(_) => Err(Struck),
+            Err(_) => Err(DiskFailed),
             Ok(()) => {
                 self.follow_checker(out, leader);
                 Ok(())

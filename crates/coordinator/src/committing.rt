@@ -8,7 +8,7 @@ ghost use Rattle.coordinator.specs.Plans.{IsPlanned, replies_planned};
 ghost use Rattle.coordinator.specs.Rooms.{Uses};
 ghost use Rattle.coordinator.specs.Views.{view_in, IsReady};
 
-use crate::coordinator::{Acted, Coordinator, EventError, Struck};
+use crate::coordinator::{Acted, Coordinator, DiskFailed, EventError};
 use crate::output::Output;
 use crate::plan::{Plan, plan_state};
 use cluster_state::{ApplyCommit, StateId};
@@ -81,7 +81,7 @@ impl<K: Keeper> Coordinator<K> {
             version: id.version,
         };
         match self.act_commit(out, &commit) {
-            Err(_) => Err(Struck),
+            Err(_) => Err(DiskFailed),
             Ok(taken) => {
                 if !taken {
                     return Ok(());

@@ -16,7 +16,7 @@ ghost use Rattle.coordinator.specs.Steps.{Stays, Steps, steps_for, drops_for, fr
 ghost use Rattle.coordinator.specs.declared.step.StepError.TheVariants as step_error;
 ghost use Rattle.coordinator.specs.Views.{IsReady};
 
-use crate::coordinator::{Acted, Coordinator, EventError, Struck};
+use crate::coordinator::{Acted, Coordinator, DiskFailed, EventError};
 use crate::output::Output;
 use crate::step::{Sealed, StepError, new_output, seal};
 use client_lines::Line;

@@ -14,7 +14,7 @@ ghost use Rattle.coordinator.specs.Rooms.{Uses};
 ghost use Rattle.coordinator.specs.Rounds.{stands_alone};
 ghost use Rattle.coordinator.specs.Views.{view_in, IsReady};
 
-use crate::coordinator::{Acted, Coordinator, Struck};
+use crate::coordinator::{Acted, Coordinator, DiskFailed};
 use crate::discovery::with;
 use crate::output::Output;
 use crate::sending::Broadcast;
@@ -76,7 +76,7 @@ impl<K: Keeper> Coordinator<K> {
             None => Ok(()),
             Some(ready) => match self.act_set_initial(out, ready) {
                 Ok(_) => Ok(()),
-                Err(_) => Err(Struck),
+                Err(_) => Err(DiskFailed),
             },
         }
     }
@@ -91,7 +91,7 @@ impl<K: Keeper> Coordinator<K> {
         ensures uses { Uses out.old out.new 1 32 0 }
     {
         match self.bootstrap(out, initial) {
-            Err(_) => Err(Struck),
+            Err(_) => Err(DiskFailed),
             Ok(()) => {
                 self.ask_peers(out);
                 Ok(())
@@ -114,7 +114,7 @@ impl<K: Keeper> Coordinator<K> {
         ensures uses { Uses out.old out.new 1 96 0 }
     {
         match self.find_peers(out, initial) {
-            Err(_) => Err(Struck),
+            Err(_) => Err(DiskFailed),
             Ok(()) => {
                 self.wait_for_election(out, word);
                 Ok(())

@@ -13,7 +13,7 @@ ghost use Rattle.coordinator.specs.Rooms.{Uses};
 ghost use Rattle.coordinator.specs.Views.{view_in, IsReady};
 
 use crate::ahead::add_members;
-use crate::coordinator::{Coordinator, EventError, Struck};
+use crate::coordinator::{Coordinator, DiskFailed, EventError};
 use crate::output::Output;
 use crate::plan::Plan;
 use cluster_state::{Join, StateId};

@@ -28,7 +28,7 @@ pub mod step;
 mod tick;
 mod ticking;
 
-pub use coordinator::{Coordinator, EventError, Struck};
+pub use coordinator::{Coordinator, DiskFailed, EventError};
 pub use output::{Listed, Output};
 pub use plan::{NewState, Plan};
 pub use sending::Broadcast;

@@ -6,7 +6,7 @@ ghost use Rattle.world_model.specs.declared.acts.Outcome.TheVariants as outcome;
 ghost use Rattle.policy_model.specs.LookBacks.{sends_one};
 ghost use Rattle.coordinator.specs.Verdicts.{verdict as verdict_by};
 
-use crate::coordinator::Struck;
+use crate::coordinator::DiskFailed;
 use world_model::{ActReply, Outcome};
 
 fn is_taken(reply: &ActReply) -> bool
@@ -19,12 +19,12 @@ fn is_taken(reply: &ActReply) -> bool
 }
 
 /// Whether an act was taken, unless the disk failed.
-pub(crate) fn verdict(outcome: &Outcome) -> Result<bool, Struck>
+pub(crate) fn verdict(outcome: &Outcome) -> Result<bool, DiskFailed>
     ensures { result ≡ verdict_by outcome.now }
 {
     match outcome {
         Outcome::Answered(reply) => Ok(is_taken(reply)),
-        Outcome::Disk(_) | Outcome::Crashed(_) => Err(Struck),
+        Outcome::Disk(_) | Outcome::Crashed(_) => Err(DiskFailed),
     }
 }
 

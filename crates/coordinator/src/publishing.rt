@@ -7,7 +7,7 @@ ghost use Rattle.coordinator.specs.Does.{Does, DoesAll};
 ghost use Rattle.coordinator.specs.Rooms.{Uses};
 ghost use Rattle.coordinator.specs.Views.{IsReady};
 
-use crate::coordinator::{Acted, Coordinator, EventError, Struck};
+use crate::coordinator::{Acted, Coordinator, DiskFailed, EventError};
 use crate::output::Output;
 use cluster_state::{ClusterState, StateId};
 use state_journal::{Keeper, Ready};
@@ -48,7 +48,7 @@ impl<K: Keeper> Coordinator<K> {
     {
         let id = entry.id();
         match self.act_publish(out, p, state, entry) {
-            Err(_) => Err(Struck),
+            Err(_) => Err(DiskFailed),
             Ok(taken) => {
                 if taken {
                     self.respond(out, p, id);
@@ -74,7 +74,7 @@ impl<K: Keeper> Coordinator<K> {
         ensures does { Does K.Keeper self.old self.new out.old out.new (λ s v. is_published_to s v p state.state) (is_ok result) }
     {
         match self.raise_term(out, p, entry.term) {
-            Err(_) => Err(Struck),
+            Err(_) => Err(DiskFailed),
             Ok(()) => self.accept(out, p, state, entry),
         }
     }

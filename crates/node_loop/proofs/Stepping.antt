@@ -18,7 +18,7 @@ use Rattle.policy_model.specs.Events.{Item, Opens, Begins, Acts, Turns, Drops, S
 use Rattle.policy_model.specs.Entries.{Life, Lived, Did, log_of, frames_of, frames_in, replies_of, by_receiver}
 use Rattle.policy_model.specs.Follows.{IsStruck, Here, Later, is_fault, has_fault, is_start, starts_next, items_of}
 use Rattle.policy_model.specs.Views.{View, view_of}
-use Rattle.node_loop.specs.declared.lines.Told.{Told}
+use Rattle.node_loop.specs.declared.lines.LastSent.{LastSent}
 use Rattle.node_loop.specs.Crashes.{Holds, IsLeftAlong}
 use Rattle.node_loop.specs.Reporting.{Reports, AreLined, sent_of}
 use Rattle.node_loop.specs.Steps.{Does, IsHalted}
@@ -69,7 +69,7 @@ runs_on false never = refl
 
 module _ {C K : Type 0} (k : Ghosts K)
     (only_kept : (keeper : K) (found : Option Kept) → k.told → k.has_stopped keeper ≡ false → k.left_since keeper (k.moment keeper) found → found ≡ Some (k.record_of keeper))
-    (node_in : C → Coordinator K) (told_in : C → Option Told) where
+    (node_in : C → Coordinator K) (told_in : C → Option LastSent) where
   -- the acts that the node's core stands for
   abbrev core_stands : (c : C) (life : Life) → StandsForLife k (node_in c) life → StandsFor k (node_in c).core (acts_of (log_of life))
   core_stands c life stands = ap (λ (v : View). v.node) stands

@@ -14,7 +14,7 @@ use Rattle.policy_model.specs.declared.settings.Settings.{Settings}
 use Rattle.policy_model.specs.Events.{Item}
 use Rattle.policy_model.specs.Entries.{Life, Lived, Entry, Did, Gone, Bad, NoMemory, Unread, frames_of, replies_of}
 use Rattle.policy_model.specs.Follows.{is_struck}
-use Rattle.node_loop.specs.declared.lines.Told.{Told}
+use Rattle.node_loop.specs.declared.lines.LastSent.{LastSent}
 use Rattle.node_loop.specs.Crashes.{LeavesLast, last_idle}
 use Rattle.node_loop.specs.Reports.{Output, IsIdle}
 use Rattle.node_loop.specs.Steps.{AreLines}
@@ -22,7 +22,7 @@ use Rattle.node_loop.specs.Texts.{IsTold, entry_text}
 
 -- The node has these settings and is what its life makes of it; it is halted exactly where its last event was struck. A crash now
 -- leaves the last record of its life. What it keeps for its lines is right, or lost.
-pub record Reports {K : Type 0} (k : Ghosts K) (node : Coordinator K) (told : Option Told) (s : Settings) (life : Life) : Type 0 where
+pub record Reports {K : Type 0} (k : Ghosts K) (node : Coordinator K) (told : Option LastSent) (s : Settings) (life : Life) : Type 0 where
   pub settings : node.settings ≡ s
   pub stands : StandsForLife k node life
   pub stopped : k.has_stopped node.core.keeper ≡ is_struck life
@@ -35,14 +35,14 @@ sent_of sealed = record { frames = sealed.sends.list; replies = sealed.replies.s
 
 -- Where what was kept is right for a life, the lines of an event with these entries, frames and replies are those of its entry, and
 -- what is kept then is right for the life with it; or there are no lines, and nothing is kept.
-abbrev pub AreLined : Id → Option Told → Entries → List Frame → List Outgoing → Option (List ℕ) → Option Told → Type 0
+abbrev pub AreLined : Id → Option LastSent → Entries → List Frame → List Outgoing → Option (List ℕ) → Option LastSent → Type 0
 AreLined node told entries frames replies lines kept =
     (s : Settings) (life : Life) (event : Event) (items : List Item) → node ≡ s.me → IsTold told life → AreEntries event items entries → frames ≡ frames_of items → replies ≡ replies_of items
     → AreLines lines (entry_text s life (Did event items)) × IsTold kept (Lived life (Did event items))
 
 -- ---- an entry of no event changes nothing that a node stands for
 
-told_idle : (told : Option Told) (life : Life) (e : Entry) → IsIdle e → IsTold told life → IsTold told (Lived life e)
+told_idle : (told : Option LastSent) (life : Life) (e : Entry) → IsIdle e → IsTold told life → IsTold told (Lived life e)
 told_idle None life e is right = tt
 told_idle (Some told) life (Did event items) is right = absurd is
 told_idle (Some told) life (Gone conn) is right = right
@@ -50,7 +50,7 @@ told_idle (Some told) life (Bad conn fault) is right = right
 told_idle (Some told) life NoMemory is right = right
 told_idle (Some told) life (Unread conn) is right = right
 
-pub reports_idle : {K : Type 0} (k : Ghosts K) (node : Coordinator K) (told : Option Told) (s : Settings) (life : Life) (e : Entry)
+pub reports_idle : {K : Type 0} (k : Ghosts K) (node : Coordinator K) (told : Option LastSent) (s : Settings) (life : Life) (e : Entry)
     → IsIdle e → Reports k node told s life → Reports k node told s (Lived life e)
 reports_idle k node told s life (Did event items) is r = absurd is
 reports_idle k node told s life (Gone conn) is r = record {

@@ -20,7 +20,7 @@ use Rattle.policy_model.specs.declared.events.Step.{Step}
 use Rattle.policy_model.specs.declared.settings.Settings.{Settings}
 use Rattle.policy_model.specs.Events.{acts_of}
 use Rattle.policy_model.specs.Entries.{Entry, Did, Gone, Bad, NoMemory, Unread, Life, NotBegun, Opened, Lived, log_of, steps_of, drops_of, frames_of, replies_of}
-use Rattle.node_loop.specs.declared.lines.Told.{Told}
+use Rattle.node_loop.specs.declared.lines.LastSent.{LastSent}
 
 -- a node numbers its frames from 1 on since its journal was opened; at 2^62 the number stays
 abbrev pub next_number : ℕ → ℕ
@@ -51,7 +51,7 @@ published_of (Lived life (Did event items)) = published_after (published_of life
 published_of (Lived life e) = published_of life
 
 -- what is kept of a life for later lines is right, or it is lost
-abbrev pub IsTold : Option Told → Life → Type 0
+abbrev pub IsTold : Option LastSent → Life → Type 0
 IsTold None life = Unit {0}
 IsTold (Some told) life = (told.published ≡ published_of life) × (told.number ≡ last_number life)
 

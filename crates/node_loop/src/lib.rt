@@ -9,7 +9,7 @@ pub mod reporter;
 pub mod steps;
 
 pub use connection::{Came, Connection};
-pub use lines::Told;
+pub use lines::LastSent;
 pub use node::{End, Node, law_holds_little};
 pub use opening::JournalNode;
 pub use reporter::Reporter;

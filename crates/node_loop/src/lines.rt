@@ -19,7 +19,7 @@ const LAST_NUMBER: u64 = 1 << 62;
 
 /// What the lines of an event need of those before it.
 #[derive(Drop)]
-pub struct Told {
+pub struct LastSent {
     /// The state that the node published last.
     pub published: Option<ClusterState>,
     /// The number of its last frame.
@@ -99,7 +99,7 @@ pub fn write_entry(
     text: &mut Text,
     alloc: Global,
     node: NodeId,
-    told: &mut Told,
+    told: &mut LastSent,
     event: &Event,
     steps: &[Step],
     drops: &[MemberDrop],

@@ -7,7 +7,7 @@ ghost use Rattle.policy_model.specs.Entries.{Life, Opened, log_of};
 ghost use Rattle.policy_model.specs.Events.{acts_of};
 ghost use Rattle.node_loop.specs.Reporting.{AreLined, Reports};
 
-use crate::lines::{Told, write_bad, write_entry, write_gone};
+use crate::lines::{LastSent, write_bad, write_entry, write_gone};
 use crate::steps::{Done, StepError, Steps};
 use coordinator::{Coordinator, Entries, Sealed};
 use master_tasks::Outgoing;
@@ -26,7 +26,7 @@ pub struct Reporter<K: Keeper> {
     me: NodeId,
     node: Coordinator<K>,
     // None once memory was lacking for the lines of an event: then there are none for later ones.
-    told: Option<Told>,
+    told: Option<LastSent>,
     ghost ready: { IsReady node },
     ghost own: { me ≡ node.settings.me },
 }
@@ -41,7 +41,7 @@ impl<K: Keeper> Reporter<K> {
         Reporter {
             me: settings.me,
             node: Coordinator::open(alloc, settings, keeper),
-            told: Some(Told {
+            told: Some(LastSent {
                 published: None,
                 number: 0,
             }),
@@ -63,7 +63,7 @@ impl<K: Keeper> Reporter<K> {
 
 // The lines of an event; what later ones need is kept.
 fn report(
-    told: &mut Option<Told>,
+    told: &mut Option<LastSent>,
     alloc: Global,
     node: NodeId,
     entries: &Entries,
