@@ -1,4 +1,4 @@
-//! Runs in memory, one for each status that no want of memory brings.
+//! Runs in memory, one for each status that no lack of memory brings.
 
 use crate::running::run;
 use crate::status::Status;
