@@ -166,13 +166,13 @@ module _ (me : Id) (fuse : MemFuse) (w : NodeWorld) (c : ClosedStands fuse w) wh
           finds = λ done. absurd (let ended = said.ended in cc);
         }
 
-    by_struck : (struck : Option Struck) (slot : Slot) → g.struck ≡ struck → StaysDown struck me g slot was now → Opens me fuse slot was now w
-    by_struck None slot is stays = absurd stays
-    by_struck (Some Fault) slot is stays = subst (λ (x : Slot). Opens me fuse x was now w) (sym stays.0) (failed is stays.1)
-    by_struck (Some Stop) slot is stays = subst (λ (x : Slot). Opens me fuse x was now w) (sym stays.0.2) (stopped stays.0.0 is stays.0.1 stays.1)
+    by_struck : (struck : Option Struck) (again : MemFuse) → g.struck ≡ struck → StaysDown struck me g again was now → Opens me fuse (Down again) was now w
+    by_struck None again is stays = absurd stays
+    by_struck (Some Fault) again is stays = subst (λ (x : MemFuse). Opens me fuse (Down x) was now w) (sym stays.0) (failed is stays.1)
+    by_struck (Some Stop) again is stays = stopped again is stays.0 stays.1
 
-    pub stays : (slot : Slot) → StaysDown g.struck me g slot was now → Opens me fuse slot was now w
-    stays slot down = by_struck g.struck slot refl down
+    pub stays : (again : MemFuse) → StaysDown g.struck me g again was now → Opens me fuse (Down again) was now w
+    stays again down = by_struck g.struck again refl down
 
 -- a new node
 

@@ -10,7 +10,6 @@ use Rattle.replay_node.specs.NodeWorld.{NodeWorld, after_opening, found_at, open
 use Rattle.replay_node.specs.Settled.{settled, is_kept}
 use Rattle.replay_node.specs.Stands.{LeavesActs, SlotStands}
 use Rattle.replay_node.specs.declared.node.Slot.{Slot}
-use Rattle.replay_node.specs.declared.node.Slot.TheVariants.{Down}
 
 -- the disk of a node whose journal is closed
 pub record ClosedStands (fuse : MemFuse) (w : NodeWorld) : Type 0 where
@@ -23,8 +22,8 @@ pub record Opens (me : Id) (fuse : MemFuse) (new : Slot) (was now : List ℕ) (w
   pub written : now ≡ was ++ opening_text (opening w.disk).ended me (found_at w)
   pub finds : (opening w.disk).ended ≡ Done → found_at w ≡ durable_of (settled (is_kept w.acts (found_at w)) w.acts)
 
--- an opening that this struck leaves the node down
-abbrev pub StaysDown : Option Struck → Id → MemFuse → (new : Slot) → (was now : List ℕ) → Type 0
-StaysDown None me fuse new was now = ⊥
-StaysDown (Some Fault) me fuse new was now = (new ≡ Down fuse) × (now ≡ was ++ disk_line me)
-StaysDown (Some Stop) me fuse new was now = ((again : MemFuse) × Restarted fuse again × (new ≡ Down again)) × (now ≡ was ++ crashed_line me)
+-- an opening that this struck leaves the node down with this disk
+abbrev pub StaysDown : Option Struck → Id → (fuse again : MemFuse) → (was now : List ℕ) → Type 0
+StaysDown None me fuse again was now = ⊥
+StaysDown (Some Fault) me fuse again was now = (again ≡ fuse) × (now ≡ was ++ disk_line me)
+StaysDown (Some Stop) me fuse again was now = Restarted fuse again × (now ≡ was ++ crashed_line me)

@@ -1,13 +1,17 @@
 //! A node's disk: two files in memory under a fuse, from empty to stopped and running again.
-ghost use Rattle.std.specs.Prelude.{◌≡◌, None};
+ghost use Rattle.std.specs.Prelude.{◌≡◌, None, IfOk};
 ghost use Rattle.zen_disk.specs.Armed.{nothing_armed};
 ghost use Rattle.zen_disk.specs.FileState.{both_left_by};
 ghost use Rattle.zen_disk.specs.MemDisks.{files_of, read_of};
 ghost use Rattle.zen_disk.specs.Sides.{Files};
 ghost use Rattle.replay_node.specs.NodeDisk.{MayLeave, Restarted, bytes_read, no_files};
+ghost use Rattle.replay_node.specs.Opens.{StaysDown};
 
-use std::alloc::Global;
-use zen_disk::{Armable, Armed, Fuse, MemDisks, Order, Way};
+use schedule_text::Text;
+use std::alloc::{AllocError, Global};
+use trace_text::{write_crashed, write_disk};
+use voting_config::NodeId;
+use zen_disk::{Armable, Armed, Fuse, MemDisks, Order, Struck, Way};
 
 /// A disk of two empty files, with no orders. It takes no memory.
 pub fn empty_disk(alloc: Global) -> Fuse<MemDisks>
@@ -73,4 +77,26 @@ pub fn crashed(fuse: Fuse<MemDisks>, way: Way) -> Fuse<MemDisks>
     let mut fuse = fuse;
     fuse.stop(way);
     restarted(fuse)
+}
+
+/// The disk with which a node stays down after an opening that met a fault of the disk: running again where it was a stop.
+/// Writes which of the two it was. A fault that no order has made means that memory ran out, and is an error.
+pub fn stay_down(
+    fuse: Fuse<MemDisks>,
+    me: NodeId,
+    text: &mut Text,
+) -> Result<Fuse<MemDisks>, AllocError>
+    ensures { IfOk result (λ again. StaysDown fuse.struck me fuse again text.old text.new) }
+{
+    match fuse.struck() {
+        None => Err(AllocError),
+        Some(Struck::Fault) => {
+            write_disk(text, me)?;
+            Ok(fuse)
+        }
+        Some(Struck::Stop) => {
+            write_crashed(text, me)?;
+            Ok(restarted(fuse))
+        }
+    }
 }

@@ -10,13 +10,13 @@ ghost use Rattle.trace_text.specs.Published.{published_by};
 ghost use Rattle.replay_node.specs.Published.{state_published};
 ghost use Rattle.replay_node.specs.NodeWorld.{NodeWorld, fresh_node, after_order};
 ghost use Rattle.replay_node.specs.NodeLines.{after_restart, after_stop, restart_text, stop_text, DoesLine, FindsKept};
-ghost use Rattle.replay_node.specs.Opens.{ClosedStands, Opens, StaysDown};
+ghost use Rattle.replay_node.specs.Opens.{ClosedStands, Opens};
 ghost use Rattle.replay_node.specs.Sent.{message_of, message_of_some, taking};
 ghost use Rattle.replay_node.specs.Stands.{HasRoom, NodeDoes, NodeStands};
 ghost use Rattle.replay_node.specs.StateDoes.{Closes, ClosesTo};
 
 use crate::did::Did;
-use crate::disk::{crashed, empty_disk, restarted};
+use crate::disk::{crashed, empty_disk, restarted, stay_down};
 use crate::message::{FitPublishRequest, SentMessage};
 use crate::state;
 use crate::state::OpenNode;
@@ -27,9 +27,9 @@ use state_journal::{Keeper, OpenError, StateJournal};
 use std::alloc::{AllocError, Global};
 use std::mem;
 use std::rc::Rc;
-use trace_text::{write_crashed, write_disk, write_down, write_record, write_up};
+use trace_text::{write_crashed, write_down, write_record, write_up};
 use voting_config::{NodeId, NodeSet, VotingConfig};
-use zen_disk::{Armable, Fuse, MemDisks, Order, Struck, Way};
+use zen_disk::{Armable, Fuse, MemDisks, Order, Way};
 
 /// Whether a node's journal is open.
 #[derive(Drop)]
@@ -278,25 +278,9 @@ impl ReplayNode {
             }
             Err(OpenError::NotAJournal(_, _)) => unreachable!(),
             Err(OpenError::Memory(_)) => Err(AllocError),
-            Err(OpenError::Disk(fuse)) => self.stay_down(fuse, text),
-        }
-    }
-
-    // What the fuse says of an opening that met a fault of the disk. A fault that no order has made means that memory ran out.
-    fn stay_down(&mut self, fuse: Fuse<MemDisks>, text: &mut Text) -> Result<(), AllocError>
-        ensures me { self.new.me ≡ self.old.me }
-        ensures published { self.new.published ≡ self.old.published }
-        ensures down { OnOk result (StaysDown fuse.struck self.old.me fuse self.new.slot text.old text.new) }
-    {
-        match fuse.struck() {
-            None => Err(AllocError),
-            Some(Struck::Fault) => {
-                self.slot = Slot::Down(fuse);
-                write_disk(text, self.me)
-            }
-            Some(Struck::Stop) => {
-                self.slot = Slot::Down(restarted(fuse));
-                write_crashed(text, self.me)
+            Err(OpenError::Disk(fuse)) => {
+                self.slot = Slot::Down(stay_down(fuse, self.me, text)?);
+                Ok(())
             }
         }
     }

@@ -181,16 +181,19 @@ module _ (s : Settings) (old : ClusterNode) (fuse : MemFuse) (own : Own) (closed
         }
 
   -- the opening failed, or the disk stopped inside it
-  pub closed_again : (new : ClusterNode) (again : MemFuse) (frames : List Frame) (was now : List ℕ) → new.me ≡ old.me → new.published ≡ old.published → new.slot ≡ Down again → Opens old.me fuse (CoreDown again) was now own.node
-      → OwnDone s new (own_restart s own) frames frames (own_restart_frames s own) was now (own_restart_results s (length frames) own)
-  closed_again new again frames was now me published slot opens =
+  pub closed_again : (again : MemFuse) (frames : List Frame) (was now : List ℕ) → Opens old.me fuse (CoreDown again) was now own.node
+      → OwnDone s (record old { slot = Down again }) (own_restart s own) frames frames (own_restart_frames s own) was now (own_restart_results s (length frames) own)
+  closed_again again frames was now opens =
       by (opening own.node.disk).ended refl opens.stands (opens.written ∙ ap (λ (n : Id). was ++ opening_text (opening own.node.disk).ended n found) closed.me_is)
     where
+      new : ClusterNode
+      new = record old { slot = Down again }
+
       there : (x : NodeWorld) → x.acts ≡ own.node.acts → DownStands again x → NodeFor s new (record own { node = x }) false
       there x same down = record {
-        me_is = me ∙ closed.me_is;
-        slot = subst (λ (y : Slot). SlotFor s y (record own { node = x })) (sym slot) down;
-        published = published ∙ closed.published ∙ ap last_published (sym same);
+        me_is = closed.me_is;
+        slot = down;
+        published = closed.published ∙ ap last_published (sym same);
         life = record {
           follows = closed.life.follows;
           acts = closed.life.acts ∙ sym same;

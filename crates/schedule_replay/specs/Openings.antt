@@ -1,5 +1,5 @@
 -- For the contracts inside: what an opening of a node's journal makes of the node.
-use Rattle.std.specs.Prelude.{◌≡◌, false, true, ℕ, Option, List, length}
+use Rattle.std.specs.Prelude.{◌≡◌, false, true, ℕ, List, length}
 use Rattle.cluster_state.specs.Initial.{empty_record}
 use Rattle.wire_frames.specs.declared.frame.Frame.{Frame}
 use Rattle.world_model.specs.declared.acts.Act.TheVariants.{Open as OpenAct}
@@ -8,12 +8,10 @@ use Rattle.world_model.specs.NodeState.{opened}
 use Rattle.coord_state.specs.StandsFor.{StandsFor}
 use Rattle.replay_node.specs.NodeDisk.{MemFuse}
 use Rattle.replay_node.specs.NodeWorld.{fresh_node, needs_opening}
-use Rattle.replay_node.specs.Opens.{ClosedStands, StaysDown}
+use Rattle.replay_node.specs.Opens.{ClosedStands}
 use Rattle.trace_text.specs.Published.{last_published}
 use Rattle.replay_node.specs.Stands.{Journal, journal_ghosts}
-use Rattle.replay_node.specs.declared.node.Slot.TheVariants.{Down as CoreDown}
 use Rattle.voting_config.specs.Ids.{Id}
-use Rattle.zen_disk.specs.declared.orders.Struck.{Struck}
 use Rattle.policy_model.specs.declared.settings.Settings.{Settings}
 use Rattle.policy_model.specs.Entries.{Life, NotBegun, Opened, log_of}
 use Rattle.policy_model.specs.Events.{acts_of}
@@ -25,8 +23,6 @@ use Rattle.schedule_replay.specs.OwnStands.{LifeFor, NodeFor, OwnDone}
 use Rattle.schedule_replay.specs.Own.{Own, own_restart, own_restart_frames, own_restart_results}
 use Rattle.schedule_replay.specs.OpenNodes.{Node, keeper}
 use Rattle.schedule_replay.specs.declared.cluster.node.ClusterNode.{ClusterNode}
-use Rattle.schedule_replay.specs.declared.cluster.node.Slot.{Slot}
-use Rattle.schedule_replay.specs.declared.cluster.node.Slot.TheVariants.{Down}
 
 -- a node that was just opened over this journal
 pub record OverJournal (s : Settings) (j : Journal) (node : Node) : Type 0 where
@@ -45,12 +41,6 @@ pub record ClosedFor (s : Settings) (c : ClusterNode) (fuse : MemFuse) (own : Ow
   pub needs : needs_opening own.node ≡ true
   pub published : c.published ≡ last_published own.node.acts
   pub life : LifeFor s own.life own.node false
-
--- an opening that this struck leaves the node down
-pub record StaysDownAt (struck : Option Struck) (me : Id) (fuse : MemFuse) (new : Slot) (was now : List ℕ) : Type 0 where
-  pub again : MemFuse
-  pub slot : new ≡ Down again
-  pub stays : StaysDown struck me fuse (CoreDown again) was now
 
 -- the node was opened again, of the nodes and with the initial names of a schedule
 abbrev pub Restarts : List Id → List Id → (old new : ClusterNode) → MemFuse → (frames frames_now : List Frame) → (was now : List ℕ) → Type 0

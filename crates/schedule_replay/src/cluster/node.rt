@@ -12,22 +12,22 @@ ghost use Rattle.event_text.specs.Steps.{told_as};
 ghost use Rattle.schedule_replay.specs.OwnStands.{ClosesTo, NodeFor, OwnDoes};
 ghost use Rattle.schedule_replay.specs.Own.{Own, own_crash, own_event_if_up, own_frames_if_up, own_order, own_results_if_up};
 ghost use Rattle.replay_node.specs.Clusters.{settings_of as settings_in};
-ghost use Rattle.schedule_replay.specs.Openings.{ClosedFor, OverJournal, Reopens, Restarts, StaysDownAt, fresh_own};
+ghost use Rattle.schedule_replay.specs.Openings.{ClosedFor, OverJournal, Reopens, Restarts, fresh_own};
 
 use crate::cluster::stepping::{Ended, OpenNode, step};
 use cluster_state::ClusterState;
 use coordinator::{Coordinator, Entries, Sealed};
 use event_text::{write_event, write_struck_event};
 use policy_model::{Event, NodeIds, Settings};
-use replay_node::disk::{crashed, empty_disk, restarted};
+use replay_node::disk::{crashed, empty_disk, restarted, stay_down};
 use schedule_text::Text;
 use state_journal::{Keeper, OpenError, StateJournal};
 use std::alloc::{AllocError, Global};
 use std::mem;
-use trace_text::{write_crashed, write_disk, write_down, write_record, write_up};
+use trace_text::{write_crashed, write_down, write_record, write_up};
 use voting_config::{NodeId, NodeSet};
 use wire_frames::Frame;
-use zen_disk::{Armable, Fuse, MemDisks, Order, Struck, Way};
+use zen_disk::{Armable, Fuse, MemDisks, Order, Way};
 
 /// Whether a node's journal is open.
 #[derive(Drop)]
@@ -262,25 +262,9 @@ impl ClusterNode {
             }
             Err(OpenError::NotAJournal(_, _)) => unreachable!(),
             Err(OpenError::Memory(_)) => Err(AllocError),
-            Err(OpenError::Disk(fuse)) => self.stay_down(fuse, text),
-        }
-    }
-
-    // What the fuse says of an opening that met a fault of the disk. A fault that no order has made means that memory ran out.
-    fn stay_down(&mut self, fuse: Fuse<MemDisks>, text: &mut Text) -> Result<(), AllocError>
-        ensures me { self.new.me ≡ self.old.me }
-        ensures published { self.new.published ≡ self.old.published }
-        ensures down { OnOk result (StaysDownAt fuse.struck self.old.me fuse self.new.slot text.old text.new) }
-    {
-        match fuse.struck() {
-            None => Err(AllocError),
-            Some(Struck::Fault) => {
-                self.slot = Slot::Down(fuse);
-                write_disk(text, self.me)
-            }
-            Some(Struck::Stop) => {
-                self.slot = Slot::Down(restarted(fuse));
-                write_crashed(text, self.me)
+            Err(OpenError::Disk(fuse)) => {
+                self.slot = Slot::Down(stay_down(fuse, self.me, text)?);
+                Ok(())
             }
         }
     }

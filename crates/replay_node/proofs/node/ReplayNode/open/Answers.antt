@@ -1,5 +1,4 @@
 use Rattle.std.proofs.Common.{◌++◌, ap, subst, ◌∙◌}
-use Rattle.std.proofs.lemmas.Result.{on_ok_weaker}
 use Rattle.cluster_state.specs.declared.state.Kept.{Kept}
 use Rattle.zen_disk.specs.Fuse.{FuseSteps}
 use Rattle.zen_disk.specs.MemDisks.{MemSteps, read_of}
@@ -32,4 +31,4 @@ returns-clause-opens c =
     let failed = c.in-Err-Disk.ensures in
     let run = subst (λ (e : OpenError MemFuse). LeavesOnly moment_of left_of fuse (handed_back e) (FoundAsSome (MayLeave fuse))) c.in-Err-Disk.field-0-is (failed.any_moment_err tt) in
     let ran = subst (λ (e : OpenError MemFuse). RanUntil (FuseSteps MemSteps) (read_of fuse.disk) fuse e) c.in-Err-Disk.field-0-is (failed.ran_err tt) in
-    on_ok_weaker c.stay_down.result (λ down w closed. stays c.args.self.now.me fuse w closed c.in-Err-Disk.fuse run ran c.args.text.now c.stay_down.new.text c.stay_down.new.self.slot down) c.stay_down.ensures.down
+    λ w closed. stays c.args.self.now.me fuse w closed c.in-Err-Disk.fuse run ran c.args.text.now c.stay_down.new.text c.in_ok-stay_down-in-Err-Disk.field-0 c.in_ok-stay_down-in-Err-Disk.ensures

@@ -1,5 +1,4 @@
 use Rattle.std.proofs.Common.{◌≡◌, ap, subst, ◌++◌, ◌∙◌}
-use Rattle.std.specs.Prelude.{OnOk}
 use Rattle.std.proofs.lemmas.Result.{on_ok_weaker}
 use Rattle.cluster_state.specs.declared.state.Kept.{Kept}
 use Rattle.zen_disk.specs.Fuse.{FuseSteps}
@@ -10,11 +9,11 @@ use Rattle.state_journal.specs.Opening.{handed_back, IsWhyOf, RanUntil}
 use Rattle.state_journal.specs.declared.error.OpenError.{OpenError}
 use Rattle.trace_text.specs.Trace.{record_line}
 use Rattle.replay_node.specs.NodeDisk.{MemFuse, MayLeave}
-use Rattle.replay_node.specs.declared.node.Slot.TheVariants.{Down as CoreDown}
+use Rattle.replay_node.specs.Opens.{StaysDown}
 use Rattle.replay_node.proofs.Opened.{JustOpened, moment_of, left_of, no_fault, stays}
 use Rattle.policy_model.specs.declared.settings.Settings.{Settings}
 use Rattle.replay_node.specs.Clusters.{settings_of}
-use Rattle.schedule_replay.specs.Openings.{OverJournal, StaysDownAt}
+use Rattle.schedule_replay.specs.Openings.{OverJournal}
 use Rattle.schedule_replay.specs.Own.{Own, own_opened}
 use Rattle.schedule_replay.proofs.Openings.{closed_again, opened_stands, started}
 use Rattle.schedule_replay.proofs.cluster.node.ClusterNode.open.Goals as goal
@@ -51,6 +50,8 @@ returns c =
     let failed = c.in-Err-Disk.ensures in
     let run = subst (λ (e : OpenError MemFuse). LeavesOnly moment_of left_of fuse (handed_back e) (FoundAsSome (MayLeave fuse))) c.in-Err-Disk.field-0-is (failed.any_moment_err tt) in
     let ran = subst (λ (e : OpenError MemFuse). RanUntil (FuseSteps MemSteps) (read_of fuse.disk) fuse e) c.in-Err-Disk.field-0-is (failed.ran_err tt) in
-    let stays_down : OnOk c.stay_down.result (StaysDownAt c.in-Err-Disk.fuse.struck old.me c.in-Err-Disk.fuse c.stay_down.new.self.slot c.args.text.now c.stay_down.new.text) = subst (λ (f : MemFuse). OnOk c.stay_down.result (StaysDownAt f.struck old.me f c.stay_down.new.self.slot c.args.text.now c.stay_down.new.text)) c.in-Err-Disk.fuse-is c.stay_down.ensures.down in
-    on_ok_weaker c.stay_down.result (λ (down : StaysDownAt c.in-Err-Disk.fuse.struck old.me c.in-Err-Disk.fuse c.stay_down.new.self.slot c.args.text.now c.stay_down.new.text) own closed. closed_again s old fuse own closed c.stay_down.new.self down.again c.args.frames.now.items c.args.text.now c.stay_down.new.text c.stay_down.ensures.me c.stay_down.ensures.published down.slot
-    (stays old.me fuse own.node closed.closed c.in-Err-Disk.fuse run ran c.args.text.now c.stay_down.new.text (CoreDown down.again) down.stays)) stays_down
+    let again : MemFuse = c.in_ok-stay_down-in-Err-Disk.field-0 in
+    let down : StaysDown c.in-Err-Disk.fuse.struck old.me c.in-Err-Disk.fuse again c.args.text.now c.stay_down.new.text =
+    subst (λ (f : MemFuse). StaysDown f.struck old.me f again c.args.text.now c.stay_down.new.text) c.in-Err-Disk.fuse-is c.in_ok-stay_down-in-Err-Disk.ensures in
+    λ own closed. closed_again s old fuse own closed again c.args.frames.now.items c.args.text.now c.stay_down.new.text
+    (stays old.me fuse own.node closed.closed c.in-Err-Disk.fuse run ran c.args.text.now c.stay_down.new.text again down)
