@@ -41,15 +41,15 @@ trace_more initial w (x ∷ ls) l =
     ap (λ (t : List ℕ). trace_line initial w x ++ t) (trace_more initial (after initial w x) ls l)
     ∙ sym (append_assoc (trace_line initial w x) (trace_from initial (after initial w x) ls) _)
 
-module _ {T : Type 0} (saw : T → List ℕ → Type 0) (ids initial : List Id) (nodes more : List ReplayNode) (messages sent : List SentMessage) (tally later : T) (none text piece : List ℕ) (done : List Line) (line : Line) (is : piece ≡ text) where
-  pub one_more : none ≡ [] → Tallied saw ids initial nodes messages tally done → WritesLine ids initial nodes more messages sent none text line → Adds saw tally later piece → Tallied saw ids initial more sent later (done ++ line ∷ [])
+module _ {T : Type 0} (saw : T → List ℕ → Type 0) (ids initial : List Id) (nodes more : List ReplayNode) (messages sent : List SentMessage) (tally later : T) (none text : List ℕ) (done : List Line) (line : Line) where
+  pub one_more : none ≡ [] → Tallied saw ids initial nodes messages tally done → WritesLine ids initial nodes more messages sent none text line → Adds saw tally later text → Tallied saw ids initial more sent later (done ++ line ∷ [])
   one_more empty m writes adds =
       let w : World = replayed_from initial fresh_world done in
       let step = (subst (λ (x : List ℕ). WritesLine ids initial nodes more messages sent x text line) empty writes) w m.stands in
       record {
         stands = subst (λ (v : World). Stands ids more sent v) (sym (replayed_more initial fresh_world done line)) step.stands;
         tallies = subst (λ (t : List ℕ). saw later t)
-            (ap (λ (t : List ℕ). trace_from initial fresh_world done ++ t) (is ∙ step.written) ∙ sym (trace_more initial fresh_world done line))
+            (ap (λ (t : List ℕ). trace_from initial fresh_world done ++ t) step.written ∙ sym (trace_more initial fresh_world done line))
             (adds (trace_from initial fresh_world done) (trace_ends initial fresh_world done) m.tallies);
       }
 
@@ -70,8 +70,8 @@ cluster_trace_more nodes initial c (x ∷ ls) l =
     ap (λ (t : List ℕ). cluster_line nodes initial c x ++ t) (cluster_trace_more nodes initial (cluster_after nodes initial c x) ls l)
     ∙ sym (append_assoc (cluster_line nodes initial c x) (cluster_trace nodes initial (cluster_after nodes initial c x) ls) _)
 
-module _ {T : Type 0} (saw : T → List ℕ → Type 0) (ids initial : List Id) (nodes more : List ClusterNode) (frames sent : List Frame) (tally later : T) (none text piece : List ℕ) (done : List Line) (line : Line) (is : piece ≡ text) where
-  pub one_more_cluster : none ≡ [] → ClusterTallied saw ids initial nodes frames tally done → WritesClusterLine ids initial nodes more frames sent none text line → Adds saw tally later piece → ClusterTallied saw ids initial more sent later (done ++ line ∷ [])
+module _ {T : Type 0} (saw : T → List ℕ → Type 0) (ids initial : List Id) (nodes more : List ClusterNode) (frames sent : List Frame) (tally later : T) (none text : List ℕ) (done : List Line) (line : Line) where
+  pub one_more_cluster : none ≡ [] → ClusterTallied saw ids initial nodes frames tally done → WritesClusterLine ids initial nodes more frames sent none text line → Adds saw tally later text → ClusterTallied saw ids initial more sent later (done ++ line ∷ [])
   one_more_cluster empty m writes adds =
       let first : Cluster = fresh_cluster ids initial in
       let c : Cluster = cluster_from ids initial first done in
@@ -79,7 +79,7 @@ module _ {T : Type 0} (saw : T → List ℕ → Type 0) (ids initial : List Id) 
       record {
         stands = subst (λ (d : Cluster). ClusterFor ids initial more sent d) (sym (cluster_more ids initial first done line)) step.stands;
         tallies = subst (λ (t : List ℕ). saw later t)
-            (ap (λ (t : List ℕ). cluster_trace ids initial first done ++ t) (is ∙ step.written) ∙ sym (cluster_trace_more ids initial first done line))
+            (ap (λ (t : List ℕ). cluster_trace ids initial first done ++ t) step.written ∙ sym (cluster_trace_more ids initial first done line))
             (adds (cluster_trace ids initial first done) (cluster_trace_ends ids initial first done) m.tallies);
       }
 

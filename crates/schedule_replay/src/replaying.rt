@@ -1,5 +1,5 @@
 //! `replay`: a schedule of either level replayed line by line, and its trace written in pieces.
-ghost use Rattle.std.specs.Prelude.{◌≡◌, ◌≤◌, [], IfOk, OnOk};
+ghost use Rattle.std.specs.Prelude.{◌≡◌, ◌≤◌, ◌++◌, ℕ, List, [], IfOk, OnOk};
 ghost use Rattle.std.specs.List.{AllByRecursion};
 ghost use Rattle.zen_disk.specs.Faults.{Rose};
 ghost use Rattle.zen_link.specs.Streams.{AppendedFront};
@@ -9,6 +9,7 @@ ghost use Rattle.schedule_replay.specs.SoFar.{Holds};
 ghost use Rattle.schedule_replay.specs.Levels.{trace_at};
 ghost use Rattle.schedule_replay.specs.Written.{WritesTrace};
 ghost use Rattle.trace_summary.specs.Summaries.{summary_of};
+ghost use Rattle.trace_summary.specs.Tallies.{EndsLine};
 
 use crate::cluster::replayer::ClusterReplayer;
 use crate::observing::{Nobody, Observer};
@@ -60,6 +61,24 @@ fn out_of_memory<S: Sink>(out: &mut S, held: &Text) -> ReplayError
     }
 }
 
+// Shows the observer a line's part of the trace, and adds it to what is held back.
+fn pass_on<T: Observer, S: Sink>(
+    observer: &mut T,
+    out: &mut S,
+    held: &mut Text,
+    piece: &Text,
+) -> Result<(), ReplayError>
+    ensures holds { Holds (S.written out.old) (S.written out.new) held.old held.new piece.now result }
+    ensures observed { OnOk result ((text : List ℕ) → EndsLine text → T.saw observer.old text → T.saw observer.new (text ++ piece.now)) }
+    ensures later { S.faults out.old ≤ S.faults out.new }
+    ensures fault { result ≡ Err ReplayError.Write → Rose (S.faults out.old) (S.faults out.new) }
+{
+    let Ok(()) = observer.observe(piece.as_bytes()) else {
+        return Err(out_of_memory(out, held));
+    };
+    hold(out, held, piece)
+}
+
 // A schedule of level core: the nodes do single acts.
 fn replay_core<T: Observer, S: Sink>(
     alloc: Global,
@@ -84,11 +103,7 @@ fn replay_core<T: Observer, S: Sink>(
         let Ok(()) = replayer.line(alloc, schedule, line, &mut text) else {
             return Err(out_of_memory(out, &held));
         };
-        let piece = text.as_bytes();
-        let Ok(()) = observer.observe(piece) else {
-            return Err(out_of_memory(out, &held));
-        };
-        hold(out, &mut held, &text)?;
+        pass_on(observer, out, &mut held, &text)?;
     }
     let Ok(()) = write_all(out, held.as_bytes()) else {
         return Err(ReplayError::Write);
@@ -120,11 +135,7 @@ fn replay_nodes<T: Observer, S: Sink>(
         let Ok(()) = replayer.line(alloc, line, &mut text) else {
             return Err(out_of_memory(out, &held));
         };
-        let piece = text.as_bytes();
-        let Ok(()) = observer.observe(piece) else {
-            return Err(out_of_memory(out, &held));
-        };
-        hold(out, &mut held, &text)?;
+        pass_on(observer, out, &mut held, &text)?;
     }
     let Ok(()) = write_all(out, held.as_bytes()) else {
         return Err(ReplayError::Write);

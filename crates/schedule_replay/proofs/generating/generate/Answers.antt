@@ -8,7 +8,7 @@ use Rattle.schedule_replay.specs.Replayed.{replayed_from}
 use Rattle.schedule_replay.specs.Tallied.{Tallied}
 use Rattle.schedule_replay.specs.Trace.{trace}
 use Rattle.schedule_replay.proofs.DrawnLines.{few_held, held_is, line_fits, lines_to, more_lines, summed_up}
-use Rattle.schedule_replay.proofs.Tallying.{one_more}
+use Rattle.schedule_replay.proofs.Tallying.{Adds, one_more}
 use Rattle.schedule_replay.proofs.generating.generate.Goals as goal
 
 pub line-requires-in-steps-clause-fits : goal.line-requires-in-steps-clause-fits
@@ -28,7 +28,8 @@ steps-preserved c =
       c.line.ensures.rest c.args.number c.steps.counter c.steps.invariant.0,
       subst (λ (done : List Line). Tallied Tallies c.empty_schedule-header.result.nodes c.empty_schedule-header.result.initial c.line-in-steps.new.self.nodes.items c.line-in-steps.new.self.sent.items c.add.new.self done)
           (sym (more_lines c.args.number c.steps.counter (length c.as_slice.result.now) c.in_ok-drawn.drawn (c.in_ok-drawn.ensures.line c.args.number c.steps.counter c.steps.invariant.0) held))
-          (one_more Tallies c.empty_schedule-header.result.nodes c.empty_schedule-header.result.initial _ _ _ _ _ _ _ c.line-in-steps.new.text c.as_bytes-piece.result.now _ c.in_ok-drawn.drawn c.as_bytes-piece.ensures c.clear.ensures c.steps.invariant.1 c.in_ok-line.ensures.done c.in_ok-add.ensures),
+          (one_more Tallies c.empty_schedule-header.result.nodes c.empty_schedule-header.result.initial _ _ _ _ _ _ _ c.line-in-steps.new.text _ c.in_ok-drawn.drawn c.clear.ensures c.steps.invariant.1 c.in_ok-line.ensures.done
+          (subst (λ (piece : List ℕ). Adds Tallies c.steps.tally c.add.new.self piece) c.as_bytes-piece.ensures c.in_ok-add.ensures)),
     )
 
 pub returns : goal.returns

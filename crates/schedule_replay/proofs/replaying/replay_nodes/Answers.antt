@@ -10,27 +10,23 @@ pub returns-in_default-line-clause-written : goal.returns-in_default-line-clause
 returns-in_default-line-clause-written g c =
     stops c.loop-line.replayer.ids c.loop-line.replayer.initial _ _ _ (g.S.Sink.written c.loop-line.out) _ c.loop-line.held c.loop-line.held _ _ (λ i. c.loop-line.held) c.loop-line.invariant.3 c.out_of_memory.ensures.written
 
-pub returns-in_err-hold-clause-written : goal.returns-in_err-hold-clause-written
-returns-in_err-hold-clause-written g c =
+pub returns-in_err-pass_on-clause-written : goal.returns-in_err-pass_on-clause-written
+returns-in_err-pass_on-clause-written g c =
     front_at_err c.from_residual.result _ _ _ c.from_residual.ensures.0
-    (fails c.loop-line.replayer.ids c.loop-line.replayer.initial _ _ _ _ _ (g.S.Sink.written c.loop-line.out) _ c.loop-line.held c.hold.new.held c.clear.new.self c.line.new.text c.as_slice-lines.result.now c.loop-line.line-index c.line-item.result _ c.loop-line-test.true c.line-item.is c.clear.ensures c.loop-line.invariant.3 c.in-Ok-line.ensures.done c.in_err-hold.ensures.holds)
+    (fails c.loop-line.replayer.ids c.loop-line.replayer.initial _ _ _ _ _ (g.S.Sink.written c.loop-line.out) _ c.loop-line.held c.pass_on.new.held c.clear.new.self c.line.new.text c.as_slice-lines.result.now c.loop-line.line-index c.line-item.result _ c.loop-line-test.true c.line-item.is c.clear.ensures c.loop-line.invariant.3 c.in-Ok-line.ensures.done c.in_err-pass_on.ensures.holds)
 
 pub loop-line-preserved : goal.loop-line-preserved
 loop-line-preserved g c = (
   c.line.ensures.ids ∙ c.loop-line.invariant.0,
   c.line.ensures.initial ∙ c.loop-line.invariant.1,
-  omega (arith, c.loop-line.invariant.2, c.hold.ensures.later),
+  omega (arith, c.loop-line.invariant.2, c.pass_on.ensures.later),
   same_ids _ _ _ _ _ _ _ _ _ _ _ c.line.ensures.ids c.line.ensures.initial
-      (goes_on c.loop-line.replayer.ids c.loop-line.replayer.initial _ _ _ _ _ (g.S.Sink.written c.loop-line.out) _ c.loop-line.held c.hold.new.held c.clear.new.self c.line.new.text c.as_slice-lines.result.now c.loop-line.line-index c.line-item.result _ c.loop-line-test.true c.line-item.is c.clear.ensures c.loop-line.invariant.3 c.in-Ok-line.ensures.done c.in_ok-hold.ensures.holds),
+      (goes_on c.loop-line.replayer.ids c.loop-line.replayer.initial _ _ _ _ _ (g.S.Sink.written c.loop-line.out) _ c.loop-line.held c.pass_on.new.held c.clear.new.self c.line.new.text c.as_slice-lines.result.now c.loop-line.line-index c.line-item.result _ c.loop-line-test.true c.line-item.is c.clear.ensures c.loop-line.invariant.3 c.in-Ok-line.ensures.done c.in_ok-pass_on.ensures.holds),
   λ first. same_cluster_header g.T.Observer.saw _ _ _ _ _ _ _ _ c.line.ensures.ids c.line.ensures.initial
-      (subst (λ (done : List Line). ClusterTallied g.T.Observer.saw c.loop-line.replayer.ids c.loop-line.replayer.initial c.line.new.self.nodes.items c.line.new.self.frames.items c.observe.new.self done)
+      (subst (λ (done : List Line). ClusterTallied g.T.Observer.saw c.loop-line.replayer.ids c.loop-line.replayer.initial c.line.new.self.nodes.items c.line.new.self.frames.items c.pass_on.new.observer done)
       (sym (taken_more c.as_slice-lines.result.now c.loop-line.line-index c.line-item.result c.loop-line-test.true c.line-item.is))
-      (one_more_cluster g.T.Observer.saw c.loop-line.replayer.ids c.loop-line.replayer.initial _ _ _ _ _ _ _ c.line.new.text c.as_bytes-piece.result.now _ c.line-item.result c.as_bytes-piece.ensures c.clear.ensures (c.loop-line.invariant.4 first) c.in-Ok-line.ensures.done c.in-Ok-observe.ensures)),
+      (one_more_cluster g.T.Observer.saw c.loop-line.replayer.ids c.loop-line.replayer.initial _ _ _ _ _ _ _ c.line.new.text _ c.line-item.result c.clear.ensures (c.loop-line.invariant.4 first) c.in-Ok-line.ensures.done c.in_ok-pass_on.ensures.observed)),
 )
-
-pub returns-in_default-observe-clause-written : goal.returns-in_default-observe-clause-written
-returns-in_default-observe-clause-written g c =
-    stops c.loop-line.replayer.ids c.loop-line.replayer.initial _ _ _ (g.S.Sink.written c.loop-line.out) _ c.loop-line.held c.loop-line.held _ _ (λ i. c.loop-line.held) c.loop-line.invariant.3 c.out_of_memory-in_default-observe.ensures.written
 
 pub returns-clause-observed : goal.returns-clause-observed
 returns-clause-observed g c = λ first.
