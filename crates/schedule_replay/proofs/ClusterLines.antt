@@ -1,8 +1,6 @@
 -- A line that is done.
-use Rattle.std.proofs.Common.{◌≡◌, ◌≤◌, ◌-◌, ◌∷◌, ℕ, zero, suc, arith, Bool, true, false, not, Option, None, Some, Result, Ok, Err, List, [], ◌++◌, append_assoc, codes, length, slice_get, take, drop, refl, sym, ◌∙◌, ap, subst, if◌then◌else◌}
+use Rattle.std.proofs.Common.{◌≡◌, ◌≤◌, ◌-◌, ◌∷◌, ℕ, zero, suc, arith, Bool, true, false, not, Option, None, Some, List, [], ◌++◌, append_assoc, codes, length, slice_get, slice_set, get_or, take, drop, refl, sym, ◌∙◌, ap, subst, if◌then◌else◌}
 use Rattle.std.specs.List.{AllByRecursion}
-use Rattle.std.specs.Prelude.{OnOk}
-use Rattle.std.proofs.lemmas.List.{take_at}
 use Rattle.voting_config.specs.Ids.{Id, same}
 use Rattle.wire_frames.specs.declared.frame.Frame.{Frame}
 use Rattle.wire_frames.specs.Frames.{IsFitFrame}
@@ -13,12 +11,13 @@ use Rattle.replay_node.specs.Clusters.{Cluster, after, after_event_if_up, after_
 use Rattle.replay_node.specs.NodeWorld.{needs_opening}
 use Rattle.policy_model.specs.declared.settings.Settings.{Settings}
 use Rattle.policy_model.specs.declared.events.Event.TheVariants.{Frame as FrameCame}
-use Rattle.schedule_replay.specs.ClusterStands.{AllFor, ClusterFor, DoesLine, LineDone, NodesDo, WritesLine}
+use Rattle.schedule_replay.specs.ClusterStands.{AllFor, ClusterFor, DoesLine, LineDone, WritesLine}
 use Rattle.schedule_replay.specs.Own.{Own, own_in}
+use Rattle.schedule_replay.specs.OwnStands.{NodeFor, OwnDone}
 use Rattle.schedule_replay.specs.ClusterTrace.{event_shown, event_shown_if_up, frame_shown, line_shown}
 use Rattle.schedule_replay.specs.declared.cluster.node.ClusterNode.{ClusterNode}
 use Rattle.schedule_replay.proofs.Going.{GoesAs}
-use Rattle.schedule_replay.proofs.ClusterMovement.{as_many}
+use Rattle.schedule_replay.proofs.ClusterMovement.{Looked, after_here, here, returned}
 
 all-append : {A : Type 0} (P : A → Type 0) (xs ys : List A) → AllByRecursion P xs → AllByRecursion P ys → AllByRecursion P (xs ++ ys)
 all-append P [] ys h k = k
@@ -34,50 +33,32 @@ past [] k within = refl
 past (x ∷ xs) zero within = absurd (omega arith)
 past (x ∷ xs) (suc k) within = past xs k (omega arith)
 
--- what the nodes did is what the line makes of the cluster
-pub does_line : (nodes initial : List Id) (n : Id) (old new : List ClusterNode) (frames more : List Frame) (was now : List ℕ) (after_it : Settings → Own → Own) (sent : Settings → Own → List Frame) (results : Settings → ℕ → Own → List ℕ)
-    (later : Cluster → Cluster) (shown : Cluster → List ℕ)
-    → NodesDo nodes initial n old new frames more was now after_it sent results
-    → ((c : Cluster) → GoesAs n c (later c) (after_it (settings_of nodes initial n) (own_in c n)) (sent (settings_of nodes initial n) (own_in c n)) (shown c) (results (settings_of nodes initial n) (length c.frames) (own_in c n)))
-    → DoesLine nodes initial old new frames more was now later shown
-does_line nodes initial n old new frames more was now after_it sent results later shown does goes c s =
-    let line = goes c in
-    let done = does c s.stand (later c) line.goes in
-    let count : results (settings_of nodes initial n) (length frames) (own_in c n) ≡ shown c = ap (λ (fs : List Frame). results (settings_of nodes initial n) (length fs) (own_in c n)) s.frames_sent ∙ line.shows in
-    record {
-      stands = record {
-        stand = done.stand;
-        frames_sent = done.sent_is ∙ ap (λ (fs : List Frame). fs ++ sent (settings_of nodes initial n) (own_in c n)) s.frames_sent ∙ line.frames;
-        fit = subst (λ (fs : List Frame). AllByRecursion IsFitFrame fs) (sym done.sent_is) (all-append IsFitFrame frames (sent (settings_of nodes initial n) (own_in c n)) s.fit done.fit);
-        ascending = s.ascending;
-      };
-      written = done.written ∙ ap (λ (t : List ℕ). was ++ t) count;
-    }
+-- what the node did is what the line makes of the cluster
+module _ (ids initial l : List Id) (items lent : List ClusterNode) (frames : List Frame) (n : Id) (place len : ℕ) (looked : Looked ids initial l items lent frames n place len) (x d : ClusterNode) where
+  abbrev s : Settings
+  s = settings_of ids initial n
 
--- what a vector holds after a write of its elements as a slice
-refilled : (new old : List ClusterNode) (len : ℕ) → length new ≡ length old → length old ≡ len → take len (new ++ drop (length new) old) ≡ new
-refilled new old len same_length is = rw (← is, ← same_length) (take_at new (drop (length new) old) (length new) refl)
-
--- the same of a vector that was lent as a slice
-returned : (items lent new final : List ClusterNode) (len : ℕ) → lent ≡ items → length new ≡ length lent → length lent ≡ len → final ≡ take len (new ++ drop (length new) items) → final ≡ new
-returned items lent new final len is same_length long final_is =
-    final_is ∙ refilled new items len (same_length ∙ ap (λ (x : List ClusterNode). length x) is) (sym (ap (λ (x : List ClusterNode). length x) is) ∙ long)
-
-pub lent_line : (nodes initial : List Id) (n : Id) (items lent new final : List ClusterNode) (len : ℕ) (frames more : List Frame) (was now : List ℕ) (after_it : Settings → Own → Own) (sent : Settings → Own → List Frame) (results : Settings → ℕ → Own → List ℕ)
-    (later : Cluster → Cluster) (shown : Cluster → List ℕ)
-    → lent ≡ items → length new ≡ length lent → length lent ≡ len → final ≡ take len (new ++ drop (length new) items)
-    → NodesDo nodes initial n lent new frames more was now after_it sent results
-    → ((c : Cluster) → GoesAs n c (later c) (after_it (settings_of nodes initial n) (own_in c n)) (sent (settings_of nodes initial n) (own_in c n)) (shown c) (results (settings_of nodes initial n) (length c.frames) (own_in c n)))
-    → DoesLine nodes initial items final frames more was now later shown
-lent_line nodes initial n items lent new final len frames more was now after_it sent results later shown is same_length long final_is does goes =
-    subst (λ (x : List ClusterNode). DoesLine nodes initial items x frames more was now later shown) (sym (returned items lent new final len is same_length long final_is))
-    (does_line nodes initial n items new frames more was now after_it sent results later shown (subst (λ (x : List ClusterNode). NodesDo nodes initial n x new frames more was now after_it sent results) is does) goes)
-
-pub many_lent : (nodes initial : List Id) (items lent : List ClusterNode) (c : Cluster) → lent ≡ items → AllFor nodes initial nodes items c → length lent ≡ length nodes
-many_lent nodes initial items lent c is s = ap (λ (x : List ClusterNode). length x) is ∙ as_many nodes initial nodes items c s
-
-pub stand_lent : (nodes initial : List Id) (items lent : List ClusterNode) (c : Cluster) → lent ≡ items → AllFor nodes initial nodes items c → AllFor nodes initial nodes lent c
-stand_lent nodes initial items lent c is s = subst (λ (x : List ClusterNode). AllFor nodes initial nodes x c) (sym is) s
+  pub moved : (more : List Frame) (was now : List ℕ) (after_it : Own → Own) (sent : Own → List Frame) (results : ℕ → Own → List ℕ) (later : Cluster → Cluster) (shown : Cluster → List ℕ)
+      → ((c : Cluster) → GoesAs n c (later c) (after_it (own_in c n)) (sent (own_in c n)) (shown c) (results (length c.frames) (own_in c n)))
+      → ((own : Own) → NodeFor s (get_or lent place x) own false → OwnDone s d (after_it own) frames more (sent own) was now (results (length frames) own))
+      → DoesLine ids initial items (take len (slice_set lent place d ++ drop (length (slice_set lent place d)) items)) frames more was now later shown
+  moved more was now after_it sent results later shown goes does =
+      subst (λ (new : List ClusterNode). DoesLine ids initial items new frames more was now later shown) (sym (returned ids initial l items lent frames n place len looked d)) by
+    where
+      by : DoesLine ids initial items (slice_set items place d) frames more was now later shown
+      by c stands =
+          let line = goes c in
+          let done = does (own_in c n) (here ids initial l items lent frames n place len looked x c stands.stand) in
+          let count : results (length frames) (own_in c n) ≡ shown c = ap (λ (fs : List Frame). results (length fs) (own_in c n)) stands.frames_sent ∙ line.shows in
+          record {
+            stands = record {
+              stand = after_here ids initial l items lent frames n place len looked d c (after_it (own_in c n)) (later c) line.goes done.stands stands.stand;
+              frames_sent = done.sent_is ∙ ap (λ (fs : List Frame). fs ++ sent (own_in c n)) stands.frames_sent ∙ line.frames;
+              fit = subst (λ (fs : List Frame). AllByRecursion IsFitFrame fs) (sym done.sent_is) (all-append IsFitFrame frames (sent (own_in c n)) stands.fit done.fit);
+              ascending = stands.ascending;
+            };
+            written = done.written ∙ ap (λ (t : List ℕ). was ++ t) count;
+          }
 
 -- ---- deliveries
 
@@ -147,10 +128,6 @@ module _ (nodes initial : List Id) (n : Id) (all : List ClusterNode) (frames : L
         stands = subst (λ (d : Cluster). ClusterFor nodes initial new more d) there done.stands;
         written = done.written ∙ ap (λ (t : List ℕ). was ++ t) shown;
       })
-
-pub on_ok : {T E : Type 0} (r : Result T E) (P Q : Type 0) → (P → Q) → OnOk r P → OnOk r Q
-on_ok (Ok x) P Q f h = f h
-on_ok (Err e) P Q f h = h
 
 -- the echo of a line, and then its results, are its part of the trace
 pub writes_line : (nodes initial : List Id) (old new : List ClusterNode) (frames more : List Frame) (t0 t1 t2 t3 now : List ℕ) (l lit : Line) → l ≡ lit

@@ -1,26 +1,20 @@
 -- One node moves where its id stands, the others stay.
-use Rattle.std.proofs.Common.{◌≡◌, ℕ, zero, suc, ◌<◌, true, false, Some, List, [], ◌∷◌, length, ◌++◌, refl, sym, ◌∙◌, ap, subst, arith, slice_get, slice_set, get_or, take, ◌+◌}
+use Rattle.std.proofs.Common.{◌≡◌, ℕ, zero, suc, ◌<◌, Bool, true, false, not, Some, List, [], ◌∷◌, length, ◌++◌, refl, sym, ◌∙◌, ap, subst, arith, slice_get, slice_set, get_or, take, drop, ◌+◌}
 use Rattle.std.proofs.lemmas.Option.{slice_get-get_or, slice_get_within}
 use Rattle.std.proofs.lemmas.Bool.{and_parts}
-use Rattle.std.proofs.lemmas.List.{take_more}
-use Rattle.std.specs.Cmp.Lexicographic.{nat_list_eq_equiv}
-use Rattle.voting_config.specs.Ids.{Id, ascends, is_below, before, same}
+use Rattle.std.proofs.lemmas.List.{length-set, take_more}
+use Rattle.voting_config.specs.Ids.{Id, ascends, is_below}
 use Rattle.voting_config.proofs.Sorted.{before-not_same}
 use Rattle.wire_frames.specs.declared.frame.Frame.{Frame}
 use Rattle.replay_node.specs.Clusters.{Cluster, settings_of}
+use Rattle.replay_node.specs.NodeWorld.{needs_opening}
+use Rattle.replay_node.specs.Worlds.{node_world}
 use Rattle.policy_model.specs.declared.settings.Settings.{Settings}
-use Rattle.schedule_replay.specs.ClusterStands.{AllFor, GoesOn, NodesDo}
-use Rattle.schedule_replay.specs.OwnStands.{NodeFor, OwnDoes, OwnDone}
+use Rattle.schedule_replay.specs.ClusterStands.{AllFor, ClusterFor, GoesOn}
+use Rattle.schedule_replay.specs.OwnStands.{NodeFor}
 use Rattle.schedule_replay.specs.Own.{Own, own_in}
 use Rattle.schedule_replay.specs.declared.cluster.node.ClusterNode.{ClusterNode}
-
-other_flip : (x y : Id) → same x y ≡ false → same y x ≡ false
-other_flip x y h = nat_list_eq_equiv.symm y x ∙ h
-
-below_at : (i : Id) (is : List Id) (place : ℕ) (n : Id) → is_below i is ≡ true → slice_get is place ≡ Some n → before i n ≡ true
-below_at i [] place n e g = absurd (cc)
-below_at i (x ∷ xs) zero n e g = let parts = and_parts (before i x) (is_below i xs) e in let same_x : x ≡ n = cc in subst (λ (y : Id). before i y ≡ true) same_x parts.0
-below_at i (x ∷ xs) (suc k) n e g = let parts = and_parts _ _ e in below_at i xs k n parts.1 g
+use Rattle.schedule_replay.proofs.Movement.{below_at, other_flip, refilled}
 
 -- there are as many nodes as ids
 pub as_many : (nodes initial ids : List Id) (xs : List ClusterNode) (c : Cluster) → AllFor nodes initial ids xs c → length xs ≡ length ids
@@ -65,45 +59,43 @@ node_at nodes initial (i ∷ is) (y ∷ ys) c n zero x g e s =
     subst (λ (z : ClusterNode). NodeFor (settings_of nodes initial n) z (own_in c n) false) here (subst (λ (j : Id). NodeFor (settings_of nodes initial j) y (own_in c j) false) id_here s.0)
 node_at nodes initial (i ∷ is) (y ∷ ys) c n (suc k) x g e s = node_at nodes initial is ys c n k x g e s.1
 
--- ---- in the words of a function that looks the place up
+-- ---- the same in the words of a method, which looks the place up in the nodes that a vector lends it
 
-pub record Looked (ids l : List Id) (old : List ClusterNode) (n : Id) (place : ℕ) : Type 0 where
+pub record Looked (ids initial l : List Id) (items lent : List ClusterNode) (frames : List Frame) (n : Id) (place len : ℕ) : Type 0 where
   pub is : l ≡ ids
-  pub ascending : ascends ids ≡ true
   pub found : slice_get l place ≡ Some n
-  pub many : length old ≡ length ids
+  pub lent_is : lent ≡ items
+  pub long : length lent ≡ len
+  pub stands : (c : Cluster) × ClusterFor ids initial items frames c
 
-place_is : (ids l : List Id) (old : List ClusterNode) (n : Id) (place : ℕ) → Looked ids l old n place → slice_get ids place ≡ Some n
-place_is ids l old n place looked = subst (λ (x : List Id). slice_get x place ≡ Some n) looked.is looked.found
+module _ (ids initial l : List Id) (items lent : List ClusterNode) (frames : List Frame) (n : Id) (place len : ℕ) (looked : Looked ids initial l items lent frames n place len) where
+  place_is : slice_get ids place ≡ Some n
+  place_is = subst (λ (x : List Id). slice_get x place ≡ Some n) looked.is looked.found
 
-pub place_inside : (ids l : List Id) (old : List ClusterNode) (n : Id) (place : ℕ) → Looked ids l old n place → place < length old
-place_inside ids l old n place looked =
-    let inside : place < length ids = slice_get_within _ _ _ (place_is ids l old n place looked) in
-    let many = looked.many in
-    omega arith
+  pub place_inside : place < length lent
+  place_inside =
+      let inside : place < length ids = slice_get_within _ _ _ place_is in
+      let many : length lent ≡ length ids = ap (λ (x : List ClusterNode). length x) looked.lent_is ∙ as_many ids initial ids items looked.stands.0 looked.stands.1.stand in
+      omega (arith, inside)
 
-module _ (ids l : List Id) (old : List ClusterNode) (n : Id) (place : ℕ) (x : ClusterNode) (looked : Looked ids l old n place) (initial : List Id) where
-  -- it stands there
-  pub here : (c : Cluster) → AllFor ids initial ids old c → NodeFor (settings_of ids initial n) (get_or old place x) (own_in c n) false
-  here c s = node_at ids initial ids old c n place (get_or old place x) (place_is ids l old n place looked) (slice_get-get_or old place x (place_inside ids l old n place looked)) s
+  -- what the vector holds after the loan
+  pub returned : (d : ClusterNode) → take len (slice_set lent place d ++ drop (length (slice_set lent place d)) items) ≡ slice_set items place d
+  returned d =
+      let long : length items ≡ len = subst (λ (x : List ClusterNode). length x ≡ len) looked.lent_is looked.long in
+      subst (λ (x : List ClusterNode). take len (slice_set x place d ++ drop (length (slice_set x place d)) items) ≡ slice_set items place d) (sym looked.lent_is)
+      (refilled (slice_set items place d) items len (length-set items place d) long)
 
-  -- what was done of the node there is done of the nodes
-  pub done_here : (d : ClusterNode) (frames frames_now : List Frame) (was now : List ℕ) (after_it : Settings → Own → Own) (sent : Settings → Own → List Frame) (results : Settings → ℕ → Own → List ℕ)
-      → ((own : Own) → NodeFor (settings_of ids initial n) (get_or old place x) own false
-      → OwnDone (settings_of ids initial n) d (after_it (settings_of ids initial n) own) frames frames_now (sent (settings_of ids initial n) own) was now (results (settings_of ids initial n) (length frames) own))
-      → NodesDo ids initial n old (slice_set old place d) frames frames_now was now after_it sent results
-  done_here d frames frames_now was now after_it sent results does c s later goes =
-      let done = does (own_in c n) (here c s) in
-      record {
-        stand = all_after ids initial n c (after_it (settings_of ids initial n) (own_in c n)) later goes ids old place d looked.ascending (place_is ids l old n place looked) done.stands s;
-        sent_is = done.sent_is;
-        written = done.written;
-        fit = done.fit;
-      }
+  -- the node stands there
+  pub here : (x : ClusterNode) (c : Cluster) → AllFor ids initial ids items c → NodeFor (settings_of ids initial n) (get_or lent place x) (own_in c n) false
+  here x c s = node_at ids initial ids lent c n place (get_or lent place x) place_is (slice_get-get_or lent place x place_inside) (subst (λ (y : List ClusterNode). AllFor ids initial ids y c) (sym looked.lent_is) s)
 
-  pub does_here : (d : ClusterNode) (frames frames_now : List Frame) (was now : List ℕ) (after_it : Settings → Own → Own) (sent : Settings → Own → List Frame) (results : Settings → ℕ → Own → List ℕ)
-      → OwnDoes (get_or old place x) d false frames frames_now was now after_it sent results → NodesDo ids initial n old (slice_set old place d) frames frames_now was now after_it sent results
-  does_here d frames frames_now was now after_it sent results does = done_here d frames frames_now was now after_it sent results (λ own stands. does (settings_of ids initial n) own stands)
+  -- and tells whether it runs
+  pub runs_here : (x : ClusterNode) (runs : Bool) → x ≡ get_or lent place x → ((s : Settings) (own : Own) → NodeFor s x own false → runs ≡ not (needs_opening own.node)) → (c : Cluster) → AllFor ids initial ids items c → runs ≡ not (needs_opening (node_world c.world n))
+  runs_here x runs is told c s = told (settings_of ids initial n) (own_in c n) (subst (λ (y : ClusterNode). NodeFor (settings_of ids initial n) y (own_in c n) false) (sym is) (here x c s))
+
+  -- where it has moved, all stand
+  pub after_here : (d : ClusterNode) (c : Cluster) (own : Own) (later : Cluster) → GoesOn n c own later → NodeFor (settings_of ids initial n) d own false → AllFor ids initial ids items c → AllFor ids initial ids (slice_set items place d) later
+  after_here d c own later goes stands s = all_after ids initial n c own later goes ids items place d looked.stands.1.ascending place_is stands s
 
 -- ---- new nodes
 

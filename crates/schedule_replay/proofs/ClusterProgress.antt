@@ -63,9 +63,3 @@ module _ (ids initial : List Id) (nodes : List ClusterNode) (frames : List Frame
       ∙ m.whole
       in
       subst (λ (t : List ℕ). Appended was later t) whole (appended_more was now later m.front bytes m.written h)
-
--- a line leaves the ids as they are
-pub same_ids : (ids initial new_ids new_initial : List Id) (nodes : List ClusterNode) (frames : List Frame) (was now : Option (List ℕ)) (held : List ℕ) (left : List Line) (all : List ℕ) → new_ids ≡ ids → new_initial ≡ initial → ClusterSoFar ids initial nodes frames was now held left all → ClusterSoFar new_ids new_initial nodes frames was now held left all
-same_ids ids initial new_ids new_initial nodes frames was now held left all e f m =
-    subst (λ (x : List Id). ClusterSoFar x new_initial nodes frames was now held left all) (sym e)
-    (subst (λ (x : List Id). ClusterSoFar ids x nodes frames was now held left all) (sym f) m)

@@ -107,9 +107,9 @@ source_at ids (x ∷ xs) (suc k) m l e =
     let parts = and_parts (has (source_of x) ids) (are_from ids xs) l in
     source_at ids xs k m parts.1 e
 
--- the message at a place of the ones that are lent
-pub lent_at : (messages lent : List SentMessage) (place : ℕ) (m : SentMessage) → lent ≡ messages → place < length lent → m ≡ get_or lent place m → slice_get messages place ≡ Some m
-lent_at messages lent place m is within at = subst (λ (x : List SentMessage). slice_get x place ≡ Some m) is (slice_get_read lent (length lent) place m refl within at)
+-- what stands at a place of a list that is lent
+pub lent_at : {A : Type 0} (items lent : List A) (place : ℕ) (x : A) → lent ≡ items → place < length lent → x ≡ get_or lent place x → slice_get items place ≡ Some x
+lent_at {A} items lent place x is within at = subst (λ (xs : List A). slice_get xs place ≡ Some x) is (slice_get_read lent (length lent) place x refl within at)
 
 -- a message that was sent is from a node of the schedule
 pub delivered_source : (ids : List Id) (nodes : List ReplayNode) (messages : List SentMessage) (w : World) (place : ℕ) (m : SentMessage) → Stands ids nodes messages w → slice_get messages place ≡ Some m → has (source_of (message_of m)) ids ≡ true

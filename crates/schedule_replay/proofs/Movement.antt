@@ -19,7 +19,7 @@ use Rattle.schedule_replay.specs.WorldStands.{ActDone, AllStand, Stands}
 use Rattle.schedule_replay.proofs.Fresh.{as_many}
 use Rattle.trace_text.specs.Trace.{act_text}
 
-other_flip : (x y : Id) → same x y ≡ false → same y x ≡ false
+pub other_flip : (x y : Id) → same x y ≡ false → same y x ≡ false
 other_flip x y h = nat_list_eq_equiv.symm y x ∙ h
 
 -- the nodes with an id above n stay
@@ -32,7 +32,7 @@ all_stay (i ∷ is) (c ∷ cs) n w x v moves e s =
     (s.0, subst (λ (y : NodeWorld). NodeStands c y) (sym (moves.others i (before-not_same i n parts.0))) s.1, all_stay is cs n w x v moves parts.1 s.2)
 
 -- an id that stands at a place is above all ids that the first is above
-below_at : (i : Id) (is : List Id) (place : ℕ) (n : Id) → is_below i is ≡ true → slice_get is place ≡ Some n → before i n ≡ true
+pub below_at : (i : Id) (is : List Id) (place : ℕ) (n : Id) → is_below i is ≡ true → slice_get is place ≡ Some n → before i n ≡ true
 below_at i [] place n e g = absurd (cc)
 below_at i (x ∷ xs) zero n e g = let parts = and_parts (before i x) (is_below i xs) e in let same_x : x ≡ n = cc in subst (λ (y : Id). before i y ≡ true) same_x parts.0
 below_at i (x ∷ xs) (suc k) n e g = let parts = and_parts _ _ e in below_at i xs k n parts.1 g
@@ -73,7 +73,7 @@ pub record Looked (ids l : List Id) (items lent : List ReplayNode) (messages : L
   pub stands : (w : World) × Stands ids items messages w
 
 -- what a vector holds after a write of its elements as a slice
-refilled : (new old : List ReplayNode) (len : ℕ) → length new ≡ length old → length old ≡ len → take len (new ++ drop (length new) old) ≡ new
+pub refilled : {A : Type 0} (new old : List A) (len : ℕ) → length new ≡ length old → length old ≡ len → take len (new ++ drop (length new) old) ≡ new
 refilled new old len same_length is = rw (← is, ← same_length) (take_at new (drop (length new) old) (length new) refl)
 
 module _ (ids l : List Id) (items lent : List ReplayNode) (messages : List SentMessage) (n : Id) (place len : ℕ) (looked : Looked ids l items lent messages n place len) where

@@ -83,14 +83,6 @@ module _ {T : Type 0} (saw : T → List ℕ → Type 0) (ids initial : List Id) 
             (adds (cluster_trace ids initial first done) (cluster_trace_ends ids initial first done) m.tallies);
       }
 
-pub same_cluster_header : {T : Type 0} (saw : T → List ℕ → Type 0) (ids initial new_ids new_initial : List Id) (nodes : List ClusterNode) (frames : List Frame) (tally : T) (done : List Line) → new_ids ≡ ids → new_initial ≡ initial → ClusterTallied saw ids initial nodes frames tally done → ClusterTallied saw new_ids new_initial nodes frames tally done
-same_cluster_header saw ids initial new_ids new_initial nodes frames tally done e f m =
-    subst (λ (x : List Id). ClusterTallied saw x new_initial nodes frames tally done) (sym e)
-    (subst (λ (x : List Id). ClusterTallied saw ids x nodes frames tally done) (sym f) m)
-
-pub whole_cluster_tallied : {T : Type 0} (saw : T → List ℕ → Type 0) (ids initial named header : List Id) (nodes : List ClusterNode) (frames : List Frame) (tally : T) (lines all : List Line) (i : ℕ) → ids ≡ named → initial ≡ header → lines ≡ all → length lines ≤ i
-    → ClusterTallied saw ids initial nodes frames tally (take i lines) → saw tally (cluster_trace named header (fresh_cluster named header) all)
-whole_cluster_tallied saw ids initial named header nodes frames tally lines all i d e f past m =
-    subst (λ (x : List Id). saw tally (cluster_trace x header (fresh_cluster x header) all)) d
-    (subst (λ (x : List Id). saw tally (cluster_trace ids x (fresh_cluster ids x) all)) e
-    (subst (λ (ls : List Line). saw tally (cluster_trace ids initial (fresh_cluster ids initial) ls)) (all_taken lines i past ∙ f) m.tallies))
+pub whole_cluster_tallied : {T : Type 0} (saw : T → List ℕ → Type 0) (ids initial : List Id) (nodes : List ClusterNode) (frames : List Frame) (tally : T) (lines all : List Line) (i : ℕ) → lines ≡ all → length lines ≤ i
+    → ClusterTallied saw ids initial nodes frames tally (take i lines) → saw tally (cluster_trace ids initial (fresh_cluster ids initial) all)
+whole_cluster_tallied saw ids initial nodes frames tally lines all i are past m = subst (λ (ls : List Line). saw tally (cluster_trace ids initial (fresh_cluster ids initial) ls)) (all_taken lines i past ∙ are) m.tallies

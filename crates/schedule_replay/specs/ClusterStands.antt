@@ -1,12 +1,11 @@
 -- For the contracts inside: when the nodes of a replay stand for a cluster, and what a line makes of them.
-use Rattle.std.specs.Prelude.{◌≡◌, false, true, ℕ, List, [], ◌∷◌, ◌++◌, length}
+use Rattle.std.specs.Prelude.{◌≡◌, false, true, ℕ, List, [], ◌∷◌, ◌++◌}
 use Rattle.std.specs.List.{AllByRecursion}
 use Rattle.voting_config.specs.Ids.{Id, ascends, same}
 use Rattle.wire_frames.specs.declared.frame.Frame.{Frame}
 use Rattle.wire_frames.specs.Frames.{IsFitFrame}
 use Rattle.schedule_text.specs.declared.schedule.Line.{Line}
 use Rattle.replay_node.specs.Clusters.{Cluster, after, settings_of}
-use Rattle.policy_model.specs.declared.settings.Settings.{Settings}
 use Rattle.schedule_replay.specs.OwnStands.{NodeFor}
 use Rattle.schedule_replay.specs.Own.{Own, own_in}
 use Rattle.schedule_replay.specs.ClusterTrace.{trace_line}
@@ -23,19 +22,6 @@ AllFor nodes initial (i ∷ is) [] c = ⊥
 pub record GoesOn (n : Id) (c : Cluster) (own : Own) (after_it : Cluster) : Type 0 where
   pub own_is : own_in after_it n ≡ own
   pub others : (m : Id) → same n m ≡ false → own_in after_it m ≡ own_in c m
-
--- a line of one node: the nodes stand for what the line makes of them, these frames were sent, and these results were written
-pub record NodesDone (nodes initial : List Id) (new : List ClusterNode) (after_it : Cluster) (frames frames_now sent : List Frame) (was now results : List ℕ) : Type 0 where
-  pub stand : AllFor nodes initial nodes new after_it
-  pub sent_is : frames_now ≡ frames ++ sent
-  pub written : now ≡ was ++ results
-  pub fit : AllByRecursion IsFitFrame sent
-
--- whatever they stood for
-abbrev pub NodesDo : (nodes initial : List Id) → Id → (old new : List ClusterNode) → (frames frames_now : List Frame) → (was now : List ℕ) → (Settings → Own → Own) → (Settings → Own → List Frame) → (Settings → ℕ → Own → List ℕ) → Type 0
-NodesDo nodes initial n old new frames frames_now was now after_it sent results =
-    (c : Cluster) → AllFor nodes initial nodes old c → (later : Cluster) → GoesOn n c (after_it (settings_of nodes initial n) (own_in c n)) later
-    → NodesDone nodes initial new later frames frames_now (sent (settings_of nodes initial n) (own_in c n)) was now (results (settings_of nodes initial n) (length frames) (own_in c n))
 
 -- the nodes and the frames are what the schedule makes of them
 pub record ClusterFor (nodes initial : List Id) (all : List ClusterNode) (frames : List Frame) (c : Cluster) : Type 0 where

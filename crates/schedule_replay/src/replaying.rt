@@ -124,7 +124,7 @@ fn replay_nodes<T: Observer, S: Sink>(
     ensures later { S.faults out.old ≤ S.faults out.new }
     ensures fault { result ≡ Err ReplayError.Write → Rose (S.faults out.old) (S.faults out.new) }
 {
-    let Ok(mut replayer) = ClusterReplayer::new(alloc, &schedule.nodes, &schedule.initial) else {
+    let Ok(mut cluster) = ClusterReplayer::new(alloc, &schedule.nodes, &schedule.initial) else {
         return Err(ReplayError::Memory);
     };
     let mut held = Text::new(alloc);
@@ -132,7 +132,7 @@ fn replay_nodes<T: Observer, S: Sink>(
     let lines = schedule.lines.as_slice();
     for line in lines {
         text.clear();
-        let Ok(()) = replayer.line(alloc, line, &mut text) else {
+        let Ok(()) = cluster.line(alloc, schedule, line, &mut text) else {
             return Err(out_of_memory(out, &held));
         };
         pass_on(observer, out, &mut held, &text)?;

@@ -1,6 +1,6 @@
 //! `ClusterReplayer`: the nodes of a schedule of level node, and the frames that they have sent.
-ghost use Rattle.std.specs.Prelude.{◌≡◌, ◌<◌, OnOk, IfOk, ℕ, List, [], length, true, false, slice_get, Some};
-ghost use Rattle.voting_config.specs.Ids.{Id, has};
+ghost use Rattle.std.specs.Prelude.{◌≡◌, ◌<◌, OnOk, IfOk, ℕ, List, [], true, false};
+ghost use Rattle.voting_config.specs.Ids.{has};
 ghost use Rattle.schedule_text.specs.Lines.{FitsLine};
 ghost use Rattle.schedule_text.specs.declared.level.Level.TheVariants.{Node};
 ghost use Rattle.policy_model.specs.declared.events.Event.TheVariants as event;
@@ -13,10 +13,10 @@ ghost use Rattle.schedule_replay.specs.ClusterStands.{AllFor, ClusterFor, DoesLi
 ghost use Rattle.schedule_replay.specs.ClusterTrace.{event_shown_if_up, frame_shown, restart_shown};
 
 use crate::cluster::node::ClusterNode;
-use crate::cluster::nodes;
+use crate::places::place_of;
 use client_lines::Line as ClientLine;
 use policy_model::Event;
-use schedule_text::{Line, LineBytes, Text};
+use schedule_text::{Line, LineBytes, Schedule, Text};
 use std::alloc::{AllocError, Global};
 use trace_text::write_down;
 use voting_config::{NodeId, NodeSet};
@@ -26,8 +26,6 @@ use zen_disk::{Order, Way};
 /// The nodes of a schedule of level node, and the frames that they have sent.
 #[derive(Drop)]
 pub struct ClusterReplayer {
-    pub ids: NodeSet,
-    pub initial: NodeSet,
     pub nodes: Vec<ClusterNode>,
     pub frames: Vec<Frame>,
 }
@@ -39,42 +37,40 @@ impl ClusterReplayer {
         ids: &NodeSet,
         initial: &NodeSet,
     ) -> Result<ClusterReplayer, AllocError>
-        ensures ids { IfOk result (λ r. r.ids ≡ ids.now) }
-        ensures initial { IfOk result (λ r. r.initial ≡ initial.now) }
-        ensures stands { IfOk result (λ r. ClusterFor r.ids r.initial r.nodes.items r.frames.items (fresh_cluster r.ids r.initial)) }
+        ensures { IfOk result (λ r. ClusterFor ids.now initial.now r.nodes.items r.frames.items (fresh_cluster ids.now initial.now)) }
     {
-        let ids = ids.copy();
-        let initial = initial.copy();
-        let nodes = fresh_nodes(alloc, &ids, &initial)?;
+        let nodes = fresh_nodes(alloc, ids, initial)?;
         // For the proof alone: a set ascends and has 32 ids at most.
         let _ = ids.as_slice();
         Ok(ClusterReplayer {
-            ids,
-            initial,
             nodes,
             frames: Vec::new(alloc),
         })
     }
 
     /// Does a line, and writes its part of the trace at the end of `text`.
-    pub fn line(&mut self, alloc: Global, line: &Line, text: &mut Text) -> Result<(), AllocError>
-        requires fits { FitsLine Node self.old.ids line.now }
-        requires stands { (c : Cluster) × ClusterFor self.old.ids self.old.initial self.old.nodes.items self.old.frames.items c }
-        ensures ids { self.new.ids ≡ self.old.ids }
-        ensures initial { self.new.initial ≡ self.old.initial }
-        ensures done { OnOk result (WritesLine self.old.ids self.old.initial self.old.nodes.items self.new.nodes.items self.old.frames.items self.new.frames.items text.old text.new line.now) }
+    pub fn line(
+        &mut self,
+        alloc: Global,
+        schedule: &Schedule,
+        line: &Line,
+        text: &mut Text,
+    ) -> Result<(), AllocError>
+        requires fits { FitsLine Node schedule.now.nodes line.now }
+        requires stands { (c : Cluster) × ClusterFor schedule.now.nodes schedule.now.initial self.old.nodes.items self.old.frames.items c }
+        ensures done { OnOk result (WritesLine schedule.now.nodes schedule.now.initial self.old.nodes.items self.new.nodes.items self.old.frames.items self.new.frames.items text.old text.new line.now) }
     {
         text.word("> ")?;
         text.line(line)?;
         text.word("\n")?;
         match line {
-            Line::Tick(n, now, word) => self.tick(alloc, *n, *now, *word, text)?,
-            Line::Client(n, bytes) => self.client(alloc, *n, bytes, text)?,
-            Line::Deliver(n, ordinal) => self.deliver(alloc, *n, *ordinal, text)?,
-            Line::Crash(n, way) => self.crash(alloc, *n, *way, text)?,
-            Line::Restart(n) => self.restart(alloc, *n, text)?,
-            Line::Fuse(n, count, way) => self.arm(*n, Order::Stop(*count, *way)),
-            Line::Fail(n, count) => self.arm(*n, Order::Fault(*count)),
+            Line::Tick(n, now, word) => self.tick(alloc, schedule, *n, *now, *word, text)?,
+            Line::Client(n, bytes) => self.client(alloc, schedule, *n, bytes, text)?,
+            Line::Deliver(n, ordinal) => self.deliver(alloc, schedule, *n, *ordinal, text)?,
+            Line::Crash(n, way) => self.crash(alloc, schedule, *n, *way, text)?,
+            Line::Restart(n) => self.restart(alloc, schedule, *n, text)?,
+            Line::Fuse(n, count, way) => self.arm(schedule, *n, Order::Stop(*count, *way)),
+            Line::Fail(n, count) => self.arm(schedule, *n, Order::Fault(*count)),
             Line::Boot(_) | Line::StartJoin(_, _, _) | Line::Value(_, _, _, _) => unreachable!(),
         }
         Ok(())
@@ -83,80 +79,72 @@ impl ClusterReplayer {
     fn tick(
         &mut self,
         alloc: Global,
+        schedule: &Schedule,
         n: NodeId,
         now: u64,
         word: u64,
         text: &mut Text,
     ) -> Result<(), AllocError>
-        requires listed { has n self.old.ids ≡ true }
-        requires stands { (c : Cluster) × ClusterFor self.old.ids self.old.initial self.old.nodes.items self.old.frames.items c }
-        ensures ids { self.new.ids ≡ self.old.ids }
-        ensures initial { self.new.initial ≡ self.old.initial }
-        ensures done { OnOk result (DoesLine self.old.ids self.old.initial self.old.nodes.items self.new.nodes.items self.old.frames.items self.new.frames.items text.old text.new (λ c. after_event_if_up (settings_of self.old.ids self.old.initial n) c (event.Tick now word)) (λ c. event_shown_if_up (settings_of self.old.ids self.old.initial n) c (event.Tick now word))) }
+        requires listed { has n schedule.now.nodes ≡ true }
+        requires stands { (c : Cluster) × ClusterFor schedule.now.nodes schedule.now.initial self.old.nodes.items self.old.frames.items c }
+        ensures done { OnOk result (DoesLine schedule.now.nodes schedule.now.initial self.old.nodes.items self.new.nodes.items self.old.frames.items self.new.frames.items text.old text.new (λ c. after_event_if_up (settings_of schedule.now.nodes schedule.now.initial n) c (event.Tick now word)) (λ c. event_shown_if_up (settings_of schedule.now.nodes schedule.now.initial n) c (event.Tick now word))) }
     {
-        self.event(alloc, n, Event::Tick { now, word }, text)
+        self.event(alloc, schedule, n, Event::Tick { now, word }, text)
     }
 
     // A client's line has the one connection of a replay.
     fn client(
         &mut self,
         alloc: Global,
+        schedule: &Schedule,
         n: NodeId,
         bytes: &LineBytes,
         text: &mut Text,
     ) -> Result<(), AllocError>
-        requires listed { has n self.old.ids ≡ true }
-        requires stands { (c : Cluster) × ClusterFor self.old.ids self.old.initial self.old.nodes.items self.old.frames.items c }
-        ensures ids { self.new.ids ≡ self.old.ids }
-        ensures initial { self.new.initial ≡ self.old.initial }
-        ensures done { OnOk result (DoesLine self.old.ids self.old.initial self.old.nodes.items self.new.nodes.items self.old.frames.items self.new.frames.items text.old text.new (λ c. after_event_if_up (settings_of self.old.ids self.old.initial n) c (event.Client 0 bytes.now)) (λ c. event_shown_if_up (settings_of self.old.ids self.old.initial n) c (event.Client 0 bytes.now))) }
+        requires listed { has n schedule.now.nodes ≡ true }
+        requires stands { (c : Cluster) × ClusterFor schedule.now.nodes schedule.now.initial self.old.nodes.items self.old.frames.items c }
+        ensures done { OnOk result (DoesLine schedule.now.nodes schedule.now.initial self.old.nodes.items self.new.nodes.items self.old.frames.items self.new.frames.items text.old text.new (λ c. after_event_if_up (settings_of schedule.now.nodes schedule.now.initial n) c (event.Client 0 bytes.now)) (λ c. event_shown_if_up (settings_of schedule.now.nodes schedule.now.initial n) c (event.Client 0 bytes.now))) }
     {
         let line = ClientLine::of(Vec::from_slice(alloc, bytes.as_slice())?);
-        self.event(alloc, n, Event::Client { conn: 0, line }, text)
+        self.event(alloc, schedule, n, Event::Client { conn: 0, line }, text)
     }
 
     // An event other than the first comes to the node.
     fn event(
         &mut self,
         alloc: Global,
+        schedule: &Schedule,
         n: NodeId,
         event: Event,
         text: &mut Text,
     ) -> Result<(), AllocError>
-        requires listed { has n self.old.ids ≡ true }
+        requires listed { has n schedule.now.nodes ≡ true }
         requires fit { IsFitEvent event }
         requires later { is_start event ≡ false }
-        requires stands { (c : Cluster) × ClusterFor self.old.ids self.old.initial self.old.nodes.items self.old.frames.items c }
-        ensures ids { self.new.ids ≡ self.old.ids }
-        ensures initial { self.new.initial ≡ self.old.initial }
-        ensures done { OnOk result (DoesLine self.old.ids self.old.initial self.old.nodes.items self.new.nodes.items self.old.frames.items self.new.frames.items text.old text.new (λ c. after_event_if_up (settings_of self.old.ids self.old.initial n) c event) (λ c. event_shown_if_up (settings_of self.old.ids self.old.initial n) c event)) }
+        requires stands { (c : Cluster) × ClusterFor schedule.now.nodes schedule.now.initial self.old.nodes.items self.old.frames.items c }
+        ensures done { OnOk result (DoesLine schedule.now.nodes schedule.now.initial self.old.nodes.items self.new.nodes.items self.old.frames.items self.new.frames.items text.old text.new (λ c. after_event_if_up (settings_of schedule.now.nodes schedule.now.initial n) c event) (λ c. event_shown_if_up (settings_of schedule.now.nodes schedule.now.initial n) c event)) }
     {
-        nodes::event(
-            &self.ids,
-            self.nodes.as_mut_slice(),
-            n,
-            alloc,
-            event,
-            &mut self.frames,
-            text,
-        )
+        let place = place_of(schedule.nodes.as_slice(), n);
+        let nodes = self.nodes.as_mut_slice();
+        nodes[place].event(alloc, event, &mut self.frames, text)
     }
 
     fn deliver(
         &mut self,
         alloc: Global,
+        schedule: &Schedule,
         n: NodeId,
         ordinal: u64,
         text: &mut Text,
     ) -> Result<(), AllocError>
-        requires listed { has n self.old.ids ≡ true }
-        requires stands { (c : Cluster) × ClusterFor self.old.ids self.old.initial self.old.nodes.items self.old.frames.items c }
+        requires listed { has n schedule.now.nodes ≡ true }
+        requires stands { (c : Cluster) × ClusterFor schedule.now.nodes schedule.now.initial self.old.nodes.items self.old.frames.items c }
         requires positive { 0 < ordinal }
-        ensures ids { self.new.ids ≡ self.old.ids }
-        ensures initial { self.new.initial ≡ self.old.initial }
-        ensures done { OnOk result (DoesLine self.old.ids self.old.initial self.old.nodes.items self.new.nodes.items self.old.frames.items self.new.frames.items text.old text.new (λ c. after_frame (settings_of self.old.ids self.old.initial n) c (frame_at c ordinal)) (λ c. frame_shown (settings_of self.old.ids self.old.initial n) c (frame_at c ordinal))) }
+        ensures done { OnOk result (DoesLine schedule.now.nodes schedule.now.initial self.old.nodes.items self.new.nodes.items self.old.frames.items self.new.frames.items text.old text.new (λ c. after_frame (settings_of schedule.now.nodes schedule.now.initial n) c (frame_at c ordinal)) (λ c. frame_shown (settings_of schedule.now.nodes schedule.now.initial n) c (frame_at c ordinal))) }
     {
-        let runs = nodes::runs(&self.ids, self.nodes.as_slice(), n);
+        let place = place_of(schedule.nodes.as_slice(), n);
+        let nodes = self.nodes.as_slice();
+        let runs = nodes[place].runs();
         match self.frames.as_slice().get((ordinal - 1) as usize) {
             None => {
                 if runs {
@@ -173,7 +161,7 @@ impl ClusterReplayer {
                     return text.word("misrouted\n");
                 }
                 let frame = frame.copy()?;
-                self.event(alloc, n, Event::Frame(frame), text)
+                self.event(alloc, schedule, n, Event::Frame(frame), text)
             }
         }
     }
@@ -181,45 +169,50 @@ impl ClusterReplayer {
     fn crash(
         &mut self,
         alloc: Global,
+        schedule: &Schedule,
         n: NodeId,
         way: Way,
         text: &mut Text,
     ) -> Result<(), AllocError>
-        requires listed { has n self.old.ids ≡ true }
-        requires stands { (c : Cluster) × ClusterFor self.old.ids self.old.initial self.old.nodes.items self.old.frames.items c }
-        ensures ids { self.new.ids ≡ self.old.ids }
-        ensures initial { self.new.initial ≡ self.old.initial }
-        ensures done { OnOk result (DoesLine self.old.ids self.old.initial self.old.nodes.items self.new.nodes.items self.old.frames.items self.new.frames.items text.old text.new (λ c. record c { world = crashed c.world n way }) (λ c. stop_text n (node_world c.world n))) }
+        requires listed { has n schedule.now.nodes ≡ true }
+        requires stands { (c : Cluster) × ClusterFor schedule.now.nodes schedule.now.initial self.old.nodes.items self.old.frames.items c }
+        ensures done { OnOk result (DoesLine schedule.now.nodes schedule.now.initial self.old.nodes.items self.new.nodes.items self.old.frames.items self.new.frames.items text.old text.new (λ c. record c { world = crashed c.world n way }) (λ c. stop_text n (node_world c.world n))) }
     {
-        nodes::crash(&self.ids, self.nodes.as_mut_slice(), n, alloc, way, text)
+        let place = place_of(schedule.nodes.as_slice(), n);
+        let nodes = self.nodes.as_mut_slice();
+        nodes[place].crash(alloc, way, text)
     }
 
-    fn restart(&mut self, alloc: Global, n: NodeId, text: &mut Text) -> Result<(), AllocError>
-        requires listed { has n self.old.ids ≡ true }
-        requires stands { (c : Cluster) × ClusterFor self.old.ids self.old.initial self.old.nodes.items self.old.frames.items c }
-        ensures ids { self.new.ids ≡ self.old.ids }
-        ensures initial { self.new.initial ≡ self.old.initial }
-        ensures done { OnOk result (DoesLine self.old.ids self.old.initial self.old.nodes.items self.new.nodes.items self.old.frames.items self.new.frames.items text.old text.new (λ c. after_restart (settings_of self.old.ids self.old.initial n) c) (λ c. restart_shown (settings_of self.old.ids self.old.initial n) c)) }
+    fn restart(
+        &mut self,
+        alloc: Global,
+        schedule: &Schedule,
+        n: NodeId,
+        text: &mut Text,
+    ) -> Result<(), AllocError>
+        requires listed { has n schedule.now.nodes ≡ true }
+        requires stands { (c : Cluster) × ClusterFor schedule.now.nodes schedule.now.initial self.old.nodes.items self.old.frames.items c }
+        ensures done { OnOk result (DoesLine schedule.now.nodes schedule.now.initial self.old.nodes.items self.new.nodes.items self.old.frames.items self.new.frames.items text.old text.new (λ c. after_restart (settings_of schedule.now.nodes schedule.now.initial n) c) (λ c. restart_shown (settings_of schedule.now.nodes schedule.now.initial n) c)) }
     {
-        nodes::restart(
-            &self.ids,
-            &self.initial,
-            self.nodes.as_mut_slice(),
-            n,
+        let place = place_of(schedule.nodes.as_slice(), n);
+        let nodes = self.nodes.as_mut_slice();
+        nodes[place].restart(
             alloc,
+            &schedule.nodes,
+            &schedule.initial,
             &mut self.frames,
             text,
         )
     }
 
-    fn arm(&mut self, n: NodeId, order: Order)
-        requires listed { has n self.old.ids ≡ true }
-        requires stands { (c : Cluster) × ClusterFor self.old.ids self.old.initial self.old.nodes.items self.old.frames.items c }
-        ensures ids { self.new.ids ≡ self.old.ids }
-        ensures initial { self.new.initial ≡ self.old.initial }
-        ensures done { (text : List ℕ) → DoesLine self.old.ids self.old.initial self.old.nodes.items self.new.nodes.items self.old.frames.items self.new.frames.items text text (λ c. record c { world = ordered c.world n order }) (λ c. []) }
+    fn arm(&mut self, schedule: &Schedule, n: NodeId, order: Order)
+        requires listed { has n schedule.now.nodes ≡ true }
+        requires stands { (c : Cluster) × ClusterFor schedule.now.nodes schedule.now.initial self.old.nodes.items self.old.frames.items c }
+        ensures done { (text : List ℕ) → DoesLine schedule.now.nodes schedule.now.initial self.old.nodes.items self.new.nodes.items self.old.frames.items self.new.frames.items text text (λ c. record c { world = ordered c.world n order }) (λ c. []) }
     {
-        nodes::arm(&self.ids, self.nodes.as_mut_slice(), n, order);
+        let place = place_of(schedule.nodes.as_slice(), n);
+        let nodes = self.nodes.as_mut_slice();
+        nodes[place].arm(order);
     }
 }
 

@@ -1,42 +1,38 @@
-use Rattle.std.proofs.Common.{arith, List, subst, sym, ◌∙◌}
+use Rattle.std.proofs.Common.{arith, List, subst, sym}
 use Rattle.schedule_text.specs.declared.schedule.Line.{Line}
 use Rattle.schedule_replay.specs.Tallied.{ClusterTallied}
-use Rattle.schedule_replay.proofs.Tallying.{one_more_cluster, same_cluster_header, taken_more, whole_cluster_tallied}
-use Rattle.schedule_replay.proofs.ClusterProgress.{goes_on, fails, stops, ends, same_ids}
+use Rattle.schedule_replay.proofs.Tallying.{one_more_cluster, taken_more, whole_cluster_tallied}
+use Rattle.schedule_replay.proofs.ClusterProgress.{goes_on, fails, stops, ends}
 use Rattle.schedule_replay.proofs.Progress.{front_at_err, none_left}
 use Rattle.schedule_replay.proofs.replaying.replay_nodes.Goals as goal
 
 pub returns-in_default-line-clause-written : goal.returns-in_default-line-clause-written
 returns-in_default-line-clause-written g c =
-    stops c.loop-line.replayer.ids c.loop-line.replayer.initial _ _ _ (g.S.Sink.written c.loop-line.out) _ c.loop-line.held c.loop-line.held _ _ (λ i. c.loop-line.held) c.loop-line.invariant.3 c.out_of_memory.ensures.written
+    stops c.args.schedule.now.nodes c.args.schedule.now.initial _ _ _ (g.S.Sink.written c.loop-line.out) _ c.loop-line.held c.loop-line.held _ _ (λ i. c.loop-line.held) c.loop-line.invariant.1 c.out_of_memory.ensures.written
 
 pub returns-in_err-pass_on-clause-written : goal.returns-in_err-pass_on-clause-written
 returns-in_err-pass_on-clause-written g c =
     front_at_err c.from_residual.result _ _ _ c.from_residual.ensures.0
-    (fails c.loop-line.replayer.ids c.loop-line.replayer.initial _ _ _ _ _ (g.S.Sink.written c.loop-line.out) _ c.loop-line.held c.pass_on.new.held c.clear.new.self c.line.new.text c.as_slice-lines.result.now c.loop-line.line-index c.line-item.result _ c.loop-line-test.true c.line-item.is c.clear.ensures c.loop-line.invariant.3 c.in-Ok-line.ensures.done c.in_err-pass_on.ensures.holds)
+    (fails c.args.schedule.now.nodes c.args.schedule.now.initial _ _ _ _ _ (g.S.Sink.written c.loop-line.out) _ c.loop-line.held c.pass_on.new.held c.clear.new.self c.line.new.text c.as_slice-lines.result.now c.loop-line.line-index c.line-item.result _ c.loop-line-test.true c.line-item.is c.clear.ensures c.loop-line.invariant.1 c.in-Ok-line.ensures.done c.in_err-pass_on.ensures.holds)
 
 pub loop-line-preserved : goal.loop-line-preserved
 loop-line-preserved g c = (
-  c.line.ensures.ids ∙ c.loop-line.invariant.0,
-  c.line.ensures.initial ∙ c.loop-line.invariant.1,
-  omega (arith, c.loop-line.invariant.2, c.pass_on.ensures.later),
-  same_ids _ _ _ _ _ _ _ _ _ _ _ c.line.ensures.ids c.line.ensures.initial
-      (goes_on c.loop-line.replayer.ids c.loop-line.replayer.initial _ _ _ _ _ (g.S.Sink.written c.loop-line.out) _ c.loop-line.held c.pass_on.new.held c.clear.new.self c.line.new.text c.as_slice-lines.result.now c.loop-line.line-index c.line-item.result _ c.loop-line-test.true c.line-item.is c.clear.ensures c.loop-line.invariant.3 c.in-Ok-line.ensures.done c.in_ok-pass_on.ensures.holds),
-  λ first. same_cluster_header g.T.Observer.saw _ _ _ _ _ _ _ _ c.line.ensures.ids c.line.ensures.initial
-      (subst (λ (done : List Line). ClusterTallied g.T.Observer.saw c.loop-line.replayer.ids c.loop-line.replayer.initial c.line.new.self.nodes.items c.line.new.self.frames.items c.pass_on.new.observer done)
+  omega (arith, c.loop-line.invariant.0, c.pass_on.ensures.later),
+  goes_on c.args.schedule.now.nodes c.args.schedule.now.initial _ _ _ _ _ (g.S.Sink.written c.loop-line.out) _ c.loop-line.held c.pass_on.new.held c.clear.new.self c.line.new.text c.as_slice-lines.result.now c.loop-line.line-index c.line-item.result _ c.loop-line-test.true c.line-item.is c.clear.ensures c.loop-line.invariant.1 c.in-Ok-line.ensures.done c.in_ok-pass_on.ensures.holds,
+  λ first. subst (λ (done : List Line). ClusterTallied g.T.Observer.saw c.args.schedule.now.nodes c.args.schedule.now.initial c.line.new.self.nodes.items c.line.new.self.frames.items c.pass_on.new.observer done)
       (sym (taken_more c.as_slice-lines.result.now c.loop-line.line-index c.line-item.result c.loop-line-test.true c.line-item.is))
-      (one_more_cluster g.T.Observer.saw c.loop-line.replayer.ids c.loop-line.replayer.initial _ _ _ _ _ _ _ c.line.new.text _ c.line-item.result c.clear.ensures (c.loop-line.invariant.4 first) c.in-Ok-line.ensures.done c.in_ok-pass_on.ensures.observed)),
+      (one_more_cluster g.T.Observer.saw c.args.schedule.now.nodes c.args.schedule.now.initial _ _ _ _ _ _ _ c.line.new.text _ c.line-item.result c.clear.ensures (c.loop-line.invariant.2 first) c.in-Ok-line.ensures.done c.in_ok-pass_on.ensures.observed),
 )
 
 pub returns-clause-observed : goal.returns-clause-observed
 returns-clause-observed g c = λ first.
-    whole_cluster_tallied g.T.Observer.saw c.loop-line.replayer.ids c.loop-line.replayer.initial c.args.schedule.now.nodes c.args.schedule.now.initial _ _ _ c.as_slice-lines.result.now c.args.schedule.now.lines c.loop-line.line-index
-    c.loop-line.invariant.0 c.loop-line.invariant.1 c.as_slice-lines.ensures (omega (arith, c.loop-line-test.false)) (c.loop-line.invariant.4 first)
+    whole_cluster_tallied g.T.Observer.saw c.args.schedule.now.nodes c.args.schedule.now.initial _ _ _ c.as_slice-lines.result.now c.args.schedule.now.lines c.loop-line.line-index
+    c.as_slice-lines.ensures (omega (arith, c.loop-line-test.false)) (c.loop-line.invariant.2 first)
 
 pub returns-in_default-write_all-clause-written : goal.returns-in_default-write_all-clause-written
 returns-in_default-write_all-clause-written g c =
-    stops c.loop-line.replayer.ids c.loop-line.replayer.initial _ _ _ (g.S.Sink.written c.loop-line.out) _ c.loop-line.held c.as_bytes.result.now _ _ c.as_bytes.ensures c.loop-line.invariant.3 c.in_default-write_all.ensures.writes
+    stops c.args.schedule.now.nodes c.args.schedule.now.initial _ _ _ (g.S.Sink.written c.loop-line.out) _ c.loop-line.held c.as_bytes.result.now _ _ c.as_bytes.ensures c.loop-line.invariant.1 c.in_default-write_all.ensures.writes
 
 pub returns-clause-written : goal.returns-clause-written
 returns-clause-written g c =
-    ends c.loop-line.replayer.ids c.loop-line.replayer.initial _ _ _ (g.S.Sink.written c.loop-line.out) _ c.loop-line.held c.as_bytes.result.now _ _ (none_left c.as_slice-lines.result.now c.loop-line.line-index (omega (arith, c.loop-line-test.false))) c.as_bytes.ensures c.loop-line.invariant.3 c.in-Ok-write_all.ensures.writes
+    ends c.args.schedule.now.nodes c.args.schedule.now.initial _ _ _ (g.S.Sink.written c.loop-line.out) _ c.loop-line.held c.as_bytes.result.now _ _ (none_left c.as_slice-lines.result.now c.loop-line.line-index (omega (arith, c.loop-line-test.false))) c.as_bytes.ensures c.loop-line.invariant.1 c.in-Ok-write_all.ensures.writes

@@ -1,4 +1,4 @@
-use Rattle.std.proofs.Common.{◌≡◌, ◌≤◌, [], drop, take}
+use Rattle.std.proofs.Common.{◌≤◌, [], drop, take}
 use Rattle.schedule_replay.specs.ClusterTrace.{trace}
 use Rattle.schedule_replay.specs.ClusterSoFar.{ClusterSoFar}
 use Rattle.schedule_replay.specs.Tallied.{ClusterTallied}
@@ -6,6 +6,6 @@ use Rattle.schedule_replay.proofs.replaying.replay_nodes.Given as goal
 
 abbrev pub invariant-loop-line : goal.invariant-loop-line
 invariant-loop-line g l =
-    (l.replayer.ids ≡ l.schedule.nodes) × (l.replayer.initial ≡ l.schedule.initial) × (g.S.Sink.faults l.initial.out ≤ g.S.Sink.faults l.out)
-    × ClusterSoFar l.replayer.ids l.replayer.initial l.replayer.nodes.items l.replayer.frames.items (g.S.Sink.written l.initial.out) (g.S.Sink.written l.out) l.held (drop l.line-index l.lines) (trace l.schedule)
-    × (g.T.Observer.saw l.initial.observer [] → ClusterTallied g.T.Observer.saw l.replayer.ids l.replayer.initial l.replayer.nodes.items l.replayer.frames.items l.observer (take l.line-index l.lines))
+    (g.S.Sink.faults l.initial.out ≤ g.S.Sink.faults l.out)
+    × ClusterSoFar l.schedule.nodes l.schedule.initial l.cluster.nodes.items l.cluster.frames.items (g.S.Sink.written l.initial.out) (g.S.Sink.written l.out) l.held (drop l.line-index l.lines) (trace l.schedule)
+    × (g.T.Observer.saw l.initial.observer [] → ClusterTallied g.T.Observer.saw l.schedule.nodes l.schedule.initial l.cluster.nodes.items l.cluster.frames.items l.observer (take l.line-index l.lines))

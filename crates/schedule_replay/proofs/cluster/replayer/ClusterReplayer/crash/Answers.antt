@@ -1,16 +1,20 @@
-use Rattle.std.proofs.Common.{refl, []}
+use Rattle.std.proofs.Common.{[]}
+use Rattle.std.proofs.lemmas.Result.{on_ok_weaker}
+use Rattle.replay_node.specs.Clusters.{settings_of}
 use Rattle.replay_node.specs.NodeLines.{stop_text}
 use Rattle.replay_node.specs.Worlds.{crashed, node_world}
 use Rattle.schedule_replay.specs.Own.{own_crash}
 use Rattle.schedule_replay.proofs.Going.{goes_crash}
-use Rattle.schedule_replay.proofs.ClusterLines.{lent_line, many_lent, on_ok}
+use Rattle.schedule_replay.proofs.ClusterLines.{moved}
+use Rattle.schedule_replay.proofs.ClusterMovement.{place_inside}
 use Rattle.schedule_replay.proofs.cluster.replayer.ClusterReplayer.crash.Goals as goal
 
-pub crash-requires-clause-many : goal.crash-requires-clause-many
-crash-requires-clause-many c = many_lent _ c.args.self.now.initial _ _ _ c.as_mut_slice.ensures.value c.requires.stands.1.stand
+pub bounds-nodes-place : goal.bounds-nodes-place
+bounds-nodes-place c = place_inside _ _ _ _ _ _ _ _ _ (record { is = c.as_slice.ensures.value; found = c.place_of-place.ensures; lent_is = c.as_mut_slice-nodes.ensures.value; long = c.as_mut_slice-nodes.ensures.len; stands = c.requires.stands })
 
-pub returns-clause-done : goal.returns-clause-done
-returns-clause-done c =
-    on_ok c.crash.result _ _ (λ does. lent_line c.args.self.now.ids c.args.self.now.initial c.args.n c.args.self.now.nodes.items c.as_mut_slice.result.now c.crash.new.nodes _ _ c.args.self.now.frames.items c.args.self.now.frames.items c.args.text.now c.crash.new.text
-    (λ s own. own_crash c.args.way own) (λ s own. []) (λ s count own. stop_text s.me own.node) (λ d. record d { world = crashed d.world c.args.n c.args.way }) (λ d. stop_text c.args.n (node_world d.world c.args.n))
-    c.as_mut_slice.ensures.value c.crash.auto.nodes c.as_mut_slice.ensures.len refl (does c.args.self.now.initial c.args.self.now.frames.items) (goes_crash c.args.n c.args.way)) c.crash.ensures
+pub returns : goal.returns
+returns c = record {
+  done = on_ok_weaker c.crash.result (λ does. moved _ _ _ _ _ _ _ _ _ (record { is = c.as_slice.ensures.value; found = c.place_of-place.ensures; lent_is = c.as_mut_slice-nodes.ensures.value; long = c.as_mut_slice-nodes.ensures.len; stands = c.requires.stands }) c.index-nodes-place.result c.crash.new.self _ _ _
+      (λ own. own_crash c.args.way own) (λ own. []) (λ count own. stop_text c.args.n own.node) (λ d. record d { world = crashed d.world c.args.n c.args.way }) (λ d. stop_text c.args.n (node_world d.world c.args.n)) (goes_crash c.args.n c.args.way)
+      (does c.args.self.now.frames.items (settings_of c.args.schedule.now.nodes c.args.schedule.now.initial c.args.n))) c.crash.ensures;
+}
