@@ -269,7 +269,7 @@ fn show_reply(
     alloc: Global,
     lines: &mut Vec<String>,
     me: NodeId,
-    reply: &client_lines::ActReply,
+    reply: &client_lines::Reply,
 ) -> Result<(), Fail> {
     let json = write_reply(alloc, reply)?;
     let text = str::from_utf8(&json)?;
