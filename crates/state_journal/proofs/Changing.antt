@@ -1,16 +1,20 @@
 -- What a crash leaves while an open journal keeps a change.
-use Rattle.std.proofs.Common.{◌≡◌, List, ℕ, false, true, subst}
+use Rattle.std.proofs.Common.{◌≡◌, ◌≤◌, List, ℕ, false, true, refl, subst}
+use Rattle.std.proofs.lemmas.Bool.{le-leb}
+use Rattle.cluster_state.specs.declared.state.ClusterState.{ClusterState}
 use Rattle.zen_disk.specs.declared.disks.Disks.{Ghosts}
 use Rattle.zen_disk.specs.Moments.{LeavesOnly}
 use Rattle.gate_log.specs.Generations.{standing_in}
 use Rattle.gate_log.specs.Place.{place, renews}
 use Rattle.state_journal.specs.Bodies.{body_of}
 use Rattle.state_journal.specs.Changes.{changed, IsEither}
-use Rattle.state_journal.specs.Drafts.{MayBegin}
+use Rattle.state_journal.specs.Drafts.{HasSpelling, MayBegin}
 use Rattle.state_journal.specs.Journal.{StoodFor}
 use Rattle.state_journal.specs.Keeping.{generation_after, IsWritten}
 use Rattle.state_journal.specs.declared.change.Change.{Change}
+use Rattle.state_journal.specs.declared.change.Change.TheVariants.{Accepted}
 use Rattle.state_journal.specs.declared.journal.StateJournal.{StateJournal}
+use Rattle.state_journal.proofs.Spelled.{fits_of, reads_state}
 use Rattle.state_journal.proofs.Writing.{IsOpen, MayFollow, leaves_either}
 
 module _ {D : Type 0} {disks : Ghosts D} (old : StateJournal D disks) (told : disks.told) (running : old.log.stopped ≡ false) where
@@ -26,3 +30,16 @@ module _ {D : Type 0} {disks : Ghosts D} (old : StateJournal D disks) (told : di
       let written =
       subst (λ (b : List ℕ). LeavesOnly disks.moment disks.left_since old.log.disk new.log.disk (IsWritten (renews p b) (standing_in (disks.seen old.log.disk)) b (generation_after p (changed old.kept change)))) same run in
       record { later = written.later; since = leaves_either is_open change may begins disks.moment disks.left_since old.log.disk new.log.disk written }
+
+-- a state that may be accepted: its change may follow, and its record may begin a generation
+module _ {D : Type 0} {disks : Ghosts D} (old : StateJournal D disks) (state : ClusterState) (has : HasSpelling state) (older : state.term ≤ old.kept.term) where
+  pub state_follows : MayFollow old.kept (Accepted state)
+  state_follows = record { reads = reads_state state (fits_of state has); order = le-leb _ _ older }
+
+  pub state_begins : renews (place old.log) (body_of (Accepted state)) ≡ true → MayBegin (changed old.kept (Accepted state))
+  state_begins = λ renewing. record { bounded = old.bounded; fits = fits_of state has; named = (fits_of state has).1.1.1.0; older = older }
+
+  pub state_leaves : disks.told → old.log.stopped ≡ false → (new : StateJournal D disks)
+      → LeavesOnly disks.moment disks.left_since old.log.disk new.log.disk (IsWritten (renews (place old.log) (body_of (Accepted state))) (standing_in (disks.seen old.log.disk)) (body_of (Accepted state)) (generation_after (place old.log) (changed old.kept (Accepted state))))
+      → LeavesOnly (λ (j : StateJournal D disks). disks.moment j.log.disk) (λ (j : StateJournal D disks). StoodFor (disks.left_since j.log.disk)) old new (IsEither old.kept (changed old.kept (Accepted state)))
+  state_leaves told running new run = crash_leaves old told running (Accepted state) state_follows state_begins new (body_of (Accepted state)) refl run

@@ -1,16 +1,13 @@
-use Rattle.std.proofs.Common.{◌≡◌, ◌≤◌, ◌+◌, List, Ok, true, false, length, refl, sym, subst, ap, ◌∙◌, arith}
-use Rattle.std.proofs.lemmas.Bool.{le-leb}
+use Rattle.std.proofs.Common.{◌≡◌, ◌≤◌, ◌+◌, List, Ok, false, length, refl, sym, subst, ap, ◌∙◌, arith}
 use Rattle.voting_config.specs.Ids.{Id}
 use Rattle.cluster_state.specs.declared.state.ClusterState.{ClusterState}
 use Rattle.gate_log.specs.Place.{place, renews}
 use Rattle.state_journal.specs.Bodies.{body_of}
-use Rattle.state_journal.specs.Changes.{changed}
-use Rattle.state_journal.specs.Drafts.{MayBegin}
 use Rattle.state_journal.specs.declared.change.Change.TheVariants.{Accepted}
-use Rattle.state_journal.proofs.Changing.{is_open, crash_leaves}
+use Rattle.state_journal.proofs.Changing.{is_open, state_follows, state_begins, state_leaves}
 use Rattle.state_journal.proofs.Same.{same_journal}
-use Rattle.state_journal.proofs.Spelled.{fits_of, draft_short, reads_state, length-accepted}
-use Rattle.state_journal.proofs.Writing.{MayFollow, few, stands_after, counted_after, counts_by}
+use Rattle.state_journal.proofs.Spelled.{draft_short, length-accepted}
+use Rattle.state_journal.proofs.Writing.{few, stands_after, counted_after, counts_by}
 use Rattle.state_journal.proofs.journal.StateJournalKeeper.set_accepted.Goals as goal
 
 pub returns-then-stopped-clause-unchanged : goal.returns-then-stopped-clause-unchanged
@@ -23,13 +20,8 @@ pub returns-in_default-clause-any_moment : goal.returns-in_default-clause-any_mo
 returns-in_default-clause-any_moment g c = λ told running.
     let old = c.args.self.now in
     let made = c.into_made-state.result in
-    let state = made.state in
-    let drafted = made.drafted in
-    let older : state.term ≤ old.kept.term = subst (λ (s : ClusterState). s.term ≤ old.kept.term) (sym c.into_made-state.ensures) c.requires in
-    let change = Accepted state in
-    let may : MayFollow old.kept change = record { reads = reads_state state (fits_of state drafted.fits); order = le-leb _ _ older } in
-    let begins : renews (place old.log) (body_of change) ≡ true → MayBegin (changed old.kept change) = λ renewing. record { bounded = old.bounded; fits = fits_of state drafted.fits; named = (fits_of state drafted.fits).1.1.1.0; older = older } in
-    rw (sym c.into_made-state.ensures) (crash_leaves old told running change may begins _ _ refl (c.keep_state.ensures.any_moment told state drafted))
+    let older : made.state.term ≤ old.kept.term = subst (λ (s : ClusterState). s.term ≤ old.kept.term) (sym c.into_made-state.ensures) c.requires in
+    rw (sym c.into_made-state.ensures) (state_leaves old made.state made.drafted.fits older told running _ (c.keep_state.ensures.any_moment told made.state made.drafted))
 
 pub invariant_of-self-2 : goal.invariant_of-self-2
 invariant_of-self-2 g c =
@@ -41,12 +33,11 @@ invariant_of-self-2 g c =
     let older : state.term ≤ old.kept.term = subst (λ (s : ClusterState). s.term ≤ old.kept.term) (sym c.into_made-state.ensures) c.requires in
     let p = place old.log in
     let change = Accepted state in
-    let next = changed old.kept change in
     let ran : old.log.stopped ≡ false = sym c.stopped.ensures ∙ c.if-stopped.false in
     let same : c.of-self.result ≡ state.committed = c.of-self.ensures ∙ c.members.ensures in
     let size : length (body_of change) ≡ c.len.result + 1 = omega (arith, c.len.ensures, length-accepted state, ap length drafted.spelled) in
-    let may : MayFollow old.kept change = record { reads = reads_state state (fits_of state drafted.fits); order = le-leb _ _ older } in
-    let begins : renews p (body_of change) ≡ true → MayBegin next = λ renewing. record { bounded = old.bounded; fits = fits_of state drafted.fits; named = (fits_of state drafted.fits).1.1.1.0; older = older } in
+    let may = state_follows old state drafted.fits older in
+    let begins = state_begins old state drafted.fits older in
     record {
       stands = λ told running.
           let is = is_open old told ran in
@@ -66,10 +57,5 @@ pub returns-clause-any_moment : goal.returns-clause-any_moment
 returns-clause-any_moment g c = λ told running.
     let old = c.args.self.now in
     let made = c.into_made-state.result in
-    let state = made.state in
-    let drafted = made.drafted in
-    let older : state.term ≤ old.kept.term = subst (λ (s : ClusterState). s.term ≤ old.kept.term) (sym c.into_made-state.ensures) c.requires in
-    let change = Accepted state in
-    let may : MayFollow old.kept change = record { reads = reads_state state (fits_of state drafted.fits); order = le-leb _ _ older } in
-    let begins : renews (place old.log) (body_of change) ≡ true → MayBegin (changed old.kept change) = λ renewing. record { bounded = old.bounded; fits = fits_of state drafted.fits; named = (fits_of state drafted.fits).1.1.1.0; older = older } in
-    rw (sym c.into_made-state.ensures) (crash_leaves old told running change may begins _ _ refl (c.keep_state.ensures.any_moment told state drafted))
+    let older : made.state.term ≤ old.kept.term = subst (λ (s : ClusterState). s.term ≤ old.kept.term) (sym c.into_made-state.ensures) c.requires in
+    rw (sym c.into_made-state.ensures) (state_leaves old made.state made.drafted.fits older told running _ (c.keep_state.ensures.any_moment told made.state made.drafted))
