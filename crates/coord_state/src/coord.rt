@@ -13,7 +13,7 @@ ghost use Rattle.world_model.specs.NodeState.{opened};
 ghost use Rattle.coord_state.specs.Outcomes.{initial_outcome, start_outcome, join_outcome, value_outcome, publish_outcome, response_outcome, commit_outcome, HandsBack};
 ghost use Rattle.coord_state.specs.StandsFor.{Acts, StandsFor, fields_of};
 ghost use Rattle.coord_state.specs.Writes.{WritesBy, IsDuring};
-ghost use Rattle.coord_state.specs.Checks.{publish_checked, Foretells};
+ghost use Rattle.coord_state.specs.Checks.{publish_checked, value_checked, Foretells};
 
 use cluster_state::{
     ApplyCommit, ClusterState, ClusterValue, CommitCause, InitialCause, Join, JoinCause, Kept,
@@ -285,6 +285,35 @@ impl<K: Keeper> CoordState<K> {
         Ok(Joined { won: true })
     }
 
+    // The first cause that refuses a new value of a version with a configuration.
+    fn value_check(&self, version: u64, config: &VotingConfig) -> Result<(), ValueCause>
+        ensures { result ≡ value_checked (fields_of K.Keeper self.now) version config.now }
+    {
+        let kept = self.keeper.kept();
+        let accepted = kept.accepted.version;
+        if !self.election_won {
+            return Err(ValueCause::NotWon);
+        }
+        if self.published_version != accepted {
+            return Err(ValueCause::NotAccepted(self.published_version, accepted));
+        }
+        if version <= self.published_version {
+            return Err(ValueCause::VersionNotGreater(self.published_version, version));
+        }
+        if version > LAST_NUMBER {
+            return Err(ValueCause::VersionTooLarge(version));
+        }
+        if !config.is_same(&kept.accepted.config)
+            && !kept.committed.is_same(&kept.accepted.config)
+        {
+            return Err(ValueCause::Reconfiguring);
+        }
+        if !config.is_quorum(self.join_votes.ids()) {
+            return Err(ValueCause::NoJoinQuorum);
+        }
+        Ok(())
+    }
+
     /// Publishes a new value with a version and a configuration, where the node has won and has accepted what it published
     /// last. Another configuration than the accepted one is taken only once the accepted one is committed, and only if the
     /// node's votes are a quorum of it.
@@ -302,34 +331,10 @@ impl<K: Keeper> CoordState<K> {
         if self.keeper.stopped() {
             return Err(ActError::Stopped((config, value)));
         }
+        if let Err(cause) = self.value_check(version, &config) {
+            return Err(ActError::Refused(cause, (config, value)));
+        }
         let kept = self.keeper.kept();
-        let accepted = kept.accepted.version;
-        if !self.election_won {
-            return Err(ActError::Refused(ValueCause::NotWon, (config, value)));
-        }
-        if self.published_version != accepted {
-            return Err(ActError::Refused(
-                ValueCause::NotAccepted(self.published_version, accepted),
-                (config, value),
-            ));
-        }
-        if version <= self.published_version {
-            return Err(ActError::Refused(
-                ValueCause::VersionNotGreater(self.published_version, version),
-                (config, value),
-            ));
-        }
-        if version > LAST_NUMBER {
-            return Err(ActError::Refused(ValueCause::VersionTooLarge(version), (config, value)));
-        }
-        if !config.is_same(&kept.accepted.config)
-            && !kept.committed.is_same(&kept.accepted.config)
-        {
-            return Err(ActError::Refused(ValueCause::Reconfiguring, (config, value)));
-        }
-        if !config.is_quorum(self.join_votes.ids()) {
-            return Err(ActError::Refused(ValueCause::NoJoinQuorum, (config, value)));
-        }
         self.published_version = version;
         self.published_config = VotingConfig::of(config.members());
         self.publish_votes = JoinVotes::new();
