@@ -1,5 +1,5 @@
 -- One node moves where its id stands, the others stay.
-use Rattle.std.proofs.Common.{◌≡◌, ℕ, zero, suc, ◌<◌, Bool, true, false, not, Some, List, [], ◌∷◌, length, ◌++◌, refl, sym, ◌∙◌, ap, subst, arith, slice_get, slice_set, get_or, take, drop, ◌+◌}
+use Rattle.std.proofs.Common.{◌≡◌, ℕ, zero, suc, ◌<◌, true, false, Some, List, [], ◌∷◌, length, ◌++◌, refl, sym, ◌∙◌, ap, subst, arith, slice_get, slice_set, get_or, take, drop, ◌+◌}
 use Rattle.std.proofs.lemmas.Option.{slice_get-get_or, slice_get_within}
 use Rattle.std.proofs.lemmas.Bool.{and_parts}
 use Rattle.std.proofs.lemmas.List.{length-set, take_more}
@@ -7,9 +7,6 @@ use Rattle.voting_config.specs.Ids.{Id, ascends, is_below}
 use Rattle.voting_config.proofs.Sorted.{before-not_same}
 use Rattle.wire_frames.specs.declared.frame.Frame.{Frame}
 use Rattle.replay_node.specs.Clusters.{Cluster, settings_of}
-use Rattle.replay_node.specs.NodeWorld.{needs_opening}
-use Rattle.replay_node.specs.Worlds.{node_world}
-use Rattle.policy_model.specs.declared.settings.Settings.{Settings}
 use Rattle.schedule_replay.specs.ClusterStands.{AllFor, ClusterFor, GoesOn}
 use Rattle.schedule_replay.specs.OwnStands.{NodeFor}
 use Rattle.schedule_replay.specs.Own.{Own, own_in}
@@ -89,11 +86,7 @@ module _ (ids initial l : List Id) (items lent : List ClusterNode) (frames : Lis
   pub here : (x : ClusterNode) (c : Cluster) → AllFor ids initial ids items c → NodeFor (settings_of ids initial n) (get_or lent place x) (own_in c n) false
   here x c s = node_at ids initial ids lent c n place (get_or lent place x) place_is (slice_get-get_or lent place x place_inside) (subst (λ (y : List ClusterNode). AllFor ids initial ids y c) (sym looked.lent_is) s)
 
-  -- and tells whether it runs
-  pub runs_here : (x : ClusterNode) (runs : Bool) → x ≡ get_or lent place x → ((s : Settings) (own : Own) → NodeFor s x own false → runs ≡ not (needs_opening own.node)) → (c : Cluster) → AllFor ids initial ids items c → runs ≡ not (needs_opening (node_world c.world n))
-  runs_here x runs is told c s = told (settings_of ids initial n) (own_in c n) (subst (λ (y : ClusterNode). NodeFor (settings_of ids initial n) y (own_in c n) false) (sym is) (here x c s))
-
-  -- where it has moved, all stand
+  -- and where it has moved, all stand
   pub after_here : (d : ClusterNode) (c : Cluster) (own : Own) (later : Cluster) → GoesOn n c own later → NodeFor (settings_of ids initial n) d own false → AllFor ids initial ids items c → AllFor ids initial ids (slice_set items place d) later
   after_here d c own later goes stands s = all_after ids initial n c own later goes ids items place d looked.stands.1.ascending place_is stands s
 

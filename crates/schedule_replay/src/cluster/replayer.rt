@@ -1,5 +1,5 @@
 //! `ClusterReplayer`: the nodes of a schedule of level node, and the frames that they have sent.
-ghost use Rattle.std.specs.Prelude.{◌≡◌, ◌<◌, OnOk, IfOk, ℕ, List, [], true, false};
+ghost use Rattle.std.specs.Prelude.{◌≡◌, ◌<◌, OnOk, IfOk, ℕ, List, [], true, false, not};
 ghost use Rattle.voting_config.specs.Ids.{has};
 ghost use Rattle.schedule_text.specs.Lines.{FitsLine};
 ghost use Rattle.schedule_text.specs.declared.level.Level.TheVariants.{Node};
@@ -8,6 +8,7 @@ ghost use Rattle.policy_model.specs.Fitting.{IsFitEvent};
 ghost use Rattle.policy_model.specs.Follows.{is_start};
 ghost use Rattle.replay_node.specs.Clusters.{Cluster, after_event_if_up, after_frame, after_restart, frame_at, fresh_cluster, settings_of};
 ghost use Rattle.replay_node.specs.NodeLines.{stop_text};
+ghost use Rattle.replay_node.specs.NodeWorld.{needs_opening};
 ghost use Rattle.replay_node.specs.Worlds.{crashed, node_world, ordered};
 ghost use Rattle.schedule_replay.specs.ClusterStands.{AllFor, ClusterFor, DoesLine, WritesLine};
 ghost use Rattle.schedule_replay.specs.ClusterTrace.{event_shown_if_up, frame_shown, restart_shown};
@@ -142,9 +143,7 @@ impl ClusterReplayer {
         requires positive { 0 < ordinal }
         ensures done { OnOk result (DoesLine schedule.now.nodes schedule.now.initial self.old.nodes.items self.new.nodes.items self.old.frames.items self.new.frames.items text.old text.new (λ c. after_frame (settings_of schedule.now.nodes schedule.now.initial n) c (frame_at c ordinal)) (λ c. frame_shown (settings_of schedule.now.nodes schedule.now.initial n) c (frame_at c ordinal))) }
     {
-        let place = place_of(schedule.nodes.as_slice(), n);
-        let nodes = self.nodes.as_slice();
-        let runs = nodes[place].runs();
+        let runs = self.runs(schedule, n);
         match self.frames.as_slice().get((ordinal - 1) as usize) {
             None => {
                 if runs {
@@ -164,6 +163,17 @@ impl ClusterReplayer {
                 self.event(alloc, schedule, n, Event::Frame(frame), text)
             }
         }
+    }
+
+    // Whether the node runs.
+    fn runs(&self, schedule: &Schedule, n: NodeId) -> bool
+        requires listed { has n schedule.now.nodes ≡ true }
+        requires stands { (c : Cluster) × ClusterFor schedule.now.nodes schedule.now.initial self.now.nodes.items self.now.frames.items c }
+        ensures { (c : Cluster) → AllFor schedule.now.nodes schedule.now.initial schedule.now.nodes self.now.nodes.items c → result ≡ not (needs_opening (node_world c.world n)) }
+    {
+        let place = place_of(schedule.nodes.as_slice(), n);
+        let nodes = self.nodes.as_slice();
+        nodes[place].runs()
     }
 
     fn crash(
