@@ -1,5 +1,6 @@
 //! A line of a schedule read from its words.
 ghost use Rattle.std.specs.Prelude.{◌≡◌, Option};
+ghost use Rattle.std.specs.Str.{bytes_eq};
 ghost use Rattle.voting_config.specs.Lists.{parts_in, space};
 ghost use Rattle.schedule_text.specs.Lines.{one_word as one_word_of, two_words as two_words_of, three_words as three_words_of, four_words as four_words_of, word_and_rest as word_and_rest_of, boot_at, start_join_at, value_at, deliver_at, crash_at, restart_at, fuse_at, fail_at, tick_at, client_at, stop_verb_at, shared_verb_at, core_line_at, node_line_at, line_at};
 ghost use Rattle.schedule_text.specs.Answers.{Gives, Answers};
@@ -220,6 +221,21 @@ fn client(alloc: Global, ids: &NodeSet, rest: Option<&[u8]>) -> Result<Line, Rea
     Ok(Line::Client(node, line))
 }
 
+// Whether a verb is this name: a loop over so few bytes costs less than a comparison of slices.
+fn is_verb<const N: usize>(verb: &[u8], name: &[u8; N]) -> bool
+    ensures { result ≡ bytes_eq verb.now name.now }
+{
+    if verb.len() != N {
+        return false;
+    }
+    for i in 0..N {
+        if verb[i] != name[i] {
+            return false;
+        }
+    }
+    true
+}
+
 fn stop_verb_line(
     ids: &NodeSet,
     verb: &[u8],
@@ -227,16 +243,16 @@ fn stop_verb_line(
 ) -> Result<Line, ReadError<WhyBad>>
     ensures { Answers result (stop_verb_at ids.now verb.now (parts_in space rest.entry)) }
 {
-    if verb == b"crash".as_slice() {
+    if is_verb(verb, b"crash") {
         return crash(ids, rest);
     }
-    if verb == b"restart".as_slice() {
+    if is_verb(verb, b"restart") {
         return restart(ids, rest);
     }
-    if verb == b"fuse".as_slice() {
+    if is_verb(verb, b"fuse") {
         return fuse(ids, rest);
     }
-    if verb == b"fail".as_slice() {
+    if is_verb(verb, b"fail") {
         return fail(ids, rest);
     }
     Err(ReadError::Bad(WhyBad::Verb))
@@ -246,7 +262,7 @@ fn stop_verb_line(
 fn shared_line(ids: &NodeSet, verb: &[u8], rest: Option<&[u8]>) -> Result<Line, ReadError<WhyBad>>
     ensures { Answers result (shared_verb_at ids.now verb.now (parts_in space rest.entry)) }
 {
-    if verb == b"deliver".as_slice() {
+    if is_verb(verb, b"deliver") {
         return deliver(ids, rest);
     }
     stop_verb_line(ids, verb, rest)
@@ -260,13 +276,13 @@ fn core_line(
 ) -> Result<Line, ReadError<WhyBad>>
     ensures { Answers result (core_line_at ids.now verb.now (parts_in space rest.entry)) }
 {
-    if verb == b"value".as_slice() {
+    if is_verb(verb, b"value") {
         return value(alloc, ids, rest);
     }
-    if verb == b"boot".as_slice() {
+    if is_verb(verb, b"boot") {
         return boot(ids, rest);
     }
-    if verb == b"startjoin".as_slice() {
+    if is_verb(verb, b"startjoin") {
         return start_join(alloc, ids, rest);
     }
     shared_line(ids, verb, rest)
@@ -280,10 +296,10 @@ fn node_line(
 ) -> Result<Line, ReadError<WhyBad>>
     ensures { Answers result (node_line_at ids.now verb.now (parts_in space rest.entry)) }
 {
-    if verb == b"client".as_slice() {
+    if is_verb(verb, b"client") {
         return client(alloc, ids, rest);
     }
-    if verb == b"tick".as_slice() {
+    if is_verb(verb, b"tick") {
         return tick(ids, rest);
     }
     shared_line(ids, verb, rest)
