@@ -5,7 +5,6 @@ use Rattle.std.specs.Result.{result_ok}
 use Rattle.std.specs.List.{list_all}
 use Rattle.std.specs.Str.{is_utf8}
 use Rattle.std.proofs.lemmas.Bool.{and_parts, and_from}
-use Rattle.std.proofs.lemmas.List.{take_all}
 use Rattle.std.proofs.lemmas.Bool.Decides.{nat_tests}
 use Rattle.serde_json.specs.Data.{Data, Items, no_items, item}
 use Rattle.serde_json.specs.Events.{items_len}
@@ -15,7 +14,7 @@ use Rattle.voting_config.specs.Ids.{Id, is_id, is_id_byte, most_ids, IsIdSet, se
 use Rattle.voting_config.specs.Parse.{parsed, all_good}
 use Rattle.voting_config.specs.declared.node_id.IdError.TheVariants.{Empty, TooLong as IdTooLong}
 use Rattle.voting_config.proofs.Parsing.{none_bad}
-use Rattle.voting_config.proofs.Sets.{length-set_of-take}
+use Rattle.voting_config.proofs.Sets.{length-set_of}
 use Rattle.cluster_state.specs.declared.request.Ask.TheVariants as ask
 use Rattle.cluster_state.specs.declared.request.Request.{Request}
 use Rattle.cluster_state.specs.declared.reply.LineFault.TheVariants.{TooLong}
@@ -57,7 +56,7 @@ set_read xs h =
     if_some IsIdSet (are_distinct xs && nat_le (length xs) most_ids) (Some (set_of xs))
     (λ e.
     let few : nat_le (length xs) most_ids ≡ true = (and_parts (are_distinct xs) (nat_le (length xs) most_ids) e).1 in
-    let short : length (set_of xs) ≤ length xs = subst (λ (ys : List Id). length (set_of ys) ≤ length xs) (take_all (length xs) xs (omega arith)) (length-set_of-take xs (length xs)) in
+    let short : length (set_of xs) ≤ length xs = length-set_of xs in
     let within : length xs ≤ most_ids = grind (arith, nat_tests) in
     few_ids (set_of xs) (ids-fold [] xs no_ids h) (omega (arith, short, within)))
 

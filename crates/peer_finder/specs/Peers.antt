@@ -1,6 +1,6 @@
 -- Part of the statement: which nodes a node has met, and what they answered, by the calls so far.
 use Rattle.std.specs.Prelude.{◌≡◌, ℕ, ◌+◌, Bool, false, not, ◌&&◌, Option, None, Some, List, [], ◌∷◌, ◌++◌, length, map, filter, nat_le, if◌then◌else◌, is_some, is_none}
-use Rattle.voting_config.specs.Ids.{Id, has, same, with_id, without_id}
+use Rattle.voting_config.specs.Ids.{Id, has, same, set_of, without_id}
 use Rattle.peer_finder.specs.declared.Found.{Found}
 use Rattle.peer_finder.specs.declared.Peer.{Peer}
 
@@ -95,11 +95,6 @@ after f (AnswersForgotten now) = record f { peers = map (λ (p : Peer). without_
 abbrev pub answer_in : List Peer → Id → Option Found
 answer_in [] id = None
 answer_in (p ∷ ps) id = if same p.id id then p.answer else answer_in ps id
-
--- the ids as a set
-abbrev pub set_of : List Id → List Id
-set_of [] = []
-set_of (id ∷ ids) = with_id id (set_of ids)
 
 -- whether a peer's last answer names no master
 abbrev pub is_free : Option Found → Bool

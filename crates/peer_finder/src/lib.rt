@@ -2,8 +2,9 @@
 #![tactic(auto)]
 
 ghost use Rattle.std.specs.Prelude.{◌≡◌, ◌+◌, ◌<◌, ◌≤◌, length, filter, map, nat_le};
+ghost use Rattle.voting_config.specs.Ids.{set_of};
 ghost use Rattle.peer_finder.specs.declared.Peer.{Peer as PeerOf};
-ghost use Rattle.peer_finder.specs.Peers.{with_answer as with_answer_of, without_answer as without_answer_of, answer_in, ids_of as ids_in, set_of as set_of_ids, is_free as is_free_of};
+ghost use Rattle.peer_finder.specs.Peers.{with_answer as with_answer_of, without_answer as without_answer_of, answer_in, ids_of as ids_in, is_free as is_free_of};
 ghost use Rattle.peer_finder.specs.Choices.{is_chosen as is_chosen_of};
 
 use arrayvec::ArrayVec;
@@ -158,7 +159,7 @@ impl PeerFinder {
         ensures value { result ≡ known_set_of self.now }
         ensures few { length result ≤ MAX_PEERS }
     {
-        set_of(self.known.as_slice())
+        NodeSet::of(self.known.as_slice())
     }
 
     /// The peers that have answered.
@@ -296,28 +297,14 @@ fn ids_of(peers: &[Peer]) -> ArrayVec<NodeId, MAX_PEERS>
     ids
 }
 
-fn set_of(ids: &[NodeId]) -> NodeSet
-    requires { length ids.now ≤ MAX_PEERS }
-    ensures value { result ≡ set_of_ids ids.now }
-    ensures few { length result ≤ length ids.now }
-{
-    let mut set = NodeSet::new();
-    let mut place = ids.len();
-    while place > 0 {
-        place -= 1;
-        set.put(ids[place]);
-    }
-    set
-}
-
 fn set_chosen(peers: &[Peer], choice: Choice) -> NodeSet
     requires { length peers.now ≤ MAX_PEERS }
-    ensures value { result ≡ set_of_ids (ids_in (filter (λ (p : PeerOf). is_chosen_of choice p) peers.now)) }
+    ensures value { result ≡ set_of (ids_in (filter (λ (p : PeerOf). is_chosen_of choice p) peers.now)) }
     ensures few { length result ≤ MAX_PEERS }
 {
     let kept = chosen(peers, choice);
     let ids = ids_of(kept.as_slice());
-    set_of(ids.as_slice())
+    NodeSet::of(ids.as_slice())
 }
 
 #[cfg(test)]

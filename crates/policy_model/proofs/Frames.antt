@@ -13,7 +13,7 @@ use Rattle.exclusions.specs.Exclusions.{added_of, cleared_of}
 use Rattle.bootstrap.specs.Decisions.{decision_of}
 use Rattle.election_clock.specs.Delays.{is_due}
 use Rattle.peer_finder.specs.declared.Peer.{Peer}
-use Rattle.peer_finder.specs.Peers.{PeerFinder, after as finder_after, Added, ids_of, is_free, set_of, known_set, free_set, answered_set, most_peers}
+use Rattle.peer_finder.specs.Peers.{PeerFinder, after as finder_after, Added, ids_of, is_free, known_set, free_set, answered_set, most_peers}
 use Rattle.cluster_state.specs.JoinCheck.{is_empty}
 use Rattle.cluster_state.specs.declared.reply.LineFault.{LineFault}
 use Rattle.cluster_state.specs.declared.request.Ask.{Ask}
@@ -51,7 +51,7 @@ use Rattle.master_tasks.specs.Processing.{Processing, AnsweredAtOnce, Makes, Pro
 use Rattle.master_tasks.specs.Queue.{Tasks, is_full_of, with_room}
 use Rattle.world_model.specs.declared.acts.Act.{Act}
 use Rattle.world_model.specs.declared.acts.Act.TheVariants.{Bootstrap, StartJoin, TakeJoin, Value, Publish, Response, Commit, Open}
-use Rattle.voting_config.proofs.Sets.{same_self, length-with_id-le}
+use Rattle.voting_config.proofs.Sets.{same_self, length-with_id-le, length-set_of}
 use Rattle.policy_model.specs.declared.settings.Settings.{Settings}
 use Rattle.policy_model.specs.Events.{Mode, Candidate, Leader, Follower, Event, Start, Tick, FrameCame, LineCame, DropCause, Checks, Lag, Note, Met, Heard, PeersAsked, ElectionOff, ElectionSet, RoundBegun, RoundAnswered, RoundEnded, Joined, FollowersChecked, FollowerAnswered, LeaderChecked, LeaderAnswered, Queued, ExclusionsTimedOut, CommitAcked, ExclusionsAcked, StateMade, HandedOver, Item, Opens, Begins, Acts, Turns, Drops, Sends, Replies, Notes}
 use Rattle.policy_model.specs.Entries.{frames_in, put_frame, by_receiver}
@@ -77,11 +77,6 @@ fewer q [] = omega arith
 fewer q (x ∷ xs) =
     let rest : length (filter q xs) ≤ length xs = fewer q xs in
     elim (q x) as (λ b. length (cond b (x ∷ filter q xs) (filter q xs)) ≤ suc (length xs)) [ true ↦ omega arith | false ↦ omega arith ]
-
--- a set has at most as many ids as it is made of
-length-set_of : (ids : List Id) → length (set_of ids) ≤ length ids
-length-set_of [] = omega arith
-length-set_of (id ∷ ids) = omega (arith, length-with_id-le id (set_of ids), length-set_of ids)
 
 -- a set without an id, which it may have been given before
 without_put : (x : Id) (ys : List Id) → length (without_id x (put x ys)) ≤ length ys

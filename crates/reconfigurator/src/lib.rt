@@ -2,7 +2,7 @@
 #![tactic(auto)]
 
 ghost use Rattle.std.specs.Prelude.{◌≡◌, ◌||◌, ◌+◌, ◌<◌, ◌≤◌, [], ◌∷◌, ◌++◌, length, take, if◌then◌else◌};
-ghost use Rattle.voting_config.specs.Ids.{has, most_ids, set_of};
+ghost use Rattle.voting_config.specs.Ids.{has, most_ids};
 ghost use Rattle.arrayvec.specs.ArrayVec.{array_vec_len};
 ghost use Rattle.reconfigurator.specs.Targets.{candidates_of, chosen_of, least_size as least_size_of, odd_of, size_of, target_of};
 
@@ -57,7 +57,7 @@ fn chosen(
     let voters = config.without(excluded);
     let size = size(allowed.len(), members, voters.len(), shrink);
     let candidates = candidates(&allowed, &voters, master);
-    as_set(front(candidates.as_slice(), size))
+    NodeSet::of(front(candidates.as_slice(), size))
 }
 
 // How many candidates are taken, if there are as many.
@@ -154,16 +154,4 @@ fn front(ids: &[NodeId], count: usize) -> &[NodeId]
     } else {
         ids
     }
-}
-
-// The ids as a set.
-fn as_set(ids: &[NodeId]) -> NodeSet
-    requires { length ids.now ≤ most_ids }
-    ensures { result ≡ set_of ids.now }
-{
-    let mut set = NodeSet::new();
-    for id in ids {
-        set.put(*id);
-    }
-    set
 }

@@ -7,7 +7,7 @@ use Rattle.std.proofs.lemmas.List.{length-take}
 use Rattle.std.proofs.lemmas.List.Edits.{length-remove}
 use Rattle.std.proofs.lemmas.List.Sums.{sum_by-cons, sum_by-take-le, fold_more}
 use Rattle.voting_config.specs.Ids.{Id, same, before, has, is_below, ascends, most_ids, put, with_id, without_id, place_of, has_room, set_of, union, union_count_of, same_config}
-use Rattle.voting_config.proofs.Sorted.{less_is, length-put, has-put, is_below-absent, without_id-absent, remove-place_of, place_of-within}
+use Rattle.voting_config.proofs.Sorted.{less_is, before_trans, before_flip, length-put, has-put, has-with_id, is_below-absent, without_id-absent, remove-place_of, place_of-within}
 
 -- ---- whether two ids are the same, or two lists of them
 
@@ -60,10 +60,73 @@ put-first x (y ∷ ys) h = rw (not_before x y (and_parts (before x y) (is_below 
 pub with_id-first : (x : Id) (ys : List Id) → is_below x ys ≡ true → with_id x ys ≡ x ∷ ys
 with_id-first x ys h = rw (is_below-absent x ys h) (put-first x ys h)
 
+-- ---- the set of some ids
+
+-- of two ids that differ, one comes before the other
+one_before : (x y : Id) → same y x ≡ false → before x y ≡ not (before y x)
+one_before x y h =
+    elim (before y x) as (λ b. before y x ≡ b → before x y ≡ not b) [
+      | true ↦ λ e. not_before y x e
+      | false ↦ λ e. before_flip x y e h
+    ] refl
+
+-- z is before x, and not before y
+between : (x y z : Id) → before z x ≡ true → before z y ≡ false → before y x ≡ true
+between x y z h k =
+    elim (same z y) as (λ b. same z y ≡ b → before y x ≡ true) [
+      | true ↦ λ e. subst (λ (i : Id). before i x ≡ true) (same_text z y (sym e)) h
+      | false ↦ λ e. before_trans y z x (before_flip y z k e) h
+    ] refl
+
+-- two ids go in in either order
+either_first : (b : Bool) (x y : Id) (zs : List Id) → cond b (y ∷ x ∷ zs) (x ∷ y ∷ zs) ≡ cond (not b) (x ∷ y ∷ zs) (y ∷ x ∷ zs)
+either_first true x y zs = refl
+either_first false x y zs = refl
+
+put-swap : (x y : Id) (zs : List Id) → same y x ≡ false → put x (put y zs) ≡ put y (put x zs)
+put-swap x y [] h = rw (one_before x y h) (either_first (before y x) x y [])
+put-swap x y (z ∷ zs) h = from (before z x) (before z y) refl refl (put-swap x y zs h)
+  where
+    from : (a b : Bool) → before z x ≡ a → before z y ≡ b → put x (put y zs) ≡ put y (put x zs) → put x (cond b (z ∷ put y zs) (y ∷ z ∷ zs)) ≡ put y (cond a (z ∷ put x zs) (x ∷ z ∷ zs))
+    from true true e f rest = rw (e, f) (ap (λ t. z ∷ t) rest)
+    from true false e f rest = rw (between x y z e f, e, f) refl
+    from false true e f rest = rw (between y x z f e, e, f) refl
+    from false false e f rest = rw (e, f, one_before x y h) (either_first (before y x) x y (z ∷ zs))
+
+with_id-swap : (x y : Id) (zs : List Id) → with_id x (with_id y zs) ≡ with_id y (with_id x zs)
+with_id-swap x y zs =
+    elim (same y x) as (λ b. same y x ≡ b → with_id x (with_id y zs) ≡ with_id y (with_id x zs)) [
+      | true ↦ λ e. subst (λ (i : Id). with_id i (with_id y zs) ≡ with_id y (with_id i zs)) (same_text y x (sym e)) refl
+      | false ↦ λ e. apart e (same_flipped x y ∙ e) (has x zs) (has y zs) refl refl
+    ] refl
+  where
+    apart : same y x ≡ false → same x y ≡ false → (a b : Bool) → has x zs ≡ a → has y zs ≡ b
+        → cond (has x (cond b zs (put y zs))) (cond b zs (put y zs)) (put x (cond b zs (put y zs))) ≡ cond (has y (cond a zs (put x zs))) (cond a zs (put x zs)) (put y (cond a zs (put x zs)))
+    apart e f true true h k = rw (h, k) refl
+    apart e f true false h k = rw (has-put, e, h, k) refl
+    apart e f false true h k = rw (has-put, f, h, k) refl
+    apart e f false false h k = rw (has-put x y zs, has-put y x zs, e, f, h, k) (put-swap x y zs e)
+
+fold-with_id : (x : Id) (set ids : List Id) → fold (λ s id. with_id id s) (with_id x set) ids ≡ with_id x (fold (λ s id. with_id id s) set ids)
+fold-with_id x set [] = refl
+fold-with_id x set (y ∷ ids) = ap (λ s. fold (λ t id. with_id id t) s ids) (with_id-swap y x set) ∙ fold-with_id x (with_id y set) ids
+
+-- the set of the ids is that of the others with the first one
+pub set_of-cons : (x : Id) (ids : List Id) → set_of (x ∷ ids) ≡ with_id x (set_of ids)
+set_of-cons x ids = fold-with_id x [] ids
+
+-- it has those ids
+pub has-set_of : (x : Id) (ids : List Id) → has x (set_of ids) ≡ has x ids
+has-set_of x [] = refl
+has-set_of x (y ∷ ids) = ap (has x) (set_of-cons y ids) ∙ has-with_id x y (set_of ids) ∙ ap (λ b. same y x || b) (has-set_of x ids)
+
 -- a set has at most as many ids as it is made of
 length-fold : (set ids : List Id) → length (fold (λ s id. with_id id s) set ids) ≤ length set + length ids
 length-fold set [] = omega arith
 length-fold set (x ∷ ids) = omega (arith, length-fold (with_id x set) ids, length-with_id-le x set)
+
+pub length-set_of : (ids : List Id) → length (set_of ids) ≤ length ids
+length-set_of ids = omega (arith, length-fold [] ids)
 
 pub length-set_of-take : (ids : List Id) (n : ℕ) → length (set_of (take n ids)) ≤ n
 length-set_of-take ids n = omega (arith, length-fold [] (take n ids), length-take n ids)

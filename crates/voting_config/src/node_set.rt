@@ -1,6 +1,6 @@
 //! `NodeSet`: a set of at most 32 ids, which is held in place and takes no memory of the allocator.
 ghost use Rattle.std.specs.Prelude.{◌≡◌, ℕ, ◌+◌, ◌<◌, ◌≤◌, ◌↔◌, List, [], ◌∷◌, ◌++◌, length, IsTrue, IfOk, OnOk, OnErr, IsErr, slice_get, not, Result, false};
-ghost use Rattle.voting_config.specs.Ids.{Id, among, are_among, comes_after, has, has_room as has_room_of, IsIdSet, most_ids, outside, place_of, some_among, union as union_of, union_count_of, with_id, without_id};
+ghost use Rattle.voting_config.specs.Ids.{Id, among, are_among, comes_after, has, has_room as has_room_of, IsIdSet, most_ids, outside, place_of, set_of, some_among, union as union_of, union_count_of, with_id, without_id};
 ghost use Rattle.voting_config.specs.Lists.{listed_ids};
 
 use crate::lists::read_ids;
@@ -44,6 +44,19 @@ impl NodeSet {
         NodeSet {
             ids: ArrayVec::new(),
         }
+    }
+
+    /// The set of these ids.
+    pub fn of(ids: &[NodeId]) -> NodeSet
+        requires { length ids.now ≤ most_ids }
+        ensures value { result ≡ set_of ids.now }
+        ensures few { length result ≤ length ids.now }
+    {
+        let mut set = NodeSet::new();
+        for id in ids {
+            set.put(*id);
+        }
+        set
     }
 
     /// The set that a text lists: ids that ascend, with `,` between them, or `_` for none. None where the text is no

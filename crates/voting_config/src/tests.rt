@@ -76,6 +76,13 @@ fn sets_are_put_together_and_apart(rt: HostRuntime) {
 }
 
 #[test]
+fn a_set_is_made_of_ids_in_any_order(rt: HostRuntime) {
+    let ids = [id("c"), id("a"), id("c"), id("b")];
+    assert!(rt; NodeSet::of(&ids).as_slice() == set("a,b,c").as_slice());
+    assert!(rt; NodeSet::of(&[]).len() == 0);
+}
+
+#[test]
 fn a_quorum_is_more_than_half(rt: HostRuntime) {
     for (config, votes, wanted) in [
         ("_", "a", false),

@@ -2,17 +2,13 @@
 use Rattle.std.proofs.Common.{◌≡◌, ℕ, max, Bool, true, false, cond, ◌&&◌, ◌||◌, Option, None, Some, List, [], ◌∷◌, refl, sym, ◌∙◌, ap, arith}
 use Rattle.std.proofs.lemmas.Bool.{both_ways, or_parts, and_parts, not-true}
 use Rattle.std.specs.Option.{unwrap_or}
-use Rattle.voting_config.specs.Ids.{Id, has, same, with_id}
-use Rattle.voting_config.proofs.Sorted.{has-with_id}
+use Rattle.voting_config.specs.Ids.{Id, with_id, set_of}
+use Rattle.voting_config.proofs.Sets.{set_of-cons}
 use Rattle.world_model.specs.Acts.{NodeHistory, Bootstrap, StartJoin, TakeJoin, Value, Publish, Response, Commit, Open, NoActs, Then, Taken, Answered, Disk, Crashed, is_ok, is_disk}
 use Rattle.world_model.specs.NodeState.{node_state, durable_of, term_of, accepted_of, committed_of, started_join_of, join_votes_of, election_won_of, published_version_of, published_config_of, publish_votes_of, halted_of}
 use Rattle.world_model.specs.Histories.{IsLocal}
-use Rattle.world_model.specs.Literal.{any, after_last, last, all, has_a, set_of, winning_join, ok_join, ok_response, ok_value, Proposal, has_round, round_of, literal_term, literal_accepted, literal_committed, literal_join_votes, literal_election_won, literal_published, literal_publish_votes, literal_halted, literal_durable, literal_state, KeepsLiterally}
+use Rattle.world_model.specs.Literal.{any, after_last, last, all, has_a, winning_join, ok_join, ok_response, ok_value, Proposal, has_round, round_of, literal_term, literal_accepted, literal_committed, literal_join_votes, literal_election_won, literal_published, literal_publish_votes, literal_halted, literal_durable, literal_state, KeepsLiterally}
 use Rattle.world_model.proofs.Guards.{join_guard, value_guard, response_guard}
-
-pub has-set_of : (x : Id) (ids : List Id) → has x (set_of ids) ≡ has x ids
-has-set_of x [] = refl
-has-set_of x (y ∷ ys) = has-with_id x y (set_of ys) ∙ ap (λ b. same y x || b) (has-set_of x ys)
 
 -- Of any acts.
 
@@ -80,7 +76,7 @@ in_round true x y h = refl
 in_round false x y h = cc
 
 one_more_source : (s : Id) (ids sources : List Id) (b : Bool) → b ≡ true → ids ≡ cond b (set_of sources) [] → with_id s ids ≡ cond b (set_of (s ∷ sources)) []
-one_more_source s ids sources true h k = ap (λ x. with_id s x) k
+one_more_source s ids sources true h k = ap (with_id s) k ∙ sym (set_of-cons s sources)
 one_more_source s ids sources false h k = cc
 
 pub votes_is : (me : Id) (g : NodeHistory) → IsLocal me g → join_votes_of g ≡ literal_join_votes g

@@ -2,7 +2,7 @@
 -- NodeState are this.
 use Rattle.std.specs.Prelude.{◌≡◌, ℕ, max, Bool, true, false, cond, ◌&&◌, ◌||◌, Option, None, Some, List, [], ◌∷◌}
 use Rattle.std.specs.Option.{unwrap_or, option_or, option_map_or, is_some}
-use Rattle.voting_config.specs.Ids.{Id, has, with_id}
+use Rattle.voting_config.specs.Ids.{Id, has, set_of}
 use Rattle.cluster_state.specs.declared.state.ClusterState.{ClusterState}
 use Rattle.cluster_state.specs.declared.state.Kept.{Kept}
 use Rattle.world_model.specs.Acts.{Act, Outcome, NodeHistory, Bootstrap, StartJoin, TakeJoin, Value, Publish, Response, Commit, Open, NoActs, Then, is_ok, is_effective, wins, is_disk, is_first}
@@ -43,11 +43,6 @@ has_a read act o = is_some (read act o)
 abbrev pub greatest : List ℕ → ℕ
 greatest [] = 0
 greatest (x ∷ xs) = max x (greatest xs)
-
--- the set of these ids
-abbrev pub set_of : List Id → List Id
-set_of [] = []
-set_of (x ∷ xs) = with_id x (set_of xs)
 
 -- What is looked for.
 

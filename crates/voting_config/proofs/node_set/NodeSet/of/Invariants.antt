@@ -1,6 +1,6 @@
 use Rattle.std.proofs.Common.{◌≡◌, take}
 use Rattle.voting_config.specs.Ids.{set_of}
-use Rattle.reconfigurator.proofs.as_set.Given as goal
+use Rattle.voting_config.proofs.node_set.NodeSet.of.Given as goal
 
 abbrev pub invariant-loop-id : goal.invariant-loop-id
 invariant-loop-id l = l.set ≡ set_of (take l.id-index l.ids)
