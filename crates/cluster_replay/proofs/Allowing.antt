@@ -14,7 +14,7 @@ use Rattle.wire_frames.specs.declared.frame.WireMessage.{WireMessage as FrameMes
 use Rattle.wire_frames.specs.declared.frame.WireMessage.TheVariants as message
 use Rattle.master_tasks.specs.declared.waiting.Waiting.{Waiting}
 use Rattle.master_tasks.specs.declared.waiting.Outgoing.{Outgoing}
-use Rattle.master_tasks.specs.Queue.{Tasks, no_tasks, with_room}
+use Rattle.master_tasks.specs.Queue.{Tasks, no_tasks}
 use Rattle.master_tasks.specs.Answering.{without_answered}
 use Rattle.world_model.specs.declared.acts.Act.{Act}
 use Rattle.world_model.specs.declared.acts.Act.TheVariants.{Bootstrap, StartJoin, TakeJoin, Value, Publish, Response, Commit, Open}

@@ -3,7 +3,7 @@ use Rattle.std.proofs.Common.{◌≡◌, ℕ, ◌+◌, ◌-◌, ◌%◌, ◌≤�
 use Rattle.std.specs.Prelude.{IfSome, if◌then◌else◌}
 use Rattle.std.specs.List.{list_all, AllByRecursion}
 use Rattle.std.proofs.lemmas.Bool.{and_parts, and_from}
-use Rattle.voting_config.specs.Ids.{Id, is_id, has, with_id, without_id, most_ids, same_config, is_quorum_of, union_count_of, IsIdSet, among, outside, set_of, union}
+use Rattle.voting_config.specs.Ids.{Id, is_id, has, with_id, without_id, most_ids, same_config, is_quorum_of, union_count_of, IsIdSet, among, outside, set_of, union, with_room}
 use Rattle.reconfigurator.specs.Targets.{odd_of, least_size, size_of, candidates_of, chosen_of, target_of}
 use Rattle.voting_config.proofs.Sets.{length-set_of-take}
 use Rattle.exclusions.specs.declared.AddError.TheVariants.{TooMany}
@@ -29,7 +29,7 @@ use Rattle.master_tasks.specs.Fitting.{HaveGoodSettings}
 use Rattle.master_tasks.specs.Members.{joined, members_after}
 use Rattle.master_tasks.specs.NextState.{Leader, config_for, is_nothing_new, next_config, next_value, processed_by, tasks_after, unacked, value_before}
 use Rattle.master_tasks.specs.Processing.{Processing, AnsweredAtOnce, Makes, Processed, and_then, before_all, clearing, excluding, processing, processing_once, putting, value_after, with_next}
-use Rattle.master_tasks.specs.Queue.{Tasks, with_room}
+use Rattle.master_tasks.specs.Queue.{Tasks}
 use Rattle.master_tasks.proofs.Limits.{fits_next}
 use Rattle.trace_text.proofs.IdLists.{none_set}
 use Rattle.cluster_replay.proofs.Fits.{AreIds, no_ids, ids-fold, few_ids, each-filter, each-append, each-take, fewer, set-fits, set-filter, set-with}

@@ -1,7 +1,7 @@
 -- Part of the statement: the members of the next state.
 use Rattle.std.specs.Prelude.{List, fold, if◌then◌else◌}
-use Rattle.voting_config.specs.Ids.{Id, has, without_id, outside}
-use Rattle.master_tasks.specs.Queue.{Tasks, with_room}
+use Rattle.voting_config.specs.Ids.{Id, has, without_id, outside, with_room}
+use Rattle.master_tasks.specs.Queue.{Tasks}
 
 -- the ids with these more as far as there is room, the node itself first and then by id
 abbrev pub joined : Id → List Id → List Id → List Id

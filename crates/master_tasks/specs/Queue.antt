@@ -1,7 +1,7 @@
 -- Part of the statement: what a leader has to do: the requests that are not answered yet, in order of arrival, and the members that are to go and
 -- to come.
-use Rattle.std.specs.Prelude.{ℕ, Bool, false, List, [], ◌∷◌, ◌++◌, length, remove, nat_le, nat_lt, if◌then◌else◌}
-use Rattle.voting_config.specs.Ids.{Id, most_ids, with_id}
+use Rattle.std.specs.Prelude.{ℕ, Bool, false, List, [], ◌∷◌, ◌++◌, length, remove, nat_le}
+use Rattle.voting_config.specs.Ids.{Id, with_room}
 use Rattle.cluster_state.specs.declared.request.Request.{Request}
 use Rattle.master_tasks.specs.declared.waiting.Waiting.{Waiting}
 
@@ -30,10 +30,6 @@ offered t w = record t { waiting = t.waiting ++ w ∷ [] }
 
 abbrev pub settled : Tasks → ℕ → Tasks
 settled t place = record t { waiting = remove t.waiting place }
-
--- the ids with one more, where there is room
-abbrev pub with_room : List Id → Id → List Id
-with_room ids id = if nat_lt (length ids) most_ids then with_id id ids else ids
 
 abbrev pub to_be_added : Tasks → Id → Tasks
 to_be_added t id = record t { additions = with_room t.additions id }

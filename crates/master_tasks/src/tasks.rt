@@ -18,7 +18,7 @@ ghost use Rattle.master_tasks.specs.Processing.{processed_all};
 ghost use Rattle.master_tasks.specs.Replying.{room_for, with_sent};
 
 use crate::answering::Decision;
-use crate::members::{join, put};
+use crate::members::join;
 use crate::next::Next;
 use crate::processing::process_once;
 use crate::replies::Replies;
@@ -163,14 +163,14 @@ impl MasterTasks {
     pub fn add_member(&mut self, id: NodeId)
         ensures { self.new ≡ to_be_added self.old id }
     {
-        put(&mut self.additions, id);
+        self.additions.put_if_room(id);
     }
 
     /// The id is to be a member no more, unless 32 others already are to go.
     pub fn drop_member(&mut self, id: NodeId)
         ensures { self.new ≡ to_be_removed self.old id }
     {
-        put(&mut self.removals, id);
+        self.removals.put_if_room(id);
     }
 
     /// The same tasks once more.

@@ -1,12 +1,11 @@
 -- An event sends few frames, and keeps a node's sets small.
 use Rattle.std.proofs.Common.{◌≡◌, ℕ, suc, ◌+◌, ◌≤◌, Bool, true, false, not, cond, ◌&&◌, Option, None, Some, Result, Ok, Err, List, [], ◌∷◌, ◌++◌, length, map, filter, fold, refl, ap, ◌∙◌, arith}
-use Rattle.std.specs.Prelude.{if◌then◌else◌, is_some, nat_le, nat_lt, nat_eq}
+use Rattle.std.specs.Prelude.{if◌then◌else◌, is_some, nat_le, nat_lt}
 use Rattle.std.specs.List.{flat_map}
 use Rattle.std.proofs.lemmas.Bool.Decides.{nat_tests}
 use Rattle.std.proofs.lemmas.List.{length-append, length-map}
 use Rattle.cluster_state.specs.Field.{last_number}
-use Rattle.voting_config.specs.Ids.{Id, has, before, same, put, with_id, without_id, most_ids, among, outside, has_room}
-use Rattle.voting_config.proofs.Sorted.{length-put}
+use Rattle.voting_config.specs.Ids.{Id, has, before, same, put, with_id, without_id, most_ids, among, outside, has_room, with_room}
 use Rattle.exclusions.specs.declared.AddError.{AddError}
 use Rattle.exclusions.specs.declared.StillMember.{StillMember}
 use Rattle.exclusions.specs.Exclusions.{added_of, cleared_of}
@@ -37,7 +36,7 @@ use Rattle.pre_vote.specs.declared.rounds.Added.TheVariants.{Counted, Fresher, Q
 use Rattle.pre_vote.specs.declared.replies.Reply.{Reply as PreVoteReply}
 use Rattle.pre_vote.specs.declared.replies.Reply.TheVariants.{Answer as PreVoteAnswer, Refused as PreVoteRefused}
 use Rattle.pre_vote.specs.Rounds.{Round}
-use Rattle.publication.specs.Publications.{Publication, with_fitting}
+use Rattle.publication.specs.Publications.{Publication}
 use Rattle.fault_checks.specs.declared.leader.LeaderTick.{LeaderTick}
 use Rattle.fault_checks.specs.declared.leader.LeaderTick.TheVariants as leader_tick_is
 use Rattle.fault_checks.specs.Leaders.{LeaderCheck, leader_tick}
@@ -48,7 +47,7 @@ use Rattle.master_tasks.specs.declared.waiting.Waiting.{Waiting}
 use Rattle.master_tasks.specs.Members.{members_after}
 use Rattle.master_tasks.specs.NextState.{Leader as Master, next_answers, is_nothing_new, next_value, processed_by, value_before}
 use Rattle.master_tasks.specs.Processing.{Processing, AnsweredAtOnce, Makes, Processed, and_then, before_all, clearing, excluding, processing, processing_once, value_after, with_next}
-use Rattle.master_tasks.specs.Queue.{Tasks, is_full_of, with_room}
+use Rattle.master_tasks.specs.Queue.{Tasks, is_full_of}
 use Rattle.world_model.specs.declared.acts.Act.{Act}
 use Rattle.world_model.specs.declared.acts.Act.TheVariants.{Bootstrap, StartJoin, TakeJoin, Value, Publish, Response, Commit, Open}
 use Rattle.voting_config.proofs.Sets.{same_self, length-with_id-le, length-set_of}
@@ -102,16 +101,6 @@ few-with_room ids id few =
       | true ↦ λ room. grind (arith, nat_tests, one_more)
       | false ↦ λ full. few
     ] refl
-
-few-with_fitting : (id : Id) (ids : List Id) → length ids ≤ most_ids → length (with_fitting id ids) ≤ most_ids
-few-with_fitting id ids few =
-    elim (has id ids) as (λ h. length (if not h && nat_eq (length ids) most_ids then ids else cond h ids (put id ids)) ≤ most_ids) [
-      | true ↦ few
-      | false ↦ elim (nat_eq (length ids) most_ids) as (λ b. nat_eq (length ids) most_ids ≡ b → length (if b then ids else put id ids) ≤ most_ids) [
-        | true ↦ λ full. few
-        | false ↦ λ room. let one_more = length-put id ids in grind (arith, nat_tests, one_more)
-      ] refl
-    ]
 
 -- ---- the members of the next state
 
@@ -222,8 +211,8 @@ targets-responded None source commits few = few
 targets-responded (Some p) source commits few = rw (targets-after p source commits) few
 
 responders-after : (p : Publication) (source : Id) (commits : Bool) → length p.responders ≤ most_ids → length (after_response p source commits).responders ≤ most_ids
-responders-after p source true few = few-with_fitting source p.responders few
-responders-after p source false few = few-with_fitting source p.responders few
+responders-after p source true few = few-with_room p.responders source few
+responders-after p source false few = few-with_room p.responders source few
 
 responders-responded : (p : Option Publication) (source : Id) (commits : Bool) → length (next.responders_of p) ≤ most_ids → length (next.responders_of (responded p source commits)) ≤ most_ids
 responders-responded None source commits few = few

@@ -1,6 +1,6 @@
 -- Part of the statement: a publication of the leader, by the calls so far.
-use Rattle.std.specs.Prelude.{◌≡◌, ℕ, Bool, true, false, not, ◌&&◌, ◌||◌, List, [], filter, length, nat_eq, if◌then◌else◌}
-use Rattle.voting_config.specs.Ids.{Id, has, same, with_id, without_id, most_ids}
+use Rattle.std.specs.Prelude.{◌≡◌, ℕ, Bool, true, false, not, ◌||◌, List, [], filter, if◌then◌else◌}
+use Rattle.voting_config.specs.Ids.{Id, same, with_room, without_id}
 use Rattle.cluster_state.specs.declared.state.StateId.{StateId}
 use Rattle.election_clock.specs.Delays.{has_passed}
 use Rattle.publication.specs.declared.Stage.{Stage}
@@ -31,14 +31,10 @@ abbrev pub start_of : Calls → ℕ
 start_of (Started id targets now) = now
 start_of (Then calls call) = start_of calls
 
--- a set with an id more, where it has room for it
-abbrev pub with_fitting : Id → List Id → List Id
-with_fitting id ids = if not (has id ids) && nat_eq (length ids) most_ids then ids else with_id id ids
-
 -- who has responded: the first 32 of them
 abbrev pub responders_of : Calls → List Id
 responders_of (Started id targets now) = []
-responders_of (Then calls (Responded source)) = with_fitting source (responders_of calls)
+responders_of (Then calls (Responded source)) = with_room (responders_of calls) source
 responders_of (Then calls call) = responders_of calls
 
 -- whether its commit was sent
@@ -90,7 +86,7 @@ StandsFor p calls = p ≡ publication_of calls
 
 -- what one more call makes of it
 abbrev pub after : Publication → Call → Publication
-after p (Responded source) = record p { responders = with_fitting source p.responders }
+after p (Responded source) = record p { responders = with_room p.responders source }
 after p CommitSent = record p { commit_sent = true }
 after p Finished = record p { finished = true }
 after p (Applied source) = record p { laggards = without_id source p.laggards }

@@ -2,7 +2,6 @@
 #![tactic(auto)]
 
 ghost use Rattle.std.specs.Prelude.{◌≡◌};
-ghost use Rattle.publication.specs.Publications.{with_fitting};
 
 use cluster_state::StateId;
 use election_clock::has_passed;
@@ -75,7 +74,7 @@ impl Publication {
         ensures now { self.new ≡ after self.old (Responded source) }
         ensures calls { (calls : Calls) → StandsFor self.old calls → StandsFor self.new (Then calls (Responded source)) }
     {
-        insert_fitting(&mut self.responders, source);
+        self.responders.put_if_room(source);
     }
 
     /// Its commit is sent.
@@ -150,14 +149,6 @@ impl Publication {
     {
         self.finished
     }
-}
-
-// The set with an id more, where it has room for it.
-fn insert_fitting(ids: &mut NodeSet, id: NodeId)
-    ensures { ids.new ≡ with_fitting id ids.old }
-{
-    // Where there is no room the set stays as it is.
-    let _ = ids.insert(id);
 }
 
 #[cfg(test)]

@@ -1,6 +1,6 @@
 //! `NodeSet`: a set of at most 32 ids, which is held in place and takes no memory of the allocator.
 ghost use Rattle.std.specs.Prelude.{◌≡◌, ℕ, ◌+◌, ◌<◌, ◌≤◌, ◌↔◌, List, [], ◌∷◌, ◌++◌, length, IsTrue, IfOk, OnOk, OnErr, IsErr, slice_get, not, Result, false};
-ghost use Rattle.voting_config.specs.Ids.{Id, among, are_among, comes_after, has, has_room as has_room_of, IsIdSet, most_ids, outside, place_of, set_of, some_among, union as union_of, union_count_of, with_id, without_id};
+ghost use Rattle.voting_config.specs.Ids.{Id, among, are_among, comes_after, has, has_room as has_room_of, IsIdSet, most_ids, outside, place_of, set_of, some_among, union as union_of, union_count_of, with_id, with_room, without_id};
 ghost use Rattle.voting_config.specs.Lists.{listed_ids};
 
 use crate::lists::read_ids;
@@ -142,6 +142,15 @@ impl NodeSet {
     {
         // There is room, or it is in already, so this is no error.
         let _ = self.insert(id);
+    }
+
+    /// Puts the id in, where it is not in yet and fewer than [`MAX_IDS`] are; else the set stays as it is.
+    pub fn put_if_room(&mut self, id: NodeId)
+        ensures { self.new ≡ with_room self.old id }
+    {
+        if self.ids.len() < MAX_IDS {
+            self.put(id);
+        }
     }
 
     /// Takes the id out. True where it was in.

@@ -83,6 +83,17 @@ fn a_set_is_made_of_ids_in_any_order(rt: HostRuntime) {
 }
 
 #[test]
+fn an_id_is_put_in_if_there_is_room(rt: HostRuntime) {
+    let mut ids = set("b,c");
+    ids.put_if_room(id("a"));
+    ids.put_if_room(id("b"));
+    assert!(rt; ids.as_slice() == set("a,b,c").as_slice());
+    let mut many = set("0,1,2,3,4,5,a,b,c,d,e,f,g,h,i,j,k,l,m,n,o,p,q,r,s,t,u,v,w,x,y,z");
+    many.put_if_room(id("6"));
+    assert!(rt; many.len() == MAX_IDS && !many.contains(id("6")));
+}
+
+#[test]
 fn a_quorum_is_more_than_half(rt: HostRuntime) {
     for (config, votes, wanted) in [
         ("_", "a", false),

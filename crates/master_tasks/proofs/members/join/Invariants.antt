@@ -1,5 +1,5 @@
 use Rattle.std.proofs.Common.{◌≡◌, take, fold}
-use Rattle.master_tasks.specs.Queue.{with_room}
+use Rattle.voting_config.specs.Ids.{with_room}
 use Rattle.master_tasks.proofs.members.join.Given as goal
 
 abbrev pub invariant-loop-id : goal.invariant-loop-id
