@@ -9,9 +9,10 @@ use Rattle.world_model.specs.declared.acts.Act.{Act}
 use Rattle.world_model.specs.declared.acts.Outcome.{Outcome}
 use Rattle.world_model.specs.NodeState.{term_of, accepted_of}
 use Rattle.world_model.specs.Histories.{History, NoEntries, Next, node_history}
-use Rattle.world_model.specs.Safety.{Win, winners, Published, published, IsCommitted, Descends, HoldsAnswers, IsSafeFrom}
-use Rattle.world_model.proofs.Facts.{Facts, IsAtMost, IsPublished, Election, elections}
-use Rattle.agreement.proofs.Order.{same_versions, IsBelow, at_most_or_below, at_most_from_below, at_most_term}
+use Rattle.world_model.specs.Safety.{Win, winners, Published, published, IsCommitted, Descends, HoldsAnswers, IsSafeFrom, IsAtMost}
+use Rattle.world_model.proofs.Facts.{Facts, IsPublished, Election, elections}
+use Rattle.world_model.proofs.StateIds.{IsBelow}
+use Rattle.agreement.proofs.Order.{same_versions, at_most_or_below, at_most_from_below, at_most_term}
 use Rattle.agreement.proofs.Lineage.{IsAfter, published_all, root_lowest, descends_after, descends_id}
 use Rattle.agreement.proofs.Terms.{agree_terms}
 

@@ -4,11 +4,11 @@ use Rattle.std.specs.List.{Contains}
 use Rattle.voting_config.specs.Ids.{Id, has, is_quorum_of}
 use Rattle.cluster_state.specs.declared.state.ClusterState.{ClusterState}
 use Rattle.world_model.specs.Histories.{History}
-use Rattle.world_model.specs.Safety.{Published, published, IsCommitted, Descends, Itself}
-use Rattle.world_model.proofs.Facts.{Facts, IsAtMost, IsPublishedByOther, IsOriginal, IsAlone, HasJoined, Election, elections, took, CommitFacts}
+use Rattle.world_model.specs.Safety.{Published, published, IsCommitted, Descends, Itself, IsAtMost}
+use Rattle.world_model.proofs.Facts.{Facts, IsPublishedByOther, IsOriginal, IsAlone, HasJoined, Election, elections, took, CommitFacts}
 use Rattle.agreement.proofs.Quorums.{quorum_meet, Shared}
-use Rattle.world_model.proofs.Durable.{at_most_trans}
-use Rattle.agreement.proofs.Order.{same_terms, same_versions, IsBelow, at_most_or_below, at_most_from_below, at_most_term, not_below, id_trans}
+use Rattle.world_model.proofs.StateIds.{IsBelow, id_trans, at_most_trans}
+use Rattle.agreement.proofs.Order.{same_terms, same_versions, at_most_or_below, at_most_from_below, at_most_term, not_below}
 use Rattle.agreement.proofs.Lineage.{published_state, original_all, descends_step, Step, descends_id, descends_version, parent_term, parent_version, parent_original}
 use Rattle.agreement.proofs.Newest.{IsChosen, IsRootOrChosen, IsNewest, IsOneOf, IsCovered, HasOneState, above_chosen, covered_root, chosen_not_root, same_if_each_at_most, newest_config_step, newest_win_quorum}
 

@@ -4,7 +4,7 @@ use Rattle.voting_config.specs.Ids.{Id}
 use Rattle.cluster_state.specs.declared.state.Kept.{Kept}
 use Rattle.world_model.specs.NodeState.{accepted_of, initial_state}
 use Rattle.world_model.specs.Histories.{History, node_history, IsLegal, IsPrefix}
-use Rattle.world_model.specs.Safety.{Published, IsCommitted, Descends, IsAtLeast, IsSafe, IsSafeFrom}
+use Rattle.world_model.specs.Safety.{Published, IsCommitted, Descends, IsAtMost, IsSafe, IsSafeFrom}
 use Rattle.world_model.specs.Restarts.{IsAlone, IsLegalFrom}
 use Rattle.world_model.proofs.FactsOfLegal.{facts_of_legal, accepted_in_legal}
 use Rattle.world_model.proofs.Keeping.{kept}
@@ -18,7 +18,7 @@ safe_of_legal initial h l =
     (safe_from_facts (initial_state initial) h facts (kept initial h l), published_descends facts)
 
 pub lost : (initial : List Id) (h : History) → IsLegal initial h → (node : Id) (p : History) → IsPrefix p h → (c : Published) → IsCommitted h c
-    → Descends h c.state (accepted_of (node_history p node)) ↔ IsAtLeast (accepted_of (node_history p node)) c.state.term c.state.version
+    → Descends h c.state (accepted_of (node_history p node)) ↔ IsAtMost c.state (accepted_of (node_history p node))
 lost initial h l node p i c k = accepted_descends (facts_of_legal initial h l) (accepted_of (node_history p node)) (accepted_in_legal initial h l node p i) c k
 
 pub safe_from : (first : Id) (record_kept : Kept) (h : History) → IsAlone first record_kept → IsLegalFrom first record_kept h → IsSafeFrom record_kept.accepted h

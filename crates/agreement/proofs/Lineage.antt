@@ -4,9 +4,10 @@ use Rattle.std.specs.List.{Contains}
 use Rattle.std.proofs.lemmas.Bool.{cases_lt}
 use Rattle.cluster_state.specs.declared.state.ClusterState.{ClusterState}
 use Rattle.world_model.specs.Histories.{History}
-use Rattle.world_model.specs.Safety.{Published, published, Descends, Itself, Child}
-use Rattle.world_model.proofs.Facts.{Facts, IsAtMost, IsPublished, IsOriginal}
-use Rattle.agreement.proofs.Order.{same_versions, IsBelow, at_most_from_below, id_refl}
+use Rattle.world_model.specs.Safety.{Published, published, Descends, Itself, Child, IsAtMost}
+use Rattle.world_model.proofs.Facts.{Facts, IsPublished, IsOriginal}
+use Rattle.world_model.proofs.StateIds.{IsBelow, at_most_self}
+use Rattle.agreement.proofs.Order.{same_versions, at_most_from_below}
 
 -- a published state as such
 pub published_state : {h : History} (p : Published) → Contains (published h) p → IsPublished h p.state
@@ -89,7 +90,7 @@ module _ {h : History} {root : ClusterState} (facts : Facts h root) where
   descends_id {r} {s} d = from (descends_after d)
     where
       from : IsAfter r s → IsAtMost r s
-      from (inl same) = subst (λ x. IsAtMost r x) (sym same) (id_refl r)
+      from (inl same) = subst (λ x. IsAtMost r x) (sym same) (at_most_self r)
       from (inr after) = at_most_from_below r s after.0
 
   pub descends_version : {r s : ClusterState} → Descends h r s → r.version ≤ s.version

@@ -4,9 +4,10 @@ use Rattle.std.specs.List.{Contains}
 use Rattle.voting_config.specs.Ids.{Id, is_quorum_of}
 use Rattle.cluster_state.specs.declared.state.ClusterState.{ClusterState}
 use Rattle.world_model.specs.Histories.{History}
-use Rattle.world_model.specs.Safety.{Published, published, IsCommitted}
-use Rattle.world_model.proofs.Facts.{Facts, IsAtMost, IsPublished, IsOriginal, IsHeldFor, IsCommitOf, HasSentCommit, Election, elections}
-use Rattle.agreement.proofs.Order.{same_terms, same_versions, id_refl, same_id, at_most_term}
+use Rattle.world_model.specs.Safety.{Published, published, IsCommitted, IsAtMost}
+use Rattle.world_model.proofs.Facts.{Facts, IsPublished, IsOriginal, IsHeldFor, IsCommitOf, HasSentCommit, Election, elections}
+use Rattle.world_model.proofs.StateIds.{at_most_self}
+use Rattle.agreement.proofs.Order.{same_terms, same_versions, same_id, at_most_term}
 use Rattle.agreement.proofs.Lineage.{root_lowest, root_lowest_state, published_state}
 
 -- the state was published, and its commit was sent
@@ -50,7 +51,7 @@ above_chosen {h} {root} {s} {newest} is_newest c chosen at_most =
     (is_newest.above_all chosen.as_published chosen.is_committed (subst (λ x. IsAtMost x s) (sym chosen.is_state) at_most))
 
 pub newest_root : {h : History} (root : ClusterState) → IsNewest h root root root
-newest_root root = record { origin = inl refl; at_most = id_refl root; above_all = λ c is_committed at_most. at_most }
+newest_root root = record { origin = inl refl; at_most = at_most_self root; above_all = λ c is_committed at_most. at_most }
 
 pub covered_root : {h : History} (root : ClusterState) → IsCovered h root root
 covered_root root = record { newest = root; is_newest = newest_root root; is_one = inl refl }
@@ -94,7 +95,7 @@ module _ {h : History} {root : ClusterState} (facts : Facts h root) where
   -- the newest below a committed state is that state
   pub newest_of_chosen : (s newest : ClusterState) → HasOneState h s.term → IsChosen h s → IsNewest h root s newest → newest ≡ s
   newest_of_chosen s newest one chosen is_newest =
-      sym (same_if_each_at_most s newest one (inr chosen) is_newest.origin (λ c. above_chosen is_newest s chosen (id_refl s)) (λ c. is_newest.at_most))
+      sym (same_if_each_at_most s newest one (inr chosen) is_newest.origin (λ c. above_chosen is_newest s chosen (at_most_self s)) (λ c. is_newest.at_most))
 
   -- an original state whose commit was sent, by whomever, is committed
   pub sent_is_chosen : (s : ClusterState) → HasOneState h s.term → IsOriginal h root s → (node : Id) → HasSentCommit h node s.term s.version → IsChosen h s

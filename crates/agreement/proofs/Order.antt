@@ -10,7 +10,9 @@ use Rattle.cluster_state.specs.declared.messages.ApplyCommit.{ApplyCommit}
 use Rattle.world_model.specs.declared.acts.Message.{Message}
 use Rattle.world_model.specs.declared.acts.Message.TheVariants.{Join as JoinMessage, Publish as PublishMessage, Response as ResponseMessage, Commit as CommitMessage}
 use Rattle.world_model.specs.Histories.{History, sent}
-use Rattle.world_model.proofs.Facts.{IsIdAtMost, IsAtMost, HasSentCommit}
+use Rattle.world_model.specs.Safety.{IsAtMost}
+use Rattle.world_model.proofs.Facts.{HasSentCommit}
+use Rattle.world_model.proofs.StateIds.{IsBelow}
 
 -- states that are the same have one term and one version
 pub same_terms : {r s : ClusterState} → r ≡ s → r.term ≡ s.term
@@ -18,19 +20,6 @@ same_terms same = ap (λ (x : ClusterState). x.term) same
 
 pub same_versions : {r s : ClusterState} → r ≡ s → r.version ≡ s.version
 same_versions same = ap (λ (x : ClusterState). x.version) same
-
--- the id of r is below that of s
-abbrev pub IsBelow : ClusterState → ClusterState → Type 0
-IsBelow r s = (r.term < s.term) ⊎ ((s.term ≡ r.term) × (r.version < s.version))
-
-pub id_refl : (s : ClusterState) → IsAtMost s s
-id_refl s = inr (refl, omega arith)
-
-pub id_trans : (t v t' v' t'' v'' : ℕ) → IsIdAtMost t v t' v' → IsIdAtMost t' v' t'' v'' → IsIdAtMost t v t'' v''
-id_trans t v t' v' t'' v'' (inl a) (inl b) = inl (omega arith)
-id_trans t v t' v' t'' v'' (inl a) (inr b) = inl (omega arith)
-id_trans t v t' v' t'' v'' (inr a) (inl b) = inl (omega arith)
-id_trans t v t' v' t'' v'' (inr a) (inr b) = inr (omega arith)
 
 pub at_most_from_below : (r s : ClusterState) → IsBelow r s → IsAtMost r s
 at_most_from_below r s (inl a) = inl a

@@ -4,10 +4,10 @@ use Rattle.std.specs.List.{Contains}
 use Rattle.std.proofs.lemmas.Bool.{cases_lt}
 use Rattle.cluster_state.specs.declared.state.ClusterState.{ClusterState}
 use Rattle.world_model.specs.Histories.{History}
-use Rattle.world_model.specs.Safety.{Published, published, IsCommitted, Descends, Itself, Child}
-use Rattle.world_model.proofs.Facts.{Facts, IsAtMost, IsPublished, IsOriginal, HasSentCommit, Election, elections}
-use Rattle.world_model.proofs.Durable.{at_most_trans}
-use Rattle.agreement.proofs.Order.{same_terms, same_versions, at_most_from_below, decide_sent_commit, id_refl}
+use Rattle.world_model.specs.Safety.{Published, published, IsCommitted, Descends, Itself, Child, IsAtMost}
+use Rattle.world_model.proofs.Facts.{Facts, IsPublished, IsOriginal, HasSentCommit, Election, elections}
+use Rattle.world_model.proofs.StateIds.{at_most_self, at_most_trans}
+use Rattle.agreement.proofs.Order.{same_terms, same_versions, at_most_from_below, decide_sent_commit}
 use Rattle.agreement.proofs.Lineage.{published_all, original_all, descends_trans, descends_id, parent_below, parent_term, parent_version, parent_original, root_lowest}
 use Rattle.agreement.proofs.Newest.{IsRootOrChosen, IsCovered, HasOneState, committed_chosen, newest_config_step}
 use Rattle.agreement.proofs.Elections.{HasOneWinner, IsSettled, IsSettledBelow, win_base_older, covered_below, descends_below, descends_parent, alone, winner_has_committed, one_winner}
@@ -100,7 +100,7 @@ module _ {h : History} {root : ClusterState} (facts : Facts h root) where
   root_at_most_base : (p : Published) (is_in : Contains (published h) p) → IsAtMost root (facts.value_facts p is_in).election.base
   root_at_most_base p is_in =
       let v = facts.value_facts p is_in in
-      original_all (λ s. IsAtMost root s) (id_refl root) (λ q q_in. inl (root_lowest facts q q_in)) v.election.base (facts.win_facts v.election v.is_election).original
+      original_all (λ s. IsAtMost root s) (at_most_self root) (λ q q_in. inl (root_lowest facts q q_in)) v.election.base (facts.win_facts v.election v.is_election).original
 
   -- each published state of the term descends from root
   from_root : (term : ℕ) → IsSettledBelow h root term → (p : Published) → Contains (published h) p → p.state.term ≡ term → Descends h root p.state
@@ -128,7 +128,7 @@ module _ {h : History} {root : ClusterState} (facts : Facts h root) where
       by_itself : (p : Published) → IsCommitted h p → IsCovered h root p.state
       by_itself p is_committed = record {
         newest = p.state;
-        is_newest = record { origin = inr (committed_chosen p is_committed); at_most = id_refl p.state; above_all = λ c c_committed at_most. at_most };
+        is_newest = record { origin = inr (committed_chosen p is_committed); at_most = at_most_self p.state; above_all = λ c c_committed at_most. at_most };
         is_one = inl refl;
       }
 

@@ -4,13 +4,13 @@ use Rattle.voting_config.specs.Ids.{Id}
 use Rattle.cluster_state.specs.declared.state.Kept.{Kept}
 use Rattle.world_model.specs.NodeState.{accepted_of}
 use Rattle.world_model.specs.Histories.{History, node_history, IsLegal, IsPrefix}
-use Rattle.world_model.specs.Safety.{Published, published, IsCommitted, Descends, IsAtLeast, IsSafe, IsSafeFrom}
+use Rattle.world_model.specs.Safety.{Published, published, IsCommitted, Descends, IsAtMost, IsSafe, IsSafeFrom}
 use Rattle.world_model.specs.Restarts.{IsAlone, IsLegalFrom}
 
 -- each published state descends from each committed state whose id is not above its own
 abbrev pub DescendsFromCommitted : History → Type 0
 DescendsFromCommitted h =
-    (p c : Published) → Contains (published h) p → IsCommitted h c → IsAtLeast p.state c.state.term c.state.version → Descends h c.state p.state
+    (p c : Published) → Contains (published h) p → IsCommitted h c → IsAtMost c.state p.state → Descends h c.state p.state
 
 -- each legal history is safe
 abbrev pub LawAgree : Type 0
@@ -20,7 +20,7 @@ LawAgree = (initial : List Id) (h : History) → IsLegal initial h → IsSafe in
 abbrev pub LawLost : Type 0
 LawLost =
     (initial : List Id) (h : History) → IsLegal initial h → (node : Id) (p : History) → IsPrefix p h → (c : Published) → IsCommitted h c
-    → Descends h c.state (accepted_of (node_history p node)) ↔ IsAtLeast (accepted_of (node_history p node)) c.state.term c.state.version
+    → Descends h c.state (accepted_of (node_history p node)) ↔ IsAtMost c.state (accepted_of (node_history p node))
 
 -- from the restart of one node on each legal history is safe over the state that this node had kept
 abbrev pub LawRestarted : Type 0

@@ -7,16 +7,11 @@ use Rattle.cluster_state.specs.declared.messages.PublishRequest.{PublishRequest}
 use Rattle.cluster_state.specs.declared.messages.ApplyCommit.{ApplyCommit}
 use Rattle.world_model.specs.Acts.{Act, Outcome, NodeHistory, Bootstrap, StartJoin, Publish, Commit, Open, NoActs, Then, PublishMessage, CommitMessage, is_effective, is_first}
 use Rattle.world_model.specs.NodeState.{term_of, accepted_of, committed_of, durable_of, initial_state, empty_state}
-use Rattle.world_model.proofs.Facts.{IsAtMost}
+use Rattle.world_model.specs.Safety.{IsAtMost}
+use Rattle.world_model.proofs.StateIds.{at_most_self, at_most_trans}
 use Rattle.world_model.proofs.Guards.{boot_guard, publish_guard, commit_guard, kept_is_taken}
 use Rattle.world_model.proofs.Moments.{Begins, IsSent}
 use Rattle.world_model.proofs.System.{IsGround, IsExecution, IsSystem, sent_at}
-
-pub at_most_self : (s : ClusterState) → IsAtMost s s
-at_most_self s = grind arith
-
-pub at_most_trans : (q r s : ClusterState) → IsAtMost q r → IsAtMost r s → IsAtMost q s
-at_most_trans q r s h k = grind arith
 
 -- a state of the present term that is newer than the accepted one
 newer_state : (a s : ClusterState) (now : ℕ) → s.term ≡ now → (s.term ≡ a.term → a.version < s.version) → a.term ≤ now → IsAtMost a s

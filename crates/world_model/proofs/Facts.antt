@@ -7,7 +7,7 @@ use Rattle.cluster_state.specs.declared.messages.Join.{Join}
 use Rattle.world_model.specs.Acts.{Act, Outcome, Publish, JoinMessage, CommitMessage, is_ok, wins}
 use Rattle.world_model.specs.NodeState.{term_of, accepted_of}
 use Rattle.world_model.specs.Histories.{History, NoEntries, Next, node_history, sent}
-use Rattle.world_model.specs.Safety.{Published, published}
+use Rattle.world_model.specs.Safety.{IsIdAtMost, Published, published}
 
 -- What happened, as lists that only grow. Each is `list h ++ what this act adds`.
 
@@ -37,16 +37,6 @@ taken_by node act outcome = []
 abbrev pub took : History → List Acceptance
 took NoEntries = []
 took (Next h node act outcome) = took h ++ taken_by node act outcome
-
--- The order of ids: terms first, then versions.
-
--- the id term/version is at most the id other_term/other_version. `IsAtLeast s t v` is `IsIdAtMost t v s.term s.version`
-abbrev pub IsIdAtMost : ℕ → ℕ → ℕ → ℕ → Type 0
-IsIdAtMost term version other_term other_version = (term < other_term) ⊎ ((other_term ≡ term) × (version ≤ other_version))
-
--- the id of r is at most that of s
-abbrev pub IsAtMost : ClusterState → ClusterState → Type 0
-IsAtMost r s = IsIdAtMost r.term r.version s.term s.version
 
 -- Words for the facts.
 

@@ -8,7 +8,7 @@ use Rattle.cluster_state.specs.declared.messages.PublishRequest.{PublishRequest}
 use Rattle.world_model.specs.Acts.{Act, Outcome, NodeHistory, Message, Bootstrap, StartJoin, TakeJoin, Value, Publish, Response, Commit, Open, Then, Taken, Answered, JoinMessage, PublishMessage, CommitMessage, is_ok, wins}
 use Rattle.world_model.specs.NodeState.{term_of, accepted_of, committed_of, join_votes_of, empty_state}
 use Rattle.world_model.specs.Replies.{IsOutcome}
-use Rattle.world_model.proofs.Facts.{IsIdAtMost}
+use Rattle.world_model.specs.Safety.{IsIdAtMost}
 use Rattle.world_model.proofs.Guards.{boot_guard, start_guard, value_guard, publish_guard, response_guard, commit_guard}
 use Rattle.world_model.proofs.Moments.{Begins, begins_as, begins_self, begins_before, IsSent}
 use Rattle.world_model.proofs.System.{IsSystem, execution_before, sent_at, origin}

@@ -12,7 +12,7 @@ use Rattle.cluster_state.specs.declared.messages.PublishResponse.{PublishRespons
 use Rattle.cluster_state.specs.declared.messages.ApplyCommit.{ApplyCommit}
 use Rattle.world_model.specs.Acts.{Act, Outcome, NodeHistory, ActReply, Message, Cause, Bootstrap, StartJoin, TakeJoin, Value, Publish, Response, Commit, Taken, Refused, Stopped, Answered, Disk, Crashed, JoinMessage, PublishMessage, ResponseMessage, StartRefused, JoinRefused, is_effective}
 use Rattle.world_model.specs.NodeState.{node_state, term_of, accepted_of, committed_of, started_join_of, join_votes_of, election_won_of, published_version_of, halted_of}
-use Rattle.world_model.proofs.Facts.{IsIdAtMost}
+use Rattle.world_model.specs.Safety.{IsIdAtMost}
 use Rattle.world_model.specs.Replies.{is_empty, elects, reply_of, is_taken, join_checked, after_check, IsOutcome, commit_sent}
 
 -- past a test that refuses

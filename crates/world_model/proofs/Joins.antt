@@ -6,7 +6,7 @@ use Rattle.cluster_state.specs.declared.messages.Join.{Join}
 use Rattle.cluster_state.specs.declared.messages.PublishRequest.{PublishRequest}
 use Rattle.world_model.specs.Acts.{Act, NodeHistory, Message, StartJoin, Publish, Then, Taken, Answered, JoinMessage}
 use Rattle.world_model.specs.NodeState.{term_of, accepted_of}
-use Rattle.world_model.proofs.Facts.{IsIdAtMost}
+use Rattle.world_model.specs.Safety.{IsIdAtMost}
 use Rattle.world_model.proofs.Guards.{publish_guard}
 use Rattle.world_model.proofs.Moments.{Begins, begins_before, acts_order, IsSent}
 use Rattle.world_model.proofs.System.{IsExecution, IsSystem, execution_before, sent_at}

@@ -12,8 +12,9 @@ use Rattle.world_model.proofs.Guards.{boot_guard, publish_guard, kept_is_taken}
 use Rattle.world_model.proofs.Moments.{Begins, begins_self, begins_before, done_is_not_first}
 use Rattle.world_model.proofs.System.{IsExecution, IsSystem}
 use Rattle.world_model.proofs.Durable.{term_grows, request_named}
+use Rattle.world_model.proofs.StateIds.{IsBelow}
 use Rattle.world_model.specs.Histories.{History, Next, node_history, IsLocal, IsLegal, ContinuesUnlessFirst}
-use Rattle.world_model.specs.Safety.{IsAtLeast, HoldsState, Holds, HoldsAll, HoldsAnswers}
+use Rattle.world_model.specs.Safety.{IsAtMost, HoldsState, Holds, HoldsAll, HoldsAnswers}
 use Rattle.world_model.specs.Local.{NamesConfigs}
 use Rattle.world_model.proofs.System.{Opens}
 use Rattle.world_model.proofs.Legal.{IsGrounded, system_of_grounded, grounded_before, grounded_of_legal}
@@ -22,15 +23,15 @@ use Rattle.world_model.proofs.Legal.{IsGrounded, system_of_grounded, grounded_be
 pub record Since (s : ClusterState) (term : ℕ) (accepted : ClusterState) : Type 0 where
   pub below : accepted.term ≤ term
   pub named : accepted.config ≢ []
-  pub held : (accepted ≡ s) ⊎ ((s.term < accepted.term) ⊎ ((accepted.term ≡ s.term) × (s.version < accepted.version)))
+  pub held : (accepted ≡ s) ⊎ IsBelow s accepted
 
 -- a newer state is above what was held
-newer_held : (s a x : ClusterState) (now : ℕ) → (a ≡ s) ⊎ ((s.term < a.term) ⊎ ((a.term ≡ s.term) × (s.version < a.version))) → x.term ≡ now → (x.term ≡ a.term → a.version < x.version) → a.term ≤ now
-    → (x ≡ s) ⊎ ((s.term < x.term) ⊎ ((x.term ≡ s.term) × (s.version < x.version)))
+newer_held : (s a x : ClusterState) (now : ℕ) → (a ≡ s) ⊎ IsBelow s a → x.term ≡ now → (x.term ≡ a.term → a.version < x.version) → a.term ≤ now
+    → (x ≡ s) ⊎ IsBelow s x
 newer_held s a x now h e newer below = inr (from h (cases_order a.term x.term))
   where
-    from : (a ≡ s) ⊎ ((s.term < a.term) ⊎ ((a.term ≡ s.term) × (s.version < a.version))) → ((a.term ≡ x.term) ⊎ ((a.term < x.term) ⊎ (x.term < a.term)))
-        → (s.term < x.term) ⊎ ((x.term ≡ s.term) × (s.version < x.version))
+    from : (a ≡ s) ⊎ IsBelow s a → ((a.term ≡ x.term) ⊎ ((a.term < x.term) ⊎ (x.term < a.term)))
+        → IsBelow s x
     from k (inr (inr m)) = absurd (omega arith)
     from (inl k) (inl m) =
         let term : a.term ≡ s.term = ap (λ (y : ClusterState). y.term) k in
@@ -84,12 +85,12 @@ since me p r s w (Then g a o) l n (inr b) =
 holds_state : (g : NodeHistory) (s : ClusterState) → Since s (term_of g) (accepted_of g) → HoldsState (durable_of g) s
 holds_state g s i = (at_least i.held, equal i.held)
   where
-    at_least : (accepted_of g ≡ s) ⊎ ((s.term < (accepted_of g).term) ⊎ (((accepted_of g).term ≡ s.term) × (s.version < (accepted_of g).version))) → IsAtLeast (accepted_of g) s.term s.version
+    at_least : (accepted_of g ≡ s) ⊎ IsBelow s (accepted_of g) → IsAtMost s (accepted_of g)
     at_least (inl e) = inr (ap (λ (x : ClusterState). x.term) e, (let v : (accepted_of g).version ≡ s.version = ap (λ (x : ClusterState). x.version) e in omega arith))
     at_least (inr (inl h)) = inl h
     at_least (inr (inr h)) = inr (h.0, (omega (arith, h.1)))
 
-    equal : (accepted_of g ≡ s) ⊎ ((s.term < (accepted_of g).term) ⊎ (((accepted_of g).term ≡ s.term) × (s.version < (accepted_of g).version))) → (accepted_of g).term ≡ s.term → (accepted_of g).version ≡ s.version → accepted_of g ≡ s
+    equal : (accepted_of g ≡ s) ⊎ IsBelow s (accepted_of g) → (accepted_of g).term ≡ s.term → (accepted_of g).version ≡ s.version → accepted_of g ≡ s
     equal (inl e) t v = e
     equal (inr (inl h)) t v = absurd (omega arith)
     equal (inr (inr h)) t v = absurd (omega (arith, h.1))

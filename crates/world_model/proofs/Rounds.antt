@@ -13,7 +13,8 @@ use Rattle.world_model.specs.Acts.{Act, Outcome, NodeHistory, ActReply, Message,
 use Rattle.world_model.specs.NodeState.{NodeState, node_state, term_of, accepted_of, committed_of, started_join_of, join_votes_of, election_won_of, published_version_of, published_config_of, publish_votes_of, initial_state}
 use Rattle.world_model.specs.Replies.{IsOutcome}
 use Rattle.world_model.specs.Histories.{is_down, is_opening, MayFollow}
-use Rattle.world_model.proofs.Facts.{IsIdAtMost, IsAtMost}
+use Rattle.world_model.specs.Safety.{IsIdAtMost, IsAtMost}
+use Rattle.world_model.proofs.StateIds.{id_trans}
 use Rattle.voting_config.proofs.Sets.{same_is}
 use Rattle.world_model.proofs.Guards.{Booted, Started, Joined, Valued, Accepts, Responded, Commits, boot_guard, start_guard, join_guard, value_guard, publish_guard, response_guard, commit_guard}
 use Rattle.world_model.proofs.Moments.{Begins, begins_self, begins_trans, IsSent, sent_later, sent_cases}
@@ -164,10 +165,7 @@ pub record VotedIn (D : Id → NodeHistory) (voter me : Id) (term : ℕ) (s : Cl
 
 voted_above : (D : Id → NodeHistory) (voter me : Id) (term : ℕ) (s t : ClusterState) → IsAtMost s t → VotedIn D voter me term s → VotedIn D voter me term t
 voted_above D voter me term s t h v =
-    record { join = v.join; is_sent = v.is_sent; has_source = v.has_source; has_target = v.has_target; has_term = v.has_term; not_above = trans _ _ _ _ _ _ v.not_above h }
-  where
-    trans : (a b c d e f : ℕ) → IsIdAtMost a b c d → IsIdAtMost c d e f → IsIdAtMost a b e f
-    trans a b c d e f h k = grind arith
+    record { join = v.join; is_sent = v.is_sent; has_source = v.has_source; has_target = v.has_target; has_term = v.has_term; not_above = id_trans _ _ _ _ _ _ v.not_above h }
 
 -- each vote was joined
 abbrev pub Votes : (Id → NodeHistory) → Id → NodeHistory → NodeState → Type 0

@@ -39,13 +39,17 @@ pub data Descends (h : History) (ancestor : ClusterState) : ClusterState → Typ
   Itself : Descends h ancestor ancestor
   Child : (p : Published) → Contains (published h) p → Descends h ancestor p.parent → Descends h ancestor p.state
 
--- the id of s is not below that of r
-abbrev pub IsAtLeast : ClusterState → ℕ → ℕ → Type 0
-IsAtLeast s term version = (term < s.term) ⊎ ((s.term ≡ term) × (version ≤ s.version))
+-- ids of states are in order of their terms, then of their versions: the id term/version is at most other_term/other_version
+abbrev pub IsIdAtMost : ℕ → ℕ → ℕ → ℕ → Type 0
+IsIdAtMost term version other_term other_version = (term < other_term) ⊎ ((other_term ≡ term) × (version ≤ other_version))
+
+-- the id of r is at most that of s
+abbrev pub IsAtMost : ClusterState → ClusterState → Type 0
+IsAtMost r s = IsIdAtMost r.term r.version s.term s.version
 
 -- the record's accepted state is this one or a later one
 abbrev pub HoldsState : Kept → ClusterState → Type 0
-HoldsState kept s = IsAtLeast kept.accepted s.term s.version × (kept.accepted.term ≡ s.term → kept.accepted.version ≡ s.version → kept.accepted ≡ s)
+HoldsState kept s = IsAtMost s kept.accepted × (kept.accepted.term ≡ s.term → kept.accepted.version ≡ s.version → kept.accepted ≡ s)
 
 -- the record holds what the node answered for in this act: the term of the join that it sent, the state of its response
 abbrev pub Holds : Kept → Act → Outcome → Type 0
