@@ -2,6 +2,7 @@
 use Rattle.std.specs.Prelude.{Bool, Option, None, Some, List, [], ◌∷◌}
 use Rattle.std.specs.List.{list_all}
 use Rattle.voting_config.specs.Ids.{Id, has}
+pub use Rattle.world_model.specs.Acts.{source_of}
 use Rattle.world_model.specs.declared.acts.Act.{Act}
 use Rattle.world_model.specs.declared.acts.Act.TheVariants.{TakeJoin, Publish, Response, Commit}
 use Rattle.world_model.specs.declared.acts.Message.{Message}
@@ -24,13 +25,6 @@ message_of_some (Some m) = Some (message_of m)
 abbrev pub some_message : Option SentMessage → List Message
 some_message None = []
 some_message (Some m) = message_of m ∷ []
-
--- from whom a message is
-abbrev pub source_of : Message → Id
-source_of (JoinMessage j) = j.source
-source_of (PublishMessage r) = r.source
-source_of (ResponseMessage r) = r.source
-source_of (CommitMessage c) = c.source
 
 -- each message is from one of these nodes
 abbrev pub are_from : List Id → List Message → Bool

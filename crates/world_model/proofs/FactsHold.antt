@@ -5,7 +5,7 @@ use Rattle.voting_config.specs.Ids.{Id, with_id}
 use Rattle.cluster_state.specs.declared.state.ClusterState.{ClusterState}
 use Rattle.cluster_state.specs.declared.messages.Join.{Join}
 use Rattle.cluster_state.specs.declared.messages.PublishRequest.{PublishRequest}
-use Rattle.world_model.specs.Acts.{Act, Outcome, NodeHistory, Message, Bootstrap, StartJoin, TakeJoin, Value, Publish, Response, Commit, Open, Then, Taken, Answered, JoinMessage, PublishMessage, CommitMessage, is_ok, wins}
+use Rattle.world_model.specs.Acts.{Act, Outcome, NodeHistory, Message, Bootstrap, StartJoin, TakeJoin, Value, Publish, Response, Commit, Open, Then, Taken, Answered, JoinMessage, PublishMessage, CommitMessage, source_of, is_ok, wins}
 use Rattle.world_model.specs.NodeState.{term_of, accepted_of, committed_of, join_votes_of, empty_state}
 use Rattle.world_model.specs.Replies.{IsOutcome}
 use Rattle.world_model.specs.Safety.{IsIdAtMost}
@@ -22,7 +22,7 @@ use Rattle.world_model.specs.Histories.{IsPrefix, History, node_history, sent}
 use Rattle.world_model.specs.Safety.{Published, published, published_by}
 use Rattle.world_model.proofs.Facts.{Election, elected_by, elections, Acceptance, taken_by, took, HasJoined, HasVoted, HasSentCommit, IsPublished, IsPublishedByOther, IsOriginal, IsHeldFor, IsAlone, WinFacts, ValueFacts, CommitFacts, IsCommitOf, Facts}
 use Rattle.world_model.proofs.Commits.{IsAloneIn, commit_is_value, CommitIn, commit_facts}
-use Rattle.world_model.proofs.Legal.{deeds_begin, one_of, none_of, act_begins, moment, listed, is_listed, source_of, origin_source, sent_from, sent_to}
+use Rattle.world_model.proofs.Legal.{deeds_begin, one_of, none_of, act_begins, moment, listed, is_listed, origin_source, sent_from, sent_to}
 
 -- What the lists of a history say.
 

@@ -3,7 +3,7 @@ use Rattle.std.proofs.Common.{◌≡◌, ◌≢◌, ℕ, ◌<◌, Bool, true, fa
 use Rattle.voting_config.specs.Ids.{Id, same}
 use Rattle.cluster_state.specs.declared.state.ClusterState.{ClusterState}
 use Rattle.cluster_state.specs.declared.state.Kept.{Kept}
-use Rattle.world_model.specs.Acts.{StartJoin, Value, Act, Outcome, NodeHistory, Message, Bootstrap, TakeJoin, Publish, Response, Commit, Open, NoActs, Then, Taken, Answered, JoinMessage, PublishMessage, ResponseMessage, CommitMessage}
+use Rattle.world_model.specs.Acts.{StartJoin, Value, Act, Outcome, NodeHistory, Message, Bootstrap, TakeJoin, Publish, Response, Commit, Open, NoActs, Then, Taken, Answered, JoinMessage, PublishMessage, ResponseMessage, CommitMessage, source_of}
 use Rattle.world_model.specs.NodeState.{durable_of, initial_state, empty_state}
 use Rattle.world_model.proofs.Moments.{Begins, begins_self, IsSent, sent_later}
 use Rattle.world_model.proofs.System.{IsGround, IsFrom, IsExecution, IsSystem, sent_at}
@@ -103,12 +103,6 @@ module _ {X : Type 0} (list : History → List X) (add : History → Id → Act 
       subst (λ (l : List X). Contains l x) (sym (more h m b u)) (Contains-append_left (list h) (add h m b u) x (is_listed h x p n a o i c))
 
 -- Messages of a history.
-
-abbrev pub source_of : Message → Id
-source_of (JoinMessage j) = j.source
-source_of (PublishMessage r) = r.source
-source_of (ResponseMessage r) = r.source
-source_of (CommitMessage c) = c.source
 
 pub origin_source : (me : Id) (g : NodeHistory) (a : Act) (m : Message) → Origin me g a m → source_of m ≡ me
 origin_source me g a (JoinMessage j) o = o.source_is

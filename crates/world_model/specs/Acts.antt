@@ -1,5 +1,6 @@
 -- Part of the statement: what one node did: its acts, each with its outcome, the oldest first.
 use Rattle.std.specs.Prelude.{Bool, true, false}
+use Rattle.voting_config.specs.Ids.{Id}
 pub use Rattle.world_model.specs.declared.acts.Act.{Act}
 pub use Rattle.world_model.specs.declared.acts.Act.TheVariants.{Bootstrap, StartJoin, TakeJoin, Value, Publish, Response, Commit, Open}
 pub use Rattle.world_model.specs.declared.acts.Message.{Message}
@@ -15,6 +16,13 @@ pub use Rattle.world_model.specs.declared.acts.Outcome.TheVariants.{Answered, Di
 pub data NodeHistory : Type 0 where
   NoActs : NodeHistory
   Then : (before : NodeHistory) → (act : Act) → (outcome : Outcome) → NodeHistory
+
+-- from whom a message is
+abbrev pub source_of : Message → Id
+source_of (JoinMessage j) = j.source
+source_of (PublishMessage r) = r.source
+source_of (ResponseMessage r) = r.source
+source_of (CommitMessage c) = c.source
 
 abbrev pub is_opening : Act → Bool
 is_opening (Open found) = true

@@ -1,5 +1,5 @@
 -- Part of the statement: what one more act makes of a node, told from what the node was.
-use Rattle.std.specs.Prelude.{◌≡◌, max, Bool, true, false, cond, ◌||◌, [], refl}
+use Rattle.std.specs.Prelude.{◌≡◌, max, false, cond, ◌||◌, [], refl}
 use Rattle.voting_config.specs.Ids.{with_id}
 use Rattle.world_model.specs.Acts.{Act, Outcome, NodeHistory, Bootstrap, StartJoin, TakeJoin, Value, Publish, Response, Commit, Open, Then, is_ok, is_effective, wins, is_disk}
 pub use Rattle.world_model.specs.Acts.{is_opening}
