@@ -1,6 +1,7 @@
 -- What one more call makes of the followers.
 use Rattle.std.proofs.Common.{◌≡◌, ℕ, Bool, true, false, cond, not, ◌||◌, ◌&&◌, Option, None, List, [], ◌∷◌, map, refl, sym, ap, ◌∙◌}
 use Rattle.std.specs.Prelude.{filter, is_none}
+use Rattle.std.proofs.lemmas.Simd.{map-map}
 use Rattle.std.specs.Cmp.Lexicographic.{same_text}
 use Rattle.voting_config.specs.Ids.{Id, has, same}
 use Rattle.cluster_state.specs.declared.state.StateId.{StateId}
@@ -8,10 +9,6 @@ use Rattle.fault_checks.specs.declared.followers.Behind.{Behind}
 use Rattle.fault_checks.specs.declared.followers.Follower.{Follower}
 use Rattle.fault_checks.specs.Checks.{unchecked, failed_at, ticked_at}
 use Rattle.fault_checks.specs.Followers.{Followers, Calls, Call, Then, Watched, Finished, Answered, Ticked, StandsFor, followers_of, after, members_of, check_of, applied_of, behind_of, finished_of, follower_of, new_follower, watched_or_new, behind_finished, behind_after, answered_from, is_kept, stays, stayed, no_state}
-
-map-map : {X Y Z : Type 0} (f : Y → Z) (g : X → Y) (xs : List X) → map f (map g xs) ≡ map (λ x. f (g x)) xs
-map-map f g [] = refl
-map-map f g (x ∷ xs) = ap (λ t. f (g x) ∷ t) (map-map f g xs)
 
 map-each : {X Y : Type 0} (f g : X → Y) (xs : List X) → ((x : X) → f x ≡ g x) → map f xs ≡ map g xs
 map-each f g [] h = refl

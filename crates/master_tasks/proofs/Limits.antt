@@ -69,7 +69,7 @@ each_filter P q (x ∷ xs) h =
       | false ↦ each_filter P q xs h.1
     ]
 
-fewer : {A : Type 0} (q : A → Bool) (xs : List A) → length (filter q xs) ≤ length xs
+pub fewer : {A : Type 0} (q : A → Bool) (xs : List A) → length (filter q xs) ≤ length xs
 fewer q [] = omega arith
 fewer q (x ∷ xs) =
     let rest : length (filter q xs) ≤ length xs = fewer q xs in

@@ -1,23 +1,13 @@
 -- Where nothing is new, the next state is the accepted one.
-use Rattle.std.proofs.Common.{◌≡◌, ◌&&◌, true, List, [], ◌∷◌, refl, sym, nat_eq, arith}
-use Rattle.std.specs.Cmp.Lexicographic.{same_text}
+use Rattle.std.proofs.Common.{◌≡◌, ◌&&◌, true, nat_eq, arith}
 use Rattle.std.proofs.lemmas.Bool.{and_parts}
 use Rattle.std.proofs.lemmas.Bool.Decides.{nat_tests}
-use Rattle.voting_config.specs.Ids.{Id, same, same_config}
+use Rattle.voting_config.specs.Ids.{same_config}
+use Rattle.voting_config.proofs.Sets.{same_config_is}
 use Rattle.cluster_state.specs.Same.{same_value}
 use Rattle.cluster_state.proofs.Sameness.{same_value-says}
 use Rattle.master_tasks.specs.Queue.{Tasks}
 use Rattle.master_tasks.specs.NextState.{Leader, StaysAccepted, is_accepted, is_nothing_new, next_config, next_value}
-
-same_config-says : (xs ys : List Id) → same_config xs ys ≡ true → xs ≡ ys
-same_config-says [] [] h = refl
-same_config-says [] (y ∷ ys) h = absurd cc
-same_config-says (x ∷ xs) [] h = absurd cc
-same_config-says (x ∷ xs) (y ∷ ys) h =
-    let parts = and_parts (same x y) (same_config xs ys) h in
-    let first : x ≡ y = same_text x y (sym parts.0) in
-    let rest : xs ≡ ys = same_config-says xs ys parts.1 in
-    rw (first, rest) refl
 
 pub stays_accepted : (l : Leader) (t : Tasks) → is_nothing_new l t ≡ true → StaysAccepted l t
 unfolding is_nothing_new is_accepted
@@ -28,5 +18,5 @@ stays_accepted l t h =
     record {
       term = grind (arith, nat_tests, tested);
       value = same_value-says (next_value l t) l.accepted.value parts.1;
-      config = same_config-says (next_config l t) l.accepted.config front.1;
+      config = same_config_is (next_config l t) l.accepted.config front.1;
     }

@@ -3,6 +3,7 @@ use Rattle.std.proofs.Common.{◌≡◌, Bool, true, false, cond, not, ◌||◌,
 use Rattle.std.specs.Prelude.{filter, nat_le}
 use Rattle.std.proofs.lemmas.Bool.{and_parts, or_parts}
 use Rattle.std.proofs.lemmas.List.{map-append}
+use Rattle.std.proofs.lemmas.Simd.{map-map}
 use Rattle.std.specs.Cmp.Lexicographic.{same_text}
 use Rattle.voting_config.specs.Ids.{Id, has, same, without_id}
 use Rattle.voting_config.proofs.Sets.{same_self, same_flipped, has-without_id}
@@ -64,10 +65,6 @@ map-members f g (x ∷ xs) h =
 pub ids_of-peers : (calls : Calls) (ids : List Id) → ids_of (map (λ id. peer_of calls id) ids) ≡ ids
 ids_of-peers calls [] = refl
 ids_of-peers calls (x ∷ xs) = ap (λ t. x ∷ t) (ids_of-peers calls xs)
-
-map-map : {X Y Z : Type 0} (f : Y → Z) (g : X → Y) (xs : List X) → map f (map g xs) ≡ map (λ x. f (g x)) xs
-map-map f g [] = refl
-map-map f g (x ∷ xs) = ap (λ t. f (g x) ∷ t) (map-map f g xs)
 
 forgotten-peers : (calls : Calls) (x : Id) (ids : List Id) → map (λ id. peer_of (Then calls (Forgotten x)) id) (without_id x ids) ≡ filter (λ (p : Peer). not (same p.id x)) (map (λ id. peer_of calls id) ids)
 forgotten-peers calls x [] = refl

@@ -1,5 +1,6 @@
 -- A life that follows the policy is the one that is made of what comes to it.
-use Rattle.std.proofs.Common.{◌≡◌, ℕ, zero, suc, ◌+◌, Bool, true, false, ◌||◌, ◌⊎◌, inl, inr, Option, None, Some, List, [], ◌∷◌, ◌++◌, refl, sym, ap, ◌∙◌, cond, arith}
+use Rattle.std.proofs.Common.{◌≡◌, ℕ, zero, suc, ◌+◌, true, false, ◌⊎◌, inl, inr, Option, None, Some, List, [], ◌∷◌, ◌++◌, refl, sym, ap, ◌∙◌, cond, arith}
+use Rattle.std.proofs.lemmas.Bool.{or_parts}
 use Rattle.std.specs.Option.{option_map}
 use Rattle.world_model.specs.declared.acts.Outcome.{Outcome}
 use Rattle.policy_model.specs.declared.settings.Settings.{Settings}
@@ -28,13 +29,9 @@ record IsLeft (is left : List Item) : Type 0 where
   found : fault_in left ≡ Some fault
   left_is : left ≡ left_at is fault.acts_before fault.outcome
 
-or-false : (a b : Bool) → (a || b) ≡ false → (a ≡ false) × (b ≡ false)
-or-false false b h = (refl, h)
-or-false true b h = absurd (cc)
-
 later : (i : Item) (rest left : List Item) → has_fault (i ∷ rest) ≡ false → (has_fault rest ≡ false → IsLeft rest left) → IsLeft (i ∷ rest) (without_output i ++ left)
 later (Acts act o) rest left h more =
-    let parts = or-false (is_fault o) (has_fault rest) h in
+    let parts = or_parts (is_fault o) (has_fault rest) h in
     let m : IsLeft rest left = more parts.1 in
     let up : suc m.fault.acts_before ≡ m.fault.acts_before + 1 = omega arith in
     record {
@@ -66,7 +63,7 @@ struck-left is left (Later i rest some d) h = later i rest some h (λ k. struck-
 no-fault : (is : List Item) → has_fault is ≡ false → fault_in is ≡ None
 no-fault [] h = refl
 no-fault (Acts act o ∷ is) h =
-    let parts = or-false (is_fault o) (has_fault is) h in
+    let parts = or_parts (is_fault o) (has_fault is) h in
     let none : fault_in is ≡ None = no-fault is parts.1 in
     rw (parts.0, none) refl
 no-fault (i ∷ is) h = no-fault is h

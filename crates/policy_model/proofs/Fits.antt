@@ -108,7 +108,7 @@ sound-when false xs ys q r = r
 -- ---- what one more item makes of a node
 
 -- who is to come or to go makes no request
-waiting-added : (t : Tasks) (ids : List Id) → (all_to_be_added t ids).waiting ≡ t.waiting
+pub waiting-added : (t : Tasks) (ids : List Id) → (all_to_be_added t ids).waiting ≡ t.waiting
 waiting-added t [] = refl
 waiting-added t (id ∷ ids) = waiting-added (to_be_added t id) ids
 

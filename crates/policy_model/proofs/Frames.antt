@@ -42,6 +42,7 @@ use Rattle.fault_checks.specs.declared.leader.LeaderTick.TheVariants as leader_t
 use Rattle.fault_checks.specs.Leaders.{LeaderCheck, leader_tick}
 use Rattle.fault_checks.specs.declared.followers.Follower.{Follower as FollowerState}
 use Rattle.fault_checks.specs.Followers.{Followers, after as followers_after, Finished as StateFinished, is_asked, stays, to_ask, to_drop_for_checks, to_drop_for_lag}
+use Rattle.master_tasks.proofs.Limits.{fewer}
 use Rattle.master_tasks.specs.declared.waiting.Outgoing.{Outgoing}
 use Rattle.master_tasks.specs.declared.waiting.Waiting.{Waiting}
 use Rattle.master_tasks.specs.Members.{members_after}
@@ -70,12 +71,6 @@ use Rattle.policy_model.specs.Bounds.{IsSmallView, HoldsSet, EventHoldsSet, Send
 use Rattle.policy_model.proofs.Sweeps.{moved_all-append, moved_all-replies, moved_all-sends, frames-append, frames-replies, frames-sends}
 
 -- ---- lengths
-
-fewer : {A : Type 0} (q : A → Bool) (xs : List A) → length (filter q xs) ≤ length xs
-fewer q [] = omega arith
-fewer q (x ∷ xs) =
-    let rest : length (filter q xs) ≤ length xs = fewer q xs in
-    elim (q x) as (λ b. length (cond b (x ∷ filter q xs) (filter q xs)) ≤ suc (length xs)) [ true ↦ omega arith | false ↦ omega arith ]
 
 -- a set without an id, which it may have been given before
 without_put : (x : Id) (ys : List Id) → length (without_id x (put x ys)) ≤ length ys

@@ -1,22 +1,22 @@
 -- What becomes of the queue by an event, and in a life.
-use Rattle.std.proofs.Common.{◌≡◌, Bool, true, false, not, ◌||◌, ◌⊎◌, inl, inr, List, [], ◌∷◌, ◌++◌, refl, sym, ap, ◌∙◌, cond, subst, append_assoc}
+use Rattle.std.proofs.Common.{◌≡◌, true, false, not, ◌⊎◌, inl, inr, List, [], ◌∷◌, ◌++◌, refl, sym, ap, ◌∙◌, cond, subst, append_assoc, append-nil}
 use Rattle.std.specs.List.{list_all}
-use Rattle.std.proofs.lemmas.Bool.{and_parts}
-use Rattle.voting_config.specs.Ids.{Id}
+use Rattle.std.proofs.lemmas.Bool.{and_parts, not-true}
 use Rattle.world_model.specs.declared.acts.Act.TheVariants.{Bootstrap, StartJoin, TakeJoin, Value, Publish, Response, Commit, Open}
 use Rattle.master_tasks.specs.declared.waiting.Waiting.{Waiting}
 use Rattle.master_tasks.specs.declared.waiting.Outgoing.{Outgoing}
-use Rattle.master_tasks.specs.Queue.{Tasks, to_be_added, arriving}
+use Rattle.master_tasks.specs.Queue.{arriving}
 use Rattle.policy_model.specs.declared.settings.Settings.{Settings}
 use Rattle.policy_model.specs.Events.{Mode, Candidate, Leader, Follower, Event, Start, Tick, FrameCame, LineCame, Begins, Note, Met, Heard, PeersAsked, ElectionOff, ElectionSet, RoundBegun, RoundAnswered, RoundEnded, Joined, FollowersChecked, FollowerAnswered, LeaderChecked, LeaderAnswered, Queued, ExclusionsTimedOut, CommitAcked, ExclusionsAcked, StateMade, HandedOver, Item, Opens, Acts, Turns, Drops, Sends, Replies, Notes, Log, And, added}
 use Rattle.policy_model.specs.Entries.{Did, Life, NotBegun, Opened, Lived, log_of}
 use Rattle.policy_model.specs.LookBacks.{mode_of, moment_of, tasks_of}
-use Rattle.policy_model.specs.Parts.{all_to_be_added}
 use Rattle.policy_model.specs.Views.{View, view_of}
 use Rattle.policy_model.specs.Moves.{moved, is_own, view_of-And}
 use Rattle.policy_model.specs.Doing.{reply_all, is_leader}
-use Rattle.policy_model.specs.Follows.{Follows, IsNext, IsStruck, Here, Later, has_fault, is_struck, is_fault, items_of, without_output}
+use Rattle.policy_model.specs.Follows.{Follows, IsNext, IsStruck, has_fault, is_struck, items_of}
 use Rattle.policy_model.specs.Queues.{queued_in, replied_in, answers_line, NoneWaits, Waits, IsGone, AreAmong, IsQueue}
+use Rattle.policy_model.proofs.Fits.{waiting-added}
+use Rattle.policy_model.proofs.Locals.{struck_fault}
 use Rattle.policy_model.proofs.Settled.{IsStep, queue-one, queue-step}
 use Rattle.policy_model.proofs.Served.{is_aside, is_answering, IsServed, Ended, Aside, Queues, Answers, Fails, Follows as FollowsNext, IsIdle, served-next}
 
@@ -29,10 +29,6 @@ Holds s l = IsQueue (queued_in l) (waiting_in s l) (replied_in l)
 
 nothing-queued : IsQueue [] [] []
 nothing-queued = record { in_order = NoneWaits; each = λ conn id. refl }
-
-all_added-waiting : (t : Tasks) (ids : List Id) → (all_to_be_added t ids).waiting ≡ t.waiting
-all_added-waiting t [] = refl
-all_added-waiting t (id ∷ ids) = all_added-waiting (to_be_added t id) ids
 
 -- an item aside changes nothing
 record IsSame (s : Settings) (l : Log) (i : Item) : Type 0 where
@@ -61,7 +57,7 @@ aside-same s l (Notes ExclusionsTimedOut) h = absurd (cc)
 aside-same s l (Notes CommitAcked) h = absurd (cc)
 aside-same s l (Notes ExclusionsAcked) h = absurd (cc)
 aside-same s l (Notes StateMade) h = absurd (cc)
-aside-same s l (Notes (Joined ids)) h = record { own = refl; queued = refl; waiting = all_added-waiting (tasks_of s l) ids; replied = refl }
+aside-same s l (Notes (Joined ids)) h = record { own = refl; queued = refl; waiting = waiting-added (tasks_of s l) ids; replied = refl }
 aside-same s l (Notes note) h = record { own = refl; queued = refl; waiting = refl; replied = refl }
 
 still-holds : (s : Settings) (l : Log) (i : Item) → IsSame s l i → Holds s l → Holds s (And l i)
@@ -75,16 +71,8 @@ record AreBehind (s : Settings) (l : Log) (answers : List Outgoing) (rest : List
   queued : queued_in after ≡ queued_in l
   replied : list_all (λ (o : Outgoing). not (answers_line o.reply)) answers ≡ true → replied_in after ≡ replied_in l ++ answers
 
-append-none : {X : Type 0} (xs : List X) → xs ≡ xs ++ []
-append-none [] = refl
-append-none (x ∷ xs) = ap (λ t. x ∷ t) (append-none xs)
-
-late-one : (b : Bool) → not b ≡ true → b ≡ false
-late-one true h = absurd (cc)
-late-one false h = refl
-
 behind : (s : Settings) (l : Log) (answers : List Outgoing) (rest : List Item) → AreBehind s l answers rest
-behind s l [] rest = record { after = l; items = refl; view = refl; queued = refl; replied = λ h. append-none (replied_in l) }
+behind s l [] rest = record { after = l; items = refl; view = refl; queued = refl; replied = λ h. sym (append-nil (replied_in l)) }
 behind s l (out ∷ answers) rest =
     let b : AreBehind s (And l (Replies out)) answers rest = behind s (And l (Replies out)) answers rest in
     record {
@@ -94,7 +82,7 @@ behind s l (out ∷ answers) rest =
       queued = b.queued;
       replied = λ h.
           let parts = and_parts _ _ h in
-          let one : replied_in (And l (Replies out)) ≡ replied_in l ++ out ∷ [] = ap (λ c. cond c (replied_in l) (replied_in l ++ out ∷ [])) (late-one (answers_line out.reply) parts.0) in
+          let one : replied_in (And l (Replies out)) ≡ replied_in l ++ out ∷ [] = ap (λ c. cond c (replied_in l) (replied_in l ++ out ∷ [])) (not-true (answers_line out.reply) parts.0) in
           b.replied parts.1 ∙ ap (λ rs. rs ++ answers) one ∙ append_assoc (replied_in l) (out ∷ []) answers;
     }
 
@@ -133,7 +121,7 @@ aside-idle s v (Notes CommitAcked) h idle = absurd (cc)
 aside-idle s v (Notes ExclusionsAcked) h idle = absurd (cc)
 aside-idle s v (Notes StateMade) h idle = absurd (cc)
 aside-idle s v (Notes (Queued conn request)) h idle = absurd (cc)
-aside-idle s v (Notes (Joined ids)) h idle = λ k. all_added-waiting v.tasks ids ∙ idle k
+aside-idle s v (Notes (Joined ids)) h idle = λ k. waiting-added v.tasks ids ∙ idle k
 aside-idle s v (Notes note) h idle = idle
 
 note-mode : (s : Settings) (v : View) (note : Note) → (moved s v (Notes note)).mode ≡ v.mode
@@ -224,25 +212,6 @@ served-stands s l v is (FollowsNext u leader term more e a) h =
       idle = λ k. h.idle e;
     })
 
--- an event that was struck has a fault
-struck-fault : (is left : List Item) → IsStruck is left → has_fault left ≡ true
-struck-fault is left (Here act sends wins rest fault w f) = rw f refl
-struck-fault is left (Later i rest some d) = later i some (struck-fault rest some d)
-  where
-    or-true : (a : Bool) → (a || true) ≡ true
-    or-true true = refl
-    or-true false = refl
-
-    later : (j : Item) (left' : List Item) → has_fault left' ≡ true → has_fault (without_output j ++ left') ≡ true
-    later (Acts act o) left' h = ap (λ b. is_fault o || b) h ∙ or-true (is_fault o)
-    later (Opens found) left' h = h
-    later (Begins event) left' h = h
-    later (Turns mode term) left' h = h
-    later (Drops member cause) left' h = h
-    later (Sends frame) left' h = h
-    later (Replies out) left' h = h
-    later (Notes note) left' h = h
-
 -- a log, with the view that it gives
 abbrev At : Settings → Log → Type 0
 At s l = Stands s l (view_of s l)
@@ -262,7 +231,7 @@ event-stands s life event items next whole h = by_way next.does
         (somehow s (added (And (log_of life) (Begins event)) (items_of s (log_of life) event))
         (served-stands s (And (log_of life) (Begins event)) (view_of s (And (log_of life) (Begins event))) (items_of s (log_of life) event)
         (served-next s (view_of s (And (log_of life) (Begins event))) event) (somehow s (And (log_of life) (Begins event)) begun)))
-    by_way (inr d) = let k = struck-fault (items_of s (log_of life) event) items d in absurd (cc)
+    by_way (inr d) = let k = struck_fault (items_of s (log_of life) event) items d in absurd (cc)
 
 -- a life
 life-stands : (s : Settings) (life : Life) → Follows s life → is_struck life ≡ false → At s (log_of life)

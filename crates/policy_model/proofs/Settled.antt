@@ -1,5 +1,5 @@
 -- What answers make of a queue.
-use Rattle.std.proofs.Common.{◌≡◌, ℕ, ◌+◌, Bool, true, false, not, ◌&&◌, Option, None, Some, Result, Ok, Err, List, [], ◌∷◌, ◌++◌, length, refl, sym, ap, ◌∙◌, cond, subst, append_assoc, arith}
+use Rattle.std.proofs.Common.{◌≡◌, ℕ, ◌+◌, Bool, true, false, not, ◌&&◌, Option, None, Some, Result, Ok, Err, List, [], ◌∷◌, ◌++◌, length, refl, sym, ap, ◌∙◌, cond, subst, append_assoc, append-nil, arith}
 use Rattle.std.specs.Prelude.{filter, is_none, is_some, fold, nat_le}
 use Rattle.std.specs.List.{list_all, cons_option}
 use Rattle.std.specs.Option.{option_map}
@@ -212,10 +212,6 @@ late-processing accepted value w a h =
       | false ↦ λ k. late-asked accepted value w.request.ask a k
     ] h
 
-append-none : {X : Type 0} (xs : List X) → xs ≡ xs ++ []
-append-none [] = refl
-append-none (x ∷ xs) = ap (λ t. x ∷ t) (append-none xs)
-
 record IsProcessed (p q : Processed) (ws : List Waiting) : Type 0 where
   left : List Waiting
   more : List Outgoing
@@ -224,7 +220,7 @@ record IsProcessed (p q : Processed) (ws : List Waiting) : Type 0 where
   step : IsStep ws left more
 
 processed-step : (accepted : ClusterState) (p : Processed) (ws : List Waiting) → IsProcessed p (fold (with_next accepted) p ws) ws
-processed-step accepted p [] = record { left = []; more = []; waiting = append-none p.waiting; answers = append-none p.answers; step = step-none [] }
+processed-step accepted p [] = record { left = []; more = []; waiting = sym (append-nil p.waiting); answers = sym (append-nil p.answers); step = step-none [] }
 processed-step accepted p (w ∷ ws) =
     elim (processing_once accepted p.value w) as (λ x. processing_once accepted p.value w ≡ x → IsProcessed p (fold (with_next accepted) (and_then p w x) ws) (w ∷ ws)) [
       | AnsweredAtOnce a ↦ λ e.

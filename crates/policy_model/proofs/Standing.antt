@@ -1,5 +1,6 @@
 -- What a node is after an event and after an opening.
-use Rattle.std.proofs.Common.{◌≡◌, Bool, true, false, ◌&&◌, None, List, [], ◌∷◌, refl, ap, ◌∙◌}
+use Rattle.std.proofs.Common.{◌≡◌, true, false, None, List, [], ◌∷◌, refl, ap, ◌∙◌}
+use Rattle.std.proofs.lemmas.Bool.{and_parts}
 use Rattle.cluster_state.specs.declared.state.Kept.{Kept}
 use Rattle.world_model.specs.declared.acts.Act.TheVariants.{Open}
 use Rattle.world_model.specs.declared.acts.ActReply.TheVariants.{Taken}
@@ -16,15 +17,11 @@ use Rattle.policy_model.specs.Local.{IsAnswered, Ended, ByAct, ByQuiet, is_quiet
 use Rattle.policy_model.specs.Follows.{items_of}
 use Rattle.policy_model.proofs.Answering.{answered-next}
 
-and-parts : (a b : Bool) → (a && b) ≡ true → (a ≡ true) × (b ≡ true)
-and-parts true b h = (refl, h)
-and-parts false b h = cc
-
 -- the look-backs over more items are those of before, moved by the items
 pub view_of-added : (s : Settings) (l : Log) (is : List Item) → are_own is ≡ true → view_of s (added l is) ≡ moved_all s (view_of s l) is
 view_of-added s l [] h = refl
 view_of-added s l (i ∷ is) h =
-    let parts = and-parts (is_own i) (are_own is) h in
+    let parts = and_parts (is_own i) (are_own is) h in
     view_of-added s (And l i) is parts.1 ∙ ap (λ (v : View). moved_all s v is) (view_of-And s l i parts.0)
 
 pub own-quiet : (i : Item) → is_quiet i ≡ true → is_own i ≡ true
