@@ -1,5 +1,5 @@
 -- What a step of the coordinator is for the node's life.
-use Rattle.std.proofs.Common.{◌≡◌, ℕ, Bool, true, false, ◌||◌, ◌⊎◌, inl, inr, Option, Some, List, [], ◌∷◌, refl, sym, ap, subst, ◌∙◌}
+use Rattle.std.proofs.Common.{◌≡◌, ℕ, Bool, true, false, ◌⊎◌, inl, inr, Option, Some, List, [], ◌∷◌, refl, sym, ap, subst, ◌∙◌}
 use Rattle.std.specs.List.{flat_map}
 use Rattle.zen_disk.specs.Moments.{LeavesOnly}
 use Rattle.cluster_state.specs.declared.state.Kept.{Kept}
@@ -16,8 +16,9 @@ use Rattle.policy_model.specs.declared.settings.Settings.{Settings}
 use Rattle.policy_model.specs.declared.events.Event.{Event}
 use Rattle.policy_model.specs.Events.{Item, Opens, Begins, Acts, Turns, Drops, Sends, Replies, Notes, And, acts_of}
 use Rattle.policy_model.specs.Entries.{Life, Lived, Did, log_of, frames_of, frames_in, replies_of, by_receiver}
-use Rattle.policy_model.specs.Follows.{IsStruck, Here, Later, is_fault, has_fault, is_start, starts_next, items_of}
+use Rattle.policy_model.specs.Follows.{IsStruck, Here, Later, has_fault, is_start, starts_next, items_of}
 use Rattle.policy_model.specs.Views.{View, view_of}
+use Rattle.policy_model.proofs.Locals.{struck_fault}
 use Rattle.node_loop.specs.declared.lines.LastSent.{LastSent}
 use Rattle.node_loop.specs.Crashes.{Holds, IsLeftAlong}
 use Rattle.node_loop.specs.Reporting.{Reports, AreLined, sent_of}
@@ -25,22 +26,7 @@ use Rattle.node_loop.specs.Steps.{Does, IsHalted}
 use Rattle.node_loop.specs.Texts.{entry_text}
 use Rattle.node_loop.proofs.Lasting.{leaves_now, leaves_struck}
 
--- an event that is struck has a fault, and sends nothing
-struck_fault : (is left : List Item) → IsStruck is left → has_fault left ≡ true
-struck_fault is left (Here act sends wins rest fault w f) = rw f refl
-struck_fault is left (Later (Opens found) rest left' q) = struck_fault rest left' q
-struck_fault is left (Later (Begins event) rest left' q) = struck_fault rest left' q
-struck_fault is left (Later (Acts act o) rest left' q) = either (is_fault o) (struck_fault rest left' q)
-  where
-    either : (b : Bool) → has_fault left' ≡ true → (b || has_fault left') ≡ true
-    either true e = refl
-    either false e = e
-struck_fault is left (Later (Turns mode term) rest left' q) = struck_fault rest left' q
-struck_fault is left (Later (Drops member cause) rest left' q) = struck_fault rest left' q
-struck_fault is left (Later (Sends frame) rest left' q) = struck_fault rest left' q
-struck_fault is left (Later (Replies answer) rest left' q) = struck_fault rest left' q
-struck_fault is left (Later (Notes note) rest left' q) = struck_fault rest left' q
-
+-- an event that is struck sends nothing
 struck_frames : (is left : List Item) → IsStruck is left → flat_map frames_in left ≡ []
 struck_frames is left (Here act sends wins rest fault w f) = refl
 struck_frames is left (Later (Opens found) rest left' q) = struck_frames rest left' q

@@ -18,7 +18,7 @@ use Rattle.node_loop.specs.Connections.{makes}
 use Rattle.node_loop.specs.Reports.{Output, lived, EntriesFollow, happened_in, Reported, StandsFor, text_of, moves_in, moves_of}
 use Rattle.policy_model.specs.Entries.{Entry}
 use Rattle.node_loop.specs.Tells.{Tells, HasCauses, IsUp, says_all, does_all, Grows, seen}
-use Rattle.node_loop.proofs.Appending.{appended_more, appended_none}
+use Rattle.zen_link.proofs.Appending.{appended_more, appended_none}
 
 some_same : {A : Type 0} (x y : A) → Some x ≡ Some y → x ≡ y
 some_same x y e = cc

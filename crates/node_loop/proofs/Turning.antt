@@ -1,7 +1,7 @@
 -- How readers and inputs go together over turns.
 use Rattle.std.proofs.Common.{◌||◌, ◌+◌, append_assoc, length-append, ◌≡◌, ℕ, ◌≤◌, ◌<◌, ◌==◌, Bool, true, false, Option, None, Some, List, [], ◌∷◌, ◌++◌, map, refl, sym, ap, subst, ◌∙◌, get_or, slice_set, length, eq-eqb, append-nil, arith}
 use Rattle.std.proofs.lemmas.List.{get_or-set_same, get_or-set_other}
-use Rattle.std.proofs.lemmas.Bool.{eqb-true, eqb-false}
+use Rattle.std.proofs.lemmas.Bool.{eqb-true, eqb-false, or_parts}
 use Rattle.policy_model.specs.declared.settings.Settings.{Settings}
 use Rattle.policy_model.specs.declared.events.Event.TheVariants.{Start}
 use Rattle.policy_model.specs.Entries.{Life}
@@ -91,10 +91,6 @@ course_one : (before : Intakes) (intake : Intake) (input : Input) → inputs_in 
 course_one before intake input is =
     let same : Takes input ∷ makes (made_by before intake) ≡ course_by before intake = ap (λ (l : List Input). map Takes l ++ makes (made_by before intake)) (sym is) in
     same ∙ sym (append-nil (course_by before intake))
-
-or_parts : (a b : Bool) → (a || b) ≡ false → (a ≡ false) × (b ≡ false)
-or_parts true b e = absurd cc
-or_parts false b e = (refl, e)
 
 has_stop_more : (xs ys : List Intake) → has_stop xs ≡ false → has_stop (xs ++ ys) ≡ has_stop ys
 has_stop_more [] ys e = refl
