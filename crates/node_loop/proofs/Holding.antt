@@ -1,6 +1,7 @@
 -- What a reader holds is short.
 use Rattle.std.proofs.Common.{◌≡◌, ℕ, zero, suc, ◌+◌, ◌<◌, ◌≤◌, nat_lt, ◌==◌, Bool, true, false, Result, Ok, Err, List, [], ◌∷◌, length, take, drop, get_or, refl, sym, subst, arith, length-drop, length-take}
 use Rattle.std.proofs.lemmas.Bool.{ltb-true, ltb-false}
+use Rattle.zen_link.specs.Told.{most_connections}
 use Rattle.wire_frames.specs.declared.fault.FrameFault.{FrameFault}
 use Rattle.wire_frames.specs.declared.frame.Frame.{Frame}
 use Rattle.wire_frames.specs.Frames.{most_body, frame_of}
@@ -52,5 +53,5 @@ holds : (bytes : List ℕ) → HoldsLittle (reading_of bytes)
 holds [] = tt
 holds (b ∷ bytes) = by_first b bytes (b == 0) refl
 
-pub holds_little : (readings : List Connection) (intakes : Intakes) → Reads readings intakes → (conn : ℕ) → conn < 64 → HoldsLittle (get_or readings conn Fresh)
+pub holds_little : (readings : List Connection) (intakes : Intakes) → Reads readings intakes → (conn : ℕ) → conn < most_connections → HoldsLittle (get_or readings conn Fresh)
 holds_little readings intakes reads conn low = subst (λ (c : Connection). HoldsLittle c) (sym (reads conn low)) (holds (bytes_of conn intakes))

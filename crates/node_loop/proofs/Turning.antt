@@ -14,9 +14,9 @@ use Rattle.node_loop.specs.declared.connection.Connection.{Connection}
 use Rattle.node_loop.specs.declared.connection.Connection.TheVariants.{Fresh}
 use Rattle.node_loop.specs.declared.node.End.{End}
 use Rattle.node_loop.specs.declared.node.End.TheVariants as ends
-use Rattle.zen_link.specs.Told.{with_last}
+use Rattle.zen_link.specs.Told.{with_last, most_connections}
 use Rattle.node_loop.specs.Intakes.{Intake, Read, Unread, Refused, Intakes, NoIntakes, Then, followed, inputs_in}
-use Rattle.node_loop.specs.Happenings.{Happening, Comes, Takes, Makes}
+use Rattle.node_loop.specs.Happenings.{Comes, Takes, Makes}
 use Rattle.node_loop.specs.Happenings as happening
 use Rattle.node_loop.specs.Connections.{bytes_of, reading_of, made_by, makes, course_by, course_from}
 use Rattle.node_loop.specs.Feeds.{IsFed, happenings_of}
@@ -28,7 +28,7 @@ use Rattle.node_loop.specs.Turns.{Reads, TakesIn, Turns, ServesOn, is_stop, is_s
 use Rattle.node_loop.proofs.Telling.{joined, joined_at, all_taken, takes, rests, nothing}
 
 reads_by : (readings : List Connection) (conn : ℕ) (next : Connection) (intakes : Intakes) (intake : Intake) (c : ℕ) (t : Bool) → (conn == c) ≡ t
-    → length readings ≡ 64 → c < 64 → Reads readings intakes → next ≡ reading_of (bytes_of conn (Then intakes intake))
+    → length readings ≡ most_connections → c < most_connections → Reads readings intakes → next ≡ reading_of (bytes_of conn (Then intakes intake))
     → ((c : ℕ) → (conn == c) ≡ false → bytes_of c (Then intakes intake) ≡ bytes_of c intakes)
     → get_or (slice_set readings conn next) c Fresh ≡ reading_of (bytes_of c (Then intakes intake))
 reads_by readings conn next intakes intake c true e all low reads at others =
@@ -39,7 +39,7 @@ reads_by readings conn next intakes intake c false e all low reads at others =
     get_or-set_other readings conn c next Fresh (λ (k : c ≡ conn). eqb-false conn c e (sym k)) ∙ reads c low ∙ ap reading_of (sym (others c e))
 
 reads_set : (readings : List Connection) (conn : ℕ) (next : Connection) (intakes : Intakes) (intake : Intake)
-    → length readings ≡ 64 → Reads readings intakes → next ≡ reading_of (bytes_of conn (Then intakes intake))
+    → length readings ≡ most_connections → Reads readings intakes → next ≡ reading_of (bytes_of conn (Then intakes intake))
     → ((c : ℕ) → (conn == c) ≡ false → bytes_of c (Then intakes intake) ≡ bytes_of c intakes)
     → Reads (slice_set readings conn next) (Then intakes intake)
 reads_set readings conn next intakes intake all reads at others c low = reads_by readings conn next intakes intake c (conn == c) refl all low reads at others
@@ -47,7 +47,7 @@ reads_set readings conn next intakes intake all reads at others c low = reads_by
 itself : (conn : ℕ) → (conn == conn) ≡ true
 itself conn = eq-eqb conn conn refl
 
-pub fed_reads : (readings now : List Connection) (conn : ℕ) (more : List ℕ) (came : Came) (intakes : Intakes) → length readings ≡ 64 → conn < 64 → Reads readings intakes → FeedsAt readings conn more came now
+pub fed_reads : (readings now : List Connection) (conn : ℕ) (more : List ℕ) (came : Came) (intakes : Intakes) → length readings ≡ most_connections → conn < most_connections → Reads readings intakes → FeedsAt readings conn more came now
     → (happenings_of conn came ≡ made_by intakes (Read (Bytes conn more))) × Reads now (Then intakes (Read (Bytes conn more)))
 fed_reads readings now conn more came intakes all low reads fed =
     let is : IsFed conn (bytes_of conn intakes) more came fed.next = fed.feeds conn (bytes_of conn intakes) (reads conn low) in (
@@ -56,13 +56,13 @@ fed_reads readings now conn more came intakes all low reads fed =
           (reads_set readings conn fed.next intakes (Read (Bytes conn more)) all reads (rw (itself conn) is.reads) (λ c other. rw other refl)),
     )
 
-pub unread_reads : (readings now : List Connection) (conn : ℕ) (more : List ℕ) (intakes : Intakes) → length readings ≡ 64 → Reads readings intakes → now ≡ slice_set readings conn Fresh
+pub unread_reads : (readings now : List Connection) (conn : ℕ) (more : List ℕ) (intakes : Intakes) → length readings ≡ most_connections → Reads readings intakes → now ≡ slice_set readings conn Fresh
     → Reads now (Then intakes (Unread conn more))
 unread_reads readings now conn more intakes all reads set =
     subst (λ r. Reads r (Then intakes (Unread conn more))) (sym set)
     (reads_set readings conn Fresh intakes (Unread conn more) all reads (rw (itself conn) refl) (λ c other. rw other refl))
 
-pub closed_reads : (readings now : List Connection) (conn : ℕ) (intakes : Intakes) → length readings ≡ 64 → Reads readings intakes → now ≡ slice_set readings conn Fresh
+pub closed_reads : (readings now : List Connection) (conn : ℕ) (intakes : Intakes) → length readings ≡ most_connections → Reads readings intakes → now ≡ slice_set readings conn Fresh
     → Reads now (Then intakes (Read (Closed conn)))
 closed_reads readings now conn intakes all reads set =
     subst (λ r. Reads r (Then intakes (Read (Closed conn)))) (sym set)

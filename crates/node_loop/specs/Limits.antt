@@ -1,5 +1,7 @@
 -- For the contracts inside: how much a node holds of what comes over a connection.
 use Rattle.std.specs.Prelude.{ℕ, ◌+◌, ◌<◌, ◌≤◌, List, length, get_or}
+use Rattle.client_lines.specs.Lines.{most_line}
+use Rattle.zen_link.specs.Told.{most_connections}
 use Rattle.wire_frames.specs.Frames.{most_body}
 use Rattle.wire_frames.specs.Streams.{Rest, Fault}
 use Rattle.node_loop.specs.declared.connection.Connection.{Connection}
@@ -12,8 +14,8 @@ abbrev pub HoldsLittle : Connection → Type 0
 HoldsLittle Fresh = Unit {0}
 HoldsLittle (Frames (Rest bytes)) = length bytes < 4 + most_body
 HoldsLittle (Frames (Fault fault)) = Unit {0}
-HoldsLittle (Lines bytes) = length bytes ≤ 8193
+HoldsLittle (Lines bytes) = length bytes ≤ most_line + 1
 
 -- whatever came, of each connection
 abbrev pub LawHoldsLittle : Type 0
-LawHoldsLittle = (readings : List Connection) (intakes : Intakes) → Reads readings intakes → (conn : ℕ) → conn < 64 → HoldsLittle (get_or readings conn Fresh)
+LawHoldsLittle = (readings : List Connection) (intakes : Intakes) → Reads readings intakes → (conn : ℕ) → conn < most_connections → HoldsLittle (get_or readings conn Fresh)

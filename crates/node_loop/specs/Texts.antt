@@ -1,6 +1,7 @@
 -- Part of the statement: the lines that a node writes of its life, one entry after the other.
-use Rattle.std.specs.Prelude.{◌≡◌, ℕ, ◌+◌, ◌^◌, min, Option, None, Some, List, [], ◌∷◌, ◌++◌, codes, decimal}
+use Rattle.std.specs.Prelude.{◌≡◌, ℕ, ◌+◌, min, Option, None, Some, List, [], ◌∷◌, ◌++◌, codes, decimal}
 use Rattle.cluster_state.specs.FaultNames.{field_name}
+use Rattle.cluster_state.specs.Field.{last_number}
 use Rattle.cluster_state.specs.declared.state.ClusterState.{ClusterState}
 use Rattle.wire_frames.specs.declared.fault.FrameFault.{FrameFault}
 use Rattle.wire_frames.specs.declared.fault.FrameFault.TheVariants.{TooLong, UnknownKind, Field, Trailing}
@@ -22,9 +23,9 @@ use Rattle.policy_model.specs.Events.{acts_of}
 use Rattle.policy_model.specs.Entries.{Entry, Did, Gone, Bad, NoMemory, Unread, Life, NotBegun, Opened, Lived, log_of, steps_of, drops_of, frames_of, replies_of}
 use Rattle.node_loop.specs.declared.lines.LastSent.{LastSent}
 
--- a node numbers its frames from 1 on since its journal was opened; at 2^62 the number stays
+-- a node numbers its frames from 1 on since its journal was opened; at the greatest number it stays
 abbrev pub next_number : ℕ → ℕ
-next_number count = min (count + 1) (2 ^ 62)
+next_number count = min (count + 1) last_number
 
 -- the lines of frames that are sent after the one of this number
 abbrev pub numbered : ℕ → List Frame → List ℕ
@@ -37,11 +38,11 @@ number_after count [] = count
 number_after count (f ∷ fs) = number_after (next_number count) fs
 
 -- the number of the last frame that was sent
-abbrev pub last_number : Life → ℕ
-last_number NotBegun = 0
-last_number (Opened life found) = 0
-last_number (Lived life (Did event items)) = number_after (last_number life) (frames_of items)
-last_number (Lived life e) = last_number life
+abbrev pub last_frame_number : Life → ℕ
+last_frame_number NotBegun = 0
+last_frame_number (Opened life found) = 0
+last_frame_number (Lived life (Did event items)) = number_after (last_frame_number life) (frames_of items)
+last_frame_number (Lived life e) = last_frame_number life
 
 -- the state that the node published last since its journal was opened
 abbrev pub published_of : Life → Option ClusterState
@@ -53,7 +54,7 @@ published_of (Lived life e) = published_of life
 -- what is kept of a life for later lines is right, or it is lost
 abbrev pub IsTold : Option LastSent → Life → Type 0
 IsTold None life = Unit {0}
-IsTold (Some told) life = (told.published ≡ published_of life) × (told.number ≡ last_number life)
+IsTold (Some told) life = (told.published ≡ published_of life) × (told.number ≡ last_frame_number life)
 
 -- what came to the node
 abbrev pub event_line : Event → List ℕ
@@ -85,7 +86,7 @@ event_lines node published number event steps drops frames replies =
 
 -- the lines of an entry; where memory was lacking, they say that alone
 abbrev pub entry_text : Settings → Life → Entry → List ℕ
-entry_text s life (Did event items) = event_lines s.me (published_of life) (last_number life) event (steps_of items) (drops_of items) (frames_of items) (replies_of items)
+entry_text s life (Did event items) = event_lines s.me (published_of life) (last_frame_number life) event (steps_of items) (drops_of items) (frames_of items) (replies_of items)
 entry_text s life (Gone conn) = gone_line conn
 entry_text s life (Bad conn fault) = bad_line conn fault
 entry_text s life NoMemory = codes "> nomemory\n"

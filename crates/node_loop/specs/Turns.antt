@@ -1,5 +1,6 @@
 -- Part of the statement: what turns of a node are.
 use Rattle.std.specs.Prelude.{Bool, true, false, ◌||◌, ◌≡◌, ℕ, ◌<◌, ◌≤◌, IsTrue, Option, None, Some, List, [], ◌∷◌, length, get_or}
+use Rattle.zen_link.specs.Told.{most_connections}
 use Rattle.policy_model.specs.declared.settings.Settings.{Settings}
 use Rattle.policy_model.specs.Entries.{Life}
 use Rattle.zen_link.specs.declared.link.Input.{Input}
@@ -20,7 +21,7 @@ use Rattle.node_loop.specs.Tells.{Tells, goes_on}
 
 -- each connection's reader holds what its bytes leave
 abbrev pub Reads : List Connection → Intakes → Type 0
-Reads readings intakes = (conn : ℕ) → conn < 64 → get_or readings conn Fresh ≡ reading_of (bytes_of conn intakes)
+Reads readings intakes = (conn : ℕ) → conn < most_connections → get_or readings conn Fresh ≡ reading_of (bytes_of conn intakes)
 
 abbrev pub is_stop : Option End → Bool
 is_stop (Some ends.Stop) = true

@@ -5,7 +5,7 @@ ghost use Rattle.policy_model.specs.declared.events.Event.TheVariants.{Tick as T
 ghost use Rattle.node_loop.specs.Texts.{event_line, event_lines, fault_text, next_number, numbered, number_after, bad_line, gone_line};
 ghost use Rattle.event_text.specs.Published.{published_after};
 
-use cluster_state::{ClusterState, FieldError};
+use cluster_state::{ClusterState, FieldError, LAST_NUMBER};
 use event_text::{write_drops, write_frame_line, write_message, write_replies, write_steps};
 use master_tasks::Outgoing;
 use policy_model::{Event, MemberDrop, Step};
@@ -13,9 +13,6 @@ use schedule_text::Text;
 use std::alloc::{AllocError, Global};
 use voting_config::NodeId;
 use wire_frames::{Frame, FrameFault};
-
-// Where the numbers of frames stay.
-const LAST_NUMBER: u64 = 1 << 62;
 
 /// What the lines of an event need of those before it.
 #[derive(Drop)]

@@ -2,7 +2,7 @@
 ghost use Rattle.node_loop.specs.Intakes.{Intakes, NoIntakes};
 ghost use Rattle.node_loop.specs.Limits.{LawHoldsLittle};
 ghost use Rattle.node_loop.specs.Turns.{Reads, TakesIn, Turns, Says, ServesOn, Serves, is_stop, is_stop_input};
-ghost use Rattle.zen_link.specs.Told.{has_low_conn};
+ghost use Rattle.zen_link.specs.Told.{has_low_conn, most_connections};
 ghost use Rattle.zen_link.specs.declared.link.Input.TheVariants.{Bytes as BytesCame, Closed as ConnectionClosed};
 ghost use Rattle.std.specs.Prelude.{All, IfOk, IfErr, length, ◌<◌, ◌≡◌, ℕ, ◌≤◌, IsTrue, false, Option, Some, None, List, [], ◌∷◌, ◌++◌};
 ghost use Rattle.zen_disk.specs.Faults.{Rose};
@@ -340,8 +340,8 @@ fn take_bytes<S: Steps, L: Link<Out = S::Sealed>, O: Sink>(
     conn: u64,
     bytes: &[u8],
 ) -> Option<End>
-    requires all { length connections.old ≡ 64 }
-    requires low { conn < 64 }
+    requires all { length connections.old ≡ most_connections }
+    requires low { conn < most_connections }
     ensures takes { (s : Settings) (life : Life) (intakes : Intakes) → S.stands_for steps.old s life → IsUp life → Reads connections.old intakes
         → TakesIn S.output (S.text s) s life intakes result (O.written out.old) (O.written out.new) (L.told link.old) (L.told link.new) (HoldsBy S.Steps steps.old steps.new s life) connections.new (BytesCame conn bytes.now) }
     ensures causes { HasCauses result (S.faults steps.old) (S.faults steps.new) (O.faults out.old) (O.faults out.new) (L.faults link.old) (L.faults link.new) }
@@ -363,8 +363,8 @@ fn take_closed<S: Steps, L: Link<Out = S::Sealed>, O: Sink>(
     out: &mut O,
     conn: u64,
 ) -> Option<End>
-    requires all { length connections.old ≡ 64 }
-    requires low { conn < 64 }
+    requires all { length connections.old ≡ most_connections }
+    requires low { conn < most_connections }
     ensures takes { (s : Settings) (life : Life) (intakes : Intakes) → S.stands_for steps.old s life → IsUp life → Reads connections.old intakes
         → TakesIn S.output (S.text s) s life intakes result (O.written out.old) (O.written out.new) (L.told link.old) (L.told link.new) (HoldsBy S.Steps steps.old steps.new s life) connections.new (ConnectionClosed conn) }
     ensures causes { HasCauses result (S.faults steps.old) (S.faults steps.new) (O.faults out.old) (O.faults out.new) (L.faults link.old) (L.faults link.new) }
@@ -384,7 +384,7 @@ fn take_input<S: Steps, L: Link<Out = S::Sealed>, O: Sink>(
     out: &mut O,
     input: Input,
 ) -> Option<End>
-    requires all { length connections.old ≡ 64 }
+    requires all { length connections.old ≡ most_connections }
     requires low { IsTrue (has_low_conn input) }
     ensures takes { (s : Settings) (life : Life) (intakes : Intakes) → S.stands_for steps.old s life → IsUp life → Reads connections.old intakes
         → TakesIn S.output (S.text s) s life intakes result (O.written out.old) (O.written out.new) (L.told link.old) (L.told link.new) (HoldsBy S.Steps steps.old steps.new s life) connections.new (input) }
@@ -416,7 +416,7 @@ fn take_turn<S: Steps, L: Link<Out = S::Sealed>, O: Sink>(
     link: &mut L,
     out: &mut O,
 ) -> Option<End>
-    requires all { length connections.old ≡ 64 }
+    requires all { length connections.old ≡ most_connections }
     ensures turns { (s : Settings) (life : Life) (intakes : Intakes) → S.stands_for steps.old s life → IsUp life → Reads connections.old intakes
         → Turns S.output (S.text s) s life intakes result (O.written out.old) (O.written out.new) (L.told link.old) (L.told link.new) (HoldsBy S.Steps steps.old steps.new s life) connections.new 1 }
     ensures never { ¬ (result ≡ Some End.Turns) }
@@ -438,7 +438,7 @@ fn take_turns<S: Steps, L: Link<Out = S::Sealed>, O: Sink>(
     out: &mut O,
     turns: u64,
 ) -> Option<End>
-    requires all { length connections.old ≡ 64 }
+    requires all { length connections.old ≡ most_connections }
     ensures turns { (s : Settings) (life : Life) (intakes : Intakes) → S.stands_for steps.old s life → IsUp life → Reads connections.old intakes
         → Turns S.output (S.text s) s life intakes result (O.written out.old) (O.written out.new) (L.told link.old) (L.told link.new) (HoldsBy S.Steps steps.old steps.new s life) connections.new turns }
     ensures never { ¬ (result ≡ Some End.Turns) }
@@ -515,7 +515,7 @@ fn serve_on<S: Steps, L: Link<Out = S::Sealed>, O: Sink>(
     out: &mut O,
     turns: u64,
 ) -> End
-    requires all { length connections.old ≡ 64 }
+    requires all { length connections.old ≡ most_connections }
     ensures serves { (s : Settings) (life : Life) → S.stands_for steps.old s life → IsOpened life → Reads connections.old NoIntakes
         → ServesOn S.output (S.text s) s life result (O.written out.old) (O.written out.new) (L.told link.old) (L.told link.new) (HoldsBy S.Steps steps.old steps.new s life) turns }
     ensures causes { HasCauses (Some result) (S.faults steps.old) (S.faults steps.new) (O.faults out.old) (O.faults out.new) (L.faults link.old) (L.faults link.new) }
@@ -530,7 +530,7 @@ fn serve_on<S: Steps, L: Link<Out = S::Sealed>, O: Sink>(
 }
 
 fn fresh_connections(alloc: Global) -> Result<Vec<Connection>, AllocError>
-    ensures all { IfOk result (λ connections. length connections.items ≡ 64) }
+    ensures all { IfOk result (λ connections. length connections.items ≡ most_connections) }
     ensures reads { IfOk result (λ connections. Reads connections.items NoIntakes) }
 {
     let mut connections = Vec::new(alloc);
@@ -550,7 +550,7 @@ pub struct Node<S: Steps> {
     steps: S,
     connections: Vec<Connection>,
     alloc: Global,
-    ghost all: { length connections.items ≡ 64 },
+    ghost all: { length connections.items ≡ most_connections },
 }
 
 impl<S: Steps> Node<S> {

@@ -1,7 +1,7 @@
 //! Nodes over links, sinks and disks in memory. The expected lines are those that the description of the formats gives.
 ghost use Rattle.std.specs.Prelude.{◌<◌, IfOk, IsTrue};
 ghost use Rattle.std.specs.List.{list_all};
-ghost use Rattle.zen_link.specs.Told.{has_low_conn};
+ghost use Rattle.zen_link.specs.Told.{has_low_conn, most_connections};
 
 use crate::{End, JournalNode, Node};
 use bytes::Bytes;
@@ -46,7 +46,7 @@ fn ticks(alloc: Global) -> Result<Vec<Input>, AllocError>
 }
 
 fn bytes(conn: u64, text: &'static [u8]) -> Input
-    requires { conn < 64 }
+    requires { conn < most_connections }
     ensures { IsTrue (has_low_conn result) }
 {
     Input::Bytes {

@@ -21,10 +21,14 @@ Takes was now (Err e) = now ≡ was
 abbrev pub Adds : {A : Type 0} → Option (List A) → Option (List A) → A → ℕ → ℕ → Type 0
 Adds was now x before after = (now ≡ with_last was x) ⊎ ((now ≡ None) × Rose before after)
 
--- the number of its connection is below 64
+-- how many connections a link has at most
+abbrev pub most_connections : ℕ
+most_connections = 64
+
+-- the number of its connection is below that
 abbrev pub has_low_conn : Input → Bool
-has_low_conn (Bytes conn bytes) = nat_lt conn 64
-has_low_conn (Closed conn) = nat_lt conn 64
+has_low_conn (Bytes conn bytes) = nat_lt conn most_connections
+has_low_conn (Closed conn) = nat_lt conn most_connections
 has_low_conn (Tick now word) = true
 has_low_conn Stop = true
 
