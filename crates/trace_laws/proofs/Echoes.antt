@@ -7,7 +7,8 @@ use Rattle.std.proofs.Math.Bool.{or-true}
 use Rattle.std.proofs.lemmas.Bool.{and_parts, and_from}
 use Rattle.std.proofs.lemmas.Bool.Decides.{nat_tests}
 use Rattle.voting_config.specs.Ids.{Id, is_id, has, put, with_id, most_ids, same, IsIdSet}
-use Rattle.voting_config.proofs.Sorted.{has-with_id}
+use Rattle.voting_config.proofs.Sorted.{has-with_id, list_all-put}
+use Rattle.voting_config.proofs.Sets.{same_self}
 use Rattle.schedule_text.specs.declared.fault.WhyBad.{WhyBad}
 use Rattle.schedule_text.specs.declared.fault.WhyBad.TheVariants as why
 use Rattle.schedule_text.specs.declared.level.Level.{Level}
@@ -25,7 +26,7 @@ use Rattle.trace_reader.specs.Reading.{rest_of, words_told}
 use Rattle.trace_laws.specs.Laws.{LawEcho}
 use Rattle.trace_laws.proofs.Plain.{spaceless, number_plain}
 use Rattle.trace_laws.proofs.Lines.{done, read_by, id_lacks}
-use Rattle.trace_laws.proofs.Sets.{same_self, all_ids, all_self, all_put, has_room}
+use Rattle.trace_laws.proofs.Sets.{all_ids, all_self, has_room}
 use Rattle.trace_text.proofs.IdLists.{ids_set}
 
 -- ---- the nodes that a line names
@@ -56,7 +57,7 @@ all_with w ids h =
       | true ↦ λ e.
           elim (has w ids) as (λ b. list_all is_id (cond b ids (put w ids)) ≡ true) [
             | true ↦ h
-            | false ↦ all_put is_id w ids (and_parts (is_id w) _ e).0 h
+            | false ↦ list_all-put is_id w ids (and_parts (is_id w) _ e).0 h
           ]
       | false ↦ λ e. h
     ] refl

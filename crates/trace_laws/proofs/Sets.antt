@@ -1,20 +1,14 @@
 -- How many ids a set has, and which.
 use Rattle.std.proofs.Common.{◌≡◌, ◌+◌, ◌<◌, ◌≤◌, Bool, true, false, cond, ◌&&◌, ◌||◌, List, [], ◌∷◌, ◌++◌, length, nat_lt, append-nil, append_assoc, refl, sym, ap, ◌∙◌, subst, arith}
 use Rattle.std.specs.List.{list_all}
-use Rattle.std.specs.Ordering.{is_lt, is_eq}
-use Rattle.std.specs.declared.cmp.Ordering.{Ordering}
-use Rattle.std.specs.declared.cmp.Ordering.TheVariants.{Less, Equal, Greater}
-use Rattle.std.specs.Cmp.Lexicographic.{texts_ties, same_text}
-use Rattle.std.proofs.lemmas.Slice.Eq.{bytes_eq-Decides}
+use Rattle.std.specs.Cmp.Lexicographic.{same_text}
 use Rattle.std.proofs.Math.Bool.{or-true}
 use Rattle.std.proofs.lemmas.Bool.{and_parts, and_from}
 use Rattle.std.proofs.lemmas.Bool.Decides.{nat_tests}
 use Rattle.voting_config.specs.Ids.{Id, is_id, same, before, comes_after, has, is_below, ascends, put, most_ids, IsIdSet}
-use Rattle.voting_config.proofs.Sorted.{IsIdSet-push, ascends-put, is_below-before}
+use Rattle.voting_config.proofs.Sorted.{IsIdSet-push, before-not_same, ascends-put, is_below-before, length-put, list_all-put}
+use Rattle.voting_config.proofs.Sets.{same_self}
 use Rattle.voting_config.specs.Lists.{may_follow, are_ids_after}
-
-pub same_self : (x : Id) → same x x ≡ true
-same_self x = (bytes_eq-Decides x x).1 refl
 
 pub all_ids : (p q : Id → Bool) → ((x : Id) → p x ≡ true → q x ≡ true) → (xs : List Id) → list_all p xs ≡ true → list_all q xs ≡ true
 all_ids p q f [] h = refl
@@ -25,31 +19,6 @@ all_self [] = refl
 all_self (x ∷ xs) =
     and_from _ _ (ap (λ (b : Bool). b || has x xs) (same_self x))
     (all_ids (λ y. has y xs) (λ y. has y (x ∷ xs)) (λ y h. ap (λ (b : Bool). same x y || b) h ∙ or-true (same x y)) xs (all_self xs))
-
-pub all_put : (p : Id → Bool) (x : Id) (ys : List Id) → p x ≡ true → list_all p ys ≡ true → list_all p (put x ys) ≡ true
-all_put p x [] h k = and_from _ _ h refl
-all_put p x (y ∷ ys) h k =
-    let parts = and_parts (p y) _ k in
-    elim (before y x) as (λ b. list_all p (cond b (y ∷ put x ys) (x ∷ y ∷ ys)) ≡ true) [
-      | true ↦ and_from _ _ parts.0 (all_put p x ys h parts.1)
-      | false ↦ and_from _ _ h k
-    ]
-
-length-put : (x : Id) (ys : List Id) → length (put x ys) ≡ length ys + 1
-length-put x [] = refl
-length-put x (y ∷ ys) =
-    elim (before y x) as (λ b. length (cond b (y ∷ put x ys) (x ∷ y ∷ ys)) ≡ length (y ∷ ys) + 1) [
-      | true ↦ omega (arith, length-put x ys)
-      | false ↦ omega arith
-    ]
-
-less_differs : (o : Ordering) → is_lt o ≡ true → is_eq o ≡ false
-less_differs Less h = refl
-less_differs Equal h = absurd cc
-less_differs Greater h = refl
-
-apart : (x y : Id) → before x y ≡ true → same x y ≡ false
-apart x y h = texts_ties x y ∙ less_differs _ h
 
 below_at : (y x : Id) (ys : List Id) → is_below y ys ≡ true → has x ys ≡ true → before y x ≡ true
 below_at y x [] h k = absurd cc
@@ -66,7 +35,7 @@ among_others y [] ys h k = refl
 among_others y (z ∷ zs) ys h k =
     let below = and_parts (before y z) _ h in
     let parts = and_parts (has z (y ∷ ys)) _ k in
-    and_from _ _ (subst (λ (b : Bool). (b || has z ys) ≡ true) (apart y z below.0) parts.0) (among_others y zs ys below.1 parts.1)
+    and_from _ _ (subst (λ (b : Bool). (b || has z ys) ≡ true) (before-not_same z y below.0) parts.0) (among_others y zs ys below.1 parts.1)
 
 shorter : (xs ys : List Id) → ascends xs ≡ true → ascends ys ≡ true → list_all (λ x. has x ys) xs ≡ true → length xs ≤ length ys
 shorter [] ys a b h = omega arith
@@ -89,4 +58,4 @@ shorter (x ∷ xs) (y ∷ ys) a b h =
 -- a set of some of the ids without this one has room for it
 pub has_room : (n : Id) (some ids : List Id) → IsIdSet ids → ascends some ≡ true → list_all (λ x. has x ids) some ≡ true → has n ids ≡ true → has n some ≡ false → length some < most_ids
 has_room n some ids set ascending among inside outside =
-    omega (arith, set.fits, length-put n some, shorter (put n some) ids (ascends-put n some ascending outside) set.ascending (all_put (λ x. has x ids) n some inside among))
+    omega (arith, set.fits, length-put n some, shorter (put n some) ids (ascends-put n some ascending outside) set.ascending (list_all-put (λ x. has x ids) n some inside among))
