@@ -16,6 +16,7 @@ use Rattle.master_tasks.specs.declared.waiting.Waiting.{Waiting}
 use Rattle.master_tasks.specs.declared.waiting.Outgoing.{Outgoing}
 use Rattle.master_tasks.specs.Queue.{Tasks, no_tasks}
 use Rattle.master_tasks.specs.Answering.{without_answered}
+use Rattle.master_tasks.proofs.Limits.{each_append}
 use Rattle.world_model.specs.declared.acts.Act.{Act}
 use Rattle.world_model.specs.declared.acts.Act.TheVariants.{Bootstrap, StartJoin, TakeJoin, Value, Publish, Response, Commit, Open}
 use Rattle.world_model.specs.declared.acts.Message.{Message}
@@ -40,7 +41,7 @@ use Rattle.policy_model.specs.Views.{View}
 use Rattle.policy_model.specs.Moves.{moved, moved_all, acted, turned, noted}
 use Rattle.trace_text.proofs.IdLists.{none_set}
 use Rattle.cluster_replay.proofs.Fits.{set-with, set-with_known}
-use Rattle.cluster_replay.proofs.NextFits.{fit-either, fit-initial, fit-state, IsGoodRequest, FitTasks, FitAccepted, each-with, good-left, set-rooms, fit-after}
+use Rattle.cluster_replay.proofs.NextFits.{fit-either, fit-initial, fit-state, IsGoodRequest, FitTasks, FitAccepted, good-left, set-rooms, fit-after}
 
 -- ---- what fits
 
@@ -187,7 +188,7 @@ fit-noted s v FollowersChecked f n = record { node = f.node; tasks = f.tasks }
 fit-noted s v (FollowerAnswered from good applied) f n = record { node = f.node; tasks = f.tasks }
 fit-noted s v LeaderChecked f n = record { node = f.node; tasks = f.tasks }
 fit-noted s v (LeaderAnswered good) f n = record { node = f.node; tasks = f.tasks }
-fit-noted s v (Queued conn request) f n = record { node = f.node; tasks = record { additions = f.tasks.additions; waiting = each-with _ v.tasks.waiting _ f.tasks.waiting (n, tt) } }
+fit-noted s v (Queued conn request) f n = record { node = f.node; tasks = record { additions = f.tasks.additions; waiting = each_append _ v.tasks.waiting _ f.tasks.waiting (n, tt) } }
 fit-noted s v ExclusionsTimedOut f n = record { node = f.node; tasks = fit-left _ v.tasks f.tasks }
 fit-noted s v CommitAcked f n = record { node = f.node; tasks = fit-left _ v.tasks f.tasks }
 fit-noted s v ExclusionsAcked f n = record { node = f.node; tasks = fit-left _ v.tasks f.tasks }

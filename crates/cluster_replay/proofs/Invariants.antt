@@ -10,6 +10,7 @@ use Rattle.world_model.specs.Histories.{sent}
 use Rattle.voting_config.proofs.Sets.{same_is}
 use Rattle.replay_node.specs.NodeWorld.{NodeWorld, needs_opening}
 use Rattle.replay_node.specs.Worlds.{World, node_world}
+use Rattle.master_tasks.proofs.Limits.{each_append}
 use Rattle.policy_model.specs.declared.settings.Settings.{Settings}
 use Rattle.policy_model.specs.declared.events.Event.{Event}
 use Rattle.policy_model.specs.declared.events.Event.TheVariants.{Start, Tick, Frame as FrameCame, Client as LineCame}
@@ -46,10 +47,6 @@ pub record SoundCluster (nodes initial : List Id) (c : Cluster) : Type 0 where
   pub frames : AllByRecursion (IsGoodFrame (sent c.world.history)) c.frames
 
 -- ---- lists
-
-pub all-append : {A : Type 0} (P : A → Type 0) (xs ys : List A) → AllByRecursion P xs → AllByRecursion P ys → AllByRecursion P (xs ++ ys)
-all-append P [] ys h k = k
-all-append P (x ∷ xs) ys h k = (h.0, all-append P xs ys h.1 k)
 
 all-put : (P : Frame → Type 0) (f : Frame) (fs : List Frame) → P f → AllByRecursion P fs → AllByRecursion P (put_frame f fs)
 all-put P f [] h k = (h, tt)
@@ -186,7 +183,7 @@ event_sound nodes initial n c e mine set listed sound frames others waits comes 
     record {
       world = p.sound;
       each = λ m there. from m there (same n m) refl;
-      frames = all-append (IsGoodFrame (sent (event_course s c e).world.history)) c.frames _ (good-more (sent c.world.history) _ c.frames p.covers frames) (event_frames s mine set c.world (c.lives n) e sound waits comes);
+      frames = each_append (IsGoodFrame (sent (event_course s c e).world.history)) c.frames _ (good-more (sent c.world.history) _ c.frames p.covers frames) (event_frames s mine set c.world (c.lives n) e sound waits comes);
     }
   where
     from : (m : Id) → has m nodes ≡ true → (b : Bool) → same n m ≡ b → SoundNode (settings_of nodes initial m) (cond b (Lived (c.lives n) (Did e (event_course (settings_of nodes initial n) c e).items)) (c.lives m)) (node_world (event_course (settings_of nodes initial n) c e).world m)

@@ -6,6 +6,8 @@ use Rattle.std.proofs.lemmas.Bool.{and_parts, and_from}
 use Rattle.voting_config.specs.Ids.{Id, is_id, has, with_id, without_id, most_ids, same_config, is_quorum_of, union_count_of, IsIdSet, among, outside, set_of, union, with_room}
 use Rattle.reconfigurator.specs.Targets.{odd_of, least_size, size_of, candidates_of, chosen_of, target_of}
 use Rattle.voting_config.proofs.Sets.{length-set_of-take}
+use Rattle.voting_config.proofs.Kept.{list_all-filter}
+use Rattle.master_tasks.proofs.Limits.{each_filter, each_append, fewer}
 use Rattle.exclusions.specs.declared.AddError.TheVariants.{TooMany}
 use Rattle.exclusions.specs.declared.StillMember.{StillMember}
 use Rattle.exclusions.specs.Exclusions.{most_exclusions, cleared_of, together, unless_missing}
@@ -32,7 +34,7 @@ use Rattle.master_tasks.specs.Processing.{Processing, AnsweredAtOnce, Makes, Pro
 use Rattle.master_tasks.specs.Queue.{Tasks}
 use Rattle.master_tasks.proofs.Limits.{fits_next}
 use Rattle.trace_text.proofs.IdLists.{none_set}
-use Rattle.cluster_replay.proofs.Fits.{AreIds, no_ids, ids-fold, few_ids, each-filter, each-append, each-take, fewer, set-fits, set-filter, set-with}
+use Rattle.cluster_replay.proofs.Fits.{AreIds, no_ids, ids-fold, few_ids, each-append, each-take, set-fits, set-filter, set-with}
 
 -- ---- what clients ask
 
@@ -130,10 +132,10 @@ formed-all accepted p (w ∷ ws) f good =
 -- ---- the next configuration
 
 each-among : (xs ys : List Id) → list_all is_id xs ≡ true → list_all is_id (among xs ys) ≡ true
-each-among xs ys h = each-filter is_id _ xs h
+each-among xs ys h = list_all-filter is_id _ xs h
 
 each-outside : (xs ys : List Id) → list_all is_id xs ≡ true → list_all is_id (outside xs ys) ≡ true
-each-outside xs ys h = each-filter is_id _ xs h
+each-outside xs ys h = list_all-filter is_id _ xs h
 
 each-master : (b : Bool) (me : Id) → is_id me ≡ true → list_all is_id (if b then me ∷ [] else []) ≡ true
 each-master true me h = and_from (is_id me) true h refl
@@ -265,21 +267,12 @@ next-config-fits l t h f g =
 
 -- ---- the tasks afterwards
 
-each-kept : {A : Type 0} (P : A → Type 0) (q : A → Bool) (xs : List A) → AllByRecursion P xs → AllByRecursion P (filter q xs)
-each-kept P q [] h = h
-each-kept P q (x ∷ xs) h =
-    elim (q x) as (λ b. AllByRecursion P (cond b (x ∷ filter q xs) (filter q xs))) [ true ↦ (h.0, each-kept P q xs h.1) | false ↦ each-kept P q xs h.1 ]
-
-pub each-with : {A : Type 0} (P : A → Type 0) (xs ys : List A) → AllByRecursion P xs → AllByRecursion P ys → AllByRecursion P (xs ++ ys)
-each-with P [] ys h k = k
-each-with P (x ∷ xs) ys h k = (h.0, each-with P xs ys h.1 k)
-
 pub good-left : (q : Waiting → Bool) (ws : List Waiting) → AllByRecursion (λ w. IsGoodRequest w.request) ws → AllByRecursion (λ w. IsGoodRequest w.request) (filter q ws)
-good-left q ws g = each-kept _ q ws g
+good-left q ws g = each_filter _ q ws g
 
 good-then : (p : Processed) (w : Waiting) (step : Processing) → AllByRecursion (λ w. IsGoodRequest w.request) p.waiting → IsGoodRequest w.request → AllByRecursion (λ w. IsGoodRequest w.request) (and_then p w step).waiting
 good-then p w (AnsweredAtOnce a) h good = h
-good-then p w (Makes v) h good = each-with _ p.waiting (record w { processed = true } ∷ []) h (good, tt)
+good-then p w (Makes v) h good = each_append _ p.waiting (record w { processed = true } ∷ []) h (good, tt)
 
 good-all : (accepted : ClusterState) (p : Processed) (ws : List Waiting) → AllByRecursion (λ w. IsGoodRequest w.request) p.waiting → AllByRecursion (λ w. IsGoodRequest w.request) ws
     → AllByRecursion (λ w. IsGoodRequest w.request) (fold (with_next accepted) p ws).waiting

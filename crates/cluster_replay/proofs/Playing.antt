@@ -1,5 +1,6 @@
 -- What the disk lets a node do of the items of an event: all of them, or those up to an act that it strikes.
 use Rattle.std.proofs.Common.{◌≡◌, Bool, true, false, not, ◌||◌, ◌⊎◌, inl, inr, None, List, [], ◌∷◌, ◌++◌, refl, sym, ◌∙◌, ap, subst, if◌then◌else◌}
+use Rattle.std.proofs.lemmas.Bool.{or_parts}
 use Rattle.std.specs.List.{flat_map}
 use Rattle.std.proofs.lemmas.List.Elements.{Contains-append_left}
 use Rattle.voting_config.specs.Ids.{Id, same}
@@ -38,10 +39,6 @@ fit-act-of p (Bootstrap config) f = f
 fit-act-of p (Value version config value) f = f
 fit-act-of p (Publish request) f = f
 fit-act-of p act f = tt
-
-or_false : (a b : Bool) → (a || b) ≡ false → (a ≡ false) × (b ≡ false)
-or_false true b e = absurd (cc)
-or_false false b e = (refl, e)
 
 pub acts-added : (l m : Log) (is : List Item) → acts_of l ≡ acts_of m → acts_of (added l is) ≡ acts_of (added m is)
 acts-added l m [] e = e
@@ -154,10 +151,10 @@ module _ (s : Settings) (w : World) (act : Act) (sound : SoundWorld s.initial w)
   end_is = (act_called s.me (node_world w s.me) act).ended
 
   up : w.down s.me ≡ false
-  up = (or_false (w.down s.me) (halted_of g) running).0
+  up = (or_parts (w.down s.me) (halted_of g) running).0
 
   going : halted_of g ≡ false
-  going = (or_false (w.down s.me) (halted_of g) running).1
+  going = (or_parts (w.down s.me) (halted_of g) running).1
 
   did_sound : SoundWorld s.initial (did w s.me act)
   did_sound = subst (λ (b : Bool). SoundWorld s.initial (if b then w else did w s.me act)) up (acted s.initial w s.me act sound sourced o fit)

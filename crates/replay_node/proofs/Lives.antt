@@ -1,5 +1,6 @@
 -- A node's life, where an act that was struck is found to be kept or not.
 use Rattle.std.proofs.Common.{◌≡◌, Bool, true, false, ◌||◌, ◌⊎◌, inl, inr, Option, List, [], ◌∷◌, map, refl, sym, ◌∙◌, ap, subst}
+use Rattle.std.proofs.lemmas.Bool.{or_parts}
 use Rattle.world_model.specs.declared.acts.Act.{Act}
 use Rattle.world_model.specs.declared.acts.Message.{Message}
 use Rattle.world_model.specs.declared.acts.ActReply.TheVariants.{Taken}
@@ -39,10 +40,6 @@ answered-fault s v is (ByQuiet u i rest e a) = quiet-fault i rest e ∙ answered
 -- what the policy says has none
 pub no_fault : (s : Settings) (l : Log) (e : Event) → has_fault (items_of s l e) ≡ false
 no_fault s l e = answered-fault s _ (items_of s l e) (answered-next s (view_of s (And l (Begins e))) e)
-
-or_parts : (a b : Bool) → (a || b) ≡ false → (a ≡ false) × (b ≡ false)
-or_parts true b e = absurd (cc)
-or_parts false b e = (refl, e)
 
 -- ---- a life that is not struck
 

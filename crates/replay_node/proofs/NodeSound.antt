@@ -26,7 +26,7 @@ use Rattle.state_journal.specs.declared.change.Change.{Change}
 use Rattle.state_journal.specs.declared.change.Change.TheVariants.{Term, Accepted, Committed}
 use Rattle.state_journal.specs.declared.why.Why.{Why}
 use Rattle.cluster_state.proofs.Sizes.{state_short}
-use Rattle.state_journal.proofs.Spelled.{reads_term, reads_state, reads_committed, state_is}
+use Rattle.state_journal.proofs.Spelled.{reads_term, reads_state, reads_committed, state_is, term_plain, committed_plain, accepted_plain}
 use Rattle.coord_state.specs.Writes.{change_of, kept_after}
 use Rattle.world_model.specs.declared.acts.Act.{Act}
 use Rattle.world_model.specs.declared.acts.Act.TheVariants.{Bootstrap, StartJoin, TakeJoin, Value, Publish, Response, Commit, Open}
@@ -85,24 +85,12 @@ short_committed : length (body_of Committed) ≤ most_body
 unfolding body_of
 short_committed = let e : length (body_of Committed) ≡ 1 = refl in omega arith
 
-plain_term : (t : ℕ) → is_generation (body_of (Term t)) ≡ false
-unfolding body_of
-plain_term t = refl
-
-plain_state : (s : ClusterState) → is_generation (body_of (Accepted s)) ≡ false
-unfolding body_of
-plain_state s = refl
-
-plain_committed : is_generation (body_of Committed) ≡ false
-unfolding body_of
-plain_committed = refl
-
 may_accept : (kept : Kept) (s : ClusterState) → MayBegin kept → state.Fits s → s.term ≤ kept.term → MayKeep kept (Accepted s)
 may_accept kept s may fits older = record {
   reads = reads_state s fits;
   order = le-leb s.term kept.term older;
   short = short_state s fits;
-  plain = plain_state s;
+  plain = accepted_plain s;
   begins = record { bounded = may.bounded; fits = fits; named = fits.1.1.1.0; older = older };
 }
 
@@ -133,7 +121,7 @@ keeps me g (StartJoin candidate term) sends wins is w fits kept =
         reads = reads_term term below;
         order = lt-ltb (term_of g) term above;
         short = short_term term;
-        plain = plain_term term;
+        plain = term_plain term;
         begins = record { bounded = below; fits = kept.fits; named = kept.named; older = omega (arith, kept.older, above) };
       };
     }
@@ -154,7 +142,7 @@ keeps me g (Commit commit) sends wins is w fits kept = record {
     reads = reads_committed;
     order = refl;
     short = short_committed;
-    plain = plain_committed;
+    plain = committed_plain;
     begins = record { bounded = kept.bounded; fits = kept.fits; named = kept.fits.1.1.0; older = kept.older };
   };
 }
