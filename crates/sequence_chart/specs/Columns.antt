@@ -1,7 +1,7 @@
 -- Part of the statement of `zen_chart`: where lifelines stand.
-use Rattle.std.specs.Prelude.{ℕ, ◌+◌, ◌*◌, ◌==◌, ◌&&◌, not, Bool, Option, None, Some, List, [], ◌∷◌, length, if◌then◌else◌, min, max}
+use Rattle.std.specs.Prelude.{ℕ, ◌+◌, ◌*◌, Option, None, Some, List, [], ◌∷◌, length, if◌then◌else◌, min, max}
 use Rattle.std.specs.Str.{bytes_eq}
-use Rattle.voting_config.specs.Ids.{Id, has, with_id, most_ids}
+use Rattle.voting_config.specs.Ids.{Id, with_room}
 use Rattle.trace_reader.specs.declared.told.Told.{Told}
 use Rattle.trace_reader.specs.declared.told.Told.TheVariants as told
 use Rattle.trace_reader.specs.declared.told.TraceLine.{TraceLine}
@@ -27,18 +27,14 @@ node_of (told.Mode n m t) = n
 node_of (told.Dropped n) = n
 node_of (told.Replied n) = n
 
--- one more node, where there is room for it
-abbrev pub with_node : Id → List Id → List Id
-with_node n ids = if not (has n ids) && length ids == most_ids then ids else with_id n ids
-
 abbrev pub with_receiver : Told → List Id → List Id
-with_receiver (told.Sent from (Some to)) ids = with_node to ids
+with_receiver (told.Sent from (Some to)) ids = with_room ids to
 with_receiver other ids = ids
 
--- the nodes of a trace: those that its lines tell of, and those that messages are for
+-- the nodes of a trace: those that its lines tell of, and those that messages are for, as far as there is room
 abbrev pub nodes_from : List Id → List TraceLine → List Id
 nodes_from ids [] = ids
-nodes_from ids (l ∷ ls) = nodes_from (with_receiver l.told (with_node (node_of l.told) ids)) ls
+nodes_from ids (l ∷ ls) = nodes_from (with_receiver l.told (with_room ids (node_of l.told))) ls
 
 -- how many characters wide the labels of a node are, with this number before
 abbrev pub widest_from : ℕ → Id → List TraceLine → ℕ

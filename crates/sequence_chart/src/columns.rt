@@ -1,6 +1,6 @@
 //! Columns: which nodes have a lifeline, and where it stands.
 ghost use Rattle.std.specs.Prelude.{◌≡◌, ◌+◌, ◌*◌, ◌≤◌, length, IfOk, []};
-ghost use Rattle.sequence_chart.specs.Columns.{node_of as node_of_told, with_node as with_node_of, with_receiver as with_receiver_of, nodes_from, widest_from, columns_from, left_of as left_of_columns};
+ghost use Rattle.sequence_chart.specs.Columns.{node_of as node_of_told, with_receiver as with_receiver_of, nodes_from, widest_from, columns_from, left_of as left_of_columns};
 
 use crate::labels::label;
 use std::alloc::{AllocError, Global};
@@ -38,12 +38,6 @@ pub fn node_of(told: &Told) -> NodeId
     }
 }
 
-fn add_node(nodes: &mut NodeSet, node: NodeId)
-    ensures { nodes.new ≡ with_node_of node nodes.old }
-{
-    let _ = nodes.insert(node);
-}
-
 fn add_receiver(nodes: &mut NodeSet, told: &Told)
     ensures { nodes.new ≡ with_receiver_of told.now nodes.old }
 {
@@ -53,7 +47,7 @@ fn add_receiver(nodes: &mut NodeSet, told: &Told)
     let Some(to) = to else {
         return;
     };
-    add_node(nodes, *to);
+    nodes.put_if_room(*to);
 }
 
 /// The nodes of a trace: those that its lines tell of, and those that messages are for. Of more than 32 those that come first.
@@ -62,7 +56,7 @@ pub fn nodes_of(lines: &[TraceLine]) -> NodeSet
 {
     let mut nodes = NodeSet::new();
     for line in lines {
-        add_node(&mut nodes, node_of(&line.told));
+        nodes.put_if_room(node_of(&line.told));
         add_receiver(&mut nodes, &line.told);
     }
     nodes

@@ -1,12 +1,12 @@
 -- The echo of a line of a schedule is read as that line.
 use Rattle.std.proofs.Common.{◌≡◌, ℕ, ◌-◌, ◌^◌, ◌<◌, ◌≤◌, Bool, true, false, cond, not, ◌&&◌, ◌||◌, Result, Ok, List, [], ◌∷◌, ◌++◌, length, get_or, refl, sym, ap, ◌∙◌, ◌≢◌, subst, codes, decimal, arith}
-use Rattle.std.specs.Prelude.{◌==◌, if◌then◌else◌}
+use Rattle.std.specs.Prelude.{◌==◌, if◌then◌else◌, nat_lt}
 use Rattle.std.specs.Str.{bytes_eq}
 use Rattle.std.specs.List.{list_all, join_with_byte}
 use Rattle.std.proofs.Math.Bool.{or-true}
-use Rattle.std.proofs.lemmas.Bool.{and_parts, and_from}
+use Rattle.std.proofs.lemmas.Bool.{and_parts, and_from, lt-ltb}
 use Rattle.std.proofs.lemmas.Bool.Decides.{nat_tests}
-use Rattle.voting_config.specs.Ids.{Id, is_id, has, put, with_id, most_ids, same, IsIdSet}
+use Rattle.voting_config.specs.Ids.{Id, is_id, has, put, with_id, with_room, most_ids, same, IsIdSet}
 use Rattle.voting_config.proofs.Sorted.{has-with_id, list_all-put}
 use Rattle.voting_config.proofs.Sets.{same_self}
 use Rattle.schedule_text.specs.declared.fault.WhyBad.{WhyBad}
@@ -34,8 +34,11 @@ use Rattle.trace_text.proofs.IdLists.{ids_set}
 -- an id that is among some stays there
 kept : (x w : Id) (ids : List Id) → has x ids ≡ true → has x (with_word w ids) ≡ true
 kept x w ids h =
-    elim (is_id w && not (not (has w ids) && length ids == most_ids)) as (λ b. has x (cond b (with_id w ids) ids) ≡ true) [
-      | true ↦ has-with_id x w ids ∙ ap (λ (b : Bool). same w x || b) h ∙ or-true (same w x)
+    elim (is_id w) as (λ b. has x (cond b (with_room ids w) ids) ≡ true) [
+      | true ↦ elim (nat_lt (length ids) most_ids) as (λ b. has x (cond b (with_id w ids) ids) ≡ true) [
+        | true ↦ has-with_id x w ids ∙ ap (λ (b : Bool). same w x || b) h ∙ or-true (same w x)
+        | false ↦ h
+      ]
       | false ↦ h
     ]
 
@@ -45,20 +48,17 @@ named w ids good room =
     elim (has w ids) as (λ b. has w ids ≡ b → has w (with_word w ids) ≡ true) [
       | true ↦ λ e. kept w w ids e
       | false ↦ λ e.
-          let free : length ids < most_ids = room e in
-          let other : (length ids == most_ids) ≡ false = grind (arith, nat_tests) in
-          let taken : (is_id w && not (not (has w ids) && length ids == most_ids)) ≡ true = and_from _ _ good (rw (e, other) refl) in
-          ap (λ (b : Bool). has w (cond b (with_id w ids) ids)) taken ∙ has-with_id w w ids ∙ ap (λ (b : Bool). b || has w ids) (same_self w)
+          let taken : with_word w ids ≡ with_id w ids = rw (good, lt-ltb (length ids) most_ids (room e)) refl in
+          ap (has w) taken ∙ has-with_id w w ids ∙ ap (λ (b : Bool). b || has w ids) (same_self w)
     ] refl
 
 all_with : (w : Id) (ids : List Id) → list_all is_id ids ≡ true → list_all is_id (with_word w ids) ≡ true
 all_with w ids h =
-    elim (is_id w && not (not (has w ids) && length ids == most_ids)) as (λ b. (is_id w && not (not (has w ids) && length ids == most_ids)) ≡ b → list_all is_id (cond b (with_id w ids) ids) ≡ true) [
-      | true ↦ λ e.
-          elim (has w ids) as (λ b. list_all is_id (cond b ids (put w ids)) ≡ true) [
-            | true ↦ h
-            | false ↦ list_all-put is_id w ids (and_parts (is_id w) _ e).0 h
-          ]
+    elim (is_id w) as (λ b. is_id w ≡ b → list_all is_id (cond b (with_room ids w) ids) ≡ true) [
+      | true ↦ λ e. elim (nat_lt (length ids) most_ids) as (λ b. list_all is_id (cond b (with_id w ids) ids) ≡ true) [
+        | true ↦ elim (has w ids) as (λ b. list_all is_id (cond b ids (put w ids)) ≡ true) [ true ↦ h | false ↦ list_all-put is_id w ids e h ]
+        | false ↦ h
+      ]
       | false ↦ λ e. h
     ] refl
 
@@ -79,7 +79,7 @@ all_named ws =
     all_with (get_or ws 2 []) (with_word (get_or ws 1 []) (ids_in listed)) (all_with (get_or ws 1 []) (ids_in listed) (all_in listed))
 
 few : (w : Id) → length (with_word w []) ≤ 1
-few w = elim (is_id w && not (not (has w []) && length {A = Id} [] == most_ids)) as (λ b. length (cond b (with_id w []) []) ≤ 1) [ true ↦ omega arith | false ↦ omega arith ]
+few w = elim (is_id w) as (λ b. length (cond b (with_room [] w) []) ≤ 1) [ true ↦ omega arith | false ↦ omega arith ]
 
 first_named : (n w : Id) → is_id n ≡ true → has n (with_word w (with_word n [])) ≡ true
 first_named n w good = kept n w (with_word n []) (named n [] good (λ e. omega arith))

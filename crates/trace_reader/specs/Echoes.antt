@@ -1,7 +1,7 @@
 -- Part of the statement of `zen_chart`: what the echo of a line of a schedule tells.
-use Rattle.std.specs.Prelude.{ℕ, ◌==◌, Result, Ok, List, [], ◌&&◌, not, length, codes, get_or, if◌then◌else◌}
+use Rattle.std.specs.Prelude.{ℕ, Result, Ok, List, [], codes, get_or, if◌then◌else◌}
 use Rattle.std.specs.Str.{bytes_eq}
-use Rattle.voting_config.specs.Ids.{Id, is_id, has, with_id, most_ids}
+use Rattle.voting_config.specs.Ids.{Id, is_id, with_room}
 use Rattle.schedule_text.specs.declared.fault.WhyBad.{WhyBad}
 use Rattle.schedule_text.specs.declared.level.Level.{Level}
 use Rattle.schedule_text.specs.declared.level.Level.TheVariants.{Core, Node}
@@ -23,7 +23,7 @@ level_of verb = if bytes_eq verb (codes "tick") then Node else (if bytes_eq verb
 
 -- ids with one more, where the word is an id and there is room for it
 abbrev pub with_word : List ℕ → List Id → List Id
-with_word w ids = if is_id w && not (not (has w ids) && length ids == most_ids) then with_id w ids else ids
+with_word w ids = if is_id w then with_room ids w else ids
 
 -- the ids of a list, where the word is one
 abbrev pub ids_in : List ℕ → List Id

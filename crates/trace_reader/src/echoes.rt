@@ -93,7 +93,7 @@ fn add_word(ids: &mut NodeSet, word: &[u8])
     let Some(id) = NodeId::from_bytes(word) else {
         return;
     };
-    let _ = ids.insert(id);
+    ids.put_if_room(id);
 }
 
 fn named(line: &[u8]) -> NodeSet
