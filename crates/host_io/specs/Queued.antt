@@ -1,6 +1,10 @@
 -- For the contracts inside: what waits to be written.
 use Rattle.std.specs.Prelude.{◌≡◌, ℕ, Bool, true, false, List, ◌++◌, flat_map}
 
+-- how many bytes wait at most: a frame of the greatest length
+abbrev pub most_waiting : ℕ
+most_waiting = 8388612
+
 -- what is new waits after what waited, or not at all
 abbrev pub Queued : {A : Type 0} → Bool → List A → List A → List A → Type 0
 Queued true was now more = now ≡ was ++ more

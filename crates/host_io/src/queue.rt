@@ -1,6 +1,6 @@
 //! The frames that wait to be written to a connection, whole and in order, up to a bound.
 ghost use Rattle.std.specs.Prelude.{◌≡◌, ◌≤◌, ◌==◌, ◌+◌, ◌∷◌, ◌++◌, [], length, nat_le, sum_by, drop, IfOk, OnErr, option_to_list};
-ghost use Rattle.host_io.specs.Queued.{Queued, bytes_of};
+ghost use Rattle.host_io.specs.Queued.{Queued, bytes_of, most_waiting};
 
 use bytes::Bytes;
 use std::alloc::{AllocError, Global};
@@ -22,12 +22,13 @@ pub(crate) struct FrameQueue {
 
 impl Model for FrameQueue {
     ghost use Rattle.std.specs.Prelude.{◌≡◌, ◌≤◌, ℕ, List, length, sum_by};
+    ghost use Rattle.host_io.specs.Queued.{most_waiting};
 
     ghost Value = { List (List ℕ) };
 
     ghost view = { λ queue. queue.frames.items };
 
-    ghost invariant = { λ queue. (queue.size ≡ sum_by length queue.frames.items) × (queue.size ≤ 8388612) };
+    ghost invariant = { λ queue. (queue.size ≡ sum_by length queue.frames.items) × (queue.size ≤ most_waiting) };
 }
 
 impl FrameQueue {
@@ -49,9 +50,9 @@ impl FrameQueue {
     /// Puts a frame after those that wait, where there is room for all of it.
     pub(crate) fn put(&mut self, frame: Bytes) -> Result<bool, AllocError>
         ensures whole { IfOk result (λ is_put. Queued is_put self.old self.new (frame ∷ [])) }
-        ensures room { IfOk result (λ is_put. is_put ≡ nat_le (sum_by length self.old + length frame) 8388612) }
+        ensures room { IfOk result (λ is_put. is_put ≡ nat_le (sum_by length self.old + length frame) most_waiting) }
         ensures refused { OnErr result (self.new ≡ self.old) }
-        ensures bound { sum_by length self.new ≤ 8388612 }
+        ensures bound { sum_by length self.new ≤ most_waiting }
     {
         let size = frame.len();
         if size > MOST - self.size {

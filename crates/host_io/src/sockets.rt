@@ -1,6 +1,6 @@
 //! All sockets of a link: the listed peers that are dialled, the connections that have a number, and those that wait for one.
 ghost use Rattle.std.specs.Prelude.{◌<◌, IsTrue, IfOk, IfSome};
-ghost use Rattle.zen_link.specs.Told.{has_low_conn};
+ghost use Rattle.zen_link.specs.Told.{has_low_conn, most_connections};
 
 use crate::connection::{ANY, Connection, Front, Heard, is_later};
 use crate::framing::{Framing, Piece, Target};
@@ -424,7 +424,7 @@ impl Sockets {
         number: u64,
         now: u64,
     ) -> Result<Option<Input>, AllocError>
-        requires { number < 64 }
+        requires { number < most_connections }
         ensures { IfOk result (λ found. IfSome found (λ input. IsTrue (has_low_conn input))) }
     {
         let order = self.next_order();
