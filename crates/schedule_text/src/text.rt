@@ -85,7 +85,18 @@ impl Text {
     }
 
     /// Writes a number in decimal, without leading zeros.
+    #[tactic(auto, using(std::proofs::lemmas::Fmt::decimal_digit))]
     pub fn number(&mut self, number: u64) -> Result<(), AllocError>
+        ensures { OnOk result (self.new ≡ self.old ++ decimal number) }
+    {
+        // Most numbers of a trace are small, and one digit needs no buffer.
+        if number < 10 {
+            return self.byte(b'0' + number as u8);
+        }
+        self.long_number(number)
+    }
+
+    fn long_number(&mut self, number: u64) -> Result<(), AllocError>
         ensures { OnOk result (self.new ≡ self.old ++ decimal number) }
     {
         let mut buffer = Buffer::new();
@@ -114,11 +125,11 @@ impl Text {
         match line {
             Line::Boot(node) => {
                 self.word("boot ")?;
-                self.id(*node)
+                self.bytes(node.as_bytes())
             }
             Line::StartJoin(node, candidate, term) => {
                 self.word("startjoin ")?;
-                self.id(*node)?;
+                self.bytes(node.as_bytes())?;
                 self.word(" ")?;
                 self.id(candidate.get())?;
                 self.word(" ")?;
@@ -132,23 +143,23 @@ impl Text {
             ),
             Line::Deliver(node, message) => {
                 self.word("deliver ")?;
-                self.id(*node)?;
+                self.bytes(node.as_bytes())?;
                 self.word(" ")?;
                 self.number(*message)
             }
             Line::Crash(node, mode) => {
                 self.word("crash ")?;
-                self.id(*node)?;
+                self.bytes(node.as_bytes())?;
                 self.word(" ")?;
                 self.mode(*mode)
             }
             Line::Restart(node) => {
                 self.word("restart ")?;
-                self.id(*node)
+                self.bytes(node.as_bytes())
             }
             Line::Fuse(node, count, mode) => {
                 self.word("fuse ")?;
-                self.id(*node)?;
+                self.bytes(node.as_bytes())?;
                 self.word(" ")?;
                 self.number(*count)?;
                 self.word(" ")?;
@@ -156,13 +167,13 @@ impl Text {
             }
             Line::Fail(node, call) => {
                 self.word("fail ")?;
-                self.id(*node)?;
+                self.bytes(node.as_bytes())?;
                 self.word(" ")?;
                 self.number(*call)
             }
             Line::Tick(node, now, word) => {
                 self.word("tick ")?;
-                self.id(*node)?;
+                self.bytes(node.as_bytes())?;
                 self.word(" ")?;
                 self.number(*now)?;
                 self.word(" ")?;
@@ -170,7 +181,7 @@ impl Text {
             }
             Line::Client(node, line) => {
                 self.word("client ")?;
-                self.id(*node)?;
+                self.bytes(node.as_bytes())?;
                 self.word(" ")?;
                 self.bytes(line.as_slice())
             }
