@@ -1,6 +1,7 @@
 //! The words of a line: ids, numbers, lists and texts.
-ghost use Rattle.std.specs.Prelude.{◌≡◌, ◌==◌, ◌^◌, ◌<◌, List, Option, Some, None, if◌then◌else◌, nat_lt};
+ghost use Rattle.std.specs.Prelude.{◌≡◌, ◌==◌, ◌&&◌, ◌^◌, ◌<◌, List, Option, Some, None, if◌then◌else◌, nat_lt};
 ghost use Rattle.std.specs.List.{list_all};
+ghost use Rattle.std.specs.Str.{bytes_eq};
 ghost use Rattle.schedule_text.specs.Words.{config, listed, text as text_word, number as number_word, is_digit as is_digit_of, is_decimal as is_decimal_of, value_from};
 
 use crate::fault::WhyBad;
@@ -12,11 +13,26 @@ pub fn node_at(ids: &NodeSet, word: &[u8]) -> Result<NodeId, WhyBad>
     ensures { result ≡ (listed ids.now).at word.now }
 {
     for id in ids.as_slice() {
-        if id.as_bytes() == word {
+        if is_same(id.as_bytes(), word) {
             return Ok(*id);
         }
     }
     Err(WhyBad::Id)
+}
+
+// Whether two words are the same: a loop over so few bytes costs less than a comparison of slices.
+fn is_same(word: &[u8], other: &[u8]) -> bool
+    ensures { result ≡ bytes_eq word.now other.now }
+{
+    if word.len() != other.len() {
+        return false;
+    }
+    for i in 0..word.len() {
+        if word[i] != other[i] {
+            return false;
+        }
+    }
+    true
 }
 
 /// The text that a word is, and else `Text`.
@@ -33,7 +49,7 @@ pub fn text_at(word: &[u8]) -> Result<SettingText, WhyBad>
 pub fn number_at(word: &[u8], low: u64, high: u64) -> Result<u64, WhyBad>
     ensures { result ≡ (number_word low high).at word.now }
 {
-    if !is_decimal(word) {
+    if !begins_number(word) {
         return Err(WhyBad::Number);
     }
     let Some(value) = value_of(word) else {
@@ -48,41 +64,34 @@ pub fn number_at(word: &[u8], low: u64, high: u64) -> Result<u64, WhyBad>
     Ok(value)
 }
 
-fn is_digit(b: u8) -> bool
-    ensures { result ≡ is_digit_of b }
-{
-    matches!(b, b'0'..=b'9')
-}
-
-fn are_digits(word: &[u8]) -> bool
-    ensures { result ≡ list_all is_digit_of word.now }
-{
-    word.iter().all(|b| is_digit(*b))
-}
-
-fn is_decimal(word: &[u8]) -> bool
-    ensures { result ≡ is_decimal_of word.now }
+// Whether there is a first byte, which is no zero before others.
+fn begins_number(word: &[u8]) -> bool
+    ensures { is_decimal_of word.now ≡ (list_all is_digit_of word.now && result) }
 {
     let Some(first) = word.first() else {
         return false;
     };
-    if !are_digits(word) {
-        return false;
-    }
     *first != b'0' || word.len() == 1
 }
 
-// The number that digits say.
+// The number that these bytes say, where they are digits and it has 64 bits at most.
 fn value_of(word: &[u8]) -> Option<u64>
-    ensures { result ≡ (if nat_lt (value_from 0 word.now) (2 ^ 64) then Some (value_from 0 word.now) else None) }
+    ensures { result ≡ (if list_all is_digit_of word.now && nat_lt (value_from 0 word.now) (2 ^ 64) then Some (value_from 0 word.now) else None) }
 {
     let mut value: u64 = 0;
     for b in word {
-        value = value
-            .checked_mul(10)?
-            .checked_add(b.saturating_sub(b'0') as u64)?;
+        if !is_digit(*b) {
+            return None;
+        }
+        value = value.checked_mul(10)?.checked_add((*b - b'0') as u64)?;
     }
     Some(value)
+}
+
+fn is_digit(b: u8) -> bool
+    ensures { result ≡ is_digit_of b }
+{
+    matches!(b, b'0'..=b'9')
 }
 
 /// The listed nodes that a word lists, and else `List`.
