@@ -6,4 +6,5 @@ pub mod LineLaws
 pub mod ModeLaws
 pub mod ScheduleLaws
 pub mod Splitting
+pub mod Verbs
 pub mod WordLaws

@@ -1,8 +1,9 @@
 //! A line of a schedule read from its words.
-ghost use Rattle.std.specs.Prelude.{◌≡◌, Option};
+ghost use Rattle.std.specs.Prelude.{◌≡◌, ◌==◌, MatchOption, Option, [], drop, false, get_or, not, true};
+ghost use Rattle.std.specs.List.{list_all};
 ghost use Rattle.std.specs.Str.{bytes_eq};
 ghost use Rattle.voting_config.specs.Lists.{parts_in, space};
-ghost use Rattle.schedule_text.specs.Lines.{one_word as one_word_of, two_words as two_words_of, three_words as three_words_of, four_words as four_words_of, word_and_rest as word_and_rest_of, boot_at, start_join_at, value_at, deliver_at, crash_at, restart_at, fuse_at, fail_at, tick_at, client_at, stop_verb_at, shared_verb_at, core_line_at, node_line_at, line_at};
+ghost use Rattle.schedule_text.specs.Lines.{one_word as one_word_of, two_words as two_words_of, three_words as three_words_of, four_words as four_words_of, word_and_rest as word_and_rest_of, boot_at, start_join_at, value_at, deliver_at, crash_at, restart_at, fuse_at, fail_at, tick_at, client_at, stop_verb_at, shared_verb_at, core_line_at, node_line_at, line_at, words_of};
 ghost use Rattle.schedule_text.specs.Answers.{Gives, Answers};
 
 use crate::boxed::Boxed;
@@ -221,91 +222,85 @@ fn client(alloc: Global, ids: &NodeSet, rest: Option<&[u8]>) -> Result<Line, Rea
     Ok(Line::Client(node, line))
 }
 
-// Whether a verb is this name: a loop over so few bytes costs less than a comparison of slices.
-fn is_verb<const N: usize>(verb: &[u8], name: &[u8; N]) -> bool
-    ensures { result ≡ bytes_eq verb.now name.now }
+// What stands after this verb, where it is the first word of the line, as `cut` gives it.
+fn after_verb<'a, const N: usize>(line: &'a [u8], verb: &[u8; N]) -> Option<Option<&'a [u8]>>
+    requires { list_all (λ b. not (b == space)) verb.now ≡ true }
+    ensures { MatchOption result (bytes_eq (get_or (words_of line.now) 0 []) verb.now ≡ false) (λ rest. (bytes_eq (get_or (words_of line.now) 0 []) verb.now ≡ true) × (drop 1 (words_of line.now) ≡ parts_in space rest)) }
 {
-    if verb.len() != N {
-        return false;
+    if line.len() < N {
+        return None;
     }
     for i in 0..N {
-        if verb[i] != name[i] {
-            return false;
+        if line[i] != verb[i] {
+            return None;
         }
     }
-    true
+    if line.len() == N {
+        return Some(None);
+    }
+    if line[N] != b' ' {
+        return None;
+    }
+    Some(Some(&line[N + 1..]))
 }
 
-fn stop_verb_line(
-    ids: &NodeSet,
-    verb: &[u8],
-    rest: Option<&[u8]>,
-) -> Result<Line, ReadError<WhyBad>>
-    ensures { Answers result (stop_verb_at ids.now verb.now (parts_in space rest.entry)) }
+fn stop_verb_line(ids: &NodeSet, line: &[u8]) -> Result<Line, ReadError<WhyBad>>
+    ensures { Answers result (stop_verb_at ids.now (get_or (words_of line.now) 0 []) (drop 1 (words_of line.now))) }
 {
-    if is_verb(verb, b"crash") {
+    if let Some(rest) = after_verb(line, b"crash") {
         return crash(ids, rest);
     }
-    if is_verb(verb, b"restart") {
+    if let Some(rest) = after_verb(line, b"restart") {
         return restart(ids, rest);
     }
-    if is_verb(verb, b"fuse") {
+    if let Some(rest) = after_verb(line, b"fuse") {
         return fuse(ids, rest);
     }
-    if is_verb(verb, b"fail") {
+    if let Some(rest) = after_verb(line, b"fail") {
         return fail(ids, rest);
     }
     Err(ReadError::Bad(WhyBad::Verb))
 }
 
 // A line that stands at both levels.
-fn shared_line(ids: &NodeSet, verb: &[u8], rest: Option<&[u8]>) -> Result<Line, ReadError<WhyBad>>
-    ensures { Answers result (shared_verb_at ids.now verb.now (parts_in space rest.entry)) }
+fn shared_line(ids: &NodeSet, line: &[u8]) -> Result<Line, ReadError<WhyBad>>
+    ensures { Answers result (shared_verb_at ids.now (get_or (words_of line.now) 0 []) (drop 1 (words_of line.now))) }
 {
-    if is_verb(verb, b"deliver") {
+    if let Some(rest) = after_verb(line, b"deliver") {
         return deliver(ids, rest);
     }
-    stop_verb_line(ids, verb, rest)
+    stop_verb_line(ids, line)
 }
 
-fn core_line(
-    alloc: Global,
-    ids: &NodeSet,
-    verb: &[u8],
-    rest: Option<&[u8]>,
-) -> Result<Line, ReadError<WhyBad>>
-    ensures { Answers result (core_line_at ids.now verb.now (parts_in space rest.entry)) }
+fn core_line(alloc: Global, ids: &NodeSet, line: &[u8]) -> Result<Line, ReadError<WhyBad>>
+    ensures { Answers result (core_line_at ids.now (get_or (words_of line.now) 0 []) (drop 1 (words_of line.now))) }
 {
-    if is_verb(verb, b"value") {
+    if let Some(rest) = after_verb(line, b"value") {
         return value(alloc, ids, rest);
     }
-    if is_verb(verb, b"boot") {
+    if let Some(rest) = after_verb(line, b"boot") {
         return boot(ids, rest);
     }
-    if is_verb(verb, b"startjoin") {
+    if let Some(rest) = after_verb(line, b"startjoin") {
         return start_join(alloc, ids, rest);
     }
-    shared_line(ids, verb, rest)
+    shared_line(ids, line)
 }
 
-fn node_line(
-    alloc: Global,
-    ids: &NodeSet,
-    verb: &[u8],
-    rest: Option<&[u8]>,
-) -> Result<Line, ReadError<WhyBad>>
-    ensures { Answers result (node_line_at ids.now verb.now (parts_in space rest.entry)) }
+fn node_line(alloc: Global, ids: &NodeSet, line: &[u8]) -> Result<Line, ReadError<WhyBad>>
+    ensures { Answers result (node_line_at ids.now (get_or (words_of line.now) 0 []) (drop 1 (words_of line.now))) }
 {
-    if is_verb(verb, b"client") {
+    if let Some(rest) = after_verb(line, b"client") {
         return client(alloc, ids, rest);
     }
-    if is_verb(verb, b"tick") {
+    if let Some(rest) = after_verb(line, b"tick") {
         return tick(ids, rest);
     }
-    shared_line(ids, verb, rest)
+    shared_line(ids, line)
 }
 
 /// The line that these bytes are, which have no line feed, or why they are no line of these nodes at this level.
+#[tactic(auto, using(crate::proofs::Splitting::words_are))]
 pub fn read_line(
     alloc: Global,
     level: Level,
@@ -314,9 +309,8 @@ pub fn read_line(
 ) -> Result<Line, ReadError<WhyBad>>
     ensures { Answers result (line_at level ids.now bytes.now) }
 {
-    let (verb, rest) = cut(bytes, b' ');
     match level {
-        Level::Core => core_line(alloc, ids, verb, rest),
-        Level::Node => node_line(alloc, ids, verb, rest),
+        Level::Core => core_line(alloc, ids, bytes),
+        Level::Node => node_line(alloc, ids, bytes),
     }
 }
