@@ -2,6 +2,7 @@ pub mod Written
 pub mod FirstBadLaws
 pub mod FirstLines
 pub mod IdListLaws
+pub mod LineEnds
 pub mod LineLaws
 pub mod ModeLaws
 pub mod ScheduleLaws

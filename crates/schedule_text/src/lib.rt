@@ -7,6 +7,7 @@ pub mod id_list;
 pub mod laws;
 pub mod level;
 pub mod line_bytes;
+mod line_ends;
 pub mod lines;
 pub mod modes;
 pub mod place;

@@ -9,6 +9,7 @@ ghost use Rattle.schedule_text.specs.declared.schedule.Schedule.{Schedule};
 
 use crate::fault::{BadSchedule, ReadError, WhyBad};
 use crate::level::Level;
+use crate::line_ends::cut_line;
 use crate::lines::{one_word, read_line};
 use crate::place::Place;
 use crate::schedule::{Line, Lines, Schedule};
@@ -119,9 +120,9 @@ fn read_lines(
 {
     let mut lines = Vec::new(alloc);
     let mut place = start;
-    let (mut line, mut rest) = cut(bytes, b'\n');
+    let (mut line, mut rest) = cut_line(bytes);
     while let Some(more) = rest {
-        let next = cut(more, b'\n');
+        let next = cut_line(more);
         add_line(alloc, level, ids, place, line, &mut lines)?;
         place = place.after(line);
         line = next.0;
@@ -146,7 +147,7 @@ fn read_rest(
     requires number { place.number ≤ most_lines }
     ensures { Answers result (initial_at level nodes place (parts_of line_feed bytes.now)) }
 {
-    let (line, rest) = cut(bytes, b'\n');
+    let (line, rest) = cut_line(bytes);
     let Some(rest) = rest else {
         return Err(ReadError::Bad(no_second(place, line)));
     };
@@ -181,7 +182,7 @@ fn read_exact(alloc: Global, level: Level, bytes: &[u8]) -> Result<Schedule, Rea
     ensures { Answers result (schedule_at level bytes.now) }
 {
     let place = Place::first();
-    let (line, rest) = cut(bytes, b'\n');
+    let (line, rest) = cut_line(bytes);
     let Some(rest) = rest else {
         if let Err(bad) = check_end(place, line) {
             return Err(ReadError::Bad(bad));
