@@ -8,6 +8,7 @@ use std::cmp::Ordering;
 use std::fmt;
 use std::hash::{Hash, Hasher};
 use std::marker::Model;
+use std::simd::u8x32;
 
 /// Why a text is no id, in the order in which it is tested.
 #[derive(Clone, Copy, Debug, PartialEq, Eq, thiserror::Error)]
@@ -195,7 +196,8 @@ impl PartialEq for NodeId {
     ghost laws = { partial_equiv_from_equiv nat_list_eq_equiv };
 
     fn eq(&self, other: &NodeId) -> bool {
-        self.as_bytes() == other.as_bytes()
+        // Zeros stand behind the bytes of an id, so that two are the same where all that they hold is.
+        u8x32::from_array(self.bytes) == u8x32::from_array(other.bytes)
     }
 }
 
