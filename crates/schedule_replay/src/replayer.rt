@@ -1,5 +1,5 @@
 //! `Replayer`: the nodes of a schedule of level core, and the messages that they have sent.
-ghost use Rattle.std.specs.Prelude.{◌≡◌, ◌<◌, ◌++◌, OnOk, IfOk, ℕ, List, [], None, true, length, map};
+ghost use Rattle.std.specs.Prelude.{◌≡◌, ◌<◌, ◌≤◌, ◌++◌, OnOk, IfOk, ℕ, List, [], None, true, length, map};
 ghost use Rattle.voting_config.specs.Ids.{Id, has};
 ghost use Rattle.cluster_state.specs.States.{IsFitValue};
 ghost use Rattle.world_model.specs.declared.acts.Act.{Act};
@@ -205,11 +205,35 @@ impl Replayer {
         requires positive { 0 < ordinal }
         ensures done { OnOk result (DoesLine ids.now self.old.nodes.items self.new.nodes.items self.old.sent.items self.new.sent.items text.old text.new (λ w. took_some w n (message_at w ordinal)) (λ w. delivery_results w n (message_at w ordinal))) }
     {
+        let index = (ordinal - 1) as usize;
+        let sent = self.sent.as_slice();
+        if index < sent.len() {
+            return self.hand(alloc, ids, n, ordinal, text);
+        }
         let place = place_of(ids.as_slice(), n);
-        let Some(message) = self.sent.as_slice().get((ordinal - 1) as usize) else {
-            let nodes = self.nodes.as_slice();
-            return unsent(&nodes[place], n, text);
-        };
+        let nodes = self.nodes.as_slice();
+        unsent(&nodes[place], &n, text)
+    }
+
+    // Hands a message to the node, which has been sent.
+    fn hand(
+        &mut self,
+        alloc: Global,
+        ids: &NodeSet,
+        n: NodeId,
+        ordinal: u64,
+        text: &mut Text,
+    ) -> Result<(), AllocError>
+        requires listed { has n ids.now ≡ true }
+        requires stands { (w : World) × Stands ids.now self.old.nodes.items self.old.sent.items w }
+        requires positive { 0 < ordinal }
+        requires sent { ordinal ≤ length self.old.sent.items }
+        ensures done { OnOk result (DoesLine ids.now self.old.nodes.items self.new.nodes.items self.old.sent.items self.new.sent.items text.old text.new (λ w. took_some w n (message_at w ordinal)) (λ w. delivery_results w n (message_at w ordinal))) }
+    {
+        let place = place_of(ids.as_slice(), n);
+        let index = (ordinal - 1) as usize;
+        let sent = self.sent.as_slice();
+        let message = &sent[index];
         self.act.clear();
         write_taking(&mut self.act, message)?;
         let nodes = self.nodes.as_mut_slice();
@@ -230,11 +254,11 @@ impl Replayer {
 }
 
 // There is no such message.
-fn unsent(node: &ReplayNode, n: NodeId, text: &mut Text) -> Result<(), AllocError>
-    ensures { OnOk result ((w : World) → NodeStands node.now (node_world w n) → text.new ≡ text.old ++ delivery_results w n None) }
+fn unsent(node: &ReplayNode, n: &NodeId, text: &mut Text) -> Result<(), AllocError>
+    ensures { OnOk result ((w : World) → NodeStands node.now (node_world w n.now) → text.new ≡ text.old ++ delivery_results w n.now None) }
 {
     if node.is_down() {
-        return write_down(text, n);
+        return write_down(text, *n);
     }
     text.word("unsent\n")
 }
