@@ -1,12 +1,17 @@
 -- Where the first word of a line is a verb, and where it is another.
 use Rattle.std.proofs.Common.{◌≡◌, ℕ, ◌+◌, ◌-◌, ◌<◌, ◌≤◌, suc, true, false, List, [], ◌∷◌, ◌++◌, length, take, drop, get_or, refl, sym, ap, ◌∙◌, arith, add-one, subst}
+use Rattle.std.specs.Prelude.{codes}
 use Rattle.std.specs.Str.{bytes_eq}
 use Rattle.std.specs.Cmp.Lexicographic.{same_text}
 use Rattle.std.specs.List.{join_with_byte}
 use Rattle.std.proofs.lemmas.List.{ext_get_or, take_rest, take-append-drop, get_or_append_left, length-append, length-take-le, get_or-take}
 use Rattle.std.proofs.lemmas.Slice.Eq.{bytes_eq-Decides}
 use Rattle.std.proofs.Math.Seq.{drop-cons, get_or-append_seam}
+use Rattle.voting_config.specs.Ids.{Id}
 use Rattle.voting_config.specs.Lists.{parts_of}
+use Rattle.schedule_text.specs.declared.level.Level.{Level}
+use Rattle.schedule_text.specs.declared.level.Level.TheVariants.{Core, Node}
+use Rattle.schedule_text.specs.Lines.{deliver_at, line_at, verb_at, words_at}
 use Rattle.schedule_text.proofs.Splitting.{words_are}
 use Rattle.schedule_text.proofs.WordLaws.{lacks, join_split, split_alone, split_first}
 
@@ -70,3 +75,15 @@ followed line verb n long plain past same ends =
     let back : drop n line ≡ 32 ∷ drop (n + 1) line = rw add-one (drop-cons line n 0 past ∙ ap (λ b. b ∷ drop (suc n) line) ends) in
     let is : line ≡ verb ++ 32 ∷ drop (n + 1) line = sym (take-append-drop n line) ∙ ap (λ t. t ++ drop n line) front ∙ ap (λ t. verb ++ t) back in
     rw (take_rest line (n + 1)) (from_parts line verb (parts_of 32 (drop (n + 1) line)) (ap (parts_of 32) is ∙ split_first 32 verb (drop (n + 1) line) plain))
+
+-- a line that delivers a message, at either level
+at_deliver : (level : Level) (ids : List Id) (ws : List (List ℕ)) → verb_at level ids (codes "deliver") ws ≡ deliver_at ids ws
+at_deliver Core ids ws = refl
+at_deliver Node ids ws = refl
+
+pub delivers : (level : Level) (ids : List Id) (line : List ℕ) (ws : List (List ℕ)) → IsVerb line (codes "deliver") ws → line_at level ids line ≡ deliver_at ids ws
+delivers level ids line ws is =
+    let words : parts_of 32 line ≡ codes "deliver" ∷ ws =
+    words_are line ∙ ap (λ (w : List ℕ). w ∷ others line) (same_text (first line) (codes "deliver") (sym is.0)) ∙ ap (λ (vs : List (List ℕ)). codes "deliver" ∷ vs) is.1
+    in
+    ap (words_at level ids) words ∙ at_deliver level ids ws

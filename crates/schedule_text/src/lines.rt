@@ -1,9 +1,9 @@
 //! A line of a schedule read from its words.
-ghost use Rattle.std.specs.Prelude.{◌≡◌, ◌==◌, MatchOption, Option, [], drop, false, get_or, not, true};
+ghost use Rattle.std.specs.Prelude.{◌≡◌, ◌==◌, MatchOption, Option, [], codes, drop, false, get_or, not, true};
 ghost use Rattle.std.specs.List.{list_all};
 ghost use Rattle.std.specs.Str.{bytes_eq};
 ghost use Rattle.voting_config.specs.Lists.{parts_in, space};
-ghost use Rattle.schedule_text.specs.Lines.{one_word as one_word_of, two_words as two_words_of, three_words as three_words_of, four_words as four_words_of, word_and_rest as word_and_rest_of, boot_at, start_join_at, value_at, deliver_at, crash_at, restart_at, fuse_at, fail_at, tick_at, client_at, stop_verb_at, shared_verb_at, core_line_at, node_line_at, line_at, words_of};
+ghost use Rattle.schedule_text.specs.Lines.{one_word as one_word_of, two_words as two_words_of, three_words as three_words_of, four_words as four_words_of, word_and_rest as word_and_rest_of, boot_at, start_join_at, value_at, deliver_at, crash_at, restart_at, fuse_at, fail_at, tick_at, client_at, stop_verb_at, core_line_at, node_line_at, line_at, words_of};
 ghost use Rattle.schedule_text.specs.Answers.{Gives, Answers};
 
 use crate::boxed::Boxed;
@@ -244,6 +244,7 @@ fn after_verb<'a, const N: usize>(line: &'a [u8], verb: &[u8; N]) -> Option<Opti
     Some(Some(&line[N + 1..]))
 }
 
+// A line that crashes a node, starts it again or lets its disk fail.
 fn stop_verb_line(ids: &NodeSet, line: &[u8]) -> Result<Line, ReadError<WhyBad>>
     ensures { Answers result (stop_verb_at ids.now (get_or (words_of line.now) 0 []) (drop 1 (words_of line.now))) }
 {
@@ -262,17 +263,9 @@ fn stop_verb_line(ids: &NodeSet, line: &[u8]) -> Result<Line, ReadError<WhyBad>>
     Err(ReadError::Bad(WhyBad::Verb))
 }
 
-// A line that stands at both levels.
-fn shared_line(ids: &NodeSet, line: &[u8]) -> Result<Line, ReadError<WhyBad>>
-    ensures { Answers result (shared_verb_at ids.now (get_or (words_of line.now) 0 []) (drop 1 (words_of line.now))) }
-{
-    if let Some(rest) = after_verb(line, b"deliver") {
-        return deliver(ids, rest);
-    }
-    stop_verb_line(ids, line)
-}
-
+// A line of level core that delivers no message.
 fn core_line(alloc: Global, ids: &NodeSet, line: &[u8]) -> Result<Line, ReadError<WhyBad>>
+    requires { bytes_eq (get_or (words_of line.now) 0 []) (codes "deliver") ≡ false }
     ensures { Answers result (core_line_at ids.now (get_or (words_of line.now) 0 []) (drop 1 (words_of line.now))) }
 {
     if let Some(rest) = after_verb(line, b"value") {
@@ -284,10 +277,12 @@ fn core_line(alloc: Global, ids: &NodeSet, line: &[u8]) -> Result<Line, ReadErro
     if let Some(rest) = after_verb(line, b"startjoin") {
         return start_join(alloc, ids, rest);
     }
-    shared_line(ids, line)
+    stop_verb_line(ids, line)
 }
 
+// A line of level node that delivers no message.
 fn node_line(alloc: Global, ids: &NodeSet, line: &[u8]) -> Result<Line, ReadError<WhyBad>>
+    requires { bytes_eq (get_or (words_of line.now) 0 []) (codes "deliver") ≡ false }
     ensures { Answers result (node_line_at ids.now (get_or (words_of line.now) 0 []) (drop 1 (words_of line.now))) }
 {
     if let Some(rest) = after_verb(line, b"client") {
@@ -296,7 +291,7 @@ fn node_line(alloc: Global, ids: &NodeSet, line: &[u8]) -> Result<Line, ReadErro
     if let Some(rest) = after_verb(line, b"tick") {
         return tick(ids, rest);
     }
-    shared_line(ids, line)
+    stop_verb_line(ids, line)
 }
 
 /// The line that these bytes are, which have no line feed, or why they are no line of these nodes at this level.
@@ -309,6 +304,10 @@ pub fn read_line(
 ) -> Result<Line, ReadError<WhyBad>>
     ensures { Answers result (line_at level ids.now bytes.now) }
 {
+    // Most lines of a schedule deliver a message, at either level.
+    if let Some(rest) = after_verb(bytes, b"deliver") {
+        return deliver(ids, rest);
+    }
     match level {
         Level::Core => core_line(alloc, ids, bytes),
         Level::Node => node_line(alloc, ids, bytes),
