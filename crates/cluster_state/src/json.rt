@@ -1,104 +1,103 @@
 //! A state as JSON, with its keys in the order of bytes.
-ghost use Rattle.std.specs.Prelude.{◌≡◌, IfOk, map};
-ghost use Rattle.serde_json.specs.Data.{string};
-ghost use Rattle.serde_json.specs.View.{view, members_view};
+ghost use Rattle.std.specs.Prelude.{◌≡◌, IfOk, OnOk};
+ghost use Rattle.serde_json.specs.Events.{SendsValue};
 ghost use Rattle.serde_json.specs.Written.{compact_text};
-ghost use Rattle.cluster_state.specs.Json.{ids_json, master_json, setting_members, settings_json, value_json, state_json};
-ghost use Rattle.cluster_state.specs.Settings.{setting_of, IsSettings};
+ghost use Rattle.cluster_state.specs.Json.{ids_json, master_json, settings_json, value_json, state_json};
 
 use crate::settings::Settings;
 use crate::state::{ClusterState, ClusterValue};
-use serde_json::{Map, Value, json};
+use serde::{Described, Serialize, Serializer};
 use std::alloc::{AllocError, Global};
-use std::collections::BTreeMap;
 use voting_config::{NodeId, NodeSet};
 
-fn ids_value(alloc: Global, ids: &NodeSet) -> Result<Value, AllocError>
-    ensures { IfOk result (λ v. view v ≡ ids_json ids.now) }
+fn send_ids<S: Serializer>(ids: &NodeSet, out: &mut S) -> Result<(), S::Error>
+    ensures { OnOk result (SendsValue (ids_json ids.now) (S.written out.old) (S.written out.new)) }
 {
-    Ok(Value::Array(id_values(alloc, ids.as_slice())?))
-}
-
-fn id_values(alloc: Global, ids: &[NodeId]) -> Result<Vec<Value>, AllocError>
-    ensures { IfOk result (λ v. map view v.items ≡ map string ids.now) }
-{
-    let mut items = Vec::new(alloc);
-    for id in ids {
-        items.push(Value::try_from_str(alloc, id.as_str())?)?;
+    let listed = ids.as_slice();
+    out.begin_seq(Some(listed.len()))?;
+    for id in listed {
+        out.str(id.as_str())?;
     }
-    Ok(items)
+    out.end_seq()
 }
 
-fn master_value(alloc: Global, master: Option<NodeId>) -> Result<Value, AllocError>
-    ensures { IfOk result (λ v. view v ≡ master_json master) }
+fn send_master<S: Serializer>(master: Option<NodeId>, out: &mut S) -> Result<(), S::Error>
+    ensures { OnOk result (SendsValue (master_json master) (S.written out.old) (S.written out.new)) }
 {
     match master {
-        None => Ok(Value::Null),
-        Some(id) => Value::try_from_str(alloc, id.as_str()),
+        None => out.unit(),
+        Some(id) => out.str(id.as_str()),
     }
 }
 
-fn setting_values(
-    alloc: Global,
-    entries: &BTreeMap<String, String>,
-) -> Result<Map<String, Value>, AllocError>
-    requires { IsSettings (map setting_of entries.now.entries) }
-    ensures { IfOk result (λ m. members_view m.entries ≡ setting_members (map setting_of entries.now.entries)) }
+fn send_settings<S: Serializer>(settings: &Settings, out: &mut S) -> Result<(), S::Error>
+    ensures { OnOk result (SendsValue (settings_json settings.now) (S.written out.old) (S.written out.new)) }
 {
-    let mut members = Map::new(alloc);
-    for (key, value) in entries {
-        let value = Value::try_from_str(alloc, value)?;
-        serde_json::put(&mut members, alloc, key, value)?;
+    let texts = settings.texts();
+    out.begin_map(Some(texts.len()))?;
+    for (key, value) in texts {
+        out.key(key)?;
+        out.str(value)?;
     }
-    Ok(members)
+    out.end_map()
 }
 
-fn settings_value(alloc: Global, settings: &Settings) -> Result<Value, AllocError>
-    ensures { IfOk result (λ v. view v ≡ settings_json settings.now) }
-{
-    Ok(Value::Object(setting_values(alloc, settings.texts())?))
+impl Described for ClusterValue {
+    ghost writes = { λ v. SendsValue (value_json v) };
 }
 
-fn value_value(alloc: Global, value: &ClusterValue) -> Result<Value, AllocError>
-    ensures { IfOk result (λ v. view v ≡ value_json value.now) }
-{
-    let exclusions = ids_value(alloc, &value.exclusions)?;
-    let master = master_value(alloc, value.master)?;
-    let members = ids_value(alloc, &value.members)?;
-    let settings = settings_value(alloc, &value.settings)?;
-    json!(in alloc; {
-        "exclusions": exclusions,
-        "master": master,
-        "members": members,
-        "settings": settings
-    })
+impl Serialize for ClusterValue {
+    fn serialize<S: Serializer>(&self, out: &mut S) -> Result<(), S::Error> {
+        out.begin_map(Some(4))?;
+        out.key("exclusions")?;
+        send_ids(&self.exclusions, out)?;
+        out.key("master")?;
+        send_master(self.master, out)?;
+        out.key("members")?;
+        send_ids(&self.members, out)?;
+        out.key("settings")?;
+        send_settings(&self.settings, out)?;
+        out.end_map()
+    }
 }
 
-fn state_value(alloc: Global, state: &ClusterState) -> Result<Value, AllocError>
-    ensures { IfOk result (λ v. view v ≡ state_json state.now) }
-{
-    let committed = ids_value(alloc, state.committed.members())?;
-    let config = ids_value(alloc, state.config.members())?;
-    let value = value_value(alloc, &state.value)?;
-    json!(in alloc; {
-        "committed": committed,
-        "config": config,
-        "term": state.term,
-        "value": value,
-        "version": state.version
-    })
+impl Described for ClusterState {
+    ghost writes = { λ s. SendsValue (state_json s) };
+}
+
+impl Serialize for ClusterState {
+    fn serialize<S: Serializer>(&self, out: &mut S) -> Result<(), S::Error> {
+        out.begin_map(Some(5))?;
+        out.key("committed")?;
+        send_ids(self.committed.members(), out)?;
+        out.key("config")?;
+        send_ids(self.config.members(), out)?;
+        out.key("term")?;
+        out.u64(self.term)?;
+        out.key("value")?;
+        self.value.serialize(out)?;
+        out.key("version")?;
+        out.u64(self.version)?;
+        out.end_map()
+    }
 }
 
 /// The value as compact JSON, with its keys in the order of bytes.
 pub fn value_to_json(alloc: Global, value: &ClusterValue) -> Result<Vec<u8>, AllocError>
     ensures { IfOk result (λ text. text.items ≡ compact_text (value_json value.now)) }
 {
-    value_value(alloc, value)?.to_vec(alloc)
+    match serde_json::to_vec(alloc, value) {
+        Ok(text) => Ok(text),
+        Err(_) => Err(AllocError),
+    }
 }
 
 /// The state as compact JSON, with its keys in the order of bytes.
 pub fn to_json(alloc: Global, state: &ClusterState) -> Result<Vec<u8>, AllocError>
     ensures { IfOk result (λ text. text.items ≡ compact_text (state_json state.now)) }
 {
-    state_value(alloc, state)?.to_vec(alloc)
+    match serde_json::to_vec(alloc, state) {
+        Ok(text) => Ok(text),
+        Err(_) => Err(AllocError),
+    }
 }

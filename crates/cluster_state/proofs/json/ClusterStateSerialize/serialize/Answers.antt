@@ -1,0 +1,47 @@
+use Rattle.std.proofs.Common.{subst}
+use Rattle.std.proofs.lemmas.Result.{on_ok_weaker}
+use Rattle.serde_json.specs.Events.{SendsValue}
+use Rattle.cluster_state.specs.Json.{ids_json}
+use Rattle.cluster_state.proofs.json.ClusterStateSerialize.serialize.Goals as goal
+
+-- what is written, step by step
+pub returns : goal.returns
+returns g c =
+    let log = g.S.Serializer.written in
+    let committed = subst (λ ids. SendsValue (ids_json ids) (log c.key.new.self) (log c.send_ids.new.out)) c.members.ensures c.in_ok-send_ids.ensures in
+    let config = subst (λ ids. SendsValue (ids_json ids) (log c.key-2.new.self) (log c.send_ids-2.new.out)) c.members-2.ensures c.in_ok-send_ids-2.ensures in
+    on_ok_weaker c.end_map.result (λ ended. (
+      log c.begin_map.new.self,
+      c.in_ok-begin_map.ensures,
+      (
+        log c.key.new.self,
+        log c.send_ids.new.out,
+        c.in_ok-key.ensures,
+        committed,
+        (
+          log c.key-2.new.self,
+          log c.send_ids-2.new.out,
+          c.in_ok-key-2.ensures,
+          config,
+          (
+            log c.key-3.new.self,
+            log c.u64.new.self,
+            c.in_ok-key-3.ensures,
+            c.in_ok-u64.ensures,
+            (
+              log c.key-4.new.self,
+              log c.serialize.new.out,
+              c.in_ok-key-4.ensures,
+              c.in_ok-serialize.ensures,
+              (
+                log c.key-5.new.self,
+                log c.u64-2.new.self,
+                c.in_ok-key-5.ensures,
+                c.in_ok-u64-2.ensures,
+                ended,
+              ),
+            ),
+          ),
+        ),
+      ),
+    )) c.end_map.ensures
