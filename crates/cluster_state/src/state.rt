@@ -3,6 +3,7 @@ ghost use Rattle.std.specs.Prelude.{◌≡◌, IfOk};
 
 use crate::settings::Settings;
 use std::alloc::{AllocError, Global};
+use std::mem;
 use voting_config::{NodeId, NodeSet, VotingConfig};
 
 /// What the nodes agree on.
@@ -155,6 +156,20 @@ impl ClusterState {
     {
         let settings = self.value.settings.copy()?;
         Ok(self.with_settings(settings))
+    }
+
+    /// Makes it the other state, in its place, which takes no memory: the settings are moved. What the other one is then is not said.
+    pub fn take_from(&mut self, other: &mut ClusterState)
+        ensures { self.new ≡ other.old }
+    {
+        self.term = other.term;
+        self.version = other.version;
+        self.config.copy_from(other.config.members());
+        self.committed.copy_from(other.committed.members());
+        self.value.master = other.value.master;
+        self.value.members.copy_from(&other.value.members);
+        self.value.exclusions.copy_from(&other.value.exclusions);
+        mem::swap(&mut self.value.settings, &mut other.value.settings);
     }
 
     /// The same state with these settings, which takes no memory.

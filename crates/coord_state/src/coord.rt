@@ -211,16 +211,16 @@ impl<K: Keeper> CoordState<K> {
         if term > LAST_NUMBER {
             return Err(ActError::Refused(StartCause::TermTooLarge(term), ()));
         }
-        let config = VotingConfig::of(kept.accepted.config.members());
         let Ok(()) = self.keeper.set_term(term) else {
             return Err(ActError::Disk);
         };
         self.started_join = true;
         self.election_won = false;
-        self.join_votes = JoinVotes::new();
+        self.join_votes.clear();
         self.published_version = 0;
-        self.published_config = config;
-        self.publish_votes = JoinVotes::new();
+        let config = &self.keeper.kept().accepted.config;
+        self.published_config.copy_from(config.members());
+        self.publish_votes.clear();
         Ok(Join {
             source: self.me,
             target: from,
@@ -336,8 +336,8 @@ impl<K: Keeper> CoordState<K> {
         }
         let kept = self.keeper.kept();
         self.published_version = version;
-        self.published_config = VotingConfig::of(config.members());
-        self.publish_votes = JoinVotes::new();
+        self.published_config.copy_from(config.members());
+        self.publish_votes.clear();
         Ok(PublishRequest {
             source: self.me,
             state: ClusterState {

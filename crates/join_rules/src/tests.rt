@@ -17,6 +17,8 @@ fn votes_are_counted_once(rt: HostRuntime) {
     assert!(rt; !votes.contains(id("c")));
     assert!(rt; votes.sources().len() == 2);
     assert!(rt; votes.ids().get(0) == Some(id("a")));
+    votes.clear();
+    assert!(rt; votes.sources().len() == 0);
 }
 
 #[test]

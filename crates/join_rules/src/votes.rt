@@ -33,6 +33,13 @@ impl JoinVotes {
         }
     }
 
+    /// Takes all votes out.
+    pub fn clear(&mut self)
+        ensures { self.new ≡ [] }
+    {
+        self.ids.clear();
+    }
+
     /// Counts a source, once.
     pub fn add(&mut self, source: NodeId)
         requires { (has source self.old ≡ true) ⊎ (length self.old < most_ids) }

@@ -10,7 +10,7 @@ use Rattle.state_journal.specs.Bodies.{body_of}
 use Rattle.state_journal.specs.Changes.{changed, IsEither}
 use Rattle.state_journal.specs.Drafts.{HasSpelling, MayBegin}
 use Rattle.state_journal.specs.Journal.{StoodFor}
-use Rattle.state_journal.specs.Keeping.{generation_after, IsWritten}
+use Rattle.state_journal.specs.Keeping.{generation_after, record_with, IsWritten}
 use Rattle.state_journal.specs.declared.change.Change.{Change}
 use Rattle.state_journal.specs.declared.change.Change.TheVariants.{Accepted}
 use Rattle.state_journal.specs.declared.journal.StateJournal.{StateJournal}
@@ -39,7 +39,12 @@ module _ {D : Type 0} {disks : Ghosts D} (old : StateJournal D disks) (state : C
   pub state_begins : renews (place old.log) (body_of (Accepted state)) ≡ true → MayBegin (changed old.kept (Accepted state))
   state_begins = λ renewing. record { bounded = old.bounded; fits = fits_of state has; named = (fits_of state has).1.1.1.0; older = older }
 
-  pub state_leaves : disks.told → old.log.stopped ≡ false → (new : StateJournal D disks)
-      → LeavesOnly disks.moment disks.left_since old.log.disk new.log.disk (IsWritten (renews (place old.log) (body_of (Accepted state))) (standing_in (disks.seen old.log.disk)) (body_of (Accepted state)) (generation_after (place old.log) (changed old.kept (Accepted state))))
+  -- also where the state was shown once more
+  pub state_leaves : (shown : ClusterState) → shown ≡ state → disks.told → old.log.stopped ≡ false → (new : StateJournal D disks)
+      → LeavesOnly disks.moment disks.left_since old.log.disk new.log.disk (IsWritten (renews (place old.log) (body_of (Accepted state))) (standing_in (disks.seen old.log.disk)) (body_of (Accepted state)) (generation_after (place old.log) (record_with old.kept.term state shown.committed)))
       → LeavesOnly (λ (j : StateJournal D disks). disks.moment j.log.disk) (λ (j : StateJournal D disks). StoodFor (disks.left_since j.log.disk)) old new (IsEither old.kept (changed old.kept (Accepted state)))
-  state_leaves told running new run = crash_leaves old told running (Accepted state) state_follows state_begins new (body_of (Accepted state)) refl run
+  state_leaves shown is told running new run =
+      let p = place old.log in
+      let same =
+      subst (λ (s : ClusterState). LeavesOnly disks.moment disks.left_since old.log.disk new.log.disk (IsWritten (renews p (body_of (Accepted state))) (standing_in (disks.seen old.log.disk)) (body_of (Accepted state)) (generation_after p (record_with old.kept.term state s.committed)))) is run in
+      crash_leaves old told running (Accepted state) state_follows state_begins new (body_of (Accepted state)) refl same

@@ -17,13 +17,11 @@ use crate::body::{committed_body, term_body};
 use crate::draft::Draft;
 use crate::fold::{FoundError, fold_sides};
 use crate::keep::{keep_small, keep_state, records_after};
-use crate::ready::ReadyState;
 use crate::refusal::refused;
 use crate::{ArmKeeper, KeepError, Keeper, OpenError, Ready};
 use cluster_state::Kept;
 use gate_log::{GateLog, Opened};
 use std::alloc::Global;
-use voting_config::VotingConfig;
 use zen_disk::{Armable, Disks, Order, Side};
 
 /// A keeper over a journal in two generations, in which each change is a body.
@@ -181,13 +179,16 @@ impl<D: Disks> Keeper for StateJournal<D> {
         if self.log.stopped() {
             return Err(KeepError::Stopped);
         }
-        let ReadyState { state, mut draft } = ready.into_made();
+        let Ready {
+            mut state,
+            mut draft,
+        } = ready;
         let records = records_after(&self.log, self.records, draft.len() + 1);
         let Ok(()) = keep_state(&mut self.log, &mut draft, self.kept.term, &state.committed) else {
             return Err(KeepError::Disk);
         };
-        self.kept.committed = VotingConfig::of(state.committed.members());
-        self.kept.accepted = state;
+        self.kept.committed.copy_from(state.committed.members());
+        self.kept.accepted.take_from(&mut state);
         self.draft = draft;
         self.records = records;
         Ok(())
@@ -208,7 +209,9 @@ impl<D: Disks> Keeper for StateJournal<D> {
         ) else {
             return Err(KeepError::Disk);
         };
-        self.kept.committed = VotingConfig::of(self.kept.accepted.config.members());
+        self.kept
+            .committed
+            .copy_from(self.kept.accepted.config.members());
         self.records = records;
         Ok(())
     }

@@ -9,7 +9,6 @@ ghost use Rattle.state_journal.specs.Changes.{changed};
 use crate::{KeepError, Keeper, Ready};
 use cluster_state::Kept;
 use std::alloc::Global;
-use voting_config::VotingConfig;
 
 /// A keeper in memory, which never fails.
 #[derive(Drop)]
@@ -64,14 +63,16 @@ impl Keeper for PlainKeeper {
     }
 
     fn set_accepted(&mut self, ready: Ready) -> Result<(), KeepError> {
-        let made = ready.into_made();
-        self.kept.committed = VotingConfig::of(made.state.committed.members());
-        self.kept.accepted = made.state;
+        let Ready { mut state, .. } = ready;
+        self.kept.committed.copy_from(state.committed.members());
+        self.kept.accepted.take_from(&mut state);
         Ok(())
     }
 
     fn mark_committed(&mut self) -> Result<(), KeepError> {
-        self.kept.committed = VotingConfig::of(self.kept.accepted.config.members());
+        self.kept
+            .committed
+            .copy_from(self.kept.accepted.config.members());
         Ok(())
     }
 }

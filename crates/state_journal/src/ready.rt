@@ -11,21 +11,15 @@ use std::alloc::{AllocError, Global};
 use std::marker::Model;
 use voting_config::NodeSet;
 
-// A state with its bytes.
-#[derive(Drop)]
-pub(crate) struct ReadyState {
-    pub(crate) state: ClusterState,
-    // its bytes, with room for what is written around them
-    pub(crate) draft: Draft,
-    ghost fit: { IsFit state } by { IsFit-prop state },
-    ghost drafted: { IsDraft state draft } by { IsDraft-prop state draft },
-}
-
-/// A state that is ready to be kept: keeping it takes no memory. Contracts see the state. It lies with its bytes in a place of their
-/// own, since they are large and go through many hands.
+/// A state that is ready to be kept: keeping it takes no memory. Contracts see the state. It lies in a place of its own, since it is large
+/// and goes through many hands.
 #[derive(Drop)]
 pub struct Ready {
-    made: Box<ReadyState>,
+    pub(crate) state: Box<ClusterState>,
+    // its bytes, with room for what is written around them
+    pub(crate) draft: Draft,
+    ghost fit: { IsFit state.value } by { IsFit-prop state.value },
+    ghost drafted: { IsDraft state.value draft } by { IsDraft-prop state.value draft },
 }
 
 impl Model for Ready {
@@ -33,7 +27,7 @@ impl Model for Ready {
 
     ghost Value = { ToKeep };
 
-    ghost view = { λ r. record { state = r.made.value.state } };
+    ghost view = { λ r. record { state = r.state.value } };
 }
 
 /// There was no memory to make a state ready. It is handed back.
@@ -52,10 +46,10 @@ impl Ready {
         let Ok(draft) = Draft::new(alloc, &state) else {
             return Err(NotReady { state });
         };
-        match Box::new(alloc, ReadyState { state, draft }) {
-            Ok(made) => Ok(Ready { made }),
+        match Box::new(alloc, state) {
+            Ok(state) => Ok(Ready { state, draft }),
             Err(failed) => Err(NotReady {
-                state: failed.value.state,
+                state: failed.value,
             }),
         }
     }
@@ -67,11 +61,10 @@ impl Ready {
     {
         let draft = Draft::new(alloc, state)?;
         let settings = state.value.settings.copy()?;
-        let state = state.with_settings(settings);
-        let Ok(made) = Box::new(alloc, ReadyState { state, draft }) else {
+        let Ok(state) = Box::new(alloc, state.with_settings(settings)) else {
             return Err(AllocError);
         };
-        Ok(Ready { made })
+        Ok(Ready { state, draft })
     }
 
     /// What a bootstrap with this configuration makes the accepted state, ready to be kept.
@@ -89,13 +82,6 @@ impl Ready {
         ensures state { result.now ≡ self.now.state }
         ensures fit { IsFit self.now.state }
     {
-        &self.made.state
-    }
-
-    // The state with its bytes.
-    pub(crate) fn into_made(self) -> ReadyState
-        ensures { result.state ≡ self.state }
-    {
-        Box::into_inner(self.made)
+        &self.state
     }
 }

@@ -80,6 +80,7 @@ impl NodeId {
     }
 
     /// The bytes of the id.
+    #[inline(always)]
     pub fn as_bytes(&self) -> &[u8]
         ensures value { result.now ≡ self.now }
         ensures id { IsTrue (is_id_of self.now) }

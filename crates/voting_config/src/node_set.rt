@@ -166,6 +166,13 @@ impl NodeSet {
         true
     }
 
+    /// Takes all ids out.
+    pub fn clear(&mut self)
+        ensures { self.new ≡ [] }
+    {
+        self.ids.clear();
+    }
+
     /// Whether the id comes after all that are in.
     pub fn comes_last(&self, id: NodeId) -> bool
         ensures { result ≡ comes_after id self.now }
@@ -253,6 +260,15 @@ impl NodeSet {
                 .iter()
                 .filter(|id| !other.contains(**id))
                 .count()
+    }
+
+    /// Makes the set the same as the other, in its place.
+    pub fn copy_from(&mut self, other: &NodeSet)
+        ensures { self.new ≡ other.now }
+    {
+        self.ids.clear();
+        // There is as much room as in the other, so this is no error.
+        let _ = self.ids.try_extend_from_slice(other.ids.as_slice());
     }
 
     /// The same set once more.

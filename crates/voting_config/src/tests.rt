@@ -109,3 +109,15 @@ fn a_quorum_is_more_than_half(rt: HostRuntime) {
     let config = VotingConfig::of(&set("a,b"));
     assert!(rt; config.is_same(&VotingConfig::of(config.members())) && !config.is_empty());
 }
+
+#[test]
+fn a_set_is_filled_in_its_place(rt: HostRuntime) {
+    let mut ids = set("b,c");
+    ids.copy_from(&set("a,d,e"));
+    assert!(rt; ids.as_slice() == set("a,d,e").as_slice());
+    let mut config = VotingConfig::of(&set("b,c"));
+    config.copy_from(&ids);
+    assert!(rt; config.members().as_slice() == set("a,d,e").as_slice());
+    ids.clear();
+    assert!(rt; ids.len() == 0);
+}

@@ -31,7 +31,7 @@ returns-in_default-clause-any_moment g c = λ told running.
 pub invariant_of-self-2 : goal.invariant_of-self-2
 invariant_of-self-2 g c =
     let old = c.args.self.now in
-    let same : c.of-self.result ≡ old.kept.accepted.config = c.of-self.ensures ∙ c.members.ensures in
+    let same : c.copy_from.new.self ≡ old.kept.accepted.config = c.copy_from.ensures ∙ c.members.ensures in
     let now = c.keep_small.new.log in
     let p = place old.log in
     let change = Committed in
