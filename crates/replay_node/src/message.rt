@@ -18,13 +18,19 @@ pub struct FitPublishRequest {
 }
 
 impl FitPublishRequest {
-    /// This request, whose state is within the limits.
-    pub fn new(alloc: Global, request: PublishRequest) -> Result<FitPublishRequest, AllocError>
+    /// This request, whose state is within the limits, in a place that is shared.
+    pub fn share(
+        alloc: Global,
+        request: PublishRequest,
+    ) -> Result<Rc<FitPublishRequest>, AllocError>
         requires { IsFit request.state }
-        ensures { IfOk result (λ r. r.request ≡ request) }
+        ensures { IfOk result (λ r. r.value.request ≡ request) }
     {
         let json = to_json(alloc, &request.state)?;
-        Ok(FitPublishRequest { request, json })
+        match Rc::new(alloc, FitPublishRequest { request, json }) {
+            Ok(shared) => Ok(shared),
+            Err(_) => Err(AllocError),
+        }
     }
 
     /// The state as JSON.

@@ -142,10 +142,7 @@ pub fn client_value(
     match state.client_value(version, config, value) {
         Err(error) => ended(state, error.not_taken()),
         Ok(request) => {
-            let publication = FitPublishRequest::new(alloc, request)?;
-            let Ok(publication) = Rc::new(alloc, publication) else {
-                return Err(AllocError);
-            };
+            let publication = FitPublishRequest::share(alloc, request)?;
             Ok(Did::sends(Some(SentMessage::Publish(publication))))
         }
     }

@@ -1,7 +1,7 @@
 //! `Replayer`: the nodes of a schedule of level core, and the messages that they have sent.
-ghost use Rattle.std.specs.Prelude.{◌≡◌, ◌<◌, ◌≤◌, ◌++◌, OnOk, IfOk, ℕ, List, [], None, true, length, map};
+ghost use Rattle.std.specs.Prelude.{◌≡◌, ◌<◌, ◌≤◌, ◌∷◌, ◌++◌, OnOk, IfOk, ℕ, List, [], None, true, length, map, codes};
 ghost use Rattle.voting_config.specs.Ids.{Id, has};
-ghost use Rattle.cluster_state.specs.States.{IsFitValue};
+ghost use Rattle.cluster_state.specs.Initial.{empty_value};
 ghost use Rattle.world_model.specs.declared.acts.Act.{Act};
 ghost use Rattle.world_model.specs.declared.acts.Act.TheVariants as act;
 ghost use Rattle.schedule_text.specs.declared.level.Level.TheVariants.{Core};
@@ -49,6 +49,8 @@ impl Replayer {
     }
 
     /// Does a line of level core, and writes its part of the trace at the end of `text`.
+    // A call for each line costs as much as a line that sends nothing, so this and what it calls for such lines is inlined.
+    #[inline(always)]
     pub fn line(
         &mut self,
         alloc: Global,
@@ -183,7 +185,7 @@ impl Replayer {
         ensures done { OnOk result (DoesLine ids.now self.old.nodes.items self.new.nodes.items self.old.sent.items self.new.sent.items text.old text.new (λ w. did_unless_down w n (act.Value version config.now (value_with setting))) (λ w. results_of w n (act.Value version config.now (value_with setting)))) }
     {
         let config = VotingConfig::of(&config.to_set());
-        let value = value_of(alloc, setting)?;
+        let value = value_of(settings_of(alloc, setting)?);
         self.act.clear();
         write_value(&mut self.act, alloc, version, &config, &value)?;
         let place = place_of(ids.as_slice(), n);
@@ -192,6 +194,7 @@ impl Replayer {
         self.finish(n, did, text)
     }
 
+    #[inline(always)]
     fn deliver(
         &mut self,
         alloc: Global,
@@ -254,6 +257,7 @@ impl Replayer {
 }
 
 // There is no such message.
+#[inline(always)]
 fn unsent(node: &ReplayNode, n: &NodeId, text: &mut Text) -> Result<(), AllocError>
     ensures { OnOk result ((w : World) → NodeStands node.now (node_world w n.now) → text.new ≡ text.old ++ delivery_results w n.now None) }
 {
@@ -287,21 +291,27 @@ fn keep_some(sent: &mut Vec<SentMessage>, message: Option<SentMessage>) -> Resul
     }
 }
 
-// The value that has this text as its one setting, under the key `v`.
-fn value_of(alloc: Global, setting: SettingText) -> Result<ClusterValue, AllocError>
-    ensures is { IfOk result (λ value. value ≡ value_with setting) }
-    ensures fit { IfOk result IsFitValue }
+// The settings that have this text under the key `v`, and no others.
+fn settings_of(alloc: Global, setting: SettingText) -> Result<Settings, AllocError>
+    ensures { IfOk result (λ settings. settings ≡ (codes "v", setting) ∷ []) }
 {
     let mut settings = Settings::new(alloc);
     // For the proof alone: the text of a setting has 1 to 32 bytes.
     let _ = setting.as_bytes();
     settings.push("v", setting.as_str())?;
-    Ok(ClusterValue {
+    Ok(settings)
+}
+
+// The value that has these settings and nothing else.
+fn value_of(settings: Settings) -> ClusterValue
+    ensures { result ≡ record empty_value { settings = settings } }
+{
+    ClusterValue {
         master: None,
         members: NodeSet::new(),
         exclusions: NodeSet::new(),
         settings,
-    })
+    }
 }
 
 // Nodes that have opened their journals on empty disks.

@@ -44,8 +44,8 @@ value_fits me p version config value request h small fit =
     let i = past (not (is_quorum_of config p.join_votes)) _ _ _ _ f.1 in
     subst IsFit (sym (same_state _ _ i.1)) (record { term = small; version = ltb-false _ _ e.0; value = fit })
 
-pub new-requires : goal.new-requires
-new-requires c =
+pub share-requires : goal.share-requires
+share-requires c =
     let small = subst (λ (j : Journal). j.kept.term ≤ 2 ^ 62) c.keeper.ensures c.kept.ensures.bounded in
     let old = c.args.state.now in
     value_fits old.me (fields_of journal_ghosts old) c.args.version c.args.config c.args.value c.in-Ok.request c.in-Ok.ensures.act.at.answers small c.requires

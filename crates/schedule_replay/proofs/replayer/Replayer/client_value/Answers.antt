@@ -2,6 +2,8 @@ use Rattle.std.proofs.Common.{◌≡◌, List, ap, ◌∙◌}
 use Rattle.std.specs.declared.vec.Vec.{Vec}
 use Rattle.std.specs.declared.alloc.Global.{Global}
 use Rattle.voting_config.specs.Ids.{Id}
+use Rattle.cluster_state.specs.Initial.{empty_value}
+use Rattle.cluster_state.specs.Settings.{Setting}
 use Rattle.cluster_state.specs.declared.state.ClusterValue.{ClusterValue}
 use Rattle.world_model.specs.declared.acts.Act.TheVariants.{Value}
 use Rattle.replay_node.specs.declared.node.ReplayNode.{ReplayNode}
@@ -16,8 +18,9 @@ bounds-nodes-place c = place_inside _ _ _ _ _ _ _ _ (record { is = c.as_slice.en
 pub returns : goal.returns
 returns c =
     let config : c.of-config.result ≡ c.args.config.now = c.of-config.ensures ∙ c.to_set.ensures in
-    let act : Value c.args.version c.of-config.result c.in_ok-value.value ≡ Value c.args.version c.args.config.now (value_with c.args.setting) =
-    ap (λ (x : List Id). Value c.args.version x c.in_ok-value.value) config ∙ ap (λ (x : ClusterValue). Value c.args.version c.args.config.now x) c.in_ok-value.ensures.is
+    let value : c.value_of-value.result ≡ value_with c.args.setting = c.value_of-value.ensures ∙ ap (λ (ss : List Setting). record empty_value { settings = ss }) c.in_ok-settings_of.ensures in
+    let act : Value c.args.version c.of-config.result c.value_of-value.result ≡ Value c.args.version c.args.config.now (value_with c.args.setting) =
+    ap (λ (x : List Id). Value c.args.version x c.value_of-value.result) config ∙ ap (λ (x : ClusterValue). Value c.args.version c.args.config.now x) value
     in
     record {
       done = act_done _ _ _ _ _ _ _ _ (record { is = c.as_slice.ensures.value; found = c.place_of-place.ensures; lent_is = c.as_mut_slice-nodes.ensures.value; long = c.as_mut_slice-nodes.ensures.len; stands = c.requires.stands }) c.index-nodes-place.result c.client_value.new.self c.finish.result _ _ _ _ _ _ _ _ c.in_ok-did.did c.in_ok-did.ensures act
