@@ -5,6 +5,7 @@ ghost use Rattle.voting_config.specs.Ids.{has};
 use voting_config::NodeId;
 
 /// Where a listed id stands among the ids.
+#[inline(always)]
 pub fn place_of(ids: &[NodeId], n: NodeId) -> usize
     requires { has n ids.now ≡ true }
     ensures { slice_get ids.now result ≡ Some n }

@@ -32,6 +32,7 @@ pub enum ReplayError {
 const HELD_BYTES: usize = 65536;
 
 // Adds a piece to what is held back, and writes what is held back where it has grown long.
+#[inline(always)]
 fn hold<S: Sink>(out: &mut S, held: &mut Text, piece: &Text) -> Result<(), ReplayError>
     ensures holds { Holds (S.written out.old) (S.written out.new) held.old held.new piece.now result }
     ensures later { S.faults out.old ≤ S.faults out.new }
@@ -62,6 +63,7 @@ fn out_of_memory<S: Sink>(out: &mut S, held: &Text) -> ReplayError
 }
 
 // Shows the observer a line's part of the trace, and adds it to what is held back.
+#[inline(always)]
 fn pass_on<T: Observer, S: Sink>(
     observer: &mut T,
     out: &mut S,

@@ -42,6 +42,7 @@ impl Text {
     }
 
     /// The bytes of the text.
+    #[inline(always)]
     pub fn as_bytes(&self) -> &[u8]
         ensures { result.now ≡ self.now }
     {
@@ -49,6 +50,7 @@ impl Text {
     }
 
     /// How many bytes the text has.
+    #[inline(always)]
     pub fn len(&self) -> usize
         ensures { result ≡ length self.now }
     {
@@ -56,6 +58,7 @@ impl Text {
     }
 
     /// Makes the text empty. Its memory stays, for what is written next.
+    #[inline(always)]
     pub fn clear(&mut self)
         ensures { self.new ≡ [] }
     {
@@ -63,6 +66,7 @@ impl Text {
     }
 
     /// Writes a text.
+    #[inline(always)]
     pub fn word(&mut self, word: &str) -> Result<(), AllocError>
         ensures { OnOk result (self.new ≡ self.old ++ word.now) }
     {
@@ -70,6 +74,7 @@ impl Text {
     }
 
     /// Writes bytes.
+    #[inline(always)]
     pub fn bytes(&mut self, bytes: &[u8]) -> Result<(), AllocError>
         ensures { OnOk result (self.new ≡ self.old ++ bytes.now) }
     {
@@ -78,6 +83,7 @@ impl Text {
     }
 
     /// Writes an id.
+    #[inline(always)]
     pub fn id(&mut self, id: NodeId) -> Result<(), AllocError>
         ensures { OnOk result (self.new ≡ self.old ++ id) }
     {
@@ -86,6 +92,7 @@ impl Text {
 
     /// Writes a number in decimal, without leading zeros.
     #[tactic(auto, using(std::proofs::lemmas::Fmt::decimal_digit))]
+    #[inline(always)]
     pub fn number(&mut self, number: u64) -> Result<(), AllocError>
         ensures { OnOk result (self.new ≡ self.old ++ decimal number) }
     {
@@ -119,6 +126,7 @@ impl Text {
     }
 
     /// Writes a line of a schedule, without its line feed.
+    #[inline(always)]
     pub fn line(&mut self, line: &Line) -> Result<(), AllocError>
         ensures { OnOk result (self.new ≡ self.old ++ line_text line.now) }
     {
@@ -227,6 +235,7 @@ impl Text {
         self.byte(hex_byte(byte % 16))
     }
 
+    #[inline(always)]
     fn byte(&mut self, byte: u8) -> Result<(), AllocError>
         ensures { OnOk result (self.new ≡ self.old ++ byte ∷ []) }
     {

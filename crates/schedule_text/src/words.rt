@@ -9,6 +9,7 @@ use crate::setting_text::SettingText;
 use voting_config::{NodeId, NodeSet};
 
 /// The listed node that a word names, and else `Id`.
+#[inline(always)]
 pub fn node_at(ids: &NodeSet, word: &[u8]) -> Result<NodeId, WhyBad>
     ensures { result ≡ (listed ids.now).at word.now }
 {
