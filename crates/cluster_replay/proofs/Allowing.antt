@@ -5,7 +5,7 @@ use Rattle.std.specs.Prelude.{nat_lt}
 use Rattle.std.specs.List.{list_all, flat_map, AllByRecursion, Contains}
 use Rattle.std.proofs.lemmas.Bool.{and_parts, and_from}
 use Rattle.std.proofs.lemmas.List.Elements.{Contains-append_left}
-use Rattle.voting_config.specs.Ids.{Id, is_id, has, with_id, most_ids, IsIdSet, has_room}
+use Rattle.voting_config.specs.Ids.{Id, is_id, has, with_id, most_ids, IsIdSet, has_room, with_room}
 use Rattle.cluster_state.specs.Fields.{ids}
 use Rattle.cluster_state.specs.States.{state as state_field, value as value_field}
 use Rattle.cluster_state.specs.Initial.{initial_state}
