@@ -1,14 +1,12 @@
 -- How many ids a set has, and which.
-use Rattle.std.proofs.Common.{◌≡◌, ◌+◌, ◌<◌, ◌≤◌, Bool, true, false, cond, ◌&&◌, ◌||◌, List, [], ◌∷◌, ◌++◌, length, nat_lt, append-nil, append_assoc, refl, sym, ap, ◌∙◌, subst, arith}
+use Rattle.std.proofs.Common.{◌≡◌, ◌<◌, ◌≤◌, Bool, true, false, ◌||◌, List, [], ◌∷◌, length, refl, sym, ap, ◌∙◌, subst, arith}
 use Rattle.std.specs.List.{list_all}
 use Rattle.std.specs.Cmp.Lexicographic.{same_text}
 use Rattle.std.proofs.Math.Bool.{or-true}
 use Rattle.std.proofs.lemmas.Bool.{and_parts, and_from}
-use Rattle.std.proofs.lemmas.Bool.Decides.{nat_tests}
-use Rattle.voting_config.specs.Ids.{Id, is_id, same, before, comes_after, has, is_below, ascends, put, most_ids, IsIdSet}
-use Rattle.voting_config.proofs.Sorted.{IsIdSet-push, before-not_same, ascends-put, is_below-before, length-put, list_all-put}
+use Rattle.voting_config.specs.Ids.{Id, same, before, has, is_below, ascends, put, most_ids, IsIdSet}
+use Rattle.voting_config.proofs.Sorted.{before-not_same, ascends-put, is_below-before, length-put, list_all-put}
 use Rattle.voting_config.proofs.Sets.{same_self}
-use Rattle.voting_config.specs.Lists.{may_follow, are_ids_after}
 
 pub all_ids : (p q : Id → Bool) → ((x : Id) → p x ≡ true → q x ≡ true) → (xs : List Id) → list_all p xs ≡ true → list_all q xs ≡ true
 all_ids p q f [] h = refl
