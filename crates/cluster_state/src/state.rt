@@ -158,9 +158,10 @@ impl ClusterState {
         Ok(self.with_settings(settings))
     }
 
-    /// Makes it the other state, in its place, which takes no memory: the settings are moved. What the other one is then is not said.
+    /// Makes it the other state, in its place, which takes no memory: the two change their settings.
     pub fn take_from(&mut self, other: &mut ClusterState)
-        ensures { self.new ≡ other.old }
+        ensures state { self.new ≡ other.old }
+        ensures other { other.new ≡ record (other.old) { value = record (other.old.value) { settings = self.old.value.settings } } }
     {
         self.term = other.term;
         self.version = other.version;
