@@ -7,9 +7,7 @@ use Rattle.zen_disk.specs.FileState.{FileState, stable_of, ranges_of, state_of, 
 use Rattle.zen_disk.specs.UndoLog.{before, IsUndo, IsProper, IsImage, image-read}
 use Rattle.zen_disk.specs.declared.orders.Way.{Way}
 use Rattle.zen_disk.specs.declared.orders.Way.TheVariants.{Lost, Kept, Torn as TornTo}
-use Rattle.zen_disk.specs.declared.undo_log.Overwrite.{Overwrite}
-use Rattle.zen_disk.specs.declared.undo_log.UndoRecord.{UndoRecord}
-use Rattle.zen_disk.specs.declared.undo_log.UndoRecord.TheVariants.{Overwrote, Synced}
+use Rattle.zen_disk.specs.UndoRecord.{Overwrite, UndoRecord, Overwrote, Synced}
 use Rattle.zen_disk.specs.MemDisks.{files_of, past_of, read_of}
 use Rattle.zen_disk.specs.Sides.{Sides, Files}
 use Rattle.zen_disk.specs.UndoOrder.{AreImages, images-read}
@@ -21,7 +19,7 @@ torn_back : (w : Overwrite) (read : List ℕ) → IsUndo w read → Torn w.at w.
 torn_back w read is =
     let at = w.at in
     let end = w.at + w.len in
-    let over = w.replaced.items in
+    let over = w.replaced in
     let old = before (Overwrote w) read in
     let inside : w.at + w.len ≤ length read = is.inside in
     let front : length (take at read) ≡ at = length-take-le at read (omega (arith, inside)) in

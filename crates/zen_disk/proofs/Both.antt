@@ -7,7 +7,7 @@ use Rattle.zen_disk.specs.declared.side.Side.{Side}
 use Rattle.zen_disk.specs.declared.side.Side.TheVariants.{Zero, One}
 use Rattle.zen_disk.specs.UndoLog.{before, IsImage}
 use Rattle.zen_disk.specs.UndoOrder.{AreImages, WereImages, past_before, files_before}
-use Rattle.zen_disk.specs.declared.undo_log.UndoRecord.{UndoRecord}
+use Rattle.zen_disk.specs.UndoRecord.{UndoRecord}
 use Rattle.std.proofs.lemmas.List.{reverse-append}
 use Rattle.zen_disk.specs.DeviceCall.{Write}
 use Rattle.zen_disk.specs.FileState.{FileState, after, after_write}

@@ -4,7 +4,7 @@ use Rattle.std.proofs.Common.{inl, inr, arith}
 use Rattle.zen_disk.specs.Sides.{Sides, Files, on, put}
 use Rattle.zen_disk.specs.declared.side.Side.{Side}
 use Rattle.zen_disk.specs.UndoLog.{before, IsImage, image-read}
-use Rattle.zen_disk.specs.declared.undo_log.UndoRecord.{UndoRecord}
+use Rattle.zen_disk.specs.UndoRecord.{UndoRecord}
 
 -- a crash strikes both sides, each as its own log says
 abbrev pub AreImages : Sides (List UndoRecord) → Files → Files → Type 0

@@ -5,12 +5,11 @@ ghost use Rattle.zen_disk.specs.Faults.{Rose};
 ghost use Rattle.zen_disk.specs.FileState.{state_of, left_by, both_left_by, settled};
 ghost use Rattle.zen_disk.specs.Moments.{Only, Same};
 ghost use Rattle.zen_disk.specs.Numbered.{next_number, is_listed};
-ghost use Rattle.zen_disk.specs.UndoLog.{IsProper, IsProper-prop, IsImage};
+ghost use Rattle.zen_disk.specs.UndoLog.{past_in, overwrite_at, IsProper, IsProper-prop, IsImage};
 ghost use Rattle.zen_disk.specs.UndoOrder.{AreImages, WereImages, images-read, were-are, only-last};
-ghost use Rattle.zen_disk.specs.declared.undo_log.Overwrite.{Overwrite};
-ghost use Rattle.zen_disk.specs.declared.undo_log.UndoRecord.TheVariants.{Overwrote, Synced};
+ghost use Rattle.zen_disk.specs.UndoRecord.{Overwrote, Synced};
 
-use crate::undo_log::{Overwrite, UndoRecord, crash_file};
+use crate::undo_log::{UndoLog, append, crash_file};
 use crate::{Crash, Disks, Failed, Side, Way};
 use std::alloc::{AllocError, Global};
 
@@ -20,8 +19,8 @@ const END: usize = 1 << 62;
 #[derive(Drop)]
 pub struct MemFile {
     pub(crate) bytes: Vec<u8>,
-    pub(crate) log: Vec<UndoRecord>,
-    ghost proper: { IsProper (reverse log.items) bytes.items } by { IsProper-prop (reverse log.items) bytes.items },
+    pub(crate) log: UndoLog,
+    ghost proper: { IsProper (past_in log) bytes.items } by { IsProper-prop (past_in log) bytes.items },
 }
 
 /// Two files in memory that tell what they hold.
@@ -29,7 +28,7 @@ pub struct MemFile {
 /// Each logs its writes and syncs, each write with the bytes that it replaced, and the order of all of them is kept too. So it
 /// tells what a crash at an earlier moment might have left. A call fails where its number is in the list that the disk
 /// was made with, a write also where it would end past byte 2^62, and a write or a sync also where a log or a file finds
-/// no memory.
+/// no memory. A sync also fails where 2^64 - 1 syncs of its side have come since the last write there.
 #[derive(Drop)]
 pub struct MemDisks {
     alloc: Global,
@@ -42,6 +41,7 @@ pub struct MemDisks {
 }
 
 // Counts a call, and says whether it is one of those that fail.
+#[inline(always)]
 fn count_call(made: &mut u64, failing: &[u64]) -> bool
     ensures made { made.new ≡ next_number made.old }
     ensures listed { result ≡ is_listed failing.now made.new }
@@ -62,7 +62,6 @@ impl MemFile {
     // Writes the bytes over what is there, and notes the write.
     fn place(
         &mut self,
-        alloc: Global,
         order: &mut Vec<Side>,
         side: Side,
         at: usize,
@@ -70,16 +69,15 @@ impl MemFile {
     ) -> Result<(), AllocError>
         requires { at ≤ length self.old.bytes.items }
         ensures ok { OnOk result (self.new.bytes.items ≡ written self.old.bytes.items at bytes.now) }
-        ensures noted { OnOk result ((w : Overwrite) × (w.at ≡ at) × (w.len ≡ length bytes.now)
-            × (w.replaced.items ≡ part at (length bytes.now) self.old.bytes.items) × (self.new.log.items ≡ self.old.log.items ++ Overwrote w ∷ [])) }
+        ensures noted { OnOk result (past_in self.new.log ≡ Overwrote (overwrite_at at bytes.now self.old.bytes.items) ∷ past_in self.old.log) }
         ensures order { OnOk result (order.new.items ≡ order.old.items ++ side ∷ []) }
         ensures err { OnErr result (self.new.bytes.items ≡ self.old.bytes.items) }
-        ensures err_log { OnErr result (self.new.log.items ≡ self.old.log.items) }
+        ensures err_log { OnErr result (past_in self.new.log ≡ past_in self.old.log) }
         ensures err_order { OnErr result (order.new.items ≡ order.old.items) }
     {
         let turn = order.len();
         order.push(side)?;
-        let Ok(()) = write_over(alloc, &mut self.bytes, &mut self.log, at, bytes) else {
+        let Ok(()) = write_over(&mut self.bytes, &mut self.log, at, bytes) else {
             order.truncate(turn);
             return Err(AllocError);
         };
@@ -87,16 +85,17 @@ impl MemFile {
     }
 
     // Notes a sync.
+    #[inline(always)]
     fn settle(&mut self, order: &mut Vec<Side>, side: Side) -> Result<(), AllocError>
         ensures bytes { self.new.bytes ≡ self.old.bytes }
-        ensures noted { OnOk result (self.new.log.items ≡ self.old.log.items ++ Synced ∷ []) }
+        ensures noted { OnOk result (past_in self.new.log ≡ Synced ∷ past_in self.old.log) }
         ensures order { OnOk result (order.new.items ≡ order.old.items ++ side ∷ []) }
-        ensures err_log { OnErr result (self.new.log.items ≡ self.old.log.items) }
+        ensures err_log { OnErr result (past_in self.new.log ≡ past_in self.old.log) }
         ensures err_order { OnErr result (order.new.items ≡ order.old.items) }
     {
         let turn = order.len();
         order.push(side)?;
-        let Ok(()) = self.log.push(UndoRecord::Synced) else {
+        let Ok(()) = self.log.note_sync() else {
             order.truncate(turn);
             return Err(AllocError);
         };
@@ -104,35 +103,41 @@ impl MemFile {
     }
 }
 
+// Writes the bytes over others. Often there are none or one, as in `append`.
+#[inline(always)]
+fn overwrite(file: &mut Vec<u8>, at: usize, bytes: &[u8])
+    requires { at + length bytes.now ≤ vec_len file.old }
+    ensures { file.new.items ≡ written file.old.items at bytes.now }
+{
+    match bytes.len() {
+        0 => {}
+        1 => file[at] = bytes[0],
+        _ => file[at..at + bytes.len()].copy_from_slice(bytes),
+    }
+}
+
 // Writes the bytes over what is there, and logs the write.
+#[inline(always)]
 fn write_over(
-    alloc: Global,
     file: &mut Vec<u8>,
-    log: &mut Vec<UndoRecord>,
+    log: &mut UndoLog,
     at: usize,
     bytes: &[u8],
 ) -> Result<(), AllocError>
     requires { at ≤ vec_len file.old }
     ensures ok { OnOk result (file.new.items ≡ written file.old.items at bytes.now) }
-    ensures noted { OnOk result ((w : Overwrite) × (w.at ≡ at) × (w.len ≡ length bytes.now)
-        × (w.replaced.items ≡ part at (length bytes.now) file.old.items) × (log.new.items ≡ log.old.items ++ Overwrote w ∷ [])) }
+    ensures noted { OnOk result (past_in log.new ≡ Overwrote (overwrite_at at bytes.now file.old.items) ∷ past_in log.old) }
     ensures err { OnErr result (file.new.items ≡ file.old.items) }
-    ensures err_log { OnErr result (log.new.items ≡ log.old.items) }
+    ensures err_log { OnErr result (past_in log.new ≡ past_in log.old) }
 {
     let end = file.len();
     let kept = bytes.len().min(end - at);
-    let replaced = Vec::from_slice(alloc, &file[at..at + kept])?;
-    file.extend_from_slice(&bytes[kept..])?;
-    let record = UndoRecord::Overwrote(Overwrite {
-        at,
-        len: bytes.len(),
-        replaced,
-    });
-    let Ok(()) = log.push(record) else {
+    append(file, &bytes[kept..])?;
+    let Ok(()) = log.note_write(at, bytes.len(), &file[at..at + kept]) else {
         file.truncate(end);
         return Err(AllocError);
     };
-    file[at..at + kept].copy_from_slice(&bytes[..kept]);
+    overwrite(file, at, &bytes[..kept]);
     Ok(())
 }
 
@@ -196,16 +201,13 @@ impl Disks for MemDisks {
         }
         match side {
             Side::Zero => {
-                let Ok(()) = self
-                    .zero
-                    .place(self.alloc, &mut self.order, side, at, bytes)
-                else {
+                let Ok(()) = self.zero.place(&mut self.order, side, at, bytes) else {
                     return Err(count_fault(&mut self.faults));
                 };
                 Ok(())
             }
             Side::One => {
-                let Ok(()) = self.one.place(self.alloc, &mut self.order, side, at, bytes) else {
+                let Ok(()) = self.one.place(&mut self.order, side, at, bytes) else {
                     return Err(count_fault(&mut self.faults));
                 };
                 Ok(())
@@ -256,11 +258,11 @@ impl Crash for MemDisks {
 
 // What a crash makes of one file.
 fn crashed(file: MemFile, way: Way) -> MemFile
-    ensures state { state_of (reverse result.log.items) result.bytes.items ≡ left_by way (state_of (reverse file.log.items) file.bytes.items) }
-    ensures image { IsImage (reverse file.log.items) file.bytes.items result.bytes.items }
-    ensures stable { (way ≡ Way.Kept → ⊥) → Only result.bytes.items (IsImage (reverse result.log.items) result.bytes.items) }
+    ensures state { state_of (past_in result.log) result.bytes.items ≡ left_by way (state_of (past_in file.log) file.bytes.items) }
+    ensures image { IsImage (past_in file.log) file.bytes.items result.bytes.items }
+    ensures stable { (way ≡ Way.Kept → ⊥) → Only result.bytes.items (IsImage (past_in result.log) result.bytes.items) }
     ensures kept { way ≡ Way.Kept
-        → Same (IsImage (reverse file.log.items) file.bytes.items) (IsImage (reverse result.log.items) result.bytes.items) }
+        → Same (IsImage (past_in file.log) file.bytes.items) (IsImage (past_in result.log) result.bytes.items) }
 {
     let mut bytes = file.bytes;
     let mut log = file.log;
@@ -284,11 +286,11 @@ impl MemDisks {
             alloc,
             zero: MemFile {
                 bytes: zero,
-                log: Vec::new(alloc),
+                log: UndoLog::new(alloc),
             },
             one: MemFile {
                 bytes: one,
-                log: Vec::new(alloc),
+                log: UndoLog::new(alloc),
             },
             order: Vec::new(alloc),
             made: 0,

@@ -4,8 +4,9 @@ use Rattle.zen_disk.specs.Sides.{on}
 use Rattle.zen_disk.specs.declared.side.Side.{Side}
 use Rattle.zen_disk.specs.declared.side.Side.TheVariants.{Zero, One}
 use Rattle.zen_disk.specs.MemDisks.{files_of, past_of, read_of}
-use Rattle.zen_disk.specs.declared.undo_log.UndoRecord.TheVariants.{Overwrote}
-use Rattle.zen_disk.proofs.UndoLogLemmas.{placed_crash, placed_back, placed_state, past_is}
+use Rattle.zen_disk.specs.UndoLog.{overwrite_at, past_in}
+use Rattle.zen_disk.specs.UndoRecord.{Overwrote}
+use Rattle.zen_disk.proofs.UndoLogLemmas.{placed_crash, placed_back, placed_state}
 use Rattle.zen_disk.proofs.Both.{placed_given, placed_elapses, order_more, moved}
 use Rattle.zen_disk.proofs.memory.MemDisksDisks.write_at.Goals as goal
 
@@ -19,8 +20,8 @@ returns-in-Ok-clause-crash c =
     let inside : c.args.at ≤ length c.args.self.now.zero.bytes.items =
     subst (λ (s : Side). c.args.at ≤ length (on s (read_of c.args.self.now))) c.in-Zero.is (c.requires tt) in
     let crash =
-    placed_crash file.log.items new.log.items file.bytes.items new.bytes.items bytes at inside c.in-Ok.ensures.ok c.in-Ok.ensures.noted in
-    placed_given Zero c.args.side (past_of old) (read_of old) (reverse new.log.items) new.bytes.items at (length bytes) c.in-Zero.is crash
+    placed_crash (past_in file.log) (past_in new.log) file.bytes.items new.bytes.items bytes at inside c.in-Ok.ensures.ok c.in-Ok.ensures.noted in
+    placed_given Zero c.args.side (past_of old) (read_of old) (past_in new.log) new.bytes.items at (length bytes) c.in-Zero.is crash
 
 pub returns-in-Ok-clause-time : goal.returns-in-Ok-clause-time
 returns-in-Ok-clause-time c =
@@ -32,12 +33,12 @@ returns-in-Ok-clause-time c =
     let inside : c.args.at ≤ length c.args.self.now.zero.bytes.items =
     subst (λ (s : Side). c.args.at ≤ length (on s (read_of c.args.self.now))) c.in-Zero.is (c.requires tt) in
     let order = c.place.new.order.items in
-    let past = past_is file.log.items new.log.items file.bytes.items new.bytes.items bytes at inside c.in-Ok.ensures.ok c.in-Ok.ensures.noted in
+    let past = c.in-Ok.ensures.noted in
     let back =
-    placed_back file.log.items new.log.items file.bytes.items new.bytes.items bytes at inside c.in-Ok.ensures.ok c.in-Ok.ensures.noted in
+    placed_back (past_in file.log) (past_in new.log) file.bytes.items new.bytes.items bytes at inside c.in-Ok.ensures.ok c.in-Ok.ensures.noted in
     let more = order_more old.order.items Zero c.args.side order c.in-Ok.ensures.order c.in-Zero.is in
-    let call = Overwrote c.in-Ok.ensures.noted.0 in
-    placed_elapses Zero (reverse old.order.items) (reverse order) (past_of old) (read_of old) (reverse new.log.items) call new.bytes.items
+    let call = Overwrote (overwrite_at at bytes file.bytes.items) in
+    placed_elapses Zero (reverse old.order.items) (reverse order) (past_of old) (read_of old) (past_in new.log) call new.bytes.items
     more past back
 
 pub returns-in-Ok-clause-step : goal.returns-in-Ok-clause-step
@@ -55,7 +56,7 @@ returns-in-Ok-clause-step c =
     let unlisted : is_listed c.args.self.now.failing.items number ≡ false =
     sym listed_in ∙ sym c.count_call.ensures.listed ∙ c.if-count_call.false in
     let state =
-    placed_state file.log.items new.log.items file.bytes.items new.bytes.items bytes at inside c.in-Ok.ensures.ok c.in-Ok.ensures.noted in
+    placed_state (past_in file.log) (past_in new.log) file.bytes.items new.bytes.items bytes at inside c.in-Ok.ensures.ok c.in-Ok.ensures.noted in
     record {
       file = moved Zero c.args.side (files_of old) at bytes _ c.in-Zero.is state;
       made = c.count_call.ensures.made;
@@ -74,8 +75,8 @@ returns-in-Ok-place-clause-crash c =
     let inside : c.args.at ≤ length c.args.self.now.one.bytes.items =
     subst (λ (s : Side). c.args.at ≤ length (on s (read_of c.args.self.now))) c.in-One.is (c.requires tt) in
     let crash =
-    placed_crash file.log.items new.log.items file.bytes.items new.bytes.items bytes at inside c.in-Ok-place.ensures.ok c.in-Ok-place.ensures.noted in
-    placed_given One c.args.side (past_of old) (read_of old) (reverse new.log.items) new.bytes.items at (length bytes) c.in-One.is crash
+    placed_crash (past_in file.log) (past_in new.log) file.bytes.items new.bytes.items bytes at inside c.in-Ok-place.ensures.ok c.in-Ok-place.ensures.noted in
+    placed_given One c.args.side (past_of old) (read_of old) (past_in new.log) new.bytes.items at (length bytes) c.in-One.is crash
 
 pub returns-in-Ok-place-clause-time : goal.returns-in-Ok-place-clause-time
 returns-in-Ok-place-clause-time c =
@@ -87,12 +88,12 @@ returns-in-Ok-place-clause-time c =
     let inside : c.args.at ≤ length c.args.self.now.one.bytes.items =
     subst (λ (s : Side). c.args.at ≤ length (on s (read_of c.args.self.now))) c.in-One.is (c.requires tt) in
     let order = c.place-in-One.new.order.items in
-    let past = past_is file.log.items new.log.items file.bytes.items new.bytes.items bytes at inside c.in-Ok-place.ensures.ok c.in-Ok-place.ensures.noted in
+    let past = c.in-Ok-place.ensures.noted in
     let back =
-    placed_back file.log.items new.log.items file.bytes.items new.bytes.items bytes at inside c.in-Ok-place.ensures.ok c.in-Ok-place.ensures.noted in
+    placed_back (past_in file.log) (past_in new.log) file.bytes.items new.bytes.items bytes at inside c.in-Ok-place.ensures.ok c.in-Ok-place.ensures.noted in
     let more = order_more old.order.items One c.args.side order c.in-Ok-place.ensures.order c.in-One.is in
-    let call = Overwrote c.in-Ok-place.ensures.noted.0 in
-    placed_elapses One (reverse old.order.items) (reverse order) (past_of old) (read_of old) (reverse new.log.items) call new.bytes.items
+    let call = Overwrote (overwrite_at at bytes file.bytes.items) in
+    placed_elapses One (reverse old.order.items) (reverse order) (past_of old) (read_of old) (past_in new.log) call new.bytes.items
     more past back
 
 pub returns-in-Ok-place-clause-step : goal.returns-in-Ok-place-clause-step
@@ -110,7 +111,7 @@ returns-in-Ok-place-clause-step c =
     let unlisted : is_listed c.args.self.now.failing.items number ≡ false =
     sym listed_in ∙ sym c.count_call.ensures.listed ∙ c.if-count_call.false in
     let state =
-    placed_state file.log.items new.log.items file.bytes.items new.bytes.items bytes at inside c.in-Ok-place.ensures.ok c.in-Ok-place.ensures.noted in
+    placed_state (past_in file.log) (past_in new.log) file.bytes.items new.bytes.items bytes at inside c.in-Ok-place.ensures.ok c.in-Ok-place.ensures.noted in
     record {
       file = moved One c.args.side (files_of old) at bytes _ c.in-One.is state;
       made = c.count_call.ensures.made;

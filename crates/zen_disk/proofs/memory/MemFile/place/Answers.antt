@@ -1,3 +1,4 @@
+use Rattle.zen_disk.specs.UndoLog.{past_in}
 use Rattle.zen_disk.proofs.UndoLogLemmas.{placed_either}
 use Rattle.zen_disk.proofs.memory.MemFile.place.Goals as goal
 
@@ -7,6 +8,6 @@ invariant_of-self c =
     let new = c.write_over.new in
     let clauses = c.write_over.ensures in
     record {
-      proper = placed_either c.write_over.result file.log.items new.log.items file.bytes.items new.file.items c.args.bytes.now c.args.at c.requires
+      proper = placed_either c.write_over.result (past_in file.log) (past_in new.log) file.bytes.items new.file.items c.args.bytes.now c.args.at c.requires
           clauses.ok clauses.noted clauses.err clauses.err_log file.proper;
     }
