@@ -17,7 +17,7 @@ use Rattle.cluster_state.specs.Json.{master_json, setting_members, value_json, s
 
 -- ---- no float
 
-no_float_texts : (xs : List Id) → items_have_float (items_of (map string xs)) ≡ false
+pub no_float_texts : (xs : List Id) → items_have_float (items_of (map string xs)) ≡ false
 no_float_texts [] = refl
 no_float_texts (x ∷ xs) = no_float_texts xs
 

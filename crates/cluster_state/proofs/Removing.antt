@@ -9,10 +9,11 @@ use Rattle.std.specs.Str.{bytes_eq}
 use Rattle.std.specs.declared.alloc.Global.{Global}
 use Rattle.std.proofs.lemmas.Bool.{and_parts, and_from, or_parts}
 use Rattle.voting_config.specs.Ids.{before, is_below, ascends, has}
+use Rattle.voting_config.proofs.Sorted.{is_below-absent}
 use Rattle.cluster_state.specs.Settings.{Setting, setting_of, has_texts, without_key, IsSettings}
 use Rattle.cluster_state.proofs.JsonLaws.{keys, ascending_keys}
 use Rattle.cluster_state.proofs.Fitting.{ascends_from-keys}
-use Rattle.cluster_state.proofs.Putting.{eq_flipped, absent_below}
+use Rattle.cluster_state.proofs.Putting.{eq_flipped}
 
 -- no setting has the key
 without_absent : (key : List ℕ) (ss : List Setting) → has key (keys ss) ≡ false → without_key key ss ≡ ss
@@ -32,7 +33,7 @@ map-remove_entry key (e ∷ es) h =
     elim (bytes_eq (string_bytes e.0) key) as (λ b. bytes_eq (string_bytes e.0) key ≡ b → map setting_of (cond b es (e ∷ rest)) ≡ cond (not b) (setting_of e ∷ without_key key (map setting_of es)) (without_key key (map setting_of es))) [
       | true ↦ λ same.
           let below : is_below key (keys (map setting_of es)) ≡ true = subst (λ (k : List ℕ). is_below k (keys (map setting_of es)) ≡ true) (same_text (string_bytes e.0) key (sym same)) parts.0 in
-          sym (without_absent key (map setting_of es) (absent_below key (keys (map setting_of es)) below))
+          sym (without_absent key (map setting_of es) (is_below-absent key (keys (map setting_of es)) below))
       | false ↦ λ other. ap (λ t. setting_of e ∷ t) (map-remove_entry key es parts.1)
     ] refl in
     ap (λ b. map setting_of (cond b es (e ∷ rest))) (eq_flipped key (string_bytes e.0)) ∙ cases

@@ -42,7 +42,7 @@ pub is_found : {A : Type 0} (f : Field A) → IsField f → (bytes : List ℕ) (
 is_found f law bytes (Ok x) fits exact = whole_takes f law bytes x fits exact
 is_found f law bytes (Err e) fits exact = tt
 
-fit_entries : (xs : List Setting) → AllByRecursion setting.Fits xs → AllByRecursion IsFitSetting xs
+pub fit_entries : (xs : List Setting) → AllByRecursion setting.Fits xs → AllByRecursion IsFitSetting xs
 fit_entries [] h = tt
 fit_entries (x ∷ xs) h = (record { key = h.0.0.0; short_key = h.0.0.1; short_value = h.0.1.1 }, fit_entries xs h.1)
 
