@@ -2,17 +2,13 @@
 use Rattle.std.proofs.Common.{◌≡◌, ◌≢◌, refl, sym, ◌∙◌, ap, subst, ℕ, zero, suc, ◌+◌, ◌<◌, ◌≤◌, get_or, drop, drop-cons, add-one, not, Bool, true, false, cond, List, [], ◌∷◌, ◌++◌, length, map, take, append_assoc, arith}
 use Rattle.std.specs.Prelude.{◌==◌}
 use Rattle.std.specs.List.{list_all}
-use Rattle.std.proofs.lemmas.Bool.{and_parts, and_from, ne_eqb}
+use Rattle.std.proofs.lemmas.Bool.{and_parts, and_from, ne_eqb, not-true}
 use Rattle.std.proofs.lemmas.List.{append-nil, length-append, drop_all}
 use Rattle.client_lines.specs.Lines.{Cut, in_front, cut, kept, lines_of, rest_of, IsHeld}
 use Rattle.client_lines.specs.Laws.{CutsAnywhere}
 
 abbrev has_no_feed : List ℕ → Bool
 has_no_feed xs = list_all (λ b. not (b == 10)) xs
-
-not_feed : (b : Bool) → not b ≡ true → b ≡ false
-not_feed true h = cc
-not_feed false h = refl
 
 is_other : (b : Bool) → b ≡ false → not b ≡ true
 is_other true h = cc
@@ -63,7 +59,7 @@ cut-held : (xs bytes : List ℕ) → has_no_feed xs ≡ true → cut (xs ++ byte
 cut-held [] bytes h = behind-nil (cut bytes).ended (cut bytes).rest
 cut-held (x ∷ xs) bytes h =
     let parts : (not (x == 10) ≡ true) × (has_no_feed xs ≡ true) = and_parts (not (x == 10)) (has_no_feed xs) h in
-    cut-other x (xs ++ bytes) (not_feed (x == 10) parts.0)
+    cut-other x (xs ++ bytes) (not-true (x == 10) parts.0)
     ∙ ap (λ (c : Cut). in_front x c.ended c.rest) (cut-held xs bytes parts.1)
     ∙ behind-cons x xs (cut bytes).ended (cut bytes).rest
 

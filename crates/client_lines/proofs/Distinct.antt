@@ -1,7 +1,7 @@
 -- Lists of distinct ids.
 use Rattle.std.proofs.Common.{◌≡◌, refl, ◌∙◌, ap, not, Bool, true, false, ◌||◌, List, [], ◌∷◌, ◌++◌}
 use Rattle.std.proofs.Math.Bool.{or-false, and-false}
-use Rattle.std.proofs.lemmas.Bool.{and_parts, and_from, or_parts}
+use Rattle.std.proofs.lemmas.Bool.{and_parts, and_from, or_parts, or_right}
 use Rattle.std.proofs.lemmas.List.Folds.{list_any-append}
 use Rattle.std.specs.Cmp.Lexicographic.{nat_list_eq_equiv}
 use Rattle.voting_config.specs.Ids.{Id, same, has}
@@ -10,10 +10,6 @@ use Rattle.client_lines.specs.Requests.{are_distinct}
 pub has-append : (q : Id) (xs ys : List Id) → has q (xs ++ ys) ≡ (has q xs || has q ys)
 has-append q xs ys = list_any-append (λ y. same y q) xs ys
 
-or-true : (a b : Bool) → b ≡ true → (a || b) ≡ true
-or-true true b h = refl
-or-true false b h = h
-
 -- an id that stands before and again
 pub are_distinct-again : (x : Id) (front rest : List Id) → has x front ≡ true → are_distinct (front ++ x ∷ rest) ≡ false
 are_distinct-again x [] rest h = absurd (cc)
@@ -21,7 +17,7 @@ are_distinct-again x (y ∷ ys) rest h =
     elim (same y x) as (λ b. same y x ≡ b → are_distinct ((y ∷ ys) ++ x ∷ rest) ≡ false) [
       | true ↦ λ e.
           let here : has y (x ∷ rest) ≡ true = rw (nat_list_eq_equiv.symm x y, e) refl in
-          let again : has y (ys ++ x ∷ rest) ≡ true = has-append y ys (x ∷ rest) ∙ or-true (has y ys) _ here in
+          let again : has y (ys ++ x ∷ rest) ≡ true = has-append y ys (x ∷ rest) ∙ or_right (has y ys) _ here in
           rw again refl
       | false ↦ λ e.
           let later : has x ys ≡ true = rw e at h in

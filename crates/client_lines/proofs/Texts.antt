@@ -1,11 +1,9 @@
 -- The texts of replies.
-use Rattle.std.proofs.Common.{◌≡◌, ◌∙◌, refl, ap, ℕ, List, [], ◌∷◌, ◌++◌, map, false, append_assoc, codes}
+use Rattle.std.proofs.Common.{◌≡◌, ◌∙◌, ap, ℕ, List, ◌++◌, append_assoc, codes}
 use Rattle.std.specs.Prelude.{decimal}
-use Rattle.serde_json.specs.Data.{Data, string}
-use Rattle.serde_json.specs.View.{items_of}
-use Rattle.serde_json.specs.Written.{compact_text, items_have_float}
+use Rattle.serde_json.specs.Data.{Data}
+use Rattle.serde_json.specs.Written.{compact_text}
 use Rattle.serde_json.proofs.OnLiterals.{serde_json_on_literals}
-use Rattle.voting_config.specs.Ids.{Id}
 use Rattle.client_lines.specs.Replies.{beside_id, number_json, text_of}
 
 joined : (a b c d : List ℕ) → ((a ++ b) ++ c) ++ d ≡ a ++ (b ++ (c ++ d))
@@ -16,7 +14,3 @@ pub beside_state-text : (id : ℕ) (state : Data) (a b : List ℕ) → a ≡ tex
 unfolding serde_json_on_literals beside_id text_of
 beside_state-text id state a b is_id is_state =
     rw (is_id, is_state) (ap (λ t. codes "{\"id\":" ++ t) (joined (decimal id) (codes ",\"state\":") (compact_text state) (codes "}")))
-
-pub no_float_in_texts : (xs : List Id) → items_have_float (items_of (map string xs)) ≡ false
-no_float_in_texts [] = refl
-no_float_in_texts (x ∷ xs) = no_float_in_texts xs
