@@ -1,5 +1,6 @@
 -- A stream is the same frames, however it is cut.
 use Rattle.std.proofs.Common.{◌≡◌, ℕ, zero, suc, ◌-◌, ◌<◌, ◌≤◌, Bool, true, false, cond, nat_lt, ◌⊎◌, inl, inr, Result, Ok, Err, List, [], ◌∷◌, ◌++◌, length, take, drop, refl, sym, ap, ◌∙◌, arith, append_assoc, length-append, length-drop}
+use Rattle.std.proofs.lemmas.Bool.{ltb-false, le-ltb}
 use Rattle.std.proofs.lemmas.List.{take-append-le, drop-append-le}
 use Rattle.std.specs.Int.{w32, from_be_bytes}
 use Rattle.wire_frames.specs.declared.fault.FrameFault.{FrameFault}
@@ -47,19 +48,13 @@ faulty_by false false true r rest fault e = absurd cc
 faulty_by false false false (Err x) rest fault e = record { four = refl; cause = inr (record { fits = refl; there = refl; body = cc }) }
 faulty_by false false false (Ok f) rest fault e = absurd cc
 
-pub at_least : (m n : ℕ) → nat_lt m n ≡ false → n ≤ m
-at_least m n e = grind arith
-
-pub not_below : (m n : ℕ) → n ≤ m → nat_lt m n ≡ false
-not_below m n h = grind arith
-
 -- what is there stays there, whatever follows
 module _ (bytes more : List ℕ) (four : nat_lt (length bytes) 4 ≡ false) where
   four_bytes_there : 4 ≤ length bytes
-  four_bytes_there = at_least (length bytes) 4 four
+  four_bytes_there = ltb-false (length bytes) 4 four
 
   pub four-append : nat_lt (length (bytes ++ more)) 4 ≡ false
-  four-append = not_below _ _ (omega (arith, four_bytes_there, length-append bytes more))
+  four-append = le-ltb _ _ (omega (arith, four_bytes_there, length-append bytes more))
 
   pub said-append : said_length (bytes ++ more) ≡ said_length bytes
   said-append = ap (from_be_bytes w32) (take-append-le 4 bytes more four_bytes_there)
@@ -68,13 +63,13 @@ module _ (bytes more : List ℕ) (four : nat_lt (length bytes) 4 ≡ false) wher
   rest-append = drop-append-le 4 bytes more four_bytes_there
 
   there-append : nat_lt (length (drop 4 bytes)) (said_length bytes) ≡ false → nat_lt (length (drop 4 (bytes ++ more))) (said_length (bytes ++ more)) ≡ false
-  there-append there = rw (said-append, rest-append) (not_below _ _ (omega (arith, at_least (length (drop 4 bytes)) (said_length bytes) there, length-append (drop 4 bytes) more)))
+  there-append there = rw (said-append, rest-append) (le-ltb _ _ (omega (arith, ltb-false (length (drop 4 bytes)) (said_length bytes) there, length-append (drop 4 bytes) more)))
 
   body-append : nat_lt (length (drop 4 bytes)) (said_length bytes) ≡ false → take (said_length (bytes ++ more)) (drop 4 (bytes ++ more)) ≡ take (said_length bytes) (drop 4 bytes)
-  body-append there = rw (said-append, rest-append) (take-append-le (said_length bytes) (drop 4 bytes) more (at_least (length (drop 4 bytes)) (said_length bytes) there))
+  body-append there = rw (said-append, rest-append) (take-append-le (said_length bytes) (drop 4 bytes) more (ltb-false (length (drop 4 bytes)) (said_length bytes) there))
 
   after-append : nat_lt (length (drop 4 bytes)) (said_length bytes) ≡ false → drop (said_length (bytes ++ more)) (drop 4 (bytes ++ more)) ≡ drop (said_length bytes) (drop 4 bytes) ++ more
-  after-append there = rw (said-append, rest-append) (drop-append-le (said_length bytes) (drop 4 bytes) more (at_least (length (drop 4 bytes)) (said_length bytes) there))
+  after-append there = rw (said-append, rest-append) (drop-append-le (said_length bytes) (drop 4 bytes) more (ltb-false (length (drop 4 bytes)) (said_length bytes) there))
 
 -- a frame at the start stays there, whatever follows
 pub whole-append : (bytes more : List ℕ) (frame : Frame) (after : List ℕ) → front_of bytes ≡ Whole frame after → front_of (bytes ++ more) ≡ Whole frame (after ++ more)
@@ -101,7 +96,7 @@ faulty-append bytes more fault e =
 pub whole-shorter : (bytes : List ℕ) (frame : Frame) (after : List ℕ) → front_of bytes ≡ Whole frame after → length after < length bytes
 whole-shorter bytes frame after e =
     let h = whole_by _ _ _ (frame_of (take (said_length bytes) (drop 4 bytes))) (drop (said_length bytes) (drop 4 bytes)) frame after e in
-    let four : 4 ≤ length bytes = at_least (length bytes) 4 h.four in
+    let four : 4 ≤ length bytes = ltb-false (length bytes) 4 h.four in
     let size : length after ≡ length bytes - 4 - said_length bytes = rw (sym h.next, length-drop, length-drop) refl in
     omega arith
 

@@ -1,5 +1,6 @@
 -- A spelled frame before other bytes.
 use Rattle.std.proofs.Common.{◌≡◌, ℕ, ◌<◌, ◌≤◌, ◌^◌, nat_lt, false, List, [], ◌∷◌, ◌++◌, length, drop, refl, sym, ap, subst, ◌∙◌, arith, append_assoc, length-append}
+use Rattle.std.proofs.lemmas.Bool.{le-ltb}
 use Rattle.std.proofs.lemmas.List.{take_at, drop_at}
 use Rattle.std.proofs.lemmas.Nat.{from_be_bytes-to_be_bytes_4}
 use Rattle.std.specs.Int.{w32, from_be_bytes}
@@ -8,7 +9,7 @@ use Rattle.wire_frames.specs.Frames.{most_body, four_bytes, SpellsBody, SpellsFr
 use Rattle.wire_frames.specs.Streams.{Whole, said_length, front_with, front_of, prepend, stream}
 use Rattle.wire_frames.proofs.FrameLaws.{frame_again, one_body}
 use Rattle.wire_frames.proofs.Sizes.{body_short}
-use Rattle.wire_frames.proofs.Cutting.{not_below, stream-front}
+use Rattle.wire_frames.proofs.Cutting.{stream-front}
 
 pub length-four : (n : ℕ) → length (four_bytes n) ≡ 4
 unfolding four_bytes
@@ -39,11 +40,11 @@ pub front-read : (body more : List ℕ) → length body ≤ most_body → front_
 front-read body more fits =
     let size = length body in
     let all = four_bytes size ++ (body ++ more) in
-    let four : nat_lt (length all) 4 ≡ false = not_below _ _ (omega (arith, length-append (four_bytes size) (body ++ more), length-four size)) in
+    let four : nat_lt (length all) 4 ≡ false = le-ltb _ _ (omega (arith, length-append (four_bytes size) (body ++ more), length-four size)) in
     let said : said_length all ≡ size = said-four size (body ++ more) (omega arith) in
     let rest : drop 4 all ≡ body ++ more = rest-four size (body ++ more) in
-    let in_limit : nat_lt most_body size ≡ false = not_below _ _ fits in
-    let there : nat_lt (length (body ++ more)) size ≡ false = not_below _ _ (omega (arith, length-append body more)) in
+    let in_limit : nat_lt most_body size ≡ false = le-ltb _ _ fits in
+    let there : nat_lt (length (body ++ more)) size ≡ false = le-ltb _ _ (omega (arith, length-append body more)) in
     rw (four, said, in_limit, rest, there, take_at body more size refl, drop_at body more size refl) refl
 
 pub first_frame : (f : Frame) (bytes more : List ℕ) → SpellsFrame f bytes → stream (bytes ++ more) ≡ prepend (f ∷ []) (stream more)

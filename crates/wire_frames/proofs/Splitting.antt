@@ -1,7 +1,7 @@
 -- A stream is what its bytes split into.
 use Rattle.std.proofs.Common.{◌≡◌, ℕ, zero, suc, ◌<◌, ◌≤◌, ◌^◌, Bool, true, false, nat_lt, ◌⊎◌, inl, inr, Result, Ok, Err, List, [], ◌∷◌, ◌++◌, length, take, drop, refl, sym, ap, subst, ◌∙◌, arith, append_assoc, length-append}
 use Rattle.std.specs.Prelude.{All}
-use Rattle.std.proofs.lemmas.Bool.{cases_lt, lt-ltb}
+use Rattle.std.proofs.lemmas.Bool.{cases_lt, lt-ltb, ltb-true, ltb-false, le-ltb}
 use Rattle.std.proofs.lemmas.List.{take-append-drop, length-take-le, get_or_past}
 use Rattle.std.proofs.lemmas.Nat.{be_bytes_4}
 use Rattle.cluster_state.proofs.Laws.{IsBytes, IsBytes-rest, IsBytes-take}
@@ -11,7 +11,7 @@ use Rattle.wire_frames.specs.Frames.{most_body, four_bytes, SpellsFrame, frame_o
 use Rattle.wire_frames.specs.Streams.{Front, Unfinished, Faulty, Whole, said_length, front_with, front_of, Ending, Rest, Fault, Stream, prepend, stream_with_front, stream, IsStream}
 use Rattle.wire_frames.specs.Splits.{IsPartial, BeginsTooLong, BeginsNoFrame, IsEnding, Splits}
 use Rattle.wire_frames.proofs.FrameLaws.{frame_takes}
-use Rattle.wire_frames.proofs.Cutting.{front_by, whole_by, faulty_by, at_least, not_below, whole-shorter, stream-with_front, stream-front}
+use Rattle.wire_frames.proofs.Cutting.{front_by, whole_by, faulty_by, whole-shorter, stream-with_front, stream-front}
 use Rattle.wire_frames.proofs.Spelled.{length-four, said-four, rest-four, front-read, first_frame}
 
 -- ---- what splits is the stream
@@ -20,9 +20,9 @@ partial_front : (bytes : List ℕ) → IsPartial bytes → front_of bytes ≡ Un
 partial_front bytes (inl few) = rw (lt-ltb _ _ few) refl
 partial_front bytes (inr h) =
     let all = four_bytes h.size ++ h.part in
-    let four : nat_lt (length all) 4 ≡ false = not_below _ _ (omega (arith, length-append (four_bytes h.size) h.part, length-four h.size)) in
+    let four : nat_lt (length all) 4 ≡ false = le-ltb _ _ (omega (arith, length-append (four_bytes h.size) h.part, length-four h.size)) in
     let said : said_length all ≡ h.size = said-four h.size h.part (omega (arith, h.fits)) in
-    let fits : nat_lt most_body h.size ≡ false = not_below _ _ h.fits in
+    let fits : nat_lt most_body h.size ≡ false = le-ltb _ _ h.fits in
     let short : nat_lt (length h.part) h.size ≡ true = lt-ltb _ _ h.short in
     let rest : drop 4 all ≡ h.part = rest-four h.size h.part in
     ap front_of h.whole ∙ rw (four, said, fits, rest, short) refl
@@ -30,7 +30,7 @@ partial_front bytes (inr h) =
 too_long_front : (bytes : List ℕ) (fault : FrameFault) → BeginsTooLong bytes fault → front_of bytes ≡ Faulty fault
 too_long_front bytes fault h =
     let all = four_bytes h.size ++ h.more in
-    let four : nat_lt (length all) 4 ≡ false = not_below _ _ (omega (arith, length-append (four_bytes h.size) h.more, length-four h.size)) in
+    let four : nat_lt (length all) 4 ≡ false = le-ltb _ _ (omega (arith, length-append (four_bytes h.size) h.more, length-four h.size)) in
     let said : said_length all ≡ h.size = said-four h.size h.more h.small in
     let long : nat_lt most_body h.size ≡ true = lt-ltb _ _ h.long in
     ap front_of h.whole ∙ rw (four, said, long, h.is) refl
@@ -74,42 +74,39 @@ unfinished_by false false true front rest e = inr (refl, refl, refl)
 unfinished_by false false false (Ok f) rest e = absurd cc
 unfinished_by false false false (Err d) rest e = absurd cc
 
-below : (m n : ℕ) → nat_lt m n ≡ true → m < n
-below m n e = grind arith
-
 front_partial : (bytes : List ℕ) → IsBytes bytes → front_of bytes ≡ Unfinished → IsPartial bytes
 front_partial bytes fits e =
     elim (unfinished_by _ _ _ (frame_of (take (said_length bytes) (drop 4 bytes))) (drop (said_length bytes) (drop 4 bytes)) e) [
-      | inl few ↦ inl (below _ _ few)
+      | inl few ↦ inl (ltb-true _ _ few)
       | inr h ↦ inr (record {
         size = said_length bytes;
         part = drop 4 bytes;
-        whole = length_in_front bytes fits (at_least (length bytes) 4 h.0);
-        fits = at_least most_body (said_length bytes) h.1;
-        short = below (length (drop 4 bytes)) (said_length bytes) h.2;
+        whole = length_in_front bytes fits (ltb-false (length bytes) 4 h.0);
+        fits = ltb-false most_body (said_length bytes) h.1;
+        short = ltb-true (length (drop 4 bytes)) (said_length bytes) h.2;
       })
     ]
 
 front_fault : (bytes : List ℕ) (fault : FrameFault) → IsBytes bytes → front_of bytes ≡ Faulty fault → IsEnding (Fault fault) bytes
 front_fault bytes fault fits e =
     let h = faulty_by _ _ _ (frame_of (take (said_length bytes) (drop 4 bytes))) (drop (said_length bytes) (drop 4 bytes)) fault e in
-    let long = at_least (length bytes) 4 h.four in
+    let long = ltb-false (length bytes) 4 h.four in
     elim h.cause [
       | inl over ↦ inl (record {
         size = said_length bytes;
         more = drop 4 bytes;
         whole = length_in_front bytes fits long;
         small = said_small bytes fits long;
-        long = below most_body (said_length bytes) over.0;
+        long = ltb-true most_body (said_length bytes) over.0;
         is = sym over.1;
       })
       | inr bad ↦
-          let there = at_least (length (drop 4 bytes)) (said_length bytes) bad.there in
+          let there = ltb-false (length (drop 4 bytes)) (said_length bytes) bad.there in
           inr (record {
             body = take (said_length bytes) (drop 4 bytes);
             more = drop (said_length bytes) (drop 4 bytes);
             whole = body_in_front bytes fits long there;
-            fits = omega (arith, length-take-le (said_length bytes) (drop 4 bytes) there, at_least most_body (said_length bytes) bad.fits);
+            fits = omega (arith, length-take-le (said_length bytes) (drop 4 bytes) there, ltb-false most_body (said_length bytes) bad.fits);
             is = bad.body;
           })
     ]
@@ -124,8 +121,8 @@ front_cut : (bytes : List ℕ) (frame : Frame) (after : List ℕ) → IsBytes by
 front_cut bytes frame after fits e =
     let body = take (said_length bytes) (drop 4 bytes) in
     let h = whole_by _ _ _ (frame_of body) (drop (said_length bytes) (drop 4 bytes)) frame after e in
-    let long = at_least (length bytes) 4 h.four in
-    let there = at_least (length (drop 4 bytes)) (said_length bytes) h.there in
+    let long = ltb-false (length bytes) 4 h.four in
+    let there = ltb-false (length (drop 4 bytes)) (said_length bytes) h.there in
     let fits_rest = IsBytes-rest bytes (four_bytes (said_length bytes)) (drop 4 bytes) (length_in_front bytes fits long) fits in
     record {
       first = four_bytes (length body) ++ body;
