@@ -3,6 +3,7 @@ use Rattle.std.proofs.Common.{◌≡◌, ℕ, zero, suc, ◌+◌, min, Bool, tru
 use Rattle.std.specs.Prelude.{filter, is_none, nat_le}
 use Rattle.std.specs.List.{list_all}
 use Rattle.std.specs.Cmp.Lexicographic.{same_text}
+use Rattle.std.proofs.lemmas.Bool.{and_right}
 use Rattle.voting_config.specs.Ids.{Id, has, same}
 use Rattle.fault_checks.specs.declared.checking.Check.{Check}
 use Rattle.fault_checks.specs.declared.followers.Follower.{Follower}
@@ -93,10 +94,6 @@ record Ticks (t : Check) (now : ℕ) (before later : List Happening) : Type 0 wh
 not-due : (now : ℕ) → nat_le (now + check_interval) now ≡ false
 not-due now = grind arith
 
-and-false : (a b : Bool) → b ≡ false → (a && b) ≡ false
-and-false true b e = e
-and-false false b e = refl
-
 flipped : (a b : Bool) → (not a && b) ≡ (b && not a)
 flipped true true = refl
 flipped true false = refl
@@ -111,7 +108,7 @@ overdue-some (Some asked) now e = refl
 -- at a tick that finds a check overdue no other is sent
 overdue : (c : Check) (h : List Happening) (now : ℕ) → Agrees c h → is_overdue c.asked now ≡ true → Ticks (failed_at c now) now h (TimedOut now ∷ h)
 overdue c h now a late =
-    let none : (not (has_failed (failed_at c now)) && is_due (failed_at c now) now) ≡ false = and-false _ _ (not-due now) in
+    let none : (not (has_failed (failed_at c now)) && is_due (failed_at c now) now) ≡ false = and_right _ _ (not-due now) in
     let idle : is_due c now ≡ false = ap (λ b. b && nat_le (c.since + check_interval) now) (overdue-some c.asked now late) in
     let silent : sends h now ≡ false = ap (λ b. b && not (last_three_failed h)) (sym (a.due now) ∙ idle) in
     record {

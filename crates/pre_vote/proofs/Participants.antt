@@ -1,5 +1,6 @@
 -- The voters and the others of a round are, together, the node and all that have answered.
 use Rattle.std.proofs.Common.{◌≡◌, ℕ, ◌+◌, Bool, true, false, not, ◌&&◌, ◌||◌, List, [], ◌∷◌, length, refl, sym, ◌∙◌, ap, cond, arith, nat_lt}
+use Rattle.std.proofs.Math.Bool.{and_comm, or_comm, and-false, or-false}
 use Rattle.voting_config.specs.Ids.{Id, has, same, before, ascends, with_id, without_id, most_ids}
 use Rattle.voting_config.proofs.Sorted.{has-with_id, ascends-with_id, ascends-without_id}
 use Rattle.voting_config.proofs.Sets.{has-without_id, length-with_id, length-without_id-is}
@@ -15,23 +16,12 @@ record IsInTwo (to from both : List Id) : Type 0 where
   ids : (q : Id) → has q both ≡ (has q to || has q from)
   sizes : length both ≡ length to + length from
 
-and_swapped : (a b : Bool) → (a && b) ≡ false → (b && a) ≡ false
-and_swapped true b h = rw h refl
-and_swapped false true h = refl
-and_swapped false false h = refl
-
-or_swapped : (a b : Bool) → (a || b) ≡ (b || a)
-or_swapped true true = refl
-or_swapped true false = refl
-or_swapped false true = refl
-or_swapped false false = refl
-
 turned : (to from both : List Id) → IsInTwo to from both → IsInTwo from to both
 turned to from both h = record {
   to_ascends = h.from_ascends;
   from_ascends = h.to_ascends;
-  apart = λ q. and_swapped (has q to) (has q from) (h.apart q);
-  ids = λ q. h.ids q ∙ or_swapped (has q to) (has q from);
+  apart = λ q. and_comm (has q from) (has q to) ∙ h.apart q;
+  ids = λ q. h.ids q ∙ or_comm (has q to) (has q from);
   sizes = omega (arith, h.sizes);
 }
 
@@ -73,20 +63,12 @@ moved x to from both h = record {
       ∙ ap (λ n. n + length (without_id x from)) (sym (length-with_id x to));
 }
 
-and_none : (b : Bool) → (b && false) ≡ false
-and_none true = refl
-and_none false = refl
-
-or_none : (b : Bool) → b ≡ (b || false)
-or_none true = refl
-or_none false = refl
-
 in_two : (calls : Calls) → IsInTwo (voters_of calls) (others_of calls) (participants_of calls)
 in_two (Start me last term) = record {
   to_ascends = refl;
   from_ascends = refl;
-  apart = λ q. and_none (has q (me ∷ []));
-  ids = λ q. or_none (has q (me ∷ []));
+  apart = λ q. and-false (has q (me ∷ []));
+  ids = λ q. sym (or-false (has q (me ∷ [])));
   sizes = omega arith;
 }
 in_two (Add before source term last) =
