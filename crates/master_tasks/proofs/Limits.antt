@@ -1,5 +1,5 @@
 -- A value within the limits stays so, if no request is to put a bad setting.
-use Rattle.std.proofs.Common.{◌≡◌, ℕ, suc, ◌+◌, ◌<◌, ◌≤◌, ◌⊎◌, inl, inr, Bool, true, false, not, ◌&&◌, cond, Option, None, Some, Result, Ok, Err, List, [], ◌∷◌, ◌++◌, length, filter, fold, find, refl, subst, nat_le, nat_lt, arith}
+use Rattle.std.proofs.Common.{◌≡◌, ℕ, zero, suc, ◌+◌, ◌<◌, ◌≤◌, ◌⊎◌, inl, inr, Bool, true, false, not, ◌&&◌, cond, Option, None, Some, Result, Ok, Err, List, [], ◌∷◌, ◌++◌, length, filter, fold, find, slice_get, refl, subst, nat_le, nat_lt, arith}
 use Rattle.std.specs.Prelude.{if◌then◌else◌}
 use Rattle.std.specs.List.{AllByRecursion}
 use Rattle.std.proofs.lemmas.Bool.Decides.{nat_tests}
@@ -125,7 +125,7 @@ fits_once accepted v w f good =
       | false ↦ fits_ask accepted v w.request.ask f good
     ]
 
-value_then : (p : Processed) (w : Waiting) (step : Processing) → value_after p.value step ≡ (and_then p w step).value
+pub value_then : (p : Processed) (w : Waiting) (step : Processing) → value_after p.value step ≡ (and_then p w step).value
 value_then p w (AnsweredAtOnce a) = refl
 value_then p w (Makes v) = refl
 
@@ -145,6 +145,11 @@ fits_next l t fit up good =
 pub each_append : {A : Type 0} (P : A → Type 0) (xs ys : List A) → AllByRecursion P xs → AllByRecursion P ys → AllByRecursion P (xs ++ ys)
 each_append P [] ys h k = k
 each_append P (x ∷ xs) ys h k = (h.0, each_append P xs ys h.1 k)
+
+pub each_at : {A : Type 0} (P : A → Type 0) (xs : List A) (i : ℕ) (x : A) → AllByRecursion P xs → slice_get xs i ≡ Some x → P x
+each_at P [] i x h e = absurd (cc)
+each_at P (y ∷ ys) zero x h e = let is : y ≡ x = cc in subst P is h.0
+each_at P (y ∷ ys) (suc i) x h e = each_at P ys i x h.1 e
 
 good_then : (p : Processed) (w : Waiting) (step : Processing) → HaveGoodSettings p.waiting → bad_setting_of w.request.ask ≡ None → HaveGoodSettings (and_then p w step).waiting
 good_then p w (AnsweredAtOnce a) h good = h

@@ -1,7 +1,7 @@
 -- A history is legal where each node acts as it may by itself, and each message is sent before it is taken.
 use Rattle.std.proofs.Common.{◌≡◌, ◌↔◌, Bool, true, false, cond, List, refl, subst}
 use Rattle.voting_config.specs.Ids.{Id, same}
-use Rattle.world_model.specs.Acts.{Act, Outcome, NodeHistory, Bootstrap, Open, NoActs, Then}
+use Rattle.world_model.specs.Acts.{Act, Outcome, NodeHistory, Bootstrap, Open, NoActs, Then, is_opening}
 use Rattle.world_model.specs.Histories.{History, NoEntries, Next, node_history, Continues, ContinuesUnlessFirst, IsLocal, MayHappen, IsLegal}
 use Rattle.world_model.specs.Local.{BeginsEmpty, IsSourcedAll}
 use Rattle.voting_config.proofs.Sets.{same_is}
@@ -14,6 +14,11 @@ not_first NoActs (Bootstrap config) o c b = tt
 not_first NoActs a o c b = tt
 not_first (Then g d u) a o c b = c
 
+pub goes_on_always : (g : NodeHistory) (a : Act) → is_opening a ≡ false → ContinuesUnlessFirst g a
+goes_on_always NoActs a c = tt
+goes_on_always (Then g d u) (Open found) c = cc
+goes_on_always (Then g d u) a c = tt
+
 unless_first : (g : NodeHistory) (a : Act) → Continues g a → ContinuesUnlessFirst g a
 unless_first NoActs a c = tt
 unless_first (Then g d u) a c = c
@@ -23,7 +28,7 @@ begins_more NoActs (Open found) o c b = c
 begins_more NoActs a o c b = tt
 begins_more (Then g d u) a o c b = b
 
-begins_less : (g : NodeHistory) (a : Act) (o : Outcome) → BeginsEmpty (Then g a o) → BeginsEmpty g
+pub begins_less : (g : NodeHistory) (a : Act) (o : Outcome) → BeginsEmpty (Then g a o) → BeginsEmpty g
 begins_less NoActs a o b = tt
 begins_less (Then g d u) a o b = b
 

@@ -100,7 +100,7 @@ module _ (h : History) (root : ClusterState) (W : IsSystem (node_history h) root
         is = refl;
       })
 
-  election_to : (n : Id) (b : NodeHistory) → WonAt b (node_history h n) → Contains (elections h) (record { node = n; term = term_of b; base = accepted_of b })
+  pub election_to : (n : Id) (b : NodeHistory) → WonAt b (node_history h n) → Contains (elections h) (record { node = n; term = term_of b; base = accepted_of b })
   election_to n b w =
       let m = moment h n b (TakeJoin w.join) (ok w.sends w.flag) w.is_in in
       let e : Election = record { node = n; term = term_of b; base = accepted_of b } in

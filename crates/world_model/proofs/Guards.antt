@@ -16,7 +16,7 @@ use Rattle.world_model.specs.Safety.{IsIdAtMost}
 use Rattle.world_model.specs.Replies.{is_empty, elects, reply_of, is_taken, join_checked, after_check, IsOutcome, commit_sent}
 
 -- past a test that refuses
-past : (b : Bool) (c : Cause) (r : ActReply) (s : Option Message) (w : Bool) → Taken s w ≡ cond b (Refused c) r → (b ≡ false) × (Taken s w ≡ r)
+pub past : (b : Bool) (c : Cause) (r : ActReply) (s : Option Message) (w : Bool) → Taken s w ≡ cond b (Refused c) r → (b ≡ false) × (Taken s w ≡ r)
 past true c r s w h = cc
 past false c r s w h = (refl, h)
 
@@ -48,23 +48,18 @@ some_is : (ids : List Id) → is_empty ids ≡ false → ids ≢ []
 some_is [] h e = cc
 some_is (x ∷ xs) h e = cc
 
+pub as_taken : (r : ActReply) → is_taken r ≡ true → (s : Option Message) × (w : Bool) × (Taken s w ≡ r)
+as_taken (Taken s w) h = (s, w, refl)
+as_taken (Refused c) h = cc
+as_taken Stopped h = cc
+
 -- an act that was kept would be taken
 pub kept_is_taken : (me : Id) (g : NodeHistory) (act : Act) (o : Outcome) → IsOutcome me g act o → is_effective o ≡ true → (s : Option Message) × (w : Bool) × (Taken s w ≡ reply_of me g act)
 kept_is_taken me g act (Answered (Taken s w)) h k = (s, w, h)
 kept_is_taken me g act (Answered (Refused c)) h k = cc
 kept_is_taken me g act (Answered Stopped) h k = cc
 kept_is_taken me g act (Disk kept) h k = as_taken _ h.0
-  where
-    as_taken : (r : ActReply) → is_taken r ≡ true → (s : Option Message) × (w : Bool) × (Taken s w ≡ r)
-    as_taken (Taken s w) h = (s, w, refl)
-    as_taken (Refused c) h = cc
-    as_taken Stopped h = cc
 kept_is_taken me g act (Crashed kept) h k = as_taken _ h.0
-  where
-    as_taken : (r : ActReply) → is_taken r ≡ true → (s : Option Message) × (w : Bool) × (Taken s w ≡ r)
-    as_taken (Taken s w) h = (s, w, refl)
-    as_taken (Refused c) h = cc
-    as_taken Stopped h = cc
 
 pub record Booted (g : NodeHistory) (config : List Id) (s : Option Message) (w : Bool) : Type 0 where
   pub flag : w ≡ false
