@@ -1,16 +1,15 @@
 -- A life that follows the policy is the one that is made of what comes to it.
-use Rattle.std.proofs.Common.{◌≡◌, ℕ, zero, suc, ◌+◌, true, false, ◌⊎◌, inl, inr, Option, None, Some, List, [], ◌∷◌, ◌++◌, refl, sym, ap, ◌∙◌, cond, arith}
+use Rattle.std.proofs.Common.{◌≡◌, ℕ, zero, suc, ◌+◌, false, ◌⊎◌, inl, inr, Option, None, Some, List, [], ◌∷◌, ◌++◌, refl, sym, ap, ◌∙◌, cond, arith}
 use Rattle.std.proofs.lemmas.Bool.{or_parts}
 use Rattle.std.specs.Option.{option_map}
 use Rattle.world_model.specs.declared.acts.Outcome.{Outcome}
 use Rattle.policy_model.specs.declared.settings.Settings.{Settings}
 use Rattle.policy_model.specs.Events.{Event, Begins, Item, Opens, Acts, Turns, Drops, Sends, Replies, Notes, And}
 use Rattle.policy_model.specs.Entries.{Did, Life, NotBegun, Opened, Lived, log_of}
-use Rattle.policy_model.specs.Views.{View, view_of}
-use Rattle.policy_model.specs.Local.{IsAnswered, Ended, ByAct, ByQuiet, is_quiet}
+use Rattle.policy_model.specs.Views.{view_of}
 use Rattle.policy_model.specs.Follows.{Follows, items_of, is_fault, has_fault, without_output, IsStruck, Here, Later, IsNext}
 use Rattle.policy_model.specs.Told.{Fault, one_later, fault_in, Told, NothingTold, Found, Came, Passed, told_of}
-use Rattle.policy_model.proofs.Answering.{answered-next}
+use Rattle.policy_model.proofs.Faults.{next-fault}
 
 -- what stays of some items where a fault struck the act after so many
 abbrev left_at : List Item → ℕ → Outcome → List Item
@@ -68,21 +67,6 @@ no-fault (Acts act o ∷ is) h =
     rw (parts.0, none) refl
 no-fault (i ∷ is) h = no-fault is h
 
-quiet-fault : (i : Item) (is : List Item) → is_quiet i ≡ true → has_fault (i ∷ is) ≡ has_fault is
-quiet-fault (Opens found) is h = refl
-quiet-fault (Begins event) is h = refl
-quiet-fault (Acts act o) is h = absurd (cc)
-quiet-fault (Turns mode term) is h = refl
-quiet-fault (Drops member cause) is h = refl
-quiet-fault (Sends frame) is h = refl
-quiet-fault (Replies answer) is h = refl
-quiet-fault (Notes note) is h = refl
-
-answered-fault : (s : Settings) (v : View) (is : List Item) → IsAnswered s v is → has_fault is ≡ false
-answered-fault s v xs (Ended u) = refl
-answered-fault s v xs (ByAct u act is e a) = answered-fault s _ is a
-answered-fault s v xs (ByQuiet u i is e a) = quiet-fault i is e ∙ answered-fault s _ is a
-
 -- the items of an event
 items-determined : (s : Settings) (life : Life) (event : Event) (items : List Item) → IsNext s life event items → items ≡ left_by (items_of s (log_of life) event) (fault_in items)
 items-determined s life event items next = by_way next.does
@@ -91,7 +75,7 @@ items-determined s life event items next = by_way next.does
     whole = items_of s (log_of life) event
 
     sound : has_fault whole ≡ false
-    sound = answered-fault s (view_of s (And (log_of life) (Begins event))) whole (answered-next s (view_of s (And (log_of life) (Begins event))) event)
+    sound = next-fault s (view_of s (And (log_of life) (Begins event))) event
 
     by_way : (items ≡ whole) ⊎ IsStruck whole items → items ≡ left_by whole (fault_in items)
     by_way (inl e) = e ∙ ap (λ (f : Option Fault). left_by whole f) (sym (ap (λ (is : List Item). fault_in is) e ∙ no-fault whole sound))

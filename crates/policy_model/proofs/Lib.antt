@@ -1,5 +1,6 @@
 pub mod Sweeps
 pub mod Answering
+pub mod Faults
 pub mod Locals
 pub mod Standing
 pub mod Fits

@@ -1,17 +1,18 @@
 -- The acts of a life that follows the policy follow each other.
-use Rattle.std.proofs.Common.{◌≡◌, ℕ, Bool, true, false, not, List, [], ◌∷◌, ◌++◌, refl, sym, ap, subst, ◌∙◌, ◌⊎◌, inl, inr}
+use Rattle.std.proofs.Common.{◌≡◌, ℕ, true, false, not, List, [], ◌∷◌, ◌++◌, refl, sym, ap, subst, ◌∙◌, ◌⊎◌, inl, inr}
+use Rattle.std.proofs.lemmas.Bool.{both_ways}
 use Rattle.std.proofs.Math.Bool.{or-true}
 use Rattle.world_model.specs.declared.acts.Act.{Act}
-use Rattle.world_model.specs.declared.acts.Act.TheVariants.{Bootstrap, StartJoin, TakeJoin, Value, Publish, Response, Commit, Open}
 use Rattle.world_model.specs.declared.acts.ActReply.{ActReply}
 use Rattle.world_model.specs.declared.acts.ActReply.TheVariants.{Taken, Refused, Stopped}
 use Rattle.world_model.specs.declared.acts.Outcome.{Outcome}
 use Rattle.world_model.specs.declared.acts.Outcome.TheVariants.{Answered, Disk, Crashed}
-use Rattle.world_model.specs.Acts.{NodeHistory, NoActs, Then, is_ok}
+use Rattle.world_model.specs.Acts.{Then, is_ok}
 use Rattle.world_model.specs.NodeState.{NodeState}
 use Rattle.world_model.specs.Replies.{reply_at, is_taken, writes, IsOutcomeAt}
 use Rattle.world_model.specs.Steps.{is_opening}
-use Rattle.world_model.specs.Histories.{IsLocal, ContinuesUnlessFirst, is_down}
+use Rattle.world_model.specs.Histories.{IsLocal, is_down}
+use Rattle.world_model.proofs.Assemble.{goes_on_always}
 use Rattle.policy_model.specs.declared.settings.Settings.{Settings}
 use Rattle.policy_model.specs.Events.{Event, Item, Log, Opens, Begins, Acts, Turns, Drops, Sends, Replies, Notes, And, added, acts_of}
 use Rattle.policy_model.specs.Entries.{Life, NotBegun, Opened, Lived, Did, Gone, Bad, NoMemory, Unread, log_of}
@@ -20,9 +21,6 @@ use Rattle.policy_model.specs.Moves.{moved, view_of-And}
 use Rattle.policy_model.specs.Local.{IsAnswered, ByAct, ByQuiet, Ended, is_quiet}
 use Rattle.policy_model.specs.Follows.{Follows, IsNext, IsStruck, Here, Later, without_output, is_fault, has_fault, is_struck, items_of}
 use Rattle.policy_model.proofs.Answering.{answered-next}
-
-differ : {b : Bool} → b ≡ true → b ≡ false → ⊥
-differ h e = cc
 
 -- the same by recursion
 abbrev pub AreAnswered : Settings → View → List Item → Type 0
@@ -51,17 +49,6 @@ are_answered : (s : Settings) (v : View) (is : List Item) → IsAnswered s v is 
 are_answered s v xs (Ended u) = tt
 are_answered s v xs (ByAct u act is e a) = (refl, e, are_answered s _ is a)
 are_answered s v xs (ByQuiet u i is e a) = quietly s u i is e (are_answered s (moved s u i) is a)
-
-goes_on_always : (g : NodeHistory) (act : Act) → is_opening act ≡ false → ContinuesUnlessFirst g act
-goes_on_always NoActs act e = tt
-goes_on_always (Then g a o) (Bootstrap config) e = tt
-goes_on_always (Then g a o) (StartJoin candidate term) e = tt
-goes_on_always (Then g a o) (TakeJoin join) e = tt
-goes_on_always (Then g a o) (Value version config value) e = tt
-goes_on_always (Then g a o) (Publish request) e = tt
-goes_on_always (Then g a o) (Response response) e = tt
-goes_on_always (Then g a o) (Commit commit) e = tt
-goes_on_always (Then g a o) (Open found) e = cc
 
 pub record Fine (s : Settings) (l : Log) : Type 0 where
   pub local : IsLocal s.me (acts_of l)
@@ -163,7 +150,7 @@ lived_event s life e is h n = by_way n.does where
       record { local = now.local; up = λ u. now.up }
   by_way (inr struck) = record {
     local = struck_local s (And (log_of life) (Begins e)) (view_of s (And (log_of life) (Begins e))) (items_of s (log_of life) e) is refl answered struck begins;
-    up = λ u. absurd (differ (struck_fault (items_of s (log_of life) e) is struck) u);
+    up = λ u. absurd (both_ways _ u (struck_fault (items_of s (log_of life) e) is struck));
   }
 
 lived : (s : Settings) (life : Life) → Follows s life → IsLived s life
