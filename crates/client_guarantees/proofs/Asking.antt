@@ -1,5 +1,6 @@
 -- What a request makes of a value: it has what is asked for, and all else that it may not undo.
 use Rattle.std.proofs.Common.{◌≡◌, ℕ, Bool, true, false, true≢false, not, ◌&&◌, ◌||◌, cond, Option, None, Some, Result, Ok, Err, List, [], ◌∷◌, length, map, refl, sym, ap, ◌∙◌, subst}
+use Rattle.std.proofs.lemmas.Bool.{or_right}
 use Rattle.std.specs.Prelude.{◌+◌, nat_le, if◌then◌else◌, find}
 use Rattle.std.specs.declared.cmp.Ordering.TheVariants.{Less, Equal, Greater}
 use Rattle.std.specs.Ordering.{is_eq, nat_cmp, match_ordering}
@@ -67,12 +68,8 @@ kept_without key k (t ∷ ts) n =
 
 -- ---- exclusions
 
-or_left : (b c : Bool) → c ≡ true → (b || c) ≡ true
-or_left true c e = refl
-or_left false c e = e
-
 with_more : (id x : Id) (xs : List Id) → has id xs ≡ true → has id (with_id x xs) ≡ true
-with_more id x xs h = has-with_id id x xs ∙ or_left (same x id) (has id xs) h
+with_more id x xs h = has-with_id id x xs ∙ or_right (same x id) (has id xs) h
 
 union_keeps : (id : Id) (xs ys : List Id) → has id xs ≡ true → has id (union xs ys) ≡ true
 union_keeps id xs [] h = h

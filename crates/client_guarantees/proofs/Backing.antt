@@ -1,5 +1,5 @@
 -- What the acts of all nodes say of a node that takes an act.
-use Rattle.std.proofs.Common.{◌≡◌, ℕ, ◌<◌, ◌≤◌, Bool, true, false, cond, Option, None, Some, List, [], ◌∷◌, refl, sym, ◌∙◌, ap, subst, arith, ◌⊎◌, inl, inr}
+use Rattle.std.proofs.Common.{◌≡◌, ℕ, ◌<◌, ◌≤◌, Bool, true, false, cond, Option, None, Some, List, refl, sym, ◌∙◌, ap, subst, arith, ◌⊎◌, inl, inr}
 use Rattle.std.specs.List.{Contains}
 use Rattle.voting_config.specs.Ids.{Id, with_id}
 use Rattle.cluster_state.specs.declared.state.ClusterState.{ClusterState}
@@ -29,8 +29,8 @@ use Rattle.world_model.proofs.Rounds.{ok, WonAt, won_later, won_has_win, last_va
 use Rattle.world_model.proofs.Elected.{winning}
 use Rattle.world_model.proofs.Below.{win_of}
 use Rattle.world_model.proofs.Legal.{moment, is_listed, prefix_before, sent_to}
-use Rattle.world_model.proofs.Facts.{Election, elected_by, elections, IsPublished, HasSentCommit}
-use Rattle.world_model.proofs.FactsHold.{accepted_known, facts_of_system}
+use Rattle.world_model.proofs.Facts.{IsPublished, HasSentCommit}
+use Rattle.world_model.proofs.FactsHold.{accepted_known, facts_of_system, election_to}
 use Rattle.agreement.proofs.Elections.{win_base_older}
 use Rattle.agreement.proofs.Terms.{agree_terms}
 use Rattle.policy_model.specs.Parts.{published_id}
@@ -104,18 +104,10 @@ record Committed (h : History) (term version : ℕ) : Type 0 where
 
 -- root is the state from which all began
 module _ (h : History) (root : ClusterState) (W : IsSystem (node_history h) root) where
-  elected : (n : Id) (b : NodeHistory) → WonAt b (node_history h n) → Contains (elections h) (record { node = n; term = term_of b; base = accepted_of b })
-  elected n b w =
-      let m = moment h n b (TakeJoin w.join) (ok w.sends w.flag) w.is_in in
-      let e : Election = record { node = n; term = term_of b; base = accepted_of b } in
-      is_listed elections (λ p n a o. elected_by p n o) refl (λ p n a o. refl) h e m.before n (TakeJoin w.join) (ok w.sends w.flag) m.is_in
-      (subst (λ (g : NodeHistory). Contains (cond w.flag (record { node = n; term = term_of g; base = accepted_of g } ∷ []) []) e) (sym m.deeds_are)
-      (subst (λ (t : Bool). Contains (cond t (e ∷ []) []) e) (sym w.is_win) (0, (omega arith), refl)))
-
   same_winner : (m n : Id) (b c : NodeHistory) → WonAt b (node_history h m) → WonAt c (node_history h n) → term_of b ≡ term_of c → m ≡ n
   same_winner m n b c v w e =
       (agree_terms (facts_of_system h root W) (term_of c)).one_winner (record { node = m; term = term_of b; base = accepted_of b }) (record { node = n; term = term_of c; base = accepted_of c })
-      (elected m b v) (elected n c w) e refl
+      (election_to h root W m b v) (election_to h root W n c w) e refl
 
   committed_by : (n : Id) (term version : ℕ) → HasSentCommit h n term version → Committed h term version
   committed_by n term version s =
@@ -133,7 +125,7 @@ module _ (h : History) (root : ClusterState) (W : IsSystem (node_history h) root
       let w : WonAt g (node_history h n) = record { join = j; sends = s; flag = true; is_in = b; is_win = refl } in
       record {
         not_yet = (winning (node_history h) root W n g w).not_yet;
-        older = win_base_older (facts_of_system h root W) (record { node = n; term = term_of g; base = accepted_of g }) (elected n g w);
+        older = win_base_older (facts_of_system h root W) (record { node = n; term = term_of g; base = accepted_of g }) (election_to h root W n g w);
       }
 
   at_response : (n : Id) (g : NodeHistory) (r : PublishResponse) (m : Message) (w : Bool) → Begins (Then g (Response r) (ok (Some m) w)) (node_history h n) → HasCommittedId h (published_id (node_state g))

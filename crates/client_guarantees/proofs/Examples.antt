@@ -29,14 +29,13 @@ use Rattle.world_model.specs.Safety.{Published, IsCommitted}
 use Rattle.policy_model.specs.declared.settings.Settings.{Settings}
 use Rattle.policy_model.specs.declared.events.Event.{Event}
 use Rattle.policy_model.specs.declared.events.Event.TheVariants.{Start, Tick, Frame as FrameCame, Client as LineCame}
-use Rattle.policy_model.specs.Events.{Item, Opens, Begins, Acts, Turns, Drops, Sends, Replies, Notes, And, acts_of}
+use Rattle.policy_model.specs.Events.{Begins, And, acts_of}
 use Rattle.policy_model.specs.Entries.{Life, NotBegun, Opened, Lived, Did, log_of, replies_of}
 use Rattle.policy_model.specs.Views.{View, view_of}
-use Rattle.policy_model.specs.Local.{IsAnswered, Ended, ByAct, ByQuiet, is_quiet}
 use Rattle.policy_model.specs.Follows.{Follows, has_fault, is_struck, is_start, starts_next, items_of}
 use Rattle.policy_model.specs.Requests.{takes_line}
-use Rattle.policy_model.proofs.Answering.{answered-next}
 use Rattle.policy_model.proofs.Locals.{life_local}
+use Rattle.policy_model.proofs.Faults.{next-fault}
 use Rattle.client_guarantees.specs.Laws.{IsLifeIn}
 use Rattle.client_guarantees.specs.Asked.{setting_under, MeetsUnlessUndone}
 use Rattle.client_guarantees.specs.Processed.{processed_into_next, processed_of}
@@ -53,26 +52,11 @@ alone = record { me = a; peers = []; initial = a ∷ []; shrink = true }
 abbrev does : Life → Event → Life
 does life event = Lived life (Did event (items_of alone (log_of life) event))
 
-quiet_fault : (i : Item) (is : List Item) → is_quiet i ≡ true → has_fault is ≡ false → has_fault (i ∷ is) ≡ false
-quiet_fault (Opens found) is q e = e
-quiet_fault (Begins event) is q e = e
-quiet_fault (Acts act o) is q e = cc
-quiet_fault (Turns mode term) is q e = e
-quiet_fault (Drops member cause) is q e = e
-quiet_fault (Sends frame) is q e = e
-quiet_fault (Replies answer) is q e = e
-quiet_fault (Notes note) is q e = e
-
-unfaulted : (s : Settings) (v : View) (is : List Item) → IsAnswered s v is → has_fault is ≡ false
-unfaulted s v xs (Ended u) = refl
-unfaulted s v xs (ByAct u act is o x) = unfaulted s _ is x
-unfaulted s v xs (ByQuiet u i is q x) = quiet_fault i is q (unfaulted s _ is x)
-
 view_at : Life → Event → View
 view_at life event = view_of alone (And (log_of life) (Begins event))
 
 unstruck : (life : Life) (event : Event) → is_struck (does life event) ≡ false
-unstruck life event = unfaulted alone _ _ (answered-next alone (view_of alone (And (log_of life) (Begins event))) event)
+unstruck life event = next-fault alone (view_of alone (And (log_of life) (Begins event))) event
 
 follows_on : (life : Life) (event : Event) → Follows alone life → is_struck life ≡ false → is_start event ≡ starts_next life → Follows alone (does life event)
 follows_on life event f u s = (f, record { up = u; start = s; does = inl refl })
@@ -147,7 +131,7 @@ acked_follows line e =
       committed_follows,
       record { up = unstruck before (itself (message.Commit (id 1 1))); start = refl; does = inl (ap (λ (r : Result Request LineFault). takes_line alone v 5 r) (sym e)) },
     ) in
-    let u : is_struck (asked line) ≡ false = subst (λ (r : Result Request LineFault). has_fault (takes_line alone v 5 r) ≡ false) e (unfaulted alone v _ (answered-next alone v (LineCame 5 line))) in
+    let u : is_struck (asked line) ≡ false = subst (λ (r : Result Request LineFault). has_fault (takes_line alone v 5 r) ≡ false) e (next-fault alone v (LineCame 5 line)) in
     follows_on (accepted line) (itself (message.Response (id 1 2))) (follows_on (asked line) (itself (message.Publish second)) f u refl) (unstruck (asked line) (itself (message.Publish second))) refl
 
 -- the acts of a node alone, as a history

@@ -19,12 +19,13 @@ use Rattle.world_model.specs.Safety.{Published}
 use Rattle.policy_model.specs.declared.settings.Settings.{Settings}
 use Rattle.policy_model.specs.declared.events.Mode.TheVariants.{Leader}
 use Rattle.policy_model.specs.Events.{Item, Turns, Notes, Joined, StateMade}
-use Rattle.policy_model.specs.Parts.{as_master, all_to_be_added, published_id}
+use Rattle.policy_model.specs.Parts.{as_master, published_id}
 use Rattle.policy_model.specs.Views.{View}
 use Rattle.policy_model.specs.Moves.{moved}
 use Rattle.policy_model.specs.Doing as doing
 use Rattle.policy_model.specs.NextState as next
 use Rattle.policy_model.specs.Joins as joins
+use Rattle.policy_model.proofs.Fits.{waiting-added}
 use Rattle.client_guarantees.specs.Processed.{processed_into_next}
 use Rattle.client_guarantees.specs.Asked.{MeetsEach}
 use Rattle.client_guarantees.proofs.Leading.{IsDone, HasWon}
@@ -41,11 +42,6 @@ has_publication : (m : Bool) (o : Option Publication) → (m && not (next.is_in_
 has_publication false o e l n = cc
 has_publication true None e l n = cc
 has_publication true (Some p) e l n = cc
-
--- those who are to become members don't wait for an answer
-pub added_wait : (t : Tasks) (ids : List Id) → (all_to_be_added t ids).waiting ≡ t.waiting
-added_wait t [] = refl
-added_wait t (id ∷ ids) = added_wait (to_be_added t id) ids
 
 -- who waits after the making of a state was among those that were processed
 pub each-after : (P : Waiting → Type 0) (l : NextMaster) (t : Tasks) → Each P (processed_by l t).waiting → Each P (tasks_after l t).waiting
@@ -215,10 +211,10 @@ module _ (h : History) (U : IsUnique h) (s : Settings) (P : ℕ → Request → 
       ready = record {
         ready = record {
           leads = record { idle = λ e. cc; won = λ l. w.won; new = λ l n. w.new; done = λ l p e f. absurd (nothing p e w.unpublished) };
-          empty = λ l n m. added_wait (to_be_added v.tasks s.me) v.node.join_votes ∙ w.empty;
+          empty = λ l n m. waiting-added (to_be_added v.tasks s.me) v.node.join_votes ∙ w.empty;
         };
         made = λ l e. absurd (true≢false (sym e ∙ ap is_some w.unpublished));
-        came = subst (Each (Of P)) (sym (added_wait (to_be_added v.tasks s.me) v.node.join_votes ∙ w.empty)) tt;
+        came = subst (Each (Of P)) (sym (waiting-added (to_be_added v.tasks s.me) v.node.join_votes ∙ w.empty)) tt;
       }
 
   pub keeps-takes_member : (v : View) (g : List Waiting) (p : Id) → Holds h s P (place v g) → Keeps h s P v g (joins.takes_member s v p) (Holds h s P)

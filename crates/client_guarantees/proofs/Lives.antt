@@ -22,10 +22,11 @@ use Rattle.policy_model.specs.Entries.{Life, NotBegun, Opened, Lived, Did, Gone,
 use Rattle.policy_model.specs.Views.{View, view_of}
 use Rattle.policy_model.specs.Moves.{moved, moved_all, is_own, are_own, view_of-And}
 use Rattle.policy_model.specs.Local.{IsAnswered, ByAct, ByQuiet, Ended, is_quiet}
-use Rattle.policy_model.specs.Follows.{Follows, IsStruck, Here, Later, without_output, is_struck, items_of}
+use Rattle.policy_model.specs.Follows.{Follows, IsStruck, is_struck, items_of}
 use Rattle.policy_model.proofs.Answering.{answered-next}
 use Rattle.policy_model.proofs.Standing.{view_of-added, own-quiet, own-answered}
 use Rattle.policy_model.proofs.Locals.{struck_fault}
+use Rattle.policy_model.proofs.Faults.{struck-replies}
 use Rattle.client_guarantees.specs.Processed.{processed_of, CameIn}
 use Rattle.client_guarantees.specs.Replies.{IsTrueReply, RepliesTruly}
 use Rattle.client_guarantees.proofs.Backing.{Backs, backs, unique}
@@ -48,21 +49,6 @@ begins_item l (Notes note) = begins_self (acts_of l)
 begins_added : (l : Log) (is : List Item) → IsBeginning (acts_of l) (acts_of (added l is))
 begins_added l [] = begins_self (acts_of l)
 begins_added l (i ∷ is) = begins_trans (acts_of l) (acts_of (And l i)) (acts_of (added (And l i) is)) (begins_item l i) (begins_added (And l i) is)
-
--- an event that is struck tells nothing
-silent_item : (i : Item) (left : List Item) → replies_of left ≡ [] → replies_of (without_output i ++ left) ≡ []
-silent_item (Opens found) left e = e
-silent_item (Begins event) left e = e
-silent_item (Acts act o) left e = e
-silent_item (Turns mode term) left e = e
-silent_item (Drops member cause) left e = e
-silent_item (Sends frame) left e = e
-silent_item (Replies answer) left e = e
-silent_item (Notes note) left e = e
-
-struck_silent : (is left : List Item) → IsStruck is left → replies_of left ≡ []
-struck_silent is left (Here act sends wins rest o w e) = refl
-struck_silent is left (Later i rest left' q) = silent_item i left' (struck_silent rest left' q)
 
 -- what was processed over one more item
 processed-And : (s : Settings) (l : Log) (i : Item) → is_own i ≡ true → processed_of s (And l i) ≡ processed_after s (view_of s l) (processed_of s l) i
@@ -206,7 +192,7 @@ module _ (h : History) (root : ClusterState) (W : IsSystem (node_history h) root
           (as_it_does life e (subst (λ (x : List Item). Follows s (Lived life (Did e x))) same f) t
           (subst (λ (x : List Item). IsBeginning (acts_of (added (And (log_of life) (Begins e)) x)) (node_history h s.me)) same b))
       by_way (inr struck) = record {
-        tells = (t.tells, subst (All (λ (out : Outgoing). IsTrueReply h s (Lived life (Did e is)) out.conn out.reply)) (sym (struck_silent (items_of s (log_of life) e) is struck)) (All-nil (λ (out : Outgoing). IsTrueReply h s (Lived life (Did e is)) out.conn out.reply)));
+        tells = (t.tells, subst (All (λ (out : Outgoing). IsTrueReply h s (Lived life (Did e is)) out.conn out.reply)) (sym (struck-replies (items_of s (log_of life) e) is struck)) (All-nil (λ (out : Outgoing). IsTrueReply h s (Lived life (Did e is)) out.conn out.reply)));
         stands = λ u. absurd (both_ways _ u (struck_fault (items_of s (log_of life) e) is struck));
       }
 

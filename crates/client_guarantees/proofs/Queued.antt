@@ -12,10 +12,11 @@ use Rattle.policy_model.specs.declared.events.Mode.TheVariants.{Candidate, Leade
 use Rattle.policy_model.specs.Events.{Met, Heard, PeersAsked, ElectionOff, ElectionSet, RoundBegun, RoundAnswered, RoundEnded, Joined, FollowersChecked, FollowerAnswered, LeaderChecked, LeaderAnswered, Queued, ExclusionsTimedOut, CommitAcked, ExclusionsAcked, StateMade, HandedOver, Opens, Begins, Acts, Turns, Drops, Sends, Replies, Notes, Log, NoItems, And}
 use Rattle.policy_model.specs.Parts.{as_master, published_id}
 use Rattle.policy_model.specs.LookBacks.{node_of, moment_of, tasks_of}
+use Rattle.policy_model.proofs.Fits.{waiting-added}
 use Rattle.client_guarantees.specs.Processed.{processed_into_next, processed_of}
 use Rattle.client_guarantees.proofs.Folding.{Each, each-map, each-last, each-append, of-waiting, of-new}
 use Rattle.client_guarantees.proofs.Holding.{each-left}
-use Rattle.client_guarantees.proofs.GoingOn.{each-after, added_wait}
+use Rattle.client_guarantees.proofs.GoingOn.{each-after}
 
 -- the request was queued for this connection since the node was opened last
 abbrev pub WasQueued : Log → ℕ → Request → Type 0
@@ -52,7 +53,7 @@ queued s (And l (Notes (ElectionSet word))) = record { waiting = (queued s l).wa
 queued s (And l (Notes (RoundBegun word))) = record { waiting = (queued s l).waiting; processed = (queued s l).processed }
 queued s (And l (Notes (RoundAnswered source term last))) = record { waiting = (queued s l).waiting; processed = (queued s l).processed }
 queued s (And l (Notes RoundEnded)) = record { waiting = (queued s l).waiting; processed = (queued s l).processed }
-queued s (And l (Notes (Joined ids))) = record { waiting = subst (Each (λ w. WasQueued l w.conn w.request)) (sym (added_wait (tasks_of s l) ids)) (queued s l).waiting; processed = (queued s l).processed }
+queued s (And l (Notes (Joined ids))) = record { waiting = subst (Each (λ w. WasQueued l w.conn w.request)) (sym (waiting-added (tasks_of s l) ids)) (queued s l).waiting; processed = (queued s l).processed }
 queued s (And l (Notes FollowersChecked)) = record { waiting = (queued s l).waiting; processed = (queued s l).processed }
 queued s (And l (Notes (FollowerAnswered from good applied))) = record { waiting = (queued s l).waiting; processed = (queued s l).processed }
 queued s (And l (Notes LeaderChecked)) = record { waiting = (queued s l).waiting; processed = (queued s l).processed }
