@@ -1,4 +1,5 @@
 pub mod Written
+pub mod Digits
 pub mod FirstBadLaws
 pub mod FirstLines
 pub mod IdListLaws

@@ -1,10 +1,11 @@
 //! A text that grows at its end.
-ghost use Rattle.std.specs.Prelude.{◌≡◌, ◌++◌, ◌∷◌, [], length, OnOk, decimal};
+ghost use Rattle.std.specs.Prelude.{◌≡◌, ◌+◌, ◌%◌, ◌≤◌, ◌++◌, ◌∷◌, [], length, OnOk, decimal};
 ghost use Rattle.voting_config.specs.Lists.{list_text};
 ghost use Rattle.schedule_text.specs.Words.{byte_text, mode_text};
 ghost use Rattle.schedule_text.specs.Lines.{line_text};
 ghost use Rattle.schedule_text.specs.Printed.{bad_line, reason_text};
 
+use crate::boxed::Boxed;
 use crate::fault::{BadSchedule, WhyBad};
 use crate::modes::hex_byte;
 use crate::schedule::Line;
@@ -87,7 +88,39 @@ impl Text {
     pub fn id(&mut self, id: NodeId) -> Result<(), AllocError>
         ensures { OnOk result (self.new ≡ self.old ++ id) }
     {
-        self.bytes(id.as_bytes())
+        self.lent_id(&id)
+    }
+
+    /// Writes an id that stands elsewhere, without a copy of it.
+    #[inline(always)]
+    pub fn lent_id(&mut self, id: &NodeId) -> Result<(), AllocError>
+        ensures { OnOk result (self.new ≡ self.old ++ id.now) }
+    {
+        // Ids of one letter are common, and one byte needs no call that copies it.
+        let bytes = id.as_bytes();
+        if let [byte] = bytes {
+            return self.byte(*byte);
+        }
+        self.long_id(bytes)
+    }
+
+    /// Writes an id and the byte after it.
+    #[inline(always)]
+    pub fn id_and(&mut self, id: &NodeId, after: u8) -> Result<(), AllocError>
+        ensures { OnOk result (self.new ≡ self.old ++ (id.now ++ after ∷ [])) }
+    {
+        let bytes = id.as_bytes();
+        if let [byte] = bytes {
+            return self.bytes(&[*byte, after]);
+        }
+        self.long_id(bytes)?;
+        self.byte(after)
+    }
+
+    fn long_id(&mut self, bytes: &[u8]) -> Result<(), AllocError>
+        ensures { OnOk result (self.new ≡ self.old ++ bytes.now) }
+    {
+        self.bytes(bytes)
     }
 
     /// Writes a number in decimal, without leading zeros.
@@ -100,7 +133,41 @@ impl Text {
         if number < 10 {
             return self.byte(b'0' + number as u8);
         }
-        self.long_number(number)
+        self.several_digits(number)
+    }
+
+    /// Writes a number in decimal, without leading zeros, and the byte after it.
+    #[tactic(auto, using(std::proofs::lemmas::Fmt::decimal_digit))]
+    #[inline(always)]
+    pub fn number_and(&mut self, number: u64, after: u8) -> Result<(), AllocError>
+        ensures { OnOk result (self.new ≡ self.old ++ (decimal number ++ after ∷ [])) }
+    {
+        if number < 10 {
+            return self.bytes(&[b'0' + number as u8, after]);
+        }
+        self.several_digits(number)?;
+        self.byte(after)
+    }
+
+    // Up to four digits are written one by one, which costs less than a buffer.
+    #[tactic(auto, using(crate::proofs::Digits::two_digits, crate::proofs::Digits::three_digits, crate::proofs::Digits::four_digits))]
+    fn several_digits(&mut self, number: u64) -> Result<(), AllocError>
+        requires { 10 ≤ number }
+        ensures { OnOk result (self.new ≡ self.old ++ decimal number) }
+    {
+        if number >= 10000 {
+            return self.long_number(number);
+        }
+        let last = digit(number);
+        let third = digit(number / 10);
+        if number < 100 {
+            return self.bytes(&[third, last]);
+        }
+        let second = digit(number / 100);
+        if number < 1000 {
+            return self.bytes(&[second, third, last]);
+        }
+        self.bytes(&[digit(number / 1000), second, third, last])
     }
 
     fn long_number(&mut self, number: u64) -> Result<(), AllocError>
@@ -117,10 +184,10 @@ impl Text {
         let [first, others @ ..] = ids else {
             return self.word("_");
         };
-        self.id(*first)?;
+        self.lent_id(first)?;
         for id in others {
             self.word(",")?;
-            self.id(*id)?;
+            self.lent_id(id)?;
         }
         Ok(())
     }
@@ -133,84 +200,78 @@ impl Text {
         match line {
             Line::Boot(node) => {
                 self.word("boot ")?;
-                self.bytes(node.as_bytes())
+                self.lent_id(node)
             }
-            Line::StartJoin(node, candidate, term) => {
-                self.word("startjoin ")?;
-                self.bytes(node.as_bytes())?;
-                self.word(" ")?;
-                self.id(candidate.get())?;
-                self.word(" ")?;
-                self.number(*term)
+            Line::StartJoin(node, candidate, term) => self.start_join(node, candidate, *term),
+            Line::Value(node, version, text, config) => {
+                self.value(node, *version, text, config.as_slice())
             }
-            Line::Value(node, version, text, config) => self.value(
-                *node,
-                *version,
-                text.get(),
-                config.as_slice(),
-            ),
             Line::Deliver(node, message) => {
                 self.word("deliver ")?;
-                self.bytes(node.as_bytes())?;
-                self.word(" ")?;
+                self.id_and(node, b' ')?;
                 self.number(*message)
             }
             Line::Crash(node, mode) => {
                 self.word("crash ")?;
-                self.bytes(node.as_bytes())?;
-                self.word(" ")?;
+                self.id_and(node, b' ')?;
                 self.mode(*mode)
             }
             Line::Restart(node) => {
                 self.word("restart ")?;
-                self.bytes(node.as_bytes())
+                self.lent_id(node)
             }
             Line::Fuse(node, count, mode) => {
                 self.word("fuse ")?;
-                self.bytes(node.as_bytes())?;
-                self.word(" ")?;
-                self.number(*count)?;
-                self.word(" ")?;
+                self.id_and(node, b' ')?;
+                self.number_and(*count, b' ')?;
                 self.mode(*mode)
             }
             Line::Fail(node, call) => {
                 self.word("fail ")?;
-                self.bytes(node.as_bytes())?;
-                self.word(" ")?;
+                self.id_and(node, b' ')?;
                 self.number(*call)
             }
             Line::Tick(node, now, word) => {
                 self.word("tick ")?;
-                self.bytes(node.as_bytes())?;
-                self.word(" ")?;
-                self.number(*now)?;
-                self.word(" ")?;
+                self.id_and(node, b' ')?;
+                self.number_and(*now, b' ')?;
                 self.number(*word)
             }
             Line::Client(node, line) => {
                 self.word("client ")?;
-                self.bytes(node.as_bytes())?;
-                self.word(" ")?;
+                self.id_and(node, b' ')?;
                 self.bytes(line.as_slice())
             }
         }
     }
 
+    fn start_join(
+        &mut self,
+        node: &NodeId,
+        candidate: &Boxed<NodeId>,
+        term: u64,
+    ) -> Result<(), AllocError>
+        ensures { OnOk result (self.new ≡ self.old ++ line_text (Line.StartJoin node.now candidate.now term)) }
+    {
+        self.word("startjoin ")?;
+        self.id_and(node, b' ')?;
+        self.id_and(&candidate.get(), b' ')?;
+        self.number(term)
+    }
+
     fn value(
         &mut self,
-        node: NodeId,
+        node: &NodeId,
         version: u64,
-        text: SettingText,
+        text: &Boxed<SettingText>,
         config: &[NodeId],
     ) -> Result<(), AllocError>
-        ensures { OnOk result (self.new ≡ self.old ++ line_text (Line.Value node version text config.now)) }
+        ensures { OnOk result (self.new ≡ self.old ++ line_text (Line.Value node.now version text.now config.now)) }
     {
         self.word("value ")?;
-        self.id(node)?;
-        self.word(" ")?;
-        self.number(version)?;
-        self.word(" ")?;
-        self.setting(text)?;
+        self.id_and(node, b' ')?;
+        self.number_and(version, b' ')?;
+        self.setting(text.get())?;
         self.word(" ")?;
         self.ids(config)
     }
@@ -271,4 +332,12 @@ impl Text {
         self.word(why.name())?;
         self.word("\n")
     }
+}
+
+// The last digit of a number.
+#[inline(always)]
+fn digit(number: u64) -> u8
+    ensures { result ≡ 48 + number % 10 }
+{
+    b'0' + (number % 10) as u8
 }
