@@ -8,12 +8,10 @@ ghost use Rattle.schedule_text.specs.Answers.{Gives, Answers};
 
 use crate::boxed::Boxed;
 use crate::fault::{ReadError, WhyBad};
-use crate::id_list::IdList;
 use crate::level::Level;
 use crate::line_bytes::LineBytes;
 use crate::modes::mode_at;
 use crate::schedule::Line;
-use crate::setting_text::SettingText;
 use crate::words::{config_at, node_at, number_at, text_at};
 use std::alloc::Global;
 use voting_config::{NodeId, NodeSet, cut};
@@ -102,42 +100,21 @@ fn four_words(rest: Option<&[u8]>) -> Result<(&[u8], &[u8], &[u8], &[u8]), WhyBa
     Ok((first, second, third, fourth))
 }
 
-// The line `value`, but for its configuration, which is not yet copied.
-fn value_parts(ids: &NodeSet, rest: Option<&[u8]>) -> Result<ValueParts, WhyBad>
-    ensures { Gives (λ v. Line.Value v.node v.version v.text v.config) result (value_at ids.now (parts_in space rest.entry)) }
+fn value(alloc: Global, ids: &NodeSet, rest: Option<&[u8]>) -> Result<Line, ReadError<WhyBad>>
+    ensures { Answers result (value_at ids.now (parts_in space rest.entry)) }
 {
     let (node, version, text, config) = four_words(rest)?;
     let node = node_at(ids, node)?;
     let version = number_at(version, 0, u64::MAX)?;
     let text = text_at(text)?;
-    let config = config_at(ids, config)?;
-    Ok(ValueParts {
-        node,
-        version,
-        text,
-        config,
-    })
-}
-
-#[derive(Drop)]
-struct ValueParts {
-    node: NodeId,
-    version: u64,
-    text: SettingText,
-    config: NodeSet,
-}
-
-fn value(alloc: Global, ids: &NodeSet, rest: Option<&[u8]>) -> Result<Line, ReadError<WhyBad>>
-    ensures { Answers result (value_at ids.now (parts_in space rest.entry)) }
-{
-    let parts = value_parts(ids, rest)?;
-    let Ok(text) = Boxed::of(alloc, parts.text) else {
+    let config = match config_at(alloc, ids, config) {
+        Ok(config) => config,
+        Err(fault) => return Err(fault),
+    };
+    let Ok(text) = Boxed::of(alloc, text) else {
         return Err(ReadError::Memory);
     };
-    let Ok(config) = IdList::of(alloc, &parts.config) else {
-        return Err(ReadError::Memory);
-    };
-    Ok(Line::Value(parts.node, parts.version, text, config))
+    Ok(Line::Value(node, version, text, config))
 }
 
 fn crash(ids: &NodeSet, rest: Option<&[u8]>) -> Result<Line, ReadError<WhyBad>>

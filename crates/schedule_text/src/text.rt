@@ -1,5 +1,5 @@
 //! A text that grows at its end.
-ghost use Rattle.std.specs.Prelude.{◌≡◌, ◌+◌, ◌%◌, ◌≤◌, ◌++◌, ◌∷◌, [], length, OnOk, decimal};
+ghost use Rattle.std.specs.Prelude.{◌≡◌, ◌+◌, ◌%◌, ◌≤◌, ◌++◌, ◌∷◌, [], length, OnOk, codes, decimal};
 ghost use Rattle.voting_config.specs.Lists.{list_text};
 ghost use Rattle.schedule_text.specs.Words.{byte_text, mode_text};
 ghost use Rattle.schedule_text.specs.Lines.{line_text};
@@ -193,7 +193,6 @@ impl Text {
     }
 
     /// Writes a line of a schedule, without its line feed.
-    #[inline(always)]
     pub fn line(&mut self, line: &Line) -> Result<(), AllocError>
         ensures { OnOk result (self.new ≡ self.old ++ line_text line.now) }
     {
@@ -243,6 +242,22 @@ impl Text {
                 self.bytes(line.as_slice())
             }
         }
+    }
+
+    /// Writes a line of a schedule as a trace echoes it.
+    #[inline(always)]
+    pub fn echo(&mut self, line: &Line) -> Result<(), AllocError>
+        ensures { OnOk result (self.new ≡ self.old ++ (codes "> " ++ line_text line.now ++ codes "\n")) }
+    {
+        // Most lines deliver a message: such a line is written in few pieces.
+        if let Line::Deliver(node, message) = line {
+            self.word("> deliver ")?;
+            self.id_and(node, b' ')?;
+            return self.number_and(*message, b'\n');
+        }
+        self.word("> ")?;
+        self.line(line)?;
+        self.word("\n")
     }
 
     fn start_join(

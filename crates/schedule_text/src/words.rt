@@ -3,9 +3,12 @@ ghost use Rattle.std.specs.Prelude.{◌≡◌, ◌==◌, ◌&&◌, ◌^◌, ◌<
 ghost use Rattle.std.specs.List.{list_all};
 ghost use Rattle.std.specs.Str.{bytes_eq};
 ghost use Rattle.schedule_text.specs.Words.{config, listed, text as text_word, number as number_word, is_digit as is_digit_of, is_decimal as is_decimal_of, value_from};
+ghost use Rattle.schedule_text.specs.Answers.{Answers};
 
-use crate::fault::WhyBad;
+use crate::fault::{ReadError, WhyBad};
+use crate::id_list::IdList;
 use crate::setting_text::SettingText;
+use std::alloc::Global;
 use voting_config::{NodeId, NodeSet};
 
 /// The listed node that a word names, and else `Id`.
@@ -96,14 +99,17 @@ fn is_digit(b: u8) -> bool
 }
 
 /// The listed nodes that a word lists, and else `List`.
-pub fn config_at(ids: &NodeSet, word: &[u8]) -> Result<NodeSet, WhyBad>
-    ensures { result ≡ (config ids.now).at word.now }
+pub fn config_at(alloc: Global, ids: &NodeSet, word: &[u8]) -> Result<IdList, ReadError<WhyBad>>
+    ensures { Answers result ((config ids.now).at word.now) }
 {
     let Some(some) = NodeSet::from_bytes(word) else {
-        return Err(WhyBad::List);
+        return Err(ReadError::Bad(WhyBad::List));
     };
     if !ids.has_all(&some) {
-        return Err(WhyBad::List);
+        return Err(ReadError::Bad(WhyBad::List));
     }
-    Ok(some)
+    match IdList::of(alloc, &some) {
+        Ok(list) => Ok(list),
+        Err(_) => Err(ReadError::Memory),
+    }
 }
