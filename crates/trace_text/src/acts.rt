@@ -1,6 +1,7 @@
 //! The line of an act: how it ended, and its fields.
 ghost use Rattle.std.specs.Prelude.{◌≡◌, ◌++◌, OnOk, codes, decimal};
 ghost use Rattle.world_model.specs.declared.acts.Act.TheVariants as act;
+ghost use Rattle.trace_text.specs.declared.ending.Ending.TheVariants as ending;
 ghost use Rattle.trace_text.specs.Trace.{act_text, ending_text, id_text, state_text};
 
 use crate::{Ending, write_ending};
@@ -16,8 +17,7 @@ use voting_config::{NodeId, NodeSet, VotingConfig};
 pub fn write_state_id(text: &mut Text, term: u64, version: u64) -> Result<(), AllocError>
     ensures { OnOk result (text.new ≡ text.old ++ id_text term version) }
 {
-    text.number(term)?;
-    text.word("/")?;
+    text.number_and(term, b'/')?;
     text.number(version)
 }
 
@@ -38,10 +38,19 @@ pub fn write_act_head(text: &mut Text, node: NodeId, ending: Ending) -> Result<(
     ensures { OnOk result (text.new ≡ text.old ++ (codes "act " ++ node ++ codes " " ++ ending_text ending ++ codes " ")) }
 {
     text.word("act ")?;
-    text.id(node)?;
-    text.word(" ")?;
+    text.id_and(&node, b' ')?;
     write_ending(text, ending)?;
     text.word(" ")
+}
+
+/// Writes what `write_act_head` does for an act that was taken, as most are.
+#[inline(always)]
+pub fn write_taken_head(text: &mut Text, node: &NodeId) -> Result<(), AllocError>
+    ensures { OnOk result (text.new ≡ text.old ++ (codes "act " ++ node.now ++ codes " " ++ ending_text ending.Taken ++ codes " ")) }
+{
+    text.word("act ")?;
+    text.lent_id(node)?;
+    text.word(" ok ")
 }
 
 /// Writes the act by which a node takes the initial configuration.
@@ -57,8 +66,7 @@ pub fn write_start_join(text: &mut Text, candidate: NodeId, term: u64) -> Result
     ensures { OnOk result (text.new ≡ text.old ++ act_text (act.StartJoin candidate term)) }
 {
     text.word("startjoin ")?;
-    text.id(candidate)?;
-    text.word(" ")?;
+    text.id_and(&candidate, b' ')?;
     text.number(term)
 }
 
@@ -67,12 +75,9 @@ pub fn write_join(text: &mut Text, join: &Join) -> Result<(), AllocError>
     ensures { OnOk result (text.new ≡ text.old ++ act_text (act.TakeJoin join.now)) }
 {
     text.word("join ")?;
-    text.id(join.source)?;
-    text.word(" ")?;
-    text.id(join.target)?;
-    text.word(" ")?;
-    text.number(join.term)?;
-    text.word(" ")?;
+    text.id_and(&join.source, b' ')?;
+    text.id_and(&join.target, b' ')?;
+    text.number_and(join.term, b' ')?;
     write_state_id(text, join.last_term, join.last_version)
 }
 
@@ -88,8 +93,7 @@ pub fn write_value(
 {
     let json = value_to_json(alloc, value)?;
     text.word("value ")?;
-    text.number(version)?;
-    text.word(" ")?;
+    text.number_and(version, b' ')?;
     text.ids(config.members().as_slice())?;
     text.word(" ")?;
     text.bytes(json.as_slice())
@@ -117,8 +121,7 @@ pub fn write_publish_shown(
     ensures { OnOk result (text.new ≡ text.old ++ act_text (act.Publish request.now)) }
 {
     text.word("publish ")?;
-    text.id(request.source)?;
-    text.word(" ")?;
+    text.id_and(&request.source, b' ')?;
     text.bytes(json)
 }
 
@@ -127,10 +130,8 @@ pub fn write_response(text: &mut Text, response: &PublishResponse) -> Result<(),
     ensures { OnOk result (text.new ≡ text.old ++ act_text (act.Response response.now)) }
 {
     text.word("response ")?;
-    text.id(response.source)?;
-    text.word(" ")?;
-    text.id(response.target)?;
-    text.word(" ")?;
+    text.id_and(&response.source, b' ')?;
+    text.id_and(&response.target, b' ')?;
     write_state_id(text, response.term, response.version)
 }
 
@@ -139,7 +140,6 @@ pub fn write_commit(text: &mut Text, commit: &ApplyCommit) -> Result<(), AllocEr
     ensures { OnOk result (text.new ≡ text.old ++ act_text (act.Commit commit.now)) }
 {
     text.word("commit ")?;
-    text.id(commit.source)?;
-    text.word(" ")?;
+    text.id_and(&commit.source, b' ')?;
     write_state_id(text, commit.term, commit.version)
 }

@@ -16,8 +16,7 @@ fn one(text: &mut Text, name: &str, x: u64) -> Result<(), AllocError>
 {
     text.word(name)?;
     text.word("(")?;
-    text.number(x)?;
-    text.word(")")
+    text.number_and(x, b')')
 }
 
 fn two(text: &mut Text, name: &str, x: u64, y: u64) -> Result<(), AllocError>
@@ -25,10 +24,8 @@ fn two(text: &mut Text, name: &str, x: u64, y: u64) -> Result<(), AllocError>
 {
     text.word(name)?;
     text.word("(")?;
-    text.number(x)?;
-    text.word(",")?;
-    text.number(y)?;
-    text.word(")")
+    text.number_and(x, b',')?;
+    text.number_and(y, b')')
 }
 
 fn named(text: &mut Text, name: &str, node: NodeId) -> Result<(), AllocError>
@@ -36,8 +33,7 @@ fn named(text: &mut Text, name: &str, node: NodeId) -> Result<(), AllocError>
 {
     text.word(name)?;
     text.word("(")?;
-    text.id(node)?;
-    text.word(")")
+    text.id_and(&node, b')')
 }
 
 fn initial_cause(text: &mut Text, cause: InitialCause) -> Result<(), AllocError>

@@ -11,7 +11,7 @@ mod tests;
 
 pub use acts::{
     write_act_head, write_boot, write_commit, write_join, write_publish, write_publish_shown,
-    write_response, write_start_join, write_value,
+    write_response, write_start_join, write_taken_head, write_value,
 };
 pub use causes::{write_cause, write_ending};
 pub use ending::Ending;

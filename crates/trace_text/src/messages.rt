@@ -17,10 +17,8 @@ pub fn write_won(text: &mut Text, won: bool, node: NodeId, term: u64) -> Result<
         return Ok(());
     }
     text.word("won ")?;
-    text.id(node)?;
-    text.word(" ")?;
-    text.number(term)?;
-    text.word("\n")
+    text.id_and(&node, b' ')?;
+    text.number_and(term, b'\n')
 }
 
 /// Writes that a state is committed.
@@ -51,26 +49,28 @@ pub fn write_committed_shown(
     text.word("\n")
 }
 
+#[inline(always)]
 fn number(text: &mut Text, number: u64) -> Result<(), AllocError>
     ensures { OnOk result (text.new ≡ text.old ++ (codes "m" ++ decimal number ++ codes " ")) }
 {
     text.word("m")?;
-    text.number(number)?;
-    text.word(" ")
+    text.number_and(number, b' ')
 }
 
-fn between(text: &mut Text, source: NodeId, target: NodeId) -> Result<(), AllocError>
-    ensures { OnOk result (text.new ≡ text.old ++ (source ++ codes "->" ++ target)) }
+#[inline(always)]
+fn between(text: &mut Text, source: &NodeId, target: &NodeId) -> Result<(), AllocError>
+    ensures { OnOk result (text.new ≡ text.old ++ (source.now ++ codes "->" ++ target.now)) }
 {
-    text.id(source)?;
+    text.lent_id(source)?;
     text.word("->")?;
-    text.id(target)
+    text.lent_id(target)
 }
 
-fn to_any(text: &mut Text, source: NodeId) -> Result<(), AllocError>
-    ensures { OnOk result (text.new ≡ text.old ++ (source ++ codes "->*")) }
+#[inline(always)]
+fn to_any(text: &mut Text, source: &NodeId) -> Result<(), AllocError>
+    ensures { OnOk result (text.new ≡ text.old ++ (source.now ++ codes "->*")) }
 {
-    text.id(source)?;
+    text.lent_id(source)?;
     text.word("->*")
 }
 
@@ -78,8 +78,7 @@ fn join_fields(text: &mut Text, join: &Join) -> Result<(), AllocError>
     ensures { OnOk result (text.new ≡ text.old ++ message_text (message.Join join.now)) }
 {
     text.word("join ")?;
-    text.number(join.term)?;
-    text.word(" ")?;
+    text.number_and(join.term, b' ')?;
     write_state_id(text, join.last_term, join.last_version)
 }
 
@@ -112,7 +111,7 @@ pub fn write_join_message(text: &mut Text, ordinal: u64, join: &Join) -> Result<
     ensures { OnOk result (text.new ≡ text.old ++ message_line ordinal (message.Join join.now)) }
 {
     number(text, ordinal)?;
-    between(text, join.source, join.target)?;
+    between(text, &join.source, &join.target)?;
     text.word(" ")?;
     join_fields(text, join)?;
     text.word("\n")
@@ -129,7 +128,7 @@ pub fn write_publish_message(
     ensures { OnOk result (text.new ≡ text.old ++ message_line ordinal (message.Publish request.now)) }
 {
     number(text, ordinal)?;
-    to_any(text, request.source)?;
+    to_any(text, &request.source)?;
     text.word(" ")?;
     publish_fields(text, request, json)?;
     text.word("\n")
@@ -144,7 +143,7 @@ pub fn write_response_message(
     ensures { OnOk result (text.new ≡ text.old ++ message_line ordinal (message.Response response.now)) }
 {
     number(text, ordinal)?;
-    between(text, response.source, response.target)?;
+    between(text, &response.source, &response.target)?;
     text.word(" ")?;
     response_fields(text, response)?;
     text.word("\n")
@@ -159,7 +158,7 @@ pub fn write_commit_message(
     ensures { OnOk result (text.new ≡ text.old ++ message_line ordinal (message.Commit commit.now)) }
 {
     number(text, ordinal)?;
-    to_any(text, commit.source)?;
+    to_any(text, &commit.source)?;
     text.word(" ")?;
     commit_fields(text, commit)?;
     text.word("\n")

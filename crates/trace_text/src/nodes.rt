@@ -13,8 +13,7 @@ pub fn write_down(text: &mut Text, node: NodeId) -> Result<(), AllocError>
     ensures { OnOk result (text.new ≡ text.old ++ down_line node) }
 {
     text.word("down ")?;
-    text.id(node)?;
-    text.word("\n")
+    text.id_and(&node, b'\n')
 }
 
 /// Writes that a node is up already.
@@ -22,8 +21,7 @@ pub fn write_up(text: &mut Text, node: NodeId) -> Result<(), AllocError>
     ensures { OnOk result (text.new ≡ text.old ++ up_line node) }
 {
     text.word("up ")?;
-    text.id(node)?;
-    text.word("\n")
+    text.id_and(&node, b'\n')
 }
 
 /// Writes that a node has crashed, between two acts or as it opened its journal.
@@ -31,8 +29,7 @@ pub fn write_crashed(text: &mut Text, node: NodeId) -> Result<(), AllocError>
     ensures { OnOk result (text.new ≡ text.old ++ crashed_line node) }
 {
     text.word("crashed ")?;
-    text.id(node)?;
-    text.word("\n")
+    text.id_and(&node, b'\n')
 }
 
 /// Writes that a node's disk has failed as it opened its journal.
@@ -40,8 +37,7 @@ pub fn write_disk(text: &mut Text, node: NodeId) -> Result<(), AllocError>
     ensures { OnOk result (text.new ≡ text.old ++ disk_line node) }
 {
     text.word("disk ")?;
-    text.id(node)?;
-    text.word("\n")
+    text.id_and(&node, b'\n')
 }
 
 /// Writes that a node has opened its journal, and the record that it found: its term, the term and the version of its
@@ -50,10 +46,8 @@ pub fn write_record(text: &mut Text, node: NodeId, found: &Kept) -> Result<(), A
     ensures { OnOk result (text.new ≡ text.old ++ record_line node found.now.term found.now.accepted found.now.committed) }
 {
     text.word("record ")?;
-    text.id(node)?;
-    text.word(" ")?;
-    text.number(found.term)?;
-    text.word(" ")?;
+    text.id_and(&node, b' ')?;
+    text.number_and(found.term, b' ')?;
     write_state_id(text, found.accepted.term, found.accepted.version)?;
     text.word(" ")?;
     text.ids(found.accepted.config.members().as_slice())?;
