@@ -1,5 +1,5 @@
 //! What an act did, written as its lines of the trace.
-ghost use Rattle.std.specs.Prelude.{◌≡◌, ◌+◌, ◌<◌, ◌^◌, ◌++◌, OnOk};
+ghost use Rattle.std.specs.Prelude.{◌≡◌, ◌+◌, ◌<◌, ◌^◌, ◌++◌, codes, OnOk};
 ghost use Rattle.replay_node.specs.Did.{did_text, effects_text, won_by, committed_by, sends_by};
 ghost use Rattle.replay_node.specs.Sent.{message_of};
 ghost use Rattle.trace_text.specs.Trace.{act_text, message_line};
@@ -13,7 +13,7 @@ use std::rc::Rc;
 use trace_text::{
     write_act_head, write_commit, write_commit_message, write_committed_shown, write_down,
     write_join, write_join_message, write_publish_message, write_publish_shown, write_response,
-    write_response_message, write_won,
+    write_response_message, write_taken_head, write_won,
 };
 use voting_config::NodeId;
 
@@ -53,40 +53,34 @@ fn write_committed_by(
     }
 }
 
-fn write_won_by(text: &mut Text, n: NodeId, won: Option<u64>) -> Result<(), AllocError>
-    ensures { OnOk result (text.new ≡ text.old ++ won_by won n) }
+fn write_won_by(text: &mut Text, n: &NodeId, won: Option<u64>) -> Result<(), AllocError>
+    ensures { OnOk result (text.new ≡ text.old ++ won_by won n.now) }
 {
     match won {
         None => Ok(()),
-        Some(term) => write_won(text, true, n, term),
+        Some(term) => write_won(text, true, *n, term),
     }
 }
 
-fn write_all_effects(
+// Ends the line of an act that was taken, and writes its effects.
+fn write_effects(
     text: &mut Text,
     count: usize,
-    n: NodeId,
+    n: &NodeId,
     effects: &Effects,
 ) -> Result<(), AllocError>
     requires { count < 2 ^ 63 }
-    ensures { OnOk result (text.new ≡ text.old ++ (won_by effects.now.won n ++ (committed_by effects.now.committed ++ sends_by (count + 1) effects.now.sends))) }
+    ensures { OnOk result (text.new ≡ text.old ++ (codes "\n" ++ effects_text count n.now (Did.Taken effects.now))) }
 {
+    text.word("\n")?;
     write_won_by(text, n, effects.won)?;
     write_committed_by(text, &effects.committed)?;
     write_sends(text, count as u64 + 1, &effects.sends)
 }
 
-fn write_effects(text: &mut Text, count: usize, n: NodeId, did: &Did) -> Result<(), AllocError>
-    requires { count < 2 ^ 63 }
-    ensures { OnOk result (text.new ≡ text.old ++ effects_text count n did.now) }
-{
-    match did {
-        Did::Taken(effects) => write_all_effects(text, count, n, effects),
-        _ => Ok(()),
-    }
-}
-
 /// Writes what an act did, after so many messages. `act` is the act as a trace shows it.
+// Its own frame reads of `did` just what it writes, where a caller's would load all fields first.
+#[inline(never)]
 pub fn write_did(
     text: &mut Text,
     count: usize,
@@ -97,13 +91,43 @@ pub fn write_did(
     requires { count < 2 ^ 63 }
     ensures { OnOk result (text.new ≡ text.old ++ did_text count n act.now did.now) }
 {
+    // Most acts are taken.
+    if let Did::Taken(effects) = did {
+        write_taken_head(text, &n)?;
+        text.bytes(act.as_bytes())?;
+        return write_effects(text, count, &n, effects);
+    }
     let Some(ending) = did.ending() else {
         return write_down(text, n);
     };
     write_act_head(text, n, ending)?;
     text.bytes(act.as_bytes())?;
-    text.word("\n")?;
-    write_effects(text, count, n, did)
+    text.word("\n")
+}
+
+/// Writes what `write_did` does of the delivery of a message, with no text of the act made before.
+#[inline(never)]
+pub fn write_delivery(
+    text: &mut Text,
+    count: usize,
+    n: &NodeId,
+    message: &SentMessage,
+    did: &Did,
+) -> Result<(), AllocError>
+    requires { count < 2 ^ 63 }
+    ensures { OnOk result (text.new ≡ text.old ++ did_text count n.now (act_text (taking (message_of message.now))) did.now) }
+{
+    if let Did::Taken(effects) = did {
+        write_taken_head(text, n)?;
+        write_taking(text, message)?;
+        return write_effects(text, count, n, effects);
+    }
+    let Some(ending) = did.ending() else {
+        return write_down(text, *n);
+    };
+    write_act_head(text, *n, ending)?;
+    write_taking(text, message)?;
+    text.word("\n")
 }
 
 /// Writes the act by which a node takes a message.
