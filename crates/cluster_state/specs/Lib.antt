@@ -11,3 +11,4 @@ pub mod States
 pub mod Json
 pub mod Puts
 pub mod StateIds
+pub mod Shared

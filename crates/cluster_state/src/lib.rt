@@ -12,6 +12,7 @@ pub mod messages;
 pub mod reply;
 pub mod request;
 pub mod settings;
+pub mod shared;
 pub mod state;
 pub mod text;
 pub mod uniqueness;
@@ -29,6 +30,7 @@ pub use messages::{ApplyCommit, Join, PublishRequest, PublishResponse};
 pub use reply::{Answer, LineFault, Reply};
 pub use request::{Ask, MAX_KEY, MAX_VALUE, Request};
 pub use settings::Settings;
+pub use shared::SharedState;
 pub use state::{ClusterState, ClusterValue, Kept, LAST_NUMBER, StateId};
 pub use text::Text;
 

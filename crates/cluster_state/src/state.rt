@@ -2,8 +2,8 @@
 ghost use Rattle.std.specs.Prelude.{◌≡◌, IfOk};
 
 use crate::settings::Settings;
+use crate::shared::SharedState;
 use std::alloc::{AllocError, Global};
-use std::mem;
 use voting_config::{NodeId, NodeSet, VotingConfig};
 
 /// What the nodes agree on.
@@ -65,7 +65,7 @@ pub struct ClusterState {
 #[derive(Drop)]
 pub struct Kept {
     pub term: u64,
-    pub accepted: ClusterState,
+    pub accepted: SharedState,
     pub committed: VotingConfig,
 }
 
@@ -112,14 +112,30 @@ impl Kept {
     ghost use Rattle.cluster_state.specs.Initial.{empty_record};
 
     /// What a node keeps that has done nothing yet: term 0 and the empty state.
-    pub fn empty(alloc: Global) -> Kept
-        ensures { result ≡ empty_record }
+    pub fn empty(alloc: Global) -> Result<Kept, AllocError>
+        ensures { IfOk result (λ kept. kept ≡ empty_record) }
     {
-        Kept {
+        let accepted = SharedState::of(alloc, ClusterState::initial(alloc, &NodeSet::new()))?;
+        Ok(Kept {
             term: 0,
-            accepted: ClusterState::initial(alloc, &NodeSet::new()),
+            accepted,
             committed: VotingConfig::of(&NodeSet::new()),
-        }
+        })
+    }
+
+    /// Takes a state as the accepted one, with the committed configuration that it carries.
+    pub fn accept(&mut self, state: SharedState)
+        ensures { self.new ≡ record (self.old) { accepted = state; committed = state.committed } }
+    {
+        self.committed.copy_from(state.committed.members());
+        self.accepted = state;
+    }
+
+    /// Takes the configuration of the accepted state as the committed one.
+    pub fn commit(&mut self)
+        ensures { self.new ≡ record (self.old) { committed = self.old.accepted.config } }
+    {
+        self.committed.copy_from(self.accepted.config.members());
     }
 }
 
@@ -154,40 +170,12 @@ impl ClusterState {
     pub fn copy(&self) -> Result<ClusterState, AllocError>
         ensures { IfOk result (λ s. s ≡ self.now) }
     {
-        let settings = self.value.settings.copy()?;
-        Ok(self.with_settings(settings))
-    }
-
-    /// Makes it the other state, in its place, which takes no memory: the two change their settings.
-    pub fn take_from(&mut self, other: &mut ClusterState)
-        ensures state { self.new ≡ other.old }
-        ensures other { other.new ≡ record (other.old) { value = record (other.old.value) { settings = self.old.value.settings } } }
-    {
-        self.term = other.term;
-        self.version = other.version;
-        self.config.copy_from(other.config.members());
-        self.committed.copy_from(other.committed.members());
-        self.value.master = other.value.master;
-        self.value.members.copy_from(&other.value.members);
-        self.value.exclusions.copy_from(&other.value.exclusions);
-        mem::swap(&mut self.value.settings, &mut other.value.settings);
-    }
-
-    /// The same state with these settings, which takes no memory.
-    pub fn with_settings(&self, settings: Settings) -> ClusterState
-        ensures { result ≡ record (self.now) { value = record (self.now.value) { settings = settings } } }
-    {
-        ClusterState {
+        Ok(ClusterState {
             term: self.term,
             version: self.version,
             config: VotingConfig::of(self.config.members()),
             committed: VotingConfig::of(self.committed.members()),
-            value: ClusterValue {
-                master: self.value.master,
-                members: self.value.members.copy(),
-                exclusions: self.value.exclusions.copy(),
-                settings,
-            },
-        }
+            value: self.value.copy()?,
+        })
     }
 }

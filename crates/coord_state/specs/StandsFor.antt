@@ -1,7 +1,10 @@
 -- For the contracts inside: when a node's fields stand for its acts so far, and what an act makes of them.
-use Rattle.std.specs.Prelude.{◌≡◌, ◌≤◌, true, false}
+use Rattle.std.specs.Prelude.{◌≡◌, ℕ, ◌≤◌, List, true, false}
 use Rattle.std.proofs.Common.{subst, sym, ◌∙◌, ap}
 use Rattle.zen_disk.specs.Faults.{Rose}
+use Rattle.voting_config.specs.Ids.{Id}
+use Rattle.cluster_state.specs.declared.messages.PublishRequest.{PublishRequest}
+use Rattle.cluster_state.specs.declared.state.ClusterValue.{ClusterValue}
 use Rattle.state_journal.specs.declared.keeper.Keeper.{Ghosts}
 use Rattle.world_model.specs.declared.acts.Act.{Act}
 use Rattle.world_model.specs.declared.acts.Outcome.{Outcome}
@@ -26,6 +29,12 @@ module _ {K : Type 0} (k : Ghosts K) where
     publish_votes = c.publish_votes;
     halted = k.has_stopped c.keeper;
   }
+
+  -- the request by which the node publishes a value
+  abbrev pub request_of : CoordState K → ℕ → List Id → ClusterValue → PublishRequest
+  request_of c version config value =
+      let kept = k.record_of c.keeper in
+      record { source = c.me; state = record { term = kept.term; version = version; config = config; committed = kept.committed; value = value } }
 
   -- the fields are what the acts so far make of a node
   abbrev pub StandsFor : CoordState K → NodeHistory → Type 0

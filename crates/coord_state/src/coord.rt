@@ -10,8 +10,9 @@ ghost use Rattle.cluster_state.specs.Initial.{initial_state};
 ghost use Rattle.cluster_state.specs.States.{IsFit};
 ghost use Rattle.cluster_state.specs.declared.state.Kept.{Kept as Record};
 ghost use Rattle.world_model.specs.NodeState.{opened};
-ghost use Rattle.coord_state.specs.Outcomes.{initial_outcome, start_outcome, join_outcome, value_outcome, publish_outcome, response_outcome, commit_outcome, HandsBack};
-ghost use Rattle.coord_state.specs.StandsFor.{Acts, StandsFor, fields_of};
+ghost use Rattle.coord_state.specs.Outcomes.{initial_outcome, start_outcome, join_outcome, value_outcome, begun_outcome, publish_outcome, response_outcome, commit_outcome, HandsBack};
+ghost use Rattle.coord_state.specs.StandsFor.{Acts, StandsFor, fields_of, request_of};
+ghost use Rattle.cluster_state.specs.declared.state.ClusterValue.{ClusterValue};
 ghost use Rattle.coord_state.specs.Writes.{WritesBy, IsDuring};
 ghost use Rattle.coord_state.specs.Checks.{publish_checked, value_checked, Foretells};
 
@@ -314,6 +315,30 @@ impl<K: Keeper> CoordState<K> {
         Ok(())
     }
 
+    /// Does what `client_value` does for any value, where the caller has the value and makes the state that is published: of the node's term,
+    /// with this version and configuration, and with the configuration that the node knows to be committed.
+    pub fn begin_publication(
+        &mut self,
+        version: u64,
+        config: &VotingConfig,
+    ) -> Result<(), ActError<ValueCause, ()>>
+        ensures act { (value : ClusterValue) → Acts K.Keeper self.old self.new (act.Value version config.now value) (begun_outcome (request_of K.Keeper self.old version config.now value) result) }
+        ensures wrote { (value : ClusterValue) → WritesBy K.Keeper self.old.keeper (act.Value version config.now value) self.new.keeper (begun_outcome (request_of K.Keeper self.old version config.now value) result) }
+        ensures any_moment { (value : ClusterValue) → K.told → (g : NodeHistory) → StandsFor K.Keeper self.old g → LeavesOnly K.moment K.left_since self.old.keeper self.new.keeper (IsDuring g (act.Value version config.now value)) }
+        ensures same { self.new ≡ record self.old { published_version = self.new.published_version; published_config = self.new.published_config; publish_votes = self.new.publish_votes } }
+    {
+        if self.keeper.stopped() {
+            return Err(ActError::Stopped(()));
+        }
+        if let Err(cause) = self.value_check(version, config) {
+            return Err(ActError::Refused(cause, ()));
+        }
+        self.published_version = version;
+        self.published_config.copy_from(config.members());
+        self.publish_votes.clear();
+        Ok(())
+    }
+
     /// Publishes a new value with a version and a configuration, where the node has won and has accepted what it published
     /// last. Another configuration than the accepted one is taken only once the accepted one is committed, and only if the
     /// node's votes are a quorum of it.
@@ -328,26 +353,24 @@ impl<K: Keeper> CoordState<K> {
         ensures any_moment { K.told → (g : NodeHistory) → StandsFor K.Keeper self.old g → LeavesOnly K.moment K.left_since self.old.keeper self.new.keeper (IsDuring g (act.Value version config value)) }
         ensures back { HandsBack (record { 0 = config; 1 = value }) result }
     {
-        if self.keeper.stopped() {
-            return Err(ActError::Stopped((config, value)));
+        match self.begin_publication(version, &config) {
+            Err(ActError::Stopped(())) => Err(ActError::Stopped((config, value))),
+            Err(ActError::Refused(cause, ())) => Err(ActError::Refused(cause, (config, value))),
+            Err(ActError::Disk) => Err(ActError::Disk),
+            Ok(()) => {
+                let kept = self.keeper.kept();
+                Ok(PublishRequest {
+                    source: self.me,
+                    state: ClusterState {
+                        term: kept.term,
+                        version,
+                        committed: VotingConfig::of(kept.committed.members()),
+                        config,
+                        value,
+                    },
+                })
+            }
         }
-        if let Err(cause) = self.value_check(version, &config) {
-            return Err(ActError::Refused(cause, (config, value)));
-        }
-        let kept = self.keeper.kept();
-        self.published_version = version;
-        self.published_config.copy_from(config.members());
-        self.publish_votes.clear();
-        Ok(PublishRequest {
-            source: self.me,
-            state: ClusterState {
-                term: kept.term,
-                version,
-                committed: VotingConfig::of(kept.committed.members()),
-                config,
-                value,
-            },
-        })
     }
 
     /// Whether `publish_request` would refuse this state, from whichever node, without taking it. Never answers `Disk`.

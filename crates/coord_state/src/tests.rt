@@ -7,7 +7,7 @@ use cluster_state::{
     ClusterState, ClusterValue, Join, PublishCause, PublishRequest, PublishResponse, ValueCause,
 };
 use state_journal::{Keeper, PlainKeeper, Ready};
-use std::alloc::Global;
+use std::alloc::{AllocError, Global};
 use std::test::Fail;
 use voting_config::{NodeId, NodeSet, VotingConfig};
 use world_model::Cause;
@@ -22,8 +22,8 @@ fn only_a() -> NodeSet {
     ids
 }
 
-fn opened(alloc: Global) -> CoordState<PlainKeeper> {
-    CoordState::new(a(), PlainKeeper::new(alloc))
+fn opened(alloc: Global) -> Result<CoordState<PlainKeeper>, AllocError> {
+    Ok(CoordState::new(a(), PlainKeeper::new(alloc)?))
 }
 
 fn own_join(node: &mut CoordState<PlainKeeper>) -> Option<Join> {
@@ -67,7 +67,7 @@ fn published(alloc: Global, term: u64) -> ClusterState
 #[test]
 fn a_node_alone_wins_and_commits(rt: HostRuntime) -> Result<(), Fail> {
     let alloc = rt.alloc();
-    let mut node = opened(alloc);
+    let mut node = opened(alloc)?;
     assert!(rt; node.set_initial(Ready::initial(alloc, &only_a())?).is_ok());
     let join = own_join(&mut node).ok_or("no join")?;
     assert!(rt; node.started() && !node.won());
@@ -94,6 +94,8 @@ fn a_node_alone_wins_and_commits(rt: HostRuntime) -> Result<(), Fail> {
     assert!(rt; node.term() == 1);
     assert!(rt; node.accepted().version == 1);
     assert!(rt; node.committed().is_same(&voters));
+    assert!(rt; node.begin_publication(2, &voters).is_ok());
+    assert!(rt; node.published().0 == 2);
     Ok(())
 }
 
@@ -106,12 +108,13 @@ fn commits(node: &mut CoordState<PlainKeeper>, response: &PublishResponse) {
 }
 
 #[test]
-fn a_refused_value_is_handed_back(rt: HostRuntime) {
+fn a_refused_value_is_handed_back(rt: HostRuntime) -> Result<(), Fail> {
     let alloc = rt.alloc();
-    let mut node = opened(alloc);
+    let mut node = opened(alloc)?;
     let config = VotingConfig::of(&only_a());
     let back = handed_back(node.client_value(7, config, ClusterValue::empty(alloc)));
     assert!(rt; back.is_some_and(|back| back.as_slice() == only_a().as_slice()));
     assert!(rt; node.keeper().kept().term == 0);
     assert!(rt; node.into_keeper().kept().term == 0);
+    Ok(())
 }

@@ -95,7 +95,10 @@ impl<K: Keeper> Coordinator<K> {
         let Ok(entry) = state.copy() else {
             return Err(EventError::Memory);
         };
-        let Ok(ready) = Ready::of(out.alloc, state) else {
+        let Ok(accepted) = state.copy() else {
+            return Err(EventError::Memory);
+        };
+        let Ok(ready) = Ready::new(out.alloc, accepted) else {
             return Err(EventError::Memory);
         };
         let Ok(()) = out.make_room(self.tasks.open_count(), &None) else {

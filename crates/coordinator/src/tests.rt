@@ -45,11 +45,11 @@ impl Model for Member {
 }
 
 impl Member {
-    fn open(alloc: Global, settings: Settings) -> Member {
+    fn open(alloc: Global, settings: Settings) -> Result<Member, AllocError> {
         law_opened_is_fit();
-        Member {
-            node: Coordinator::open(alloc, settings, PlainKeeper::new(alloc)),
-        }
+        Ok(Member {
+            node: Coordinator::open(alloc, settings, PlainKeeper::new(alloc)?),
+        })
     }
 
     fn name(&self) -> NodeId {
@@ -297,7 +297,7 @@ impl World {
         };
         for name in names {
             let settings = settings_of(alloc, NodeId::parse(name)?, names)?;
-            let (member, _) = Member::open(alloc, settings).step(alloc, Event::Start)?;
+            let (member, _) = Member::open(alloc, settings)?.step(alloc, Event::Start)?;
             world.members.push(member)?;
         }
         Ok(world)

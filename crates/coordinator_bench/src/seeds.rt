@@ -189,7 +189,7 @@ pub fn new_cluster(alloc: Global, nodes: u8) -> Result<Plain, Fault> {
     let mut world = World::new(alloc);
     for me in all.as_slice() {
         let settings = settings(alloc, *me, &all, all.copy())?;
-        world.add(member(alloc, settings, PlainKeeper::new(alloc))?)?;
+        world.add(member(alloc, settings, PlainKeeper::new(alloc)?)?)?;
     }
     Ok(world)
 }

@@ -7,7 +7,7 @@ use coordinator::{Coordinator, Sealed, StepError};
 use host_io::{SocketLink, SystemHost};
 use policy_model::{Event, NodeIds, Settings, law_opened_is_fit};
 use state_journal::PlainKeeper;
-use std::alloc::Global;
+use std::alloc::{AllocError, Global};
 use std::io::{Read, Write};
 use std::marker::Model;
 use std::net::{TcpListener, TcpStream};
@@ -36,11 +36,11 @@ impl Model for Node {
 }
 
 impl Node {
-    fn open(alloc: Global, settings: Settings) -> Node {
+    fn open(alloc: Global, settings: Settings) -> Result<Node, AllocError> {
         law_opened_is_fit();
-        Node {
-            node: Coordinator::open(alloc, settings, PlainKeeper::new(alloc)),
-        }
+        Ok(Node {
+            node: Coordinator::open(alloc, settings, PlainKeeper::new(alloc)?),
+        })
     }
 
     fn step(self, alloc: Global, event: Event) -> Result<(Node, Sealed), Fail>
@@ -67,7 +67,7 @@ impl Node {
             initial,
             shrink: true,
         };
-        let (node, _) = Node::open(alloc, settings).step(alloc, Event::Start)?;
+        let (node, _) = Node::open(alloc, settings)?.step(alloc, Event::Start)?;
         Ok(node)
     }
 }

@@ -135,12 +135,12 @@ struct Driven {
 fn opened(alloc: Global, me: NodeId) -> Result<Driven, AllocError> {
     let mut entries = Vec::new(alloc);
     entries.push(Entry {
-        act: Act::Open(Kept::empty(alloc)),
+        act: Act::Open(Kept::empty(alloc)?),
         outcome: Outcome::Answered(ActReply::Taken(None, false)),
     })?;
     Ok(Driven {
         me,
-        node: CoordState::new(me, PlainKeeper::new(alloc)),
+        node: CoordState::new(me, PlainKeeper::new(alloc)?),
         entries,
     })
 }

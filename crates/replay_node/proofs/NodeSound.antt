@@ -16,7 +16,7 @@ use Rattle.zen_disk.specs.FileState.{FileState}
 use Rattle.zen_disk.specs.Sides.{Sides}
 use Rattle.zen_disk.specs.declared.orders.Order.{Order}
 use Rattle.zen_disk.specs.declared.orders.Way.{Way}
-use Rattle.gate_log.specs.Generations.{is_generation, standing_in}
+use Rattle.gate_log.specs.Generations.{standing_in}
 use Rattle.gate_log.specs.Place.{place_of}
 use Rattle.state_journal.specs.Bodies.{body_of}
 use Rattle.state_journal.specs.Changes.{changed}

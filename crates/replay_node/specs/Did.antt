@@ -14,7 +14,7 @@ use Rattle.trace_text.specs.Trace.{won_text, committed_text, committed_line, dow
 use Rattle.replay_node.specs.NodeWorld.{NodeWorld, outcome_at, after_act}
 use Rattle.trace_text.specs.Published.{last_published}
 use Rattle.replay_node.specs.Sent.{message_of, message_of_some}
-use Rattle.replay_node.specs.declared.message.FitPublishRequest.{FitPublishRequest}
+use Rattle.cluster_state.specs.declared.messages.PublishRequest.{PublishRequest}
 use Rattle.replay_node.specs.declared.message.SentMessage.{SentMessage}
 use Rattle.replay_node.specs.declared.did.Did.{Did}
 use Rattle.replay_node.specs.declared.did.Did.TheVariants as did
@@ -46,9 +46,9 @@ abbrev pub won_by : Option ℕ → Id → List ℕ
 won_by None n = []
 won_by (Some term) n = won_text true n term
 
-abbrev pub committed_by : Option (Rc FitPublishRequest Global) → List ℕ
+abbrev pub committed_by : Option (Rc PublishRequest Global) → List ℕ
 committed_by None = []
-committed_by (Some r) = committed_text (Some r.value.request.state)
+committed_by (Some r) = committed_text (Some r.value.state)
 
 abbrev pub sends_by : ℕ → Option SentMessage → List ℕ
 sends_by number None = []

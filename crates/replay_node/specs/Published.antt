@@ -3,8 +3,8 @@ use Rattle.std.specs.Prelude.{Option, None, Some}
 use Rattle.std.specs.declared.rc.Rc.{Rc}
 use Rattle.std.specs.declared.alloc.Global.{Global}
 use Rattle.cluster_state.specs.declared.state.ClusterState.{ClusterState}
-use Rattle.replay_node.specs.declared.message.FitPublishRequest.{FitPublishRequest}
+use Rattle.cluster_state.specs.declared.messages.PublishRequest.{PublishRequest}
 
-abbrev pub state_published : Option (Rc FitPublishRequest Global) → Option ClusterState
+abbrev pub state_published : Option (Rc PublishRequest Global) → Option ClusterState
 state_published None = None
-state_published (Some r) = Some r.value.request.state
+state_published (Some r) = Some r.value.state

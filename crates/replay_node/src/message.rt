@@ -1,41 +1,76 @@
-//! The messages of a replay. A published state is shared, and not copied for each that is sent it.
+//! The messages of a replay. A published state is shared, and not copied for each that is sent it or accepts it.
 ghost use Rattle.std.specs.Prelude.{◌≡◌, IfOk};
 ghost use Rattle.cluster_state.specs.States.{IsFit};
-ghost use Rattle.state_journal.specs.Fit.{IsFit-prop};
 ghost use Rattle.trace_text.specs.Trace.{state_text};
 
-use cluster_state::{ApplyCommit, Join, PublishRequest, PublishResponse, to_json};
+use cluster_state::{ApplyCommit, Join, PublishResponse, SharedState, to_json};
+use state_journal::Ready;
 use std::alloc::{AllocError, Global};
+use std::marker::Model;
 use std::rc::Rc;
+use voting_config::NodeId;
 
-/// A publish request whose state is within the limits, with the state's JSON, which is made once for all lines that show it.
+/// A publish request whose state is within the limits and ready to be kept by whoever accepts it, with the state's JSON, which is made once for
+/// all lines that show it. Contracts see the request.
 #[derive(Drop)]
 pub struct FitPublishRequest {
-    pub request: PublishRequest,
+    source: NodeId,
+    ready: Ready,
     json: Vec<u8>,
-    ghost fit: { IsFit request.state } by { IsFit-prop request.state },
-    ghost shown: { json.items ≡ state_text request.state },
+    ghost shown: { json.items ≡ state_text ready.state },
+}
+
+impl Model for FitPublishRequest {
+    ghost use Rattle.cluster_state.specs.declared.messages.PublishRequest.{PublishRequest};
+
+    ghost Value = { PublishRequest };
+
+    ghost view = { λ p. record { source = p.source; state = p.ready.state } };
 }
 
 impl FitPublishRequest {
-    /// This request, whose state is within the limits, in a place that is shared.
-    pub fn share(
+    /// The request by which this node publishes this state, which is within the limits.
+    pub fn of(
         alloc: Global,
-        request: PublishRequest,
+        source: NodeId,
+        state: &SharedState,
     ) -> Result<Rc<FitPublishRequest>, AllocError>
-        requires { IsFit request.state }
-        ensures { IfOk result (λ r. r.value.request ≡ request) }
+        requires { IsFit state.now }
+        ensures { IfOk result (λ r. r.value ≡ record { source = source; state = state.now }) }
     {
-        let json = to_json(alloc, &request.state)?;
-        match Rc::new(alloc, FitPublishRequest { request, json }) {
-            Ok(shared) => Ok(shared),
-            Err(_) => Err(AllocError),
-        }
+        let publication = FitPublishRequest {
+            source,
+            json: to_json(alloc, state)?,
+            ready: Ready::of(alloc, state)?,
+        };
+        Ok(Rc::new(alloc, publication)?)
+    }
+
+    /// Who has published the state.
+    pub fn source(&self) -> &NodeId
+        ensures { result.now ≡ self.now.source }
+    {
+        &self.source
+    }
+
+    /// The state.
+    pub fn state(&self) -> &SharedState
+        ensures state { result.now ≡ self.now.state }
+        ensures fit { IsFit self.now.state }
+    {
+        self.ready.state()
+    }
+
+    /// The state, ready to be kept by one that accepts it.
+    pub fn ready(&self) -> Result<Ready, AllocError>
+        ensures { IfOk result (λ ready. ready.state ≡ self.now.state) }
+    {
+        self.ready.copy()
     }
 
     /// The state as JSON.
     pub fn json(&self) -> &[u8]
-        ensures { result.now ≡ state_text self.now.request.state }
+        ensures { result.now ≡ state_text self.now.state }
     {
         self.json.as_slice()
     }

@@ -173,11 +173,11 @@ impl ReplayNode {
         &mut self,
         alloc: Global,
         version: u64,
-        config: VotingConfig,
+        config: &VotingConfig,
         value: ClusterValue,
     ) -> Result<Did, AllocError>
         requires { IsFitValue value }
-        ensures { IfOk result (λ did. NodeDoes self.old self.new (act.Value version config value) did) }
+        ensures { IfOk result (λ did. NodeDoes self.old self.new (act.Value version config.now value) did) }
     {
         let Slot::Open(state) = &mut self.slot else {
             return Ok(Did::Down);
@@ -208,7 +208,7 @@ impl ReplayNode {
         let Slot::Open(state) = &mut self.slot else {
             return Ok(Did::Down);
         };
-        let did = state::deliver(state, alloc, message, &self.published)?;
+        let did = state::deliver(state, message, &self.published)?;
         self.close(alloc, &did);
         Ok(did)
     }

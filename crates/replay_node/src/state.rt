@@ -1,18 +1,21 @@
 //! The acts of a node whose journal is open, each with what it did.
-ghost use Rattle.std.specs.Prelude.{◌≡◌, IfOk, Some, Ok, Option};
+ghost use Rattle.std.specs.Prelude.{◌≡◌, ◌≤◌, IfOk, Some, Ok, Option};
+ghost use Rattle.cluster_state.specs.Field.{last_number};
 ghost use Rattle.cluster_state.specs.States.{IsFitValue};
 ghost use Rattle.cluster_state.specs.declared.state.ClusterState.{ClusterState as State};
 ghost use Rattle.coord_state.specs.Outcomes.{join_outcome, response_outcome};
+ghost use Rattle.coord_state.specs.StandsFor.{request_of};
 ghost use Rattle.world_model.specs.declared.acts.Act.TheVariants as act;
+ghost use Rattle.world_model.specs.declared.acts.Message.TheVariants.{Publish as PublishMessage};
 ghost use Rattle.replay_node.specs.Did.{outcome_of, WinsIn, CommitsLast};
 ghost use Rattle.replay_node.specs.Published.{state_published};
 ghost use Rattle.replay_node.specs.Sent.{message_of, taking};
-ghost use Rattle.replay_node.specs.Stands.{HasRoomIn};
+ghost use Rattle.replay_node.specs.Stands.{HasRoomIn, journal_ghosts};
 ghost use Rattle.replay_node.specs.StateDoes.{IsToldBy, StateDoes, WritesText};
 
 use crate::did::{Did, Effects};
 use crate::message::{FitPublishRequest, SentMessage};
-use cluster_state::{ApplyCommit, ClusterValue, Join, PublishResponse};
+use cluster_state::{ApplyCommit, ClusterState, ClusterValue, Join, PublishResponse, SharedState};
 use coord_state::{CoordState, Joined, NotTaken};
 use state_journal::{Keeper, Ready, StateJournal};
 use std::alloc::{AllocError, Global};
@@ -125,44 +128,66 @@ pub fn join(state: &mut OpenNode, join: &Join) -> Result<Did, AllocError>
     }
 }
 
+// The publication of a value that the node has begun. The state is made where it stays.
+fn publication(
+    state: &OpenNode,
+    alloc: Global,
+    version: u64,
+    config: &VotingConfig,
+    value: ClusterValue,
+) -> Result<SentMessage, AllocError>
+    requires value { IsFitValue value }
+    requires version { version ≤ last_number }
+    ensures { IfOk result (λ sent. message_of sent ≡ PublishMessage (request_of journal_ghosts state.now version config.now value)) }
+{
+    // For the proof alone: what is kept is within the limits of a state.
+    let kept = state.kept();
+    let published = ClusterState {
+        term: kept.term,
+        version,
+        config: VotingConfig::of(config.members()),
+        committed: VotingConfig::of(kept.committed.members()),
+        value,
+    };
+    let published = SharedState::of(alloc, published)?;
+    let request = FitPublishRequest::of(alloc, state.me(), &published)?;
+    Ok(SentMessage::Publish(request))
+}
+
 /// The node publishes a client's value. Answers the publication too, where there is one.
 pub fn client_value(
     state: &mut OpenNode,
     alloc: Global,
     version: u64,
-    config: VotingConfig,
+    config: &VotingConfig,
     value: ClusterValue,
 ) -> Result<Did, AllocError>
     requires { IsFitValue value }
-    ensures does { IfOk result (λ did. StateDoes state.old state.new (act.Value version config value) did) }
-    ensures text { IfOk result (λ did. (published : Option State) → WritesText (act.Value version config value) published did) }
+    ensures does { IfOk result (λ did. StateDoes state.old state.new (act.Value version config.now value) did) }
+    ensures text { IfOk result (λ did. (published : Option State) → WritesText (act.Value version config.now value) published did) }
 {
-    // For the proof alone: what is kept is within the limits of a state.
-    let _ = state.keeper().kept();
-    match state.client_value(version, config, value) {
+    match state.begin_publication(version, config) {
         Err(error) => ended(state, error.not_taken()),
-        Ok(request) => {
-            let publication = FitPublishRequest::share(alloc, request)?;
-            Ok(Did::sends(Some(SentMessage::Publish(publication))))
+        Ok(()) => {
+            let sent = publication(state, alloc, version, config, value)?;
+            Ok(Did::sends(Some(sent)))
         }
     }
 }
 
-/// The node accepts a published state. One that it refuses is not copied.
+/// The node accepts a published state. Nothing is copied of one that it refuses.
 pub fn publish_request(
     state: &mut OpenNode,
-    alloc: Global,
     publication: &FitPublishRequest,
 ) -> Result<Did, AllocError>
-    ensures does { IfOk result (λ did. StateDoes state.old state.new (act.Publish publication.now.request) did) }
-    ensures text { IfOk result (λ did. (published : Option State) → WritesText (act.Publish publication.now.request) published did) }
+    ensures does { IfOk result (λ did. StateDoes state.old state.new (act.Publish publication.now) did) }
+    ensures text { IfOk result (λ did. (published : Option State) → WritesText (act.Publish publication.now) published did) }
 {
-    let request = &publication.request;
-    if let Err(error) = state.check_publish(&request.state) {
+    if let Err(error) = state.check_publish(publication.state()) {
         return ended(state, error.not_taken());
     }
-    let ready = Ready::of(alloc, &request.state)?;
-    match state.publish_request(request.source, ready) {
+    let ready = publication.ready()?;
+    match state.publish_request(*publication.source(), ready) {
         Ok(response) => Ok(Did::sends(Some(SentMessage::Response(response)))),
         Err(error) => ended(state, error.not_taken()),
     }
@@ -201,7 +226,6 @@ pub fn commit(state: &mut OpenNode, commit: &ApplyCommit) -> Result<Did, AllocEr
 /// The node takes a message.
 pub fn deliver(
     state: &mut OpenNode,
-    alloc: Global,
     message: &SentMessage,
     published: &Option<Rc<FitPublishRequest>>,
 ) -> Result<Did, AllocError>
@@ -211,7 +235,7 @@ pub fn deliver(
 {
     match message {
         SentMessage::Join(sent) => join(state, sent),
-        SentMessage::Publish(publication) => publish_request(state, alloc, publication),
+        SentMessage::Publish(publication) => publish_request(state, publication),
         SentMessage::Response(response) => publish_response(state, response, published),
         SentMessage::Commit(sent) => commit(state, sent),
     }

@@ -23,7 +23,8 @@ fn write_message(text: &mut Text, ordinal: u64, message: &SentMessage) -> Result
     match message {
         SentMessage::Join(join) => write_join_message(text, ordinal, join),
         SentMessage::Publish(publication) => {
-            write_publish_message(text, ordinal, &publication.request, publication.json())
+            let (source, state) = (publication.source(), publication.state());
+            write_publish_message(text, ordinal, source, state, publication.json())
         }
         SentMessage::Response(response) => write_response_message(text, ordinal, response),
         SentMessage::Commit(commit) => write_commit_message(text, ordinal, commit),
@@ -48,7 +49,7 @@ fn write_committed_by(
     match committed {
         None => Ok(()),
         Some(publication) => {
-            write_committed_shown(text, &publication.request.state, publication.json())
+            write_committed_shown(text, publication.state(), publication.json())
         }
     }
 }
@@ -137,7 +138,8 @@ pub fn write_taking(text: &mut Text, message: &SentMessage) -> Result<(), AllocE
     match message {
         SentMessage::Join(join) => write_join(text, join),
         SentMessage::Publish(publication) => {
-            write_publish_shown(text, &publication.request, publication.json())
+            let (source, state) = (publication.source(), publication.state());
+            write_publish_shown(text, source, state, publication.json())
         }
         SentMessage::Response(response) => write_response(text, response),
         SentMessage::Commit(commit) => write_commit(text, commit),

@@ -190,7 +190,7 @@ impl Replayer {
         write_value(&mut self.act, alloc, version, &config, &value)?;
         let place = place_of(ids.as_slice(), n);
         let nodes = self.nodes.as_mut_slice();
-        let did = nodes[place].client_value(alloc, version, config, value)?;
+        let did = nodes[place].client_value(alloc, version, &config, value)?;
         self.finish(n, did, text)
     }
 

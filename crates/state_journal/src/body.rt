@@ -9,8 +9,10 @@ ghost use Rattle.state_journal.specs.declared.why.BodyFault.TheVariants as fault
 ghost use Rattle.state_journal.specs.declared.body.BodyError.TheVariants as body_error;
 
 use crate::{BodyFault, Change, Generation};
-use cluster_state::{DecodeError, FieldError, Kept, ReadError, Reader, StateFault, decode_state};
-use std::alloc::Global;
+use cluster_state::{
+    DecodeError, FieldError, Kept, ReadError, Reader, SharedState, StateFault, decode_state,
+};
+use std::alloc::{AllocError, Global};
 
 // Why a change was not read.
 #[derive(Clone, Copy, Debug)]
@@ -24,6 +26,14 @@ impl From<FieldError> for BodyError {
 
     fn from(fault: FieldError) -> BodyError {
         BodyError::Fault(BodyFault::Field(fault))
+    }
+}
+
+impl From<AllocError> for BodyError {
+    ghost from_gives = { λ _ e. e ≡ body_error.Memory };
+
+    fn from(_e: AllocError) -> BodyError {
+        BodyError::Memory
     }
 }
 
@@ -97,7 +107,7 @@ fn read_state(alloc: Global, bytes: &[u8]) -> Result<Change, BodyError>
     ensures reads { ReadsChange result (change_by change.Accepted (whole (state_field.at bytes.now))) }
     ensures fit { IfOk result IsFitChange }
 {
-    let state = decode_state(alloc, bytes)?;
+    let state = SharedState::of(alloc, decode_state(alloc, bytes)?)?;
     Ok(Change::Accepted(state))
 }
 
@@ -119,7 +129,7 @@ fn whole_generation(alloc: Global, bytes: &[u8]) -> Result<Change, BodyError>
     let mut reader = Reader::new(bytes);
     let epoch = reader.version()?;
     let term = reader.term()?;
-    let accepted = reader.state(alloc)?;
+    let accepted = SharedState::of(alloc, reader.state(alloc)?)?;
     let committed = reader.config()?;
     if !reader.is_at_end() {
         return Err(BodyError::Fault(BodyFault::Trailing));

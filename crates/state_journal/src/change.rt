@@ -1,5 +1,5 @@
 //! The changes of a record, and what a generation begins with.
-use cluster_state::{ClusterState, Kept};
+use cluster_state::{Kept, SharedState};
 
 /// What a generation of the journal begins with: its epoch, and the record so far.
 #[derive(Drop)]
@@ -14,7 +14,7 @@ pub enum Change {
     /// A greater term.
     Term(u64),
     /// A state that is accepted, with the committed configuration that it carries.
-    Accepted(ClusterState),
+    Accepted(SharedState),
     /// The accepted configuration is committed.
     Committed,
     /// The whole record: the first body of a generation.

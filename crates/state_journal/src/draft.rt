@@ -119,6 +119,18 @@ impl Draft {
         })
     }
 
+    // The same bytes of the same state once more.
+    pub(crate) fn copy(&self) -> Result<Draft, AllocError>
+        ensures { IfOk result (λ d. d ≡ self.now) }
+    {
+        Ok(Draft {
+            bytes: self.bytes.clone()?,
+            size: self.size,
+            start: self.start,
+            len: self.len,
+        })
+    }
+
     // How many bytes the state has.
     pub(crate) fn len(&self) -> usize
         ensures { result ≡ length self.now.state }

@@ -11,8 +11,7 @@ ghost use Rattle.state_journal.specs.declared.fold.FoldError.TheVariants as fold
 use crate::body::{BodyError, read_body};
 use crate::{Change, Fault, Why};
 use cluster_state::Kept;
-use std::alloc::Global;
-use voting_config::VotingConfig;
+use std::alloc::{AllocError, Global};
 use zen_disk::Side;
 
 // Why the bodies of one side make no record.
@@ -20,6 +19,14 @@ use zen_disk::Side;
 enum FoldError {
     Memory,
     Fault(Fault),
+}
+
+impl From<AllocError> for FoldError {
+    ghost from_gives = { λ _ e. e ≡ fold_error.Memory };
+
+    fn from(_e: AllocError) -> FoldError {
+        FoldError::Memory
+    }
 }
 
 impl From<Fault> for FoldError {
@@ -77,12 +84,9 @@ fn apply(kept: Kept, change: Change, at: u64) -> Result<Kept, Fault>
             if state.term > kept.term {
                 return Err(Fault::Order(at));
             }
-            kept.committed = VotingConfig::of(state.committed.members());
-            kept.accepted = state;
+            kept.accept(state);
         }
-        Change::Committed => {
-            kept.committed = VotingConfig::of(kept.accepted.config.members());
-        }
+        Change::Committed => kept.commit(),
         Change::Renewed(generation) => {
             if generation.kept.accepted.term > generation.kept.term {
                 return Err(Fault::Order(at));
@@ -111,7 +115,7 @@ fn fold_bodies(alloc: Global, bodies: &[Vec<u8>]) -> Result<Kept, FoldError>
     ensures reads { ReadsRecord result (folded_from 8 empty_record (lists bodies.now)) }
     ensures fit { IfOk result IsFitRecord }
 {
-    let mut kept = Kept::empty(alloc);
+    let mut kept = Kept::empty(alloc)?;
     let mut at: u64 = 8;
     for body in bodies {
         kept = match add_body(alloc, kept, body, at) {

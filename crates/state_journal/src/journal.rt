@@ -179,16 +179,12 @@ impl<D: Disks> Keeper for StateJournal<D> {
         if self.log.stopped() {
             return Err(KeepError::Stopped);
         }
-        let Ready {
-            mut state,
-            mut draft,
-        } = ready;
+        let Ready { state, mut draft } = ready;
         let records = records_after(&self.log, self.records, draft.len() + 1);
         let Ok(()) = keep_state(&mut self.log, &mut draft, self.kept.term, &state.committed) else {
             return Err(KeepError::Disk);
         };
-        self.kept.committed.copy_from(state.committed.members());
-        self.kept.accepted.take_from(&mut state);
+        self.kept.accept(state);
         self.draft = draft;
         self.records = records;
         Ok(())
@@ -209,9 +205,7 @@ impl<D: Disks> Keeper for StateJournal<D> {
         ) else {
             return Err(KeepError::Disk);
         };
-        self.kept
-            .committed
-            .copy_from(self.kept.accepted.config.members());
+        self.kept.commit();
         self.records = records;
         Ok(())
     }

@@ -1,5 +1,5 @@
 //! A keeper in memory, which never fails.
-ghost use Rattle.std.specs.Prelude.{◌≡◌, ◌≤◌, ⊤, false, true, refl, Some};
+ghost use Rattle.std.specs.Prelude.{◌≡◌, ◌≤◌, ⊤, false, true, refl, Some, IfOk};
 ghost use Rattle.cluster_state.specs.Field.{last_number};
 ghost use Rattle.cluster_state.specs.Initial.{empty_record};
 ghost use Rattle.cluster_state.specs.States.{IsFit};
@@ -8,7 +8,7 @@ ghost use Rattle.state_journal.specs.Changes.{changed};
 
 use crate::{KeepError, Keeper, Ready};
 use cluster_state::Kept;
-use std::alloc::Global;
+use std::alloc::{AllocError, Global};
 
 /// A keeper in memory, which never fails.
 #[derive(Drop)]
@@ -21,12 +21,12 @@ pub struct PlainKeeper {
 
 impl PlainKeeper {
     /// A keeper of the empty record.
-    pub fn new(alloc: Global) -> PlainKeeper
-        ensures { result.kept ≡ empty_record }
+    pub fn new(alloc: Global) -> Result<PlainKeeper, AllocError>
+        ensures { IfOk result (λ keeper. keeper.kept ≡ empty_record) }
     {
-        PlainKeeper {
-            kept: Kept::empty(alloc),
-        }
+        Ok(PlainKeeper {
+            kept: Kept::empty(alloc)?,
+        })
     }
 }
 
@@ -63,16 +63,13 @@ impl Keeper for PlainKeeper {
     }
 
     fn set_accepted(&mut self, ready: Ready) -> Result<(), KeepError> {
-        let Ready { mut state, .. } = ready;
-        self.kept.committed.copy_from(state.committed.members());
-        self.kept.accepted.take_from(&mut state);
+        let Ready { state, .. } = ready;
+        self.kept.accept(state);
         Ok(())
     }
 
     fn mark_committed(&mut self) -> Result<(), KeepError> {
-        self.kept
-            .committed
-            .copy_from(self.kept.accepted.config.members());
+        self.kept.commit();
         Ok(())
     }
 }

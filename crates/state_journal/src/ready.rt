@@ -6,20 +6,19 @@ ghost use Rattle.state_journal.specs.Drafts.{IsDraft};
 ghost use Rattle.state_journal.specs.Fit.{IsFit-prop, IsDraft-prop};
 
 use crate::draft::Draft;
-use cluster_state::ClusterState;
+use cluster_state::{ClusterState, SharedState};
 use std::alloc::{AllocError, Global};
 use std::marker::Model;
 use voting_config::NodeSet;
 
-/// A state that is ready to be kept: keeping it takes no memory. Contracts see the state. It lies in a place of its own, since it is large
-/// and goes through many hands.
+/// A state that is ready to be kept: keeping it takes no memory. Contracts see the state.
 #[derive(Drop)]
 pub struct Ready {
-    pub(crate) state: Box<ClusterState>,
+    pub(crate) state: SharedState,
     // its bytes, with room for what is written around them
     pub(crate) draft: Draft,
-    ghost fit: { IsFit state.value } by { IsFit-prop state.value },
-    ghost drafted: { IsDraft state.value draft } by { IsDraft-prop state.value draft },
+    ghost fit: { IsFit state } by { IsFit-prop state },
+    ghost drafted: { IsDraft state draft } by { IsDraft-prop state draft },
 }
 
 impl Model for Ready {
@@ -27,7 +26,7 @@ impl Model for Ready {
 
     ghost Value = { ToKeep };
 
-    ghost view = { λ r. record { state = r.state.value } };
+    ghost view = { λ r. record { state = r.state } };
 }
 
 /// There was no memory to make a state ready. It is handed back.
@@ -46,7 +45,7 @@ impl Ready {
         let Ok(draft) = Draft::new(alloc, &state) else {
             return Err(NotReady { state });
         };
-        match Box::new(alloc, state) {
+        match SharedState::new(alloc, state) {
             Ok(state) => Ok(Ready { state, draft }),
             Err(failed) => Err(NotReady {
                 state: failed.value,
@@ -54,31 +53,36 @@ impl Ready {
         }
     }
 
-    /// A copy of this state, which is within the limits, ready to be kept.
-    pub fn of(alloc: Global, state: &ClusterState) -> Result<Ready, AllocError>
+    /// This state, which is within the limits and may be held by others too, ready to be kept.
+    pub fn of(alloc: Global, state: &SharedState) -> Result<Ready, AllocError>
         requires { IsFit state.now }
         ensures { IfOk result (λ r. r.state ≡ state.now) }
     {
         let draft = Draft::new(alloc, state)?;
-        let settings = state.value.settings.copy()?;
-        let Ok(state) = Box::new(alloc, state.with_settings(settings)) else {
-            return Err(AllocError);
-        };
+        let state = state.share()?;
         Ok(Ready { state, draft })
+    }
+
+    /// The same state, ready to be kept by another: the state is shared, and only its bytes for the journal are copied.
+    pub fn copy(&self) -> Result<Ready, AllocError>
+        ensures { IfOk result (λ r. r ≡ self.now) }
+    {
+        Ok(Ready {
+            state: self.state.share()?,
+            draft: self.draft.copy()?,
+        })
     }
 
     /// What a bootstrap with this configuration makes the accepted state, ready to be kept.
     pub fn initial(alloc: Global, config: &NodeSet) -> Result<Ready, AllocError>
         ensures { IfOk result (λ r. r.state ≡ initial_state config.now) }
     {
-        match Ready::new(alloc, ClusterState::initial(alloc, config)) {
-            Ok(ready) => Ok(ready),
-            Err(_) => Err(AllocError),
-        }
+        let state = SharedState::of(alloc, ClusterState::initial(alloc, config))?;
+        Ready::of(alloc, &state)
     }
 
     /// The state.
-    pub fn state(&self) -> &ClusterState
+    pub fn state(&self) -> &SharedState
         ensures state { result.now ≡ self.now.state }
         ensures fit { IsFit self.now.state }
     {

@@ -12,12 +12,14 @@ fn one_id() -> NodeSet {
 
 #[test]
 fn a_plain_keeper_keeps(rt: HostRuntime) -> Result<(), Fail> {
-    let mut keeper = PlainKeeper::new(rt.alloc());
+    let mut keeper = PlainKeeper::new(rt.alloc())?;
     assert!(rt; keeper.set_term(1) == Ok(()));
     let initial = Ready::initial(rt.alloc(), &one_id())?;
-    let once_more = Ready::of(rt.alloc(), initial.state())?;
+    let shared = Ready::of(rt.alloc(), initial.state())?;
+    let copied = initial.copy()?;
     assert!(rt; keeper.set_accepted(initial) == Ok(()));
-    assert!(rt; keeper.set_accepted(once_more) == Ok(()));
+    assert!(rt; keeper.set_accepted(shared) == Ok(()));
+    assert!(rt; keeper.set_accepted(copied) == Ok(()));
     assert!(rt; keeper.mark_committed() == Ok(()));
     assert!(rt; !keeper.stopped());
     assert!(rt; keeper.kept().term == 1);

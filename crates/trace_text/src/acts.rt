@@ -108,20 +108,23 @@ pub fn write_publish(
     ensures { OnOk result (text.new ≡ text.old ++ act_text (act.Publish request.now)) }
 {
     let json = to_json(alloc, &request.state)?;
-    write_publish_shown(text, request, json.as_slice())
+    write_publish_shown(text, &request.source, &request.state, json.as_slice())
 }
 
 /// Writes what `write_publish` does, where the JSON of the state was made before.
 pub fn write_publish_shown(
     text: &mut Text,
-    request: &PublishRequest,
+    source: &NodeId,
+    state: &ClusterState,
     json: &[u8],
 ) -> Result<(), AllocError>
-    requires { json.now ≡ state_text request.now.state }
-    ensures { OnOk result (text.new ≡ text.old ++ act_text (act.Publish request.now)) }
+    requires { json.now ≡ state_text state.now }
+    ensures { OnOk result (text.new ≡ text.old ++ act_text (act.Publish (record { source = source.now; state = state.now }))) }
 {
+    // For the contract alone, which says whose JSON it is.
+    let _ = state;
     text.word("publish ")?;
-    text.id_and(&request.source, b' ')?;
+    text.id_and(source, b' ')?;
     text.bytes(json)
 }
 

@@ -4,7 +4,7 @@ ghost use Rattle.world_model.specs.declared.acts.Message.TheVariants as message;
 ghost use Rattle.trace_text.specs.Trace.{message_line, message_text, state_text, won_text, committed_text};
 
 use crate::acts::write_state_id;
-use cluster_state::{ApplyCommit, ClusterState, Join, PublishRequest, PublishResponse, to_json};
+use cluster_state::{ApplyCommit, ClusterState, Join, PublishResponse, to_json};
 use schedule_text::Text;
 use std::alloc::{AllocError, Global};
 use voting_config::NodeId;
@@ -82,12 +82,12 @@ fn join_fields(text: &mut Text, join: &Join) -> Result<(), AllocError>
     write_state_id(text, join.last_term, join.last_version)
 }
 
-fn publish_fields(text: &mut Text, request: &PublishRequest, json: &[u8]) -> Result<(), AllocError>
-    requires { json.now ≡ state_text request.now.state }
-    ensures { OnOk result (text.new ≡ text.old ++ message_text (message.Publish request.now)) }
+fn publish_fields(text: &mut Text, state: &ClusterState, json: &[u8]) -> Result<(), AllocError>
+    requires { json.now ≡ state_text state.now }
+    ensures { OnOk result (text.new ≡ text.old ++ (codes "publish " ++ state_text state.now)) }
 {
     // For the contract alone, which says whose JSON it is.
-    let _ = request;
+    let _ = state;
     text.word("publish ")?;
     text.bytes(json)
 }
@@ -121,16 +121,17 @@ pub fn write_join_message(text: &mut Text, ordinal: u64, join: &Join) -> Result<
 pub fn write_publish_message(
     text: &mut Text,
     ordinal: u64,
-    request: &PublishRequest,
+    source: &NodeId,
+    state: &ClusterState,
     json: &[u8],
 ) -> Result<(), AllocError>
-    requires { json.now ≡ state_text request.now.state }
-    ensures { OnOk result (text.new ≡ text.old ++ message_line ordinal (message.Publish request.now)) }
+    requires { json.now ≡ state_text state.now }
+    ensures { OnOk result (text.new ≡ text.old ++ message_line ordinal (message.Publish (record { source = source.now; state = state.now }))) }
 {
     number(text, ordinal)?;
-    to_any(text, &request.source)?;
+    to_any(text, source)?;
     text.word(" ")?;
-    publish_fields(text, request, json)?;
+    publish_fields(text, state, json)?;
     text.word("\n")
 }
 

@@ -7,7 +7,7 @@ use crate::{
 };
 use cluster_state::{
     ApplyCommit, ClusterState, ClusterValue, Join, Kept, PublishRequest, PublishResponse,
-    StartCause, to_json,
+    SharedState, StartCause, to_json,
 };
 use schedule_text::Text;
 use std::alloc::{AllocError, Global};
@@ -75,7 +75,7 @@ fn publications(alloc: Global) -> Result<Text, AllocError> {
     write_commit(&mut text, &commit)?;
     write_committed(&mut text, alloc, &request.state)?;
     let json = to_json(alloc, &request.state)?;
-    write_publish_message(&mut text, 1, &request, json.as_slice())?;
+    write_publish_message(&mut text, 1, &a(), &request.state, json.as_slice())?;
     write_response_message(&mut text, 2, &response)?;
     write_commit_message(&mut text, 3, &commit)?;
     Ok(text)
@@ -98,7 +98,7 @@ fn stops(alloc: Global) -> Result<Text, AllocError> {
     accepted.version = 5;
     let found = Kept {
         term: 3,
-        accepted,
+        accepted: SharedState::of(alloc, accepted)?,
         committed: VotingConfig::of(&NodeSet::new()),
     };
     let mut text = Text::new(alloc);

@@ -13,7 +13,7 @@ pub returns : goal.returns
 returns c =
     let old = c.args.self.now in
     let new = c.close.new.self in
-    let act = Value c.args.version c.args.config c.args.value in
+    let act = Value c.args.version c.args.config.now c.args.value in
     let d = c.in_ok-did.did in
     let did = c.in_ok-did.ensures in
     let kept = c.in_ok-remember.ensures in

@@ -1,4 +1,4 @@
-use Rattle.std.proofs.Common.{◌≡◌, ◌∙◌, Ok, length, sym}
+use Rattle.std.proofs.Common.{◌≡◌, ◌∙◌, Ok, length, sym, rules}
 use Rattle.gate_log.specs.Calls.{both_opening_calls}
 use Rattle.gate_log.specs.Folded.{found_by}
 use Rattle.gate_log.specs.Generations.{in_use}
@@ -21,8 +21,9 @@ invariant_of-result g c =
     let files = g.D.Disks.seen log.disk in
     let zero : c.deref.result.now ≡ c.in-Ok.opened.zero.items = c.deref.ensures.value in
     let one : c.deref-2.result.now ≡ c.in-Ok.opened.one.items = c.deref-2.ensures.value in
-    let zero_again : c.deref-3.result.now ≡ c.in-Ok.opened.zero.items = c.deref-3.ensures.value in
-    let one_again : c.deref-4.result.now ≡ c.in-Ok.opened.one.items = c.deref-4.ensures.value in
+    let zero_again : c.deref-4.result.now ≡ c.in-Ok.opened.zero.items = c.deref-4.ensures.value in
+    let one_again : c.deref-5.result.now ≡ c.in-Ok.opened.one.items = c.deref-5.ensures.value in
+    let shown : c.deref-3.result.now ≡ c.in-Ok-fold_sides.kept.accepted = search rules in
     let found = generations_in log.side c.in-Ok.opened.zero.items c.in-Ok.opened.one.items in
     let reads : on_its_side (found_by record_of_bodies found) ≡ Ok c.in-Ok-fold_sides.kept = sym (λ i. on_its_side (found_by record_of_bodies (generations_in (c.side.ensures.value i) (zero i) (one i)))) ∙ c.in-Ok-fold_sides.ensures.reads in
     record {
@@ -32,5 +33,5 @@ invariant_of-result g c =
       bounded = c.in-Ok-fold_sides.ensures.fit.bounded;
       fit = c.in-Ok-fold_sides.ensures.fit.fit;
       older = c.in-Ok-fold_sides.ensures.fit.older;
-      drafted = c.in-Ok-new.ensures;
+      drafted = rw (sym shown) c.in-Ok-new.ensures;
     }

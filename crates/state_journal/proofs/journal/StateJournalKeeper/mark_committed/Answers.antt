@@ -1,11 +1,14 @@
-use Rattle.std.proofs.Common.{◌≡◌, ℕ, List, Ok, true, false, refl, sym, ap, ◌∙◌, subst}
-use Rattle.voting_config.specs.Ids.{Id}
+use Rattle.std.proofs.Common.{◌≡◌, ℕ, List, Ok, true, false, refl, sym, ap, ◌∙◌, subst, rules}
+use Rattle.voting_config.specs.Ids.{most_ids}
+use Rattle.cluster_state.specs.Fields.{ids}
+use Rattle.cluster_state.specs.declared.state.ClusterState.{ClusterState}
+use Rattle.zen_disk.specs.Moments.{LeavesOnly}
 use Rattle.gate_log.specs.Generations.{is_generation, standing_in}
 use Rattle.gate_log.specs.Place.{place, renews}
 use Rattle.state_journal.specs.Bodies.{body_of}
 use Rattle.state_journal.specs.Changes.{changed}
 use Rattle.state_journal.specs.Drafts.{MayBegin}
-use Rattle.state_journal.specs.Keeping.{generation_after, written_in}
+use Rattle.state_journal.specs.Keeping.{IsWritten, generation_after, record_with, written_in}
 use Rattle.state_journal.specs.declared.change.Change.TheVariants.{Committed}
 use Rattle.state_journal.proofs.Changing.{is_open, crash_leaves}
 use Rattle.state_journal.proofs.Same.{same_journal}
@@ -22,16 +25,21 @@ keep_small-requires-clause-plain g c = subst (λ (b : List ℕ). is_generation b
 pub returns-in_default-clause-any_moment : goal.returns-in_default-clause-any_moment
 returns-in_default-clause-any_moment g c = λ told running.
     let old = c.args.self.now in
+    let shown : c.deref.result.now ≡ old.kept.accepted = search rules in
     let change = Committed in
     let may : MayFollow old.kept change = record { reads = reads_committed; order = refl } in
     let begins : renews (place old.log) (body_of change) ≡ true → MayBegin (changed old.kept change) =
-    λ renewing. record { bounded = old.bounded; fits = fits_of old.kept.accepted old.drafted.fits; named = c.keep_small.ensures.fits (ap (renews (place old.log)) c.committed_body-body.ensures ∙ renewing); older = old.older } in
-    crash_leaves old told running change may begins _ _ c.committed_body-body.ensures (c.keep_small.ensures.any_moment told old.kept.accepted old.drafted)
+    λ renewing. record { bounded = old.bounded; fits = fits_of old.kept.accepted old.drafted.fits; named = subst (λ (s : ClusterState). (ids most_ids).Fits s.config) shown (c.keep_small.ensures.fits (ap (renews (place old.log)) c.committed_body-body.ensures ∙ renewing)); older = old.older } in
+    let moment =
+    subst (λ (s : ClusterState). LeavesOnly g.D.Disks.moment g.D.Disks.left_since old.log.disk c.keep_small.new.log.disk
+    (IsWritten (renews (place old.log) c.committed_body-body.result) (standing_in (g.D.Disks.seen old.log.disk)) c.committed_body-body.result (generation_after (place old.log) (record_with old.kept.term old.kept.accepted s.config))))
+    shown (c.keep_small.ensures.any_moment told old.kept.accepted old.drafted) in
+    crash_leaves old told running change may begins _ _ c.committed_body-body.ensures moment
 
 pub invariant_of-self-2 : goal.invariant_of-self-2
 invariant_of-self-2 g c =
     let old = c.args.self.now in
-    let same : c.copy_from.new.self ≡ old.kept.accepted.config = c.copy_from.ensures ∙ c.members.ensures in
+    let shown : c.deref.result.now ≡ old.kept.accepted = search rules in
     let now = c.keep_small.new.log in
     let p = place old.log in
     let change = Committed in
@@ -39,28 +47,36 @@ invariant_of-self-2 g c =
     let ran : old.log.stopped ≡ false = sym c.stopped.ensures ∙ c.if-stopped.false in
     let may : MayFollow old.kept change = record { reads = reads_committed; order = refl } in
     let begins : renews p (body_of change) ≡ true → MayBegin next =
-    λ renewing. record { bounded = old.bounded; fits = fits_of old.kept.accepted old.drafted.fits; named = c.keep_small.ensures.fits (ap (renews p) c.committed_body-body.ensures ∙ renewing); older = old.older } in
+    λ renewing. record { bounded = old.bounded; fits = fits_of old.kept.accepted old.drafted.fits; named = subst (λ (s : ClusterState). (ids most_ids).Fits s.config) shown (c.keep_small.ensures.fits (ap (renews p) c.committed_body-body.ensures ∙ renewing)); older = old.older } in
+    let grown = λ (told : g.D.Disks.told).
+    subst (λ (b : List ℕ). standing_in (g.D.Disks.seen now.disk) ≡ written_in (renews p b) (standing_in (g.D.Disks.seen old.log.disk)) b (generation_after p next)) c.committed_body-body.ensures
+    (subst (λ (s : ClusterState). standing_in (g.D.Disks.seen now.disk)
+    ≡ written_in (renews p c.committed_body-body.result) (standing_in (g.D.Disks.seen old.log.disk)) c.committed_body-body.result (generation_after p (record_with old.kept.term old.kept.accepted s.config))) shown
+    (c.in-Ok.ensures.ok told old.kept.accepted old.drafted)) in
     record {
       stands = λ told running.
           let is = is_open old told ran in
-          let grown = subst (λ (b : List ℕ). standing_in (g.D.Disks.seen now.disk) ≡ written_in (renews p b) (standing_in (g.D.Disks.seen old.log.disk)) b (generation_after p next)) c.committed_body-body.ensures (c.in-Ok.ensures.ok told old.kept.accepted old.drafted) in
-          stands_after is change may begins (g.D.Disks.seen now.disk) grown (now.settled told running).stands ∙ ap (λ (ids : List Id). Ok (record (old.kept) { committed = ids })) (sym same);
+          stands_after is change may begins (g.D.Disks.seen now.disk) (grown told) (now.settled told running).stands ∙ ap Ok (sym c.commit.ensures);
       counted = λ told running.
           let is = is_open old told ran in
-          let grown = subst (λ (b : List ℕ). standing_in (g.D.Disks.seen now.disk) ≡ written_in (renews p b) (standing_in (g.D.Disks.seen old.log.disk)) b (generation_after p next)) c.committed_body-body.ensures (c.in-Ok.ensures.ok told old.kept.accepted old.drafted) in
-          counts_by (renews p (body_of change)) old.records c.records_after-records.result _ (counted_after is change may begins (g.D.Disks.seen now.disk) grown) (few is)
+          counts_by (renews p (body_of change)) old.records c.records_after-records.result _ (counted_after is change may begins (g.D.Disks.seen now.disk) (grown told)) (few is)
           (c.records_after-records.ensures.one (body_of change) length-committed) (c.records_after-records.ensures.more (body_of change) length-committed);
-      bounded = old.bounded;
-      fit = old.fit;
-      older = old.older;
-      drafted = record { spelled = c.keep_small.ensures.same ∙ old.drafted.spelled; fits = old.drafted.fits };
+      bounded = rw c.commit.ensures old.bounded;
+      fit = rw c.commit.ensures old.fit;
+      older = rw c.commit.ensures old.older;
+      drafted = rw c.commit.ensures (record { spelled = c.keep_small.ensures.same ∙ old.drafted.spelled; fits = old.drafted.fits });
     }
 
 pub returns-clause-any_moment : goal.returns-clause-any_moment
 returns-clause-any_moment g c = λ told running.
     let old = c.args.self.now in
+    let shown : c.deref.result.now ≡ old.kept.accepted = search rules in
     let change = Committed in
     let may : MayFollow old.kept change = record { reads = reads_committed; order = refl } in
     let begins : renews (place old.log) (body_of change) ≡ true → MayBegin (changed old.kept change) =
-    λ renewing. record { bounded = old.bounded; fits = fits_of old.kept.accepted old.drafted.fits; named = c.keep_small.ensures.fits (ap (renews (place old.log)) c.committed_body-body.ensures ∙ renewing); older = old.older } in
-    crash_leaves old told running change may begins _ _ c.committed_body-body.ensures (c.keep_small.ensures.any_moment told old.kept.accepted old.drafted)
+    λ renewing. record { bounded = old.bounded; fits = fits_of old.kept.accepted old.drafted.fits; named = subst (λ (s : ClusterState). (ids most_ids).Fits s.config) shown (c.keep_small.ensures.fits (ap (renews (place old.log)) c.committed_body-body.ensures ∙ renewing)); older = old.older } in
+    let moment =
+    subst (λ (s : ClusterState). LeavesOnly g.D.Disks.moment g.D.Disks.left_since old.log.disk c.keep_small.new.log.disk
+    (IsWritten (renews (place old.log) c.committed_body-body.result) (standing_in (g.D.Disks.seen old.log.disk)) c.committed_body-body.result (generation_after (place old.log) (record_with old.kept.term old.kept.accepted s.config))))
+    shown (c.keep_small.ensures.any_moment told old.kept.accepted old.drafted) in
+    crash_leaves old told running change may begins _ _ c.committed_body-body.ensures moment

@@ -1,7 +1,5 @@
-use Rattle.std.proofs.Common.{◌≡◌, ◌≤◌, ◌+◌, List, Ok, false, length, refl, sym, subst, ap, ◌∙◌, arith, rules}
-use Rattle.voting_config.specs.Ids.{Id}
+use Rattle.std.proofs.Common.{◌≡◌, ◌≤◌, ◌+◌, Ok, false, length, refl, sym, subst, ap, ◌∙◌, arith, rules}
 use Rattle.cluster_state.specs.declared.state.ClusterState.{ClusterState}
-use Rattle.cluster_state.specs.States.{IsFit}
 use Rattle.gate_log.specs.Generations.{standing_in}
 use Rattle.gate_log.specs.Place.{place, renews}
 use Rattle.state_journal.specs.Bodies.{body_of}
@@ -18,27 +16,25 @@ pub returns-then-stopped-clause-unchanged : goal.returns-then-stopped-clause-unc
 returns-then-stopped-clause-unchanged g c = λ stopped. same_journal _ _ refl refl refl refl
 
 pub records_after-records-requires : goal.records_after-records-requires
-records_after-records-requires g c = let ready = c.ready.inside in omega (arith, c.len.ensures, draft_short ready.state.value ready.draft ready.drafted)
+records_after-records-requires g c = let ready = c.ready.inside in omega (arith, c.len.ensures, draft_short ready.state ready.draft ready.drafted)
 
 pub returns-in_default-clause-any_moment : goal.returns-in_default-clause-any_moment
 returns-in_default-clause-any_moment g c = λ told running.
     let old = c.args.self.now in
     let ready = c.ready.inside in
-    let is : ready.state.value ≡ c.args.ready.state = ap (λ (r : ToKeep). r.state) c.ready.view_is in
-    let shown : c.deref.result.now ≡ ready.state.value = search rules in
-    let older : ready.state.value.term ≤ old.kept.term = subst (λ (s : ClusterState). s.term ≤ old.kept.term) (sym is) c.requires in
-    rw (sym is) (state_leaves old ready.state.value ready.drafted.fits older c.deref.result.now shown told running _ (c.keep_state.ensures.any_moment told ready.state.value ready.drafted))
+    let is : ready.state ≡ c.args.ready.state = ap (λ (r : ToKeep). r.state) c.ready.view_is in
+    let shown : c.deref.result.now ≡ ready.state = search rules in
+    let older : ready.state.term ≤ old.kept.term = subst (λ (s : ClusterState). s.term ≤ old.kept.term) (sym is) c.requires in
+    rw (sym is) (state_leaves old ready.state ready.drafted.fits older c.deref.result.now shown told running _ (c.keep_state.ensures.any_moment told ready.state ready.drafted))
 
 pub invariant_of-self-2 : goal.invariant_of-self-2
 invariant_of-self-2 g c =
     let old = c.args.self.now in
     let now = c.keep_state.new.log in
-    let state = c.ready.inside.state.value in
+    let state = c.ready.inside.state in
     let drafted = c.ready.inside.drafted in
     let is : state ≡ c.args.ready.state = ap (λ (r : ToKeep). r.state) c.ready.view_is in
     let here : c.deref.result.now ≡ state = search rules in
-    let accepted : c.take_from.new.self ≡ state = search rules in
-    let committed : c.copy_from.new.self ≡ state.committed = search rules in
     let older : state.term ≤ old.kept.term = subst (λ (s : ClusterState). s.term ≤ old.kept.term) (sym is) c.requires in
     let p = place old.log in
     let change = Accepted state in
@@ -51,24 +47,22 @@ invariant_of-self-2 g c =
     here (c.in-Ok.ensures.ok told state drafted) in
     record {
       stands = λ told running.
-          let stands = stands_after (is_open old told ran) change may begins (g.D.Disks.seen now.disk) (grown told) (now.settled told running).stands in
-          stands ∙ ap (λ (s : ClusterState). Ok (record (old.kept) { accepted = s; committed = state.committed })) (sym accepted)
-          ∙ ap (λ (ids : List Id). Ok (record (old.kept) { accepted = c.take_from.new.self; committed = ids })) (sym committed);
+          stands_after (is_open old told ran) change may begins (g.D.Disks.seen now.disk) (grown told) (now.settled told running).stands ∙ ap Ok (sym c.accept.ensures);
       counted = λ told running.
           let is = is_open old told ran in
           counts_by (renews p (body_of change)) old.records c.records_after-records.result _ (counted_after is change may begins (g.D.Disks.seen now.disk) (grown told)) (few is)
           (c.records_after-records.ensures.one (body_of change) size) (c.records_after-records.ensures.more (body_of change) size);
-      bounded = old.bounded;
-      fit = subst IsFit (sym accepted) c.ready.inside.fit;
-      older = subst (λ (s : ClusterState). s.term ≤ old.kept.term) (sym accepted) older;
-      drafted = rw accepted (record { spelled = c.keep_state.ensures.same ∙ drafted.spelled; fits = drafted.fits });
+      bounded = rw c.accept.ensures old.bounded;
+      fit = rw c.accept.ensures c.ready.inside.fit;
+      older = rw c.accept.ensures older;
+      drafted = rw c.accept.ensures (record { spelled = c.keep_state.ensures.same ∙ drafted.spelled; fits = drafted.fits });
     }
 
 pub returns-clause-any_moment : goal.returns-clause-any_moment
 returns-clause-any_moment g c = λ told running.
     let old = c.args.self.now in
     let ready = c.ready.inside in
-    let is : ready.state.value ≡ c.args.ready.state = ap (λ (r : ToKeep). r.state) c.ready.view_is in
-    let shown : c.deref.result.now ≡ ready.state.value = search rules in
-    let older : ready.state.value.term ≤ old.kept.term = subst (λ (s : ClusterState). s.term ≤ old.kept.term) (sym is) c.requires in
-    rw (sym is) (state_leaves old ready.state.value ready.drafted.fits older c.deref.result.now shown told running _ (c.keep_state.ensures.any_moment told ready.state.value ready.drafted))
+    let is : ready.state ≡ c.args.ready.state = ap (λ (r : ToKeep). r.state) c.ready.view_is in
+    let shown : c.deref.result.now ≡ ready.state = search rules in
+    let older : ready.state.term ≤ old.kept.term = subst (λ (s : ClusterState). s.term ≤ old.kept.term) (sym is) c.requires in
+    rw (sym is) (state_leaves old ready.state ready.drafted.fits older c.deref.result.now shown told running _ (c.keep_state.ensures.any_moment told ready.state ready.drafted))
