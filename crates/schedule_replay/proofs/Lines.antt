@@ -132,22 +132,24 @@ not_sent ids nodes messages lent text now n ordinal is past written w s =
     let known : message_at w ordinal ≡ None = subst (λ (x : List Message). slice_get x (ordinal - 1) ≡ None) s.messages_sent (mapped_none messages (ordinal - 1) none) in
     subst (λ (x : Option Message). LineDone ids nodes messages (took_some w n x) (delivery_results w n x) text now) (sym known) (record { stands = s; written = written w s.nodes_stand })
 
--- the echo of a line, and then its results, are its part of the trace
-pub writes_line : (ids initial : List Id) (old new : List ReplayNode) (messages more : List SentMessage) (t0 t1 t2 t3 now : List ℕ) (l lit : Line) → l ≡ lit
-    → DoesLine ids old new messages more t3 now (λ w. after initial w lit) (λ w. line_results initial w lit) → t1 ≡ t0 ++ codes "> " → t2 ≡ t1 ++ line_text l → t3 ≡ t2 ++ codes "\n" → WritesLine ids initial old new messages more t0 now l
-writes_line ids initial old new messages more t0 t1 t2 t3 now l lit is does a b c w s =
-    let here : LineDone ids new more (after initial w l) (line_results initial w l) t3 now =
-    subst (λ (x : Line). LineDone ids new more (after initial w x) (line_results initial w x) t3 now) (sym is) (does w s)
-    in
-    record { stands = here.stands; written = here.written ∙ rw (c, b, a) (simp append_assoc refl) }
+-- what holds of the line as it was matched holds of the line
+pub this_line : (ids initial : List Id) (old new : List ReplayNode) (messages more : List SentMessage) (was now : List ℕ) (l lit : Line) → l ≡ lit
+    → DoesLine ids old new messages more was now (λ w. after initial w lit) (λ w. line_results initial w lit) → DoesLine ids old new messages more was now (λ w. after initial w l) (λ w. line_results initial w l)
+this_line ids initial old new messages more was now l lit is does w s = subst (λ (x : Line). LineDone ids new more (after initial w x) (line_results initial w x) was now) (sym is) (does w s)
 
 -- a line that does nothing and writes no results
-pub writes_echo : (ids initial : List Id) (nodes : List ReplayNode) (messages : List SentMessage) (t0 t1 t2 t3 : List ℕ) (l lit : Line) → l ≡ lit
-    → ((w : World) → after initial w lit ≡ w) → ((w : World) → line_results initial w lit ≡ []) → t1 ≡ t0 ++ codes "> " → t2 ≡ t1 ++ line_text l → t3 ≡ t2 ++ codes "\n" → WritesLine ids initial nodes nodes messages messages t0 t3 l
-writes_echo ids initial nodes messages t0 t1 t2 t3 l lit is stays nothing a b c =
-    writes_line ids initial nodes nodes messages messages t0 t1 t2 t3 t3 l lit is
+pub does_nothing : (ids initial : List Id) (nodes : List ReplayNode) (messages : List SentMessage) (text : List ℕ) (l lit : Line) → l ≡ lit
+    → ((w : World) → after initial w lit ≡ w) → ((w : World) → line_results initial w lit ≡ []) → DoesLine ids nodes nodes messages messages text text (λ w. after initial w l) (λ w. line_results initial w l)
+does_nothing ids initial nodes messages text l lit is stays nothing =
+    this_line ids initial nodes nodes messages messages text text l lit is
     (λ w s. record {
       stands = subst (λ (x : World). Stands ids nodes messages x) (sym (stays w)) s;
-      written = sym (append-nil t3) ∙ ap (λ (t : List ℕ). t3 ++ t) (sym (nothing w));
+      written = sym (append-nil text) ∙ ap (λ (t : List ℕ). text ++ t) (sym (nothing w));
     })
-    a b c
+
+-- the echo of a line, and then its results, are its part of the trace
+pub writes_line : (ids initial : List Id) (old new : List ReplayNode) (messages more : List SentMessage) (was echoed now : List ℕ) (l : Line) → echoed ≡ was ++ (codes "> " ++ line_text l ++ codes "\n")
+    → DoesLine ids old new messages more echoed now (λ w. after initial w l) (λ w. line_results initial w l) → WritesLine ids initial old new messages more was now l
+writes_line ids initial old new messages more was echoed now l echo does w s =
+    let here = does w s in
+    record { stands = here.stands; written = here.written ∙ rw echo (simp append_assoc refl) }

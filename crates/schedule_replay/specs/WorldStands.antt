@@ -4,6 +4,7 @@ use Rattle.voting_config.specs.Ids.{Id, ascends, most_ids}
 use Rattle.world_model.specs.declared.acts.Act.{Act}
 use Rattle.world_model.specs.Histories.{node_history, sent}
 use Rattle.schedule_text.specs.declared.schedule.Line.{Line}
+use Rattle.schedule_text.specs.declared.schedule.Line.TheVariants as line
 use Rattle.trace_text.specs.Trace.{act_text}
 use Rattle.replay_node.specs.Did.{act_results, did_text, outcome_of, outcome_unless_down}
 use Rattle.replay_node.specs.Sent.{message_of, are_from}
@@ -46,6 +47,11 @@ pub record LineDone (ids : List Id) (new : List ReplayNode) (messages : List Sen
 abbrev pub DoesLine : (ids : List Id) → (old_nodes new_nodes : List ReplayNode) → (old_messages new_messages : List SentMessage) → (old_text new_text : List ℕ) → (World → World) → (World → List ℕ) → Type 0
 DoesLine ids old_nodes new_nodes old_messages new_messages old_text new_text after_it results =
     (w : World) → Stands ids old_nodes old_messages w → LineDone ids new_nodes new_messages (after_it w) (results w) old_text new_text
+
+-- a line that hands over no message
+abbrev pub DeliversNothing : Line → Type 0
+DeliversNothing (line.Deliver n number) = ⊥
+DeliversNothing other = Unit {0}
 
 -- a line with its echo
 abbrev pub WritesLine : (ids initial : List Id) → (old_nodes new_nodes : List ReplayNode) → (old_messages new_messages : List SentMessage) → (old_text new_text : List ℕ) → Line → Type 0

@@ -11,13 +11,13 @@ ghost use Rattle.replay_node.specs.NodeLines.{restart_text, stop_text};
 ghost use Rattle.replay_node.specs.Sent.{message_of, some_message, sent_some};
 ghost use Rattle.replay_node.specs.Stands.{NodeStands};
 ghost use Rattle.replay_node.specs.Worlds.{World, crashed, did_unless_down, fresh_world, node_world, ordered, restarted};
-ghost use Rattle.schedule_replay.specs.Replayed.{message_at, took_some, value_with};
-ghost use Rattle.schedule_replay.specs.Trace.{delivery_results, results_of};
-ghost use Rattle.schedule_replay.specs.WorldStands.{AllStand, Stands, DoesLine, WritesLine};
+ghost use Rattle.schedule_replay.specs.Replayed.{after, message_at, took_some, value_with};
+ghost use Rattle.schedule_replay.specs.Trace.{delivery_results, line_results, results_of};
+ghost use Rattle.schedule_replay.specs.WorldStands.{AllStand, DeliversNothing, Stands, DoesLine, WritesLine};
 
 use crate::places::place_of;
 use cluster_state::{ClusterValue, Settings};
-use replay_node::{Did, ReplayNode, SentMessage, write_did, write_taking};
+use replay_node::{Did, ReplayNode, SentMessage, write_delivery, write_did};
 use schedule_text::{IdList, Line, Schedule, SettingText, Text};
 use std::alloc::{AllocError, Global};
 use trace_text::{write_boot, write_down, write_start_join, write_value};
@@ -62,9 +62,27 @@ impl Replayer {
         requires stands { (w : World) × Stands schedule.now.nodes self.old.nodes.items self.old.sent.items w }
         ensures done { OnOk result (WritesLine schedule.now.nodes schedule.now.initial self.old.nodes.items self.new.nodes.items self.old.sent.items self.new.sent.items text.old text.new line.now) }
     {
-        text.word("> ")?;
-        text.line(line)?;
-        text.word("\n")?;
+        text.echo(line)?;
+        if let Line::Deliver(n, ordinal) = line {
+            return self.deliver(alloc, &schedule.nodes, *n, *ordinal, text);
+        }
+        self.other_line(alloc, schedule, line, text)
+    }
+
+    // Does a line that delivers nothing, and writes what stands after its echo. It stands apart, so that a delivery has no copies of its
+    // arguments to clear.
+    fn other_line(
+        &mut self,
+        alloc: Global,
+        schedule: &Schedule,
+        line: &Line,
+        text: &mut Text,
+    ) -> Result<(), AllocError>
+        requires fits { FitsLine Core schedule.now.nodes line.now }
+        requires other { DeliversNothing line.now }
+        requires stands { (w : World) × Stands schedule.now.nodes self.old.nodes.items self.old.sent.items w }
+        ensures done { OnOk result (DoesLine schedule.now.nodes self.old.nodes.items self.new.nodes.items self.old.sent.items self.new.sent.items text.old text.new (λ w. after schedule.now.initial w line.now) (λ w. line_results schedule.now.initial w line.now)) }
+    {
         let ids = &schedule.nodes;
         match line {
             Line::Boot(n) => self.set_initial(alloc, ids, &schedule.initial, *n, text)?,
@@ -74,7 +92,7 @@ impl Replayer {
             Line::Value(n, version, setting, config) => {
                 self.client_value(alloc, ids, *n, *version, setting.get(), config, text)?
             }
-            Line::Deliver(n, ordinal) => self.deliver(alloc, ids, *n, *ordinal, text)?,
+            Line::Deliver(_, _) => unreachable!(),
             Line::Crash(n, way) => self.crash(alloc, ids, *n, *way, text)?,
             Line::Restart(n) => self.restart(alloc, ids, *n, text)?,
             Line::Fuse(n, count, way) => self.arm(ids, *n, Order::Stop(*count, *way)),
@@ -237,11 +255,10 @@ impl Replayer {
         let index = (ordinal - 1) as usize;
         let sent = self.sent.as_slice();
         let message = &sent[index];
-        self.act.clear();
-        write_taking(&mut self.act, message)?;
         let nodes = self.nodes.as_mut_slice();
         let did = nodes[place].deliver(alloc, message)?;
-        self.finish(n, did, text)
+        write_delivery(text, sent.len(), &n, message, &did)?;
+        keep(&mut self.sent, did)
     }
 
     // Writes what an act did, and keeps the message that it sends.
