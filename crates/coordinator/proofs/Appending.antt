@@ -16,10 +16,6 @@ use Rattle.policy_model.specs.Follows.{IsStruck, Here, Later, without_output}
 use Rattle.coordinator.specs.Showing.{Shown, showing, showing_all}
 use Rattle.coordinator.specs.Turns.{CoreDid}
 
-pub moved_all-append : (s : Settings) (v : View) (xs ys : List Item) → moved_all s v (xs ++ ys) ≡ moved_all s (moved_all s v xs) ys
-moved_all-append s v [] ys = refl
-moved_all-append s v (x ∷ xs) ys = moved_all-append s (moved s v x) xs ys
-
 pub showing_all-append : (o : Shown) (xs ys : List Item) → showing_all o (xs ++ ys) ≡ showing_all (showing_all o xs) ys
 showing_all-append o [] ys = refl
 showing_all-append o (x ∷ xs) ys = showing_all-append (showing o x) xs ys

@@ -12,11 +12,12 @@ use Rattle.policy_model.specs.Events.{Item}
 use Rattle.policy_model.specs.Views.{View}
 use Rattle.policy_model.specs.Moves.{moved_all}
 use Rattle.policy_model.specs.Doing.{then_rule}
+use Rattle.policy_model.proofs.Sweeps.{moved_all-append}
 use Rattle.coordinator.specs.Showing.{Shown, showing_all}
 use Rattle.coordinator.specs.Views.{view_in, IsReady}
 use Rattle.coordinator.specs.Does.{Goes, Makes, Fails, Ends}
 use Rattle.coordinator.specs.declared.coordinator.Coordinator.{Coordinator}
-use Rattle.coordinator.proofs.Appending.{moved_all-append, showing_all-append, behind, struck_behind, struck_before, moved_all-behind, steps-behind, drops-behind, steps-shown, drops-shown, did-append, did-behind, did_me}
+use Rattle.coordinator.proofs.Appending.{showing_all-append, behind, struck_behind, struck_before, moved_all-behind, steps-behind, drops-behind, steps-shown, drops-shown, did-append, did-behind, did_me}
 
 module _ {K : Type 0} (k : Ghosts K) where
   abbrev view : Coordinator K → View

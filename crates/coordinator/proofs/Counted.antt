@@ -1,5 +1,5 @@
 -- Joins that were counted, and what comes of them.
-use Rattle.std.proofs.Common.{◌≡◌, ℕ, Bool, true, false, not, ◌&&◌, List, [], ◌∷◌, refl, sym, ap, subst, ◌∙◌}
+use Rattle.std.proofs.Common.{◌≡◌, ℕ, Bool, true, false, ◌&&◌, List, [], ◌∷◌, refl, sym, ap, subst, ◌∙◌}
 use Rattle.state_journal.specs.declared.keeper.Keeper.{Ghosts}
 use Rattle.std.specs.Prelude.{if◌then◌else◌, Option}
 use Rattle.cluster_state.specs.declared.state.StateId.{StateId}
@@ -22,26 +22,6 @@ use Rattle.coordinator.specs.declared.plan.Plan.{Plan}
 use Rattle.coordinator.proofs.Composing.{makes_then, ends_rule, fails_before}
 use Rattle.coordinator.proofs.Becoming.{makes_as}
 use Rattle.coordinator.proofs.Foreseen.{planned_behind}
-
-pub is_true : (b : Bool) → not b ≡ false → b ≡ true
-is_true true h = refl
-is_true false h = cc
-
-pub is_false : (b : Bool) → not b ≡ true → b ≡ false
-is_false true h = cc
-is_false false h = refl
-
-pub and_true : (a b : Bool) → a ≡ true → b ≡ true → (a && b) ≡ true
-and_true true b h e = e
-and_true false b h e = cc
-
-pub and_first : (a b : Bool) → a ≡ false → (a && b) ≡ false
-and_first true b h = cc
-and_first false b h = refl
-
-pub and_second : (a b : Bool) → b ≡ false → (a && b) ≡ false
-and_second true b h = h
-and_second false b h = refl
 
 module _ {K : Type 0} (k : Ghosts K) where
   abbrev view : Coordinator K → View

@@ -1,6 +1,7 @@
 -- How a candidate comes to be elected.
-use Rattle.std.proofs.Common.{◌≡◌, ℕ, ◌+◌, ◌≤◌, ◌<◌, rules, tests, Bool, true, false, ◌&&◌, Option, None, Some, List, [], ◌∷◌, ◌++◌, refl, sym, ap, subst, ◌∙◌}
-use Rattle.std.specs.Prelude.{if◌then◌else◌, nat_le}
+use Rattle.std.proofs.Common.{◌≡◌, ℕ, ◌+◌, ◌≤◌, ◌<◌, Bool, true, false, ◌&&◌, Option, None, Some, List, [], ◌∷◌, ◌++◌, refl, sym, ap, subst, ◌∙◌}
+use Rattle.std.proofs.lemmas.Bool.{le-leb, lt-leb}
+use Rattle.std.specs.Prelude.{if◌then◌else◌}
 use Rattle.cluster_state.specs.Field.{last_number}
 use Rattle.state_journal.specs.declared.keeper.Keeper.{Ghosts}
 use Rattle.state_journal.specs.declared.ready.Ready.{Ready}
@@ -23,12 +24,6 @@ use Rattle.coordinator.specs.declared.coordinator.Coordinator.{Coordinator}
 use Rattle.coordinator.proofs.Composing.{makes_then}
 use Rattle.coordinator.proofs.Becoming.{makes_as}
 use Rattle.coordinator.proofs.Quiet.{makes_nothing, makes_note}
-
-pub le_true : (a b : ℕ) → a ≤ b → nat_le a b ≡ true
-le_true a b le = search (rules, tests)
-
-pub le_false : (a b : ℕ) → b < a → nat_le a b ≡ false
-le_false a b lt = search (rules, tests)
 
 module _ {K : Type 0} (k : Ghosts K) where
   abbrev view : Coordinator K → View
@@ -62,7 +57,7 @@ module _ {K : Type 0} (k : Ghosts K) where
       let m = message.StartJoin s.me term in
       makes_as k old mid o o1 _ _ (makes_then k old mid mid o o o1 (Notes RoundEnded ∷ []) (send_all s all m) (makes_note k old mid o RoundEnded refl refl refl refl) sends)
       (ap (λ (l : List Id). Notes RoundEnded ∷ send_all s l m) all_is
-      ∙ ap (λ (b : Bool). Notes RoundEnded ∷ (if b then send_all s (with_id s.me (known_set v.finder)) m else [])) (sym (le_true term last_number small)))
+      ∙ ap (λ (b : Bool). Notes RoundEnded ∷ (if b then send_all s (with_id s.me (known_set v.finder)) m else [])) (sym (le-leb term last_number small)))
 
   pub stands_not : (old : Coordinator K) (o : Shown) (term : ℕ) → last_number < term → Make old (record old { round = None }) o o (stands_for_election old.settings (view old) term)
   stands_not old o term large =
@@ -70,7 +65,7 @@ module _ {K : Type 0} (k : Ghosts K) where
       let v = view old in
       let mid = record old { round = None } in
       makes_as k old mid o o _ _ (makes_note k old mid o RoundEnded refl refl refl refl)
-      (ap (λ (b : Bool). Notes RoundEnded ∷ (if b then send_all s (with_id s.me (known_set v.finder)) (message.StartJoin s.me term) else [])) (sym (le_false term last_number large)))
+      (ap (λ (b : Bool). Notes RoundEnded ∷ (if b then send_all s (with_id s.me (known_set v.finder)) (message.StartJoin s.me term) else [])) (sym (lt-leb term last_number large)))
 
   -- a node that is a quorum alone
   pub alone_stands : (old new : Coordinator K) (o o1 : Shown) (alone : List Id) (term : ℕ) → alone ≡ old.settings.me ∷ [] → elects (view old).node alone ≡ true → term ≡ (view old).node.term + 1

@@ -1,5 +1,6 @@
 -- What the acts of an event come to, all together.
-use Rattle.std.proofs.Common.{◌≡◌, ℕ, ◌≤◌, Bool, true, false, ◌&&◌, ◌||◌, List, [], ◌∷◌, ◌++◌, arith, refl, sym, ap, subst, ◌∙◌}
+use Rattle.std.proofs.Common.{◌≡◌, ℕ, ◌≤◌, true, false, List, [], ◌∷◌, ◌++◌, arith, refl, sym, ap, subst, ◌∙◌}
+use Rattle.std.proofs.lemmas.Bool.{and_parts, or_parts}
 use Rattle.state_journal.specs.declared.keeper.Keeper.{Ghosts}
 use Rattle.std.specs.Prelude.{Result, Ok, Err, max, min}
 use Rattle.zen_disk.specs.Faults.{Rose}
@@ -20,12 +21,12 @@ use Rattle.policy_model.specs.declared.events.Event.TheVariants.{Start, Tick, Fr
 use Rattle.policy_model.specs.Events.{acts_of, Item, Opens, Begins, Acts, Turns, Drops, Sends, Replies, Notes, And, added}
 use Rattle.policy_model.specs.Entries.{Life, log_of}
 use Rattle.policy_model.specs.Views.{View, view_of}
-use Rattle.policy_model.specs.Moves.{begun, moved, moved_all, is_own, are_own, view_of-And}
+use Rattle.policy_model.specs.Moves.{begun, moved_all, is_own, are_own, view_of-And}
 use Rattle.policy_model.specs.Follows.{IsStruck, Here, Later, without_output, is_fault, has_fault, items_of}
-use Rattle.policy_model.specs.Local.{IsAnswered, Ended, ByAct, ByQuiet, is_quiet}
 use Rattle.policy_model.specs.Parts.{last_moment}
 use Rattle.policy_model.specs.Rules.{next_of}
 use Rattle.policy_model.proofs.Answering.{answered-next}
+pub use Rattle.policy_model.proofs.Faults.{next-fault as faultless_next}
 use Rattle.policy_model.proofs.Standing.{view_of-added, own-answered}
 use Rattle.coordinator.specs.Does.{Goes, Makes, Fails, EndsAll, Leaves}
 use Rattle.coordinator.specs.Showing.{Shown}
@@ -48,10 +49,6 @@ own_writing (Publish request) o w = refl
 own_writing (Response response) o w = refl
 own_writing (Commit commit) o w = refl
 own_writing (Open found) o w = cc
-
-and_parts : (a b : Bool) → (a && b) ≡ true → (a ≡ true) × (b ≡ true)
-and_parts true b h = (refl, h)
-and_parts false b h = cc
 
 own_without : (i : Item) (left : List Item) → is_own i ≡ true → are_own left ≡ true → are_own (without_output i ++ left) ≡ true
 own_without (Opens found) left i own = cc
@@ -95,29 +92,6 @@ running_by p (Commit commit) (Answered reply) f = refl
 running_by p (Open found) (Answered reply) f = refl
 running_by p act (Disk b) f = cc
 running_by p act (Crashed b) f = cc
-
-no_fault : (a b : Bool) → (a || b) ≡ false → (a ≡ false) × (b ≡ false)
-no_fault true b h = cc
-no_fault false b h = (refl, h)
-
-faultless_quiet : (i : Item) (is : List Item) → is_quiet i ≡ true → has_fault is ≡ false → has_fault (i ∷ is) ≡ false
-faultless_quiet (Opens found) is q h = h
-faultless_quiet (Begins event) is q h = h
-faultless_quiet (Acts act o) is q h = cc
-faultless_quiet (Turns mode term) is q h = h
-faultless_quiet (Drops member cause) is q h = h
-faultless_quiet (Sends frame) is q h = h
-faultless_quiet (Replies answer) is q h = h
-faultless_quiet (Notes note) is q h = h
-
-faultless_answered : (s : Settings) (v : View) (is : List Item) → IsAnswered s v is → has_fault is ≡ false
-faultless_answered s v is (Ended u) = refl
-faultless_answered s v is (ByAct u act rest e a) = faultless_answered s _ rest a
-faultless_answered s v is (ByQuiet u i rest q a) = faultless_quiet i rest q (faultless_answered s (moved s u i) rest a)
-
--- the rules name no fault
-pub faultless_next : (s : Settings) (v : View) (event : Event) → has_fault (next_of s v event) ≡ false
-faultless_next s v event = faultless_answered s v (next_of s v event) (answered-next s v event)
 
 capped : (before now last : ℕ) → before ≤ last → max before (min now last) ≤ last
 capped before now last h = omega (arith, h)
@@ -201,7 +175,7 @@ module _ {K : Type 0} (k : Ghosts K) where
   did_run old new (Opens found ∷ is) f did = absurd did
   did_run old new (Begins event ∷ is) f did = absurd did
   did_run old new (Acts act o ∷ is) f did =
-      let parts = no_fault (is_fault o) (has_fault is) f in
+      let parts = or_parts (is_fault o) (has_fault is) f in
       did_run did.0 new is parts.1 did.2 ∙ ap (λ (n : NodeState). n.halted) did.1.acts.at.after ∙ running_by (fields_of k old) act o parts.0
   did_run old new (Turns mode term ∷ is) f did = did_run old new is f did
   did_run old new (Drops member cause ∷ is) f did = did_run old new is f did

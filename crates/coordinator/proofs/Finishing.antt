@@ -24,6 +24,7 @@ use Rattle.policy_model.specs.Views.{View}
 use Rattle.policy_model.specs.Moves.{moved, moved_all}
 use Rattle.policy_model.specs.Doing.{is_leader, reply_all, reply_now, act_now, after_act, takes}
 use Rattle.policy_model.specs.Publications.{acks_exclusions, is_told_commit}
+use Rattle.policy_model.proofs.Sweeps.{moved_all-append, moved_all-replies}
 use Rattle.coordinator.specs.Plans.{IsPlan, IsPlanned}
 use Rattle.coordinator.specs.Ahead.{IsPlannedCommit, finishes}
 use Rattle.coordinator.specs.Showing.{Shown}
@@ -31,10 +32,9 @@ use Rattle.coordinator.specs.Views.{view_in}
 use Rattle.coordinator.specs.Does.{Makes, Fails}
 use Rattle.coordinator.specs.declared.coordinator.Coordinator.{Coordinator}
 use Rattle.coordinator.specs.declared.plan.Plan.{Plan}
-use Rattle.coordinator.proofs.Appending.{moved_all-append}
 use Rattle.coordinator.proofs.Composing.{makes_then, fails_before}
 use Rattle.coordinator.proofs.Becoming.{makes_as}
-use Rattle.coordinator.proofs.Quiet.{moved_all-replies, makes_replies, makes_note}
+use Rattle.coordinator.proofs.Quiet.{makes_replies, makes_note}
 use Rattle.coordinator.proofs.Foreseen.{has_planned}
 use Rattle.coordinator.proofs.Counted.{planned_there}
 

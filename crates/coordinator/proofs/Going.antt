@@ -1,5 +1,6 @@
 -- The next state is made and published, or the node hands over.
-use Rattle.std.proofs.Common.{◌≡◌, ℕ, ◌+◌, ◌≤◌, rules, tests, Bool, true, false, Option, List, [], ◌∷◌, ◌++◌, map, refl, sym, ap, subst, ◌∙◌}
+use Rattle.std.proofs.Common.{◌≡◌, ℕ, ◌+◌, ◌≤◌, Bool, true, false, Option, List, [], ◌∷◌, ◌++◌, map, refl, sym, ap, subst, ◌∙◌}
+use Rattle.std.proofs.lemmas.Bool.{le-leb}
 use Rattle.state_journal.specs.declared.keeper.Keeper.{Ghosts}
 use Rattle.std.specs.Prelude.{if◌then◌else◌, None, Some, find, nat_le}
 use Rattle.std.proofs.lemmas.List.{append_assoc}
@@ -31,9 +32,6 @@ use Rattle.coordinator.specs.declared.plan.Plan.{Plan}
 use Rattle.coordinator.proofs.Composing.{makes_then}
 use Rattle.coordinator.proofs.Quiet.{makes_replies, makes_sends, makes_note}
 use Rattle.coordinator.proofs.Becoming.{makes_as}
-
-le_true : (a b : ℕ) → a ≤ b → nat_le a b ≡ true
-le_true a b le = search (rules, tests)
 
 -- the act that publishes a new state
 pub act_is : (s : Settings) (v : View) (new : NewState) (version : ℕ) → version ≡ v.node.accepted.version + 1 → IsNewState s.me (state_by (as_master s v.node) v.tasks) new → Value version new.config new.value ≡ value_act s v
@@ -137,7 +135,7 @@ module _ {K : Type 0} (k : Ghosts K) where
       let all : Make c c o o1 (send_all s targets (message.StartJoin id term)) =
       subst (λ (x : Shown). Make c c o x (send_all s targets (message.StartJoin id term))) (sym shown) (makes_sends k c o targets (message.StartJoin id term)) in
       let targets_here : targets ≡ targets_of v.publication = targets_is ∙ ap (λ (x : Option Publication). targets_of x) (sym published) in
-      let le : nat_le (v.node.term + 1) last_number ≡ true = rw (← term_is) (le_true term last_number small) in
+      let le : nat_le (v.node.term + 1) last_number ≡ true = rw (← term_is) (le-leb term last_number small) in
       let here : Some id ≡ successor_of s v =
       sym some ∙ found_is ∙ ap (λ (x : List Id). find (λ (y : Id). has y x) responders) committed_is ∙ ap (λ (x : List Id). find (λ (y : Id). has y v.node.committed) x) (responders_is ∙ ap (λ (x : Option Publication). responders_of x) (sym published)) in
       makes_as k c c o o1 _ _ all

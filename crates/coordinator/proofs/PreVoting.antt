@@ -1,5 +1,6 @@
 -- Answers to an open round of pre-votes.
 use Rattle.std.proofs.Common.{◌≡◌, ℕ, Bool, true, false, Option, None, Some, List, [], ◌∷◌, refl, sym, ap, ◌∙◌}
+use Rattle.std.proofs.lemmas.Bool.{and_from, and_right}
 use Rattle.std.specs.Prelude.{if◌then◌else◌}
 use Rattle.state_journal.specs.declared.keeper.Keeper.{Ghosts}
 use Rattle.voting_config.specs.Ids.{Id}
@@ -20,7 +21,6 @@ use Rattle.coordinator.specs.Does.{Makes}
 use Rattle.coordinator.specs.declared.coordinator.Coordinator.{Coordinator}
 use Rattle.coordinator.proofs.Composing.{makes_then}
 use Rattle.coordinator.proofs.Becoming.{makes_as}
-use Rattle.coordinator.proofs.Counted.{and_true, and_second}
 use Rattle.coordinator.proofs.Quiet.{makes_nothing, makes_note}
 
 pub counted_some : (o : Option Round) (r : Round) (p : Id) (term : ℕ) (last : StateId) (committed accepted : List Id) → o ≡ Some r → fits p r ≡ true
@@ -55,7 +55,7 @@ counted_added s v (Some round) p term last added candidate is =
     let a = added_of (answered round p term last) last v.node.committed v.node.accepted.config in
     let both = some_by (fits p round) a added is in (
       ap (λ (x : Added). Notes (RoundAnswered p term last) ∷ goes_to_election s v x) (sym both.1)
-          ∙ ap (λ (b : Bool). if b then Notes (RoundAnswered p term last) ∷ goes_to_election s v a else []) (sym (and_true (is_candidate v.mode) (fits p round) candidate both.0)),
+          ∙ ap (λ (b : Bool). if b then Notes (RoundAnswered p term last) ∷ goes_to_election s v a else []) (sym (and_from (is_candidate v.mode) (fits p round) candidate both.0)),
       ap (λ (b : Bool). if b then Some (answered round p term last) else Some round) both.0,
     )
 
@@ -66,7 +66,7 @@ counted_none s v None p term last is = (refl, refl)
 counted_none s v (Some round) p term last is =
     let a = added_of (answered round p term last) last v.node.committed v.node.accepted.config in
     let none = none_by (fits p round) a is in (
-      ap (λ (b : Bool). if b then Notes (RoundAnswered p term last) ∷ goes_to_election s v a else []) (sym (and_second (is_candidate v.mode) (fits p round) none)),
+      ap (λ (b : Bool). if b then Notes (RoundAnswered p term last) ∷ goes_to_election s v a else []) (sym (and_right (is_candidate v.mode) (fits p round) none)),
       ap (λ (b : Bool). if b then Some (answered round p term last) else Some round) none,
     )
 

@@ -11,22 +11,15 @@ use Rattle.policy_model.specs.declared.settings.Settings.{Settings}
 use Rattle.policy_model.specs.declared.events.Mode.{Mode}
 use Rattle.policy_model.specs.Events.{Note, Item, Replies, Notes, Turns}
 use Rattle.policy_model.specs.Views.{View}
-use Rattle.policy_model.specs.Moves.{moved_all, turned, noted}
+use Rattle.policy_model.specs.Moves.{turned, noted}
 use Rattle.policy_model.specs.Doing.{send, send_all, reply_all}
+use Rattle.policy_model.proofs.Sweeps.{moved_all-replies, moved_all-sends}
 use Rattle.coordinator.specs.Plans.{frame_to}
 use Rattle.coordinator.specs.Showing.{Shown, showing, showing_all}
 use Rattle.coordinator.specs.Turns.{CoreDid}
 use Rattle.coordinator.specs.Views.{view_in}
 use Rattle.coordinator.specs.Does.{Makes}
 use Rattle.coordinator.specs.declared.coordinator.Coordinator.{Coordinator}
-
-pub moved_all-replies : (s : Settings) (v : View) (answers : List Outgoing) → moved_all s v (reply_all s answers) ≡ v
-moved_all-replies s v [] = refl
-moved_all-replies s v (a ∷ rest) = moved_all-replies s v rest
-
-pub moved_all-sends : (s : Settings) (v : View) (ids : List Id) (m : WireMessage) → moved_all s v (send_all s ids m) ≡ v
-moved_all-sends s v [] m = refl
-moved_all-sends s v (id ∷ ids) m = moved_all-sends s v ids m
 
 showing-replies : (s : Settings) (o : Shown) (answers : List Outgoing) → record o { replies = o.replies ++ answers } ≡ showing_all o (reply_all s answers)
 showing-replies s o [] = ap (λ (l : List Outgoing). record o { replies = l }) (append-nil o.replies)

@@ -15,6 +15,7 @@ use Rattle.policy_model.specs.Entries.{Life, Lived, Did, log_of, frames_in, repl
 use Rattle.policy_model.specs.Follows.{items_of}
 use Rattle.policy_model.specs.Moves.{begun}
 use Rattle.policy_model.specs.Rules.{next_of}
+use Rattle.policy_model.proofs.Faults.{next-fault}
 use Rattle.coordinator.specs.Showing.{Shown, showing, showing_all, nothing_shown}
 use Rattle.coordinator.specs.Lives.{StandsForLife, Passes, EventEnds, Lasts}
 use Rattle.coordinator.specs.Steps.{Done, IsSealed, IsOrdered, Seals, GoesOn, Stays, Steps}
@@ -26,7 +27,7 @@ use Rattle.coordinator.specs.declared.step.Sealed.{Sealed}
 use Rattle.coordinator.specs.declared.step.StepError.{StepError}
 use Rattle.coordinator.specs.declared.step.StepError.TheVariants as step_error
 use Rattle.coordinator.proofs.Appending.{steps-shown, drops-shown}
-use Rattle.coordinator.proofs.Entering.{own_next, own_struck, faultless_next, items_now, enters, did_later, did_rise, did_run, did_halts}
+use Rattle.coordinator.proofs.Entering.{own_next, own_struck, items_now, enters, did_later, did_rise, did_run, did_halts}
 
 frames-shown : (o : Shown) (is : List Item) → (showing_all o is).frames ≡ o.frames ++ flat_map frames_in is
 frames-shown o [] = sym (append-nil o.frames)
@@ -80,7 +81,7 @@ module _ {K : Type 0} (k : Ghosts K) where
   steps_by (Ok u) (Ok sealed) old new event shown brings seals up = record {
     enters = enters k old new event _ (own_next old.settings (begun (view_in k old) event) event) brings.passes;
     seals = sealed_so event _ shown sealed brings.shown seals;
-    runs = did_run k old.core new.core (next_of old.settings (begun (view_in k old) event) event) (faultless_next old.settings (begun (view_in k old) event) event) brings.passes.core ∙ up;
+    runs = did_run k old.core new.core (next_of old.settings (begun (view_in k old) event) event) (next-fault old.settings (begun (view_in k old) event) event) brings.passes.core ∙ up;
   }
   steps_by (Ok u) (Err e) old new event shown brings seals up = absurd seals
   steps_by (Err error.Struck) (Ok sealed) old new event shown breaks seals up = absurd seals

@@ -20,11 +20,11 @@ use Rattle.policy_model.specs.Moves.{moved, moved_all}
 use Rattle.policy_model.specs.Doing.{reply_all, send_all}
 use Rattle.policy_model.specs.Checks.{drop_all, checks_followers}
 use Rattle.policy_model.specs.Requests.{times_out_exclusions}
+use Rattle.policy_model.proofs.Sweeps.{moved_all-append, moved_all-replies, moved_all-sends}
 use Rattle.coordinator.specs.Plans.{frame_to, IsPlanned}
 use Rattle.coordinator.specs.Ahead.{HasPlan}
 use Rattle.coordinator.specs.declared.plan.Plan.{Plan}
 use Rattle.master_tasks.specs.NextState.{leader_of}
-use Rattle.coordinator.proofs.Appending.{moved_all-append}
 use Rattle.coordinator.proofs.Foreseen.{has_planned}
 use Rattle.coordinator.specs.Ticks.{all_removed, dropped, tasks_ticked, ticks_members, IsPlannedTick}
 use Rattle.coordinator.specs.Showing.{Shown, showing, showing_all}
@@ -37,7 +37,7 @@ use Rattle.policy_model.specs.NextState.{goes_on}
 use Rattle.policy_model.specs.Rules.{has_timed_out, ticks_leader}
 use Rattle.coordinator.proofs.Composing.{makes_then, ends_rule}
 use Rattle.coordinator.proofs.Becoming.{makes_as}
-use Rattle.coordinator.proofs.Quiet.{moved_all-replies, moved_all-sends, makes_replies, makes_sends, makes_note}
+use Rattle.coordinator.proofs.Quiet.{makes_replies, makes_sends, makes_note}
 
 moved-drops : (s : Settings) (v : View) (ids : List Id) (cause : DropCause) → record v { tasks = all_removed v.tasks ids } ≡ moved_all s v (drop_all ids cause)
 moved-drops s v [] cause = refl

@@ -1,6 +1,6 @@
 use Rattle.std.proofs.Common.{sym, ◌∙◌}
+use Rattle.std.proofs.lemmas.Bool.{and_from, and_left}
 use Rattle.coordinator.proofs.Composing.{ready_then}
-use Rattle.coordinator.proofs.Counted.{and_true, and_first}
 use Rattle.coordinator.proofs.Finishing.{told_finish, told_none, told_struck, plan_for_finish}
 use Rattle.coordinator.proofs.coordinator.Coordinator.take_commit.Goals as goal
 
@@ -18,8 +18,8 @@ returns-in-Err g c =
 
 pub returns-then-not-taken : goal.returns-then-not-taken
 returns-then-not-taken g c =
-    record { does = told_none g.K.Keeper c.args.self.now c.act_commit.new.self _ _ c.args.p c.args.id (and_first _ _ (sym c.in-Ok.ensures.taken ∙ c.if-not-taken.true)) c.in-Ok.ensures.does }
+    record { does = told_none g.K.Keeper c.args.self.now c.act_commit.new.self _ _ c.args.p c.args.id (and_left _ _ (sym c.in-Ok.ensures.taken ∙ c.if-not-taken.true)) c.in-Ok.ensures.does }
 
 pub returns-then-is_leader : goal.returns-then-is_leader
 returns-then-is_leader g c =
-    record { does = told_finish g.K.Keeper c.args.self.now c.act_commit.new.self c.finish_publication.new.self _ _ _ c.args.p c.args.id (and_true _ _ (sym c.in-Ok.ensures.taken ∙ c.if-not-taken.false) (sym c.is_leader.ensures ∙ c.if-is_leader.true)) c.in-Ok.ensures.does c.finish_publication.ensures.does }
+    record { does = told_finish g.K.Keeper c.args.self.now c.act_commit.new.self c.finish_publication.new.self _ _ _ c.args.p c.args.id (and_from _ _ (sym c.in-Ok.ensures.taken ∙ c.if-not-taken.false) (sym c.is_leader.ensures ∙ c.if-is_leader.true)) c.in-Ok.ensures.does c.finish_publication.ensures.does }
