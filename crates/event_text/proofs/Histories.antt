@@ -2,7 +2,7 @@
 use Rattle.std.proofs.Common.{◌≡◌, List, [], ◌∷◌, Option, refl, ap, ◌∙◌}
 use Rattle.cluster_state.specs.declared.state.ClusterState.{ClusterState}
 use Rattle.world_model.specs.declared.acts.Act.{Act}
-use Rattle.world_model.specs.declared.acts.Act.TheVariants.{Bootstrap, StartJoin, TakeJoin, Value, Publish, Response, Commit, Open}
+use Rattle.world_model.specs.declared.acts.Act.TheVariants.{Value}
 use Rattle.world_model.specs.declared.acts.Outcome.{Outcome}
 use Rattle.world_model.specs.Acts.{NodeHistory, Then}
 use Rattle.trace_text.specs.Published.{last_published}
@@ -13,14 +13,8 @@ use Rattle.event_text.specs.Published.{published_in, published_after}
 
 -- one act
 pub published_by_act : (g : NodeHistory) (act : Act) (o : Outcome) → published_in (last_published g) (step.Act act o) ≡ last_published (Then g act o)
-published_by_act g (Bootstrap config) o = refl
-published_by_act g (StartJoin candidate term) o = refl
-published_by_act g (TakeJoin join) o = refl
 published_by_act g (Value version config value) o = refl
-published_by_act g (Publish request) o = refl
-published_by_act g (Response response) o = refl
-published_by_act g (Commit commit) o = refl
-published_by_act g (Open found) o = refl
+published_by_act g act o = refl
 
 -- the steps of some items say what the node published last after them
 pub published_along : (l : Log) (is : List Item) → published_after (last_published (acts_of l)) (steps_of is) ≡ last_published (acts_of (added l is))
