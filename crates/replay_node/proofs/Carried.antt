@@ -52,7 +52,7 @@ pub record Carried (me : Id) (new : CoordState Journal) (c : NodeCourse) (done :
   pub struck : is_struck e ≡ c.struck
   pub stands : StandsBehind me new c.node e
 
-quiet_played : (me : Id) (x : NodeWorld) (i : Item) (is : List Item) → is_quiet i ≡ true → node_behind i (node_played me x is) ≡ node_played me x (i ∷ is)
+pub quiet_played : (me : Id) (x : NodeWorld) (i : Item) (is : List Item) → is_quiet i ≡ true → node_behind i (node_played me x is) ≡ node_played me x (i ∷ is)
 quiet_played me x (Opens found) is q = refl
 quiet_played me x (Begins event) is q = refl
 quiet_played me x (Acts act o) is q = absurd (cc)

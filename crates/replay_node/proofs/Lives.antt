@@ -14,32 +14,16 @@ use Rattle.policy_model.specs.declared.settings.Settings.{Settings}
 use Rattle.policy_model.specs.declared.events.Event.{Event}
 use Rattle.policy_model.specs.Events.{Item, Opens, Begins, Acts, Turns, Drops, Sends, Replies, Notes, Log, And, added, acts_of}
 use Rattle.policy_model.specs.Entries.{Life, NotBegun, Opened, Lived, Did, Gone, Bad, NoMemory, Unread, log_of}
-use Rattle.policy_model.specs.Views.{View, view_of}
-use Rattle.policy_model.specs.Local.{IsAnswered, Ended, ByAct, ByQuiet, is_quiet}
+use Rattle.policy_model.specs.Views.{view_of}
 use Rattle.policy_model.specs.Follows.{Follows, IsNext, IsStruck, Here, Later, is_fault, has_fault, is_struck, items_of}
-use Rattle.policy_model.proofs.Answering.{answered-next}
+use Rattle.policy_model.proofs.Faults.{next-fault}
 use Rattle.replay_node.specs.Course.{settled_item, settled_life}
 
 -- ---- items without a fault
 
-quiet-fault : (i : Item) (is : List Item) → is_quiet i ≡ true → has_fault (i ∷ is) ≡ has_fault is
-quiet-fault (Opens found) is e = absurd (cc)
-quiet-fault (Begins event) is e = absurd (cc)
-quiet-fault (Acts act o) is e = absurd (cc)
-quiet-fault (Turns mode term) is e = refl
-quiet-fault (Drops member cause) is e = refl
-quiet-fault (Sends frame) is e = refl
-quiet-fault (Replies answer) is e = refl
-quiet-fault (Notes note) is e = refl
-
-answered-fault : (s : Settings) (v : View) (is : List Item) → IsAnswered s v is → has_fault is ≡ false
-answered-fault s v is (Ended u) = refl
-answered-fault s v is (ByAct u act rest e a) = answered-fault s _ rest a
-answered-fault s v is (ByQuiet u i rest e a) = quiet-fault i rest e ∙ answered-fault s _ rest a
-
 -- what the policy says has none
 pub no_fault : (s : Settings) (l : Log) (e : Event) → has_fault (items_of s l e) ≡ false
-no_fault s l e = answered-fault s _ (items_of s l e) (answered-next s (view_of s (And l (Begins e))) e)
+no_fault s l e = next-fault s (view_of s (And l (Begins e))) e
 
 -- ---- a life that is not struck
 

@@ -3,7 +3,6 @@ use Rattle.std.proofs.Common.{◌≡◌, ℕ, Bool, true, false, None, Some, Lis
 use Rattle.std.specs.Prelude.{if◌then◌else◌}
 use Rattle.std.specs.Result.{result_ok}
 use Rattle.voting_config.specs.Ids.{Id}
-use Rattle.cluster_state.specs.declared.state.Kept.{Kept}
 use Rattle.zen_disk.specs.FileState.{both_left_by}
 use Rattle.zen_disk.specs.MemDisks.{files_of}
 use Rattle.zen_disk.specs.Sides.{Files}
@@ -11,12 +10,13 @@ use Rattle.zen_disk.specs.declared.orders.Way.{Way}
 use Rattle.state_journal.specs.Journal.{record_of_files}
 use Rattle.coord_state.specs.StandsFor.{StandsFor}
 use Rattle.coord_state.specs.declared.coord.CoordState.{CoordState}
+use Rattle.coord_state.proofs.Standing.{stands_durable}
 use Rattle.world_model.specs.declared.acts.Act.{Act}
 use Rattle.world_model.specs.declared.acts.Message.{Message}
 use Rattle.world_model.specs.declared.acts.Message.TheVariants.{Join, Publish, Response, Commit}
 use Rattle.world_model.specs.declared.acts.Outcome.{Outcome}
 use Rattle.world_model.specs.Acts.{NodeHistory, Then}
-use Rattle.world_model.specs.NodeState.{NodeState, durable_of}
+use Rattle.world_model.specs.NodeState.{durable_of}
 use Rattle.trace_text.specs.Trace.{crashed_line, down_line, results, act_text}
 use Rattle.replay_node.specs.Did.{outcome_of, did_text}
 use Rattle.replay_node.specs.NodeDisk.{MemFuse, MayLeave, Restarted}
@@ -90,12 +90,9 @@ taking_none (Commit c) g o = refl
 
 -- a crash between two acts
 
-kept_is : (s : CoordState Journal) (g : NodeHistory) → StandsFor journal_ghosts s g → s.keeper.kept ≡ durable_of g
-kept_is s g stands = let kept : NodeState → Kept = λ n. record { term = n.term; accepted = n.accepted; committed = n.committed } in ap kept stands
-
 running_leaves : (s : CoordState Journal) (g : NodeHistory) → s.keeper.log.stopped ≡ false → StandsFor journal_ghosts s g → IsUnstruck g → LeavesActs s.keeper.log.disk g
 running_leaves s g running stands u = record {
-  left = λ files may. inl (ap record_of_files ((s.keeper.log.settled tt running).durable files may) ∙ ap result_ok (s.keeper.stands tt running) ∙ ap Some (kept_is s g stands ∙ ap durable_of (sym (unstruck g false u))));
+  left = λ files may. inl (ap record_of_files ((s.keeper.log.settled tt running).durable files may) ∙ ap result_ok (s.keeper.stands tt running) ∙ ap Some (stands_durable journal_ghosts s g stands ∙ ap durable_of (sym (unstruck g false u))));
   shown = λ e. ap durable_of (unstruck g false u ∙ sym (unstruck g true u));
 }
 

@@ -176,7 +176,7 @@ module _ (me : Id) (fuse : MemFuse) (w : NodeWorld) (c : ClosedStands fuse w) wh
 
 -- a new node
 
-empty_found : (bytes : Files) (kept : Kept) → bytes ≡ bytes_read no_files → found_of bytes ≡ Ok kept → kept ≡ empty_record
+pub empty_found : (bytes : Files) (kept : Kept) → bytes ≡ bytes_read no_files → found_of bytes ≡ Ok kept → kept ≡ empty_record
 unfolding generations_of bodies_of folded_from
 empty_found bytes kept empty is = let same : found_of (bytes_read no_files) ≡ Ok kept = ap found_of (sym empty) ∙ is in cc
 
@@ -220,7 +220,7 @@ down_needs old fuse slot w stands =
     (ap (λ (b : Bool). b || halted_of w.acts) d.down, record { disk = d.disk; left = d.left })
 
 -- a node that is up needs it once its journal is halted
-open_asks : (me : Id) (s : CoordState Journal) (w : NodeWorld) → OpenStands me s w → needs_opening w ≡ s.keeper.log.stopped
+pub open_asks : (me : Id) (s : CoordState Journal) (w : NodeWorld) → OpenStands me s w → needs_opening w ≡ s.keeper.log.stopped
 open_asks me s w o = ap (λ (b : Bool). b || halted_of w.acts) o.up ∙ sym (ap (λ (n : NodeState). n.halted) o.acts)
 
 pub open_needs : (old : ReplayNode) (s : CoordState Journal) → old.slot ≡ Open s → s.keeper.log.stopped ≡ true → (w : NodeWorld) → NodeStands old w → (needs_opening w ≡ true) × ClosedStands s.keeper.log.disk w

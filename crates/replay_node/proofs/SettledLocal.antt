@@ -10,8 +10,9 @@ use Rattle.world_model.specs.declared.acts.Outcome.TheVariants.{Answered, Disk, 
 use Rattle.world_model.specs.Acts.{NodeHistory, NoActs, Then}
 use Rattle.world_model.specs.NodeState.{halted_of}
 use Rattle.world_model.specs.Replies.{reply_of, writes}
-use Rattle.world_model.specs.Histories.{is_opening, is_down, ContinuesUnlessFirst, MayFollow, IsLocal}
+use Rattle.world_model.specs.Histories.{is_opening, is_down, MayFollow, IsLocal}
 use Rattle.world_model.specs.Local.{BeginsEmpty}
+use Rattle.world_model.proofs.Assemble.{goes_on_always, begins_less}
 use Rattle.replay_node.specs.Settled.{settled, IsUnstruck}
 use Rattle.replay_node.proofs.Settling.{unstruck, settled_halted, settled_down}
 
@@ -50,11 +51,6 @@ settled_reply me k g act l o d = from (still me g l)
     from (inr (inl e)) = halted_reply me (settled k g) act o (settled_halted k g ∙ e) ∙ sym (halted_reply me g act o e)
     from (inr (inr e)) = cc
 
-continues_any : (g : NodeHistory) (act : Act) → is_opening act ≡ false → ContinuesUnlessFirst g act
-continues_any NoActs act o = tt
-continues_any (Then g a p) (Open found) o = cc
-continues_any (Then g a p) act o = tt
-
 up_before : (me : Id) (g : NodeHistory) (act : Act) (o : Outcome) → MayFollow me g act o → is_opening act ≡ false → is_down g ≡ false
 up_before me g act o f c = from (is_down g) refl
   where
@@ -65,7 +61,7 @@ up_before me g act o f c = from (is_down g) refl
 local_then : (me : Id) (k : Bool) (g : NodeHistory) (act : Act) (reply : ActReply) → is_opening act ≡ false → IsLocal me (Then g act (Answered reply)) → IsLocal me (settled k g) → IsLocal me (Then (settled k g) act (Answered reply))
 local_then me k g act reply o l s =
     let reply_is = settled_reply me k g act l.0 o (up_before me g act (Answered reply) l.1 o) in
-    (s, record { follows = l.1.follows ∙ sym reply_is; up = λ d. l.1.up (sym (settled_down k g) ∙ d) }, continues_any (settled k g) act o)
+    (s, record { follows = l.1.follows ∙ sym reply_is; up = λ d. l.1.up (sym (settled_down k g) ∙ d) }, goes_on_always (settled k g) act o)
 
 pub settled_local : (me : Id) (k : Bool) (g : NodeHistory) → IsLocal me g → IsLocal me (settled k g)
 settled_local me k NoActs l = l
@@ -78,7 +74,7 @@ settled_local me k (Then g act (Answered reply)) l = local_then me k g act reply
 local_before : (me : Id) (k : Bool) (g : NodeHistory) (act : Act) (reply : ActReply) → is_opening act ≡ false → IsLocal me g → MayFollow me (settled k g) act (Answered reply) → IsLocal me (Then g act (Answered reply))
 local_before me k g act reply o l f =
     let up : is_down g ≡ false = sym (settled_down k g) ∙ up_before me (settled k g) act (Answered reply) f o in
-    (l, record { follows = f.follows ∙ settled_reply me k g act l o up; up = λ d. f.up (settled_down k g ∙ d) }, continues_any g act o)
+    (l, record { follows = f.follows ∙ settled_reply me k g act l o up; up = λ d. f.up (settled_down k g ∙ d) }, goes_on_always g act o)
 
 pub unsettled_local : (me : Id) (k : Bool) (g : NodeHistory) → IsLocal me (settled k g) → IsLocal me g
 unsettled_local me k NoActs l = l
@@ -88,10 +84,6 @@ unsettled_local me k (Then g (Open found) (Answered reply)) l = l
 unsettled_local me k (Then g act (Answered reply)) l = local_before me k g act reply refl (unsettled_local me k g l.0) l.1
 
 -- a first opening still finds that nothing is kept
-
-begins_less : (g : NodeHistory) (act : Act) (o : Outcome) → BeginsEmpty (Then g act o) → BeginsEmpty g
-begins_less NoActs act o b = tt
-begins_less (Then g a p) act o b = b
 
 begins_then : (g : NodeHistory) (act : Act) (o : Outcome) → is_opening act ≡ false → BeginsEmpty g → BeginsEmpty (Then g act o)
 begins_then NoActs (Open found) o c b = cc

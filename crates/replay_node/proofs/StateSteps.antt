@@ -32,6 +32,7 @@ use Rattle.coord_state.specs.declared.coord.ActError.TheVariants as error
 use Rattle.coord_state.specs.declared.coord.CoordState.{CoordState}
 use Rattle.coord_state.specs.declared.ending.NotTaken.{NotTaken}
 use Rattle.coord_state.specs.declared.ending.NotTaken.TheVariants as untaken
+use Rattle.coord_state.proofs.Standing.{stands_durable}
 use Rattle.world_model.specs.declared.acts.Act.{Act}
 use Rattle.world_model.specs.declared.acts.Act.TheVariants.{Bootstrap, StartJoin, Publish, Commit, Open}
 use Rattle.world_model.specs.declared.acts.Cause.TheVariants.{Publish as PublishRefused}
@@ -44,6 +45,7 @@ use Rattle.world_model.specs.Acts.{NodeHistory, Then}
 use Rattle.world_model.specs.Histories.{is_opening, is_down}
 use Rattle.world_model.specs.NodeState.{NodeState, durable_of, halted_of}
 use Rattle.world_model.specs.Replies.{reply_of, reply_at, is_taken, writes}
+use Rattle.world_model.proofs.Guards.{as_taken}
 use Rattle.replay_node.specs.Did.{outcome_of}
 use Rattle.replay_node.specs.NodeDisk.{NodeDisk, CallsEnd, Done, Failed, CrashedIn, Called, MemFuse, MayLeave, DiskStands, bytes_read, calls_made}
 use Rattle.replay_node.specs.NodeWorld.{NodeWorld, act_calls, act_called, after_act, ends_in_a_crash, outcome_at, outcome_by}
@@ -56,7 +58,7 @@ use Rattle.replay_node.proofs.AsSaid.{said_done, said_failed, said_crashed, Stop
 use Rattle.replay_node.proofs.Found.{struck_tells, tells_of, Tells}
 use Rattle.replay_node.proofs.SettledLocal.{halted_reply}
 use Rattle.replay_node.proofs.Settling.{settled_then, unstruck_then}
-use Rattle.replay_node.proofs.Struck.{closed_of_writes, durable_kept, durable_lost, durable_lost_crash, durable_refused, taken_is}
+use Rattle.replay_node.proofs.Struck.{closed_of_writes, durable_kept, durable_lost, durable_lost_crash, durable_refused}
 
 -- what coord_state says of an act
 pub record Step (old new : CoordState Journal) (act : Act) (o : Outcome) : Type 0 where
@@ -100,9 +102,6 @@ halted_disk g act kept o = refl
 stands_halted : (c : CoordState Journal) (g : NodeHistory) → StandsFor journal_ghosts c g → c.keeper.log.stopped ≡ halted_of g
 stands_halted c g s = ap (λ (p : NodeState). p.halted) s
 
-stands_durable : (c : CoordState Journal) (g : NodeHistory) → StandsFor journal_ghosts c g → c.keeper.kept ≡ durable_of g
-stands_durable c g s = ap (λ (p : NodeState). record { term = p.term; accepted = p.accepted; committed = p.committed }) s
-
 -- an act that is taken finds the journal running
 runs_of : (me : Id) (c : CoordState Journal) (g : NodeHistory) (act : Act) → is_opening act ≡ false → StandsFor journal_ghosts c g → is_taken (reply_of me g act) ≡ true → c.keeper.log.stopped ≡ false
 runs_of me c g act o s taken = from c.keeper.log.stopped refl
@@ -132,7 +131,7 @@ module _ (old new : CoordState Journal) (act : Act) (reply : ActReply) (step : S
   answered_calls =
       let running = λ (taken : is_taken reply ≡ true). runs_of old.me old w.acts act o stands.acts (subst (λ (r : ActReply). is_taken r ≡ true) reply_is taken) in
       subst (λ (r : ActReply). CallsDone new.keeper (calls_made w.disk (act_calls r (change_of act) (durable_of w.acts) (bytes_read w.disk.files)))) reply_is
-      (answered_done old.keeper new.keeper w.disk (durable_of w.acts) stands.disk (stands_durable old w.acts stands.acts) act reply running step.wrote)
+      (answered_done old.keeper new.keeper w.disk (durable_of w.acts) stands.disk (stands_durable journal_ghosts old w.acts stands.acts) act reply running step.wrote)
 
   pub answered_at : Answered reply ≡ outcome_at old.me w act
   answered_at = ap Answered reply_is ∙ sym (ap (λ (e : CallsEnd). outcome_by e (reply_of old.me w.acts act)) answered_calls.0)
@@ -172,7 +171,7 @@ was_record c g found s running left =
     let order = reverse c.keeper.log.disk.disk.order.items in
     let past = past_of c.keeper.log.disk.disk in
     let read = read_of c.keeper.log.disk.disk in
-    only_record read (WereImages order past read (length order)) (AreImages past read) c.keeper.kept found (only-last order past read) (c.keeper.log.settled tt running).durable (c.keeper.stands tt running) left ∙ ap Some (stands_durable c g s)
+    only_record read (WereImages order past read (length order)) (AreImages past read) c.keeper.kept found (only-last order past read) (c.keeper.log.settled tt running).durable (c.keeper.stands tt running) left ∙ ap Some (stands_durable journal_ghosts c g s)
 
 leaves_by : (fuse : MemFuse) (g h : NodeHistory) (act : Act) → durable_of (settled false h) ≡ durable_of g → durable_of (settled true h) ≡ durable_of (Then g act (Crashed true))
     → ((files : Files) → MayLeave fuse files → IsDuring g act (record_of_files files)) → Tells (durable_of g) (durable_of (Then g act (Crashed true))) → LeavesActs fuse h
@@ -212,11 +211,11 @@ module _ (old new : CoordState Journal) (act : Act) (step : Step old new act (Di
   struck_ran : CallsMade (FuseSteps MemSteps) calls old.keeper.log.disk new.keeper.log.disk false
   struck_ran =
       let wrote : Wrote journal_ghosts old.keeper (Some change.0) new.keeper false = subst (λ (c : Option Change). Wrote journal_ghosts old.keeper c new.keeper false) change.1 step.wrote in
-      subst (λ (made : List DeviceCall). CallsMade (FuseSteps MemSteps) made old.keeper.log.disk new.keeper.log.disk false) (calls_are old.keeper w.disk (durable_of w.acts) change.0 stands.disk struck_runs (stands_durable old w.acts stands.acts)) wrote
+      subst (λ (made : List DeviceCall). CallsMade (FuseSteps MemSteps) made old.keeper.log.disk new.keeper.log.disk false) (calls_are old.keeper w.disk (durable_of w.acts) change.0 stands.disk struck_runs (stands_durable journal_ghosts old w.acts stands.acts)) wrote
 
   struck_calls : act_called old.me w act ≡ calls_made w.disk calls
   struck_calls =
-      let taken = taken_is (reply_of old.me w.acts act) struck_taken.0 in
+      let taken = as_taken (reply_of old.me w.acts act) struck_taken.0 in
       ap (calls_made w.disk) (ap (λ (c : Option Change). act_calls (reply_of old.me w.acts act) c (durable_of w.acts) (bytes_read w.disk.files)) change.1 ∙ ap (λ (r : ActReply). act_calls r (Some change.0) (durable_of w.acts) (bytes_read w.disk.files)) (sym taken.2))
 
   ended_at : (e : CallsEnd) → (calls_made w.disk calls).ended ≡ e → outcome_by e (reply_of old.me w.acts act) ≡ outcome_at old.me w act

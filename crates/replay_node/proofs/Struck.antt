@@ -1,11 +1,10 @@
 -- What an act makes of a node's record, and what the record that is found later says of it.
-use Rattle.std.proofs.Common.{◌≡◌, ℕ, Bool, true, false, ◌&&◌, Option, List, [], ◌∷◌, refl, sym, ◌∙◌, ap, subst, arith, ◌⊎◌, inl, inr}
-use Rattle.std.proofs.lemmas.Bool.{and_parts, eqb-true, eq-eqb}
+use Rattle.std.proofs.Common.{◌≡◌, ℕ, Bool, true, false, List, [], ◌∷◌, refl, sym, ◌∙◌, ap, subst, arith, ◌⊎◌, inl, inr}
+use Rattle.std.proofs.lemmas.Bool.{and_parts, eqb-true, eq-eqb, and_from}
 use Rattle.voting_config.specs.Ids.{Id, same_config}
 use Rattle.cluster_state.specs.declared.state.Kept.{Kept}
 use Rattle.world_model.specs.declared.acts.Act.{Act}
 use Rattle.world_model.specs.declared.acts.Act.TheVariants.{Bootstrap, StartJoin, Publish, Commit, Open}
-use Rattle.world_model.specs.declared.acts.Message.{Message}
 use Rattle.world_model.specs.declared.acts.ActReply.{ActReply}
 use Rattle.world_model.specs.declared.acts.ActReply.TheVariants.{Taken, Refused, Stopped}
 use Rattle.world_model.specs.declared.acts.Outcome.TheVariants.{Answered, Disk, Crashed}
@@ -14,7 +13,7 @@ use Rattle.world_model.specs.NodeState.{term_of, accepted_of, committed_of, dura
 use Rattle.world_model.specs.Histories.{is_opening}
 use Rattle.world_model.specs.Replies.{reply_of, is_taken, writes}
 use Rattle.voting_config.proofs.Sets.{same_self, same_config_is}
-use Rattle.world_model.proofs.Guards.{boot_guard, publish_guard}
+use Rattle.world_model.proofs.Guards.{boot_guard, publish_guard, as_taken}
 use Rattle.replay_node.specs.Settled.{settled, shows_as, is_kept}
 
 -- an act that is not taken changes nothing
@@ -44,10 +43,6 @@ closed_of_writes act e = cc
 
 -- What the line of a record shows.
 
-both : (x y : Bool) → x ≡ true → y ≡ true → (x && y) ≡ true
-both true y e f = f
-both false y e f = cc
-
 pub record Shown (a b : Kept) : Type 0 where
   pub term : a.term ≡ b.term
   pub accepted_term : a.accepted.term ≡ b.accepted.term
@@ -71,33 +66,29 @@ shown a b e =
 
 same_config_self : (xs : List Id) → same_config xs xs ≡ true
 same_config_self [] = refl
-same_config_self (x ∷ xs) = both _ _ (same_self x) (same_config_self xs)
+same_config_self (x ∷ xs) = and_from _ _ (same_self x) (same_config_self xs)
 
 pub shows_self : (a : Kept) → shows_as a a ≡ true
 shows_self a =
     let term = eq-eqb a.term a.term refl in
     let accepted_term = eq-eqb a.accepted.term a.accepted.term refl in
     let version = eq-eqb a.accepted.version a.accepted.version refl in
-    both _ _ (both _ _ (both _ _ (both _ _ term accepted_term) version) (same_config_self a.accepted.config)) (same_config_self a.committed)
+    and_from _ _ (and_from _ _ (and_from _ _ (and_from _ _ term accepted_term) version) (same_config_self a.accepted.config)) (same_config_self a.committed)
 
 -- an act that was taken and kept shows in the record, unless it changed nothing
-
-pub taken_is : (r : ActReply) → is_taken r ≡ true → (s : Option Message) × (w : Bool) × (Taken s w ≡ r)
-taken_is (Taken s w) e = (s, w, refl)
-taken_is r e = cc
 
 kept_shown : (g : NodeHistory) (act : Act) → shows_as (durable_of g) (durable_of (Then g act (Crashed true))) ≡ true → Shown (durable_of g) (durable_of (Then g act (Crashed true)))
 kept_shown g act e = shown (durable_of g) (durable_of (Then g act (Crashed true))) e
 
 pub shown_same : (me : Id) (g : NodeHistory) (act : Act) → is_opening act ≡ false → is_taken (reply_of me g act) ≡ true → shows_as (durable_of g) (durable_of (Then g act (Crashed true))) ≡ true → durable_of g ≡ durable_of (Then g act (Crashed true))
 shown_same me g (Bootstrap config) o t e =
-    let k = taken_is (reply_of me g (Bootstrap config)) t in
+    let k = as_taken (reply_of me g (Bootstrap config)) t in
     let guard = boot_guard me g config k.0 k.1 k.2 in
     absurd (guard.named (sym (kept_shown g (Bootstrap config) e).config ∙ guard.empty))
 shown_same me g (StartJoin candidate term) o t e = ap (λ (x : ℕ). record { term = x; accepted = accepted_of g; committed = committed_of g }) (kept_shown g (StartJoin candidate term) e).term
 shown_same me g (Publish request) o t e =
     let s = kept_shown g (Publish request) e in
-    let k = taken_is (reply_of me g (Publish request)) t in
+    let k = as_taken (reply_of me g (Publish request)) t in
     let newer = (publish_guard me g request k.0 k.1 k.2).newer (sym s.accepted_term) in
     let version = s.accepted_version in
     absurd (omega arith)

@@ -1,5 +1,5 @@
 -- A line that is done.
-use Rattle.std.proofs.Common.{◌≡◌, ◌≤◌, ◌-◌, ◌∷◌, ℕ, zero, suc, arith, Bool, true, false, not, Option, None, Some, List, [], ◌++◌, append_assoc, codes, length, slice_get, slice_set, get_or, take, drop, refl, sym, ◌∙◌, ap, subst, if◌then◌else◌}
+use Rattle.std.proofs.Common.{◌≡◌, ◌-◌, ℕ, Bool, true, false, not, Option, None, Some, List, ◌++◌, append_assoc, codes, length, slice_get, slice_set, get_or, take, drop, refl, sym, ◌∙◌, ap, subst, if◌then◌else◌}
 use Rattle.std.specs.List.{AllByRecursion}
 use Rattle.voting_config.specs.Ids.{Id, same}
 use Rattle.wire_frames.specs.declared.frame.Frame.{Frame}
@@ -18,20 +18,7 @@ use Rattle.schedule_replay.specs.ClusterTrace.{event_shown, event_shown_if_up, f
 use Rattle.schedule_replay.specs.declared.cluster.node.ClusterNode.{ClusterNode}
 use Rattle.schedule_replay.proofs.Going.{GoesAs}
 use Rattle.schedule_replay.proofs.ClusterMovement.{Looked, after_here, here, returned}
-
-all-append : {A : Type 0} (P : A → Type 0) (xs ys : List A) → AllByRecursion P xs → AllByRecursion P ys → AllByRecursion P (xs ++ ys)
-all-append P [] ys h k = k
-all-append P (x ∷ xs) ys h k = (h.0, all-append P xs ys h.1 k)
-
-pub all-at : {A : Type 0} (P : A → Type 0) (xs : List A) (k : ℕ) (x : A) → AllByRecursion P xs → slice_get xs k ≡ Some x → P x
-all-at P [] k x h e = absurd (cc)
-all-at P (y ∷ ys) zero x h e = let is : y ≡ x = cc in subst P is h.0
-all-at P (y ∷ ys) (suc k) x h e = all-at P ys k x h.1 e
-
-pub past : {A : Type 0} (xs : List A) (k : ℕ) → length xs ≤ k → slice_get xs k ≡ None
-past [] k within = refl
-past (x ∷ xs) zero within = absurd (omega arith)
-past (x ∷ xs) (suc k) within = past xs k (omega arith)
+use Rattle.master_tasks.proofs.Limits.{each_append}
 
 -- what the node did is what the line makes of the cluster
 module _ (ids initial l : List Id) (items lent : List ClusterNode) (frames : List Frame) (n : Id) (place len : ℕ) (looked : Looked ids initial l items lent frames n place len) (x d : ClusterNode) where
@@ -54,7 +41,7 @@ module _ (ids initial l : List Id) (items lent : List ClusterNode) (frames : Lis
             stands = record {
               stand = after_here ids initial l items lent frames n place len looked d c (after_it (own_in c n)) (later c) line.goes done.stands stands.stand;
               frames_sent = done.sent_is ∙ ap (λ (fs : List Frame). fs ++ sent (own_in c n)) stands.frames_sent ∙ line.frames;
-              fit = subst (λ (fs : List Frame). AllByRecursion IsFitFrame fs) (sym done.sent_is) (all-append IsFitFrame frames (sent (own_in c n)) stands.fit done.fit);
+              fit = subst (λ (fs : List Frame). AllByRecursion IsFitFrame fs) (sym done.sent_is) (each_append IsFitFrame frames (sent (own_in c n)) stands.fit done.fit);
               ascending = stands.ascending;
             };
             written = done.written ∙ ap (λ (t : List ℕ). was ++ t) count;

@@ -5,13 +5,14 @@ use Rattle.std.proofs.lemmas.Bool.{and_parts}
 use Rattle.std.proofs.lemmas.List.{length-set, take_more}
 use Rattle.voting_config.specs.Ids.{Id, ascends, is_below}
 use Rattle.voting_config.proofs.Sorted.{before-not_same}
+use Rattle.voting_config.proofs.Sets.{same_flipped}
 use Rattle.wire_frames.specs.declared.frame.Frame.{Frame}
 use Rattle.replay_node.specs.Clusters.{Cluster, settings_of}
 use Rattle.schedule_replay.specs.ClusterStands.{AllFor, ClusterFor, GoesOn}
 use Rattle.schedule_replay.specs.OwnStands.{NodeFor}
 use Rattle.schedule_replay.specs.Own.{Own, own_in}
 use Rattle.schedule_replay.specs.declared.cluster.node.ClusterNode.{ClusterNode}
-use Rattle.schedule_replay.proofs.Movement.{below_at, other_flip, refilled}
+use Rattle.schedule_replay.proofs.Movement.{below_at, refilled}
 
 -- there are as many nodes as ids
 pub as_many : (nodes initial ids : List Id) (xs : List ClusterNode) (c : Cluster) → AllFor nodes initial ids xs c → length xs ≡ length ids
@@ -44,7 +45,7 @@ module _ (nodes initial : List Id) (n : Id) (c : Cluster) (own : Own) (later : C
   all_after (i ∷ is) (y ∷ ys) (suc k) d a g moved s =
       let parts = and_parts _ _ a in
       let less = below_at i is k n parts.0 g in
-      (subst (λ (o : Own). NodeFor (settings_of nodes initial i) y o false) (sym (goes.others i (other_flip i n (before-not_same n i less)))) s.0, all_after is ys k d parts.1 g moved s.1)
+      (subst (λ (o : Own). NodeFor (settings_of nodes initial i) y o false) (sym (goes.others i (same_flipped n i ∙ before-not_same n i less))) s.0, all_after is ys k d parts.1 g moved s.1)
 
 -- the node at a place is the one of the id there
 node_at : (nodes initial ids : List Id) (old : List ClusterNode) (c : Cluster) (n : Id) (place : ℕ) (x : ClusterNode) → slice_get ids place ≡ Some n → slice_get old place ≡ Some x → AllFor nodes initial ids old c → NodeFor (settings_of nodes initial n) x (own_in c n) false

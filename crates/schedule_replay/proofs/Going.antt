@@ -1,6 +1,7 @@
 -- What a line makes of a cluster is what it makes of its node alone.
 use Rattle.std.proofs.Common.{◌≡◌, Bool, true, false, cond, ℕ, List, [], ◌++◌, append-nil, length, refl, sym, ◌∙◌, ap, subst, if◌then◌else◌}
 use Rattle.voting_config.specs.Ids.{Id, same}
+use Rattle.voting_config.proofs.Sets.{same_self}
 use Rattle.wire_frames.specs.declared.frame.Frame.{Frame}
 use Rattle.zen_disk.specs.declared.orders.Order.{Order}
 use Rattle.zen_disk.specs.declared.orders.Way.{Way}
@@ -11,7 +12,7 @@ use Rattle.replay_node.specs.NodeLines.{restart_text, stop_text}
 use Rattle.replay_node.specs.NodeWorld.{NodeWorld, after_opening, needs_opening}
 use Rattle.replay_node.specs.Worlds.{World, crashed, node_world, opened, ordered}
 use Rattle.replay_node.proofs.Alone.{PlaysAlone, plays_alone}
-use Rattle.replay_node.proofs.Moves.{NodeMoves, moves_crashed, moves_opened, moves_ordered, same_itself}
+use Rattle.replay_node.proofs.Moves.{NodeMoves, moves_crashed, moves_opened, moves_ordered}
 use Rattle.policy_model.specs.declared.settings.Settings.{Settings}
 use Rattle.policy_model.specs.declared.events.Event.{Event}
 use Rattle.policy_model.specs.declared.events.Event.TheVariants.{Start}
@@ -36,7 +37,7 @@ same_own : (a b : Life) (x y : NodeWorld) → a ≡ b → x ≡ y → own_of a x
 same_own a b x y l w = ap (λ (z : Life). own_of z x) l ∙ ap (λ (z : NodeWorld). own_of b z) w
 
 life_own : (lives : Id → Life) (n : Id) (life : Life) → with_life lives n life n ≡ life
-life_own lives n life = ap (λ (b : Bool). cond b life (lives n)) (same_itself n)
+life_own lives n life = ap (λ (b : Bool). cond b life (lives n)) (same_self n)
 
 life_other : (lives : Id → Life) (n : Id) (life : Life) (m : Id) → same n m ≡ false → with_life lives n life m ≡ lives m
 life_other lives n life m other = ap (λ (b : Bool). cond b life (lives m)) other

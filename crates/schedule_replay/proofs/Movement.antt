@@ -1,11 +1,11 @@
 -- One node moves, the others stay.
-use Rattle.std.proofs.Common.{◌≡◌, ℕ, zero, suc, ◌<◌, true, false, Some, List, [], ◌∷◌, length, ◌++◌, refl, sym, ◌∙◌, ap, subst, arith, slice_get, slice_set, get_or, take, drop}
+use Rattle.std.proofs.Common.{◌≡◌, ℕ, zero, suc, ◌<◌, true, Some, List, [], ◌∷◌, length, ◌++◌, refl, sym, ◌∙◌, ap, subst, arith, slice_get, slice_set, get_or, take, drop}
 use Rattle.std.proofs.lemmas.List.{length-set, take_at}
 use Rattle.std.proofs.lemmas.Option.{slice_get-get_or, slice_get_within}
 use Rattle.std.proofs.lemmas.Bool.{and_parts}
-use Rattle.std.specs.Cmp.Lexicographic.{nat_list_eq_equiv}
-use Rattle.voting_config.specs.Ids.{Id, ascends, is_below, before, most_ids, same}
+use Rattle.voting_config.specs.Ids.{Id, ascends, is_below, before, most_ids}
 use Rattle.voting_config.proofs.Sorted.{before-not_same}
+use Rattle.voting_config.proofs.Sets.{same_flipped}
 use Rattle.world_model.specs.declared.acts.Act.{Act}
 use Rattle.replay_node.specs.Did.{outcome_of, did_text, outcome_unless_down, after_unless_down, act_results}
 use Rattle.replay_node.specs.NodeWorld.{NodeWorld}
@@ -18,9 +18,6 @@ use Rattle.replay_node.proofs.Moves.{NodeMoves, moves_did_unless_down}
 use Rattle.schedule_replay.specs.WorldStands.{ActDone, AllStand, Stands}
 use Rattle.schedule_replay.proofs.Fresh.{as_many}
 use Rattle.trace_text.specs.Trace.{act_text}
-
-pub other_flip : (x y : Id) → same x y ≡ false → same y x ≡ false
-other_flip x y h = nat_list_eq_equiv.symm y x ∙ h
 
 -- the nodes with an id above n stay
 all_stay : (ids : List Id) (cs : List ReplayNode) (n : Id) (w : World) (x : NodeWorld) (v : World) → NodeMoves n w x v → is_below n ids ≡ true → AllStand ids cs w → AllStand ids cs v
@@ -61,7 +58,7 @@ all_after (i ∷ is) (y ∷ ys) w n zero c x v a g m moves d s =
 all_after (i ∷ is) (y ∷ ys) w n (suc k) c x v a g m moves d s =
     let parts = and_parts _ _ a in
     let less = below_at i is k n parts.0 g in
-    (s.0, subst (λ (z : NodeWorld). NodeStands y z) (sym (moves.others i (other_flip i n (before-not_same n i less)))) s.1, all_after is ys w n k c x v parts.1 g m moves d s.2)
+    (s.0, subst (λ (z : NodeWorld). NodeStands y z) (sym (moves.others i (same_flipped n i ∙ before-not_same n i less))) s.1, all_after is ys w n k c x v parts.1 g m moves d s.2)
 
 -- ---- the same in the words of a method, which looks the place up in the nodes that a vector lends it
 

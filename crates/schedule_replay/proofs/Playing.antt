@@ -19,6 +19,7 @@ use Rattle.policy_model.specs.Views.{View}
 use Rattle.event_text.specs.Published.{published_after, published_in}
 use Rattle.event_text.specs.Steps.{outcome_told, step_told, told_as}
 use Rattle.replay_node.specs.Course.{NodeCourse, node_act_then, node_behind, node_played}
+use Rattle.replay_node.proofs.Carried.{quiet_played}
 
 -- the items of a course make these acts of a log that had those
 abbrev Makes : NodeHistory → NodeCourse → Type 0
@@ -54,16 +55,6 @@ quiet_front g (Notes note) d q h l e = from d.struck
     from true = h (And l (Notes note)) e
     from false = h (And l (Notes note)) e
 
-quiet_course : (me : Id) (x : NodeWorld) (i : Item) (is : List Item) → is_quiet i ≡ true → node_behind i (node_played me x is) ≡ node_played me x (i ∷ is)
-quiet_course me x (Opens found) is q = absurd (cc)
-quiet_course me x (Begins event) is q = absurd (cc)
-quiet_course me x (Acts act o) is q = absurd (cc)
-quiet_course me x (Turns mode term) is q = refl
-quiet_course me x (Drops member cause) is q = refl
-quiet_course me x (Sends frame) is q = refl
-quiet_course me x (Replies answer) is q = refl
-quiet_course me x (Notes note) is q = refl
-
 act_front : (g : NodeHistory) (act : Act) (o : Outcome) (end : CallsEnd) (y : NodeWorld) (rest : NodeWorld → NodeCourse) → y.acts ≡ Then g act o → Makes y.acts (rest y) → Makes g (node_act_then end (Acts act o) y rest)
 act_front g act o Done y rest is h l e = from (rest y).struck
   where
@@ -79,7 +70,7 @@ played_acts s v me x is (Ended u) l e = e
 played_acts s v me x is (ByAct u act rest shut a) l e =
     act_front x.acts act (outcome_at me x act) (act_called me x act).ended (after_act me x act) (λ (y : NodeWorld). node_played me y rest) refl (played_acts s _ me (after_act me x act) rest a) l e
 played_acts s v me x is (ByQuiet u i rest q a) l e =
-    subst (λ (d : NodeCourse). acts_of (added l d.items) ≡ d.node.acts) (quiet_course me x i rest q) (quiet_front x.acts i (node_played me x rest) q (played_acts s _ me x rest a) l e)
+    subst (λ (d : NodeCourse). acts_of (added l d.items) ≡ d.node.acts) (quiet_played me x i rest q) (quiet_front x.acts i (node_played me x rest) q (played_acts s _ me x rest a) l e)
 
 -- ---- the state that was published last
 

@@ -6,32 +6,25 @@ use Rattle.voting_config.specs.Ids.{Id, has, same}
 use Rattle.world_model.specs.declared.acts.Act.{Act}
 use Rattle.world_model.specs.declared.acts.Act.TheVariants.{Bootstrap, StartJoin, TakeJoin, Value, Publish, Response, Commit, Open}
 use Rattle.world_model.specs.declared.acts.Message.{Message}
-use Rattle.world_model.specs.declared.acts.Message.TheVariants.{Join as JoinMessage, Publish as PublishMessage, Response as ResponseMessage, Commit as CommitMessage}
 use Rattle.world_model.specs.declared.acts.ActReply.{ActReply}
 use Rattle.world_model.specs.declared.acts.ActReply.TheVariants.{Taken, Refused, Stopped}
 use Rattle.world_model.specs.declared.acts.Outcome.{Outcome}
 use Rattle.world_model.specs.declared.acts.Outcome.TheVariants.{Answered}
 use Rattle.world_model.specs.Acts.{NodeHistory, NoActs, Then}
 use Rattle.world_model.specs.Replies.{reply_of}
-use Rattle.world_model.proofs.System.{Origin, origin}
+use Rattle.world_model.proofs.System.{origin}
 use Rattle.world_model.specs.Histories.{History, Next, node_history, sent_by}
+use Rattle.world_model.proofs.Legal.{origin_source}
 use Rattle.replay_node.specs.NodeDisk.{CallsEnd, Done, Failed, CrashedIn}
 use Rattle.replay_node.specs.NodeWorld.{NodeWorld, act_called, outcome_at, outcome_by}
 use Rattle.replay_node.specs.Sent.{source_of, are_from}
 use Rattle.replay_node.specs.Takes.{TakesFrom}
 
--- what a node sends is from it
-source_is : (me : Id) (g : NodeHistory) (act : Act) (m : Message) → Origin me g act m → source_of m ≡ me
-source_is me g act (JoinMessage j) o = o.source_is
-source_is me g act (PublishMessage r) o = o.source_is
-source_is me g act (ResponseMessage r) o = o.source_is
-source_is me g act (CommitMessage c) o = o.source_is
-
 reply_from : (ids : List Id) (me : Id) (g : NodeHistory) (act : Act) → has me ids ≡ true → are_from ids (sent_by (Answered (reply_of me g act))) ≡ true
 reply_from ids me g act listed = from (reply_of me g act) refl
   where
     from : (r : ActReply) → r ≡ reply_of me g act → are_from ids (sent_by (Answered r)) ≡ true
-    from (Taken (Some m) w) e = and_from _ _ (subst (λ (i : Id). has i ids ≡ true) (sym (source_is me g act m (origin me g act m w e))) listed) refl
+    from (Taken (Some m) w) e = and_from _ _ (subst (λ (i : Id). has i ids ≡ true) (sym (origin_source me g act m (origin me g act m w e))) listed) refl
     from (Taken None w) e = refl
     from (Refused cause) e = refl
     from Stopped e = refl

@@ -6,13 +6,13 @@ use Rattle.cluster_state.specs.declared.messages.PublishRequest.{PublishRequest}
 use Rattle.cluster_state.specs.declared.state.ClusterValue.{ClusterValue}
 use Rattle.coord_state.specs.StandsFor.{fields_of, request_of}
 use Rattle.world_model.specs.declared.acts.Act.TheVariants as act
-use Rattle.world_model.specs.declared.acts.Cause.{Cause}
 use Rattle.world_model.specs.declared.acts.Message.{Message}
 use Rattle.world_model.specs.declared.acts.Message.TheVariants.{Publish as PublishMessage}
 use Rattle.world_model.specs.declared.acts.ActReply.{ActReply}
-use Rattle.world_model.specs.declared.acts.ActReply.TheVariants.{Taken, Refused, Stopped}
+use Rattle.world_model.specs.declared.acts.ActReply.TheVariants.{Taken, Stopped}
 use Rattle.world_model.specs.NodeState.{NodeState}
 use Rattle.world_model.specs.Replies.{reply_at}
+use Rattle.world_model.proofs.Guards.{past}
 use Rattle.coord_state.specs.declared.coord.CoordState.{CoordState}
 use Rattle.world_model.specs.declared.acts.Outcome.TheVariants.{Answered}
 use Rattle.replay_node.specs.Did.{outcome_of}
@@ -26,10 +26,6 @@ use Rattle.replay_node.proofs.state.client_value.Goals as goal
 running : (b : Bool) (r : ActReply) (s : Option Message) (w : Bool) → Taken s w ≡ cond b Stopped r → Taken s w ≡ r
 running true r s w h = cc
 running false r s w h = h
-
-past : (b : Bool) (cause : Cause) (r : ActReply) (s : Option Message) (w : Bool) → Taken s w ≡ cond b (Refused cause) r → (b ≡ false) × (Taken s w ≡ r)
-past true cause r s w h = cc
-past false cause r s w h = (refl, h)
 
 -- the version of a value that is published
 version_fits : (me : Id) (p : NodeState) (version : ℕ) (config : List Id) (value : ClusterValue) (request : PublishRequest)
