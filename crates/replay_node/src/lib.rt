@@ -14,4 +14,4 @@ pub use did::{Did, Effects};
 pub use message::{FitPublishRequest, SentMessage};
 pub use node::{ReplayNode, Slot};
 pub use state::OpenNode;
-pub use writing::{write_delivery, write_did, write_taking};
+pub use writing::{write_delivery, write_did};

@@ -131,8 +131,8 @@ pub fn write_delivery(
     text.word("\n")
 }
 
-/// Writes the act by which a node takes a message.
-pub fn write_taking(text: &mut Text, message: &SentMessage) -> Result<(), AllocError>
+// Writes the act by which a node takes a message.
+fn write_taking(text: &mut Text, message: &SentMessage) -> Result<(), AllocError>
     ensures { OnOk result (text.new ≡ text.old ++ act_text (taking (message_of message.now))) }
 {
     match message {
