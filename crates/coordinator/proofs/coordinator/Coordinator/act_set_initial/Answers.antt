@@ -7,7 +7,7 @@ use Rattle.coordinator.proofs.coordinator.Coordinator.act_set_initial.Goals as g
 pub returns-clause-does : goal.returns-clause-does
 returns-clause-does g c =
     ends_act g.K.Keeper c.args.self.now _ (act.Bootstrap c.args.initial.state.config) _ c.outcome_of-outcome.result c.verdict-verdict.result _ _ c.requires.ready (record { acts = c.set_initial.ensures.act; wrote = c.set_initial.ensures.wrote; any_moment = c.set_initial.ensures.any_moment; told = subst IsTold c.outcome_of-outcome.ensures.value c.outcome_of-outcome.ensures.told }) c.outcome_of-outcome.ensures.value c.outcome_of-outcome.ensures.told refl refl
-    (plain_view g.K.Keeper c.args.self.now _ (act.Bootstrap c.args.initial.state.config) _ (record { acts = c.set_initial.ensures.act; wrote = c.set_initial.ensures.wrote; any_moment = c.set_initial.ensures.any_moment; told = subst IsTold c.outcome_of-outcome.ensures.value c.outcome_of-outcome.ensures.told }) refl) (rw (c.of-config.ensures, c.members.ensures, c.state.ensures.state) at c.act.ensures.shown) c.verdict-verdict.ensures
+    (plain_view g.K.Keeper c.args.self.now _ (act.Bootstrap c.args.initial.state.config) _ (record { acts = c.set_initial.ensures.act; wrote = c.set_initial.ensures.wrote; any_moment = c.set_initial.ensures.any_moment; told = subst IsTold c.outcome_of-outcome.ensures.value c.outcome_of-outcome.ensures.told }) refl) (rw (c.of-config.ensures, c.members.ensures, c.deref.ensures, c.state.ensures.state) at c.act.ensures.shown) c.verdict-verdict.ensures
 
 pub returns-clause-taken : goal.returns-clause-taken
 returns-clause-taken g c =

@@ -1,4 +1,5 @@
-use Rattle.std.proofs.Common.{◌≤◌, length, sym, ap, subst, ◌∙◌}
+use Rattle.std.proofs.Common.{◌≡◌, ◌≤◌, length, sym, ap, subst, ◌∙◌}
+use Rattle.cluster_state.specs.declared.state.ClusterState.{ClusterState}
 use Rattle.cluster_state.specs.declared.state.Kept.{Kept}
 use Rattle.cluster_state.specs.Settings.{IsSettings}
 use Rattle.policy_model.specs.Fitting.{IsFitView}
@@ -32,11 +33,13 @@ returns-clause-stands g c = λ life continues.
 
 pub returns-clause-fit : goal.returns-clause-fit
 returns-clause-fit g c =
-    let settings = subst (λ (r : Kept). IsSettings r.accepted.value.settings) c.kept.ensures.kept c.texts.ensures.settings in
+    let accepted : c.deref.result.now ≡ (g.K.Keeper.record_of c.args.keeper).accepted = c.deref.ensures ∙ ap (λ (r : Kept). r.accepted) c.kept.ensures.kept in
+    let settings = subst (λ (s : ClusterState). IsSettings s.value.settings) accepted c.texts.ensures.settings in
     subst (λ (v : View). IsFitView v) (sym (returns-clause-view g c))
     (opened_fit c.args.settings (g.K.Keeper.record_of c.args.keeper) (record { term = c.kept.ensures.bounded; accepted = c.kept.ensures.fit; settings = settings }))
 
 pub returns-clause-small : goal.returns-clause-small
 returns-clause-small g c =
+    let accepted : c.deref.result.now ≡ (g.K.Keeper.record_of c.args.keeper).accepted = c.deref.ensures ∙ ap (λ (r : Kept). r.accepted) c.kept.ensures.kept in
     subst (λ (v : View). IsSmallView v) (sym (returns-clause-view g c))
-    (opened_small c.args.settings (g.K.Keeper.record_of c.args.keeper) (subst (λ (r : Kept). length r.accepted.value.members ≤ most_ids) c.kept.ensures.kept c.len.ensures.fits))
+    (opened_small c.args.settings (g.K.Keeper.record_of c.args.keeper) (subst (λ (s : ClusterState). length s.value.members ≤ most_ids) accepted c.len.ensures.fits))
