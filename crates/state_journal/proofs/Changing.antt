@@ -1,7 +1,9 @@
 -- What a crash leaves while an open journal keeps a change.
-use Rattle.std.proofs.Common.{◌≡◌, ◌≤◌, List, ℕ, false, true, refl, subst}
+use Rattle.std.proofs.Common.{◌≡◌, ◌≤◌, List, ℕ, false, true, refl, ap, ◌∙◌, subst}
 use Rattle.std.proofs.lemmas.Bool.{le-leb}
+use Rattle.cluster_state.specs.Fields.{ids}
 use Rattle.cluster_state.specs.declared.state.ClusterState.{ClusterState}
+use Rattle.voting_config.specs.Ids.{most_ids}
 use Rattle.zen_disk.specs.declared.disks.Disks.{Ghosts}
 use Rattle.zen_disk.specs.Moments.{LeavesOnly}
 use Rattle.gate_log.specs.Generations.{standing_in}
@@ -12,9 +14,9 @@ use Rattle.state_journal.specs.Drafts.{HasSpelling, MayBegin}
 use Rattle.state_journal.specs.Journal.{StoodFor}
 use Rattle.state_journal.specs.Keeping.{generation_after, record_with, IsWritten}
 use Rattle.state_journal.specs.declared.change.Change.{Change}
-use Rattle.state_journal.specs.declared.change.Change.TheVariants.{Accepted}
+use Rattle.state_journal.specs.declared.change.Change.TheVariants.{Accepted, Committed}
 use Rattle.state_journal.specs.declared.journal.StateJournal.{StateJournal}
-use Rattle.state_journal.proofs.Spelled.{fits_of, reads_state}
+use Rattle.state_journal.proofs.Spelled.{fits_of, reads_committed, reads_state}
 use Rattle.state_journal.proofs.Writing.{IsOpen, MayFollow, leaves_either}
 
 module _ {D : Type 0} {disks : Ghosts D} (old : StateJournal D disks) (told : disks.told) (running : old.log.stopped ≡ false) where
@@ -30,6 +32,19 @@ module _ {D : Type 0} {disks : Ghosts D} (old : StateJournal D disks) (told : di
       let written =
       subst (λ (b : List ℕ). LeavesOnly disks.moment disks.left_since old.log.disk new.log.disk (IsWritten (renews p b) (standing_in (disks.seen old.log.disk)) b (generation_after p (changed old.kept change)))) same run in
       record { later = written.later; since = leaves_either is_open change may begins disks.moment disks.left_since old.log.disk new.log.disk written }
+
+  -- the change that commits the configuration of the accepted state, whose journal shows this state as the accepted one
+  pub commit_leaves : (shown : ClusterState) → shown ≡ old.kept.accepted → (new : StateJournal D disks) (body : List ℕ) → body ≡ body_of Committed
+      → (renews (place old.log) body ≡ true → (ids most_ids).Fits shown.config)
+      → LeavesOnly disks.moment disks.left_since old.log.disk new.log.disk (IsWritten (renews (place old.log) body) (standing_in (disks.seen old.log.disk)) body (generation_after (place old.log) (record_with old.kept.term old.kept.accepted shown.config)))
+      → LeavesOnly (λ (j : StateJournal D disks). disks.moment j.log.disk) (λ (j : StateJournal D disks). StoodFor (disks.left_since j.log.disk)) old new (IsEither old.kept (changed old.kept Committed))
+  commit_leaves shown is new body same named run =
+      let p = place old.log in
+      let fits = λ (renewing : renews p (body_of Committed) ≡ true).
+      subst (λ (s : ClusterState). (ids most_ids).Fits s.config) is (named (ap (renews p) same ∙ renewing)) in
+      crash_leaves Committed (record { reads = reads_committed; order = refl })
+      (λ renewing. record { bounded = old.bounded; fits = fits_of old.kept.accepted old.drafted.fits; named = fits renewing; older = old.older }) new body same
+      (subst (λ (s : ClusterState). LeavesOnly disks.moment disks.left_since old.log.disk new.log.disk (IsWritten (renews p body) (standing_in (disks.seen old.log.disk)) body (generation_after p (record_with old.kept.term old.kept.accepted s.config)))) is run)
 
 -- a state that may be accepted: its change may follow, and its record may begin a generation
 module _ {D : Type 0} {disks : Ghosts D} (old : StateJournal D disks) (state : ClusterState) (has : HasSpelling state) (older : state.term ≤ old.kept.term) where

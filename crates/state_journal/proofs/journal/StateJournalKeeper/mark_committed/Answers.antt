@@ -2,15 +2,14 @@ use Rattle.std.proofs.Common.{◌≡◌, ℕ, List, Ok, true, false, refl, sym, 
 use Rattle.voting_config.specs.Ids.{most_ids}
 use Rattle.cluster_state.specs.Fields.{ids}
 use Rattle.cluster_state.specs.declared.state.ClusterState.{ClusterState}
-use Rattle.zen_disk.specs.Moments.{LeavesOnly}
 use Rattle.gate_log.specs.Generations.{is_generation, standing_in}
 use Rattle.gate_log.specs.Place.{place, renews}
 use Rattle.state_journal.specs.Bodies.{body_of}
 use Rattle.state_journal.specs.Changes.{changed}
 use Rattle.state_journal.specs.Drafts.{MayBegin}
-use Rattle.state_journal.specs.Keeping.{IsWritten, generation_after, record_with, written_in}
+use Rattle.state_journal.specs.Keeping.{generation_after, record_with, written_in}
 use Rattle.state_journal.specs.declared.change.Change.TheVariants.{Committed}
-use Rattle.state_journal.proofs.Changing.{is_open, crash_leaves}
+use Rattle.state_journal.proofs.Changing.{is_open, commit_leaves}
 use Rattle.state_journal.proofs.Same.{same_journal}
 use Rattle.state_journal.proofs.Spelled.{fits_of, reads_committed, committed_plain, length-committed}
 use Rattle.state_journal.proofs.Writing.{MayFollow, few, stands_after, counted_after, counts_by}
@@ -26,15 +25,7 @@ pub returns-in_default-clause-any_moment : goal.returns-in_default-clause-any_mo
 returns-in_default-clause-any_moment g c = λ told running.
     let old = c.args.self.now in
     let shown : c.deref.result.now ≡ old.kept.accepted = search rules in
-    let change = Committed in
-    let may : MayFollow old.kept change = record { reads = reads_committed; order = refl } in
-    let begins : renews (place old.log) (body_of change) ≡ true → MayBegin (changed old.kept change) =
-    λ renewing. record { bounded = old.bounded; fits = fits_of old.kept.accepted old.drafted.fits; named = subst (λ (s : ClusterState). (ids most_ids).Fits s.config) shown (c.keep_small.ensures.fits (ap (renews (place old.log)) c.committed_body-body.ensures ∙ renewing)); older = old.older } in
-    let moment =
-    subst (λ (s : ClusterState). LeavesOnly g.D.Disks.moment g.D.Disks.left_since old.log.disk c.keep_small.new.log.disk
-    (IsWritten (renews (place old.log) c.committed_body-body.result) (standing_in (g.D.Disks.seen old.log.disk)) c.committed_body-body.result (generation_after (place old.log) (record_with old.kept.term old.kept.accepted s.config))))
-    shown (c.keep_small.ensures.any_moment told old.kept.accepted old.drafted) in
-    crash_leaves old told running change may begins _ _ c.committed_body-body.ensures moment
+    commit_leaves old told running c.deref.result.now shown _ _ c.committed_body-body.ensures c.keep_small.ensures.fits (c.keep_small.ensures.any_moment told old.kept.accepted old.drafted)
 
 pub invariant_of-self-2 : goal.invariant_of-self-2
 invariant_of-self-2 g c =
@@ -71,12 +62,4 @@ pub returns-clause-any_moment : goal.returns-clause-any_moment
 returns-clause-any_moment g c = λ told running.
     let old = c.args.self.now in
     let shown : c.deref.result.now ≡ old.kept.accepted = search rules in
-    let change = Committed in
-    let may : MayFollow old.kept change = record { reads = reads_committed; order = refl } in
-    let begins : renews (place old.log) (body_of change) ≡ true → MayBegin (changed old.kept change) =
-    λ renewing. record { bounded = old.bounded; fits = fits_of old.kept.accepted old.drafted.fits; named = subst (λ (s : ClusterState). (ids most_ids).Fits s.config) shown (c.keep_small.ensures.fits (ap (renews (place old.log)) c.committed_body-body.ensures ∙ renewing)); older = old.older } in
-    let moment =
-    subst (λ (s : ClusterState). LeavesOnly g.D.Disks.moment g.D.Disks.left_since old.log.disk c.keep_small.new.log.disk
-    (IsWritten (renews (place old.log) c.committed_body-body.result) (standing_in (g.D.Disks.seen old.log.disk)) c.committed_body-body.result (generation_after (place old.log) (record_with old.kept.term old.kept.accepted s.config))))
-    shown (c.keep_small.ensures.any_moment told old.kept.accepted old.drafted) in
-    crash_leaves old told running change may begins _ _ c.committed_body-body.ensures moment
+    commit_leaves old told running c.deref.result.now shown _ _ c.committed_body-body.ensures c.keep_small.ensures.fits (c.keep_small.ensures.any_moment told old.kept.accepted old.drafted)
