@@ -63,7 +63,7 @@ impl SharedState {
         Ok(SharedState { states })
     }
 
-    /// The same state, held once more.
+    /// The same state, held once more. An error where no more holders of it can be counted.
     pub fn share(&self) -> Result<SharedState, AllocError>
         ensures { IfOk result (λ s. s ≡ self.now) }
     {

@@ -316,7 +316,7 @@ impl<K: Keeper> CoordState<K> {
     }
 
     /// Does what `client_value` does for any value, where the caller has the value and makes the state that is published: of the node's term,
-    /// with this version and configuration, and with the configuration that the node knows to be committed.
+    /// with this version and configuration, and with the configuration that the node knows to be committed. It is refused as that is.
     pub fn begin_publication(
         &mut self,
         version: u64,
