@@ -1,13 +1,14 @@
 -- Who is in a set with an id more or less, and how many.
-use Rattle.std.proofs.Common.{◌≡◌, ℕ, suc, ◌+◌, ◌≤◌, ◌<◌, Bool, true, false, cond, not, ◌&&◌, ◌||◌, List, [], ◌∷◌, length, take, get_or, fold, count_by, refl, sym, ◌∙◌, ap, subst, arith, nat_lt}
+use Rattle.std.proofs.Common.{◌≡◌, ℕ, suc, ◌+◌, ◌*◌, ◌≤◌, ◌<◌, Bool, true, false, cond, not, ◌&&◌, ◌||◌, List, [], ◌∷◌, length, take, get_or, fold, count_by, refl, sym, ◌∙◌, ap, subst, arith, nat_lt}
 use Rattle.std.specs.Cmp.Lexicographic.{bytes_decides, nat_list_cmp_total, nat_list_eq_equiv, same_text}
 use Rattle.std.specs.Ordering.{is_lt, ordering_reverse}
 use Rattle.std.proofs.lemmas.Bool.{and_parts, lt-ltb}
+use Rattle.std.proofs.lemmas.Bool.Decides.{nat_tests}
 use Rattle.std.proofs.lemmas.List.{length-take}
 use Rattle.std.proofs.lemmas.List.Edits.{length-remove}
 use Rattle.std.proofs.lemmas.List.Sums.{sum_by-cons, sum_by-take-le, fold_more}
-use Rattle.voting_config.specs.Ids.{Id, same, before, has, is_below, ascends, most_ids, put, with_id, without_id, place_of, has_room, set_of, union, union_count_of, same_config}
-use Rattle.voting_config.proofs.Sorted.{less_is, before_trans, before_flip, length-put, has-put, has-with_id, is_below-absent, without_id-absent, remove-place_of, place_of-within}
+use Rattle.voting_config.specs.Ids.{Id, same, before, has, is_below, ascends, most_ids, put, with_id, without_id, place_of, has_room, set_of, union, union_count_of, same_config, IsIdSet, is_quorum_of}
+use Rattle.voting_config.proofs.Sorted.{less_is, before_trans, before_flip, length-put, has-put, has-with_id, is_below-absent, without_id-absent, remove-place_of, place_of-within, after-not_same, ascends-without_id}
 
 -- ---- whether two ids are the same, or two lists of them
 
@@ -165,6 +166,39 @@ length-without_id-is x ys h =
       | true ↦ λ e. rw (← remove-place_of x ys h e) (length-remove ys (place_of x ys) (place_of-within x ys h e))
       | false ↦ λ e. rw (without_id-absent x ys e) (omega arith)
     ] refl
+
+-- no more of a set's ids are among others than there are others
+and_true : (b : Bool) → (b && true) ≡ b
+and_true true = refl
+and_true false = refl
+
+among_left : (x q : Id) (ys : List Id) → before x q ≡ true → has q (without_id x ys) ≡ has q ys
+among_left x q ys h =
+    let other : same x q ≡ false = same_flipped x q ∙ after-not_same x q h in
+    has-without_id q x ys ∙ rw other (and_true (has q ys))
+
+-- 1 for an id that is in the set
+abbrev present : List Id → Id → ℕ
+present set x = cond (has x set) 1 0
+
+count_left : (x : Id) (xs ys : List Id) → is_below x xs ≡ true → count_by (λ q. has q ys) xs ≤ count_by (λ q. has q (without_id x ys)) xs
+count_left x [] ys h = omega arith
+count_left x (q ∷ xs) ys h =
+    let parts = and_parts (before x q) (is_below x xs) h in
+    let here : present ys q ≡ present (without_id x ys) q = rw (among_left x q ys parts.0) refl in
+    omega (arith, here, count_left x xs ys parts.1, sum_by-cons (present ys) q xs, sum_by-cons (present (without_id x ys)) q xs)
+
+pub count_among-le : (xs ys : List Id) → ascends xs ≡ true → ascends ys ≡ true → count_by (λ q. has q ys) xs ≤ length ys
+count_among-le [] ys h k = omega arith
+count_among-le (x ∷ xs) ys h k =
+    let parts = and_parts (is_below x xs) (ascends xs) h in
+    omega (arith, sum_by-cons (present ys) x xs, count_left x xs ys parts.0, count_among-le xs (without_id x ys) parts.1 (ascends-without_id x ys k), length-without_id-is x ys k)
+
+-- half of a configuration is no quorum of it
+pub half_is_none : (config votes : List Id) → IsIdSet config → IsIdSet votes → 2 * length votes ≤ length config → false ≡ is_quorum_of config votes
+half_is_none config votes ids cast half =
+    let few = count_among-le config votes ids.ascending cast.ascending in
+    grind (arith, nat_tests, few, half)
 
 -- ---- two sets as one
 

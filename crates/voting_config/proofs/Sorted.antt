@@ -115,6 +115,14 @@ ascends-push x (y ∷ z ∷ zs) h k =
     let parts = and_parts _ _ h in
     and_from _ _ (list_all-push (before y) x (z ∷ zs) parts.0 (before-comes_after x y (z ∷ zs) h k)) (ascends-push x (z ∷ zs) parts.1 k)
 
+-- the place of an id that comes after the last one is behind them all
+pub place_of-last : (x : Id) (ys : List Id) → ascends ys ≡ true → comes_after x ys ≡ true → place_of x ys ≡ length ys
+place_of-last x [] h k = refl
+place_of-last x (y ∷ []) h k = rw k refl
+place_of-last x (y ∷ z ∷ zs) h k =
+    let rest : place_of x (z ∷ zs) ≡ length (z ∷ zs) = place_of-last x (z ∷ zs) (and_parts (is_below y (z ∷ zs)) (ascends (z ∷ zs)) h).1 k in
+    rw (before-comes_after x y (z ∷ zs) h k) (omega (arith, rest))
+
 -- the test on the last one alone
 pub comes_after-last : (x y : Id) (ys : List Id) → Some y ≡ slice_get ys (length ys - 1) → comes_after x ys ≡ before y x
 comes_after-last x y [] h = absurd cc

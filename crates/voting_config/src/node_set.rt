@@ -1,5 +1,5 @@
 //! `NodeSet`: a set of at most 32 ids, which is held in place and takes no memory of the allocator.
-ghost use Rattle.std.specs.Prelude.{◌≡◌, ℕ, ◌+◌, ◌<◌, ◌≤◌, ◌↔◌, List, [], ◌∷◌, ◌++◌, length, IsTrue, IfOk, OnOk, OnErr, IsErr, slice_get, not, Result, false};
+ghost use Rattle.std.specs.Prelude.{◌≡◌, ℕ, ◌+◌, ◌<◌, ◌≤◌, ◌↔◌, List, [], ◌∷◌, ◌++◌, length, IsTrue, IfOk, OnOk, OnErr, IsErr, slice_get, not, Result, false, true, None, IfSome};
 ghost use Rattle.voting_config.specs.Ids.{Id, among, are_among, comes_after, has, has_room as has_room_of, IsIdSet, most_ids, outside, place_of, set_of, some_among, union as union_of, union_count_of, with_id, with_room, without_id};
 ghost use Rattle.voting_config.specs.Lists.{listed_ids};
 
@@ -115,17 +115,31 @@ impl NodeSet {
         ensures err { OnErr result (self.new ≡ self.old) }
         ensures full { IsErr result ↔ ((has id self.old ≡ false) × (length self.old ≡ most_ids)) }
     {
-        if self.contains(id) {
+        let Some(place) = self.new_place(id) else {
             return Ok(false);
-        }
+        };
         if self.ids.is_full() {
             return Err(Full);
         }
         // For the proof alone: an id has 1 to 32 bytes, and no others than those of ids.
         let _ = id.as_bytes();
-        let place = place_among(self.ids.as_slice(), id);
         self.ids.insert(place, id);
         Ok(true)
+    }
+
+    // Where the id comes, and None where it is in. Ids often come in order, and the place of one that comes last needs no search.
+    fn new_place(&self, id: NodeId) -> Option<usize>
+        ensures place { IfSome result (λ place. (has id self.now ≡ false) × (place ≡ place_of id self.now)) }
+        ensures within { IfSome result (λ place. place ≤ length self.now) }
+        ensures none { result ≡ None → has id self.now ≡ true }
+    {
+        if self.contains(id) {
+            return None;
+        }
+        if self.comes_last(id) {
+            return Some(self.ids.len());
+        }
+        Some(place_among(self.ids.as_slice(), id))
     }
 
     /// Whether the id can be put in: true exactly where it is in, or where fewer than [`MAX_IDS`] are.
