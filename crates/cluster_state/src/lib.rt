@@ -30,7 +30,7 @@ pub use messages::{ApplyCommit, Join, PublishRequest, PublishResponse};
 pub use reply::{Answer, LineFault, Reply};
 pub use request::{Ask, MAX_KEY, MAX_VALUE, Request};
 pub use settings::Settings;
-pub use shared::SharedState;
+pub use shared::{SharedConfig, SharedState, SharedValue};
 pub use state::{ClusterState, ClusterValue, Kept, LAST_NUMBER, StateId};
 pub use text::Text;
 

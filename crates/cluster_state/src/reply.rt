@@ -1,5 +1,6 @@
 //! What a client is answered. The types stand here, below the crates that make answers and those that write them.
-use crate::state::{ClusterState, StateId};
+use crate::shared::SharedState;
+use crate::state::StateId;
 use voting_config::{NodeId, NodeSet};
 
 /// What a request is answered.
@@ -8,7 +9,7 @@ pub enum Answer {
     /// The request is done: the state of this term and version is committed.
     Acked(StateId),
     /// The accepted state.
-    State(ClusterState),
+    State(SharedState),
     /// The node is not the master, and knows of this one.
     NotMaster(Option<NodeId>),
     /// A put whose key is empty or too long, or else whose value is too long: its number of bytes.

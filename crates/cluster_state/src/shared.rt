@@ -1,12 +1,13 @@
-//! `SharedState`: a cluster state that all who have it hold in one place.
+//! `SharedState`: a cluster state that all who have it hold in one place, as do those who have its configuration or its value alone.
 ghost use Rattle.std.specs.Prelude.{◌≡◌, IfOk, IfErr, length};
 ghost use Rattle.cluster_state.specs.Shared.{first_of};
 
-use crate::state::ClusterState;
+use crate::state::{ClusterState, ClusterValue};
 use std::alloc::{AllocError, AllocFailed, Global};
 use std::marker::Model;
 use std::ops::Deref;
 use std::rc::Rc;
+use voting_config::VotingConfig;
 
 /// A cluster state that all who have it hold in one place, so that handing it on copies none of it. Contracts see the state.
 #[derive(Drop)]
@@ -70,6 +71,75 @@ impl SharedState {
         Ok(SharedState {
             states: self.states.clone()?,
         })
+    }
+}
+
+/// The configuration of a state that is shared, held where the state is. Contracts see the configuration.
+#[derive(Drop)]
+pub struct SharedConfig {
+    state: SharedState,
+}
+
+impl Model for SharedConfig {
+    ghost use Rattle.std.specs.Prelude.{List};
+    ghost use Rattle.voting_config.specs.Ids.{Id};
+
+    ghost Value = { List Id };
+
+    ghost view = { λ c. c.state.config };
+}
+
+impl Deref for SharedConfig {
+    type Target = VotingConfig;
+
+    ghost deref_gives = { λ c config. config ≡ c };
+
+    fn deref(&self) -> &VotingConfig {
+        let state: &ClusterState = &self.state;
+        &state.config
+    }
+}
+
+impl SharedConfig {
+    /// The configuration of this state.
+    pub fn of(state: SharedState) -> SharedConfig
+        ensures { result ≡ state.config }
+    {
+        SharedConfig { state }
+    }
+}
+
+/// The value of a state that is shared, held where the state is. Contracts see the value.
+#[derive(Drop)]
+pub struct SharedValue {
+    state: SharedState,
+}
+
+impl Model for SharedValue {
+    ghost use Rattle.cluster_state.specs.declared.state.ClusterValue.{ClusterValue};
+
+    ghost Value = { ClusterValue };
+
+    ghost view = { λ v. v.state.value };
+}
+
+impl Deref for SharedValue {
+    type Target = ClusterValue;
+
+    ghost deref_gives = { λ v value. value ≡ v };
+
+    fn deref(&self) -> &ClusterValue {
+        let state: &ClusterState = &self.state;
+        &state.value
+    }
+}
+
+impl SharedValue {
+    /// The value of this state.
+    pub fn of(state: SharedState) -> SharedValue
+        ensures { result ≡ state.value }
+    {
+        SharedValue { state }
     }
 }
 

@@ -1,22 +1,22 @@
 //! What a node does: its acts, what they send, and how they end.
 
 use cluster_state::{
-    ApplyCommit, ClusterValue, CommitCause, InitialCause, Join, JoinCause, Kept, PublishCause,
-    PublishRequest, PublishResponse, ResponseCause, StartCause, ValueCause,
+    ApplyCommit, CommitCause, InitialCause, Join, JoinCause, Kept, PublishCause, PublishRequest,
+    PublishResponse, ResponseCause, SharedConfig, SharedValue, StartCause, ValueCause,
 };
-use voting_config::{NodeId, VotingConfig};
+use voting_config::NodeId;
 
-/// An act of a node, with its whole message.
+/// An act of a node, with its whole message. It shares the states in it with all others that have them.
 #[derive(Drop)]
 pub enum Act {
     /// The initial configuration is taken.
-    Bootstrap(VotingConfig),
+    Bootstrap(SharedConfig),
     /// A join is started for a candidate in a term.
     StartJoin(NodeId, u64),
     /// A join is counted.
     TakeJoin(Join),
     /// A client's value is published, as this version and with this configuration.
-    Value(u64, VotingConfig, ClusterValue),
+    Value(u64, SharedConfig, SharedValue),
     /// A published state is accepted.
     Publish(PublishRequest),
     /// The response to a publication is counted.
