@@ -2,7 +2,7 @@
 
 ghost use Rattle.std.specs.Prelude.{◌≡◌, IfOk};
 
-use cluster_state::{ClusterState, StateId};
+use cluster_state::{SharedState, StateId};
 use std::alloc::AllocError;
 use voting_config::{NodeId, NodeSet};
 
@@ -93,8 +93,8 @@ pub enum WireMessage {
         term: u64,
         last: StateId,
     },
-    /// A state to accept.
-    Publish(ClusterState),
+    /// A state to accept. All frames that publish it share it.
+    Publish(SharedState),
     /// The state of this id is accepted.
     Response(StateId),
     /// The state of this id is committed.
@@ -183,7 +183,7 @@ impl WireMessage {
                 term: *term,
                 last: *last,
             },
-            WireMessage::Publish(state) => WireMessage::Publish(state.copy()?),
+            WireMessage::Publish(state) => WireMessage::Publish(state.share()?),
             WireMessage::Response(id) => WireMessage::Response(*id),
             WireMessage::Commit(id) => WireMessage::Commit(*id),
             WireMessage::JoinAsk { term } => WireMessage::JoinAsk { term: *term },

@@ -10,7 +10,7 @@ ghost use Rattle.wire_frames.specs.Frames.{frame_at, as_frame, frame_of, SpellsB
 
 use crate::fault::{FrameError, FrameFault};
 use crate::frame::{Frame, Kind, WireMessage};
-use cluster_state::{FieldError, ReadError, Reader, StateId};
+use cluster_state::{FieldError, ReadError, Reader, SharedState, StateId};
 use std::alloc::Global;
 use voting_config::MAX_IDS;
 
@@ -78,7 +78,10 @@ fn message(alloc: Global, reader: &mut Reader, kind: Kind) -> Result<WireMessage
     match kind {
         Kind::StartJoin => Ok(start_join(reader)?),
         Kind::Join => Ok(join(reader)?),
-        Kind::Publish => Ok(WireMessage::Publish(reader.state(alloc)?)),
+        Kind::Publish => {
+            let state = SharedState::of(alloc, reader.state(alloc)?)?;
+            Ok(WireMessage::Publish(state))
+        }
         Kind::Response => Ok(WireMessage::Response(state_id(reader)?)),
         Kind::Commit => Ok(WireMessage::Commit(state_id(reader)?)),
         Kind::JoinAsk => Ok(WireMessage::JoinAsk {

@@ -6,7 +6,7 @@ use crate::{
     Frame, FrameFault, FrameReader, Kind, WireMessage, law_cut, law_first_frame, law_one_frame,
     law_stream, read_frame, write_frame,
 };
-use cluster_state::{ClusterState, FieldError, StateId};
+use cluster_state::{ClusterState, FieldError, SharedState, StateId};
 use std::alloc::AllocError;
 use std::test::Fail;
 use voting_config::{NodeId, NodeSet};
@@ -168,7 +168,7 @@ fn spelled_elections(rt: HostRuntime) -> Result<(), Fail> {
 
 #[test]
 fn spelled_publications(rt: HostRuntime) -> Result<(), Fail> {
-    let state = ClusterState::initial(rt.alloc(), &set("a"));
+    let state = SharedState::of(rt.alloc(), ClusterState::initial(rt.alloc(), &set("a")))?;
     let mut fields = [0; 27];
     fields[16] = 1;
     fields[17] = 1;
