@@ -1,6 +1,6 @@
 //! Requests, faults and replies with their texts, in the forms of docs/formats.md.
 use crate::*;
-use cluster_state::{ClusterState, StateId};
+use cluster_state::{ClusterState, SharedState, StateId};
 use std::alloc::{AllocError, Global};
 use std::test::*;
 use voting_config::{NodeId, NodeSet};
@@ -372,7 +372,7 @@ const STATE: &str =
 fn an_answered_state_has_this_text(rt: HostRuntime) -> Result<(), Fail> {
     let mut state = ClusterState::initial(rt.alloc(), &set("a,b"));
     state.value.settings.put("k", "\n")?;
-    let answer = Answer::State(state);
+    let answer = Answer::State(SharedState::of(rt.alloc(), state)?);
     let text = write_reply(rt.alloc(), &Reply::To { id: 0, answer })?;
     assert_eq!(rt; text.as_slice(), STATE.as_bytes());
     Ok(())
