@@ -72,12 +72,9 @@ start_outcome answer = outcome sends_join StartRefused answer
 abbrev pub join_outcome : {T : Type 0} → Result Joined (ActError JoinCause T) → Outcome
 join_outcome answer = outcome counted JoinRefused answer
 
-abbrev pub value_outcome : {T : Type 0} → Result PublishRequest (ActError ValueCause T) → Outcome
-value_outcome answer = outcome sends_request ValueRefused answer
-
--- where the caller makes this request
-abbrev pub begun_outcome : {T : Type 0} → PublishRequest → Result (Unit {0}) (ActError ValueCause T) → Outcome
-begun_outcome request answer = outcome (λ (u : Unit). sends_request request) ValueRefused answer
+-- the caller makes the request
+abbrev pub value_outcome : {T : Type 0} → PublishRequest → Result (Unit {0}) (ActError ValueCause T) → Outcome
+value_outcome request answer = outcome (λ (u : Unit). sends_request request) ValueRefused answer
 
 abbrev pub publish_outcome : {T : Type 0} → Result PublishResponse (ActError PublishCause T) → Outcome
 publish_outcome answer = outcome sends_response PublishRefused answer

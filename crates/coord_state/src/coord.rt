@@ -10,16 +10,15 @@ ghost use Rattle.cluster_state.specs.Initial.{initial_state};
 ghost use Rattle.cluster_state.specs.States.{IsFit};
 ghost use Rattle.cluster_state.specs.declared.state.Kept.{Kept as Record};
 ghost use Rattle.world_model.specs.NodeState.{opened};
-ghost use Rattle.coord_state.specs.Outcomes.{initial_outcome, start_outcome, join_outcome, value_outcome, begun_outcome, publish_outcome, response_outcome, commit_outcome, HandsBack};
+ghost use Rattle.coord_state.specs.Outcomes.{initial_outcome, start_outcome, join_outcome, value_outcome, publish_outcome, response_outcome, commit_outcome, HandsBack};
 ghost use Rattle.coord_state.specs.StandsFor.{Acts, StandsFor, fields_of, request_of};
 ghost use Rattle.cluster_state.specs.declared.state.ClusterValue.{ClusterValue};
 ghost use Rattle.coord_state.specs.Writes.{WritesBy, IsDuring};
 ghost use Rattle.coord_state.specs.Checks.{publish_checked, value_checked, Foretells};
 
 use cluster_state::{
-    ApplyCommit, ClusterState, ClusterValue, CommitCause, InitialCause, Join, JoinCause, Kept,
-    LAST_NUMBER, PublishCause, PublishRequest, PublishResponse, ResponseCause, StartCause,
-    ValueCause,
+    ApplyCommit, ClusterState, CommitCause, InitialCause, Join, JoinCause, Kept, LAST_NUMBER,
+    PublishCause, PublishResponse, ResponseCause, StartCause, ValueCause,
 };
 use join_rules::{JoinVotes, join_check};
 use state_journal::{ArmKeeper, Keeper, Ready};
@@ -315,15 +314,19 @@ impl<K: Keeper> CoordState<K> {
         Ok(())
     }
 
-    /// Does what `client_value` does for any value, where the caller has the value and makes the state that is published: of the node's term,
-    /// with this version and configuration, and with the configuration that the node knows to be committed. It is refused as that is.
-    pub fn begin_publication(
+    /// Publishes a new value with a version and a configuration, where the node has won and has accepted what it published
+    /// last. Another configuration than the accepted one is taken only once the accepted one is committed, and only if the
+    /// node's votes are a quorum of it.
+    ///
+    /// No rule looks at the value, so the caller keeps it, and makes the state that is published where it is to stay: the state in the node's
+    /// term, of this version, configuration and value, with the configuration that the node knows to be committed.
+    pub fn client_value(
         &mut self,
         version: u64,
         config: &VotingConfig,
     ) -> Result<(), ActError<ValueCause, ()>>
-        ensures act { (value : ClusterValue) → Acts K.Keeper self.old self.new (act.Value version config.now value) (begun_outcome (request_of K.Keeper self.old version config.now value) result) }
-        ensures wrote { (value : ClusterValue) → WritesBy K.Keeper self.old.keeper (act.Value version config.now value) self.new.keeper (begun_outcome (request_of K.Keeper self.old version config.now value) result) }
+        ensures act { (value : ClusterValue) → Acts K.Keeper self.old self.new (act.Value version config.now value) (value_outcome (request_of K.Keeper self.old version config.now value) result) }
+        ensures wrote { (value : ClusterValue) → WritesBy K.Keeper self.old.keeper (act.Value version config.now value) self.new.keeper (value_outcome (request_of K.Keeper self.old version config.now value) result) }
         ensures any_moment { (value : ClusterValue) → K.told → (g : NodeHistory) → StandsFor K.Keeper self.old g → LeavesOnly K.moment K.left_since self.old.keeper self.new.keeper (IsDuring g (act.Value version config.now value)) }
         ensures same { self.new ≡ record self.old { published_version = self.new.published_version; published_config = self.new.published_config; publish_votes = self.new.publish_votes } }
     {
@@ -337,40 +340,6 @@ impl<K: Keeper> CoordState<K> {
         self.published_config.copy_from(config.members());
         self.publish_votes.clear();
         Ok(())
-    }
-
-    /// Publishes a new value with a version and a configuration, where the node has won and has accepted what it published
-    /// last. Another configuration than the accepted one is taken only once the accepted one is committed, and only if the
-    /// node's votes are a quorum of it.
-    pub fn client_value(
-        &mut self,
-        version: u64,
-        config: VotingConfig,
-        value: ClusterValue,
-    ) -> Result<PublishRequest, ActError<ValueCause, (VotingConfig, ClusterValue)>>
-        ensures act { Acts K.Keeper self.old self.new (act.Value version config value) (value_outcome result) }
-        ensures wrote { WritesBy K.Keeper self.old.keeper (act.Value version config value) self.new.keeper (value_outcome result) }
-        ensures any_moment { K.told → (g : NodeHistory) → StandsFor K.Keeper self.old g → LeavesOnly K.moment K.left_since self.old.keeper self.new.keeper (IsDuring g (act.Value version config value)) }
-        ensures back { HandsBack (record { 0 = config; 1 = value }) result }
-    {
-        match self.begin_publication(version, &config) {
-            Err(ActError::Stopped(())) => Err(ActError::Stopped((config, value))),
-            Err(ActError::Refused(cause, ())) => Err(ActError::Refused(cause, (config, value))),
-            Err(ActError::Disk) => Err(ActError::Disk),
-            Ok(()) => {
-                let kept = self.keeper.kept();
-                Ok(PublishRequest {
-                    source: self.me,
-                    state: ClusterState {
-                        term: kept.term,
-                        version,
-                        committed: VotingConfig::of(kept.committed.members()),
-                        config,
-                        value,
-                    },
-                })
-            }
-        }
     }
 
     /// Whether `publish_request` would refuse this state, from whichever node, without taking it. Never answers `Disk`.

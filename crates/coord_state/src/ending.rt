@@ -3,7 +3,7 @@ ghost use Rattle.std.specs.Prelude.{◌≡◌};
 ghost use Rattle.world_model.specs.declared.acts.ActReply.{ActReply};
 ghost use Rattle.world_model.specs.declared.acts.Cause.{Cause as AnyCause};
 ghost use Rattle.world_model.specs.declared.acts.Cause.TheVariants as cause;
-ghost use Rattle.coord_state.specs.Outcomes.{IsTold, ending, not_taken, outcome, plain, sends_join, counted, sends_request, sends_response, sends_commit};
+ghost use Rattle.coord_state.specs.Outcomes.{IsTold, ending, not_taken, outcome, value_outcome, plain, sends_join, counted, sends_request, sends_response, sends_commit};
 
 use crate::coord::{ActError, Joined};
 use cluster_state::{
@@ -169,6 +169,20 @@ pub fn outcome_of<A: ActAnswer, C: ActCause, T: Drop>(answer: Result<A, ActError
 {
     match answer {
         Ok(taken) => Outcome::Answered(taken.into_reply()),
+        Err(error) => error.not_taken().into_outcome(),
+    }
+}
+
+/// The outcome of `client_value`, by what it answered and the request that its caller has made.
+pub fn outcome_of_value<T: Drop>(
+    answer: Result<(), ActError<ValueCause, T>>,
+    request: PublishRequest,
+) -> Outcome
+    ensures value { result ≡ value_outcome request answer }
+    ensures told { IsTold result }
+{
+    match answer {
+        Ok(()) => Outcome::Answered(request.into_reply()),
         Err(error) => error.not_taken().into_outcome(),
     }
 }

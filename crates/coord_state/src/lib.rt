@@ -7,4 +7,4 @@ pub mod ending;
 mod tests;
 
 pub use coord::{ActError, CoordState, Joined};
-pub use ending::{ActAnswer, ActCause, NotTaken, outcome_of};
+pub use ending::{ActAnswer, ActCause, NotTaken, outcome_of, outcome_of_value};

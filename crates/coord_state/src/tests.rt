@@ -2,15 +2,16 @@
 ghost use Rattle.std.specs.Prelude.{◌≤◌, ◌^◌};
 ghost use Rattle.cluster_state.specs.States.{IsFit};
 
-use crate::{ActError, CoordState, NotTaken};
+use crate::{CoordState, NotTaken, outcome_of_value};
 use cluster_state::{
-    ClusterState, ClusterValue, Join, PublishCause, PublishRequest, PublishResponse, ValueCause,
+    ClusterState, ClusterValue, Join, PublishCause, PublishRequest, PublishResponse, SharedState,
+    ValueCause,
 };
 use state_journal::{Keeper, PlainKeeper, Ready};
 use std::alloc::{AllocError, Global};
 use std::test::Fail;
 use voting_config::{NodeId, NodeSet, VotingConfig};
-use world_model::Cause;
+use world_model::{ActReply, Cause, Outcome};
 
 fn a() -> NodeId {
     NodeId::parse("a").unwrap_or(NodeId::default())
@@ -38,18 +39,6 @@ fn is_won_by(node: &mut CoordState<PlainKeeper>, join: &Join) -> bool {
     }
 }
 
-// The nodes of the configuration that comes back with a refusal.
-fn handed_back(
-    answer: Result<PublishRequest, ActError<ValueCause, (VotingConfig, ClusterValue)>>,
-) -> Option<NodeSet> {
-    match answer {
-        Err(ActError::Refused(_, back)) => Some(back.0.members().copy()),
-        Err(ActError::Stopped(_)) => None,
-        Err(ActError::Disk) => None,
-        Ok(_) => None,
-    }
-}
-
 // The state of version 1 of this term, with the empty value.
 fn published(alloc: Global, term: u64) -> ClusterState
     requires { term ≤ 2 ^ 62 }
@@ -73,29 +62,24 @@ fn a_node_alone_wins_and_commits(rt: HostRuntime) -> Result<(), Fail> {
     assert!(rt; node.started() && !node.won());
     assert!(rt; is_won_by(&mut node, &join));
     assert!(rt; node.won() && node.votes().as_slice() == only_a().as_slice());
-    let config = VotingConfig::of(&only_a());
-    let Ok(request) = node.client_value(1, config, ClusterValue::empty(alloc)) else {
-        panic!(rt; "the value is refused");
-    };
+    let voters = VotingConfig::of(&only_a());
+    assert!(rt; node.client_value(1, &voters).is_ok());
     assert!(rt; node.published().0 == 1);
-    assert!(rt; node.check_publish(&request.state).is_ok());
+    assert!(rt; node.check_publish(&published(alloc, 1)).is_ok());
     let later = node.check_publish(&published(alloc, 2)).err();
     let cause = Cause::Publish(PublishCause::TermMismatch(1, 2));
     assert!(rt; later.map(|error| error.not_taken()) == Some(NotTaken::Refused(cause)));
     let state = Ready::new(alloc, published(alloc, 1))
         .ok()
         .ok_or("no memory")?;
-    let Ok(response) = node.publish_request(request.source, state) else {
+    let Ok(response) = node.publish_request(a(), state) else {
         panic!(rt; "the state is refused");
     };
     commits(&mut node, &response);
-    let voters = VotingConfig::of(&only_a());
     assert!(rt; node.kept().committed.is_same(&voters));
     assert!(rt; node.term() == 1);
     assert!(rt; node.accepted().version == 1);
     assert!(rt; node.committed().is_same(&voters));
-    assert!(rt; node.begin_publication(2, &voters).is_ok());
-    assert!(rt; node.published().0 == 2);
     Ok(())
 }
 
@@ -107,13 +91,25 @@ fn commits(node: &mut CoordState<PlainKeeper>, response: &PublishResponse) {
     }
 }
 
+// Why an act was refused.
+fn refusal(outcome: &Outcome) -> Option<Cause> {
+    match outcome {
+        Outcome::Answered(ActReply::Refused(cause)) => Some(*cause),
+        _ => None,
+    }
+}
+
 #[test]
-fn a_refused_value_is_handed_back(rt: HostRuntime) -> Result<(), Fail> {
+fn a_value_is_refused_before_the_election_is_won(rt: HostRuntime) -> Result<(), Fail> {
     let alloc = rt.alloc();
     let mut node = opened(alloc)?;
-    let config = VotingConfig::of(&only_a());
-    let back = handed_back(node.client_value(7, config, ClusterValue::empty(alloc)));
-    assert!(rt; back.is_some_and(|back| back.as_slice() == only_a().as_slice()));
+    let answer = node.client_value(7, &VotingConfig::of(&only_a()));
+    let request = PublishRequest {
+        source: a(),
+        state: SharedState::of(alloc, published(alloc, 1))?,
+    };
+    let outcome = outcome_of_value(answer, request);
+    assert!(rt; refusal(&outcome) == Some(Cause::Value(ValueCause::NotWon)));
     assert!(rt; node.keeper().kept().term == 0);
     assert!(rt; node.into_keeper().kept().term == 0);
     Ok(())
