@@ -4,7 +4,7 @@ ghost use Rattle.master_tasks.specs.Processing.{answer_after, clearing, excludin
 ghost use Rattle.exclusions.specs.Exclusions.{added_of, cleared_of};
 
 use crate::waiting::Waiting;
-use cluster_state::{Answer, Ask, ClusterState, ClusterValue, MAX_SETTINGS, Text};
+use cluster_state::{Answer, Ask, ClusterValue, MAX_SETTINGS, SharedState, Text};
 use exclusions::AddError;
 use std::alloc::AllocError;
 use voting_config::NodeSet;
@@ -12,7 +12,7 @@ use voting_config::NodeSet;
 /// Processes a request on a value, beside the accepted state: the answer, if it gets one at once. Where there is no
 /// memory, the value may be anything.
 pub fn process(
-    accepted: &ClusterState,
+    accepted: &SharedState,
     value: &mut ClusterValue,
     ask: &Ask,
 ) -> Result<Option<Answer>, AllocError>
@@ -27,13 +27,13 @@ pub fn process(
         }
         Ask::Exclude(ids) => Ok(exclude(value, ids)),
         Ask::Clear { wait_for_removal } => Ok(clear(value, *wait_for_removal)),
-        Ask::State => Ok(Some(Answer::State(accepted.copy()?))),
+        Ask::State => Ok(Some(Answer::State(accepted.share()?))),
     }
 }
 
 /// Processes a request, unless it was processed before.
 pub fn process_once(
-    accepted: &ClusterState,
+    accepted: &SharedState,
     value: &mut ClusterValue,
     w: &Waiting,
 ) -> Result<Option<Answer>, AllocError>

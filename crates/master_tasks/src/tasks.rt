@@ -23,7 +23,7 @@ use crate::next::Next;
 use crate::processing::process_once;
 use crate::replies::Replies;
 use crate::waiting::Waiting;
-use cluster_state::{ClusterState, ClusterValue, Request, StateId};
+use cluster_state::{ClusterState, ClusterValue, Request, SharedState, StateId};
 use reconfigurator::target;
 use std::alloc::{AllocError, Global};
 use std::marker::Model;
@@ -244,7 +244,7 @@ impl MasterTasks {
     // Processes the requests from the first on, each on the value so far.
     fn process(
         &self,
-        accepted: &ClusterState,
+        accepted: &SharedState,
         mut value: ClusterValue,
     ) -> Result<Processed, AllocError>
         ensures value { IfOk result (λ p. p.value ≡ (processed_all accepted.now value self.now.waiting).value) }
@@ -278,7 +278,7 @@ impl MasterTasks {
         &mut self,
         me: NodeId,
         term: u64,
-        accepted: &ClusterState,
+        accepted: &SharedState,
         committed: &VotingConfig,
         votes: &NodeSet,
         shrink: bool,
@@ -290,23 +290,21 @@ impl MasterTasks {
         ensures fits { IsFitValue accepted.now.value → HaveGoodSettings self.old.waiting → IfOk result IsFitNext }
         ensures good { HaveGoodSettings self.old.waiting → OnOk result (HaveGoodSettings self.new.waiting) }
     {
+        let state: &ClusterState = accepted;
         // For the proof alone: settings ascend by key.
-        let _ = accepted.value.settings.texts();
-        let value = self.value_before(me, &accepted.value)?;
+        let _ = state.value.settings.texts();
+        let value = self.value_before(me, &state.value)?;
         let Processed {
             value,
             waiting,
             mut replies,
         } = self.process(accepted, value)?;
-        let config = config_for(me, accepted, committed, votes, shrink, &value);
+        let config = config_for(me, state, committed, votes, shrink, &value);
         self.waiting = waiting;
         self.removals = NodeSet::new();
         self.additions = NodeSet::new();
-        if is_accepted(term, accepted, &config, &value) {
-            self.answer_by(
-                &Decision::NothingNew(committed, accepted.id()),
-                &mut replies,
-            );
+        if is_accepted(term, state, &config, &value) {
+            self.answer_by(&Decision::NothingNew(committed, state.id()), &mut replies);
             return Ok(Next::Same(replies));
         }
         Ok(Next::New {

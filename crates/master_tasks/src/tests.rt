@@ -1,7 +1,8 @@
 //! Requests with the states and the answers that they come to.
 use crate::*;
 use cluster_state::{
-    Answer, Ask, ClusterState, ClusterValue, Reply, Request, Settings, StateId, Text, value_to_json,
+    Answer, Ask, ClusterState, ClusterValue, Reply, Request, Settings, SharedState, StateId, Text,
+    value_to_json,
 };
 use std::alloc::{AllocError, Global};
 use std::test::*;
@@ -64,10 +65,21 @@ fn state(
     voters: &str,
     members: &str,
     exclusions: &str,
-) -> Result<ClusterState, AllocError> {
+) -> Result<SharedState, AllocError> {
     let mut settings = Settings::new(alloc);
     settings.put("v", "x")?;
-    Ok(ClusterState {
+    with_settings(alloc, voters, members, exclusions, settings)
+}
+
+// The same with these settings.
+fn with_settings(
+    alloc: Global,
+    voters: &str,
+    members: &str,
+    exclusions: &str,
+    settings: Settings,
+) -> Result<SharedState, AllocError> {
+    let state = ClusterState {
         term: 1,
         version: 1,
         config: config(voters),
@@ -78,7 +90,8 @@ fn state(
             exclusions: set(exclusions),
             settings,
         },
-    })
+    };
+    SharedState::of(alloc, state)
 }
 
 // The replies in words, each after a comma: the id of the request, and its answer.
@@ -156,7 +169,7 @@ fn next(
     alloc: Global,
     tasks: &mut MasterTasks,
     term: u64,
-    accepted: &ClusterState,
+    accepted: &SharedState,
 ) -> Result<Vec<u8>, AllocError> {
     let votes = set("a,b,c,d");
     let next = tasks.next_state(id("a"), term, accepted, &accepted.config, &votes, true)?;
@@ -296,11 +309,13 @@ fn an_accepted_state_of_an_older_term_is_published_anew(rt: HostRuntime) -> Resu
 
 #[test]
 fn a_1025th_setting_is_refused(rt: HostRuntime) -> Result<(), Fail> {
-    let mut accepted = state(rt.alloc(), "a,b,c", "a,b,c", "_")?;
+    let mut settings = Settings::new(rt.alloc());
+    settings.put("v", "x")?;
     for number in 1..1024u64 {
         let key = format!(in rt.alloc(); "{number}")?;
-        accepted.value.settings.put(key.as_str(), "")?;
+        settings.put(key.as_str(), "")?;
     }
+    let accepted = with_settings(rt.alloc(), "a,b,c", "a,b,c", "_", settings)?;
     for (wish, want) in [
         (Wish::Put("w", ""), "same, 1 too many settings 1025"),
         (Wish::Put("v", "x"), "same, 1 acked 1/1"),
@@ -316,7 +331,7 @@ fn a_1025th_setting_is_refused(rt: HostRuntime) -> Result<(), Fail> {
 // The members of the new value of leader a, who accepted a state with these members.
 fn new_members(
     tasks: &mut MasterTasks,
-    accepted: &ClusterState,
+    accepted: &SharedState,
 ) -> Result<Option<NodeSet>, AllocError> {
     let votes = set("a,b,c");
     match tasks.next_state(id("a"), 2, accepted, &accepted.config, &votes, true)? {

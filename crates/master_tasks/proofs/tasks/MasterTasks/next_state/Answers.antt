@@ -1,6 +1,6 @@
 use Rattle.std.proofs.Common.{◌≡◌, ◌∙◌, ap, sym, subst, refl, true, false, []}
 use Rattle.cluster_state.specs.declared.state.ClusterValue.{ClusterValue}
-use Rattle.cluster_state.specs.States.{IsFitValue}
+use Rattle.cluster_state.specs.States.{IsFitValue, id_of}
 use Rattle.cluster_state.proofs.JsonLaws.{ascending_keys}
 use Rattle.master_tasks.proofs.Limits.{fits_next, good_after}
 use Rattle.cluster_state.specs.declared.state.StateId.{StateId}
@@ -20,10 +20,10 @@ new_leader c = leader_of c.args.me c.args.term c.args.accepted.now c.args.commit
 made_new : (c : goal.Else-is_accepted) → Made (new_leader c) c.args.self.now c.in_ok-value-2.field-0.value c.in_ok-value-2.field-0.waiting.items c.in_ok-value-2.field-0.replies c.config_for-config.result
 made_new c =
     made (new_leader c) c.args.self.now c.in_ok-value.value _ _ _ _
-    c.in_ok-value.ensures c.in_ok-value-2.ensures.value c.in_ok-value-2.ensures.waiting c.in_ok-value-2.ensures.replies c.config_for-config.ensures
+    (rw c.deref-state.ensures at c.in_ok-value.ensures) c.in_ok-value-2.ensures.value c.in_ok-value-2.ensures.waiting c.in_ok-value-2.ensures.replies (rw c.deref-state.ensures at c.config_for-config.ensures)
 
 is_new : (c : goal.Else-is_accepted) → false ≡ is_accepted c.args.term c.args.accepted.now c.config_for-config.result c.in_ok-value-2.field-0.value
-is_new c = sym c.if-is_accepted.false ∙ c.is_accepted.ensures
+is_new c = rw c.deref-state.ensures at (sym c.if-is_accepted.false ∙ c.is_accepted.ensures)
 
 pub returns-clause-tasks : goal.returns-clause-tasks
 returns-clause-tasks c =
@@ -36,7 +36,7 @@ returns-clause-next c = next_new (new_leader c) c.args.self.now _ _ _ _ (made_ne
 pub returns-clause-fits : goal.returns-clause-fits
 returns-clause-fits c = λ fit good.
     let P : ClusterValue → Type 0 = IsFitValue in
-    let up = ascending_keys [] c.args.accepted.now.value.settings refl c.texts.ensures.settings.ascending in
+    let up = ascending_keys [] c.args.accepted.now.value.settings refl (rw c.deref-state.ensures at c.texts.ensures.settings.ascending) in
     subst P (sym (made_new c).value_is) (fits_next (new_leader c) c.args.self.now fit up good)
 
 pub returns-clause-good : goal.returns-clause-good
@@ -51,17 +51,17 @@ same_leader c = leader_of c.args.me c.args.term c.args.accepted.now c.args.commi
 made_same : (c : goal.After-drop-value) → Made (same_leader c) c.args.self.now c.in_ok-value-2.field-0.value c.in_ok-value-2.field-0.waiting.items c.in_ok-value-2.field-0.replies c.config_for-config.result
 made_same c =
     made (same_leader c) c.args.self.now c.in_ok-value.value _ _ _ _
-    c.in_ok-value.ensures c.in_ok-value-2.ensures.value c.in_ok-value-2.ensures.waiting c.in_ok-value-2.ensures.replies c.config_for-config.ensures
+    (rw c.deref-state.ensures at c.in_ok-value.ensures) c.in_ok-value-2.ensures.value c.in_ok-value-2.ensures.waiting c.in_ok-value-2.ensures.replies (rw c.deref-state.ensures at c.config_for-config.ensures)
 
 is_same : (c : goal.After-drop-value) → true ≡ is_accepted c.args.term c.args.accepted.now c.config_for-config.result c.in_ok-value-2.field-0.value
-is_same c = sym c.if-is_accepted.true ∙ c.is_accepted.ensures
+is_same c = rw c.deref-state.ensures at (sym c.if-is_accepted.true ∙ c.is_accepted.ensures)
 
 pub returns-then-is_accepted-clause-tasks : goal.returns-then-is_accepted-clause-tasks
 returns-then-is_accepted-clause-tasks c =
     let waiting = c.in_ok-value-2.field-0.waiting.items in
     let committed = c.args.committed.now in
     c.answer_by.ensures.left
-    ∙ ap (λ (id : StateId). the_tasks (left_by (nothing_new committed id) waiting) c.new-self-inside.result c.new-self-inside-2.result) c.id.ensures
+    ∙ ap (λ (id : StateId). the_tasks (left_by (nothing_new committed id) waiting) c.new-self-inside.result c.new-self-inside-2.result) (c.id.ensures ∙ ap id_of c.deref-state.ensures)
     ∙ emptied _ c.new-self-inside.result c.new-self-inside-2.result c.new-self-inside.ensures c.new-self-inside-2.ensures
     ∙ tasks_same (same_leader c) c.args.self.now _ _ _ _ (made_same c) (is_same c)
 
@@ -69,7 +69,7 @@ pub returns-then-is_accepted-clause-next : goal.returns-then-is_accepted-clause-
 returns-then-is_accepted-clause-next c =
     let waiting = c.in_ok-value-2.field-0.waiting.items in
     let committed = c.args.committed.now in
-    ap Same (c.answer_by.ensures.sent ∙ ap (λ (id : StateId). with_sent c.in_ok-value-2.field-0.replies (answers_by (nothing_new committed id) waiting)) c.id.ensures)
+    ap Same (c.answer_by.ensures.sent ∙ ap (λ (id : StateId). with_sent c.in_ok-value-2.field-0.replies (answers_by (nothing_new committed id) waiting)) (c.id.ensures ∙ ap id_of c.deref-state.ensures))
     ∙ next_same (same_leader c) c.args.self.now _ _ _ _ (made_same c) (is_same c)
 
 pub returns-then-is_accepted-clause-good : goal.returns-then-is_accepted-clause-good
