@@ -22,7 +22,7 @@ impl NodeNow {
     }
 
     /// What the node answers to an act, by what it is.
-    pub fn reply(&self, me: NodeId, act: &Act) -> Result<ActReply, NoAnswer>
+    pub fn reply(&self, alloc: Global, me: NodeId, act: &Act) -> Result<ActReply, NoAnswer>
         ensures value { IfOk result (λ r. r ≡ reply_at me (seen self.now) act.now) }
         ensures err { IfErr result (ExcusesNode self.now) }
     {
@@ -30,7 +30,9 @@ impl NodeNow {
             Act::Bootstrap(config) => self.bootstrap_reply(config),
             Act::StartJoin(candidate, term) => self.start_reply(me, *candidate, *term),
             Act::TakeJoin(join) => self.join_reply(me, join)?,
-            Act::Value(version, config, value) => self.value_reply(me, *version, config, value)?,
+            Act::Value(version, config, value) => {
+                self.value_reply(alloc, me, *version, config, value)?
+            }
             Act::Publish(request) => self.publish_reply(me, request),
             Act::Response(response) => self.response_reply(me, response)?,
             Act::Commit(commit) => self.commit_reply(commit),
@@ -47,5 +49,5 @@ pub fn reply(alloc: Global, me: NodeId, entries: &[Entry], act: &Act) -> Result<
     ensures err { IfErr result (Excuses entries.now) }
 {
     let node = NodeNow::after(alloc, entries)?;
-    node.reply(me, act)
+    node.reply(alloc, me, act)
 }

@@ -2,10 +2,11 @@
 ghost use Rattle.std.specs.Prelude.{◌≡◌, IfOk};
 ghost use Rattle.world_model.specs.Acts.{NodeHistory, Then, is_first};
 ghost use Rattle.world_model.specs.NodeState.{term_of, accepted_of, committed_of};
+ghost use Rattle.cluster_state.specs.Initial.{initial_state};
 ghost use Rattle.reference_model.specs.Model.{history_of};
 
 use crate::entry::Entry;
-use cluster_state::ClusterState;
+use cluster_state::{ClusterState, SharedState};
 use std::alloc::{AllocError, Global};
 use voting_config::{NodeSet, VotingConfig};
 use world_model::Act;
@@ -45,33 +46,40 @@ pub fn term(entries: &[Entry]) -> u64
     term
 }
 
+// The state 0/0 that a bootstrap with this configuration makes the accepted one, where it can be shared.
+pub(crate) fn initial(alloc: Global, config: &NodeSet) -> Result<SharedState, AllocError>
+    ensures { IfOk result (λ s. s ≡ initial_state config.now) }
+{
+    SharedState::of(alloc, ClusterState::initial(alloc, config))
+}
+
 // The accepted state after one more act.
 pub(crate) fn accepted_after(
     alloc: Global,
-    accepted: ClusterState,
+    accepted: SharedState,
     first: bool,
     entry: &Entry,
-) -> Result<ClusterState, AllocError>
+) -> Result<SharedState, AllocError>
     ensures { IfOk result (λ s. (g : NodeHistory) → accepted ≡ accepted_of g → first ≡ is_first g → s ≡ accepted_of (Then g entry.now.act entry.now.outcome)) }
 {
     match &entry.act {
         Act::Bootstrap(config) => {
             if entry.is_effective() {
-                Ok(ClusterState::initial(alloc, config.members()))
+                initial(alloc, config.members())
             } else {
                 Ok(accepted)
             }
         }
         Act::Publish(request) => {
             if entry.is_effective() {
-                request.state.copy()
+                request.state.share()
             } else {
                 Ok(accepted)
             }
         }
         Act::Open(found) => {
             if first {
-                found.accepted.copy()
+                found.accepted.share()
             } else {
                 Ok(accepted)
             }
@@ -85,10 +93,10 @@ pub(crate) fn accepted_after(
 }
 
 /// The last state that was published to the node or that it bootstrapped with, else the one that it was first opened with.
-pub fn accepted(alloc: Global, entries: &[Entry]) -> Result<ClusterState, AllocError>
+pub fn accepted(alloc: Global, entries: &[Entry]) -> Result<SharedState, AllocError>
     ensures { IfOk result (λ s. s ≡ accepted_of (history_of entries.now)) }
 {
-    let mut accepted = ClusterState::initial(alloc, &NodeSet::new());
+    let mut accepted = initial(alloc, &NodeSet::new())?;
     let mut first = true;
     for entry in entries {
         accepted = accepted_after(alloc, accepted, first, entry)?;
@@ -100,7 +108,7 @@ pub fn accepted(alloc: Global, entries: &[Entry]) -> Result<ClusterState, AllocE
 // The committed configuration after one more act.
 fn committed_after(
     committed: VotingConfig,
-    accepted: &ClusterState,
+    accepted: &SharedState,
     first: bool,
     entry: &Entry,
 ) -> VotingConfig
@@ -147,7 +155,7 @@ pub fn committed(alloc: Global, entries: &[Entry]) -> Result<VotingConfig, Alloc
     ensures { IfOk result (λ c. c ≡ committed_of (history_of entries.now)) }
 {
     let mut committed = VotingConfig::of(&NodeSet::new());
-    let mut accepted = ClusterState::initial(alloc, &NodeSet::new());
+    let mut accepted = initial(alloc, &NodeSet::new())?;
     let mut first = true;
     for entry in entries {
         committed = committed_after(committed, &accepted, first, entry);

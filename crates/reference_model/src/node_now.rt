@@ -8,7 +8,7 @@ use crate::durable::{accepted, committed, term};
 use crate::entry::Entry;
 use crate::no_answer::NoAnswer;
 use crate::round::{acks, config, started, version, votes, won};
-use cluster_state::ClusterState;
+use cluster_state::SharedState;
 use std::alloc::Global;
 use voting_config::{NodeSet, VotingConfig};
 
@@ -16,7 +16,7 @@ use voting_config::{NodeSet, VotingConfig};
 #[derive(Drop)]
 pub struct NodeNow {
     pub term: u64,
-    pub accepted: ClusterState,
+    pub accepted: SharedState,
     pub committed: VotingConfig,
     pub started: bool,
     pub votes: NodeSet,

@@ -10,9 +10,10 @@ use crate::no_answer::NoAnswer;
 use crate::node_now::NodeNow;
 use cluster_state::{
     ApplyCommit, ClusterState, ClusterValue, CommitCause, InitialCause, Join, JoinCause,
-    LAST_NUMBER, PublishCause, PublishRequest, PublishResponse, ResponseCause, StartCause,
-    ValueCause,
+    LAST_NUMBER, PublishCause, PublishRequest, PublishResponse, ResponseCause, SharedState,
+    StartCause, ValueCause,
 };
+use std::alloc::Global;
 use voting_config::{NodeId, NodeSet, VotingConfig};
 use world_model::{ActReply, Cause, Message};
 
@@ -108,6 +109,7 @@ impl NodeNow {
     /// What the node answers to a client's value.
     pub fn value_reply(
         &self,
+        alloc: Global,
         me: NodeId,
         version: u64,
         config: &VotingConfig,
@@ -145,6 +147,7 @@ impl NodeNow {
             committed: VotingConfig::of(self.committed.members()),
             value: value.copy()?,
         };
+        let state = SharedState::of(alloc, state)?;
         Ok(ActReply::Taken(
             Some(Message::Publish(PublishRequest { source: me, state })),
             false,

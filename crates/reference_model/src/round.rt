@@ -5,9 +5,9 @@ ghost use Rattle.world_model.specs.Acts.{NodeHistory, Then};
 ghost use Rattle.world_model.specs.NodeState.{accepted_of, started_join_of, join_votes_of, election_won_of, published_version_of, published_config_of, publish_votes_of};
 ghost use Rattle.reference_model.specs.Model.{history_of, WereFull};
 
-use crate::durable::accepted_after;
+use crate::durable::{accepted_after, initial};
 use crate::entry::Entry;
-use cluster_state::ClusterState;
+use cluster_state::SharedState;
 use std::alloc::{AllocError, Global};
 use voting_config::{Full, NodeSet, VotingConfig};
 use world_model::Act;
@@ -105,7 +105,7 @@ pub fn won(entries: &[Entry]) -> bool
     won
 }
 
-fn version_after(version: u64, accepted: &ClusterState, entry: &Entry) -> u64
+fn version_after(version: u64, accepted: &SharedState, entry: &Entry) -> u64
     ensures { (g : NodeHistory) → version ≡ published_version_of g → accepted.now ≡ accepted_of g → result ≡ published_version_of (Then g entry.now.act entry.now.outcome) }
 {
     match &entry.act {
@@ -131,7 +131,7 @@ pub fn version(alloc: Global, entries: &[Entry]) -> Result<u64, AllocError>
     ensures { IfOk result (λ v. v ≡ published_version_of (history_of entries.now)) }
 {
     let mut version = 0;
-    let mut accepted = ClusterState::initial(alloc, &NodeSet::new());
+    let mut accepted = initial(alloc, &NodeSet::new())?;
     let mut first = true;
     for entry in entries {
         version = version_after(version, &accepted, entry);
@@ -141,7 +141,7 @@ pub fn version(alloc: Global, entries: &[Entry]) -> Result<u64, AllocError>
     Ok(version)
 }
 
-fn config_after(config: VotingConfig, accepted: &ClusterState, entry: &Entry) -> VotingConfig
+fn config_after(config: VotingConfig, accepted: &SharedState, entry: &Entry) -> VotingConfig
     ensures { (g : NodeHistory) → config ≡ published_config_of g → accepted.now ≡ accepted_of g → result ≡ published_config_of (Then g entry.now.act entry.now.outcome) }
 {
     match &entry.act {
@@ -173,7 +173,7 @@ pub fn config(alloc: Global, entries: &[Entry]) -> Result<VotingConfig, AllocErr
     ensures { IfOk result (λ c. c ≡ published_config_of (history_of entries.now)) }
 {
     let mut config = VotingConfig::of(&NodeSet::new());
-    let mut accepted = ClusterState::initial(alloc, &NodeSet::new());
+    let mut accepted = initial(alloc, &NodeSet::new())?;
     let mut first = true;
     for entry in entries {
         config = config_after(config, &accepted, entry);

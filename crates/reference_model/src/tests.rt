@@ -2,9 +2,9 @@
 use crate::{Entry, reply};
 use cluster_state::{
     ApplyCommit, ClusterState, ClusterValue, Join, Kept, LAST_NUMBER, PublishRequest,
-    PublishResponse,
+    PublishResponse, SharedConfig, SharedState, SharedValue,
 };
-use coord_state::{CoordState, outcome_of};
+use coord_state::{CoordState, outcome_of, outcome_of_value};
 use state_journal::{PlainKeeper, Ready};
 use std::alloc::{AllocError, Global};
 use std::test::Fail;
@@ -29,6 +29,27 @@ fn ready(alloc: Global, state: &ClusterState) -> Result<Ready, AllocError> {
     }
 }
 
+// The request by which the node publishes this version, configuration and value.
+fn request(
+    alloc: Global,
+    node: &CoordState<PlainKeeper>,
+    version: u64,
+    config: &VotingConfig,
+    value: &ClusterValue,
+) -> Result<PublishRequest, AllocError> {
+    let state = ClusterState {
+        term: node.term(),
+        version,
+        config: VotingConfig::of(config.members()),
+        committed: VotingConfig::of(node.committed().members()),
+        value: value.copy()?,
+    };
+    Ok(PublishRequest {
+        source: node.me(),
+        state: SharedState::of(alloc, state)?,
+    })
+}
+
 // Does the act in the core.
 fn core_outcome(
     alloc: Global,
@@ -46,9 +67,9 @@ fn core_outcome(
         Act::StartJoin(candidate, term) => Ok(outcome_of(node.start_join(*candidate, *term))),
         Act::TakeJoin(join) => Ok(outcome_of(node.join(join))),
         Act::Value(version, config, value) => {
-            let config = VotingConfig::of(config.members());
-            let value = value.copy()?;
-            Ok(outcome_of(node.client_value(*version, config, value)))
+            let answer = node.client_value(*version, config);
+            let request = request(alloc, node, *version, config, value)?;
+            Ok(outcome_of_value(answer, request))
         }
         Act::Publish(request) => {
             let state = ready(alloc, &request.state)?;
@@ -191,12 +212,8 @@ fn join(source: &str) -> Act {
     })
 }
 
-fn value(alloc: Global, version: u64, letters: &[u8]) -> Act {
-    Act::Value(version, config(letters), ClusterValue::empty(alloc))
-}
-
-// The state that a publishes in term 1.
-fn published(alloc: Global, version: u64, letters: &[u8]) -> Act {
+// The state of this version and configuration that a publishes in term 1.
+fn state(alloc: Global, version: u64, letters: &[u8]) -> Result<SharedState, AllocError> {
     let state = ClusterState {
         term: 1,
         version,
@@ -204,10 +221,25 @@ fn published(alloc: Global, version: u64, letters: &[u8]) -> Act {
         committed: config(b"abc"),
         value: ClusterValue::empty(alloc),
     };
-    Act::Publish(PublishRequest {
+    SharedState::of(alloc, state)
+}
+
+fn boot(alloc: Global, letters: &[u8]) -> Result<Act, AllocError> {
+    let state = state(alloc, 0, letters)?;
+    Ok(Act::Bootstrap(SharedConfig::of(state)))
+}
+
+fn value(alloc: Global, version: u64, letters: &[u8]) -> Result<Act, AllocError> {
+    let state = state(alloc, version, letters)?;
+    let config = SharedConfig::of(state.share()?);
+    Ok(Act::Value(version, config, SharedValue::of(state)))
+}
+
+fn published(alloc: Global, version: u64, letters: &[u8]) -> Result<Act, AllocError> {
+    Ok(Act::Publish(PublishRequest {
         source: id("a"),
-        state,
-    })
+        state: state(alloc, version, letters)?,
+    }))
 }
 
 fn response(source: &str) -> Act {
@@ -230,7 +262,7 @@ fn commit() -> Act {
 // A node that started a join for a, with the join as a text.
 fn joining(alloc: Global, me: &str, wanted: &str) -> Result<Driven, Fail> {
     let mut node = opened(alloc, id(me))?;
-    node.does(alloc, Act::Bootstrap(config(b"abc")), "won=false")?;
+    node.does(alloc, boot(alloc, b"abc")?, "won=false")?;
     node.does(alloc, Act::StartJoin(id("a"), 1), wanted)?;
     Ok(node)
 }
@@ -246,8 +278,8 @@ fn winner(alloc: Global) -> Result<Driven, Fail> {
 // a, which published its first value and accepted it.
 fn publisher(alloc: Global) -> Result<Driven, Fail> {
     let mut a = winner(alloc)?;
-    a.does(alloc, value(alloc, 1, b"abc"), "publish a 1/1 abc abc ")?;
-    a.does(alloc, published(alloc, 1, b"abc"), "response a a 1/1")?;
+    a.does(alloc, value(alloc, 1, b"abc")?, "publish a 1/1 abc abc ")?;
+    a.does(alloc, published(alloc, 1, b"abc")?, "response a a 1/1")?;
     Ok(a)
 }
 
@@ -258,7 +290,7 @@ fn a_quorum_elects_once(rt: HostRuntime) -> Result<(), Fail> {
     joining(alloc, "c", "join c a 1 0/0")?;
     let mut a = winner(alloc)?;
     a.does(alloc, join("b"), "won=false")?;
-    a.does(alloc, Act::Bootstrap(config(b"ab")), "Initial(AlreadySet)")
+    a.does(alloc, boot(alloc, b"ab")?, "Initial(AlreadySet)")
 }
 
 #[test]
@@ -266,7 +298,7 @@ fn a_quorum_commits(rt: HostRuntime) -> Result<(), Fail> {
     let alloc = rt.alloc();
     let mut a = publisher(alloc)?;
     let mut b = joining(alloc, "b", "join b a 1 0/0")?;
-    b.does(alloc, published(alloc, 1, b"abc"), "response b a 1/1")?;
+    b.does(alloc, published(alloc, 1, b"abc")?, "response b a 1/1")?;
     a.does(alloc, response("a"), "won=false")?;
     a.does(alloc, response("b"), "commit a 1/1")?;
     a.does(alloc, commit(), "won=false")?;
@@ -278,10 +310,10 @@ fn a_quorum_commits(rt: HostRuntime) -> Result<(), Fail> {
 fn one_change_of_the_configuration(rt: HostRuntime) -> Result<(), Fail> {
     let alloc = rt.alloc();
     let mut a = publisher(alloc)?;
-    a.does(alloc, value(alloc, 2, b"ab"), "publish a 1/2 ab abc ")?;
+    a.does(alloc, value(alloc, 2, b"ab")?, "publish a 1/2 ab abc ")?;
     a.does(alloc, commit(), "Commit(Publishing(1, 2))")?;
-    a.does(alloc, published(alloc, 2, b"ab"), "response a a 1/2")?;
-    a.does(alloc, value(alloc, 3, b"abc"), "Value(Reconfiguring)")
+    a.does(alloc, published(alloc, 2, b"ab")?, "response a a 1/2")?;
+    a.does(alloc, value(alloc, 3, b"abc")?, "Value(Reconfiguring)")
 }
 
 fn fresher() -> Act {

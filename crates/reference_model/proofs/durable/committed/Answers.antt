@@ -8,6 +8,6 @@ use Rattle.reference_model.proofs.durable.committed.Goals as goal
 pub loop-entry-preserved : goal.loop-entry-preserved
 loop-entry-preserved c = (
   look_more committed_of c.args.entries.now c.loop-entry.entry-index c.entry-item.result _ c.loop-entry-test.true c.entry-item.is (c.committed_after-committed.ensures (history_of (take c.loop-entry.entry-index c.args.entries.now)) c.loop-entry.invariant.0 c.loop-entry.invariant.1 c.loop-entry.invariant.2),
-  look_more accepted_of c.args.entries.now c.loop-entry.entry-index c.entry-item.result _ c.loop-entry-test.true c.entry-item.is (c.in_ok-accepted.ensures (history_of (take c.loop-entry.entry-index c.args.entries.now)) c.loop-entry.invariant.1 c.loop-entry.invariant.2),
+  look_more accepted_of c.args.entries.now c.loop-entry.entry-index c.entry-item.result _ c.loop-entry-test.true c.entry-item.is (c.in_ok-accepted-2.ensures (history_of (take c.loop-entry.entry-index c.args.entries.now)) c.loop-entry.invariant.1 c.loop-entry.invariant.2),
   look_more is_first c.args.entries.now c.loop-entry.entry-index c.entry-item.result false c.loop-entry-test.true c.entry-item.is refl,
 )
