@@ -4,7 +4,7 @@ ghost use Rattle.world_model.specs.declared.acts.Outcome.TheVariants as outcome;
 ghost use Rattle.world_model.specs.declared.acts.ActReply.TheVariants as reply;
 ghost use Rattle.trace_text.specs.Trace.{committed_line, committed_text};
 
-use cluster_state::ClusterState;
+use cluster_state::SharedState;
 use schedule_text::Text;
 use std::alloc::{AllocError, Global};
 use trace_text::write_committed;
@@ -13,7 +13,7 @@ use world_model::{ActReply, Message, Outcome};
 fn write_last(
     text: &mut Text,
     alloc: Global,
-    published: &Option<ClusterState>,
+    published: &Option<SharedState>,
 ) -> Result<(), AllocError>
     ensures { OnOk result (text.new ≡ text.old ++ committed_text published.now) }
 {
@@ -26,7 +26,7 @@ fn write_last(
 fn write_by_message(
     text: &mut Text,
     alloc: Global,
-    published: &Option<ClusterState>,
+    published: &Option<SharedState>,
     message: &Message,
 ) -> Result<(), AllocError>
     ensures { OnOk result ((wins : Bool) → text.new ≡ text.old ++ committed_line (outcome.Answered (reply.Taken (Some message.now) wins)) published.now) }
@@ -40,7 +40,7 @@ fn write_by_message(
 fn write_by_sends(
     text: &mut Text,
     alloc: Global,
-    published: &Option<ClusterState>,
+    published: &Option<SharedState>,
     sends: &Option<Message>,
 ) -> Result<(), AllocError>
     ensures { OnOk result ((wins : Bool) → text.new ≡ text.old ++ committed_line (outcome.Answered (reply.Taken sends.now wins)) published.now) }
@@ -54,7 +54,7 @@ fn write_by_sends(
 fn write_by_reply(
     text: &mut Text,
     alloc: Global,
-    published: &Option<ClusterState>,
+    published: &Option<SharedState>,
     reply: &ActReply,
 ) -> Result<(), AllocError>
     ensures { OnOk result (text.new ≡ text.old ++ committed_line (outcome.Answered reply.now) published.now) }
@@ -68,7 +68,7 @@ fn write_by_reply(
 pub(crate) fn write_committed_by(
     text: &mut Text,
     alloc: Global,
-    published: &Option<ClusterState>,
+    published: &Option<SharedState>,
     outcome: &Outcome,
 ) -> Result<(), AllocError>
     ensures { OnOk result (text.new ≡ text.old ++ committed_line outcome.now published.now) }

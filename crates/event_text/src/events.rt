@@ -7,7 +7,7 @@ ghost use Rattle.event_text.specs.Events.{cause_text, drop_line, drops_text, eve
 use crate::frames::write_frames;
 use crate::steps::{write_steps, write_struck_steps};
 use client_lines::write_reply;
-use cluster_state::ClusterState;
+use cluster_state::SharedState;
 use master_tasks::Outgoing;
 use policy_model::{DropCause, MemberDrop, Step};
 use schedule_text::Text;
@@ -84,7 +84,7 @@ pub fn write_event(
     alloc: Global,
     count: usize,
     node: NodeId,
-    published: &mut Option<ClusterState>,
+    published: &mut Option<SharedState>,
     steps: &[Step],
     drops: &[MemberDrop],
     frames: &[Frame],
@@ -107,7 +107,7 @@ pub fn write_struck_event(
     text: &mut Text,
     alloc: Global,
     node: NodeId,
-    published: &mut Option<ClusterState>,
+    published: &mut Option<SharedState>,
     steps: &[Step],
     drops: &[MemberDrop],
     crashed: bool,

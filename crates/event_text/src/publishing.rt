@@ -6,16 +6,16 @@ ghost use Rattle.policy_model.specs.declared.events.Step.TheVariants as step;
 ghost use Rattle.trace_text.specs.Published.{published_by};
 ghost use Rattle.event_text.specs.Published.{published_in};
 
-use cluster_state::ClusterState;
+use cluster_state::SharedState;
 use std::alloc::AllocError;
 use world_model::{Act, ActReply, Message, Outcome};
 
-fn keep_message(published: &mut Option<ClusterState>, message: &Message) -> Result<(), AllocError>
+fn keep_message(published: &mut Option<SharedState>, message: &Message) -> Result<(), AllocError>
     ensures { OnOk result ((wins : Bool) → published.new ≡ published_by (outcome.Answered (reply.Taken (Some message.now) wins)) published.old) }
 {
     match message {
         Message::Publish(request) => {
-            *published = Some(request.state.copy()?);
+            *published = Some(request.state.share()?);
             Ok(())
         }
         _ => Ok(()),
@@ -23,7 +23,7 @@ fn keep_message(published: &mut Option<ClusterState>, message: &Message) -> Resu
 }
 
 fn keep_sends(
-    published: &mut Option<ClusterState>,
+    published: &mut Option<SharedState>,
     sends: &Option<Message>,
 ) -> Result<(), AllocError>
     ensures { OnOk result ((wins : Bool) → published.new ≡ published_by (outcome.Answered (reply.Taken sends.now wins)) published.old) }
@@ -34,7 +34,7 @@ fn keep_sends(
     }
 }
 
-fn keep_reply(published: &mut Option<ClusterState>, reply: &ActReply) -> Result<(), AllocError>
+fn keep_reply(published: &mut Option<SharedState>, reply: &ActReply) -> Result<(), AllocError>
     ensures { OnOk result (published.new ≡ published_by (outcome.Answered reply.now) published.old) }
 {
     match reply {
@@ -43,7 +43,7 @@ fn keep_reply(published: &mut Option<ClusterState>, reply: &ActReply) -> Result<
     }
 }
 
-fn keep_outcome(published: &mut Option<ClusterState>, outcome: &Outcome) -> Result<(), AllocError>
+fn keep_outcome(published: &mut Option<SharedState>, outcome: &Outcome) -> Result<(), AllocError>
     ensures { OnOk result (published.new ≡ published_by outcome.now published.old) }
 {
     match outcome {
@@ -52,9 +52,9 @@ fn keep_outcome(published: &mut Option<ClusterState>, outcome: &Outcome) -> Resu
     }
 }
 
-// Keeps a copy of what was published, where the act publishes.
+// Keeps what was published, where the act publishes.
 pub(crate) fn keep_published(
-    published: &mut Option<ClusterState>,
+    published: &mut Option<SharedState>,
     act: &Act,
     outcome: &Outcome,
 ) -> Result<(), AllocError>

@@ -6,7 +6,7 @@ ghost use Rattle.event_text.specs.Steps.{act_lines, mode_line, mode_text, outcom
 use crate::acts::{write_outcome, write_won_by};
 use crate::committing::write_committed_by;
 use crate::publishing::keep_published;
-use cluster_state::ClusterState;
+use cluster_state::SharedState;
 use policy_model::{Mode, Step};
 use schedule_text::Text;
 use std::alloc::{AllocError, Global};
@@ -43,7 +43,7 @@ fn write_act_lines(
     text: &mut Text,
     alloc: Global,
     node: NodeId,
-    published: &Option<ClusterState>,
+    published: &Option<SharedState>,
     act: &Act,
     outcome: &Outcome,
 ) -> Result<(), AllocError>
@@ -58,7 +58,7 @@ fn write_told_act(
     text: &mut Text,
     alloc: Global,
     node: NodeId,
-    published: &Option<ClusterState>,
+    published: &Option<SharedState>,
     crashed: bool,
     act: &Act,
     outcome: &Outcome,
@@ -84,7 +84,7 @@ fn write_step(
     text: &mut Text,
     alloc: Global,
     node: NodeId,
-    published: &mut Option<ClusterState>,
+    published: &mut Option<SharedState>,
     crashed: bool,
     step: &Step,
 ) -> Result<(), AllocError>
@@ -101,14 +101,15 @@ fn write_step(
 }
 
 /// Writes a node's acts and changes of mode. `published` is the state that the node published last, and afterwards that
-/// after these steps; where it is another one, it is a copy.
+/// after these steps; where it is another one, it is shared with the act that published it.
 ///
-/// Where it answers an error, memory has run out, and `published` is that after some of the steps.
+/// Where it answers an error, memory has run out or no more holders of a state can be counted, and `published` is that after some of the
+/// steps.
 pub fn write_steps(
     text: &mut Text,
     alloc: Global,
     node: NodeId,
-    published: &mut Option<ClusterState>,
+    published: &mut Option<SharedState>,
     steps: &[Step],
 ) -> Result<(), AllocError>
     ensures text { OnOk result (text.new ≡ text.old ++ steps_text node published.old steps.now) }
@@ -123,7 +124,7 @@ pub fn write_struck_steps(
     text: &mut Text,
     alloc: Global,
     node: NodeId,
-    published: &mut Option<ClusterState>,
+    published: &mut Option<SharedState>,
     steps: &[Step],
     crashed: bool,
 ) -> Result<(), AllocError>

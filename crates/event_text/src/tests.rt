@@ -2,15 +2,15 @@
 use crate::*;
 use client_lines::{Answer, LineFault, Reply as ClientReply};
 use cluster_state::{
-    ApplyCommit, ClusterState, ClusterValue, Join, PublishRequest, PublishResponse, StartCause,
-    StateId,
+    ApplyCommit, ClusterState, Join, PublishRequest, PublishResponse, SharedConfig, SharedState,
+    SharedValue, StartCause, StateId,
 };
 use master_tasks::Outgoing;
 use policy_model::{DropCause, MemberDrop, Mode, Step};
 use schedule_text::Text;
 use std::alloc::{AllocError, Global};
 use std::test::*;
-use voting_config::{NodeId, NodeSet, VotingConfig};
+use voting_config::{NodeId, NodeSet};
 use wire_frames::{Frame, WireMessage};
 use world_model::{Act, ActReply, Cause, Message as Sent, Outcome};
 
@@ -36,11 +36,11 @@ fn state_id(term: u64, version: u64) -> StateId {
 }
 
 // The state 2/1 of one voter.
-fn state(alloc: Global) -> ClusterState {
+fn state(alloc: Global) -> Result<SharedState, AllocError> {
     let mut state = ClusterState::initial(alloc, &only_a());
     state.term = 2;
     state.version = 1;
-    state
+    SharedState::of(alloc, state)
 }
 
 fn asks(alloc: Global) -> Result<Vec<WireMessage>, AllocError> {
@@ -53,7 +53,7 @@ fn asks(alloc: Global) -> Result<Vec<WireMessage>, AllocError> {
             term: 1,
             last: state_id(0, 0),
         },
-        WireMessage::Publish(state(alloc)),
+        WireMessage::Publish(state(alloc)?),
         WireMessage::Response(state_id(1, 1)),
         WireMessage::Commit(state_id(1, 2)),
         WireMessage::JoinAsk { term: 7 },
@@ -212,11 +212,11 @@ fn replies_are_json_behind_the_node(rt: HostRuntime) -> Result<(), Fail> {
     Ok(())
 }
 
-fn request(alloc: Global) -> PublishRequest {
-    PublishRequest {
+fn request(alloc: Global) -> Result<PublishRequest, AllocError> {
+    Ok(PublishRequest {
         source: id("a"),
-        state: state(alloc),
-    }
+        state: state(alloc)?,
+    })
 }
 
 // The node wins an election and publishes.
@@ -228,15 +228,18 @@ fn winning(alloc: Global) -> Result<Vec<Step>, AllocError> {
         last_term: 0,
         last_version: 0,
     };
-    let value = Act::Value(1, VotingConfig::of(&only_a()), ClusterValue::empty(alloc));
-    let sent = Some(Sent::Publish(request(alloc)));
+    let request = request(alloc)?;
+    let config = SharedConfig::of(request.state.share()?);
+    let value = SharedValue::of(request.state.share()?);
+    let publishing = Act::Value(1, config, value);
+    let sent = Some(Sent::Publish(request));
     Ok(vec![in alloc;
         Step::Act(
             Act::TakeJoin(join),
             Outcome::Answered(ActReply::Taken(None, true))
         ),
         Step::Mode(Mode::Leader, 2),
-        Step::Act(value, Outcome::Answered(ActReply::Taken(sent, false))),
+        Step::Act(publishing, Outcome::Answered(ActReply::Taken(sent, false))),
     ]?)
 }
 
@@ -285,6 +288,7 @@ fn responding(alloc: Global) -> Result<Vec<Step>, AllocError> {
     };
     let sent = Some(Sent::Commit(commit));
     let late = Cause::Start(StartCause::TermNotGreater(2, 2));
+    let initial = SharedState::of(alloc, ClusterState::initial(alloc, &both()))?;
     Ok(vec![in alloc;
         Step::Act(
             Act::Response(response),
@@ -295,9 +299,9 @@ fn responding(alloc: Global) -> Result<Vec<Step>, AllocError> {
             Outcome::Answered(ActReply::Refused(late))
         ),
         Step::Act(Act::Commit(commit), Outcome::Answered(ActReply::Stopped)),
-        Step::Act(Act::Publish(request(alloc)), Outcome::Crashed(true)),
+        Step::Act(Act::Publish(request(alloc)?), Outcome::Crashed(true)),
         Step::Act(
-            Act::Bootstrap(VotingConfig::of(&both())),
+            Act::Bootstrap(SharedConfig::of(initial)),
             Outcome::Disk(true)
         ),
     ]?)
@@ -313,7 +317,7 @@ fn a_response_that_sends_a_commit_shows_what_was_published_last(
     let alloc = rt.alloc();
     let steps = responding(alloc)?;
     let mut text = Text::new(alloc);
-    let mut published = Some(state(alloc));
+    let mut published = Some(state(alloc)?);
     write_steps(&mut text, alloc, id("a"), &mut published, steps.as_slice())?;
     assert!(rt; text.as_bytes() == RESPONDING.as_bytes());
     Ok(())

@@ -55,7 +55,7 @@ fn publications(alloc: Global) -> Result<Text, AllocError> {
     let config = VotingConfig::of(&NodeSet::new());
     let request = PublishRequest {
         source: a(),
-        state: ClusterState::initial(alloc, &NodeSet::new()),
+        state: SharedState::of(alloc, ClusterState::initial(alloc, &NodeSet::new()))?,
     };
     let response = PublishResponse {
         source: a(),
