@@ -6,7 +6,7 @@ mod terms;
 
 use anyhow::{Context, Result, bail, ensure};
 use cluster_state::{
-    ApplyCommit, ClusterState, Join, PublishRequest, PublishResponse, decode_state,
+    ApplyCommit, Join, PublishRequest, PublishResponse, SharedState, decode_state,
 };
 use coord_state::CoordState;
 use state_journal::{Keeper, Ready, StateJournal};
@@ -114,24 +114,24 @@ impl Cluster {
         Ok(())
     }
 
-    // The candidate publishes the value of the state that these bytes spell.
+    // The candidate publishes the state that these bytes spell.
     fn publish(&mut self, bytes: &[u8]) -> Result<PublishRequest> {
         let Ok(state) = decode_state(self.alloc, bytes) else {
             bail!("the bytes are no state");
         };
-        let id = state.id();
-        let ClusterState {
-            version,
-            config,
-            value,
-            ..
-        } = state;
+        let state = SharedState::of(self.alloc, state)?;
         let candidate = self.candidate()?;
-        let Ok(request) = candidate.client_value(version, config, value) else {
-            bail!("no publication");
-        };
-        ensure!(request.state.id() == id, "another state is published");
-        Ok(request)
+        ensure!(
+            candidate.client_value(state.version, &state.config).is_ok(),
+            "no publication"
+        );
+        ensure!(state.term == candidate.term(), "a state of another term");
+        ensure!(
+            state.committed.is_same(candidate.committed()),
+            "another configuration is committed"
+        );
+        let source = candidate.me();
+        Ok(PublishRequest { source, state })
     }
 
     // Each node accepts the state that it receives as these bytes.
