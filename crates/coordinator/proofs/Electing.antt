@@ -4,7 +4,6 @@ use Rattle.std.proofs.lemmas.Bool.{le-leb, lt-leb}
 use Rattle.std.specs.Prelude.{if◌then◌else◌}
 use Rattle.cluster_state.specs.Field.{last_number}
 use Rattle.state_journal.specs.declared.keeper.Keeper.{Ghosts}
-use Rattle.state_journal.specs.declared.ready.Ready.{Ready}
 use Rattle.voting_config.specs.Ids.{Id, with_id, without_id}
 use Rattle.peer_finder.specs.Peers.{known_set}
 use Rattle.wire_frames.specs.declared.frame.WireMessage.TheVariants as message
@@ -15,12 +14,13 @@ use Rattle.policy_model.specs.Events.{Item, Notes, RoundBegun, RoundEnded, Elect
 use Rattle.policy_model.specs.Views.{View}
 use Rattle.policy_model.specs.Doing.{may_win, send_all, act_now}
 use Rattle.policy_model.specs.Elections.{takes_config, bootstraps, stands_for_election, free_nodes, begins_round, waits_until, waits_for_election}
-use Rattle.coordinator.specs.Bootstraps.{config_in, IsPlannedInitial}
+use Rattle.coordinator.specs.Bootstraps.{config_in, IsPlannedFirst}
 use Rattle.coordinator.specs.Rounds.{stands_alone}
 use Rattle.coordinator.specs.Showing.{Shown}
 use Rattle.coordinator.specs.Views.{view_in}
 use Rattle.coordinator.specs.Does.{Makes, Ends}
 use Rattle.coordinator.specs.declared.coordinator.Coordinator.{Coordinator}
+use Rattle.coordinator.specs.declared.plan.FirstState.{FirstState}
 use Rattle.coordinator.proofs.Composing.{makes_then}
 use Rattle.coordinator.proofs.Becoming.{makes_as}
 use Rattle.coordinator.proofs.Quiet.{makes_nothing, makes_note}
@@ -36,15 +36,15 @@ module _ {K : Type 0} (k : Ghosts K) where
   End fine old new sent sent_now is = Ends k fine old new sent sent_now is
 
   -- the first configuration is taken as planned
-  pub boots : (old new : Coordinator K) (o o1 : Shown) (initial : Option Ready) (ready : Ready) (fine : Bool) → IsPlannedInitial old.settings (view old) initial → initial ≡ Some ready
-      → End fine old new o o1 (act_now old.settings (view old) (Bootstrap ready.state.config) ∷ []) → End fine old new o o1 (bootstraps old.settings (view old))
-  boots old new o o1 initial ready fine planned is ends =
-      subst (λ (l : List Item). End fine old new o o1 l) (sym (ap (λ (d : Option (List Id)). takes_config old.settings (view old) d) (planned.decided ∙ ap (λ (i : Option Ready). config_in i) is))) ends
+  pub boots : (old new : Coordinator K) (o o1 : Shown) (planned : Option FirstState) (first : FirstState) (fine : Bool) → IsPlannedFirst old.settings (view old) planned → planned ≡ Some first
+      → End fine old new o o1 (act_now old.settings (view old) (Bootstrap first.config) ∷ []) → End fine old new o o1 (bootstraps old.settings (view old))
+  boots old new o o1 planned first fine is some ends =
+      subst (λ (l : List Item). End fine old new o o1 l) (sym (ap (λ (d : Option (List Id)). takes_config old.settings (view old) d) (is.decided ∙ ap (λ (f : Option FirstState). config_in f) some))) ends
 
-  pub boots_not : (old : Coordinator K) (o : Shown) (initial : Option Ready) → IsPlannedInitial old.settings (view old) initial → initial ≡ None
+  pub boots_not : (old : Coordinator K) (o : Shown) (planned : Option FirstState) → IsPlannedFirst old.settings (view old) planned → planned ≡ None
       → Make old old o o (bootstraps old.settings (view old))
-  boots_not old o initial planned is =
-      makes_as k old old o o _ _ (makes_nothing k old o) (sym (ap (λ (d : Option (List Id)). takes_config old.settings (view old) d) (planned.decided ∙ ap (λ (i : Option Ready). config_in i) is)))
+  boots_not old o planned is none =
+      makes_as k old old o o _ _ (makes_nothing k old o) (sym (ap (λ (d : Option (List Id)). takes_config old.settings (view old) d) (is.decided ∙ ap (λ (f : Option FirstState). config_in f) none)))
 
   -- the node stands for election, where the term is not too large
   pub stands : (old : Coordinator K) (o o1 : Shown) (term : ℕ) (all : List Id) → term ≤ last_number → all ≡ with_id old.settings.me (known_set old.finder)

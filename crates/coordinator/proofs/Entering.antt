@@ -26,7 +26,6 @@ use Rattle.policy_model.specs.Follows.{IsStruck, Here, Later, without_output, is
 use Rattle.policy_model.specs.Parts.{last_moment}
 use Rattle.policy_model.specs.Rules.{next_of}
 use Rattle.policy_model.proofs.Answering.{answered-next}
-pub use Rattle.policy_model.proofs.Faults.{next-fault as faultless_next}
 use Rattle.policy_model.proofs.Standing.{view_of-added, own-answered}
 use Rattle.coordinator.specs.Does.{Goes, Makes, Fails, EndsAll, Leaves}
 use Rattle.coordinator.specs.Showing.{Shown}

@@ -5,6 +5,7 @@ use Rattle.state_journal.specs.declared.keeper.Keeper.{Ghosts}
 use Rattle.std.specs.Prelude.{if◌then◌else◌, None, Some, find, nat_le}
 use Rattle.std.proofs.lemmas.List.{append_assoc}
 use Rattle.cluster_state.specs.Field.{last_number}
+use Rattle.cluster_state.specs.declared.messages.PublishRequest.{PublishRequest}
 use Rattle.cluster_state.specs.declared.state.ClusterValue.{ClusterValue}
 use Rattle.voting_config.specs.Ids.{Id, has}
 use Rattle.publication.specs.Publications.{Publication}
@@ -22,9 +23,10 @@ use Rattle.policy_model.specs.Parts.{as_master}
 use Rattle.policy_model.specs.Moves.{moved}
 use Rattle.policy_model.specs.Doing.{send_all, reply_all, act_now, after_act, takes, becomes_candidate}
 use Rattle.policy_model.specs.NextState.{targets_of, responders_of, successor_of, asks_successor, value_now, config_now, value_act, state_now, publishes, makes_state}
+use Rattle.coord_state.specs.StandsFor.{request_of}
 use Rattle.coordinator.specs.Plans.{IsPlan, IsNewOr, IsNewState, state_by, frame_to}
 use Rattle.coordinator.specs.Showing.{Shown}
-use Rattle.coordinator.specs.Views.{view_in}
+use Rattle.coordinator.specs.Views.{view_in, IsReady}
 use Rattle.coordinator.specs.Does.{Makes}
 use Rattle.coordinator.specs.declared.coordinator.Coordinator.{Coordinator}
 use Rattle.coordinator.specs.declared.plan.NewState.{NewState}
@@ -34,9 +36,9 @@ use Rattle.coordinator.proofs.Quiet.{makes_replies, makes_sends, makes_note}
 use Rattle.coordinator.proofs.Becoming.{makes_as}
 
 -- the act that publishes a new state
-pub act_is : (s : Settings) (v : View) (new : NewState) (version : ℕ) → version ≡ v.node.accepted.version + 1 → IsNewState s.me (state_by (as_master s v.node) v.tasks) new → Value version new.config new.value ≡ value_act s v
-act_is s v new version version_is is =
-    ap (λ (n : ℕ). Value n new.config new.value) version_is
+pub act_is : (s : Settings) (v : View) (new : NewState) → IsNewState s.me (state_by (as_master s v.node) v.tasks) new → Value new.request.state.version new.config new.value ≡ value_act s v
+act_is s v new is =
+    ap (λ (r : PublishRequest). Value r.state.version new.config new.value) is.request
     ∙ ap (λ (c : List Id). Value (v.node.accepted.version + 1) c new.value) is.config
     ∙ ap (λ (x : ClusterValue). Value (v.node.accepted.version + 1) (config_now s v) x) is.value
 
@@ -50,6 +52,17 @@ module _ {K : Type 0} (k : Ghosts K) where
 
   abbrev Make : (old new : Coordinator K) (sent sent_now : Shown) → List Item → Type 0
   Make old new sent sent_now is = Makes k old new sent sent_now is
+
+  -- the request of a new state is the node's own
+  pub request_is : (c : Coordinator K) (t : Tasks) (new : NewState) → IsReady c → IsNewState c.settings.me (state_by (as_master c.settings (view c).node) t) new
+      → new.request ≡ request_of k c.core new.request.state.version new.config new.value
+  request_is c t new ready is =
+      let made = state_by (as_master c.settings (view c).node) t in
+      is.request
+      ∙ ap (λ (me : Id). request_of k (record c.core { me = me }) made.version made.config made.value) (sym ready.me)
+      ∙ ap (λ (r : PublishRequest). request_of k c.core r.state.version r.state.config r.state.value) (sym is.request)
+      ∙ ap (λ (l : List Id). request_of k c.core new.request.state.version l new.request.state.value) (ap (λ (r : PublishRequest). r.state.config) is.request ∙ sym is.config)
+      ∙ ap (λ (x : ClusterValue). request_of k c.core new.request.state.version new.config x) (ap (λ (r : PublishRequest). r.state.value) is.request ∙ sym is.value)
 
   pub publishes_taken : (v : View) (old mid : Coordinator K) (o o1 o2 : Shown) (act : Act) (new : NewState) → act ≡ value_act old.settings v → IsNewState old.settings.me (state_by (as_master old.settings v.node) v.tasks) new
       → Make old mid o o1 (act_now old.settings (view old) act ∷ []) → takes old.settings (view old) act ≡ true

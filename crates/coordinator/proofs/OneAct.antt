@@ -3,7 +3,10 @@ use Rattle.std.proofs.Common.{◌≡◌, ℕ, Bool, true, false, true≢false, L
 use Rattle.std.specs.Prelude.{Option, Result, IfOk, is_ok}
 use Rattle.std.proofs.lemmas.List.{append-nil}
 use Rattle.state_journal.specs.declared.keeper.Keeper.{Ghosts}
+use Rattle.zen_disk.specs.Moments.{LeavesOnly}
 use Rattle.voting_config.specs.Ids.{Id}
+use Rattle.cluster_state.specs.declared.causes.ValueCause.{ValueCause}
+use Rattle.cluster_state.specs.declared.messages.PublishRequest.{PublishRequest}
 use Rattle.cluster_state.specs.declared.state.ClusterValue.{ClusterValue}
 use Rattle.world_model.specs.declared.acts.Act.{Act}
 use Rattle.world_model.specs.declared.acts.Act.TheVariants.{Value}
@@ -12,11 +15,14 @@ use Rattle.world_model.specs.declared.acts.ActReply.{ActReply}
 use Rattle.world_model.specs.declared.acts.ActReply.TheVariants.{Taken, Refused, Stopped}
 use Rattle.world_model.specs.declared.acts.Outcome.{Outcome}
 use Rattle.world_model.specs.declared.acts.Outcome.TheVariants.{Answered, Disk, Crashed}
-use Rattle.world_model.specs.Acts.{is_ok as was_taken, wins}
+use Rattle.world_model.specs.Acts.{NodeHistory, is_ok as was_taken, wins}
 use Rattle.world_model.specs.Replies.{reply_at, is_taken, writes}
 use Rattle.world_model.specs.NodeState.{NodeState}
 use Rattle.world_model.specs.Steps.{node_state_after}
-use Rattle.coord_state.specs.Outcomes.{IsTold}
+use Rattle.coord_state.specs.Outcomes.{IsTold, value_outcome}
+use Rattle.coord_state.specs.StandsFor.{Acts as CoreActs, StandsFor, request_of}
+use Rattle.coord_state.specs.Writes.{WritesBy, IsDuring}
+use Rattle.coord_state.specs.declared.coord.ActError.{ActError}
 use Rattle.coord_state.specs.declared.coord.CoordState.{CoordState}
 use Rattle.policy_model.specs.Events.{Item, Acts}
 use Rattle.policy_model.specs.Views.{View}
@@ -157,8 +163,20 @@ module _ {K : Type 0} (k : Ghosts K) where
   sent_now old core act o told r ready none did same r_is =
       r_is ∙ ap (λ (x : Outcome). sends_one x) (same ∙ answered old core act o ready none did) ∙ sends_so (reply_now old.settings (view old) act)
 
--- the entry of a value is the act
-pub entry_shown : (sent now : Shown) (version : ℕ) (config config' : List Id) (value value' : ClusterValue) (o : Outcome) → config ≡ config' → value ≡ value'
-    → now ≡ showing sent (Acts (Value version config value) o) → now ≡ showing sent (Acts (Value version config' value') o)
-entry_shown sent now version config config' value value' o c v shown =
-    shown ∙ ap (λ (x : List Id). showing sent (Acts (Value version x value) o)) c ∙ ap (λ (x : ClusterValue). showing sent (Acts (Value version config' x) o)) v
+  -- the outcome of a value, by what the core answered
+  abbrev answered_value : CoordState K → ℕ → List Id → ClusterValue → Result (Unit {0}) (ActError ValueCause (Unit {0})) → Outcome
+  answered_value c version config value answer = value_outcome (request_of k c version config value) answer
+
+  -- the core publishes a value, whose request was made before
+  pub value_did : (old new : CoordState K) (version v : ℕ) (config c : List Id) (value : ClusterValue) (request : PublishRequest) (answer : Result (Unit {0}) (ActError ValueCause (Unit {0}))) (o : Outcome)
+      → v ≡ version → c ≡ config → request ≡ request_of k old version config value → o ≡ value_outcome request answer → IsTold o
+      → CoreActs k old new (Value v c value) (answered_value old v c value answer) → WritesBy k old.keeper (Value v c value) new.keeper (answered_value old v c value answer)
+      → (k.told → (g : NodeHistory) → StandsFor k old g → LeavesOnly k.moment k.left_since old.keeper new.keeper (IsDuring g (Value v c value)))
+      → Acted k old new (Value version config value) o
+  value_did old new version v config c value request answer o version_is config_is request_is o_is is_told acts wrote any_moment =
+      let o_is' : o ≡ answered_value old v c value answer =
+      o_is ∙ ap (λ (r : PublishRequest). value_outcome r answer) request_is
+      ∙ ap (λ (n : ℕ). answered_value old n config value answer) (sym version_is) ∙ ap (λ (x : List Id). answered_value old v x value answer) (sym config_is) in
+      let did : Acted k old new (Value v c value) o =
+      subst (λ (x : Outcome). Acted k old new (Value v c value) x) (sym o_is') (record { acts = acts; wrote = wrote; any_moment = any_moment; told = subst IsTold o_is' is_told }) in
+      subst (λ (n : ℕ). Acted k old new (Value n config value) o) version_is (subst (λ (x : List Id). Acted k old new (Value v x value) o) config_is did)

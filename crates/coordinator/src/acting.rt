@@ -7,6 +7,7 @@ ghost use Rattle.policy_model.specs.Doing.{act_now, reply_now, takes};
 ghost use Rattle.voting_config.specs.Ids.{has_room as has_room_of};
 ghost use Rattle.policy_model.specs.Joins.{wins_now};
 ghost use Rattle.policy_model.specs.Publications.{commits_now};
+ghost use Rattle.coord_state.specs.StandsFor.{request_of};
 ghost use Rattle.coordinator.specs.Does.{Does};
 ghost use Rattle.coordinator.specs.Rooms.{Uses};
 ghost use Rattle.coordinator.specs.Views.{view_in, IsReady};
@@ -14,14 +15,16 @@ ghost use Rattle.coordinator.specs.Views.{view_in, IsReady};
 use crate::coordinator::{Coordinator, DiskFailed};
 use crate::outcomes::{has_sent, has_won, verdict, was_taken};
 use crate::output::Output;
+use crate::plan::FirstState;
 use cluster_state::{
-    ApplyCommit, ClusterState, ClusterValue, Join, PublishRequest, PublishResponse, StateId,
+    ApplyCommit, Join, PublishRequest, PublishResponse, SharedConfig, SharedState, SharedValue,
+    StateId,
 };
-use coord_state::outcome_of;
+use coord_state::{outcome_of, outcome_of_value};
 use fault_checks::FollowerChecks;
 use publication::Publication;
 use state_journal::{Keeper, Ready};
-use voting_config::{NodeId, NodeSet, VotingConfig};
+use voting_config::{NodeId, NodeSet};
 use world_model::Act;
 
 /// Whether a join was counted, and whether it won the election.
@@ -36,18 +39,18 @@ impl<K: Keeper> Coordinator<K> {
     pub(crate) fn act_set_initial(
         &mut self,
         out: &mut Output,
-        initial: Ready,
+        first: FirstState,
     ) -> Result<bool, DiskFailed>
         requires ready { IsReady self.old }
         requires steps { 1 ≤ out.old.steps.room }
-        requires initial { initial.state ≡ initial_state initial.state.config }
-        ensures does { Does K.Keeper self.old self.new out.old out.new (λ s v. act_now s v (act.Bootstrap initial.state.config) ∷ []) (is_ok result) }
-        ensures taken { IfOk result (λ taken. taken ≡ takes self.old.settings (view_in K.Keeper self.old) (act.Bootstrap initial.state.config)) }
+        requires first { first.ready.state ≡ initial_state first.config }
+        ensures does { Does K.Keeper self.old self.new out.old out.new (λ s v. act_now s v (act.Bootstrap first.config) ∷ []) (is_ok result) }
+        ensures taken { IfOk result (λ taken. taken ≡ takes self.old.settings (view_in K.Keeper self.old) (act.Bootstrap first.config)) }
         ensures uses { Uses out.old out.new 1 0 0 }
         ensures rest { self.new ≡ record self.old { core = self.new.core } }
     {
-        let config = VotingConfig::of(initial.state().config.members());
-        let outcome = outcome_of(self.core.set_initial(initial));
+        let FirstState { ready, config } = first;
+        let outcome = outcome_of(self.core.set_initial(ready));
         let verdict = verdict(&outcome);
         out.act(Act::Bootstrap(config), outcome);
         verdict
@@ -93,31 +96,26 @@ impl<K: Keeper> Coordinator<K> {
         counted
     }
 
-    // Publishes a value, which the entry holds once more. Answers whether that was taken: the publication begins, and its
-    // members are watched.
+    // Publishes the state of a request, whose configuration and value the entry holds. Answers whether that was taken: the
+    // publication begins, and its members are watched.
     pub(crate) fn act_value(
         &mut self,
         out: &mut Output,
-        version: u64,
-        config: VotingConfig,
-        value: ClusterValue,
-        entry: (VotingConfig, ClusterValue),
+        request: PublishRequest,
+        config: SharedConfig,
+        value: SharedValue,
     ) -> bool
         requires ready { IsReady self.old }
         requires steps { 1 ≤ out.old.steps.room }
-        requires entry_config { entry.0 ≡ config }
-        requires entry_value { entry.1 ≡ value }
-        ensures does { Does K.Keeper self.old self.new out.old out.new (λ s v. act_now s v (act.Value version config value) ∷ []) true }
-        ensures taken { result ≡ takes self.old.settings (view_in K.Keeper self.old) (act.Value version config value) }
+        requires request { request ≡ request_of K.Keeper self.old.core request.state.version config value }
+        ensures does { Does K.Keeper self.old self.new out.old out.new (λ s v. act_now s v (act.Value request.state.version config value) ∷ []) true }
+        ensures taken { result ≡ takes self.old.settings (view_in K.Keeper self.old) (act.Value request.state.version config value) }
         ensures uses { Uses out.old out.new 1 0 0 }
         ensures tasks { self.new.tasks ≡ self.old.tasks }
     {
-        let (entry_config, entry_value) = entry;
-        let id = StateId {
-            term: self.core.term(),
-            version,
-        };
-        let outcome = outcome_of(self.core.client_value(version, config, value));
+        let id = request.state.id();
+        let answer = self.core.client_value(id.version, &config);
+        let outcome = outcome_of_value(answer, request);
         let taken = was_taken(&outcome);
         begin_publication(
             taken,
@@ -125,20 +123,20 @@ impl<K: Keeper> Coordinator<K> {
             &mut self.followers,
             id,
             self.settings.me,
-            &entry_value.members,
+            &value.members,
             self.moment,
         );
-        out.act(Act::Value(version, entry_config, entry_value), outcome);
+        out.act(Act::Value(id.version, config, value), outcome);
         taken
     }
 
-    // Accepts a published state, which the entry holds once more. Answers whether that was taken.
+    // Accepts a published state, which the entry shares. Answers whether that was taken.
     pub(crate) fn act_publish(
         &mut self,
         out: &mut Output,
         source: NodeId,
         state: Ready,
-        entry: ClusterState,
+        entry: SharedState,
     ) -> Result<bool, DiskFailed>
         requires ready { IsReady self.old }
         requires steps { 1 ≤ out.old.steps.room }

@@ -103,7 +103,7 @@ impl<K: Keeper> Coordinator<K> {
             self.settings.shrink,
             tasks,
             term,
-            self.core.accepted(),
+            &self.core.kept().accepted,
             self.core.committed(),
             votes,
         )?;

@@ -35,7 +35,7 @@ impl<K: Keeper> Coordinator<K> {
             self.settings.shrink,
             tasks,
             self.core.term(),
-            accepted,
+            &self.core.kept().accepted,
             &accepted.config,
             &self.core.votes(),
         )?;

@@ -8,7 +8,7 @@ ghost use Rattle.policy_model.specs.Rules.{ticks_candidate};
 ghost use Rattle.policy_model.specs.Events.{Notes, RoundBegun};
 ghost use Rattle.policy_model.specs.Elections.{bootstraps, stands_for_election, free_nodes as free_nodes_of, begins_round, waits_until, waits_for_election};
 ghost use Rattle.policy_model.specs.Parts.{next_attempt as next_attempt_of, round_begun};
-ghost use Rattle.coordinator.specs.Bootstraps.{IsPlannedInitial};
+ghost use Rattle.coordinator.specs.Bootstraps.{IsPlannedFirst};
 ghost use Rattle.coordinator.specs.Does.{Does};
 ghost use Rattle.coordinator.specs.Rooms.{Uses};
 ghost use Rattle.coordinator.specs.Rounds.{stands_alone};
@@ -17,12 +17,13 @@ ghost use Rattle.coordinator.specs.Views.{view_in, IsReady};
 use crate::coordinator::{Acted, Coordinator, DiskFailed};
 use crate::discovery::with;
 use crate::output::Output;
+use crate::plan::{FirstState, first_state};
 use crate::sending::Broadcast;
 use cluster_state::LAST_NUMBER;
 use election_clock::{DURATION_MS, delay, due};
 use exclusions::may_win;
 use pre_vote::PreVotes;
-use state_journal::{Keeper, Ready};
+use state_journal::Keeper;
 use std::alloc::{AllocError, Global};
 use voting_config::{NodeId, NodeSet};
 
@@ -50,31 +51,31 @@ fn next_attempt(attempt: u64) -> u64
 
 impl<K: Keeper> Coordinator<K> {
     /// The state that a candidate will bootstrap with, if it will.
-    pub(crate) fn plan_bootstrap(&self, alloc: Global) -> Result<Option<Ready>, AllocError>
-        ensures { IfOk result (λ initial. IsPlannedInitial self.now.settings (view_in K.Keeper self.now) initial) }
+    pub(crate) fn plan_bootstrap(&self, alloc: Global) -> Result<Option<FirstState>, AllocError>
+        ensures { IfOk result (λ first. IsPlannedFirst self.now.settings (view_in K.Keeper self.now) first) }
     {
         let has_config = !self.core.accepted().config.is_empty();
         let known = self.finder.answered_set();
         match bootstrap::decide(&self.settings.initial, &known, self.settings.me, has_config) {
             None => Ok(None),
             Some(config) => {
-                let initial = Ready::initial(alloc, config.members())?;
-                Ok(Some(initial))
+                let first = first_state(alloc, config.members())?;
+                Ok(Some(first))
             }
         }
     }
 
     // Takes the first configuration, if it will.
-    fn bootstrap(&mut self, out: &mut Output, initial: Option<Ready>) -> Acted
+    fn bootstrap(&mut self, out: &mut Output, first: Option<FirstState>) -> Acted
         requires ready { IsReady self.old }
-        requires initial { IsPlannedInitial self.old.settings (view_in K.Keeper self.old) initial }
+        requires first { IsPlannedFirst self.old.settings (view_in K.Keeper self.old) first }
         requires steps { 1 ≤ out.old.steps.room }
         ensures does { Does K.Keeper self.old self.new out.old out.new bootstraps (is_ok result) }
         ensures uses { Uses out.old out.new 1 0 0 }
     {
-        match initial {
+        match first {
             None => Ok(()),
-            Some(ready) => match self.act_set_initial(out, ready) {
+            Some(first) => match self.act_set_initial(out, first) {
                 Ok(_) => Ok(()),
                 Err(_) => Err(DiskFailed),
             },
@@ -82,15 +83,15 @@ impl<K: Keeper> Coordinator<K> {
     }
 
     // Takes the first configuration, if it will, and asks all peers where discovery is due.
-    fn find_peers(&mut self, out: &mut Output, initial: Option<Ready>) -> Acted
+    fn find_peers(&mut self, out: &mut Output, first: Option<FirstState>) -> Acted
         requires ready { IsReady self.old }
-        requires initial { IsPlannedInitial self.old.settings (view_in K.Keeper self.old) initial }
+        requires first { IsPlannedFirst self.old.settings (view_in K.Keeper self.old) first }
         requires steps { 1 ≤ out.old.steps.room }
         requires frames { 32 ≤ out.old.frames.room }
         ensures does { Does K.Keeper self.old self.new out.old out.new (λ s v. then_rule s v (bootstraps s v) (asks_peers s)) (is_ok result) }
         ensures uses { Uses out.old out.new 1 32 0 }
     {
-        match self.bootstrap(out, initial) {
+        match self.bootstrap(out, first) {
             Err(_) => Err(DiskFailed),
             Ok(()) => {
                 self.ask_peers(out);
@@ -103,17 +104,17 @@ impl<K: Keeper> Coordinator<K> {
     pub(crate) fn tick_candidate(
         &mut self,
         out: &mut Output,
-        initial: Option<Ready>,
+        first: Option<FirstState>,
         word: u64,
     ) -> Acted
         requires ready { IsReady self.old }
-        requires initial { IsPlannedInitial self.old.settings (view_in K.Keeper self.old) initial }
+        requires first { IsPlannedFirst self.old.settings (view_in K.Keeper self.old) first }
         requires steps { 1 ≤ out.old.steps.room }
         requires frames { 96 ≤ out.old.frames.room }
         ensures does { Does K.Keeper self.old self.new out.old out.new (λ s v. ticks_candidate s v word) (is_ok result) }
         ensures uses { Uses out.old out.new 1 96 0 }
     {
-        match self.find_peers(out, initial) {
+        match self.find_peers(out, first) {
             Err(_) => Err(DiskFailed),
             Ok(()) => {
                 self.wait_for_election(out, word);

@@ -6,6 +6,7 @@ ghost use Rattle.policy_model.specs.Views.{View};
 ghost use Rattle.policy_model.specs.Parts.{as_master};
 ghost use Rattle.policy_model.specs.Doing.{is_leader, may_win as may_win_of};
 ghost use Rattle.policy_model.specs.NextState.{goes_on, makes_state, hands_over, publishes, is_in_flight, asks_successor, successor_of};
+ghost use Rattle.coord_state.specs.StandsFor.{request_of};
 ghost use Rattle.coordinator.specs.Does.{Does, Ends};
 ghost use Rattle.coordinator.specs.Plans.{IsPlan, IsNewState, IsPlanned, replies_planned, state_by};
 ghost use Rattle.coordinator.specs.Rooms.{Uses};
@@ -66,8 +67,7 @@ impl<K: Keeper> Coordinator<K> {
     // Publishes a new state, which was made of the tasks of a node that was v, or becomes a candidate where that is refused.
     fn publish(&mut self, out: &mut Output, new: NewState)
         requires ready { IsReady self.old }
-        requires entry_config { new.entry_config ≡ new.config }
-        requires entry_value { new.entry_value ≡ new.value }
+        requires request { new.request ≡ request_of K.Keeper self.old.core new.request.state.version new.config new.value }
         requires all { length new.frames.list ≡ length new.value.members }
         requires steps { 2 ≤ out.old.steps.room }
         requires frames { 32 ≤ out.old.frames.room }
@@ -75,16 +75,14 @@ impl<K: Keeper> Coordinator<K> {
         ensures does { (v : View) → v.node ≡ (view_in K.Keeper self.old).node → IsNewState self.old.settings.me (state_by (as_master self.old.settings v.node) v.tasks) new → Does K.Keeper self.old self.new out.old out.new (λ s u. publishes s v u) true }
     {
         let NewState {
+            request,
             config,
             value,
-            entry_config,
-            entry_value,
             frames,
         } = new;
-        let version = self.core.accepted().version + 1;
         // For the proof alone: a set has 32 ids at most.
         let _ = value.members.len();
-        let taken = self.act_value(out, version, config, value, (entry_config, entry_value));
+        let taken = self.act_value(out, request, config, value);
         if taken {
             out.frames.append(frames);
         } else {

@@ -9,7 +9,7 @@ ghost use Rattle.coordinator.specs.Views.{IsReady};
 
 use crate::coordinator::{Acted, Coordinator, DiskFailed, EventError};
 use crate::output::Output;
-use cluster_state::{ClusterState, StateId};
+use cluster_state::{SharedState, StateId};
 use state_journal::{Keeper, Ready};
 use voting_config::NodeId;
 use wire_frames::WireMessage;
@@ -37,8 +37,8 @@ impl<K: Keeper> Coordinator<K> {
         self.follow_other(out, p);
     }
 
-    // A state is accepted, which the entry holds once more.
-    fn accept(&mut self, out: &mut Output, p: NodeId, state: Ready, entry: ClusterState) -> Acted
+    // A state is accepted, which the entry shares.
+    fn accept(&mut self, out: &mut Output, p: NodeId, state: Ready, entry: SharedState) -> Acted
         requires ready { IsReady self.old }
         requires entry { entry ≡ state.state }
         requires steps { 3 ≤ out.old.steps.room }
@@ -64,7 +64,7 @@ impl<K: Keeper> Coordinator<K> {
         out: &mut Output,
         p: NodeId,
         state: Ready,
-        entry: ClusterState,
+        entry: SharedState,
     ) -> Acted
         requires ready { IsReady self.old }
         requires entry { entry ≡ state.state }
@@ -84,7 +84,7 @@ impl<K: Keeper> Coordinator<K> {
         &mut self,
         out: &mut Output,
         p: NodeId,
-        state: &ClusterState,
+        state: &SharedState,
     ) -> Result<(), EventError>
         requires ready { IsReady self.old }
         requires fit { IsFit state.now }
@@ -92,13 +92,10 @@ impl<K: Keeper> Coordinator<K> {
         requires frames { 2 ≤ out.old.frames.room }
         ensures does { DoesAll K.Keeper self.old self.new out.old out.new (λ s v. is_published_to s v p state.now) result }
     {
-        let Ok(entry) = state.copy() else {
+        let Ok(entry) = state.share() else {
             return Err(EventError::Memory);
         };
-        let Ok(accepted) = state.copy() else {
-            return Err(EventError::Memory);
-        };
-        let Ok(ready) = Ready::new(out.alloc, accepted) else {
+        let Ok(ready) = Ready::of(out.alloc, state) else {
             return Err(EventError::Memory);
         };
         let Ok(()) = out.make_room(self.tasks.open_count(), &None) else {

@@ -19,10 +19,10 @@ impl<K: Keeper> Coordinator<K> {
         requires frames { 96 ≤ out.old.frames.room }
         ensures does { DoesAll K.Keeper self.old self.new out.old out.new (λ s v. ticks_candidate s v word) result }
     {
-        let Ok(initial) = self.plan_bootstrap(out.alloc) else {
+        let Ok(first) = self.plan_bootstrap(out.alloc) else {
             return Err(EventError::Memory);
         };
-        match self.tick_candidate(out, initial, word) {
+        match self.tick_candidate(out, first, word) {
             Ok(()) => Ok(()),
             Err(_) => Err(EventError::Struck),
         }

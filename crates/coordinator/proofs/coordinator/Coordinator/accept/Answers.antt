@@ -10,7 +10,7 @@ returns-in-Err g c =
 
 pub returns-then-taken : goal.returns-then-taken
 returns-then-taken g c =
-    record { does = accepts_taken g.K.Keeper c.args.self.now c.act_publish.new.self c.respond.new.self _ _ _ c.args.p c.args.state.state _ (c.id-id.ensures ∙ ap (λ (x : ClusterState). id_of x) c.requires.entry) (sym c.in-Ok.ensures.taken ∙ c.if-taken.true) c.in-Ok.ensures.does c.respond.ensures.does }
+    record { does = accepts_taken g.K.Keeper c.args.self.now c.act_publish.new.self c.respond.new.self _ _ _ c.args.p c.args.state.state _ (c.id-id.ensures ∙ ap (λ (x : ClusterState). id_of x) (c.deref.ensures ∙ c.requires.entry)) (sym c.in-Ok.ensures.taken ∙ c.if-taken.true) c.in-Ok.ensures.does c.respond.ensures.does }
 
 pub returns-else-taken : goal.returns-else-taken
 returns-else-taken g c =

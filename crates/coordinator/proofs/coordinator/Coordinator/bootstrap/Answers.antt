@@ -4,12 +4,12 @@ use Rattle.coordinator.proofs.coordinator.Coordinator.bootstrap.Goals as goal
 
 pub returns-in-None-clause-does : goal.returns-in-None-clause-does
 returns-in-None-clause-does g c =
-    boots_not g.K.Keeper c.args.self.now _ c.args.initial c.requires.initial c.in-None.is
+    boots_not g.K.Keeper c.args.self.now _ c.args.first c.requires.first c.in-None.is
 
 pub returns-in-Ok-clause-does : goal.returns-in-Ok-clause-does
 returns-in-Ok-clause-does g c =
-    boots g.K.Keeper c.args.self.now c.act_set_initial.new.self _ _ c.args.initial c.in-Some.ready true c.requires.initial c.in-Some.is c.in-Ok.ensures.does
+    boots g.K.Keeper c.args.self.now c.act_set_initial.new.self _ _ c.args.first c.in-Some.first true c.requires.first c.in-Some.is c.in-Ok.ensures.does
 
 pub returns-in-Err-clause-does : goal.returns-in-Err-clause-does
 returns-in-Err-clause-does g c =
-    boots g.K.Keeper c.args.self.now c.act_set_initial.new.self _ _ c.args.initial c.in-Some.ready false c.requires.initial c.in-Some.is c.in-Err.ensures.does
+    boots g.K.Keeper c.args.self.now c.act_set_initial.new.self _ _ c.args.first c.in-Some.first false c.requires.first c.in-Some.is c.in-Err.ensures.does

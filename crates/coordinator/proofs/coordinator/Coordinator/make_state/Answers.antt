@@ -2,8 +2,12 @@ use Rattle.std.proofs.Common.{refl, ap}
 use Rattle.master_tasks.specs.Replying.{Replies}
 use Rattle.coordinator.specs.Showing.{shown_in}
 use Rattle.coordinator.specs.Views.{view_in}
-use Rattle.coordinator.proofs.Going.{planned_new, makes_same, makes_new}
+use Rattle.coordinator.proofs.Going.{planned_new, request_is, makes_same, makes_new}
 use Rattle.coordinator.proofs.coordinator.Coordinator.make_state.Goals as goal
+
+pub publish-requires-clause-request : goal.publish-requires-clause-request
+publish-requires-clause-request g c =
+    request_is g.K.Keeper c.args.self.now c.args.self.now.tasks c.in-Some.new c.requires.ready (planned_new _ _ c.args.plan c.in-Some.new c.requires.plan c.in-Some.is)
 
 pub returns-in-None : goal.returns-in-None
 returns-in-None g c =
