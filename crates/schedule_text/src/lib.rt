@@ -10,6 +10,7 @@ pub mod line_bytes;
 mod line_ends;
 pub mod lines;
 pub mod modes;
+mod numbers;
 pub mod place;
 pub mod printing;
 pub mod reading;

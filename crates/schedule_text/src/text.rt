@@ -1,5 +1,5 @@
 //! A text that grows at its end.
-ghost use Rattle.std.specs.Prelude.{◌≡◌, ◌+◌, ◌%◌, ◌≤◌, ◌++◌, ◌∷◌, [], length, OnOk, codes, decimal};
+ghost use Rattle.std.specs.Prelude.{◌≡◌, ◌++◌, ◌∷◌, [], length, OnOk, codes, decimal};
 ghost use Rattle.voting_config.specs.Lists.{list_text};
 ghost use Rattle.schedule_text.specs.Words.{byte_text, mode_text};
 ghost use Rattle.schedule_text.specs.Lines.{line_text};
@@ -8,9 +8,9 @@ ghost use Rattle.schedule_text.specs.Printed.{bad_line, reason_text};
 use crate::boxed::Boxed;
 use crate::fault::{BadSchedule, WhyBad};
 use crate::modes::hex_byte;
+use crate::numbers::{put_number, put_number_and};
 use crate::schedule::Line;
 use crate::setting_text::SettingText;
-use itoa::Buffer;
 use std::alloc::{AllocError, Global};
 use std::marker::Model;
 use voting_config::NodeId;
@@ -133,7 +133,7 @@ impl Text {
         if number < 10 {
             return self.byte(b'0' + number as u8);
         }
-        self.several_digits(number)
+        put_number(&mut self.bytes, number)
     }
 
     /// Writes a number in decimal, without leading zeros, and the byte after it.
@@ -145,36 +145,7 @@ impl Text {
         if number < 10 {
             return self.bytes(&[b'0' + number as u8, after]);
         }
-        self.several_digits(number)?;
-        self.byte(after)
-    }
-
-    // Up to four digits are written one by one, which costs less than a buffer.
-    #[tactic(auto, using(crate::proofs::Digits::two_digits, crate::proofs::Digits::three_digits, crate::proofs::Digits::four_digits))]
-    fn several_digits(&mut self, number: u64) -> Result<(), AllocError>
-        requires { 10 ≤ number }
-        ensures { OnOk result (self.new ≡ self.old ++ decimal number) }
-    {
-        if number >= 10000 {
-            return self.long_number(number);
-        }
-        let last = digit(number);
-        let third = digit(number / 10);
-        if number < 100 {
-            return self.bytes(&[third, last]);
-        }
-        let second = digit(number / 100);
-        if number < 1000 {
-            return self.bytes(&[second, third, last]);
-        }
-        self.bytes(&[digit(number / 1000), second, third, last])
-    }
-
-    fn long_number(&mut self, number: u64) -> Result<(), AllocError>
-        ensures { OnOk result (self.new ≡ self.old ++ decimal number) }
-    {
-        let mut buffer = Buffer::new();
-        self.word(buffer.format(number))
+        put_number_and(&mut self.bytes, number, after)
     }
 
     /// Writes ids with a comma between each two, or `_` where there is none.
@@ -347,12 +318,4 @@ impl Text {
         self.word(why.name())?;
         self.word("\n")
     }
-}
-
-// The last digit of a number.
-#[inline(always)]
-fn digit(number: u64) -> u8
-    ensures { result ≡ 48 + number % 10 }
-{
-    b'0' + (number % 10) as u8
 }
