@@ -1,7 +1,7 @@
 -- One node of a world moves, the others stay.
 use Rattle.std.proofs.Common.{◌≡◌, Bool, true, false, cond, None, refl, ◌∙◌, ap, if◌then◌else◌}
-use Rattle.std.specs.Cmp.Lexicographic.{nat_list_eq_equiv}
 use Rattle.voting_config.specs.Ids.{Id, same}
+use Rattle.voting_config.proofs.Sets.{same_self}
 use Rattle.cluster_state.specs.declared.state.Kept.{Kept}
 use Rattle.zen_disk.specs.declared.orders.Order.{Order}
 use Rattle.zen_disk.specs.declared.orders.Way.{Way}
@@ -12,6 +12,7 @@ use Rattle.world_model.specs.declared.acts.Outcome.{Outcome}
 use Rattle.world_model.specs.declared.acts.Outcome.TheVariants.{Answered}
 use Rattle.world_model.specs.Acts.{NodeHistory, Then}
 use Rattle.world_model.specs.Histories.{History, Next, node_history}
+use Rattle.world_model.proofs.Legal.{own_deeds}
 use Rattle.replay_node.specs.Did.{after_unless_down}
 use Rattle.replay_node.specs.NodeDisk.{NodeDisk, CallsEnd, Done, Failed, CrashedIn, opening}
 use Rattle.replay_node.specs.NodeLines.{after_stop, after_restart}
@@ -19,9 +20,6 @@ use Rattle.replay_node.specs.NodeWorld.{NodeWorld, outcome_at, after_act, after_
 use Rattle.replay_node.specs.Settled.{is_kept, settled_for}
 use Rattle.replay_node.specs.Worlds.{World, node_world, with_node, did, did_unless_down, crashed, ordered, history_opened, opened, restarted}
 use Rattle.replay_node.proofs.AllSettled.{settled_own, settled_other}
-
-pub same_itself : (x : Id) → same x x ≡ true
-same_itself x = nat_list_eq_equiv.refl x
 
 -- after w the node stands in v at x, and the others as they stood
 pub record NodeMoves (n : Id) (w : World) (x : NodeWorld) (v : World) : Type 0 where
@@ -31,11 +29,8 @@ pub record NodeMoves (n : Id) (w : World) (x : NodeWorld) (v : World) : Type 0 w
 pub node_history-other : (h : History) (n m : Id) (act : Act) (o : Outcome) → same n m ≡ false → node_history (Next h n act o) m ≡ node_history h m
 node_history-other h n m act o e = ap (λ (b : Bool). cond b (Then (node_history h m) act o) (node_history h m)) e
 
-pub node_history-own : (h : History) (n : Id) (act : Act) (o : Outcome) → node_history (Next h n act o) n ≡ Then (node_history h n) act o
-node_history-own h n act o = ap (λ (b : Bool). cond b (Then (node_history h n) act o) (node_history h n)) (same_itself n)
-
 own_world : (w : World) (n : Id) (history : History) (x : NodeWorld) → node_history history n ≡ x.acts → node_world (with_node w n history x) n ≡ x
-own_world w n history x e = from (same n n) (same_itself n)
+own_world w n history x e = from (same n n) (same_self n)
   where
     at : Bool → NodeWorld
     at b = record { acts = node_history history n; disk = cond b x.disk (w.disks n); down = cond b x.down (w.down n) }
@@ -71,7 +66,7 @@ moves_where n w x v false moves = stays n w
 pub moves_did : (n : Id) (act : Act) (w : World) → NodeMoves n w (after_act n (node_world w n) act) (did w n act)
 moves_did n act w =
     let o : Outcome = outcome_at n (node_world w n) act in
-    moves_to w n (Next w.history n act o) (after_act n (node_world w n) act) (node_history-own w.history n act o) (λ m other. node_history-other w.history n m act o other)
+    moves_to w n (Next w.history n act o) (after_act n (node_world w n) act) (own_deeds w.history n act o) (λ m other. node_history-other w.history n m act o other)
 
 pub moves_did_unless_down : (n : Id) (act : Act) (w : World) → NodeMoves n w (after_unless_down n (node_world w n) act) (did_unless_down w n act)
 moves_did_unless_down n act w = moves_unless n w (after_act n (node_world w n) act) (did w n act) (w.down n) (moves_did n act w)
@@ -87,7 +82,7 @@ moves_ordered n order w = moves_to w n w.history (after_order order (node_world 
 own_opened : (end : CallsEnd) (h : History) (n : Id) (disk : NodeDisk) (found : Kept) → node_history (history_opened end h n found) n ≡ (opened_by end (node_history h n) disk found).acts
 own_opened Done h n disk found =
     let k : Bool = is_kept (node_history h n) found in
-    node_history-own (settled_for n k h) n (Open found) (Answered (Taken None false)) ∙ ap (λ (g : NodeHistory). Then g (Open found) (Answered (Taken None false))) (settled_own n k h)
+    own_deeds (settled_for n k h) n (Open found) (Answered (Taken None false)) ∙ ap (λ (g : NodeHistory). Then g (Open found) (Answered (Taken None false))) (settled_own n k h)
 own_opened Failed h n disk found = refl
 own_opened (CrashedIn way) h n disk found = refl
 
@@ -106,3 +101,8 @@ moves_opened n w =
 
 pub moves_restarted : (n : Id) (w : World) → NodeMoves n w (after_restart (node_world w n)) (restarted w n)
 moves_restarted n w = moves_where n w (after_opening (node_world w n)) (opened w n) (needs_opening (node_world w n)) (moves_opened n w)
+
+-- of two worlds with one history, whichever a test chooses
+pub history_if : (w v : World) (b : Bool) → w.history ≡ v.history → w.history ≡ (if b then w else v).history
+history_if w v true e = refl
+history_if w v false e = e

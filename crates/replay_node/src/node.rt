@@ -1,5 +1,6 @@
 //! `ReplayNode`: one node of a replay. It is open, or down with its disk.
 ghost use Rattle.std.specs.Prelude.{◌≡◌, ◌++◌, Bool, Some, IfOk, IfSome, OnOk};
+ghost use Rattle.cluster_state.specs.Initial.{empty_value};
 ghost use Rattle.cluster_state.specs.States.{IsFitValue};
 ghost use Rattle.world_model.specs.declared.acts.Act.TheVariants as act;
 ghost use Rattle.zen_disk.specs.declared.orders.Order.{Order as DiskOrder};
@@ -20,7 +21,7 @@ use crate::disk::{crashed, empty_disk, restarted, stay_down};
 use crate::message::{FitPublishRequest, SentMessage};
 use crate::state;
 use crate::state::OpenNode;
-use cluster_state::ClusterValue;
+use cluster_state::Settings;
 use coord_state::CoordState;
 use schedule_text::Text;
 use state_journal::{Keeper, OpenError, StateJournal};
@@ -130,6 +131,7 @@ impl ReplayNode {
     }
 
     // Apart from `close`, which every act calls, since a slot is large.
+    #[inline(never)]
     fn go_down(&mut self, alloc: Global)
         ensures me { self.new.me ≡ self.old.me }
         ensures published { self.new.published ≡ self.old.published }
@@ -168,21 +170,22 @@ impl ReplayNode {
         Ok(did)
     }
 
-    /// The node publishes a client's value.
+    /// The node publishes a client's value that has these settings and nothing else. Such a value is all that a schedule gives, and settings
+    /// are small, where a value is large.
     pub fn client_value(
         &mut self,
         alloc: Global,
         version: u64,
         config: &VotingConfig,
-        value: ClusterValue,
+        settings: Settings,
     ) -> Result<Did, AllocError>
-        requires { IsFitValue value }
-        ensures { IfOk result (λ did. NodeDoes self.old self.new (act.Value version config.now value) did) }
+        requires { IsFitValue (record empty_value { settings = settings }) }
+        ensures { IfOk result (λ did. NodeDoes self.old self.new (act.Value version config.now (record empty_value { settings = settings })) did) }
     {
         let Slot::Open(state) = &mut self.slot else {
             return Ok(Did::Down);
         };
-        let did = state::client_value(state, alloc, version, config, value)?;
+        let did = state::client_value(state, alloc, version, config, settings)?;
         self.remember(&did)?;
         self.close(alloc, &did);
         Ok(did)

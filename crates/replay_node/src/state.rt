@@ -1,6 +1,7 @@
 //! The acts of a node whose journal is open, each with what it did.
 ghost use Rattle.std.specs.Prelude.{◌≡◌, ◌≤◌, IfOk, Some, Ok, Option};
 ghost use Rattle.cluster_state.specs.Field.{last_number};
+ghost use Rattle.cluster_state.specs.Initial.{empty_value};
 ghost use Rattle.cluster_state.specs.States.{IsFitValue};
 ghost use Rattle.cluster_state.specs.declared.state.ClusterState.{ClusterState as State};
 ghost use Rattle.coord_state.specs.Outcomes.{join_outcome, response_outcome};
@@ -15,7 +16,9 @@ ghost use Rattle.replay_node.specs.StateDoes.{IsToldBy, StateDoes, WritesText};
 
 use crate::did::{Did, Effects};
 use crate::message::{FitPublishRequest, SentMessage};
-use cluster_state::{ApplyCommit, ClusterState, ClusterValue, Join, PublishResponse, SharedState};
+use cluster_state::{
+    ApplyCommit, ClusterState, ClusterValue, Join, PublishResponse, Settings, SharedState,
+};
 use coord_state::{CoordState, Joined, NotTaken};
 use state_journal::{Keeper, Ready, StateJournal};
 use std::alloc::{AllocError, Global};
@@ -128,17 +131,17 @@ pub fn join(state: &mut OpenNode, join: &Join) -> Result<Did, AllocError>
     }
 }
 
-// The publication of a value that the node has begun. The state is made where it stays.
+// The publication of a value of these settings that the node has begun. The state is made where it stays.
 fn publication(
     state: &OpenNode,
     alloc: Global,
     version: u64,
     config: &VotingConfig,
-    value: ClusterValue,
+    settings: Settings,
 ) -> Result<SentMessage, AllocError>
-    requires value { IsFitValue value }
+    requires value { IsFitValue (record empty_value { settings = settings }) }
     requires version { version ≤ last_number }
-    ensures { IfOk result (λ sent. message_of sent ≡ PublishMessage (request_of journal_ghosts state.now version config.now value)) }
+    ensures { IfOk result (λ sent. message_of sent ≡ PublishMessage (request_of journal_ghosts state.now version config.now (record empty_value { settings = settings }))) }
 {
     // For the proof alone: what is kept is within the limits of a state.
     let kept = state.kept();
@@ -147,29 +150,34 @@ fn publication(
         version,
         config: VotingConfig::of(config.members()),
         committed: VotingConfig::of(kept.committed.members()),
-        value,
+        value: ClusterValue {
+            master: None,
+            members: NodeSet::new(),
+            exclusions: NodeSet::new(),
+            settings,
+        },
     };
     let published = SharedState::of(alloc, published)?;
     let request = FitPublishRequest::of(alloc, state.me(), &published)?;
     Ok(SentMessage::Publish(request))
 }
 
-/// The node publishes a client's value. Answers the publication too, where there is one.
+/// The node publishes a client's value that has these settings and nothing else. Answers the publication too, where there is one.
 pub fn client_value(
     state: &mut OpenNode,
     alloc: Global,
     version: u64,
     config: &VotingConfig,
-    value: ClusterValue,
+    settings: Settings,
 ) -> Result<Did, AllocError>
-    requires { IsFitValue value }
-    ensures does { IfOk result (λ did. StateDoes state.old state.new (act.Value version config.now value) did) }
-    ensures text { IfOk result (λ did. (published : Option State) → WritesText (act.Value version config.now value) published did) }
+    requires { IsFitValue (record empty_value { settings = settings }) }
+    ensures does { IfOk result (λ did. StateDoes state.old state.new (act.Value version config.now (record empty_value { settings = settings })) did) }
+    ensures text { IfOk result (λ did. (published : Option State) → WritesText (act.Value version config.now (record empty_value { settings = settings })) published did) }
 {
-    match state.begin_publication(version, config) {
+    match state.client_value(version, config) {
         Err(error) => ended(state, error.not_taken()),
         Ok(()) => {
-            let sent = publication(state, alloc, version, config, value)?;
+            let sent = publication(state, alloc, version, config, settings)?;
             Ok(Did::sends(Some(sent)))
         }
     }

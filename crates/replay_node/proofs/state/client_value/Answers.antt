@@ -2,6 +2,8 @@ use Rattle.std.proofs.Common.{◌≡◌, ◌≤◌, ℕ, Bool, true, false, cond
 use Rattle.std.proofs.lemmas.Bool.{ltb-false}
 use Rattle.cluster_state.specs.Field.{last_number}
 use Rattle.voting_config.specs.Ids.{Id}
+use Rattle.cluster_state.specs.Initial.{empty_value}
+use Rattle.cluster_state.specs.Settings.{Setting}
 use Rattle.cluster_state.specs.declared.messages.PublishRequest.{PublishRequest}
 use Rattle.cluster_state.specs.declared.state.ClusterValue.{ClusterValue}
 use Rattle.coord_state.specs.StandsFor.{fields_of, request_of}
@@ -38,23 +40,27 @@ version_fits me p version config value request h =
     let e = past (nat_lt last_number version) _ _ _ _ d.1 in
     ltb-false _ _ e.0
 
+-- the value that has these settings and nothing else
+abbrev with_settings : List Setting → ClusterValue
+with_settings settings = record empty_value { settings = settings }
+
 pub publication-requires-clause-version : goal.publication-requires-clause-version
 publication-requires-clause-version c =
     let old = c.args.state.now in
-    let request = request_of journal_ghosts old c.args.version c.args.config.now c.args.value in
-    version_fits old.me (fields_of journal_ghosts old) c.args.version c.args.config.now c.args.value request (c.in-Ok.ensures.act c.args.value).at.answers
+    let request = request_of journal_ghosts old c.args.version c.args.config.now (with_settings c.args.settings) in
+    version_fits old.me (fields_of journal_ghosts old) c.args.version c.args.config.now (with_settings c.args.settings) request (c.in-Ok.ensures.act (with_settings c.args.settings)).at.answers
 
 pub returns-in-Err-clause-does : goal.returns-in-Err-clause-does
 returns-in-Err-clause-does c =
-    told_does c.args.state.now c.begin_publication.new.self (act.Value c.args.version c.args.config.now c.args.value) c.not_taken.result _ refl c.not_taken.ensures
-    (record { acts = c.in-Err.ensures.act c.args.value; wrote = c.in-Err.ensures.wrote c.args.value; any_moment = c.in-Err.ensures.any_moment c.args.value tt }) c.ended.result c.ended.ensures
+    told_does c.args.state.now c.client_value.new.self (act.Value c.args.version c.args.config.now (with_settings c.args.settings)) c.not_taken.result _ refl c.not_taken.ensures
+    (record { acts = c.in-Err.ensures.act (with_settings c.args.settings); wrote = c.in-Err.ensures.wrote (with_settings c.args.settings); any_moment = c.in-Err.ensures.any_moment (with_settings c.args.settings) tt }) c.ended.result c.ended.ensures
 
 pub returns-in_ok-sent-in-Ok-clause-does : goal.returns-in_ok-sent-in-Ok-clause-does
 returns-in_ok-sent-in-Ok-clause-does c =
     let old = c.args.state.now in
-    let new = c.begin_publication.new.self in
-    let published = λ (state : CoordState Journal). PublishMessage (request_of journal_ghosts state c.args.version c.args.config.now c.args.value) in
+    let new = c.client_value.new.self in
+    let published = λ (state : CoordState Journal). PublishMessage (request_of journal_ghosts state c.args.version c.args.config.now (with_settings c.args.settings)) in
     let sent : message_of c.in_ok-sent-in-Ok.sent ≡ published old = c.in_ok-sent-in-Ok.ensures ∙ ap published c.in-Ok.ensures.same in
-    taken_does old new (act.Value c.args.version c.args.config.now c.args.value) (Taken (Some (published old)) false) c.sends.result refl
-    (record { acts = c.in-Ok.ensures.act c.args.value; wrote = c.in-Ok.ensures.wrote c.args.value; any_moment = c.in-Ok.ensures.any_moment c.args.value tt })
+    taken_does old new (act.Value c.args.version c.args.config.now (with_settings c.args.settings)) (Taken (Some (published old)) false) c.sends.result refl
+    (record { acts = c.in-Ok.ensures.act (with_settings c.args.settings); wrote = c.in-Ok.ensures.wrote (with_settings c.args.settings); any_moment = c.in-Ok.ensures.any_moment (with_settings c.args.settings) tt })
     (ap outcome_of c.sends.ensures ∙ ap (λ (m : Message). Some (Answered (Taken (Some m) false))) sent)

@@ -1,5 +1,6 @@
 use Rattle.std.proofs.Common.{◌≡◌, ◌∙◌, ap, subst, IfSome}
 use Rattle.std.specs.Prelude.{Option}
+use Rattle.cluster_state.specs.Initial.{empty_value}
 use Rattle.world_model.specs.declared.acts.Act.TheVariants.{Value}
 use Rattle.world_model.specs.declared.acts.Outcome.{Outcome}
 use Rattle.trace_text.specs.Published.{published_by}
@@ -13,7 +14,7 @@ pub returns : goal.returns
 returns c =
     let old = c.args.self.now in
     let new = c.close.new.self in
-    let act = Value c.args.version c.args.config.now c.args.value in
+    let act = Value c.args.version c.args.config.now (record empty_value { settings = c.args.settings }) in
     let d = c.in_ok-did.did in
     let did = c.in_ok-did.ensures in
     let kept = c.in_ok-remember.ensures in
