@@ -28,15 +28,16 @@ use Rattle.coordinator.specs.Lives.{StandsForLife}
 use Rattle.coordinator.specs.Steps.{IsSealed}
 use Rattle.coordinator.specs.Turns.{Acted, CoreDid}
 use Rattle.std.specs.List.{flat_map}
-use Rattle.world_model.specs.NodeState.{NodeState, halted_of}
+use Rattle.world_model.specs.NodeState.{halted_of}
 use Rattle.replay_node.specs.NodeWorld.{NodeWorld, needs_opening}
 use Rattle.replay_node.specs.Stands.{OpenStands}
 use Rattle.policy_model.specs.declared.events.Event.{Event}
-use Rattle.policy_model.specs.Entries.{Life, Lived, Did as DidEvent, log_of, steps_of, drops_of, frames_of, replies_of, frames_in, drops_in, by_receiver, by_member}
+use Rattle.policy_model.specs.Entries.{Life, Lived, Did as DidEvent, log_of, steps_of, drops_of, frames_of, replies_of, drops_in, by_receiver, by_member}
 use Rattle.policy_model.specs.Events.{And}
 use Rattle.policy_model.specs.Views.{view_of}
 use Rattle.policy_model.specs.Follows.{items_of}
 use Rattle.policy_model.proofs.Answering.{answered-next}
+use Rattle.policy_model.proofs.Faults.{struck-frames, struck-replies}
 use Rattle.coordinator.specs.Limits.{IsWithin}
 use Rattle.coordinator.specs.Steps.{Done, Failed}
 use Rattle.coordinator.specs.Views.{IsReady}
@@ -48,6 +49,7 @@ use Rattle.replay_node.specs.Stands.{CrashedStands}
 use Rattle.schedule_replay.specs.EventEnds.{WholeEvent, StruckEvent, own_course, own_life}
 use Rattle.schedule_replay.specs.OpenNodes.{Node, OpenFor, keeper}
 use Rattle.replay_node.proofs.Carried.{Carries, Nothing, ByAct, ByFault, ByOther, Ending, All, Struck, Carried, carried}
+use Rattle.replay_node.proofs.Opened.{open_asks}
 
 -- one act, in the words of a replayed node
 step_of : (old new : CoordState Journal) (act : Act) (o : Outcome) → Acted keeper old new act o → Step old new act o
@@ -166,34 +168,7 @@ crashed_drops f (Sends frame ∷ is) = crashed_drops f is
 crashed_drops f (Replies answer ∷ is) = crashed_drops f is
 crashed_drops f (Notes note ∷ is) = crashed_drops f is
 
--- what is struck sends nothing
-no_frames : (is left : List Item) → IsStruck is left → flat_map frames_in left ≡ []
-no_frames is left (Here act sends wins rest fault w f) = refl
-no_frames is left (Later (Opens found) rest left' q) = no_frames rest left' q
-no_frames is left (Later (Begins event) rest left' q) = no_frames rest left' q
-no_frames is left (Later (Acts act o) rest left' q) = no_frames rest left' q
-no_frames is left (Later (Turns mode term) rest left' q) = no_frames rest left' q
-no_frames is left (Later (Drops member cause) rest left' q) = no_frames rest left' q
-no_frames is left (Later (Sends frame) rest left' q) = no_frames rest left' q
-no_frames is left (Later (Replies answer) rest left' q) = no_frames rest left' q
-no_frames is left (Later (Notes note) rest left' q) = no_frames rest left' q
-
-no_replies : (is left : List Item) → IsStruck is left → replies_of left ≡ []
-no_replies is left (Here act sends wins rest fault w f) = refl
-no_replies is left (Later (Opens found) rest left' q) = no_replies rest left' q
-no_replies is left (Later (Begins event) rest left' q) = no_replies rest left' q
-no_replies is left (Later (Acts act o) rest left' q) = no_replies rest left' q
-no_replies is left (Later (Turns mode term) rest left' q) = no_replies rest left' q
-no_replies is left (Later (Drops member cause) rest left' q) = no_replies rest left' q
-no_replies is left (Later (Sends frame) rest left' q) = no_replies rest left' q
-no_replies is left (Later (Replies answer) rest left' q) = no_replies rest left' q
-no_replies is left (Later (Notes note) rest left' q) = no_replies rest left' q
-
 -- ---- a node at an event
-
--- an open node is opened again once its journal is halted
-pub open_asks : (me : Id) (c : CoordState Journal) (x : NodeWorld) → OpenStands me c x → needs_opening x ≡ c.keeper.log.stopped
-open_asks me c x o = ap (λ (b : Bool). b || halted_of x.acts) o.up ∙ sym (ap (λ (n : NodeState). n.halted) o.acts)
 
 module _ (s : Settings) (life : Life) (x : NodeWorld) (event : Event) (old new : Node) (stands : OpenFor s old life x) (ready : IsReady new) (running : old.core.keeper.log.stopped ≡ false) where
   abbrev items : List Item
@@ -243,8 +218,8 @@ module _ (s : Settings) (life : Life) (x : NodeWorld) (event : Event) (old new :
       struck = subst (λ (l : List Item). IsStruck items l) is struck;
       steps = ap (λ (l : List Shown). told_as crashed l) failed.entries.steps ∙ told_steps crashed old.core new.core failed.left failed.enters.core ∙ ap (λ (l : List Item). steps_of l) (told_is ∙ is);
       drops = failed.entries.drops ∙ ap by_member (crashed_drops (fault_told crashed) failed.left) ∙ ap (λ (l : List Item). drops_of l) (told_is ∙ is);
-      frames = ap (λ (l : List Item). frames_of l) (sym is) ∙ ap by_receiver (no_frames items done struck);
-      replies = ap (λ (l : List Item). replies_of l) (sym is) ∙ no_replies items done struck;
+      frames = ap (λ (l : List Item). frames_of l) (sym is) ∙ ap by_receiver (struck-frames items done struck);
+      replies = ap (λ (l : List Item). replies_of l) (sym is) ∙ struck-replies items done struck;
       waits = waits;
     }
 

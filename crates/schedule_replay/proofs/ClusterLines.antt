@@ -117,10 +117,10 @@ module _ (nodes initial : List Id) (n : Id) (all : List ClusterNode) (frames : L
       })
 
 -- the echo of a line, and then its results, are its part of the trace
-pub writes_line : (nodes initial : List Id) (old new : List ClusterNode) (frames more : List Frame) (t0 t1 t2 t3 now : List ℕ) (l lit : Line) → l ≡ lit
-    → DoesLine nodes initial old new frames more t3 now (λ c. after nodes initial c lit) (λ c. line_shown nodes initial c lit) → t1 ≡ t0 ++ codes "> " → t2 ≡ t1 ++ line_text l → t3 ≡ t2 ++ codes "\n" → WritesLine nodes initial old new frames more t0 now l
-writes_line nodes initial old new frames more t0 t1 t2 t3 now l lit is does a b d c s =
-    let here : LineDone nodes initial new more (after nodes initial c l) (line_shown nodes initial c l) t3 now =
-    subst (λ (x : Line). LineDone nodes initial new more (after nodes initial c x) (line_shown nodes initial c x) t3 now) (sym is) (does c s)
+pub writes_line : (nodes initial : List Id) (old new : List ClusterNode) (frames more : List Frame) (was echoed now : List ℕ) (l lit : Line) → l ≡ lit
+    → DoesLine nodes initial old new frames more echoed now (λ c. after nodes initial c lit) (λ c. line_shown nodes initial c lit) → echoed ≡ was ++ (codes "> " ++ line_text l ++ codes "\n") → WritesLine nodes initial old new frames more was now l
+writes_line nodes initial old new frames more was echoed now l lit is does echo c s =
+    let here : LineDone nodes initial new more (after nodes initial c l) (line_shown nodes initial c l) echoed now =
+    subst (λ (x : Line). LineDone nodes initial new more (after nodes initial c x) (line_shown nodes initial c x) echoed now) (sym is) (does c s)
     in
-    record { stands = here.stands; written = here.written ∙ rw (d, b, a) (simp append_assoc refl) }
+    record { stands = here.stands; written = here.written ∙ rw echo (simp append_assoc refl) }

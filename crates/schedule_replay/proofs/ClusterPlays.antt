@@ -6,13 +6,14 @@ use Rattle.voting_config.specs.Ids.{Id}
 use Rattle.cluster_state.specs.declared.state.ClusterState.{ClusterState}
 use Rattle.wire_frames.specs.declared.frame.Frame.{Frame}
 use Rattle.world_model.specs.declared.acts.Act.{Act}
-use Rattle.world_model.specs.declared.acts.Act.TheVariants.{Value}
 use Rattle.world_model.specs.declared.acts.Outcome.{Outcome}
-use Rattle.world_model.specs.Acts.{NodeHistory, Then}
+use Rattle.world_model.specs.Acts.{NodeHistory}
 use Rattle.world_model.specs.Histories.{History, Next, node_history, sent, is_opening}
+use Rattle.world_model.proofs.Legal.{own_deeds}
 use Rattle.trace_text.specs.Published.{last_published}
 use Rattle.event_text.specs.Published.{published_in}
 use Rattle.event_text.specs.Steps.{act_lines, mode_line, steps_text}
+use Rattle.event_text.proofs.Histories.{published_by_act}
 use Rattle.policy_model.specs.declared.settings.Settings.{Settings}
 use Rattle.policy_model.specs.declared.events.Step.{Step}
 use Rattle.policy_model.specs.declared.events.Step.TheVariants as step
@@ -25,7 +26,6 @@ use Rattle.replay_node.specs.Course.{Course, act_then, behind, played}
 use Rattle.replay_node.specs.NodeDisk.{CallsEnd, Done, Failed, CrashedIn}
 use Rattle.replay_node.specs.NodeWorld.{act_called, outcome_at}
 use Rattle.replay_node.specs.Worlds.{World, node_world, did}
-use Rattle.replay_node.proofs.Moves.{node_history-own}
 use Rattle.schedule_replay.specs.Steps.{Did}
 use Rattle.schedule_replay.specs.ActShown.{act_shown}
 use Rattle.schedule_replay.specs.ClusterSteps.{Shared, Turned}
@@ -102,12 +102,8 @@ plays_lead n w (Notes note ∷ is) s = leads_behind n w.history (Notes note) (pl
 
 -- ---- their text
 
-published_then : (g : NodeHistory) (act : Act) (o : Outcome) → published_in (last_published g) (step.Act act o) ≡ last_published (Then g act o)
-published_then g (Value version config value) o = refl
-published_then g act o = refl
-
 published_next : (h : History) (n : Id) (act : Act) (o : Outcome) → published_in (last_published (node_history h n)) (step.Act act o) ≡ last_published (node_history (Next h n act o) n)
-published_next h n act o = published_then (node_history h n) act o ∙ ap (λ (g : NodeHistory). last_published g) (sym (node_history-own h n act o))
+published_next h n act o = published_by_act (node_history h n) act o ∙ ap (λ (g : NodeHistory). last_published g) (sym (own_deeds h n act o))
 
 act_piece : (n : Id) (h : History) (fs : List Frame) (act : Act) (o : Outcome) → is_opening act ≡ false → ShowsOutcome n act o
     → Piece h fs (Next h n act o) fs (act_lines n (last_published (node_history h n)) act o) [] (Shared (Did (act_shown (length (sent h)) (last_published (node_history h n)) n act o)) ∷ [])

@@ -1,6 +1,5 @@
 -- A replay of whole nodes, line by line.
-use Rattle.std.proofs.Common.{◌≡◌, ℕ, ◌+◌, ◌<◌, Option, List, [], ◌∷◌, ◌++◌, length, drop, get_or, sym, ◌∙◌, ap, subst, append_assoc, append-nil, add-one, suc}
-use Rattle.std.proofs.Math.Seq.{drop-cons}
+use Rattle.std.proofs.Common.{◌≡◌, ℕ, ◌+◌, ◌<◌, Option, List, [], ◌++◌, length, drop, get_or, sym, ◌∙◌, ap, subst, append_assoc, append-nil}
 use Rattle.voting_config.specs.Ids.{Id}
 use Rattle.wire_frames.specs.declared.frame.Frame.{Frame}
 use Rattle.schedule_text.specs.declared.schedule.Line.{Line}
@@ -12,11 +11,9 @@ use Rattle.schedule_replay.specs.ClusterTrace.{trace_from}
 use Rattle.schedule_replay.specs.declared.cluster.node.ClusterNode.{ClusterNode}
 use Rattle.schedule_replay.specs.ClusterSoFar.{ClusterSoFar}
 use Rattle.schedule_replay.specs.SoFar.{HoldsBack}
+use Rattle.schedule_replay.proofs.Progress.{left_is}
 
 -- what is left begins with the line in hand
-left_is : (lines : List Line) (i : ℕ) (line : Line) → i < length lines → line ≡ get_or lines i line → drop i lines ≡ line ∷ drop (i + 1) lines
-left_is lines i line within is = rw add-one (drop-cons lines i line within ∙ ap (λ (x : Line). x ∷ drop (suc i) lines) (sym is))
-
 module _ (ids initial : List Id) (nodes more : List ClusterNode) (frames sent : List Frame) (was now later : Option (List ℕ)) (held after_held none text : List ℕ) (lines : List Line) (i : ℕ) (line : Line) (all : List ℕ) (within : i < length lines) (is : line ≡ get_or lines i line) (empty : none ≡ []) (m : ClusterSoFar ids initial nodes frames was now held (drop i lines) all) (writes : WritesLine ids initial nodes more frames sent none text line) where
   abbrev tail : List ℕ
   tail = trace_from ids initial (after ids initial m.cluster line) (drop (i + 1) lines)

@@ -1,5 +1,5 @@
 -- A node that is opened, and what a crash between two events makes of it.
-use Rattle.std.proofs.Common.{◌≡◌, ℕ, Bool, true, false, ◌||◌, None, Ok, List, [], ◌++◌, append-nil, append_assoc, length, refl, sym, ◌∙◌, ap, subst, inl, if◌then◌else◌}
+use Rattle.std.proofs.Common.{◌≡◌, ℕ, Bool, true, false, ◌||◌, None, List, [], ◌++◌, append-nil, append_assoc, length, refl, sym, ◌∙◌, ap, subst, inl, if◌then◌else◌}
 use Rattle.std.specs.Prelude.{Result}
 use Rattle.std.specs.Result.{result_unwrap_or}
 use Rattle.voting_config.specs.Ids.{Id}
@@ -7,11 +7,8 @@ use Rattle.cluster_state.specs.Initial.{empty_record}
 use Rattle.cluster_state.specs.declared.state.Kept.{Kept}
 use Rattle.wire_frames.specs.declared.frame.Frame.{Frame}
 use Rattle.zen_disk.specs.MemDisks.{read_of}
-use Rattle.zen_disk.specs.Sides.{Files}
 use Rattle.zen_disk.specs.declared.orders.Way.{Way}
-use Rattle.gate_log.specs.Generations.{generations_of}
-use Rattle.gate_log.specs.Journal.{bodies_of}
-use Rattle.state_journal.specs.Journal.{folded_from, found_of}
+use Rattle.state_journal.specs.Journal.{found_of}
 use Rattle.state_journal.specs.declared.why.Why.{Why}
 use Rattle.world_model.specs.declared.acts.Act.TheVariants.{Open as OpenAct}
 use Rattle.world_model.specs.declared.acts.ActReply.TheVariants.{Taken}
@@ -20,7 +17,7 @@ use Rattle.world_model.specs.Acts.{NodeHistory, NoActs, Then}
 use Rattle.world_model.specs.Histories.{ContinuesUnlessFirst}
 use Rattle.world_model.specs.NodeState.{durable_of, halted_of}
 use Rattle.trace_text.specs.Trace.{crashed_line, down_line, record_line, up_line}
-use Rattle.replay_node.specs.NodeDisk.{NodeDisk, CallsEnd, Done, Failed, CrashedIn, bytes_read, no_files, opening, MemFuse}
+use Rattle.replay_node.specs.NodeDisk.{NodeDisk, CallsEnd, Done, Failed, CrashedIn, bytes_read, opening, MemFuse}
 use Rattle.replay_node.specs.NodeLines.{stop_text}
 use Rattle.replay_node.specs.NodeWorld.{NodeWorld, after_crash, after_opening, found_at, fresh_node, needs_opening, opened_by, opening_text}
 use Rattle.replay_node.specs.Opens.{Opens}
@@ -30,7 +27,7 @@ use Rattle.replay_node.specs.Stands.{Journal, DownStands, OpenStands}
 use Rattle.replay_node.specs.declared.node.Slot.TheVariants.{Open as CoreOpen, Down as CoreDown}
 use Rattle.replay_node.proofs.AsSaid.{crashed_stands}
 use Rattle.replay_node.proofs.Nodes.{leaves_less, open_leaves, CrashedAs}
-use Rattle.replay_node.proofs.Opened.{JustOpened, JustOver, opens, new_stands, IsEmptyDisk}
+use Rattle.replay_node.proofs.Opened.{JustOpened, JustOver, opens, new_stands, IsEmptyDisk, open_asks, empty_found}
 use Rattle.replay_node.proofs.Settling.{settled_published}
 use Rattle.policy_model.specs.declared.settings.Settings.{Settings}
 use Rattle.policy_model.specs.declared.events.Event.TheVariants.{Start}
@@ -47,7 +44,6 @@ use Rattle.schedule_replay.specs.OpenNodes.{Node, OpenFor, keeper}
 use Rattle.schedule_replay.specs.declared.cluster.node.ClusterNode.{ClusterNode}
 use Rattle.schedule_replay.specs.declared.cluster.node.Slot.{Slot}
 use Rattle.schedule_replay.specs.declared.cluster.node.Slot.TheVariants.{Open, Down}
-use Rattle.schedule_replay.proofs.Bridge.{open_asks}
 use Rattle.replay_node.proofs.Lives.{settled_acts, settled_follows}
 
 -- ---- a crash between two events
@@ -257,10 +253,6 @@ still_up s own old node frames was now slot runs written stands = by (needs_open
     }
 
 -- ---- a node that is opened for the first time
-
-empty_found : (files : Files) (kept : Kept) → files ≡ bytes_read no_files → found_of files ≡ Ok kept → kept ≡ empty_record
-unfolding generations_of bodies_of folded_from
-empty_found files kept empty is = let same : found_of (bytes_read no_files) ≡ Ok kept = ap found_of (sym empty) ∙ is in cc
 
 pub first_open : (s : Settings) (fuse : MemFuse) → IsEmptyDisk fuse → (j : Journal) → JustOpened fuse j → (node : Node) → OverJournal s j node → OpenFor s node NotBegun fresh_node
 first_open s fuse empty j is node over = record {

@@ -21,7 +21,7 @@ abbrev pub last_world : Schedule → World
 last_world s = replayed_from s.initial fresh_world s.lines
 
 -- what is left begins with the line in hand
-left_is : (lines : List Line) (i : ℕ) (line : Line) → i < length lines → line ≡ get_or lines i line → drop i lines ≡ line ∷ drop (i + 1) lines
+pub left_is : (lines : List Line) (i : ℕ) (line : Line) → i < length lines → line ≡ get_or lines i line → drop i lines ≡ line ∷ drop (i + 1) lines
 left_is lines i line within is = rw add-one (drop-cons lines i line within ∙ ap (λ (x : Line). x ∷ drop (suc i) lines) (sym is))
 
 module _ (ids initial : List Id) (nodes more : List ReplayNode) (messages sent : List SentMessage) (was now later : Option (List ℕ)) (held after_held none text : List ℕ) (lines : List Line) (i : ℕ) (line : Line) (all : List ℕ) (end : World) (within : i < length lines) (is : line ≡ get_or lines i line) (empty : none ≡ []) (m : SoFar ids initial nodes messages was now held (drop i lines) all end) (writes : WritesLine ids initial nodes more messages sent none text line) where

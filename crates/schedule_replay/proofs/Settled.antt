@@ -14,18 +14,11 @@ use Rattle.world_model.specs.NodeState.{term_of, accepted_of, halted_of}
 use Rattle.world_model.specs.Histories.{History, NoEntries, Next, node_history, is_opening, is_down, MayFollow, IsLocal, IsLegal}
 use Rattle.world_model.specs.Safety.{Win, winners, Published, published, published_by}
 use Rattle.world_model.proofs.Assemble.{legal_is}
-use Rattle.voting_config.proofs.Sets.{same_is, same_self}
+use Rattle.voting_config.proofs.Sets.{same_is, same_flipped}
 use Rattle.replay_node.specs.Settled.{settled_entry, settled_for, IsUnstruck}
 use Rattle.replay_node.proofs.AllSettled.{settled_own, settled_other}
 use Rattle.replay_node.proofs.Settling.{unstruck}
 use Rattle.replay_node.proofs.SettledLocal.{still, halted_reply}
-
-differs : (x y : Id) → same x y ≡ false → same y x ≡ false
-differs x y e = from (same y x) refl
-  where
-    from : (b : Bool) → same y x ≡ b → b ≡ false
-    from false d = refl
-    from true d = absurd (both_ways _ e (subst (λ (z : Id). same x z ≡ true) (sym (same_is y x d)) (same_self x)))
 
 not_taken : {A : Type 0} (reply : ActReply) → reply ≡ Stopped → is_ok (Answered reply) ≡ true → A
 not_taken (Taken s w) e k = cc
@@ -78,7 +71,7 @@ module _ {X : Type 0} (list : History → List X) (add : NodeHistory → Id → 
       from true e r =
           subst (λ (m : Id). list (settled_for m k h) ≡ list h → list (settled_entry k h (settled_for m k h) node act o) ≡ list (Next h node act o)) (same_is node n e)
           (own_entry k h node act o (((legal_is initial h).0 l.0).0 node).0 l.1.follows) r
-      from false e r = lengthened h (settled_for n k h) node act o r (λ t. settled_other n node k h (differs node n e))
+      from false e r = lengthened h (settled_for n k h) node act o r (λ t. settled_other n node k h (same_flipped n node ∙ e))
 
 -- ---- wins
 

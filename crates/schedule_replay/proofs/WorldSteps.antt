@@ -25,6 +25,7 @@ use Rattle.replay_node.specs.Worlds.{World, crashed, did, did_unless_down, histo
 use Rattle.schedule_replay.specs.WorldStands.{ActDone, AllStand, Stands}
 use Rattle.replay_node.proofs.AllSettled.{settled_own, settled_other, settled_sent}
 use Rattle.replay_node.proofs.Settling.{settled_takes}
+use Rattle.replay_node.proofs.Moves.{history_if}
 use Rattle.schedule_replay.proofs.Sources.{more_from, takes_next}
 use Rattle.voting_config.proofs.Sets.{same_is}
 
@@ -65,10 +66,6 @@ same_history ids old new messages w v e s stand = record {
   few = s.few;
   ascending = s.ascending;
 }
-
-history_if : (w v : World) (b : Bool) → w.history ≡ v.history → w.history ≡ (if b then w else v).history
-history_if w v true e = refl
-history_if w v false e = e
 
 pub stopped : (ids : List Id) (old new : List ReplayNode) (messages : List SentMessage) (w : World) (n : Id) (way : Way) → Stands ids old messages w → AllStand ids new (crashed w n way) → Stands ids new messages (crashed w n way)
 stopped ids old new messages w n way s stand = same_history ids old new messages w (crashed w n way) (history_if w _ (w.down n) refl) s stand

@@ -20,6 +20,7 @@ use cluster_state::{ClusterValue, Settings};
 use replay_node::{Did, ReplayNode, SentMessage, write_delivery, write_did};
 use schedule_text::{IdList, Line, Schedule, SettingText, Text};
 use std::alloc::{AllocError, Global};
+use std::mem;
 use trace_text::{write_boot, write_down, write_start_join, write_value};
 use voting_config::{NodeId, NodeSet, VotingConfig};
 use zen_disk::{Order, Way};
@@ -31,6 +32,9 @@ pub struct Replayer {
     pub sent: Vec<SentMessage>,
     // The act in hand, as the trace shows it.
     act: Text,
+    // The configuration and the value of the line in hand. Both are large, so that these stay in their place for all lines.
+    config: VotingConfig,
+    value: ClusterValue,
 }
 
 impl Replayer {
@@ -45,6 +49,8 @@ impl Replayer {
             nodes,
             sent: Vec::new(alloc),
             act: Text::new(alloc),
+            config: VotingConfig::of(&NodeSet::new()),
+            value: ClusterValue::empty(alloc),
         })
     }
 
@@ -202,13 +208,14 @@ impl Replayer {
         requires stands { (w : World) × Stands ids.now self.old.nodes.items self.old.sent.items w }
         ensures done { OnOk result (DoesLine ids.now self.old.nodes.items self.new.nodes.items self.old.sent.items self.new.sent.items text.old text.new (λ w. did_unless_down w n (act.Value version config.now (value_with setting))) (λ w. results_of w n (act.Value version config.now (value_with setting)))) }
     {
-        let config = VotingConfig::of(&config.to_set());
-        let value = value_of(settings_of(alloc, setting)?);
+        self.config.copy_from(&config.to_set());
+        set_value(&mut self.value, settings_of(alloc, setting)?);
         self.act.clear();
-        write_value(&mut self.act, alloc, version, &config, &value)?;
+        write_value(&mut self.act, alloc, version, &self.config, &self.value)?;
+        let settings = mem::replace(&mut self.value.settings, Settings::new(alloc));
         let place = place_of(ids.as_slice(), n);
         let nodes = self.nodes.as_mut_slice();
-        let did = nodes[place].client_value(alloc, version, &config, value)?;
+        let did = nodes[place].client_value(alloc, version, &self.config, settings)?;
         self.finish(n, did, text)
     }
 
@@ -319,16 +326,14 @@ fn settings_of(alloc: Global, setting: SettingText) -> Result<Settings, AllocErr
     Ok(settings)
 }
 
-// The value that has these settings and nothing else.
-fn value_of(settings: Settings) -> ClusterValue
-    ensures { result ≡ record empty_value { settings = settings } }
+// Makes it the value that has these settings and nothing else, in its place.
+fn set_value(value: &mut ClusterValue, settings: Settings)
+    ensures { value.new ≡ record empty_value { settings = settings } }
 {
-    ClusterValue {
-        master: None,
-        members: NodeSet::new(),
-        exclusions: NodeSet::new(),
-        settings,
-    }
+    value.master = None;
+    value.members.clear();
+    value.exclusions.clear();
+    value.settings = settings;
 }
 
 // Nodes that have opened their journals on empty disks.

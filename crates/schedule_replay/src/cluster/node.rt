@@ -15,7 +15,7 @@ ghost use Rattle.replay_node.specs.Clusters.{settings_of as settings_in};
 ghost use Rattle.schedule_replay.specs.Openings.{ClosedFor, OverJournal, Reopens, Restarts, fresh_own};
 
 use crate::cluster::stepping::{Ended, OpenNode, step};
-use cluster_state::ClusterState;
+use cluster_state::SharedState;
 use coordinator::{Coordinator, Entries, Sealed};
 use event_text::{write_event, write_struck_event};
 use policy_model::{Event, NodeIds, Settings};
@@ -42,7 +42,7 @@ pub enum Slot {
 pub struct ClusterNode {
     pub me: NodeId,
     pub slot: Slot,
-    pub published: Option<ClusterState>,
+    pub published: Option<SharedState>,
 }
 
 // Takes a slot out, and leaves a node that is down on an empty disk.
@@ -56,7 +56,7 @@ fn take_slot(slot: &mut Slot, alloc: Global) -> Slot
 fn show_whole(
     alloc: Global,
     me: NodeId,
-    published: &mut Option<ClusterState>,
+    published: &mut Option<SharedState>,
     sealed: Sealed,
     frames: &mut Vec<Frame>,
     text: &mut Text,
@@ -86,7 +86,7 @@ fn show_whole(
 fn show_struck(
     alloc: Global,
     me: NodeId,
-    published: &mut Option<ClusterState>,
+    published: &mut Option<SharedState>,
     entries: &Entries,
     crashed: bool,
     text: &mut Text,

@@ -61,9 +61,7 @@ impl ClusterReplayer {
         requires stands { (c : Cluster) × ClusterFor schedule.now.nodes schedule.now.initial self.old.nodes.items self.old.frames.items c }
         ensures done { OnOk result (WritesLine schedule.now.nodes schedule.now.initial self.old.nodes.items self.new.nodes.items self.old.frames.items self.new.frames.items text.old text.new line.now) }
     {
-        text.word("> ")?;
-        text.line(line)?;
-        text.word("\n")?;
+        text.echo(line)?;
         match line {
             Line::Tick(n, now, word) => self.tick(alloc, schedule, *n, *now, *word, text)?,
             Line::Client(n, bytes) => self.client(alloc, schedule, *n, bytes, text)?,
