@@ -8,10 +8,11 @@ use Rattle.world_model.specs.declared.acts.Outcome.{Outcome}
 use Rattle.world_model.specs.declared.acts.Outcome.TheVariants.{Answered, Disk, Crashed}
 use Rattle.world_model.specs.Acts.{NodeHistory, Then}
 use Rattle.world_model.specs.Replies.{writes}
-use Rattle.world_model.specs.NodeState.{NodeState, durable_of}
+use Rattle.world_model.specs.NodeState.{durable_of}
 use Rattle.coord_state.specs.declared.coord.CoordState.{CoordState}
 use Rattle.coord_state.specs.StandsFor.{StandsFor}
 use Rattle.coord_state.specs.Writes.{IsDuring}
+use Rattle.coord_state.proofs.Standing.{stands_durable}
 use Rattle.coordinator.specs.Turns.{CoreDid}
 use Rattle.coordinator.proofs.Entering.{did_run}
 use Rattle.policy_model.specs.declared.events.Event.{Event}
@@ -56,14 +57,10 @@ module _ {K : Type 0} (k : Ghosts K)
   abbrev Stands : CoordState K → NodeHistory → Type 0
   Stands c g = StandsFor k c g
 
-  -- the record that is kept is that of the acts
-  pub kept_is : (c : CoordState K) (g : NodeHistory) → Stands c g → k.record_of c.keeper ≡ durable_of g
-  kept_is c g s = ap (λ (n : NodeState). let r : Kept = record { term = n.term; accepted = n.accepted; committed = n.committed } in r) s
-
   -- between two calls a crash leaves it
   kept_at : (c : CoordState K) (g : NodeHistory) → k.told → k.has_stopped c.keeper ≡ false → Stands c g
       → (found : Option Kept) → k.left_since c.keeper (k.moment c.keeper) found → found ≡ Some (durable_of g)
-  kept_at c g told runs s found left = only_kept c.keeper found told runs left ∙ ap (λ (r : Kept). Some r) (kept_is c g s)
+  kept_at c g told runs s found left = only_kept c.keeper found told runs left ∙ ap (λ (r : Kept). Some r) (stands_durable k c g s)
 
   -- since the struck act began
   struck_leaves : (old new : CoordState K) (l : Log) (items left : List Item) → IsStruck items left → has_fault items ≡ false → CoreDid k old new left

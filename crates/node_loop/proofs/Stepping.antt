@@ -1,6 +1,5 @@
 -- What a step of the coordinator is for the node's life.
-use Rattle.std.proofs.Common.{◌≡◌, ℕ, Bool, true, false, ◌⊎◌, inl, inr, Option, Some, List, [], ◌∷◌, refl, sym, ap, subst, ◌∙◌}
-use Rattle.std.specs.List.{flat_map}
+use Rattle.std.proofs.Common.{◌≡◌, ℕ, true, false, ◌⊎◌, inl, inr, Option, Some, List, [], ◌∷◌, refl, sym, ap, subst, ◌∙◌}
 use Rattle.zen_disk.specs.Moments.{LeavesOnly}
 use Rattle.cluster_state.specs.declared.state.Kept.{Kept}
 use Rattle.state_journal.specs.declared.keeper.Keeper.{Ghosts}
@@ -11,47 +10,20 @@ use Rattle.coordinator.specs.declared.step.Sealed.{Sealed}
 use Rattle.coordinator.specs.Lives.{StandsForLife, Survives}
 use Rattle.coordinator.specs.Steps.{Done as DoneBy, Failed}
 use Rattle.coordinator.specs.Turns.{IsAlong}
-use Rattle.coordinator.proofs.Entering.{faultless_next}
 use Rattle.policy_model.specs.declared.settings.Settings.{Settings}
 use Rattle.policy_model.specs.declared.events.Event.{Event}
-use Rattle.policy_model.specs.Events.{Item, Opens, Begins, Acts, Turns, Drops, Sends, Replies, Notes, And, acts_of}
-use Rattle.policy_model.specs.Entries.{Life, Lived, Did, log_of, frames_of, frames_in, replies_of, by_receiver}
-use Rattle.policy_model.specs.Follows.{IsStruck, Here, Later, has_fault, is_start, starts_next, items_of}
+use Rattle.policy_model.specs.Events.{Item, Begins, And, acts_of}
+use Rattle.policy_model.specs.Entries.{Life, Lived, Did, log_of, frames_of, by_receiver}
+use Rattle.policy_model.specs.Follows.{IsStruck, has_fault, is_start, starts_next, items_of}
 use Rattle.policy_model.specs.Views.{View, view_of}
 use Rattle.policy_model.proofs.Locals.{struck_fault}
+use Rattle.policy_model.proofs.Faults.{next-fault, struck-frames, struck-replies}
 use Rattle.node_loop.specs.declared.lines.LastSent.{LastSent}
 use Rattle.node_loop.specs.Crashes.{Holds, IsLeftAlong}
 use Rattle.node_loop.specs.Reporting.{Reports, AreLined, sent_of}
 use Rattle.node_loop.specs.Steps.{Does, IsHalted}
 use Rattle.node_loop.specs.Texts.{entry_text}
 use Rattle.node_loop.proofs.Lasting.{leaves_now, leaves_struck}
-
--- an event that is struck sends nothing
-struck_frames : (is left : List Item) → IsStruck is left → flat_map frames_in left ≡ []
-struck_frames is left (Here act sends wins rest fault w f) = refl
-struck_frames is left (Later (Opens found) rest left' q) = struck_frames rest left' q
-struck_frames is left (Later (Begins event) rest left' q) = struck_frames rest left' q
-struck_frames is left (Later (Acts act o) rest left' q) = struck_frames rest left' q
-struck_frames is left (Later (Turns mode term) rest left' q) = struck_frames rest left' q
-struck_frames is left (Later (Drops member cause) rest left' q) = struck_frames rest left' q
-struck_frames is left (Later (Sends frame) rest left' q) = struck_frames rest left' q
-struck_frames is left (Later (Replies answer) rest left' q) = struck_frames rest left' q
-struck_frames is left (Later (Notes note) rest left' q) = struck_frames rest left' q
-
-struck_replies : (is left : List Item) → IsStruck is left → replies_of left ≡ []
-struck_replies is left (Here act sends wins rest fault w f) = refl
-struck_replies is left (Later (Opens found) rest left' q) = struck_replies rest left' q
-struck_replies is left (Later (Begins event) rest left' q) = struck_replies rest left' q
-struck_replies is left (Later (Acts act o) rest left' q) = struck_replies rest left' q
-struck_replies is left (Later (Turns mode term) rest left' q) = struck_replies rest left' q
-struck_replies is left (Later (Drops member cause) rest left' q) = struck_replies rest left' q
-struck_replies is left (Later (Sends frame) rest left' q) = struck_replies rest left' q
-struck_replies is left (Later (Replies answer) rest left' q) = struck_replies rest left' q
-struck_replies is left (Later (Notes note) rest left' q) = struck_replies rest left' q
-
-pub runs_on : (stopped : Bool) → (stopped ≡ true → ⊥) → stopped ≡ false
-runs_on true never = absurd (never refl)
-runs_on false never = refl
 
 module _ {C K : Type 0} (k : Ghosts K)
     (only_kept : (keeper : K) (found : Option Kept) → k.told → k.has_stopped keeper ≡ false → k.left_since keeper (k.moment keeper) found → found ≡ Some (k.record_of keeper))
@@ -97,7 +69,7 @@ module _ {C K : Type 0} (k : Ghosts K)
       → Does (holds_in old life) (entry_text s) s life event new sent_of (record { sealed = sealed; lines = lines })
   did old new s life event sealed lines r start runs done survives lined =
       let items = items_of (node_in old).settings (log_of life) event in
-      let whole : has_fault items ≡ false = faultless_next (node_in old).settings (view_of (node_in old).settings (And (log_of life) (Begins event))) event in
+      let whole : has_fault items ≡ false = next-fault (node_in old).settings (view_of (node_in old).settings (And (log_of life) (Begins event))) event in
       let written = lined s life event items refl r.lines done.seals.entries done.seals.sends done.seals.replies in
       record {
         items = items;
@@ -133,10 +105,10 @@ module _ {C K : Type 0} (k : Ghosts K)
       → IsHalted (holds_in old life) (entry_text s) s life event new lines
   broke old new s life event told lines r start runs failed survives lined =
       let items = items_of (node_in old).settings (log_of life) event in
-      let whole : has_fault items ≡ false = faultless_next (node_in old).settings (view_of (node_in old).settings (And (log_of life) (Begins event))) event in
+      let whole : has_fault items ≡ false = next-fault (node_in old).settings (view_of (node_in old).settings (And (log_of life) (Begins event))) event in
       let fault : has_fault failed.left ≡ true = struck_fault items failed.left failed.struck in
-      let unsent = sym (ap by_receiver (struck_frames items failed.left failed.struck)) in
-      let written = lined s life event failed.left refl r.lines failed.entries unsent (sym (struck_replies items failed.left failed.struck)) in
+      let unsent = sym (ap by_receiver (struck-frames items failed.left failed.struck)) in
+      let written = lined s life event failed.left refl r.lines failed.entries unsent (sym (struck-replies items failed.left failed.struck)) in
       record {
         items = failed.left;
         next = record {

@@ -3,6 +3,7 @@ use Rattle.std.proofs.Common.{◌≡◌, ℕ, true, false, IsTrue, Option, None,
 use Rattle.std.proofs.lemmas.List.{map-append}
 use Rattle.std.proofs.lemmas.Grind.{flat_map-append}
 use Rattle.std.specs.List.{flat_map}
+use Rattle.std.proofs.lemmas.Option.{same_Some}
 use Rattle.zen_link.specs.Streams.{Appended, AppendedFront}
 use Rattle.policy_model.specs.declared.settings.Settings.{Settings}
 use Rattle.policy_model.specs.Entries.{Life, Lived}
@@ -20,9 +21,6 @@ use Rattle.policy_model.specs.Entries.{Entry}
 use Rattle.node_loop.specs.Tells.{Tells, HasCauses, IsUp, says_all, does_all, Grows, seen}
 use Rattle.zen_link.proofs.Appending.{appended_more, appended_none}
 
-some_same : {A : Type 0} (x y : A) → Some x ≡ Some y → x ≡ y
-some_same x y e = cc
-
 module _ {X : Type 0} (output : X → Output) where
   pub grows_none : (was now : Option (List (Traffic X))) → now ≡ was → Grows output was now []
   grows_none was now e all told = record { before = all; told = sym e ∙ told; grown = sym (append-nil (map (seen output) all)) }
@@ -30,7 +28,7 @@ module _ {X : Type 0} (output : X → Output) where
   pub grows_last : (was now : Option (List (Traffic X))) (x : Traffic X) → now ≡ with_last was x → Grows output was now (seen output x ∷ [])
   grows_last None now x e all told = absurd cc
   grows_last (Some xs) now x e all told =
-      let same : all ≡ xs ++ x ∷ [] = some_same _ _ (sym told ∙ e) in
+      let same : all ≡ xs ++ x ∷ [] = same_Some _ _ (sym told ∙ e) in
       record { before = xs; told = refl; grown = ap (map (seen output)) same ∙ map-append (seen output) xs (x ∷ []) }
 
   pub grows_added : (was now : Option (List (Traffic X))) (x : Traffic X) (a b : ℕ) → Adds was now x a b → Grows output was now (seen output x ∷ [])

@@ -1,6 +1,7 @@
 -- How readers and inputs go together over turns.
 use Rattle.std.proofs.Common.{◌||◌, ◌+◌, append_assoc, length-append, ◌≡◌, ℕ, ◌≤◌, ◌<◌, ◌==◌, Bool, true, false, Option, None, Some, List, [], ◌∷◌, ◌++◌, map, refl, sym, ap, subst, ◌∙◌, get_or, slice_set, length, eq-eqb, append-nil, arith}
 use Rattle.std.proofs.lemmas.List.{get_or-set_same, get_or-set_other}
+use Rattle.std.proofs.Math.Bool.{or-false}
 use Rattle.std.proofs.lemmas.Bool.{eqb-true, eqb-false, or_parts}
 use Rattle.policy_model.specs.declared.settings.Settings.{Settings}
 use Rattle.policy_model.specs.declared.events.Event.TheVariants.{Start}
@@ -68,12 +69,8 @@ closed_reads readings now conn intakes all reads set =
     subst (λ r. Reads r (Then intakes (Read (Closed conn)))) (sym set)
     (reads_set readings conn Fresh intakes (Read (Closed conn)) all reads (rw (itself conn) refl) (λ c other. rw other refl))
 
-or_false : (t : Bool) → t ≡ (t || false)
-or_false true = refl
-or_false false = refl
-
 stop_in : (intake : Intake) (input : Input) → inputs_in intake ≡ input ∷ [] → is_stop_input input ≡ has_stop (intake ∷ [])
-stop_in (Read i) input e = let same : i ≡ input = cc in subst (λ (k : Input). is_stop_input k ≡ (is_stop_input i || false)) same (or_false (is_stop_input i))
+stop_in (Read i) input e = let same : i ≡ input = cc in subst (λ (k : Input). is_stop_input k ≡ (is_stop_input i || false)) same (sym (or-false (is_stop_input i)))
 stop_in (Unread conn bytes) input e = let same : Bytes conn bytes ≡ input = cc in subst (λ (k : Input). is_stop_input k ≡ false) same refl
 stop_in Refused input e = absurd cc
 

@@ -5,7 +5,7 @@ ghost use Rattle.policy_model.specs.declared.events.Event.TheVariants.{Tick as T
 ghost use Rattle.node_loop.specs.Texts.{event_line, event_lines, fault_text, next_number, numbered, number_after, bad_line, gone_line};
 ghost use Rattle.event_text.specs.Published.{published_after};
 
-use cluster_state::{ClusterState, FieldError, LAST_NUMBER};
+use cluster_state::{FieldError, LAST_NUMBER, SharedState};
 use event_text::{write_drops, write_frame_line, write_message, write_replies, write_steps};
 use master_tasks::Outgoing;
 use policy_model::{Event, MemberDrop, Step};
@@ -18,7 +18,7 @@ use wire_frames::{Frame, FrameFault};
 #[derive(Drop)]
 pub struct LastSent {
     /// The state that the node published last.
-    pub published: Option<ClusterState>,
+    pub published: Option<SharedState>,
     /// The number of its last frame.
     pub number: u64,
 }

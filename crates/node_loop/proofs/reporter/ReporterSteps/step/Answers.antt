@@ -1,6 +1,7 @@
 use Rattle.std.proofs.Common.{sym, ap, subst, ◌∙◌}
+use Rattle.std.proofs.lemmas.Bool.{false_from_ne_true}
 use Rattle.coordinator.specs.Steps.{AreEntries}
-use Rattle.node_loop.proofs.Stepping.{did, broke, runs_on}
+use Rattle.node_loop.proofs.Stepping.{did, broke}
 use Rattle.node_loop.proofs.reporter.ReporterSteps.step.Goals as goal
 
 pub invariant_of-self : goal.invariant_of-self
@@ -36,7 +37,7 @@ invariant_of-self-in-Err-Stopped g c =
 pub returns-in-Ok-clause-steps : goal.returns-in-Ok-clause-steps
 returns-in-Ok-clause-steps g c s life stands start =
     did g.K.Keeper g.met.K.Keeper.only_kept (λ r. r.node) (λ r. r.told) c.args.self.now _ s life c.args.event c.in-Ok.sealed c.report-lines.result stands start
-    (runs_on _ (λ stopped. absurd (let never = c.in-Ok.ensures.stopped.1 stopped in cc)))
+    (false_from_ne_true _ (λ stopped. absurd (let never = c.in-Ok.ensures.stopped.1 stopped in cc)))
     (c.in-Ok.ensures.steps life stands.stands) c.step.ensures.crash
     (λ s2 life2 event items me right are sent answered. c.report-lines.ensures s2 life2 event items (c.args.self.now.own ∙ ap (λ x. x.me) stands.settings ∙ me) right
     (subst (λ e. AreEntries event items e) (sym c.entries.ensures) are)
@@ -45,6 +46,6 @@ returns-in-Ok-clause-steps g c s life stands start =
 pub returns-in-Err-Disk-clause-steps : goal.returns-in-Err-Disk-clause-steps
 returns-in-Err-Disk-clause-steps g c s life stands start =
     broke g.K.Keeper g.met.K.Keeper.only_kept (λ r. r.node) (λ r. r.told) c.args.self.now _ s life c.args.event c.in-Err-Disk.entries c.report.result stands start
-    (runs_on _ (λ stopped. absurd (let never = c.in-Err-Disk.ensures.stopped.1 stopped in let is = c.in-Err-Disk.field-0-is in cc)))
+    (false_from_ne_true _ (λ stopped. absurd (let never = c.in-Err-Disk.ensures.stopped.1 stopped in let is = c.in-Err-Disk.field-0-is in cc)))
     (rw c.in-Err-Disk.field-0-is at (c.in-Err-Disk.ensures.steps life stands.stands)) c.step.ensures.crash
     (λ s2 life2 event items me. c.report.ensures s2 life2 event items (c.args.self.now.own ∙ ap (λ x. x.me) stands.settings ∙ me))
