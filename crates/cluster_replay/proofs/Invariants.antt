@@ -1,5 +1,5 @@
 -- What each line of a schedule keeps true of all nodes, and of one node.
-use Rattle.std.proofs.Common.{◌≡◌, ℕ, zero, suc, Bool, true, false, ◌||◌, ◌⊎◌, inl, inr, cond, Some, List, [], ◌∷◌, refl, sym, ◌∙◌, ap, subst, slice_get, if◌then◌else◌}
+use Rattle.std.proofs.Common.{◌≡◌, Bool, true, false, ◌||◌, ◌⊎◌, inl, inr, cond, Some, List, [], ◌∷◌, refl, sym, ◌∙◌, ap, subst, if◌then◌else◌}
 use Rattle.std.specs.List.{flat_map, AllByRecursion, Contains, list_all}
 use Rattle.std.proofs.lemmas.Bool.{and_parts}
 use Rattle.std.proofs.lemmas.Option.{slice_get-get_or}
@@ -10,7 +10,7 @@ use Rattle.world_model.specs.Histories.{sent}
 use Rattle.voting_config.proofs.Sets.{same_is}
 use Rattle.replay_node.specs.NodeWorld.{NodeWorld, needs_opening}
 use Rattle.replay_node.specs.Worlds.{World, node_world}
-use Rattle.master_tasks.proofs.Limits.{each_append}
+use Rattle.master_tasks.proofs.Limits.{each_append, each_at}
 use Rattle.policy_model.specs.declared.settings.Settings.{Settings}
 use Rattle.policy_model.specs.declared.events.Event.{Event}
 use Rattle.policy_model.specs.declared.events.Event.TheVariants.{Start, Tick, Frame as FrameCame, Client as LineCame}
@@ -64,13 +64,8 @@ pub good-more : (ms ns : List Message) (fs : List Frame) → Covers ms ns → Al
 good-more ms ns [] c h = tt
 good-more ms ns (f ∷ fs) c h = (record { from = h.0.from; sent = sent-covers ms ns f.from f.to f.message c h.0.sent }, good-more ms ns fs c h.1)
 
-pub all-at : {A : Type 0} (P : A → Type 0) (xs : List A) (k : ℕ) (x : A) → AllByRecursion P xs → slice_get xs k ≡ Some x → P x
-all-at P [] k x h e = absurd (cc)
-all-at P (y ∷ ys) zero x h e = let is : y ≡ x = cc in subst P is h.0
-all-at P (y ∷ ys) (suc k) x h e = all-at P ys k x h.1 e
-
 pub contained : {A : Type 0} (P : A → Type 0) (xs : List A) (x : A) → AllByRecursion P xs → Contains xs x → P x
-contained P xs x h k = all-at P xs k.0 x h (slice_get-get_or xs k.0 x k.1 ∙ ap (λ y. Some y) k.2)
+contained P xs x h k = each_at P xs k.0 x h (slice_get-get_or xs k.0 x k.1 ∙ ap (λ y. Some y) k.2)
 
 pub listed-id : (n : Id) (nodes : List Id) → list_all is_id nodes ≡ true → has n nodes ≡ true → is_id n ≡ true
 listed-id n [] h k = absurd (cc)

@@ -7,13 +7,13 @@ use Rattle.voting_config.specs.Ids.{Id, is_id, has, with_id, without_id, most_id
 use Rattle.reconfigurator.specs.Targets.{odd_of, least_size, size_of, candidates_of, chosen_of, target_of}
 use Rattle.voting_config.proofs.Sets.{length-set_of-take}
 use Rattle.voting_config.proofs.Kept.{list_all-filter}
-use Rattle.master_tasks.proofs.Limits.{each_filter, each_append, fewer}
+use Rattle.master_tasks.proofs.Limits.{each_filter, each_append, fewer, value_then}
 use Rattle.exclusions.specs.declared.AddError.TheVariants.{TooMany}
 use Rattle.exclusions.specs.declared.StillMember.{StillMember}
 use Rattle.exclusions.specs.Exclusions.{most_exclusions, cleared_of, together, unless_missing}
 use Rattle.cluster_state.specs.declared.state.ClusterState.{ClusterState}
 use Rattle.cluster_state.specs.declared.state.ClusterValue.{ClusterValue}
-use Rattle.cluster_state.specs.Fields.{id, ids, setting, most_settings, IsFitSetting}
+use Rattle.cluster_state.specs.Fields.{id, ids, setting, most_settings}
 use Rattle.cluster_state.specs.Settings.{Setting, has_texts, IsSettings, put_setting}
 use Rattle.cluster_state.specs.Initial.{empty_value, empty_state, initial_state}
 use Rattle.cluster_state.specs.States.{state as state_field, value as value_field, IsFitValue}
@@ -26,6 +26,7 @@ use Rattle.cluster_state.specs.declared.request.Ask.TheVariants as ask
 use Rattle.cluster_state.specs.declared.request.Request.{Request}
 use Rattle.cluster_state.specs.declared.reply.Answer.TheVariants as answer
 use Rattle.cluster_state.specs.Puts.{bad_setting_of}
+use Rattle.cluster_state.proofs.Whole.{fit_entries}
 use Rattle.master_tasks.specs.declared.waiting.Waiting.{Waiting}
 use Rattle.master_tasks.specs.Fitting.{HaveGoodSettings}
 use Rattle.master_tasks.specs.Members.{joined, members_after}
@@ -118,10 +119,6 @@ formed-once accepted v w f good =
       | true ↦ f
       | false ↦ formed-ask accepted v w.request.ask f good
     ]
-
-value_then : (p : Processed) (w : Waiting) (step : Processing) → value_after p.value step ≡ (and_then p w step).value
-value_then p w (AnsweredAtOnce a) = refl
-value_then p w (Makes v) = refl
 
 formed-all : (accepted : ClusterState) (p : Processed) (ws : List Waiting) → IsWellFormed p.value → AllByRecursion (λ w. IsGoodRequest w.request) ws → IsWellFormed (fold (with_next accepted) p ws).value
 formed-all accepted p [] f good = f
@@ -220,10 +217,6 @@ settings-kept : (ss : List Setting) → AllByRecursion setting.Fits ss → list_
 settings-kept [] f = refl
 settings-kept (s ∷ ss) f = and_from _ _ (and_from _ _ f.0.0.2 f.0.1.2) (settings-kept ss f.1)
 
-settings-short : (ss : List Setting) → AllByRecursion setting.Fits ss → AllByRecursion IsFitSetting ss
-settings-short [] f = tt
-settings-short (s ∷ ss) f = (record { key = f.0.0.0; short_key = f.0.0.1; short_value = f.0.1.1 }, settings-short ss f.1)
-
 formed-of : (v : ClusterValue) → value_field.Fits v → IsWellFormed v
 formed-of v f =
     let exclusions = set-fits 10 v.exclusions (omega arith) f.1.1.0 in
@@ -235,7 +228,7 @@ formed-of v f =
     }
 
 fit-of : (v : ClusterValue) → value_field.Fits v → IsFitValue v
-fit-of v f = record { exclusions = f.1.1.0.0; settings = record { few = f.1.1.1.0; each = settings-short v.settings f.1.1.1.2 } }
+fit-of v f = record { exclusions = f.1.1.0.0; settings = record { few = f.1.1.1.0; each = fit_entries v.settings f.1.1.1.2 } }
 
 good-settings : (ws : List Waiting) → AllByRecursion (λ w. IsGoodRequest w.request) ws → HaveGoodSettings ws
 good-settings [] g = tt

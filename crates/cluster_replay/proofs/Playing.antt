@@ -15,11 +15,12 @@ use Rattle.world_model.specs.Acts.{NodeHistory, Then, is_opening}
 use Rattle.world_model.specs.NodeState.{NodeState, node_state, halted_of}
 use Rattle.world_model.specs.Histories.{node_history, sent, sent_by, IsSourced}
 use Rattle.world_model.specs.Replies.{reply_at, reply_of, is_taken, writes, IsOutcome}
+use Rattle.world_model.proofs.Legal.{own_deeds}
 use Rattle.replay_node.specs.NodeDisk.{CallsEnd, Done, Failed, CrashedIn}
 use Rattle.replay_node.specs.NodeWorld.{act_called, after_act, ends_in_a_crash, needs_opening, outcome_at, outcome_by}
 use Rattle.replay_node.specs.Worlds.{World, node_world, did}
 use Rattle.replay_node.proofs.MayAct.{may_act}
-use Rattle.replay_node.proofs.Moves.{NodeMoves, moves_did, node_history-own}
+use Rattle.replay_node.proofs.Moves.{NodeMoves, moves_did}
 use Rattle.replay_node.proofs.StateSteps.{halted_then, halted_disk}
 use Rattle.replay_node.proofs.NodeSound.{IsFitAct}
 use Rattle.policy_model.specs.declared.settings.Settings.{Settings}
@@ -169,7 +170,7 @@ module _ (s : Settings) (w : World) (act : Act) (sound : SoundWorld s.initial w)
   needs_by end e = ap needs_opening did_moves.own ∙ ap (λ (x : CallsEnd). ends_in_a_crash x || halted_of (Then g act (outcome_by x reply))) e
 
   history_by : (end : CallsEnd) → end_is ≡ end → node_history (did w s.me act).history s.me ≡ Then g act (outcome_by end reply)
-  history_by end e = node_history-own w.history s.me act _ ∙ ap (λ (x : CallsEnd). Then g act (outcome_by x reply)) e
+  history_by end e = own_deeds w.history s.me act _ ∙ ap (λ (x : CallsEnd). Then g act (outcome_by x reply)) e
 
   sent_by_end : (end : CallsEnd) → end_is ≡ end → sent (did w s.me act).history ≡ sent w.history ++ sent_by (outcome_by end reply)
   sent_by_end end e = ap (λ (x : CallsEnd). sent w.history ++ sent_by (outcome_by x reply)) e

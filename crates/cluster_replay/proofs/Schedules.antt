@@ -2,6 +2,7 @@
 use Rattle.std.proofs.Common.{◌≡◌, ℕ, ◌-◌, Bool, true, false, inl, cond, Option, None, Some, List, [], ◌∷◌, refl, sym, ◌∙◌, ap, subst, slice_get, append-nil, if◌then◌else◌}
 use Rattle.std.specs.List.{AllByRecursion, Contains}
 use Rattle.voting_config.specs.Ids.{Id, has, same, IsIdSet}
+use Rattle.voting_config.proofs.Sets.{same_self}
 use Rattle.cluster_state.specs.States.{state as state_field}
 use Rattle.cluster_state.specs.declared.state.ClusterState.{ClusterState}
 use Rattle.cluster_state.specs.declared.state.Kept.{Kept}
@@ -26,8 +27,8 @@ use Rattle.replay_node.specs.NodeWorld.{NodeWorld, acts_reopened, after_crash, a
 use Rattle.replay_node.specs.Settled.{is_kept, settled}
 use Rattle.replay_node.proofs.AllSettled.{settled_sent}
 use Rattle.replay_node.proofs.Found.{found_is}
-use Rattle.replay_node.specs.Worlds.{World, history_opened, node_world, crashed, ordered, opened}
-use Rattle.replay_node.proofs.Moves.{NodeMoves, moves_crashed, moves_ordered, moves_restarted, same_itself}
+use Rattle.replay_node.specs.Worlds.{history_opened, node_world, crashed, ordered, opened}
+use Rattle.replay_node.proofs.Moves.{NodeMoves, moves_crashed, moves_ordered, moves_restarted, history_if}
 use Rattle.replay_node.proofs.NodeSound.{found_either}
 use Rattle.policy_model.specs.declared.settings.Settings.{Settings}
 use Rattle.policy_model.specs.declared.events.Event.{Event}
@@ -48,10 +49,11 @@ use Rattle.cluster_replay.proofs.AllowedRules.{MayCome}
 use Rattle.cluster_replay.proofs.Asking.{good-asks}
 use Rattle.trace_text.proofs.IdLists.{none_set}
 use Rattle.cluster_replay.proofs.NextFits.{FitAccepted, empty_accepted}
-use Rattle.cluster_replay.proofs.Invariants.{SoundNode, SoundCluster, Waits, all-at, contained, listed-id, each-stays, event_sound}
+use Rattle.cluster_replay.proofs.Invariants.{SoundNode, SoundCluster, Waits, contained, listed-id, each-stays, event_sound}
 use Rattle.replay_node.proofs.Lives.{settled_acts, settled_follows}
 use Rattle.replay_node.proofs.WorldSound.{SoundWorld, IsFitMessage, armed, fresh, reopened, stopped}
 use Rattle.client_guarantees.proofs.Laws.{replies_are_true}
+use Rattle.master_tasks.proofs.Limits.{each_at}
 
 -- ---- a node that is not touched but in its disk
 
@@ -64,10 +66,6 @@ node_stopped s life way x h = from x.down
 
 node_ordered : (s : Settings) (life : Life) (order : Order) (x : NodeWorld) → SoundNode s life x → SoundNode s life (after_order order x)
 node_ordered s life order x h = record { follows = h.follows; acts = h.acts; begun = h.begun; ready = h.ready }
-
-history_if : (w v : World) (b : Bool) → w.history ≡ v.history → w.history ≡ (if b then w else v).history
-history_if w v true e = refl
-history_if w v false e = e
 
 module _ (nodes initial : List Id) (ids : IsIdSet nodes) (set : IsIdSet initial) where
   line_crash : (n : Id) (way : Way) (c : Cluster) → has n nodes ≡ true → SoundCluster nodes initial c → SoundCluster nodes initial (record c { world = crashed c.world n way })
@@ -114,7 +112,7 @@ module _ (nodes initial : List Id) (ids : IsIdSet nodes) (set : IsIdSet initial)
   line_frame n k (Some f) c listed e h = from (same f.to n)
     where
       from : (b : Bool) → SoundCluster nodes initial (if b then after_event_if_up (settings_of nodes initial n) c (FrameCame f) else c)
-      from true = line_event n (FrameCame f) c listed refl (frame_comes (sent c.world.history) f h.world.messages (all-at (IsGoodFrame (sent c.world.history)) c.frames k f h.frames e)) h
+      from true = line_event n (FrameCame f) c listed refl (frame_comes (sent c.world.history) f h.world.messages (each_at (IsGoodFrame (sent c.world.history)) c.frames k f h.frames e)) h
       from false = h
 
   -- ---- an opening
@@ -198,7 +196,7 @@ module _ (nodes initial : List Id) (ids : IsIdSet nodes) (set : IsIdSet initial)
           }))) tt
         where
           own_life : with_life c.lives n (life_opened (settings_of nodes initial n) c) n ≡ life_opened (settings_of nodes initial n) c
-          own_life = ap (λ (b : Bool). cond b (life_opened (settings_of nodes initial n) c) (c.lives n)) (same_itself n)
+          own_life = ap (λ (b : Bool). cond b (life_opened (settings_of nodes initial n) c) (c.lives n)) (same_self n)
 
           others : needs_opening (node_world c.world n) ≡ true → (m : Id) → has m nodes ≡ true → same n m ≡ false
               → SoundNode (settings_of nodes initial m) (with_life c.lives n (life_opened (settings_of nodes initial n) c) m) (node_world (opened c.world n) m)

@@ -1,5 +1,6 @@
 -- From what clap answers to the command.
-use Rattle.std.proofs.Common.{◌≡◌, ◌∙◌, sym, refl, ap, subst, Bool, true, false, ◌&&◌, List, [], ◌∷◌, inl, inr, Option, Some, None, option_map, Result}
+use Rattle.std.proofs.Common.{◌≡◌, ◌∙◌, sym, refl, ap, subst, true, List, [], ◌∷◌, inl, inr, Option, Some, None, option_map, Result}
+use Rattle.std.proofs.lemmas.Bool.{and_parts}
 use Rattle.clap.specs.Words.{App, Row, fault_of, is_simple, is_simple_and_free, subcommand_of, subcommand_rows_of, subcommand_name_of, first_of, first_value, found_of, rows_of, kind_of, HasKind, Kinds}
 use Rattle.clap.specs.declared.error.Error.{Error}
 use Rattle.clap.specs.declared.error.kind.ErrorKind.TheVariants as kind
@@ -19,11 +20,7 @@ use Rattle.command_line.proofs.Built.{is_simple_program}
 -- ---- clap's answer
 
 simple_too : (a : App) → is_simple_and_free a ≡ true → is_simple a ≡ true
-simple_too a h = go (is_simple a) _ h
-  where
-    go : (b c : Bool) → (b && c) ≡ true → b ≡ true
-    go true c e = refl
-    go false c e = absurd (cc)
+simple_too a h = (and_parts (is_simple a) _ h).0
 
 pub parsed_ok : (a : App) (words : List Text) (rows : Type 0) (x : Option (Text × List Row)) → a ≡ program_app → (is_simple_and_free a ≡ true → fault_of a words ≡ []) → (is_simple a ≡ true → rows × (x ≡ subcommand_of a words))
     → (fault_of program_app words ≡ []) × (x ≡ subcommand_of program_app words)

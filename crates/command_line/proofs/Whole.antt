@@ -6,7 +6,7 @@ use Rattle.std.specs.Option.{option_or}
 use Rattle.std.specs.Str.{bytes_eq}
 use Rattle.std.proofs.Math.Path.{fun_ext}
 use Rattle.std.proofs.lemmas.Bool.Decides.{Decides-eqb, Decides-ltb}
-use Rattle.std.proofs.lemmas.Bool.{false_from_ne_true}
+use Rattle.std.proofs.lemmas.Bool.{false_from_ne_true, and_parts}
 use Rattle.std.proofs.lemmas.Slice.Eq.{bytes_eq-Decides}
 use Rattle.clap.specs.Lexer.{long_of}
 use Rattle.clap.specs.Words.{Row, fault_of, subcommand_of, first_of}
@@ -26,14 +26,6 @@ use Rattle.command_line.proofs.Levels.{Line, all_rows, line, top}
 use Rattle.command_line.proofs.Built.{built_is}
 
 -- ---- fair words
-
-right_true : (b c : Bool) → (b && c) ≡ true → c ≡ true
-right_true true c e = e
-right_true false c e = absurd (cc)
-
-left_true : (b c : Bool) → (b && c) ≡ true → b ≡ true
-left_true true c e = refl
-left_true false c e = absurd (cc)
 
 not_empty : (n : ℕ) → (suc n == 0) ≡ false
 not_empty n = false_from_ne_true _ (λ e. let bad : suc n ≡ 0 = (Decides-eqb (suc n) 0).0 e in absurd (omega arith))
@@ -59,12 +51,12 @@ fair_of (x ∷ y ∷ z ∷ zs) h = go (x == 45) refl (sym (fair_is x y z zs) ∙
     go false e h = fair_plain x (y ∷ z ∷ zs) e
     go true e h =
         let first : x ≡ 45 = (Decides-eqb x 45).0 e in
-        let second : y ≡ 45 = (Decides-eqb y 45).0 (right_true _ _ h) in
+        let second : y ≡ 45 = (Decides-eqb y 45).0 (and_parts _ _ h).1 in
         rw (first, second) (fair_long z zs)
 
 pub are_fair_of : (ws : List Text) → list_all is_fair ws ≡ true → AreFair ws
 are_fair_of [] h = tt
-are_fair_of (w ∷ ws) h = (fair_of w (left_true _ _ h), are_fair_of ws (right_true _ _ h))
+are_fair_of (w ∷ ws) h = (let parts = and_parts (is_fair w) _ h in (fair_of w parts.0, are_fair_of ws parts.1))
 
 -- a word that is not fair
 pub record IsUnfair (w : Text) : Type 0 where

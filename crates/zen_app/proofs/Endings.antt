@@ -1,5 +1,5 @@
 -- How a run ends, from how its parts ended.
-use Rattle.std.proofs.Common.{◌≡◌, ℕ, ◌≤◌, Option, None, Some, List, [], length, take, refl, sym, ◌∙◌, ap, subst, arith, inl, inr, ◌⊎◌, append-nil}
+use Rattle.std.proofs.Common.{◌≡◌, ℕ, ◌≤◌, Option, Some, List, [], length, take, refl, sym, ◌∙◌, ap, subst, arith, inl, inr, ◌⊎◌, append-nil}
 use Rattle.std.proofs.lemmas.List.{take_all, length-take}
 use Rattle.zen_disk.specs.Faults.{Rose}
 use Rattle.zen_link.specs.Streams.{Appended, AppendedFront}
@@ -49,10 +49,6 @@ module _ (level : Level) where
       subst (λ (l : List ℕ). Spells level l s) (sym is) spelled
 
 -- ---- of what was written
-
-pub wrote_nothing : (was : Option (List ℕ)) → Appended was was []
-wrote_nothing None = refl
-wrote_nothing (Some was) = ap (λ (x : List ℕ). Some x) (sym (append-nil was))
 
 whole_front : (was now : Option (List ℕ)) (bytes : List ℕ) → Appended was now bytes → AppendedFront was now bytes
 whole_front was now bytes written = record { front = bytes; rest = []; whole = append-nil bytes; appended = written }

@@ -1,5 +1,5 @@
 -- What a node did that served a link, as a life on the disk that was given back.
-use Rattle.std.proofs.Common.{◌≡◌, ℕ, ◌≤◌, Option, Some, List, [], ◌∷◌, ◌++◌, refl}
+use Rattle.std.proofs.Common.{ℕ, ◌≤◌, Option, Some, List, [], ◌∷◌, ◌++◌, refl}
 use Rattle.zen_disk.specs.Sides.{Files}
 use Rattle.zen_disk.specs.declared.disks.Disks.{Ghosts as Disks}
 use Rattle.zen_link.specs.declared.link.Traffic.{Traffic}
@@ -13,7 +13,7 @@ use Rattle.node_loop.specs.declared.node.End.{End}
 use Rattle.node_loop.specs.Crashes.{IsLastRecord}
 use Rattle.node_loop.specs.Happenings.{Mark}
 use Rattle.node_loop.specs.Reports.{Output, EntriesFollow, lived}
-use Rattle.node_loop.specs.Running.{StoodOn, LeavesLastOn, HoldsOn}
+use Rattle.node_loop.specs.Running.{LeavesLastOn, HoldsOn}
 use Rattle.node_loop.specs.Tells.{Tells}
 use Rattle.node_loop.specs.Turns.{ServesOn, Serves, Unopened, Served}
 use Rattle.zen_app.specs.NodeRuns.{LivesOn}

@@ -15,6 +15,7 @@ use Rattle.journal_inspection.specs.declared.showing.Shown.TheVariants as shown
 use Rattle.journal_inspection.specs.Inspects.{HostView, LeavesLinks, Asked, Opened, EndsWith, IsComplete}
 use Rattle.zen_app.specs.Codes.{status_of}
 use Rattle.zen_link.specs.Reading.{ReadsAtMost}
+use Rattle.zen_link.proofs.Appending.{appended_none}
 use Rattle.zen_app.specs.Reading.{most_read}
 use Rattle.zen_app.specs.NodeFaults.{Failed, NodeFaults}
 use Rattle.command_line.specs.declared.command.TrialWords.{TrialWords}
@@ -39,7 +40,7 @@ use Rattle.zen_app.specs.Ran.{ReplayRun, Does, Ran}
 use Rattle.zen_app.specs.Views.{SourceView, SinkView}
 use Rattle.zen_app.specs.declared.status.Status.{Status}
 use Rattle.zen_app.specs.declared.status.Status.TheVariants as exit
-use Rattle.zen_app.proofs.Endings.{wrote_nothing, no_memory}
+use Rattle.zen_app.proofs.Endings.{no_memory}
 use Rattle.zen_app.proofs.NodeStages.{said_line}
 use Rattle.schedule_replay.proofs.Sending.{generated_spelled}
 use Rattle.zen_app.proofs.Spelled.{spells_safe_trace}
@@ -93,11 +94,11 @@ nothing_tried w calls written = inl (record {
     refuses = refl;
     killed = refl;
   };
-  nothing = wrote_nothing written;
+  nothing = appended_none written;
 })
 
 no_replay : (level : Level) (source : SourceView) (sink : SinkView) → ReplayRun level source source sink sink exit.NoMemory
-no_replay level source sink = (no_memory level source source sink sink (none_taken source.left) (omega arith) (omega arith) (wrote_nothing sink.written)).run
+no_replay level source sink = (no_memory level source source sink sink (none_taken source.left) (omega arith) (omega arith) (appended_none sink.written)).run
 
 module _ {D L : Type 0} (d : Disks D) (l : Links L Sealed) where
   write_rose : (host host_now : HostView D L) (was now : Option (List ℕ)) (wrote wrote_now : ℕ) (e : Inspection) → EndsWith d.told d.seen d.may_leave d.faults host host_now was now wrote wrote_now e → status_of e ≡ exit.WriteFault → Rose wrote wrote_now
@@ -129,20 +130,20 @@ module _ {D L : Type 0} (d : Disks D) (l : Links L Sealed) where
 
   -- no memory for the words
   nothing_done : (source : SourceView) (sink : SinkView) (host : HostView D L) (o : Option ProgramCommand) → Does d l source source sink sink host host exit.NoMemory o
-  nothing_done source sink host None = (wrote_nothing sink.written, refl, refl)
+  nothing_done source sink host None = (appended_none sink.written, refl, refl)
   nothing_done source sink host (Some (Replay level)) = (no_replay level source sink, refl)
   nothing_done source sink host (Some (Inspect dir)) = (
     record {
       end = end.NoMemory;
       is_status = refl;
       asked = inl refl;
-      ended = (inl refl, wrote_nothing sink.written);
+      ended = (inl refl, appended_none sink.written);
       complete = λ disk is t kept found no_host no_write no_disk. inr refl;
       links = record { ready = refl; back = refl };
     },
     refl,
   )
-  nothing_done source sink host (Some (Generate number steps)) = (record { says = wrote_nothing sink.written; safe_trace = generated_safe number steps }, refl, refl)
+  nothing_done source sink host (Some (Generate number steps)) = (record { says = appended_none sink.written; safe_trace = generated_safe number steps }, refl, refl)
   nothing_done source sink host (Some (Trial words)) = (
     record {
       end = trial.NoMemory;
@@ -156,7 +157,7 @@ module _ {D L : Type 0} (d : Disks D) (l : Links L Sealed) where
   )
   nothing_done source sink host (Some (Node words)) = (
     record {
-      came = Undisked (record { asked = inl (refl, refl); written = wrote_nothing sink.written; back = refl; links = record { ready = refl; back = refl } });
+      came = Undisked (record { asked = inl (refl, refl); written = appended_none sink.written; back = refl; links = record { ready = refl; back = refl } });
       complete = λ disk is t kept found no_host no_write no_disk no_link. inr (inr refl);
     },
     refl,

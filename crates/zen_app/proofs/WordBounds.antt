@@ -1,8 +1,8 @@
 -- The numbers in the words of a command are within their bounds.
-use Rattle.std.proofs.Common.{◌≡◌, ℕ, ◌≤◌, Bool, true, false, ◌&&◌, Option, None, Some, List, refl, sym, subst, ◌∙◌}
-use Rattle.std.specs.Prelude.{if◌then◌else◌, nat_le, codes, option_and_then}
+use Rattle.std.proofs.Common.{◌≡◌, ℕ, ◌≤◌, Bool, true, false, ◌&&◌, Option, None, Some, List, refl, subst}
+use Rattle.std.specs.Prelude.{if◌then◌else◌, nat_le, codes}
 use Rattle.std.specs.Str.{bytes_eq}
-use Rattle.std.proofs.lemmas.Bool.{leb-true}
+use Rattle.std.proofs.lemmas.Bool.{leb-true, and_parts}
 use Rattle.command_line.specs.declared.command.ProgramCommand.{ProgramCommand}
 use Rattle.command_line.specs.declared.command.ProgramCommand.TheVariants.{Replay, Inspect, Node, Generate, Trial}
 use Rattle.command_line.specs.Commands.{level_of, replay_of, inspect_of, link_of, node_of, generate_of, trial_of, command_by, command_of, steps_of, port_of, most_steps}
@@ -28,12 +28,8 @@ of_chosen : {A : Type 0} (Q : A → Type 0) (b : Bool) (x y : Option A) → OfSo
 of_chosen Q true x y hx hy = hx
 of_chosen Q false x y hx hy = hy
 
-both_true : (a b : Bool) → (a && b) ≡ true → (a ≡ true) × (b ≡ true)
-both_true true b h = (refl, h)
-both_true false b h = absurd cc
-
 of_within : (least most n : ℕ) (b : Bool) → (nat_le least n && nat_le n most) ≡ b → OfSome (λ (m : ℕ). (least ≤ m) × (m ≤ most)) (if b then Some n else None)
-of_within least most n true is = let parts = both_true (nat_le least n) (nat_le n most) is in (leb-true least n parts.0, leb-true n most parts.1)
+of_within least most n true is = let parts = and_parts (nat_le least n) (nat_le n most) is in (leb-true least n parts.0, leb-true n most parts.1)
 of_within least most n false is = tt
 
 of_number : (least most : ℕ) (t : Text) → OfSome (λ (m : ℕ). (least ≤ m) × (m ≤ most)) (number_within least most t)

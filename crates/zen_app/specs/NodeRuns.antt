@@ -1,5 +1,5 @@
 -- Part of the statement: what a run of `node` does.
-use Rattle.std.specs.Prelude.{◌≡◌, ◌≤◌, ◌⊎◌, ℕ, true, false, Option, Some, Ok, List, [], map, codes}
+use Rattle.std.specs.Prelude.{◌≡◌, ◌⊎◌, ℕ, true, false, Option, Some, Ok, List, [], map, codes}
 use Rattle.zen_disk.specs.Faults.{Rose}
 use Rattle.zen_disk.specs.Moments.{LeavesOnly}
 use Rattle.zen_disk.specs.Sides.{Files}

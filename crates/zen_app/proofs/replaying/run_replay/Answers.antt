@@ -1,20 +1,21 @@
 use Rattle.std.proofs.Common.{refl, arith}
-use Rattle.zen_app.proofs.Endings.{wrote_nothing, read_failed, no_memory, succeeded, cut_short, out_of_memory, bad}
+use Rattle.zen_app.proofs.Endings.{read_failed, no_memory, succeeded, cut_short, out_of_memory, bad}
 use Rattle.zen_app.proofs.Spelled.{spells_fits}
 use Rattle.zen_app.proofs.replaying.run_replay.Goals as goal
+use Rattle.zen_link.proofs.Appending.{appended_none}
 
 pub write_trace-requires : goal.write_trace-requires
 write_trace-requires g c = record { fits = spells_fits _ _ _ c.in-Ok-read_schedule.ensures.found }
 
 pub returns-in-Err-Read : goal.returns-in-Err-Read
 returns-in-Err-Read g c =
-    read_failed _ _ _ _ _ c.read_input.ensures.at_most c.read_input.ensures.later (omega arith) (wrote_nothing _) ((rw c.in-Err-Read.field-0-is at c.in-Err-Read.ensures.fault) refl)
+    read_failed _ _ _ _ _ c.read_input.ensures.at_most c.read_input.ensures.later (omega arith) (appended_none _) ((rw c.in-Err-Read.field-0-is at c.in-Err-Read.ensures.fault) refl)
 
 pub returns-in-Err-Memory : goal.returns-in-Err-Memory
-returns-in-Err-Memory g c = no_memory _ _ _ _ _ c.read_input.ensures.at_most c.read_input.ensures.later (omega arith) (wrote_nothing _)
+returns-in-Err-Memory g c = no_memory _ _ _ _ _ c.read_input.ensures.at_most c.read_input.ensures.later (omega arith) (appended_none _)
 
 pub returns-in-Err-Memory-read_schedule : goal.returns-in-Err-Memory-read_schedule
-returns-in-Err-Memory-read_schedule g c = no_memory _ _ _ _ _ c.read_input.ensures.at_most c.read_input.ensures.later (omega arith) (wrote_nothing _)
+returns-in-Err-Memory-read_schedule g c = no_memory _ _ _ _ _ c.read_input.ensures.at_most c.read_input.ensures.later (omega arith) (appended_none _)
 
 pub returns-in-Ok-write_trace : goal.returns-in-Ok-write_trace
 returns-in-Ok-write_trace g c =

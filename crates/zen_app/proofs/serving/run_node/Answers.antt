@@ -1,4 +1,4 @@
-use Rattle.std.proofs.Common.{◌≡◌, false, Some, Err, refl, sym, ap, subst, ◌∙◌}
+use Rattle.std.proofs.Common.{false, Some, Err, refl, sym, ap, subst, ◌∙◌}
 use Rattle.zen_host.specs.HostCalls.{OpensDisk, OpensLink, and_call}
 use Rattle.policy_model.specs.Entries.{NotBegun, Opened}
 use Rattle.policy_model.proofs.Locals.{life_local}
@@ -6,10 +6,10 @@ use Rattle.node_loop.specs.Reporting.{sent_of}
 use Rattle.node_loop.specs.Texts.{entry_text, opening_text}
 use Rattle.zen_app.specs.NodeRuns.{NodeRun, settings_by}
 use Rattle.zen_app.specs.Views.{SinkView}
-use Rattle.zen_app.proofs.Endings.{wrote_nothing}
 use Rattle.zen_app.proofs.NodeLives.{serves_on}
 use Rattle.zen_app.proofs.NodeStages.{view_by, causes_since, rose_within, link_noted, unopened, unlinked, serving_writes, served}
 use Rattle.zen_app.proofs.serving.run_node.Goals as goal
+use Rattle.zen_link.proofs.Appending.{appended_none}
 
 pub returns-in-Err-open-clause-run : goal.returns-in-Err-open-clause-run
 returns-in-Err-open-clause-run g c =
@@ -33,7 +33,7 @@ returns-in-Err-open_link-clause-run g c =
     (record { same = λ x is. gave.given x is; fresh = gave.fresh }) (record { found = c.in-Ok-open.ensures.found; any_moment = c.in-Ok-open.ensures.any_moment })
     (link_noted g.row.L.Denot _ _ _ _ _ _ c.in-Err-open_link.error asked c.close_disk.ensures.calls c.settings-2.ensures c.in-Err-open_link.ensures.call)
     (λ is. rose_within _ _ _ _ gave.later (c.in-Err-open_link.ensures.failed (ap (λ e. Err e) is)) c.close_disk.ensures.faults)
-    (wrote_nothing sink.written) (c.close_disk.ensures.back ∙ ap (λ x. Some x) c.into_disk.ensures) (c.close_disk.ensures.link_back ∙ c.in-Err-open_link.ensures.back ∙ gave.link_back))
+    (appended_none sink.written) (c.close_disk.ensures.back ∙ ap (λ x. Some x) c.into_disk.ensures) (c.close_disk.ensures.link_back ∙ c.in-Err-open_link.ensures.back ∙ gave.link_back))
 
 pub returns-clause-run : goal.returns-clause-run
 returns-clause-run g c =
