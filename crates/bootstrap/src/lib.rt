@@ -7,9 +7,6 @@ ghost use Rattle.bootstrap.specs.Decisions.{decision_of};
 
 use voting_config::{NodeId, NodeSet, VotingConfig};
 
-#[cfg(test)]
-mod tests;
-
 /// The initial configuration that the node `me` takes: all `names`, exactly where it has no configuration yet, is
 /// one of the named itself, and more than half of the named are the node itself or among the `known` nodes. Else
 /// None. So a node that has met a minority waits (`cluster.initial_master_nodes` of the Elasticsearch reference 7.x,

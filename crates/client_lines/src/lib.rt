@@ -11,6 +11,3 @@ pub use fault::LineError;
 pub use lines::{Line, LineReader, Lines, law_cuts, law_kept};
 pub use reading::{MAX_LINE, MAX_REQUEST_ID, read_line};
 pub use writing::write_reply;
-
-#[cfg(test)]
-mod tests;

@@ -2,7 +2,5 @@
 #![tactic(auto)]
 
 pub mod laws;
-#[cfg(test)]
-mod tests;
 
 pub use laws::{law_cluster_replay_is_legal, law_cluster_replies_are_true, law_lives_follow};

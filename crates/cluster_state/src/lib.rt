@@ -33,6 +33,3 @@ pub use settings::Settings;
 pub use shared::{SharedConfig, SharedState, SharedValue};
 pub use state::{ClusterState, ClusterValue, Kept, LAST_NUMBER, StateId};
 pub use text::Text;
-
-#[cfg(test)]
-mod tests;

@@ -5,8 +5,6 @@ pub mod command;
 pub mod lists;
 pub mod program;
 pub mod reading;
-#[cfg(test)]
-mod tests;
 pub mod values;
 
 pub use command::{

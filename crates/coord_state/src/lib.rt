@@ -3,8 +3,6 @@
 
 pub mod coord;
 pub mod ending;
-#[cfg(test)]
-mod tests;
 
 pub use coord::{ActError, CoordState, Joined};
 pub use ending::{ActAnswer, ActCause, NotTaken, outcome_of, outcome_of_value};

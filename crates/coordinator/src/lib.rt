@@ -33,6 +33,3 @@ pub use output::{Listed, Output};
 pub use plan::{NewState, Plan};
 pub use sending::Broadcast;
 pub use step::{Entries, Sealed, StepError};
-
-#[cfg(test)]
-mod tests;

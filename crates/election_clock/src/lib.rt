@@ -5,9 +5,6 @@
 ghost use Rattle.std.specs.Prelude.{◌≡◌, ◌+◌, ◌≤◌};
 ghost use Rattle.election_clock.specs.Delays.{delay_of, has_passed as has_passed_of, is_due, longest_of, max_timeout};
 
-#[cfg(test)]
-mod tests;
-
 /// The longest wait before the first attempt: `cluster.election.initial_timeout` of the Elasticsearch reference 7.x,
 /// Discovery and cluster formation settings, 100 ms.
 pub const INITIAL_TIMEOUT_MS: u64 = 100;

@@ -12,6 +12,3 @@ pub mod steps;
 pub use events::{write_drops, write_event, write_replies, write_struck_event};
 pub use frames::{write_frame_line, write_frames, write_message};
 pub use steps::{write_mode, write_steps, write_struck_steps};
-
-#[cfg(test)]
-mod tests;

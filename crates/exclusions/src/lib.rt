@@ -9,9 +9,6 @@ ghost use Rattle.exclusions.specs.Exclusions.{added_of, cleared_of, may_win_of};
 use thiserror::Error;
 use voting_config::{NodeId, NodeSet, VotingConfig};
 
-#[cfg(test)]
-mod tests;
-
 /// How many nodes may be excluded at most: `cluster.max_voting_config_exclusions` of the Elasticsearch reference
 /// 7.x, Voting configuration exclusion settings, 10.
 pub const MAX_EXCLUSIONS: usize = 10;

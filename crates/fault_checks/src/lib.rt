@@ -12,6 +12,3 @@ pub use followers::{Behind, Checked, Follower, FollowerChecks};
 pub use laws::{law_asked, law_dropped, law_leader_lost};
 pub use leader::{LeaderCheck, LeaderTick};
 pub use spans::{CHECK_INTERVAL_MS, CHECK_RETRY_COUNT, CHECK_TIMEOUT_MS, FOLLOWER_LAG_TIMEOUT_MS};
-
-#[cfg(test)]
-mod tests;

@@ -18,8 +18,6 @@ mod order;
 mod refusal;
 mod renew;
 mod scan;
-#[cfg(test)]
-mod tests;
 mod why;
 
 pub use error::{AppendError, LogError};

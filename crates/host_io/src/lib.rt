@@ -3,8 +3,6 @@
 //! they hold is not told, so no clause speaks of it: that they keep and carry bytes is tested.
 #![tactic(auto)]
 
-#[cfg(test)]
-mod child_tests;
 pub mod children;
 mod connection;
 pub mod disk;
@@ -12,13 +10,9 @@ pub mod folder;
 pub mod framing;
 pub mod host;
 pub mod link;
-#[cfg(test)]
-mod link_tests;
 mod queue;
 mod sockets;
 pub mod streams;
-#[cfg(test)]
-mod tests;
 
 pub use children::{Children, SystemChild};
 pub use disk::FileDisks;

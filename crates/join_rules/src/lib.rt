@@ -2,8 +2,6 @@
 #![tactic(auto)]
 
 pub mod check;
-#[cfg(test)]
-mod tests;
 pub mod votes;
 
 pub use check::join_check;

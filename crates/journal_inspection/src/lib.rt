@@ -4,8 +4,6 @@
 pub mod inspecting;
 pub mod report;
 pub mod showing;
-#[cfg(test)]
-mod tests;
 
 pub use inspecting::{Inspection, inspect};
 pub use report::{write_not_a_journal, write_report};

@@ -20,6 +20,3 @@ pub use next::Next;
 pub use replies::Replies;
 pub use tasks::{MAX_OPEN, MasterTasks, OfferError};
 pub use waiting::{Outgoing, Waiting};
-
-#[cfg(test)]
-mod tests;

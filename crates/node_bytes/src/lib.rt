@@ -4,8 +4,6 @@
 pub mod fitting;
 pub mod framing;
 pub mod laws;
-#[cfg(test)]
-mod tests;
 
 pub use fitting::is_fit;
 pub use framing::SealedFrames;

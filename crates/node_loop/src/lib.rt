@@ -14,8 +14,3 @@ pub use node::{End, Node, law_holds_little};
 pub use opening::JournalNode;
 pub use reporter::Reporter;
 pub use steps::{Done, StepError, Steps};
-
-#[cfg(test)]
-mod running_tests;
-#[cfg(test)]
-mod tests;

@@ -4,8 +4,6 @@
 pub mod ends;
 pub mod node;
 pub mod running;
-#[cfg(test)]
-mod tests;
 
 pub use ends::{TrialEnds, has_won};
 pub use node::{Trial, TrialNode};

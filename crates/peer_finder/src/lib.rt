@@ -306,6 +306,3 @@ fn set_chosen(peers: &[Peer], choice: Choice) -> NodeSet
     let ids = ids_of(kept.as_slice());
     NodeSet::of(ids.as_slice())
 }
-
-#[cfg(test)]
-mod tests;

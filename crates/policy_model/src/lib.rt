@@ -18,6 +18,3 @@ pub use part_laws::law_parts_look_back;
 pub use queue::law_queue;
 pub use settings::{NodeIds, Settings};
 pub use told::law_determined;
-
-#[cfg(test)]
-mod tests;

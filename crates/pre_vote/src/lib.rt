@@ -9,6 +9,3 @@ mod rounds;
 pub use laws::law_counted;
 pub use replies::{Reply, answer};
 pub use rounds::{Added, PreVotes};
-
-#[cfg(test)]
-mod tests;

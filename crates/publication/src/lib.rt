@@ -150,6 +150,3 @@ impl Publication {
         self.finished
     }
 }
-
-#[cfg(test)]
-mod tests;

@@ -9,9 +9,6 @@ ghost use Rattle.reconfigurator.specs.Targets.{candidates_of, chosen_of, least_s
 use arrayvec::ArrayVec;
 use voting_config::{MAX_IDS, NodeId, NodeSet, VotingConfig};
 
-#[cfg(test)]
-mod tests;
-
 /// The master, and at most three sets of other candidates.
 const MAX_CANDIDATES: usize = 1 + 3 * MAX_IDS;
 

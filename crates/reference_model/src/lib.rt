@@ -9,8 +9,6 @@ pub mod no_answer;
 pub mod node_now;
 pub mod replies;
 pub mod round;
-#[cfg(test)]
-mod tests;
 
 pub use answer::reply;
 pub use disk::stopped;

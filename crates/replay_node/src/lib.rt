@@ -6,8 +6,6 @@ pub mod disk;
 pub mod message;
 pub mod node;
 pub mod state;
-#[cfg(test)]
-mod tests;
 pub mod writing;
 
 pub use did::{Did, Effects};

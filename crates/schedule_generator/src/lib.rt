@@ -7,6 +7,3 @@ pub mod laws;
 
 pub use generator::{Generator, MAX_STEPS, empty_schedule};
 pub use laws::law_generated_is_spelled;
-
-#[cfg(test)]
-mod tests;

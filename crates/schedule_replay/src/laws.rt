@@ -63,6 +63,3 @@ pub fn law_cluster_trace_agrees()
 pub fn law_generated()
     ensures { LawGenerated }
 {}
-
-#[cfg(test)]
-mod tests;

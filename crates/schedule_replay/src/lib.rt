@@ -16,6 +16,3 @@ pub use laws::{
     law_trace_follows, law_trace_shows, law_trace_tells,
 };
 pub use replaying::{ReplayError, replay, write_trace};
-
-#[cfg(test)]
-mod tests;

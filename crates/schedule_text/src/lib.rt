@@ -32,6 +32,3 @@ pub use reading::read_schedule;
 pub use schedule::{Line, Lines, Schedule};
 pub use setting_text::SettingText;
 pub use text::Text;
-
-#[cfg(test)]
-mod tests;

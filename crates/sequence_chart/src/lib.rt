@@ -17,6 +17,3 @@ pub mod words;
 
 pub use chart::{draw_trace, write_chart};
 pub use laws::{law_each_delivery, law_each_label};
-
-#[cfg(test)]
-mod tests;

@@ -13,8 +13,6 @@ pub mod keeper;
 pub mod plain;
 pub mod ready;
 mod refusal;
-#[cfg(test)]
-mod tests;
 pub mod why;
 
 pub use arm_keeper::ArmKeeper;

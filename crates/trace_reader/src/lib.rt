@@ -14,6 +14,3 @@ pub use fault::{BadTrace, write_bad_trace};
 pub use progress::{MAX_TRACE_BYTES, MAX_TRACE_LINES};
 pub use reading::read_trace;
 pub use told::{Ending, Mode, Told, Trace, TraceLine};
-
-#[cfg(test)]
-mod tests;

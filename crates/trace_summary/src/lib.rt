@@ -8,6 +8,3 @@ pub mod summary;
 pub use counts::Counts;
 pub use printing::write_summary;
 pub use summary::{Summary, Tally};
-
-#[cfg(test)]
-mod tests;

@@ -6,8 +6,6 @@ pub mod causes;
 pub mod ending;
 pub mod messages;
 pub mod nodes;
-#[cfg(test)]
-mod tests;
 
 pub use acts::{
     write_act_head, write_boot, write_commit, write_join, write_publish, write_publish_shown,

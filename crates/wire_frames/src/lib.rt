@@ -14,6 +14,3 @@ pub use laws::{law_cut, law_first_frame, law_one_frame, law_stream};
 pub use reader::{Fed, FrameReader};
 pub use reading::read_frame;
 pub use writing::write_frame;
-
-#[cfg(test)]
-mod tests;

@@ -6,8 +6,6 @@ pub mod replaying;
 pub mod running;
 pub mod serving;
 pub mod status;
-#[cfg(test)]
-mod tests;
 pub mod trying;
 
 pub use running::run;

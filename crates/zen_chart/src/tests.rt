@@ -74,23 +74,24 @@ fn no_byte_is_a_trace(rt: HostRuntime) -> Result<(), Fail> {
     Ok(())
 }
 
+// Whether a run ends so, with this written and nothing more.
+fn ends(alloc: Global, case: Case<'_>, status: Status, written: &str) -> Result<bool, AllocError> {
+    let ended = ran(alloc, case)?;
+    Ok(ended.status == status && ended.sink.as_bytes() == written.as_bytes())
+}
+
 #[test]
 fn words_are_refused(rt: HostRuntime) -> Result<(), Fail> {
     let words = Case {
         has_words: true,
         ..VOTE
     };
-    let ended = ran(rt.alloc(), words)?;
-    assert!(rt; ended.status == Status::Usage);
-    assert!(rt; ended.sink.as_bytes() == "zen_chart: usage\n".as_bytes());
-    let ended = ran(
-        rt.alloc(),
-        Case {
-            writes: &[1],
-            ..words
-        },
-    )?;
-    assert!(rt; ended.status == Status::WriteFault);
+    let cut = Case {
+        writes: &[1],
+        ..words
+    };
+    assert!(rt; ends(rt.alloc(), words, Status::Usage, "zen_chart: usage\n")?);
+    assert!(rt; ends(rt.alloc(), cut, Status::WriteFault, "")?);
     Ok(())
 }
 
@@ -123,19 +124,13 @@ fn the_first_bad_line_is_written(rt: HostRuntime) -> Result<(), Fail> {
         ),
         ("> crash a most\n", "zen_chart: bad trace at line 1: Mode\n"),
     ] {
-        let ended = ran(rt.alloc(), Case { input, ..VOTE })?;
-        assert!(rt; ended.status == Status::BadTrace, "{input}");
-        assert!(rt; ended.sink.as_bytes() == line.as_bytes(), "{input}");
-        let cut = ran(
-            rt.alloc(),
-            Case {
-                input,
-                writes: &[1],
-                ..VOTE
-            },
-        )?;
-        assert!(rt; cut.status == Status::WriteFault, "{input}");
-        assert!(rt; cut.sink.as_bytes().is_empty(), "{input}");
+        let bad = Case { input, ..VOTE };
+        let cut = Case {
+            writes: &[1],
+            ..bad
+        };
+        assert!(rt; ends(rt.alloc(), bad, Status::BadTrace, line)?, "{input}");
+        assert!(rt; ends(rt.alloc(), cut, Status::WriteFault, "")?, "{input}");
     }
     Ok(())
 }
@@ -143,34 +138,41 @@ fn the_first_bad_line_is_written(rt: HostRuntime) -> Result<(), Fail> {
 #[test]
 fn a_read_that_fails_ends_the_run(rt: HostRuntime) -> Result<(), Fail> {
     for number in [1, 2] {
-        let ended = ran(
-            rt.alloc(),
-            Case {
-                reads: &[number],
-                ..VOTE
-            },
-        )?;
-        assert!(rt; ended.status == Status::ReadFault, "{number}");
-        assert!(rt; ended.sink.as_bytes().is_empty(), "{number}");
+        let case = Case {
+            reads: &[number],
+            ..VOTE
+        };
+        assert!(rt; ends(rt.alloc(), case, Status::ReadFault, "")?, "{number}");
     }
     Ok(())
+}
+
+// Whether a run whose write of this number fails has written so many bytes of the whole.
+fn leaves_a_prefix(
+    alloc: Global,
+    number: u64,
+    bytes: usize,
+    whole: &[u8],
+) -> Result<bool, AllocError> {
+    let ended = ran(
+        alloc,
+        Case {
+            writes: &[number],
+            ..VOTE
+        },
+    )?;
+    let written = ended.sink.as_bytes();
+    Ok(ended.status == Status::WriteFault && written.len() == bytes && whole.starts_with(written))
 }
 
 #[test]
 fn a_write_that_fails_leaves_a_prefix(rt: HostRuntime) -> Result<(), Fail> {
     let whole = ran(rt.alloc(), VOTE)?;
-    for number in [1, 2, 7] {
-        let ended = ran(
-            rt.alloc(),
-            Case {
-                writes: &[number],
-                ..VOTE
-            },
-        )?;
-        let written = ended.sink.as_bytes();
-        assert!(rt; ended.status == Status::WriteFault, "{number}");
-        assert!(rt; written.len() as u64 == 100 * (number - 1), "{number}");
-        assert!(rt; whole.sink.as_bytes().starts_with(written), "{number}");
+    for (number, bytes) in [(1, 0), (2, 100), (7, 600)] {
+        assert!(rt;
+            leaves_a_prefix(rt.alloc(), number, bytes, whole.sink.as_bytes())?,
+            "{number}"
+        );
     }
     Ok(())
 }

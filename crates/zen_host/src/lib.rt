@@ -3,8 +3,6 @@
 
 pub mod host;
 pub mod mem_host;
-#[cfg(test)]
-mod tests;
 
 pub use host::{Ended, Host, HostError};
 pub use mem_host::{Asked, MemChild, MemHost};

@@ -6,8 +6,6 @@ pub mod mem_link;
 pub mod mem_stream;
 pub mod reading;
 pub mod stream;
-#[cfg(test)]
-mod tests;
 
 pub use link::{CONNECTIONS, Input, Link, LinkError, LinkSettings, Peer, Traffic};
 pub use mem_link::MemLink;

@@ -1,0 +1,146 @@
+//! Real children: what they write, how they end, and that none is left.
+use host_io::{Children, SystemChild};
+use std::alloc::{AllocError, Global};
+use std::fs;
+use std::test::Fail;
+use std::time::Instant;
+use zen_host::{Ended, HostError};
+
+// The words that have a shell do this.
+fn script(alloc: Global, script: &str) -> Result<Vec<String>, AllocError> {
+    let flag = String::from_str(alloc, "-c")?;
+    let script = String::from_str(alloc, script)?;
+    Ok(vec![in alloc; flag, script]?)
+}
+
+fn spawned(
+    rt: &HostRuntime,
+    children: &mut Children,
+    text: &str,
+) -> Result<SystemChild, HostError> {
+    let Ok(words) = script(rt.alloc(), text) else {
+        return Err(HostError::Memory);
+    };
+    children.spawn(rt, "/bin/sh", words.as_slice())
+}
+
+// The status and the output of a shell that does this.
+fn ended(rt: &HostRuntime, text: &str) -> Result<(u8, Vec<u8>), HostError> {
+    let mut children = Children::new(rt.alloc());
+    let child = spawned(rt, &mut children, text)?;
+    let ended = children.wait(child)?;
+    Ok((ended.status, ended.output))
+}
+
+fn is_ended(answer: Result<(u8, Vec<u8>), HostError>, status: u8, output: &[u8]) -> bool {
+    match answer {
+        Ok(ended) => ended.0 == status && ended.1.as_slice() == output,
+        Err(_) => false,
+    }
+}
+
+#[test]
+fn what_a_child_writes_and_its_status_come_back(rt: HostRuntime) {
+    assert!(rt; is_ended(ended(&rt, "printf 'a\nb'; exit 11"), 11, b"a\nb"));
+    assert!(rt; is_ended(ended(&rt, ":"), 0, b""));
+}
+
+#[test]
+fn a_child_has_an_empty_input(rt: HostRuntime) {
+    assert!(rt; is_ended(ended(&rt, "cat; echo end"), 0, b"end\n"));
+}
+
+#[test]
+fn a_signal_is_a_status_above_128(rt: HostRuntime) {
+    assert!(rt; is_ended(ended(&rt, "echo a; kill -9 $$"), 137, b"a\n"));
+}
+
+#[test]
+fn a_child_that_closes_its_output_is_still_waited_for(rt: HostRuntime) {
+    assert!(rt; is_ended(ended(&rt, "echo a; exec >&-; sleep 0.1; exit 3"), 3, b"a\n"));
+}
+
+#[test]
+fn a_program_that_is_not_there_is_refused(rt: HostRuntime) -> Result<(), Fail> {
+    let mut children = Children::new(rt.alloc());
+    let refused = children.spawn(&rt, "./no/such/program", &[]);
+    assert!(rt; matches!(refused, Err(HostError::Failed)));
+    Ok(())
+}
+
+// How much each of three children writes: 5 MB, and a line.
+const LENGTH: usize = 5000004;
+
+// The first child ends only after the others have written all that they have, of which a pipe holds 64 KiB.
+const LAST: &str =
+    "head -c 5000000 /dev/zero; while [ ! -e host_io_c1 ] || [ ! -e host_io_c2 ]; do sleep 0.05; done; echo end";
+
+// The three of them.
+fn started(rt: &HostRuntime, children: &mut Children) -> Result<Vec<SystemChild>, Fail> {
+    let texts = [
+        LAST,
+        "head -c 5000000 /dev/zero; : > host_io_c1; echo end",
+        "head -c 5000000 /dev/zero; : > host_io_c2; echo end",
+    ];
+    let mut started = Vec::new(rt.alloc());
+    for text in texts {
+        started.push(spawned(rt, children, text)?)?;
+    }
+    Ok(started)
+}
+
+// Whether one of them has ended, and has written all that it had.
+fn is_all(answer: Result<Ended, HostError>) -> bool {
+    match answer {
+        Ok(ended) => {
+            ended.status == 0
+                && ended.output.len() == LENGTH
+                && ended.output.as_slice().ends_with(b"end\n")
+        }
+        Err(_) => false,
+    }
+}
+
+#[test]
+fn all_children_write_while_one_is_waited_for(rt: HostRuntime) -> Result<(), Fail> {
+    let _ = fs::remove_file(&rt, "host_io_c1");
+    let _ = fs::remove_file(&rt, "host_io_c2");
+    let mut children = Children::new(rt.alloc());
+    for child in started(&rt, &mut children)? {
+        assert!(rt; is_all(children.wait(child)));
+    }
+    fs::remove_file(&rt, "host_io_c1")?;
+    fs::remove_file(&rt, "host_io_c2")?;
+    Ok(())
+}
+
+// Whether the system has a process of this number, be it one that has ended and was not waited for.
+fn is_there(rt: &HostRuntime, process: &str) -> Result<bool, AllocError> {
+    let path = format!(in rt.alloc(); "/proc/{process}/stat")?;
+    Ok(fs::metadata(rt, path.as_str()).is_ok())
+}
+
+// A child that has written its number and then sleeps.
+fn sleeper(rt: &HostRuntime, children: &mut Children) -> Result<SystemChild, HostError> {
+    let text = "echo $$ > host_io_pid.new; mv host_io_pid.new host_io_pid; exec sleep 1000";
+    let child = spawned(rt, children, text)?;
+    let until_it_has = "while [ ! -e host_io_pid ]; do sleep 0.05; done";
+    let other = spawned(rt, children, until_it_has)?;
+    children.wait(other)?;
+    Ok(child)
+}
+
+#[test]
+fn a_child_that_was_killed_is_gone(rt: HostRuntime) -> Result<(), Fail> {
+    let _ = fs::remove_file(&rt, "host_io_pid");
+    let began = Instant::now(&rt)?;
+    let mut children = Children::new(rt.alloc());
+    let child = sleeper(&rt, &mut children)?;
+    let number = fs::read_to_string(&rt, "host_io_pid")?;
+    assert!(rt; is_there(&rt, number.as_str().trim())?);
+    children.kill(child)?;
+    assert!(rt; !is_there(&rt, number.as_str().trim())?);
+    assert!(rt; began.elapsed(&rt)?.as_secs() < 100);
+    fs::remove_file(&rt, "host_io_pid")?;
+    Ok(())
+}

@@ -1,0 +1,213 @@
+//! Trials over a host in memory, and each way in which one ends.
+use node_trial::{Trial, TrialEnd, has_won, run_trial};
+use std::alloc::{AllocError, Global};
+use std::test::Fail;
+use zen_disk::MemDisks;
+use zen_host::{Asked, Ended, MemHost};
+use zen_link::MemSink;
+
+const TRIAL: Trial<'static> = Trial {
+    program: "./zen",
+    dir: "d",
+    port: 9300,
+    turns: 600,
+};
+
+// What the nodes write, in which the second one has won.
+const WON: [&str; 3] = ["mode candidate\n", "> x\nwon b 1\n", ""];
+
+// What they write where none has won: `won` stands in no line as its first word.
+const NOT_WON: [&str; 3] = ["a won\n", "wont b\nwo\n", "> won"];
+
+#[derive(Drop)]
+struct Tried {
+    end: TrialEnd,
+    sink: MemSink,
+    host: MemHost<MemDisks>,
+}
+
+// A trial whose nodes end so, where the calls of the host with these numbers fail.
+fn trial_of(
+    alloc: Global,
+    statuses: [u8; 3],
+    outputs: [&str; 3],
+    fails: &[u64],
+) -> Result<Tried, AllocError> {
+    let mut ends = Vec::new(alloc);
+    for place in 0..3 {
+        let output = Vec::from_slice(alloc, outputs[place].as_bytes())?;
+        ends.push(Ended {
+            status: statuses[place],
+            output,
+        })?;
+    }
+    let disk = MemDisks::new(alloc, Vec::new(alloc), Vec::new(alloc), Vec::new(alloc));
+    let mut host = MemHost::with_children(alloc, disk, ends, Vec::from_slice(alloc, fails)?);
+    let mut sink = MemSink::new(alloc, 100, Vec::new(alloc));
+    let end = run_trial(alloc, &TRIAL, &mut sink, &mut host);
+    Ok(Tried { end, sink, host })
+}
+
+fn wrote(tried: &Tried, text: &str) -> bool {
+    tried.sink.as_bytes() == text.as_bytes()
+}
+
+// Whether a trial whose nodes end so has this end and writes this, where no call fails.
+fn is_tried(
+    alloc: Global,
+    statuses: [u8; 3],
+    outputs: [&str; 3],
+    end: TrialEnd,
+    text: &str,
+) -> Result<bool, AllocError> {
+    let trial = trial_of(alloc, statuses, outputs, &[])?;
+    Ok(trial.end == end && wrote(&trial, text))
+}
+
+// How the nodes end, what they write, and what the trial then writes, which passes.
+const PASSED: [([u8; 3], [&str; 3], &str); 2] = [
+    (
+        [11, 0, 11],
+        WON,
+        "child a status=11\nchild b status=0\nchild c status=11\nwon=yes\n",
+    ),
+    (
+        [0, 0, 0],
+        NOT_WON,
+        "child a status=0\nchild b status=0\nchild c status=0\nwon=no\n",
+    ),
+];
+
+#[test]
+fn a_trial_passes_where_each_node_stops_or_has_taken_its_turns(
+    rt: HostRuntime,
+) -> Result<(), Fail> {
+    for (statuses, outputs, text) in PASSED {
+        assert!(rt;
+            is_tried(rt.alloc(), statuses, outputs, TrialEnd::Done, text)?,
+            "{text}"
+        );
+    }
+    Ok(())
+}
+
+#[test]
+fn a_node_with_another_status_makes_a_trial_fail(rt: HostRuntime) -> Result<(), Fail> {
+    let text = "child a status=0\nchild b status=11\nchild c status=6\nwon=yes\n";
+    assert!(rt; is_tried(rt.alloc(), [0, 11, 6], WON, TrialEnd::TrialFailed, text)?);
+    Ok(())
+}
+
+fn are_words(words: &[String], wanted: &[&str]) -> bool {
+    let mut wanted_words = wanted.iter();
+    words.len() == wanted.len()
+        && words.iter().all(|word| wanted_words
+            .next()
+            .is_some_and(|wanted| word.as_str() == *wanted))
+}
+
+// Whether a call started a node with these words.
+fn is_start(call: Option<&Asked>, wanted: &[&str]) -> bool {
+    match call {
+        Some(
+            Asked::Spawn {
+                program,
+                words,
+                refused: false,
+            },
+        ) => program.as_str() == "./zen" && are_words(words, wanted),
+        _ => false,
+    }
+}
+
+#[test]
+fn a_node_is_told_its_id_its_folder_and_its_peers(rt: HostRuntime) -> Result<(), Fail> {
+    let wanted = [
+        "node",
+        "--id",
+        "b",
+        "--dir",
+        "d/b",
+        "--listen",
+        "127.0.0.1:9301",
+        "--peers",
+        "a=127.0.0.1:9300,c=127.0.0.1:9302",
+        "--initial",
+        "a,b,c",
+        "--turns",
+        "600",
+    ];
+    let trial = trial_of(rt.alloc(), [0, 0, 0], WON, &[])?;
+    assert!(rt; is_start(trial.host.asked().get(1), &wanted));
+    Ok(())
+}
+
+// Whether these are the children that were killed, in order.
+fn are_killed(calls: &[Asked], wanted: &[usize]) -> bool {
+    let mut left = wanted.iter();
+    for call in calls {
+        if let Asked::Kill { child, .. } = call {
+            if left.next() != Some(child) {
+                return false;
+            }
+        }
+    }
+    left.next().is_none()
+}
+
+// Whether a trial, where these calls are refused, ends by that, writes nothing, and has made so many calls, of which some
+// killed these children.
+fn is_cut_short(
+    alloc: Global,
+    refused: &[u64],
+    count: usize,
+    children: &[usize],
+) -> Result<bool, AllocError> {
+    let trial = trial_of(alloc, [0, 0, 0], WON, refused)?;
+    let calls = trial.host.asked();
+    Ok(
+        trial.end == TrialEnd::HostFault
+            && wrote(&trial, "")
+            && calls.len() == count
+            && are_killed(calls, children),
+    )
+}
+
+// Which call is refused, how many calls there are then, and the numbers of the children that are killed.
+const CUT_SHORT: [(u64, usize, &[usize]); 6] = [
+    (1, 1, &[]),
+    (2, 3, &[1]),
+    (3, 5, &[1, 2]),
+    (4, 6, &[2, 3]),
+    (5, 6, &[3]),
+    (6, 6, &[]),
+];
+
+#[test]
+fn where_a_call_is_refused_those_that_still_run_are_killed(rt: HostRuntime) -> Result<(), Fail> {
+    for (call, count, children) in CUT_SHORT {
+        assert!(rt;
+            is_cut_short(rt.alloc(), &[call], count, children)?,
+            "{call}"
+        );
+    }
+    Ok(())
+}
+
+#[test]
+fn a_killing_that_is_refused_ends_no_trial_earlier(rt: HostRuntime) -> Result<(), Fail> {
+    assert!(rt; is_cut_short(rt.alloc(), &[4, 5], 6, &[2, 3])?);
+    Ok(())
+}
+
+#[test]
+fn a_win_is_a_line_whose_first_word_is_won(rt: HostRuntime) {
+    for output in ["won", "won\n", "won a 1\n", "x\nwon \ny\n", "\n\nwon b 2"] {
+        assert!(rt; has_won(output.as_bytes()), "{output:?}");
+    }
+    for output in [
+        "", "\n", " won", "won\t1", "WON\n", "wonder\n", "x won\n", "wo\nn\n",
+    ] {
+        assert!(rt; !has_won(output.as_bytes()), "{output:?}");
+    }
+}

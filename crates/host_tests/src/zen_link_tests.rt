@@ -1,0 +1,99 @@
+//! Sources, sinks and a link in memory.
+ghost use Rattle.std.specs.Prelude.{IfOk, IsTrue};
+ghost use Rattle.std.specs.List.{list_all};
+ghost use Rattle.zen_link.specs.Told.{has_low_conn};
+
+use bytes::Bytes;
+use std::alloc::{AllocError, Global};
+use std::test::Fail;
+use zen_link::{
+    Input, InputError, Link, LinkError, MemLink, MemSink, MemSource, Source, Traffic, read_input,
+    write_all,
+};
+
+#[test]
+fn a_source_gives_its_bytes_and_fails_where_it_is_told(rt: HostRuntime) -> Result<(), Fail> {
+    let alloc = rt.alloc();
+    let bytes = Vec::from_slice(alloc, b"abc")?;
+    let mut source = MemSource::new(bytes, vec![in alloc; 2u64]?);
+    let mut buffer = [0; 2];
+    assert!(rt; source.read(&mut buffer) == Ok(2));
+    assert!(rt; buffer == *b"ab");
+    assert!(rt; source.read(&mut buffer).is_err());
+    assert!(rt; source.read(&mut buffer) == Ok(1));
+    assert!(rt; source.read(&mut buffer) == Ok(0));
+    Ok(())
+}
+
+#[test]
+fn an_input_is_read_to_its_end_or_as_far_as_it_may_be(rt: HostRuntime) -> Result<(), Fail> {
+    let alloc = rt.alloc();
+    for (most, read) in [
+        (4, b"abc".as_slice()),
+        (2, b"ab".as_slice()),
+        (0, b"".as_slice()),
+    ] {
+        let mut source = MemSource::new(Vec::from_slice(alloc, b"abc")?, Vec::new(alloc));
+        let Ok(bytes) = read_input(alloc, &mut source, most) else {
+            return Err("it was not read".into());
+        };
+        assert!(rt; bytes.as_slice() == read);
+    }
+    let mut source = MemSource::new(Vec::from_slice(alloc, b"abc")?, vec![in alloc; 2u64]?);
+    assert!(rt; matches!(read_input(alloc, &mut source, 4), Err(InputError::Read)));
+    Ok(())
+}
+
+#[test]
+fn a_sink_takes_all_bytes_piece_by_piece(rt: HostRuntime) -> Result<(), Fail> {
+    let alloc = rt.alloc();
+    let mut sink = MemSink::new(alloc, 2, vec![in alloc; 4u64]?);
+    assert!(rt; write_all(&mut sink, b"abcde").is_ok());
+    assert!(rt; write_all(&mut sink, b"f").is_err());
+    assert!(rt; write_all(&mut sink, b"g").is_ok());
+    assert!(rt; sink.as_bytes() == b"abcdeg".as_slice());
+    Ok(())
+}
+
+// Bytes of a connection, and its end.
+fn script(alloc: Global) -> Result<Vec<Input>, AllocError>
+    ensures { IfOk result (λ inputs. IsTrue (list_all has_low_conn inputs.items)) }
+{
+    let bytes = Bytes::from_static(b"x\n");
+    Ok(vec![in alloc; Input::Bytes { conn: 3, bytes }, Input::Closed { conn: 3 }]?)
+}
+
+// A letter for what went over a link.
+fn letter(traffic: &Traffic<u8>) -> u8 {
+    match traffic {
+        Traffic::Took(Input::Bytes { .. }) => b'b',
+        Traffic::Took(Input::Closed { .. }) => b'c',
+        Traffic::Took(Input::Tick { .. }) => b't',
+        Traffic::Took(Input::Stop) => b's',
+        Traffic::Gave(value) => *value,
+        Traffic::Dropped(_) => b'd',
+    }
+}
+
+fn letters(alloc: Global, link: &MemLink<u8>) -> Result<Vec<u8>, AllocError> {
+    let mut letters = Vec::new(alloc);
+    for traffic in link.traffic().unwrap_or(&[]) {
+        letters.push(letter(traffic))?;
+    }
+    Ok(letters)
+}
+
+#[test]
+fn a_link_in_memory_tells_what_went_over_it(rt: HostRuntime) -> Result<(), Fail> {
+    let alloc = rt.alloc();
+    let mut link = MemLink::new(alloc, script(alloc)?, vec![in alloc; 2u64]?);
+    assert!(rt; matches!(link.next(), Ok(Input::Bytes { .. })));
+    assert!(rt; matches!(link.next(), Err(LinkError::Failed)));
+    link.send(b'7');
+    link.drop_conn(3);
+    let _ = link.next();
+    let _ = link.next();
+    assert!(rt; letters(alloc, &link)?.as_slice() == b"b7dcs".as_slice());
+    assert!(rt; link.fault_count() == 1);
+    Ok(())
+}

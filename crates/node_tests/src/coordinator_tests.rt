@@ -1,0 +1,602 @@
+//! Small worlds of coordinators, and the lines that their events are to show, in the forms of a trace.
+//!
+//! The lines were not taken from this program. Most are worked examples that the rules of the policy were given with,
+//! written out by hand before there was any code; those of rounds, stale checks, late excludes, hand-overs and drops follow from
+//! docs/policy.md, and states are shown whole by docs/formats.md. Where an example tells only some lines of an event, only those
+//! are compared, and `...` stands for the others, if any.
+ghost use Rattle.std.specs.Prelude.{IfOk};
+ghost use Rattle.std.specs.List.{AllByRecursion};
+ghost use Rattle.wire_frames.specs.Frames.{IsFitFrame};
+ghost use Rattle.policy_model.specs.Fitting.{IsFitEvent};
+ghost use Rattle.coordinator.specs.Views.{IsReady};
+
+use crate::members::{Member, settings_of};
+use crate::shown::shows;
+use client_lines::Line;
+use coordinator::{Coordinator, Entries, Sealed, StepError};
+use event_text::{write_event, write_steps};
+use policy_model::Event;
+use schedule_text::Text;
+use state_journal::StateJournal;
+use std::alloc::{AllocError, Global};
+use std::marker::Model;
+use std::test::*;
+use voting_config::NodeId;
+use wire_frames::Frame;
+use zen_disk::{Fuse, MemDisks, Order, Way};
+
+// ---- events
+
+// What stands before the first space and after it.
+fn halves(text: &str) -> Result<(&str, &str), Fail> {
+    match text.split_once(' ') {
+        Some(halves) => Ok(halves),
+        None => Err(Fail::new("a word is missing in an event")),
+    }
+}
+
+fn read_tick(fields: &str) -> Result<Event, Fail>
+    ensures { IfOk result IsFitEvent }
+{
+    let (now, word) = halves(fields)?;
+    Ok(Event::Tick {
+        now: now.parse::<u64>()?,
+        word: word.parse::<u64>()?,
+    })
+}
+
+fn read_client(alloc: Global, line: &str) -> Result<Event, Fail>
+    ensures { IfOk result IsFitEvent }
+{
+    let line = Line::of(Vec::from_slice(alloc, line.as_bytes())?);
+    Ok(Event::Client { conn: 0, line })
+}
+
+// ---- worlds
+
+// A frame that a node sent.
+#[derive(Drop)]
+struct Sent {
+    frame: Frame,
+}
+
+impl Model for Sent {
+    ghost use Rattle.wire_frames.specs.declared.frame.Frame.{Frame};
+    ghost use Rattle.wire_frames.specs.Frames.{IsFitFrame};
+
+    ghost Value = { Frame };
+
+    ghost view = { λ s. s.frame };
+
+    ghost invariant = { λ s. IsFitFrame s.frame };
+}
+
+impl Sent {
+    fn copy(&self) -> Result<Frame, AllocError>
+        ensures { IfOk result IsFitFrame }
+    {
+        self.frame.copy()
+    }
+}
+
+// Nodes, and all frames that they sent, in order.
+#[derive(Drop)]
+struct World {
+    alloc: Global,
+    members: Vec<Member>,
+    sent: Vec<Sent>,
+}
+
+impl World {
+    // The nodes of these names, where a alone is a first voter, each started with the others as its listed peers.
+    fn of(alloc: Global, names: &[&str]) -> Result<World, Fail> {
+        let mut members = Vec::new(alloc);
+        for name in names {
+            let settings = settings_of(alloc, name, names, &["a"])?;
+            members.push(Member::start(alloc, settings)?)?;
+        }
+        Ok(World {
+            alloc,
+            members,
+            sent: Vec::new(alloc),
+        })
+    }
+
+    fn place_of(&self, name: NodeId) -> usize {
+        for (place, member) in self.members.iter().enumerate() {
+            if member.name() == name {
+                return place;
+            }
+        }
+        self.members.len()
+    }
+
+    // Takes out the node of this name.
+    fn take(&mut self, name: NodeId) -> Result<Member, Fail> {
+        let place = self.place_of(name);
+        if place < self.members.len() {
+            return Ok(self.members.swap_remove(place));
+        }
+        Err(Fail::new(format_args!("there is no node {name}")))
+    }
+
+    // The frame of this number, counted from 1, comes.
+    fn read_frame(&self, number: usize) -> Result<Event, Fail>
+        ensures { IfOk result IsFitEvent }
+    {
+        if 0 < number && number <= self.sent.len() {
+            return Ok(Event::Frame(self.sent[number - 1].copy()?));
+        }
+        Err(Fail::new(format_args!("frame {number} was not sent")))
+    }
+
+    // `tick N NOW WORD`, `deliver N K`, `client N LINE`: the event that comes to the node.
+    fn read_event(&self, verb: &str, fields: &str) -> Result<Event, Fail>
+        ensures { IfOk result IsFitEvent }
+    {
+        if verb == "deliver" {
+            return self.read_frame(fields.parse::<usize>()?);
+        }
+        if verb == "client" {
+            return read_client(self.alloc, fields);
+        }
+        read_tick(fields)
+    }
+
+    // The event of this line happens. Answers the lines that it shows.
+    fn happens(&mut self, text: &str) -> Result<Text, Fail> {
+        let (verb, rest) = halves(text)?;
+        let (name, fields) = halves(rest)?;
+        let event = self.read_event(verb, fields)?;
+        self.step(NodeId::parse(name)?, event)
+    }
+
+    fn step(&mut self, name: NodeId, event: Event) -> Result<Text, Fail>
+        requires { IsFitEvent event }
+    {
+        let (member, sealed) = self.take(name)?.step(self.alloc, event)?;
+        self.members.push(member)?;
+        let shown = self.show(name, &sealed)?;
+        self.keep(sealed.sends().as_slice())?;
+        Ok(shown)
+    }
+
+    // What an event showed, as lines: acts and modes, drops, frames, replies. No publication is remembered from one event to the
+    // next, so each state is shown whole.
+    fn show(&self, me: NodeId, sealed: &Sealed) -> Result<Text, AllocError> {
+        let mut text = Text::new(self.alloc);
+        write_event(
+            &mut text,
+            self.alloc,
+            self.sent.len(),
+            me,
+            &mut None,
+            sealed.entries().steps.as_slice(),
+            sealed.entries().drops.as_slice(),
+            sealed.sends().as_slice(),
+            sealed.replies().as_slice(),
+        )?;
+        Ok(text)
+    }
+
+    // The frames of an event are kept, each under the next number.
+    fn keep(&mut self, sends: &[Frame]) -> Result<(), AllocError>
+        requires { AllByRecursion IsFitFrame sends.now }
+    {
+        for frame in sends {
+            self.sent.push(Sent {
+                frame: frame.copy()?,
+            })?;
+        }
+        Ok(())
+    }
+
+    // Each event shows the lines behind it.
+    fn follows(&mut self, rows: &[(&str, &[&str])]) -> Result<(), Fail> {
+        for (event, lines) in rows {
+            let text = self.happens(event)?;
+            let shown = str::from_utf8(text.as_bytes())?;
+            if !shows(shown, lines) {
+                return Err(Fail::new(format_args!("{event} shows {shown}")));
+            }
+        }
+        Ok(())
+    }
+}
+
+// ---- what is to be seen
+
+// A node alone is elected, and has its first state committed.
+fn leader(alloc: Global) -> Result<World, Fail> {
+    let mut world = World::of(alloc, &["a"])?;
+    world.follows(&[
+        ("tick a 0 7", &["act a ok boot a"]),
+        ("tick a 8 7", &["m1 a->a startjoin a 1"]),
+        ("deliver a 1", &["..."]),
+        (
+            "deliver a 2",
+            &[
+                "act a ok join a a 1 0/0",
+                "won a 1",
+                "mode a leader 1",
+                "act a ok value 1 a {\"exclusions\":[],\"master\":\"a\",\"members\":[\"a\"],\"settings\":{}}",
+                "m3 a->a publish {\"committed\":[\"a\"],\"config\":[\"a\"],\"term\":1,\"value\":{\"exclusions\":[],\"master\":\"a\",\"members\":[\"a\"],\"settings\":{}},\"version\":1}",
+            ],
+        ),
+        ("deliver a 3", &["..."]),
+        ("deliver a 4", &["..."]),
+        ("deliver a 5", &["act a ok commit a 1/1"]),
+    ])?;
+    Ok(world)
+}
+
+// The second of two nodes joins the first, and takes its second state, which is in flight.
+fn follower(alloc: Global) -> Result<World, Fail> {
+    let mut world = World::of(alloc, &["a", "b"])?;
+    world.follows(&[
+        ("tick a 0 7", &["act a ok boot a", "m1 a->b peersask b"]),
+        (
+            "tick a 8 7",
+            &["m2 a->a startjoin a 1", "m3 a->b startjoin a 1"],
+        ),
+        ("deliver a 2", &["...", "m4 a->a join 1 0/0"]),
+        ("deliver b 3", &["...", "m5 b->a join 1 0/0"]),
+        (
+            "deliver a 4",
+            &[
+                "...",
+                "won a 1",
+                "...",
+                "m6 a->a publish {\"committed\":[\"a\"],\"config\":[\"a\"],\"term\":1,\"value\":{\"exclusions\":[],\"master\":\"a\",\"members\":[\"a\"],\"settings\":{}},\"version\":1}",
+            ],
+        ),
+        ("deliver a 5", &["..."]),
+        ("deliver a 6", &["...", "m7 a->a response 1/1"]),
+        ("deliver a 7", &["...", "m8 a->a commit 1/1"]),
+        (
+            "deliver a 8",
+            &[
+                "...",
+                "act a ok value 2 a {\"exclusions\":[],\"master\":\"a\",\"members\":[\"a\",\"b\"],\"settings\":{}}",
+                "m9 a->a publish {\"committed\":[\"a\"],\"config\":[\"a\"],\"term\":1,\"value\":{\"exclusions\":[],\"master\":\"a\",\"members\":[\"a\",\"b\"],\"settings\":{}},\"version\":2}",
+                "m10 a->b publish {\"committed\":[\"a\"],\"config\":[\"a\"],\"term\":1,\"value\":{\"exclusions\":[],\"master\":\"a\",\"members\":[\"a\",\"b\"],\"settings\":{}},\"version\":2}",
+            ],
+        ),
+        (
+            "deliver b 10",
+            &["...", "mode b follower a 1", "m11 b->a response 1/2"],
+        ),
+    ])?;
+    Ok(world)
+}
+
+#[test]
+fn a_node_alone_elects_itself_and_acknowledges_a_put_as_its_commit_is_sent(
+    rt: HostRuntime,
+) -> Result<(), Fail> {
+    leader(rt.alloc())?.follows(&[
+        (
+            "client a {\"id\":1,\"put\":{\"key\":\"k\",\"value\":\"v\"}}",
+            &["..."],
+        ),
+        ("deliver a 6", &["..."]),
+        (
+            "deliver a 7",
+            &[
+                "...",
+                "m8 a->a commit 1/2",
+                "reply a {\"acked\":{\"term\":1,\"version\":2},\"id\":1}",
+            ],
+        ),
+        ("deliver a 8", &["..."]),
+        (
+            "client a {\"id\":2,\"put\":{\"key\":\"k\",\"value\":\"v\"}}",
+            &["reply a {\"acked\":{\"term\":1,\"version\":2},\"id\":2}"],
+        ),
+    ])
+}
+
+#[test]
+fn the_second_of_two_nodes_joins_and_follows_and_names_its_leader(
+    rt: HostRuntime,
+) -> Result<(), Fail> {
+    follower(rt.alloc())?.follows(&[(
+        "client b {\"id\":1,\"state\":{}}",
+        &["reply b {\"id\":1,\"not_master\":\"a\"}"],
+    )])
+}
+
+#[test]
+fn the_sixty_fifth_put_finds_the_queue_full(rt: HostRuntime) -> Result<(), Fail> {
+    let alloc = rt.alloc();
+    let mut world = leader(alloc)?;
+    for n in 1..=64u64 {
+        let put = format!(in alloc;
+            "client a {{\"id\":{n},\"put\":{{\"key\":\"k{n}\",\"value\":\"v\"}}}}"
+        )?;
+        world.happens(put.as_str())?;
+    }
+    world.follows(&[(
+        "client a {\"id\":65,\"put\":{\"key\":\"k65\",\"value\":\"v\"}}",
+        &["reply a {\"id\":65,\"queue_full\":64}"],
+    )])
+}
+
+#[test]
+fn before_its_first_tick_a_node_knows_no_master(rt: HostRuntime) -> Result<(), Fail> {
+    World::of(rt.alloc(), &["a"])?.follows(&[(
+        "client a {\"id\":1,\"put\":{\"key\":\"k\",\"value\":\"v\"}}",
+        &["reply a {\"id\":1,\"not_master\":null}"],
+    )])
+}
+
+#[test]
+fn a_leader_refuses_a_key_of_129_bytes_by_its_length(rt: HostRuntime) -> Result<(), Fail> {
+    let alloc = rt.alloc();
+    let key = vec![in alloc; b'k'; 129]?;
+    let put = format!(in alloc;
+        "client a {{\"id\":1,\"put\":{{\"key\":\"{}\",\"value\":\"v\"}}}}",
+        str::from_utf8(&key)?
+    )?;
+    leader(alloc)?.follows(&[(put.as_str(), &["reply a {\"bad_setting\":129,\"id\":1}"])])
+}
+
+#[test]
+fn a_line_that_is_no_json_is_answered_so(rt: HostRuntime) -> Result<(), Fail> {
+    World::of(rt.alloc(), &["a"])?.follows(&[("client a {", &["reply a {\"error\":\"not_json\"}"])])
+}
+
+#[test]
+fn a_leader_whose_publication_fails_stands_again_and_publishes_the_same_value(
+    rt: HostRuntime,
+) -> Result<(), Fail> {
+    World::of(rt.alloc(), &["a"])?.follows(&[
+        ("tick a 0 7", &["act a ok boot a"]),
+        ("tick a 8 7", &["m1 a->a startjoin a 1"]),
+        ("deliver a 1", &["..."]),
+        (
+            "deliver a 2",
+            &[
+                "...",
+                "m3 a->a publish {\"committed\":[\"a\"],\"config\":[\"a\"],\"term\":1,\"value\":{\"exclusions\":[],\"master\":\"a\",\"members\":[\"a\"],\"settings\":{}},\"version\":1}",
+            ],
+        ),
+        ("deliver a 3", &["..."]),
+        ("tick a 30008 7", &["mode a candidate 1"]),
+        ("tick a 30008 7", &["..."]),
+        ("tick a 30016 7", &["m5 a->a startjoin a 2"]),
+        ("deliver a 5", &["...", "m6 a->a join 2 1/1"]),
+        (
+            "deliver a 6",
+            &[
+                "...",
+                "won a 2",
+                "mode a leader 2",
+                "act a ok value 2 a {\"exclusions\":[],\"master\":\"a\",\"members\":[\"a\"],\"settings\":{}}",
+                "m7 a->a publish {\"committed\":[\"a\"],\"config\":[\"a\"],\"term\":2,\"value\":{\"exclusions\":[],\"master\":\"a\",\"members\":[\"a\"],\"settings\":{}},\"version\":2}",
+            ],
+        ),
+    ])
+}
+
+#[test]
+fn the_next_round_waits_for_the_end_of_the_last(rt: HostRuntime) -> Result<(), Fail> {
+    World::of(rt.alloc(), &["a"])?.follows(&[
+        ("tick a 0 7", &["act a ok boot a"]),
+        ("tick a 8 7", &["m1 a->a startjoin a 1"]),
+        ("tick a 9 7", &[]),
+        ("tick a 515 7", &[]),
+        ("tick a 516 7", &["m2 a->a startjoin a 1"]),
+    ])
+}
+
+#[test]
+fn a_check_of_an_earlier_term_is_answered_no(rt: HostRuntime) -> Result<(), Fail> {
+    follower(rt.alloc())?.follows(&[
+        ("tick a 1008 7", &["m12 a->b followercheck 1"]),
+        ("tick a 30008 7", &["mode a candidate 1"]),
+        ("tick a 30008 7", &["..."]),
+        (
+            "tick a 30016 7",
+            &["m14 a->a startjoin a 2", "m15 a->b startjoin a 2"],
+        ),
+        ("deliver b 15", &["...", "m16 b->a join 2 1/2"]),
+        ("deliver b 12", &["m17 b->a followeranswer no 2 0/0"]),
+    ])
+}
+
+#[test]
+fn an_exclude_is_answered_after_30_000_ms_where_the_excluded_still_votes(
+    rt: HostRuntime,
+) -> Result<(), Fail> {
+    leader(rt.alloc())?.follows(&[
+        ("client a {\"id\":1,\"exclude\":[\"a\"]}", &["..."]),
+        ("deliver a 6", &["..."]),
+        ("deliver a 7", &["...", "m8 a->a commit 1/2"]),
+        ("deliver a 8", &["act a ok commit a 1/2"]),
+        ("tick a 30007 7", &[]),
+        (
+            "tick a 30008 7",
+            &["reply a {\"exclusion_timeout\":[\"a\"],\"id\":1}"],
+        ),
+    ])
+}
+
+#[test]
+fn a_leader_that_votes_no_more_hands_over_to_the_least_responder_that_votes(
+    rt: HostRuntime,
+) -> Result<(), Fail> {
+    follower(rt.alloc())?.follows(&[
+        ("deliver a 11", &["..."]),
+        ("deliver a 9", &["...", "m12 a->a response 1/2"]),
+        (
+            "deliver a 12",
+            &["...", "m13 a->a commit 1/2", "m14 a->b commit 1/2"],
+        ),
+        ("deliver a 13", &["..."]),
+        ("deliver b 14", &["..."]),
+        ("client a {\"id\":1,\"exclude\":[\"a\"]}", &["..."]),
+        ("deliver a 15", &["...", "m17 a->a response 1/3"]),
+        ("deliver b 16", &["...", "m18 b->a response 1/3"]),
+        ("deliver a 17", &["..."]),
+        (
+            "deliver a 18",
+            &["...", "m19 a->a commit 1/3", "m20 a->b commit 1/3"],
+        ),
+        (
+            "deliver a 19",
+            &[
+                "act a ok commit a 1/3",
+                "m21 a->a startjoin b 2",
+                "m22 a->b startjoin b 2",
+                "reply a {\"acked\":{\"term\":1,\"version\":3},\"id\":1}",
+            ],
+        ),
+        ("tick a 9 7", &[]),
+        (
+            "tick a 1008 7",
+            &[
+                "m23 a->a startjoin b 2",
+                "m24 a->b followercheck 1",
+                "m25 a->b startjoin b 2",
+            ],
+        ),
+    ])
+}
+
+// The commit never comes to b, and no check to c.
+#[test]
+fn a_leader_drops_who_lags_and_who_fails_its_checks_by_ascending_id(
+    rt: HostRuntime,
+) -> Result<(), Fail> {
+    World::of(rt.alloc(), &["a", "b", "c"])?.follows(&[
+        ("tick a 0 7", &["..."]),
+        (
+            "tick a 8 7",
+            &[
+                "m3 a->a startjoin a 1",
+                "m4 a->b startjoin a 1",
+                "m5 a->c startjoin a 1",
+            ],
+        ),
+        ("deliver a 3", &["...", "m6 a->a join 1 0/0"]),
+        ("deliver b 4", &["...", "m7 b->a join 1 0/0"]),
+        ("deliver c 5", &["...", "m8 c->a join 1 0/0"]),
+        ("deliver a 7", &["..."]),
+        ("deliver a 8", &["..."]),
+        ("deliver a 6", &["...", "won a 1", "..."]),
+        ("deliver b 10", &["...", "m12 b->a response 1/1"]),
+        ("deliver c 11", &["...", "m13 c->a response 1/1"]),
+        ("deliver a 9", &["...", "m14 a->a response 1/1"]),
+        ("deliver a 12", &["..."]),
+        ("deliver a 13", &["..."]),
+        (
+            "deliver a 14",
+            &[
+                "...",
+                "m15 a->a commit 1/1",
+                "m16 a->b commit 1/1",
+                "m17 a->c commit 1/1",
+            ],
+        ),
+        ("deliver a 15", &["..."]),
+        ("deliver c 17", &["..."]),
+        (
+            "tick a 1008 7",
+            &["m18 a->b followercheck 1", "m19 a->c followercheck 1"],
+        ),
+        ("deliver b 18", &["m20 b->a followeranswer yes 1 0/0"]),
+        ("deliver a 20", &[]),
+        ("tick a 40000 7", &["m21 a->b followercheck 1"]),
+        ("deliver b 21", &["m22 b->a followeranswer yes 1 0/0"]),
+        ("deliver a 22", &[]),
+        (
+            "tick a 41000 7",
+            &["m23 a->b followercheck 1", "m24 a->c followercheck 1"],
+        ),
+        ("deliver b 23", &["m25 b->a followeranswer yes 1 0/0"]),
+        ("deliver a 25", &[]),
+        ("tick a 60000 7", &["m26 a->b followercheck 1"]),
+        ("deliver b 26", &["m27 b->a followeranswer yes 1 0/0"]),
+        ("deliver a 27", &[]),
+        (
+            "tick a 61000 7",
+            &["m28 a->b followercheck 1", "m29 a->c followercheck 1"],
+        ),
+        ("deliver b 28", &["m30 b->a followeranswer yes 1 0/0"]),
+        ("deliver a 30", &[]),
+        (
+            "tick a 90008 7",
+            &["...", "drop a b lag", "drop a c checks", "..."],
+        ),
+    ])
+}
+
+// ---- a disk that fails
+
+// A node alone over a journal on a new disk.
+fn over_journal(alloc: Global) -> Result<Coordinator<StateJournal<Fuse<MemDisks>>>, Fail>
+    ensures { IfOk result IsReady }
+{
+    let disk = MemDisks::new(alloc, Vec::new(alloc), Vec::new(alloc), Vec::new(alloc));
+    let Ok(journal) = StateJournal::open(alloc, Fuse::new(disk)) else {
+        return Err(Fail::new("no journal"));
+    };
+    let settings = settings_of(alloc, "a", &["a"], &["a"])?;
+    Ok(Coordinator::open(alloc, settings, journal))
+}
+
+// Whether the steps of these entries show this line and no other.
+fn shows_only(alloc: Global, entries: &Entries, line: &str) -> Result<bool, Fail> {
+    let mut text = Text::new(alloc);
+    let steps = entries.steps.as_slice();
+    write_steps(&mut text, alloc, NodeId::parse("a")?, &mut None, steps)?;
+    Ok(shows(str::from_utf8(text.as_bytes())?, &[line]))
+}
+
+// The disk fails or stops at the first write. Answers the entries of that event, where the node does nothing more.
+fn fails_at_the_bootstrap(alloc: Global, order: Order) -> Result<Entries, Fail> {
+    let mut node = over_journal(alloc)?;
+    let _ = node.step(alloc, Event::Start);
+    node.arm(order);
+    let Err(StepError::Disk(entries)) = node.step(alloc, Event::Tick { now: 0, word: 7 }) else {
+        return Err(Fail::new("the disk did not fail"));
+    };
+    match node.step(alloc, Event::Tick { now: 8, word: 7 }) {
+        Err(StepError::Stopped) => Ok(entries),
+        _ => Err(Fail::new("the node is not stopped")),
+    }
+}
+
+#[test]
+fn a_disk_that_fails_ends_the_entries_with_its_act_and_stops_the_node(
+    rt: HostRuntime,
+) -> Result<(), Fail> {
+    let alloc = rt.alloc();
+    let entries = fails_at_the_bootstrap(alloc, Order::Fault(1))?;
+    assert!(rt; shows_only(alloc, &entries, "act a disk boot a")?);
+    Ok(())
+}
+
+#[test]
+fn so_does_a_disk_that_stops(rt: HostRuntime) -> Result<(), Fail> {
+    let alloc = rt.alloc();
+    let entries = fails_at_the_bootstrap(alloc, Order::Stop(1, Way::Lost))?;
+    assert!(rt; shows_only(alloc, &entries, "act a disk boot a")?);
+    Ok(())
+}
+
+#[test]
+fn what_is_sealed_is_given_up_as_it_is(rt: HostRuntime) -> Result<(), Fail> {
+    let alloc = rt.alloc();
+    let mut node = over_journal(alloc)?;
+    let _ = node.step(alloc, Event::Start);
+    let Ok(sealed) = node.step(alloc, Event::Tick { now: 0, word: 7 }) else {
+        return Err(Fail::new("the tick failed"));
+    };
+    let (entries, sends, replies) = sealed.into_parts();
+    assert!(rt; shows_only(alloc, &entries, "act a ok boot a")?);
+    assert!(rt; sends.into_items().is_empty());
+    assert!(rt; replies.as_slice().is_empty());
+    Ok(())
+}

@@ -1,0 +1,20 @@
+//! The tests of policy_model, client_guarantees, coordinator, node_loop, node_bytes. They stand apart, so that a check of one of
+//! these, or of what stands on it, does not prove them again.
+#![tactic(auto)]
+
+#[cfg(test)]
+mod client_guarantees_tests;
+#[cfg(test)]
+mod coordinator_tests;
+#[cfg(test)]
+mod members;
+#[cfg(test)]
+mod node_bytes_tests;
+#[cfg(test)]
+mod node_loop_running_tests;
+#[cfg(test)]
+mod node_loop_tests;
+#[cfg(test)]
+mod policy_model_tests;
+#[cfg(test)]
+mod shown;

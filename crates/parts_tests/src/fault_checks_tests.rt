@@ -1,0 +1,127 @@
+//! A follower that never answers, one that lags, and a leader that refuses, tick by tick.
+use cluster_state::StateId;
+use fault_checks::*;
+use std::test::*;
+use voting_config::{NodeId, NodeSet};
+
+fn b() -> NodeId {
+    NodeId::parse("b").unwrap_or_default()
+}
+
+fn only_b() -> NodeSet {
+    let mut members = NodeSet::new();
+    let _ = members.insert(b());
+    members
+}
+
+fn state(version: u64) -> StateId {
+    StateId { term: 1, version }
+}
+
+// Follower b is named at a tick in one way, or not.
+#[derive(Clone, Copy)]
+enum Named {
+    Nowhere,
+    ToAsk,
+    ToDropForChecks,
+    ToDropForLag,
+}
+
+// What comes of the checks of b, by version and moment, or where a tick names it.
+#[derive(Clone, Copy)]
+enum Row {
+    Answers(u64, u64),
+    Finished(u64, u64),
+    Ticks(u64, Named),
+}
+
+fn is_checked(checks: &mut FollowerChecks, row: Row) -> bool {
+    match row {
+        Row::Answers(version, now) => {
+            checks.answer(b(), true, state(version), now);
+            true
+        }
+        Row::Finished(version, now) => {
+            checks.finished(state(version), now);
+            true
+        }
+        Row::Ticks(now, named) => is_named(&checks.tick(now), named),
+    }
+}
+
+fn is_named(checked: &Checked, named: Named) -> bool {
+    let (to_ask, for_checks, for_lag) = match named {
+        Named::Nowhere => (0, 0, 0),
+        Named::ToAsk => (1, 0, 0),
+        Named::ToDropForChecks => (0, 1, 0),
+        Named::ToDropForLag => (0, 0, 1),
+    };
+    is_b(&checked.ask, to_ask) && is_b(&checked.checks, for_checks) && is_b(&checked.lag, for_lag)
+}
+
+// Whether b is in a set so often, and nobody else.
+fn is_b(ids: &NodeSet, count: usize) -> bool {
+    ids.len() == count && only_b().has_all(ids)
+}
+
+// Moments, with where a follower is named that never answers.
+const SILENCE: &[(u64, Named)] = &[
+    (1_000, Named::ToAsk),
+    (11_000, Named::Nowhere),
+    (12_000, Named::ToAsk),
+    (22_000, Named::Nowhere),
+    (23_000, Named::ToAsk),
+    (33_000, Named::ToDropForChecks),
+    (34_000, Named::Nowhere),
+];
+
+#[test]
+fn a_follower_that_never_answers(rt: HostRuntime) {
+    let mut checks = FollowerChecks::new();
+    checks.watch(&only_b(), 0);
+    for row in SILENCE {
+        let (now, named) = *row;
+        assert!(rt; is_named(&checks.tick(now), named), "at {now}");
+    }
+}
+
+const LAGGING: &[Row] = &[
+    Row::Ticks(1_000, Named::ToAsk),
+    Row::Answers(1, 1_000),
+    Row::Finished(2, 5_000),
+    Row::Ticks(94_999, Named::ToAsk),
+    Row::Answers(1, 94_999),
+];
+
+#[test]
+fn a_follower_that_lags(rt: HostRuntime) {
+    let mut checks = FollowerChecks::new();
+    checks.watch(&only_b(), 0);
+    for (at, row) in LAGGING.iter().enumerate() {
+        assert!(rt; is_checked(&mut checks, *row), "row {at}");
+    }
+    let mut copy = checks.copy();
+    assert!(rt; is_named(&copy.tick(95_000), Named::ToDropForLag));
+    assert!(rt; is_named(&checks.tick(95_000), Named::ToDropForLag));
+}
+
+#[test]
+fn a_leader_that_refuses(rt: HostRuntime) {
+    let mut check = LeaderCheck::start(b(), 0);
+    assert!(rt; check.leader() == b());
+    check.answer(false, 500);
+    assert!(rt; check.tick(999) == LeaderTick::Quiet);
+    for now in [1_000, 2_000, 3_000] {
+        assert!(rt; check.tick(now) == LeaderTick::Ask, "at {now}");
+        check.answer(false, now);
+    }
+    assert!(rt; check.tick(3_000) == LeaderTick::Lost);
+}
+
+// A law is an empty function: its contract says it all, and the call shows that it can be called.
+#[test]
+fn the_laws_can_be_called() {
+    law_asked();
+    law_dropped();
+    law_leader_lost();
+}

@@ -1,0 +1,90 @@
+//! Rounds of pre-votes, answer by answer.
+use cluster_state::StateId;
+use pre_vote::*;
+use std::test::*;
+use voting_config::{NodeId, NodeSet, VotingConfig};
+
+fn id(text: &str) -> NodeId {
+    NodeId::parse(text).unwrap_or_default()
+}
+
+fn config(text: &str) -> VotingConfig {
+    VotingConfig::of(&NodeSet::parse(text).unwrap_or(NodeSet::new()))
+}
+
+fn version(version: u64) -> StateId {
+    StateId { term: 1, version }
+}
+
+// An answer of a node, with its term and the version of its accepted state.
+#[derive(Clone, Copy)]
+struct AnswerOf(&'static str, u64, u64);
+
+// What the last answer brings about in a round of node a, which is in term 4 and has accepted version 3 with these
+// voters, where the committed voters are a, b and c.
+fn last_added(answers: &[AnswerOf], voters: &VotingConfig) -> Option<Added> {
+    let mut round = PreVotes::start(id("a"), version(3), 4);
+    let committed = config("a,b,c");
+    let mut last = None;
+    for answer in answers {
+        last = added(&mut round, *answer, &committed, voters);
+    }
+    last
+}
+
+fn added(
+    round: &mut PreVotes,
+    AnswerOf(node, term, last): AnswerOf,
+    committed: &VotingConfig,
+    voters: &VotingConfig,
+) -> Option<Added> {
+    let source = id(node);
+    // The contract of add bounds the term; no row has one above 9.
+    if term > 9 || !round.fits(source) {
+        return None;
+    }
+    Some(round.add(source, term, version(last), committed, voters))
+}
+
+// Answers one after the other, and what the last of them brings about.
+const ROUNDS: &[(&[AnswerOf], Added)] = &[
+    (&[AnswerOf("c", 9, 4)], Added::Fresher),
+    (
+        &[AnswerOf("c", 9, 4), AnswerOf("b", 4, 2)],
+        Added::Quorum(10),
+    ),
+    (&[AnswerOf("b", 4, 2)], Added::Quorum(5)),
+];
+
+#[test]
+fn a_fresher_node_is_no_pre_vote_and_a_quorum_names_the_term(rt: HostRuntime) {
+    let voters = config("a,b,c");
+    for row in ROUNDS {
+        let (answers, want) = *row;
+        assert!(rt; last_added(answers, &voters) == Some(want));
+    }
+}
+
+#[test]
+fn a_pre_vote_needs_a_quorum_of_both_configurations(rt: HostRuntime) {
+    let answers = [AnswerOf("b", 4, 3)];
+    assert!(rt; last_added(&answers, &config("a,b,c,d")) == Some(Added::Counted));
+}
+
+#[test]
+fn a_node_that_follows_another_leader_refuses_a_pre_vote(rt: HostRuntime) {
+    let (a, b) = (id("a"), id("b"));
+    for (leader, want) in [
+        (None, Reply::Answer),
+        (Some(a), Reply::Answer),
+        (Some(b), Reply::Refused(b)),
+    ] {
+        assert!(rt; answer(a, leader) == want);
+    }
+}
+
+// A law is an empty function: its contract says it all, and the call shows that it can be called.
+#[test]
+fn the_laws_can_be_called() {
+    law_counted();
+}

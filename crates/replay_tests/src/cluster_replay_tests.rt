@@ -1,0 +1,10 @@
+//! The laws can be called: nothing else of them runs.
+use cluster_replay::*;
+
+// A law is an empty function: its contract says it all, and the call shows that it can be called.
+#[test]
+fn the_laws_can_be_called() {
+    law_lives_follow();
+    law_cluster_replay_is_legal();
+    law_cluster_replies_are_true();
+}

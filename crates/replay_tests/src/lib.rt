@@ -1,0 +1,14 @@
+//! The tests of replay_node, cluster_replay, schedule_replay, zen_app. They stand apart, so that a check of one of these, or of
+//! what stands on it, does not prove them again.
+#![tactic(auto)]
+
+#[cfg(test)]
+mod cluster_replay_tests;
+#[cfg(test)]
+mod replay_node_tests;
+#[cfg(test)]
+mod schedule_replay_laws_tests;
+#[cfg(test)]
+mod schedule_replay_tests;
+#[cfg(test)]
+mod zen_app_tests;

@@ -1,0 +1,133 @@
+//! A schedule of whole nodes with its trace, and generated schedules with their summaries.
+use schedule_replay::{generate, replay, write_trace};
+use schedule_text::{Level, Text, read_schedule};
+use std::alloc::{AllocError, Global};
+use std::test::*;
+use trace_summary::{Summary, Tally, write_summary};
+use zen_link::MemSink;
+
+// Two nodes stop, their disks fail, and they are opened again. The trace was made by an independent program; zen_app_tests/rows.rt has more of them.
+const SCHEDULE: &str = "nodes a,b\n\
+    initial a\n\
+    tick a 0 7\n\
+    tick a 8 7\n\
+    fail a 2\n\
+    deliver a 2\n\
+    tick a 20 7\n\
+    deliver a 9\n\
+    deliver a 99\n\
+    crash a none\n\
+    crash a all\n\
+    tick a 20 7\n\
+    restart a\n\
+    restart a\n\
+    deliver a 3\n\
+    deliver a 99\n\
+    deliver a 2\n\
+    fuse b 3 all\n\
+    deliver b 3\n\
+    client b x\n\
+    restart b\n\
+    client b x\n";
+
+const TRACE: &str = "> tick a 0 7\n\
+    act a ok boot a\n\
+    m1 a->b peersask b\n\
+    > tick a 8 7\n\
+    m2 a->a startjoin a 1\n\
+    m3 a->b startjoin a 1\n\
+    > fail a 2\n\
+    > deliver a 2\n\
+    act a disk startjoin a 1\n\
+    > tick a 20 7\n\
+    down a\n\
+    > deliver a 9\n\
+    down a\n\
+    > deliver a 99\n\
+    down a\n\
+    > crash a none\n\
+    crashed a\n\
+    > crash a all\n\
+    down a\n\
+    > tick a 20 7\n\
+    down a\n\
+    > restart a\n\
+    record a 0 0/0 a a\n\
+    > restart a\n\
+    up a\n\
+    > deliver a 3\n\
+    misrouted\n\
+    > deliver a 99\n\
+    unsent\n\
+    > deliver a 2\n\
+    act a ok startjoin a 1\n\
+    m4 a->a join 1 0/0\n\
+    > fuse b 3 all\n\
+    > deliver b 3\n\
+    act b crashed startjoin a 1\n\
+    > client b x\n\
+    down b\n\
+    > restart b\n\
+    record b 1 0/0 _ _\n\
+    > client b x\n\
+    reply b {\"error\":\"not_json\"}\n";
+
+// Whether the schedule's trace is this one, replayed with a summary and without.
+fn replays(alloc: Global) -> Result<bool, AllocError> {
+    let Ok(schedule) = read_schedule(alloc, SCHEDULE.as_bytes(), Level::Node) else {
+        return Ok(false);
+    };
+    let mut sink = MemSink::new(alloc, 100, Vec::new(alloc));
+    let mut second = MemSink::new(alloc, 100, Vec::new(alloc));
+    let Ok(summary) = replay(alloc, &schedule, Level::Node, &mut sink) else {
+        return Ok(false);
+    };
+    Ok(
+        summary.trace_bytes == TRACE.len() as u64
+            && write_trace(alloc, &schedule, Level::Node, &mut second).is_ok()
+            && sink.as_bytes() == TRACE.as_bytes()
+            && second.as_bytes() == TRACE.as_bytes(),
+    )
+}
+
+#[test]
+fn whole_nodes_have_this_trace(rt: HostRuntime) -> Result<(), Fail> {
+    let replays = replays(rt.alloc())?;
+    assert!(rt; replays);
+    Ok(())
+}
+
+const THREE_BOOTS: &str = "steps=3\n\
+    acts=3\n\
+    refused=0\n\
+    won=0\n\
+    committed=0\n\
+    crashes=0\n\
+    trace_bytes=87\n\
+    trace_sha256=faa0ec63a416cf1ac6a917e004bd87d720e8b8471f2893e32546ded3eb4b60b9\n";
+
+fn is_shown(alloc: Global, summary: &Summary, lines: &str) -> Result<bool, AllocError> {
+    let mut text = Text::new(alloc);
+    write_summary(alloc, &mut text, summary)?;
+    Ok(text.as_bytes() == lines.as_bytes())
+}
+
+#[test]
+fn generated_schedules_come_to_these_summaries(rt: HostRuntime) -> Result<(), Fail> {
+    let nothing = generate(rt.alloc(), 7, 0)?;
+    let one = generate(rt.alloc(), 7, 1)?;
+    let three = generate(rt.alloc(), 7, 3)?;
+    let is_shown = is_shown(rt.alloc(), &three, THREE_BOOTS)?;
+    assert!(rt; is_shown);
+    assert!(rt; nothing == Tally::new().finish());
+    assert!(rt; one.counts.acts == 1 && one.trace_bytes == 29);
+    Ok(())
+}
+
+#[test]
+fn equal_numbers_come_to_equal_summaries(rt: HostRuntime) -> Result<(), Fail> {
+    let first = generate(rt.alloc(), 11, 100)?;
+    let second = generate(rt.alloc(), 11, 100)?;
+    assert!(rt; first == second);
+    Ok(())
+}

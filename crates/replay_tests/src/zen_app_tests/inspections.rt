@@ -1,0 +1,217 @@
+//! Runs of `inspect` over disks in memory: what is shown of a journal, and how an inspection ends without one.
+use super::runs::{Case, INSPECT, Row, Written, all_end, ends, host_after};
+use std::alloc::{AllocError, Global};
+use std::test::Fail;
+use zen_app::Status;
+use zen_disk::{Disks, MemDisks, Side};
+
+// A journal that has set term 1, and one that has then accepted a state and committed it.
+const TERM_ONE: &[u8] = b"ZENJRNL1\x01\0\0\0\x09\x01\0\0\0\0\0\0\0\x01\0";
+
+const COMMITTED: &[u8] =
+    b"ZENJRNL1\x01\0\0\0\x09\x01\0\0\0\0\0\0\0\x01\x01\0\0\0*\x02\0\0\0\0\0\0\0\x01\0\0\0\0\0\0\0\x01\
+    \x03\x01a\x01b\x01c\x03\x01a\x01b\x01c\0\0\0\0\x01\0\x01v\0\x01x\x01\0\0\0\x01\x03\0";
+
+// The first generation of the other file, whose record has term 4682.
+const RENEWED: &[u8] = b"ZENJRNL1\x01\0\0\0\x29\x04\0\0\0\0\0\0\0\x01\0\0\0\0\0\0\x12\x4a\
+    \0\0\0\0\0\0\0\0\0\0\0\0\0\0\0\0\0\0\0\0\0\0\0\0\0";
+
+const CUT: &[u8] = b"ZENJRNL1\x01\0\0\0\xff\0";
+
+const EMPTY_SHOWN: &[u8] =
+    b"term=0\naccepted=0/0\nconfig=_\ncommitted=_\nrecords=0\nsha256=015275e61fa0d075";
+
+const RENEWED_SHOWN: &[u8] =
+    b"term=4682\naccepted=0/0\nconfig=_\ncommitted=_\nrecords=1\nsha256=015275e61fa0d075";
+
+// Two files that are a journal, and what is shown of it first.
+const SHOWN: [(&[u8], &[u8], &[u8]); 6] = [
+    (b"", b"", EMPTY_SHOWN),
+    (b"ABCDEFGHI", b"", EMPTY_SHOWN),
+    (
+        TERM_ONE,
+        b"",
+        b"term=1\naccepted=0/0\nconfig=_\ncommitted=_\nrecords=1\nsha256=015275e61fa0d075",
+    ),
+    (
+        COMMITTED,
+        b"",
+        b"term=1\naccepted=1/1\nconfig=a,b,c\ncommitted=a,b,c\nrecords=3\nsha256=96ee0e6ffa10d333",
+    ),
+    (TERM_ONE, RENEWED, RENEWED_SHOWN),
+    (RENEWED, b"", RENEWED_SHOWN),
+];
+
+// Also that of two generations the newer one is shown.
+#[test]
+fn the_journal_in_a_folder_is_shown(rt: HostRuntime) -> Result<(), Fail> {
+    for (place, (file, other_file, lines)) in SHOWN.iter().enumerate() {
+        let case = Case {
+            file,
+            other_file,
+            ..INSPECT
+        };
+        let is_shown = ends(rt.alloc(), &case, Status::Ok, Written::Begins(lines), 1)?;
+        assert!(rt; is_shown, "row {place}");
+    }
+    Ok(())
+}
+
+// Whether a side has the nine bytes of a journal with no record.
+fn is_new(disk: &mut MemDisks, side: Side) -> bool {
+    let mut bytes = [1; 9];
+    disk.len(side) == Ok(9) && disk.read(side, 0, &mut bytes).is_ok() && bytes == *b"ZENJRNL1\0"
+}
+
+// Whether the disk is there, and both its sides are such journals.
+fn are_new(disk: Option<MemDisks>) -> bool {
+    match disk {
+        Some(mut disk) => is_new(&mut disk, Side::Zero) && is_new(&mut disk, Side::One),
+        None => false,
+    }
+}
+
+#[test]
+fn an_empty_folder_gets_an_empty_journal(rt: HostRuntime) -> Result<(), Fail> {
+    let disk = host_after(rt.alloc(), &INSPECT)?.into_disk_back();
+    let are_new = are_new(disk);
+    assert!(rt; are_new);
+    Ok(())
+}
+
+// Two files that are no journal, and what is written of their first fault.
+const OTHER_FILES: [(&[u8], &[u8], &[u8]); 11] = [
+    (b"ABCDEFGHIJ", b"", b"zen: not a journal: Header\n"),
+    (CUT, b"", b"zen: not a journal: Cut(8)\n"),
+    (
+        b"ZENJRNL1\x01\0\x80\0\x01\0",
+        b"",
+        b"zen: not a journal: Long(8)\n",
+    ),
+    (
+        b"ZENJRNL1\x01\0\0\0\x01\x05\0",
+        b"",
+        b"zen: not a journal: Body(8,Tag)\n",
+    ),
+    (
+        b"ZENJRNL1\x01\0\0\0\x09\x01\0\0\0\0\0\0\0\0\0",
+        b"",
+        b"zen: not a journal: Order(8)\n",
+    ),
+    (b"", CUT, b"zen: not a journal: 1:Cut(8)\n"),
+    (b"", TERM_ONE, b"zen: not a journal: 1:Order(8)\n"),
+    (RENEWED, RENEWED, b"zen: not a journal: Twin\n"),
+    (CUT, b"ABCDEFGHIJ", b"zen: not a journal: Cut(8)\n"),
+    (RENEWED, b"ABCDEFGHIJ", b"zen: not a journal: 1:Header\n"),
+    (
+        b"ZENJRNL1\x01\0\0\0\x01\x05\0",
+        CUT,
+        b"zen: not a journal: 1:Cut(8)\n",
+    ),
+];
+
+#[test]
+fn files_that_are_no_journal_are_refused_for_their_first_fault(
+    rt: HostRuntime,
+) -> Result<(), Fail> {
+    for (place, (file, other_file, line)) in OTHER_FILES.iter().enumerate() {
+        let case = Case {
+            file,
+            other_file,
+            ..INSPECT
+        };
+        let is_refused = ends(
+            rt.alloc(),
+            &case,
+            Status::NotAJournal,
+            Written::Whole(line),
+            1,
+        )?;
+        assert!(rt; is_refused, "row {place}");
+    }
+    Ok(())
+}
+
+// Whether an inspection of this file whose device calls of these numbers fail ends with that.
+fn fails<'a>(alloc: Global, file: &'a [u8], calls: &'a [u64]) -> Result<bool, AllocError> {
+    let case = Case {
+        file,
+        device_calls: calls,
+        ..INSPECT
+    };
+    ends(alloc, &case, Status::DiskFault, Written::Whole(b""), 1)
+}
+
+// Opening makes four device calls for each side that is empty, and three for one with a journal.
+#[test]
+fn a_fault_of_the_disk_ends_an_inspection(rt: HostRuntime) -> Result<(), Fail> {
+    for (file, calls) in [(b"".as_slice(), 8), (TERM_ONE, 7)] {
+        for call in 1..=calls {
+            let fails = fails(rt.alloc(), file, &[call])?;
+            assert!(rt; fails, "{call}");
+        }
+    }
+    Ok(())
+}
+
+const FAULTS: [Row<'static>; 5] = [
+    (
+        "no call of the disk after the eight that open two empty files",
+        Case {
+            device_calls: &[9],
+            ..INSPECT
+        },
+        Status::Ok,
+        Written::Begins(b"term=0\n"),
+        1,
+    ),
+    (
+        "no call of the disk after the seven that open one journal",
+        Case {
+            file: TERM_ONE,
+            device_calls: &[8],
+            ..INSPECT
+        },
+        Status::Ok,
+        Written::Begins(b"term=1\n"),
+        1,
+    ),
+    (
+        "the host",
+        Case {
+            file: TERM_ONE,
+            openings: &[1],
+            ..INSPECT
+        },
+        Status::HostFault,
+        Written::Whole(b""),
+        1,
+    ),
+    (
+        "the output, which shows a journal",
+        Case {
+            file: TERM_ONE,
+            writes: &[1],
+            ..INSPECT
+        },
+        Status::WriteFault,
+        Written::Whole(b""),
+        1,
+    ),
+    (
+        "the output, which refuses a file",
+        Case {
+            file: b"ABCDEFGHIJ",
+            writes: &[1],
+            ..INSPECT
+        },
+        Status::WriteFault,
+        Written::Whole(b""),
+        1,
+    ),
+];
+
+#[test]
+fn a_fault_of_the_host_or_the_output_ends_an_inspection(rt: HostRuntime) -> Result<(), Fail> {
+    all_end(&rt, rt.alloc(), &FAULTS)
+}

@@ -1,0 +1,207 @@
+//! A run of the program in memory, and how it is to end.
+ghost use Rattle.std.specs.Prelude.{◌≡◌, IfOk, IsTrue};
+ghost use Rattle.std.specs.List.{list_all};
+ghost use Rattle.zen_link.specs.Told.{has_low_conn};
+
+use coordinator::Sealed;
+use schedule_text::Level;
+use std::alloc::{AllocError, Global};
+use std::process::Abort;
+use std::test::Fail;
+use zen_app::{Status, run};
+use zen_disk::{Disks, MemDisks};
+use zen_host::MemHost;
+use zen_link::{Input, Link, MemLink, MemSink, MemSource};
+
+/// A run: its words, what the input and the two files of the journal hold, and the numbers of the calls that fail.
+#[derive(Clone, Copy)]
+pub struct Case<'a> {
+    pub words: &'a [&'a str],
+    pub input: &'a [u8],
+    pub file: &'a [u8],
+    pub other_file: &'a [u8],
+    pub reads: &'a [u64],
+    pub writes: &'a [u64],
+    pub openings: &'a [u64],
+    pub device_calls: &'a [u64],
+    pub nexts: &'a [u64],
+}
+
+/// A replay of single acts.
+pub const REPLAY: Case<'static> = Case {
+    words: &["replay", "--level", "core"],
+    input: b"",
+    file: b"",
+    other_file: b"",
+    reads: &[],
+    writes: &[],
+    openings: &[],
+    device_calls: &[],
+    nexts: &[],
+};
+
+/// A replay of whole nodes.
+pub const REPLAY_NODES: Case<'static> = Case {
+    words: &["replay", "--level", "node"],
+    ..REPLAY
+};
+
+/// Words that are not to read the input: the first read would fail.
+pub const UNREAD: Case<'static> = Case {
+    reads: &[1],
+    ..REPLAY
+};
+
+/// An inspection of the journal in folder a.
+pub const INSPECT: Case<'static> = Case {
+    words: &["inspect", "--dir", "a"],
+    ..UNREAD
+};
+
+/// A run's name, the run, its status, what it writes, and how many calls of the host it makes.
+pub type Row<'a> = (&'a str, Case<'a>, Status, Written<'a>, usize);
+
+/// What a run writes.
+#[derive(Clone, Copy)]
+pub enum Written<'a> {
+    /// This and nothing else.
+    Whole(&'a [u8]),
+    /// This first.
+    Begins(&'a [u8]),
+    /// This last.
+    Ends(&'a [u8]),
+    /// This, or as much of it as was written before the output failed.
+    PartOf(&'a [u8]),
+}
+
+impl Written<'_> {
+    fn is(self, bytes: &[u8]) -> bool {
+        match self {
+            Written::Whole(text) => bytes == text,
+            Written::Begins(text) => bytes.starts_with(text),
+            Written::Ends(text) => bytes.ends_with(text),
+            Written::PartOf(text) => text.starts_with(bytes),
+        }
+    }
+}
+
+/// The host of the runs.
+pub type RunHost = MemHost<MemDisks, MemLink<Sealed>>;
+
+fn words(alloc: Global, given: &[&str]) -> Result<Vec<String>, AllocError> {
+    let mut words = Vec::new(alloc);
+    for word in given {
+        words.push(String::from_str(alloc, word)?)?;
+    }
+    Ok(words)
+}
+
+fn source(alloc: Global, case: &Case<'_>) -> Result<MemSource, AllocError> {
+    let bytes = Vec::from_slice(alloc, case.input)?;
+    Ok(MemSource::new(bytes, Vec::from_slice(alloc, case.reads)?))
+}
+
+fn disk(alloc: Global, case: &Case<'_>) -> Result<MemDisks, AllocError>
+    ensures { IfOk result (λ disk. ⟦<MemDisks as Disks>⟧.faults disk ≡ 0) }
+{
+    let file = Vec::from_slice(alloc, case.file)?;
+    let other_file = Vec::from_slice(alloc, case.other_file)?;
+    let calls = Vec::from_slice(alloc, case.device_calls)?;
+    Ok(MemDisks::new(alloc, file, other_file, calls))
+}
+
+// What the link gives; after it, Stop.
+fn three_ticks(alloc: Global) -> Result<Vec<Input>, AllocError>
+    ensures { IfOk result (λ inputs. IsTrue (list_all has_low_conn inputs.items)) }
+{
+    let mut inputs = Vec::new(alloc);
+    inputs.push(Input::Tick { now: 1, word: 0 })?;
+    inputs.push(Input::Tick { now: 2, word: 0 })?;
+    inputs.push(Input::Tick { now: 3, word: 0 })?;
+    Ok(inputs)
+}
+
+fn link(alloc: Global, case: &Case<'_>) -> Result<MemLink<Sealed>, AllocError>
+    ensures { IfOk result (λ link. ⟦<MemLink<Sealed> as Link>⟧.faults link ≡ 0) }
+{
+    let ticks = three_ticks(alloc)?;
+    Ok(MemLink::new(alloc, ticks, Vec::from_slice(alloc, case.nexts)?))
+}
+
+/// The host of this run, which it has not asked yet.
+pub fn host(alloc: Global, case: &Case<'_>) -> Result<RunHost, AllocError> {
+    let openings = Vec::from_slice(alloc, case.openings)?;
+    let link = link(alloc, case)?;
+    Ok(MemHost::with_link(alloc, disk(alloc, case)?, link, openings))
+}
+
+/// The output of this run, with nothing written.
+pub fn sink(alloc: Global, case: &Case<'_>) -> Result<MemSink, AllocError> {
+    let fails = Vec::from_slice(alloc, case.writes)?;
+    Ok(MemSink::new(alloc, 100, fails))
+}
+
+/// Runs the program.
+pub fn ran(
+    alloc: Global,
+    case: &Case<'_>,
+    sink: &mut MemSink,
+    host: &mut RunHost,
+) -> Result<Status, AllocError> {
+    let words = words(alloc, case.words)?;
+    let mut source = source(alloc, case)?;
+    Ok(run(alloc, words.as_slice(), &mut source, sink, host))
+}
+
+/// The host as the run has left it.
+pub fn host_after(alloc: Global, case: &Case<'_>) -> Result<RunHost, AllocError> {
+    let mut sink = sink(alloc, case)?;
+    let mut host = host(alloc, case)?;
+    let _ = ran(alloc, case, &mut sink, &mut host)?;
+    Ok(host)
+}
+
+/// Whether the run ends so.
+pub fn ends(
+    alloc: Global,
+    case: &Case<'_>,
+    status: Status,
+    written: Written<'_>,
+    asked: usize,
+) -> Result<bool, AllocError> {
+    let mut sink = sink(alloc, case)?;
+    let mut host = host(alloc, case)?;
+    let found = ran(alloc, case, &mut sink, &mut host)?;
+    Ok(found == status && written.is(sink.as_bytes()) && host.asked().len() == asked)
+}
+
+/// Each run is to end as its row says.
+pub fn all_end(rt: &impl Abort, alloc: Global, rows: &[Row<'_>]) -> Result<(), Fail> {
+    for (name, case, status, written, asked) in rows {
+        let does = ends(alloc, case, *status, *written, *asked)?;
+        assert!(rt; does, "{name}");
+    }
+    Ok(())
+}
+
+/// A replay of this schedule, at this level.
+pub fn replay_of(level: Level, input: &[u8]) -> Case<'_> {
+    match level {
+        Level::Core => Case { input, ..REPLAY },
+        Level::Node => Case {
+            input,
+            ..REPLAY_NODES
+        },
+    }
+}
+
+/// Whether a replay of this schedule ends well, writes this, and asks nothing of the host.
+pub fn replays(
+    alloc: Global,
+    level: Level,
+    schedule: &[u8],
+    written: Written<'_>,
+) -> Result<bool, AllocError> {
+    let case = replay_of(level, schedule);
+    ends(alloc, &case, Status::Ok, written, 0)
+}

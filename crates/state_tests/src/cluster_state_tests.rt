@@ -1,0 +1,247 @@
+//! States with their bytes and their JSON, and which settings and values a state may have.
+use cluster_state::decoding::decode_state;
+use cluster_state::encoding::encode_state;
+use cluster_state::fault::StateFault::{Field, Trailing};
+use cluster_state::fault::{DecodeError, FieldError, StateFault};
+use cluster_state::json::to_json;
+use cluster_state::request::Ask;
+use cluster_state::settings::Settings;
+use cluster_state::shared::{SharedConfig, SharedState, SharedValue};
+use cluster_state::state::{ClusterState, ClusterValue, Kept, StateId};
+use cluster_state::text::Text;
+use std::alloc::{AllocError, Global};
+use std::test::*;
+use voting_config::{NodeSet, VotingConfig};
+
+const STATE: [u8; 41] = [
+    0, 0, 0, 0, 0, 0, 0, 1, 0, 0, 0, 0, 0, 0, 0, 1, 3, 1, 97, 1, 98, 1, 99, 3, 1, 97, 1, 98, 1, 99,
+    0, 0, 0, 0, 1, 0, 1, 118, 0, 1, 120,
+];
+
+const JSON: &str =
+    "{\"committed\":[\"a\",\"b\",\"c\"],\"config\":[\"a\",\"b\",\"c\"],\"term\":1,\"value\":{\"exclusions\":[],\"master\":null,\"members\":[],\"settings\":{\"v\":\"x\"}},\"version\":1}";
+
+const EMPTY_STATE: [u8; 23] = [0; 23];
+
+const EMPTY_JSON: &str =
+    "{\"committed\":[],\"config\":[],\"term\":0,\"value\":{\"exclusions\":[],\"master\":null,\"members\":[],\"settings\":{}},\"version\":0}";
+
+// Of term 2 and version 3, with two configurations, a master, a member and an exclusion.
+const FULL_STATE: [u8; 33] = [
+    0, 0, 0, 0, 0, 0, 0, 2, 0, 0, 0, 0, 0, 0, 0, 3, 1, 1, 97, 1, 1, 98, 1, 1, 97, 1, 1, 99, 1, 1,
+    100, 0, 0,
+];
+
+const FULL_JSON: &str =
+    "{\"committed\":[\"b\"],\"config\":[\"a\"],\"term\":2,\"value\":{\"exclusions\":[\"d\"],\"master\":\"a\",\"members\":[\"c\"],\"settings\":{}},\"version\":3}";
+
+// Whether the bytes are those of a state, which has this JSON and whose copy has these bytes.
+fn is_state(alloc: Global, bytes: &[u8], json: &str) -> Result<bool, AllocError> {
+    let Ok(state) = decode_state(alloc, bytes) else {
+        return Ok(false);
+    };
+    let copy = state.copy()?;
+    let again = encode_state(alloc, &copy)?;
+    let text = to_json(alloc, &state)?;
+    Ok(again.as_slice() == bytes && text.as_slice() == json.as_bytes())
+}
+
+#[test]
+fn a_state_has_these_bytes_and_this_json(rt: HostRuntime) -> Result<(), Fail> {
+    for (bytes, json) in [
+        (STATE.as_slice(), JSON),
+        (EMPTY_STATE.as_slice(), EMPTY_JSON),
+        (FULL_STATE.as_slice(), FULL_JSON),
+    ] {
+        assert!(rt; is_state(rt.alloc(), bytes, json)?);
+    }
+    Ok(())
+}
+
+fn fault_of(alloc: Global, bytes: &[u8]) -> Option<StateFault> {
+    match decode_state(alloc, bytes) {
+        Err(DecodeError::Fault(fault)) => Some(fault),
+        _ => None,
+    }
+}
+
+// STATE with its first ids as b, a, c.
+const UNORDERED: [u8; 41] = [
+    0, 0, 0, 0, 0, 0, 0, 1, 0, 0, 0, 0, 0, 0, 0, 1, 3, 1, 98, 1, 97, 1, 99, 3, 1, 97, 1, 98, 1, 99,
+    0, 0, 0, 0, 1, 0, 1, 118, 0, 1, 120,
+];
+
+// STATE and a byte after it.
+const LONGER: [u8; 42] = [
+    0, 0, 0, 0, 0, 0, 0, 1, 0, 0, 0, 0, 0, 0, 0, 1, 3, 1, 97, 1, 98, 1, 99, 3, 1, 97, 1, 98, 1, 99,
+    0, 0, 0, 0, 1, 0, 1, 118, 0, 1, 120, 0,
+];
+
+const TERM_OF_2_TO_62: [u8; 8] = [64, 0, 0, 0, 0, 0, 0, 0];
+
+const TERM_OVER_2_TO_62: [u8; 8] = [64, 0, 0, 0, 0, 0, 0, 1];
+
+const VERSION_OVER_2_TO_62: [u8; 16] = [0, 0, 0, 0, 0, 0, 0, 0, 64, 0, 0, 0, 0, 0, 0, 1];
+
+const ELEVEN_EXCLUSIONS: [u8; 21] = [
+    0, 0, 0, 0, 0, 0, 0, 0, 0, 0, 0, 0, 0, 0, 0, 0, 0, 0, 0, 0, 11,
+];
+
+#[test]
+fn the_first_fault_of_a_state_is_named(rt: HostRuntime) {
+    for (bytes, fault) in [
+        (&STATE[..40], Field(FieldError::Short)),
+        ([0; 24].as_slice(), Trailing),
+        (LONGER.as_slice(), Trailing),
+        (UNORDERED.as_slice(), Field(FieldError::NotOrdered)),
+        (TERM_OF_2_TO_62.as_slice(), Field(FieldError::Short)),
+        (
+            TERM_OVER_2_TO_62.as_slice(),
+            Field(FieldError::TermTooLarge),
+        ),
+        (
+            VERSION_OVER_2_TO_62.as_slice(),
+            Field(FieldError::VersionTooLarge),
+        ),
+        (ELEVEN_EXCLUSIONS.as_slice(), Field(FieldError::TooMany)),
+    ] {
+        assert!(rt; fault_of(rt.alloc(), bytes) == Some(fault));
+    }
+    assert!(rt; FieldError::NotOrdered.name() == "NotOrdered");
+}
+
+#[test]
+fn ids_of_states_are_ordered_by_term_and_then_by_version(rt: HostRuntime) {
+    let one = StateId {
+        term: 2,
+        version: 2,
+    };
+    for (term, version, is_fresher, is_same) in [
+        (2, 2, false, true),
+        (2, 1, true, false),
+        (2, 3, false, false),
+        (1, 3, true, false),
+        (3, 1, false, false),
+    ] {
+        let other = StateId { term, version };
+        assert!(rt; one.is_fresher(other) == is_fresher);
+        assert!(rt; one.is_reached_by(other) != is_fresher && one.is_same(other) == is_same);
+    }
+}
+
+// The settings a and b.
+fn two_settings(alloc: Global) -> Result<Settings, AllocError> {
+    let mut settings = Settings::new(alloc);
+    settings.put("a", "x")?;
+    settings.put("b", "y")?;
+    Ok(settings)
+}
+
+// Whether a and b are the same settings once this key is removed; and how many there are then, b still among them.
+fn are_left(alloc: Global, key: &str, same: bool, count: usize) -> Result<bool, AllocError> {
+    let mut settings = two_settings(alloc)?;
+    let copy = settings.copy()?;
+    settings.remove(key);
+    Ok(settings.is_same(&copy) == same && settings.len() == count && settings.contains_key("b"))
+}
+
+#[test]
+fn removing_an_absent_setting_changes_nothing(rt: HostRuntime) -> Result<(), Fail> {
+    for (key, same, count) in [("c", true, 2), ("a", false, 1)] {
+        assert!(rt; are_left(rt.alloc(), key, same, count)?);
+    }
+    Ok(())
+}
+
+#[test]
+fn values_are_the_same_until_a_setting_differs(rt: HostRuntime) -> Result<(), Fail> {
+    let value = ClusterValue::empty(rt.alloc());
+    let mut other = value.copy()?;
+    assert!(rt; value.is_same(&other));
+    other.settings.put("a", "x")?;
+    assert!(rt; !value.is_same(&other));
+    Ok(())
+}
+
+// A text of so many bytes.
+fn blanks(alloc: Global, length: usize) -> Result<Text, AllocError> {
+    let mut text = String::new(alloc);
+    for _ in 0..length {
+        text.push_str(" ")?;
+    }
+    Ok(Text::of(text))
+}
+
+fn bad_put(alloc: Global, key: usize, value: usize) -> Result<Option<usize>, AllocError> {
+    let ask = Ask::Put {
+        key: blanks(alloc, key)?,
+        value: blanks(alloc, value)?,
+    };
+    Ok(ask.bad_setting())
+}
+
+fn bad_remove(alloc: Global, key: usize) -> Result<Option<usize>, AllocError> {
+    let ask = Ask::Remove {
+        key: blanks(alloc, key)?,
+    };
+    Ok(ask.bad_setting())
+}
+
+#[test]
+fn keys_have_1_to_128_bytes_and_values_up_to_1024(rt: HostRuntime) -> Result<(), Fail> {
+    for (key, value, want) in [
+        (0, 0, Some(0)),
+        (1, 0, None),
+        (128, 1_024, None),
+        (129, 0, Some(129)),
+        (128, 1_025, Some(1_025)),
+        (129, 1_025, Some(129)),
+        (0, 1_025, Some(0)),
+    ] {
+        assert!(rt;
+            bad_put(rt.alloc(), key, value)? == want,
+            "of {key} and {value}"
+        );
+    }
+    assert!(rt; bad_remove(rt.alloc(), 129)? == None);
+    Ok(())
+}
+
+fn config(id: &str) -> VotingConfig {
+    VotingConfig::of(&NodeSet::parse(id).unwrap_or(NodeSet::new()))
+}
+
+// The state 0/0 with one configuration, and another as the committed one.
+fn reconfigured(alloc: Global, now: &str, committed: &str) -> Result<SharedState, AllocError> {
+    let mut state = ClusterState::initial(alloc, config(now).members());
+    state.committed = config(committed);
+    match SharedState::new(alloc, state) {
+        Ok(state) => Ok(state),
+        Err(_) => Err(AllocError),
+    }
+}
+
+fn has(kept: &Kept, accepted: &str, committed: &str) -> bool {
+    kept.accepted.config.is_same(&config(accepted)) && kept.committed.is_same(&config(committed))
+}
+
+// Whether the state's configuration and value, held where the state is, are the state's.
+fn is_shared(state: &SharedState) -> Result<bool, AllocError> {
+    let config = SharedConfig::of(state.share()?);
+    let value = SharedValue::of(state.share()?);
+    Ok(config.is_same(&state.config) && value.is_same(&state.value))
+}
+
+#[test]
+fn a_record_accepts_a_state_and_commits_its_configuration(rt: HostRuntime) -> Result<(), Fail> {
+    assert!(rt; !config("a").is_same(&config("b")));
+    let state = reconfigured(rt.alloc(), "b", "a")?;
+    assert!(rt; is_shared(&state)?);
+    let mut kept = Kept::empty(rt.alloc())?;
+    kept.accept(state);
+    assert!(rt; has(&kept, "b", "a"));
+    kept.commit();
+    assert!(rt; has(&kept, "b", "b"));
+    assert!(rt; kept.accepted.committed.is_same(&config("a")));
+    Ok(())
+}

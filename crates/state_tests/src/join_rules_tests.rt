@@ -1,0 +1,80 @@
+//! Joins that are counted, and those that are refused.
+use cluster_state::{Join, JoinCause, StateId};
+use join_rules::{JoinVotes, join_check};
+use voting_config::{MAX_IDS, NodeId, NodeSet, VotingConfig};
+
+fn id(text: &str) -> NodeId {
+    NodeId::parse(text).unwrap_or(NodeId::default())
+}
+
+#[test]
+fn votes_are_counted_once(rt: HostRuntime) {
+    let mut votes = JoinVotes::new();
+    for (source, count) in [("b", 1), ("a", 2), ("b", 2)] {
+        if votes.ids().len() < MAX_IDS {
+            votes.add(id(source));
+        }
+        assert!(rt; votes.contains(id(source)) && votes.sources().len() == count);
+    }
+    assert!(rt; !votes.contains(id("c")) && votes.ids().get(0) == Some(id("a")));
+    votes.clear();
+    assert!(rt; votes.sources().len() == 0);
+}
+
+fn config(text: &str) -> VotingConfig {
+    VotingConfig::of(&NodeSet::parse(text).unwrap_or(NodeSet::new()))
+}
+
+// The join as the node a checks it, in term 4 and with the accepted state 1/2.
+fn check(config: &VotingConfig, started: bool, join: &Join) -> Result<(), JoinCause> {
+    let accepted = StateId {
+        term: 1,
+        version: 2,
+    };
+    join_check(id("a"), 4, accepted, config, started, join)
+}
+
+// b's join, for a candidate in a term, with the state that b has accepted.
+fn join(target: &str, term: u64, last_term: u64, last_version: u64) -> Join {
+    Join {
+        source: id("b"),
+        target: id(target),
+        term,
+        last_term,
+        last_version,
+    }
+}
+
+#[test]
+fn a_fresher_join_is_refused(rt: HostRuntime) {
+    let config = config("a");
+    for (last_term, last_version, wanted) in [
+        (1, 1, Ok(())),
+        (1, 2, Ok(())),
+        (1, 3, Err(JoinCause::FresherVersion(2, 3))),
+        (0, 3, Ok(())),
+        (2, 1, Err(JoinCause::FresherTerm(1, 2))),
+    ] {
+        let join = join("a", 4, last_term, last_version);
+        assert!(rt; check(&config, true, &join) == wanted);
+    }
+}
+
+// The term and the last term of a join for a, whether a has started a join, its voters, and the cause.
+type Refusal = (u64, u64, bool, &'static str, JoinCause);
+
+#[test]
+fn the_first_cause_refuses_a_join(rt: HostRuntime) {
+    const REFUSALS: [Refusal; 4] = [
+        (3, 2, false, "_", JoinCause::TermMismatch(4, 3)),
+        (4, 2, false, "_", JoinCause::NotStarted),
+        (4, 2, true, "_", JoinCause::FresherTerm(1, 2)),
+        (4, 1, true, "_", JoinCause::NoConfig),
+    ];
+    for (term, last_term, started, voters, cause) in REFUSALS {
+        let join = join("a", term, last_term, 0);
+        assert!(rt; check(&config(voters), started, &join) == Err(cause));
+    }
+    let other = join("c", 3, 2, 0);
+    assert!(rt; check(&config("_"), false, &other) == Err(JoinCause::NotForMe(id("c"))));
+}

@@ -1,0 +1,426 @@
+//! The core and the model, act for act: each answer of the core is the reply of the model.
+use cluster_state::{
+    ApplyCommit, ClusterState, ClusterValue, Join, Kept, LAST_NUMBER, PublishRequest,
+    PublishResponse, SharedConfig, SharedState, SharedValue,
+};
+use coord_state::{CoordState, outcome_of, outcome_of_value};
+use reference_model::{Entry, reply};
+use state_journal::{PlainKeeper, Ready};
+use std::alloc::{AllocError, Global};
+use std::test::Fail;
+use voting_config::{NodeId, NodeSet, VotingConfig};
+use world_model::{Act, ActReply, Message, Outcome};
+
+// What a node is to do. The states are those of a in term 1, and the messages are to or from a.
+#[derive(Clone, Copy)]
+enum Step {
+    // With this configuration.
+    Boot(&'static str),
+    // For a, in this term.
+    Start(u64),
+    // Of this source in a term, with the term and the version that it has accepted.
+    Join(&'static str, u64, u64, u64),
+    // Of this version and configuration, as are those that are published.
+    Value(u64, &'static str),
+    Publish(u64, &'static str),
+    // Of this source, to version 1.
+    Response(&'static str),
+    // Of version 1.
+    Commit,
+}
+
+fn id(text: &str) -> NodeId {
+    NodeId::parse(text).unwrap_or(NodeId::default())
+}
+
+fn config(text: &str) -> VotingConfig {
+    VotingConfig::of(&NodeSet::parse(text).unwrap_or(NodeSet::new()))
+}
+
+// The state of this version and configuration that a publishes in term 1.
+fn state(alloc: Global, version: u64, ids: &str) -> Result<SharedState, AllocError> {
+    let state = ClusterState {
+        term: 1,
+        version,
+        config: config(ids),
+        committed: config("a,b,c"),
+        value: ClusterValue::empty(alloc),
+    };
+    SharedState::of(alloc, state)
+}
+
+fn value(state: SharedState) -> Result<Act, AllocError> {
+    let version = state.version;
+    let config = SharedConfig::of(state.share()?);
+    Ok(Act::Value(version, config, SharedValue::of(state)))
+}
+
+fn join(source: &str, term: u64, last_term: u64, last_version: u64) -> Act {
+    Act::TakeJoin(Join {
+        source: id(source),
+        target: id("a"),
+        term,
+        last_term,
+        last_version,
+    })
+}
+
+fn response(source: &str) -> Act {
+    Act::Response(PublishResponse {
+        source: id(source),
+        target: id("a"),
+        term: 1,
+        version: 1,
+    })
+}
+
+fn commit() -> Act {
+    Act::Commit(ApplyCommit {
+        source: id("a"),
+        term: 1,
+        version: 1,
+    })
+}
+
+fn published(state: SharedState) -> Act {
+    Act::Publish(PublishRequest {
+        source: id("a"),
+        state,
+    })
+}
+
+fn act(alloc: Global, step: Step) -> Result<Act, AllocError> {
+    match step {
+        Step::Boot(ids) => Ok(Act::Bootstrap(SharedConfig::of(state(alloc, 0, ids)?))),
+        Step::Start(term) => Ok(Act::StartJoin(id("a"), term)),
+        Step::Join(source, term, last_term, last_version) => {
+            Ok(join(source, term, last_term, last_version))
+        }
+        Step::Value(version, ids) => value(state(alloc, version, ids)?),
+        Step::Publish(version, ids) => Ok(published(state(alloc, version, ids)?)),
+        Step::Response(source) => Ok(response(source)),
+        Step::Commit => Ok(commit()),
+    }
+}
+
+// The state ready to be kept, where its value is the empty one, as in each act here.
+fn ready(alloc: Global, state: &ClusterState) -> Result<Ready, AllocError> {
+    if state.term > LAST_NUMBER || state.version > LAST_NUMBER {
+        return Err(AllocError);
+    }
+    let fit = ClusterState {
+        term: state.term,
+        version: state.version,
+        config: VotingConfig::of(state.config.members()),
+        committed: VotingConfig::of(state.committed.members()),
+        value: ClusterValue::empty(alloc),
+    };
+    match Ready::new(alloc, fit) {
+        Ok(ready) => Ok(ready),
+        Err(_) => Err(AllocError),
+    }
+}
+
+// The request by which the node publishes this version, configuration and value.
+fn request(
+    alloc: Global,
+    node: &CoordState<PlainKeeper>,
+    version: u64,
+    config: &VotingConfig,
+    value: &ClusterValue,
+) -> Result<PublishRequest, AllocError> {
+    let state = ClusterState {
+        term: node.term(),
+        version,
+        config: VotingConfig::of(config.members()),
+        committed: VotingConfig::of(node.committed().members()),
+        value: value.copy()?,
+    };
+    Ok(PublishRequest {
+        source: node.me(),
+        state: SharedState::of(alloc, state)?,
+    })
+}
+
+// Does the act in the core.
+fn core_outcome(
+    alloc: Global,
+    node: &mut CoordState<PlainKeeper>,
+    act: &Act,
+) -> Result<Outcome, AllocError> {
+    if node.votes().len() == 32 || node.acks().len() == 32 {
+        return Err(AllocError);
+    }
+    match act {
+        Act::Bootstrap(config) => {
+            let initial = Ready::initial(alloc, config.members())?;
+            Ok(outcome_of(node.set_initial(initial)))
+        }
+        Act::StartJoin(candidate, term) => Ok(outcome_of(node.start_join(*candidate, *term))),
+        Act::TakeJoin(join) => Ok(outcome_of(node.join(join))),
+        Act::Value(version, config, value) => {
+            let answer = node.client_value(*version, config);
+            let request = request(alloc, node, *version, config, value)?;
+            Ok(outcome_of_value(answer, request))
+        }
+        Act::Publish(request) => {
+            let state = ready(alloc, &request.state)?;
+            Ok(outcome_of(node.publish_request(request.source, state)))
+        }
+        Act::Response(response) => Ok(outcome_of(node.publish_response(response))),
+        Act::Commit(commit) => Ok(outcome_of(node.commit(commit))),
+        Act::Open(_) => Ok(Outcome::Answered(ActReply::Taken(None, false))),
+    }
+}
+
+// What an act answered, as a text.
+
+fn ids_text(alloc: Global, ids: &NodeSet) -> Result<String, AllocError> {
+    let mut text = String::new(alloc);
+    for id in ids.as_slice() {
+        text.push_str(id.as_str())?;
+    }
+    Ok(text)
+}
+
+fn state_text(alloc: Global, state: &ClusterState) -> Result<String, AllocError> {
+    let config = ids_text(alloc, state.config.members())?;
+    let committed = ids_text(alloc, state.committed.members())?;
+    let members = ids_text(alloc, &state.value.members)?;
+    let term = state.term;
+    let version = state.version;
+    format!(in alloc; "{term}/{version} {config} {committed} {members}")
+}
+
+fn message_text(alloc: Global, message: &Message) -> Result<String, AllocError> {
+    match message {
+        Message::Join(j) => {
+            format!(in alloc;
+                "join {} {} {} {}/{}",
+                j.source, j.target, j.term, j.last_term, j.last_version
+            )
+        }
+        Message::Publish(request) => {
+            let state = state_text(alloc, &request.state)?;
+            format!(in alloc; "publish {} {}", request.source, state)
+        }
+        Message::Response(r) => {
+            format!(in alloc;
+                "response {} {} {}/{}",
+                r.source, r.target, r.term, r.version
+            )
+        }
+        Message::Commit(c) => format!(in alloc; "commit {} {}/{}", c.source, c.term, c.version),
+    }
+}
+
+fn taken_text(alloc: Global, sends: &Option<Message>, won: bool) -> Result<String, AllocError> {
+    match sends {
+        Some(message) => message_text(alloc, message),
+        None => format!(in alloc; "won={won}"),
+    }
+}
+
+fn reply_text(alloc: Global, reply: &ActReply) -> Result<String, AllocError> {
+    match reply {
+        ActReply::Taken(sends, won) => taken_text(alloc, sends, *won),
+        ActReply::Refused(cause) => format!(in alloc; "{cause:?}"),
+        ActReply::Stopped => format!(in alloc; "stopped"),
+    }
+}
+
+// A plain keeper has no faults.
+fn outcome_text(alloc: Global, outcome: &Outcome) -> Result<String, AllocError> {
+    match outcome {
+        Outcome::Answered(reply) => reply_text(alloc, reply),
+        Outcome::Disk(_) | Outcome::Crashed(_) => format!(in alloc; "no reply"),
+    }
+}
+
+// A node of the core, and what it did.
+#[derive(Drop)]
+struct Driven {
+    me: NodeId,
+    node: CoordState<PlainKeeper>,
+    entries: Vec<Entry>,
+}
+
+// The opening of an empty journal.
+fn opening(alloc: Global) -> Result<Vec<Entry>, AllocError> {
+    let found = Kept::empty(alloc)?;
+    let mut entries = Vec::new(alloc);
+    entries.push(Entry {
+        act: Act::Open(found),
+        outcome: Outcome::Answered(ActReply::Taken(None, false)),
+    })?;
+    Ok(entries)
+}
+
+fn opened(alloc: Global, me: NodeId) -> Result<Driven, AllocError> {
+    let keeper = PlainKeeper::new(alloc)?;
+    let entries = opening(alloc)?;
+    Ok(Driven {
+        me,
+        node: CoordState::new(me, keeper),
+        entries,
+    })
+}
+
+// The text itself where it is not the wanted one.
+fn same(text: String, wanted: &str) -> Result<(), String> {
+    if text.as_str() == wanted {
+        Ok(())
+    } else {
+        Err(text)
+    }
+}
+
+fn reads(text: Result<String, AllocError>, wanted: &str) -> Result<(), Fail> {
+    same(text?, wanted)?;
+    Ok(())
+}
+
+impl Driven {
+    // The model answers the act so.
+    fn is_modelled(&self, alloc: Global, act: &Act, wanted: &str) -> Result<(), Fail> {
+        let modelled = reply(alloc, self.me, self.entries.as_slice(), act)?;
+        reads(reply_text(alloc, &modelled), wanted)
+    }
+
+    // Does the act, which the core answers so.
+    fn does(&mut self, alloc: Global, act: Act, wanted: &str) -> Result<(), Fail> {
+        let outcome = core_outcome(alloc, &mut self.node, &act)?;
+        reads(outcome_text(alloc, &outcome), wanted)?;
+        self.entries.push(Entry { act, outcome })?;
+        Ok(())
+    }
+
+    // Does the steps, which the core and the model both answer so.
+    fn takes(&mut self, alloc: Global, rows: &[Row]) -> Result<(), Fail> {
+        for (step, wanted) in rows {
+            let act = act(alloc, *step)?;
+            self.is_modelled(alloc, &act, wanted)?;
+            self.does(alloc, act, wanted)?;
+        }
+        Ok(())
+    }
+}
+
+// A step, and what the core and the model answer.
+type Row = (Step, &'static str);
+
+// A node that was just opened does the steps of both lists.
+fn plays(alloc: Global, me: &str, first: &[Row], then: &[Row]) -> Result<(), Fail> {
+    let mut node = opened(alloc, id(me))?;
+    node.takes(alloc, first)?;
+    node.takes(alloc, then)
+}
+
+const B_JOINS: [Row; 2] = [
+    (Step::Boot("a,b,c"), "won=false"),
+    (Step::Start(1), "join b a 1 0/0"),
+];
+
+const C_JOINS: [Row; 2] = [
+    (Step::Boot("a,b,c"), "won=false"),
+    (Step::Start(1), "join c a 1 0/0"),
+];
+
+const A_WINS: [Row; 4] = [
+    (Step::Boot("a,b,c"), "won=false"),
+    (Step::Start(1), "join a a 1 0/0"),
+    (Step::Join("a", 1, 0, 0), "won=false"),
+    (Step::Join("b", 1, 0, 0), "won=true"),
+];
+
+const A_PUBLISHES: [Row; 6] = [
+    (Step::Boot("a,b,c"), "won=false"),
+    (Step::Start(1), "join a a 1 0/0"),
+    (Step::Join("a", 1, 0, 0), "won=false"),
+    (Step::Join("b", 1, 0, 0), "won=true"),
+    (Step::Value(1, "a,b,c"), "publish a 1/1 abc abc "),
+    (Step::Publish(1, "a,b,c"), "response a a 1/1"),
+];
+
+#[test]
+fn a_quorum_elects_once(rt: HostRuntime) -> Result<(), Fail> {
+    let alloc = rt.alloc();
+    plays(alloc, "b", &B_JOINS, &[])?;
+    plays(alloc, "c", &C_JOINS, &[])?;
+    const ROWS: [Row; 2] = [
+        (Step::Join("b", 1, 0, 0), "won=false"),
+        (Step::Boot("a,b"), "Initial(AlreadySet)"),
+    ];
+    plays(alloc, "a", &A_WINS, &ROWS)
+}
+
+#[test]
+fn a_new_round_begins_without_votes(rt: HostRuntime) -> Result<(), Fail> {
+    const ROWS: [Row; 3] = [
+        (Step::Start(2), "join a a 2 0/0"),
+        (Step::Join("c", 2, 0, 0), "won=false"),
+        (Step::Join("a", 2, 0, 0), "won=true"),
+    ];
+    plays(rt.alloc(), "a", &A_WINS, &ROWS)
+}
+
+#[test]
+fn a_quorum_commits(rt: HostRuntime) -> Result<(), Fail> {
+    let alloc = rt.alloc();
+    const PUBLISHED: [Row; 1] = [(Step::Publish(1, "a,b,c"), "response b a 1/1")];
+    plays(alloc, "b", &B_JOINS, &PUBLISHED)?;
+    const COMMITTED: [Row; 3] = [
+        (Step::Response("a"), "won=false"),
+        (Step::Response("b"), "commit a 1/1"),
+        (Step::Commit, "won=false"),
+    ];
+    plays(alloc, "a", &A_PUBLISHES, &COMMITTED)?;
+    const REFUSED: [Row; 1] = [(Step::Commit, "Commit(AcceptedTermMismatch(0, 1))")];
+    plays(alloc, "c", &C_JOINS, &REFUSED)
+}
+
+#[test]
+fn one_change_of_the_configuration(rt: HostRuntime) -> Result<(), Fail> {
+    const ROWS: [Row; 6] = [
+        (Step::Value(2, "a,b"), "publish a 1/2 ab abc "),
+        (Step::Value(3, "a,b"), "Value(NotAccepted(2, 1))"),
+        (Step::Commit, "Commit(Publishing(1, 2))"),
+        (Step::Publish(2, "a,b"), "response a a 1/2"),
+        (Step::Publish(2, "a,b"), "Publish(VersionNotGreater(2, 2))"),
+        (Step::Value(3, "a,b,c"), "Value(Reconfiguring)"),
+    ];
+    plays(rt.alloc(), "a", &A_PUBLISHES, &ROWS)
+}
+
+#[test]
+fn both_configurations_have_a_quorum(rt: HostRuntime) -> Result<(), Fail> {
+    const ROWS: [Row; 8] = [
+        (Step::Value(1, "c"), "Value(NoJoinQuorum)"),
+        (Step::Value(1, "a"), "publish a 1/1 a abc "),
+        (Step::Publish(1, "a"), "response a a 1/1"),
+        (Step::Response("a"), "won=false"),
+        (Step::Response("c"), "commit a 1/1"),
+        (Step::Start(2), "join a a 2 1/1"),
+        (Step::Join("a", 2, 1, 1), "won=false"),
+        (Step::Join("c", 2, 0, 0), "won=true"),
+    ];
+    plays(rt.alloc(), "a", &A_WINS, &ROWS)
+}
+
+#[test]
+fn acts_are_refused_with_these_causes(rt: HostRuntime) -> Result<(), Fail> {
+    let alloc = rt.alloc();
+    const BEFORE: [Row; 2] = [
+        (Step::Join("b", 0, 0, 0), "Join(NotStarted)"),
+        (Step::Start(0), "Start(TermNotGreater(0, 0))"),
+    ];
+    plays(alloc, "a", &BEFORE, &[])?;
+    const OTHER: [Row; 1] = [(Step::Join("b", 1, 0, 0), "Join(NotForMe(a))")];
+    plays(alloc, "b", &B_JOINS, &OTHER)?;
+    const FRESHER: [Row; 3] = [
+        (Step::Boot("a,b,c"), "won=false"),
+        (Step::Start(1), "join a a 1 0/0"),
+        (Step::Join("b", 1, 0, 1), "Join(FresherVersion(0, 1))"),
+    ];
+    plays(alloc, "a", &FRESHER, &[])
+}

@@ -1,0 +1,217 @@
+//! Ids, sets and quorums at their limits.
+use voting_config::{IdError, MAX_IDS, NodeId, NodeSet, VotingConfig};
+
+const FULL: &str = "0,1,2,3,4,5,a,b,c,d,e,f,g,h,i,j,k,l,m,n,o,p,q,r,s,t,u,v,w,x,y,z";
+
+fn id(text: &str) -> NodeId {
+    NodeId::parse(text).unwrap_or(NodeId::default())
+}
+
+fn set(text: &str) -> NodeSet {
+    NodeSet::parse(text).unwrap_or(NodeSet::new())
+}
+
+// Whether the set is the one that the text lists.
+fn is(ids: &NodeSet, text: &str) -> bool {
+    match NodeSet::parse(text) {
+        Some(wanted) => ids.as_slice() == wanted.as_slice(),
+        None => false,
+    }
+}
+
+#[test]
+fn a_list_is_a_set_where_its_ids_ascend(rt: HostRuntime) {
+    for (text, wanted) in [
+        ("_", Some(0)),
+        ("a", Some(1)),
+        ("a,b,node-1", Some(3)),
+        ("", None),
+        ("b,a", None),
+        ("a,a", None),
+        ("a,,b", None),
+        ("a,B", None),
+        (FULL, Some(MAX_IDS)),
+    ] {
+        assert!(rt; NodeSet::parse(text).map(|ids| ids.len()) == wanted);
+    }
+}
+
+#[test]
+fn an_id_has_1_to_32_letters_digits_and_hyphens(rt: HostRuntime) {
+    for (text, wanted) in [
+        ("", Some(IdError::Empty)),
+        ("node-1", None),
+        ("a2345678901234567890123456789012", None),
+        ("a23456789012345678901234567890123", Some(IdError::TooLong)),
+        ("a.b", Some(IdError::BadByte(1))),
+        ("Node", Some(IdError::BadByte(0))),
+    ] {
+        assert!(rt; NodeId::parse(text).err() == wanted);
+        assert!(rt; wanted.is_some() || id(text).as_str() == text);
+    }
+    assert!(rt; id("b") > id("a") && id("b") > id("aa"));
+}
+
+// What is done to a set.
+#[derive(Clone, Copy)]
+enum Act {
+    Insert(&'static str),
+    Remove(&'static str),
+    Put(&'static str),
+    PutIfRoom(&'static str),
+    CopyFrom(&'static str),
+    Clear,
+}
+
+fn put(ids: &mut NodeSet, id: NodeId) {
+    if ids.has_room(id) {
+        ids.put(id);
+    }
+}
+
+// Does the act, and says what it answers: nothing where there is no answer or an error.
+fn does(ids: &mut NodeSet, act: Act) -> Option<bool> {
+    match act {
+        Act::Insert(one) => return ids.insert(id(one)).ok(),
+        Act::Remove(one) => return Some(ids.remove(id(one))),
+        Act::Put(one) => put(ids, id(one)),
+        Act::PutIfRoom(one) => ids.put_if_room(id(one)),
+        Act::CopyFrom(others) => ids.copy_from(&set(others)),
+        Act::Clear => ids.clear(),
+    }
+    None
+}
+
+// A set, what is done to it, what that answers, and the set after it.
+type Row = (&'static str, Act, Option<bool>, &'static str);
+
+fn holds(row: &Row) -> bool {
+    let (before, act, answer, after) = row;
+    let mut ids = set(before);
+    does(&mut ids, *act) == *answer && is(&ids, after)
+}
+
+fn wrong_row(rows: &[Row]) -> Option<usize> {
+    rows.iter().position(|row| !holds(row))
+}
+
+#[test]
+fn a_33rd_id_is_refused(rt: HostRuntime) {
+    let wrong = wrong_row(&[
+        ("a,b,c", Act::Insert("b"), Some(false), "a,b,c"),
+        ("a,c", Act::Insert("b"), Some(true), "a,b,c"),
+        ("a,b,c", Act::Remove("b"), Some(true), "a,c"),
+        ("a,c", Act::Remove("b"), Some(false), "a,c"),
+        (FULL, Act::Insert("6"), None, FULL),
+        (FULL, Act::Insert("5"), Some(false), FULL),
+    ]);
+    assert!(rt; wrong == None, "row {wrong:?}");
+    assert!(rt; set(FULL).copy().contains(id("5")) && !set(FULL).contains(id("6")));
+}
+
+#[test]
+fn an_id_is_put_in_if_there_is_room(rt: HostRuntime) {
+    let wrong = wrong_row(&[
+        ("b,c", Act::PutIfRoom("a"), None, "a,b,c"),
+        ("a,b,c", Act::PutIfRoom("b"), None, "a,b,c"),
+        (FULL, Act::PutIfRoom("6"), None, FULL),
+        ("b,c", Act::Put("a"), None, "a,b,c"),
+    ]);
+    assert!(rt; wrong == None, "row {wrong:?}");
+}
+
+#[test]
+fn a_set_is_filled_in_its_place(rt: HostRuntime) {
+    let wrong = wrong_row(&[
+        ("b,c", Act::CopyFrom("a,d,e"), None, "a,d,e"),
+        ("a,d,e", Act::Clear, None, "_"),
+    ]);
+    assert!(rt; wrong == None, "row {wrong:?}");
+    let mut config = VotingConfig::of(&set("b,c"));
+    config.copy_from(&set("a,d,e"));
+    assert!(rt; is(config.members(), "a,d,e"));
+}
+
+// What is asked of two sets.
+#[derive(Clone, Copy)]
+enum Question {
+    IsWithin(&'static str),
+    IsWithout(&'static str),
+    IsUnion(&'static str),
+    Counts(usize),
+    Meets,
+    HasAll,
+    HasRoom,
+}
+
+fn is_union(ids: &NodeSet, others: &NodeSet, union: &str) -> bool {
+    if others.union_count(ids) > MAX_IDS {
+        return false;
+    }
+    is(&ids.union(others), union)
+}
+
+fn has_room(ids: &NodeSet, others: &NodeSet) -> bool {
+    match others.get(0) {
+        Some(id) => ids.has_room(id),
+        None => false,
+    }
+}
+
+fn is_so(ids: &NodeSet, others: &NodeSet, question: Question) -> bool {
+    match question {
+        Question::IsWithin(text) => is(&ids.within(others), text),
+        Question::IsWithout(text) => is(&ids.without(others), text),
+        Question::IsUnion(text) => is_union(ids, others, text),
+        Question::Counts(count) => ids.union_count(others) == count,
+        Question::Meets => ids.meets(others),
+        Question::HasAll => ids.has_all(others),
+        Question::HasRoom => has_room(ids, others),
+    }
+}
+
+#[test]
+fn sets_are_put_together_and_apart(rt: HostRuntime) {
+    for (ids, others, question, wanted) in [
+        ("a,b,c", "b,d", Question::IsWithin("b"), true),
+        ("a,b,c", "b,d", Question::IsWithout("a,c"), true),
+        ("a,b,c", "b,d", Question::IsUnion("a,b,c,d"), true),
+        ("a,c", "c,d", Question::Counts(3), true),
+        ("a,b,c", "b,d", Question::Counts(4), true),
+        ("a,b,c", "b,d", Question::Meets, true),
+        ("a,b,c", "d", Question::Meets, false),
+        ("a,b,c", "a,c", Question::HasAll, true),
+        ("a,b,c", "b,d", Question::HasAll, false),
+        (FULL, "5", Question::HasAll, true),
+        (FULL, "5", Question::HasRoom, true),
+        (FULL, "6", Question::HasRoom, false),
+    ] {
+        assert!(rt; is_so(&set(ids), &set(others), question) == wanted);
+    }
+}
+
+#[test]
+fn a_set_is_made_of_ids_in_any_order(rt: HostRuntime) {
+    let ids = [id("c"), id("a"), id("c"), id("b")];
+    let made = NodeSet::of(&ids);
+    assert!(rt; is(&made, "a,b,c") && made.get(0) == Some(id("a")) && made.get(3) == None);
+    assert!(rt; is(&NodeSet::of(&[]), "_") && is(&made.copy(), "a,b,c"));
+}
+
+#[test]
+fn a_quorum_is_more_than_half(rt: HostRuntime) {
+    for (config, votes, wanted) in [
+        ("_", "a", false),
+        ("a", "a", true),
+        ("a,b,c", "a,b", true),
+        ("a,b,c,d", "a,b", false),
+        ("a,b,c,d", "a,b,c", true),
+        ("a,b,c", "a,x,y,z", false),
+        ("a,b,c", "a,b,x,y", true),
+    ] {
+        let config = VotingConfig::of(&set(config));
+        assert!(rt; config.is_quorum(&set(votes)) == wanted);
+    }
+    let config = VotingConfig::of(&set("a,b"));
+    assert!(rt; config.is_same(&VotingConfig::of(config.members())) && !config.is_empty());
+}

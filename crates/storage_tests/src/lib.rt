@@ -1,0 +1,14 @@
+//! The tests of zen_disk, gate_log, state_journal, journal_inspection. They stand apart, so that a check of one of these, or of
+//! what stands on it, does not prove them again.
+#![tactic(auto)]
+
+#[cfg(test)]
+mod files;
+#[cfg(test)]
+mod gate_log_tests;
+#[cfg(test)]
+mod journal_inspection_tests;
+#[cfg(test)]
+mod state_journal_tests;
+#[cfg(test)]
+mod zen_disk_tests;

@@ -1,0 +1,302 @@
+//! Words that are commands, and words that are none.
+use clap::error::ErrorKind;
+use command_line::program::program;
+use command_line::{NodeWords, ProgramCommand, WordsError, read_words};
+use schedule_text::Level;
+use std::alloc::{AllocError, Global};
+use std::test::Fail;
+use voting_config::NodeId;
+use zen_link::Peer;
+
+fn level_name(level: Level) -> &'static str {
+    match level {
+        Level::Core => "core",
+        Level::Node => "node",
+    }
+}
+
+fn peer_list(alloc: Global, peers: &[Peer]) -> Result<String, AllocError> {
+    let mut text = String::new(alloc);
+    for peer in peers {
+        let item = format!(in alloc; " {}={}", peer.id, peer.address)?;
+        text.push_str(&item)?;
+    }
+    Ok(text)
+}
+
+fn id_list(alloc: Global, ids: &[NodeId]) -> Result<String, AllocError> {
+    let mut text = String::new(alloc);
+    for id in ids {
+        text.push_str(" ")?;
+        text.push_str(id.as_str())?;
+    }
+    Ok(text)
+}
+
+fn node_text(alloc: Global, node: &NodeWords) -> Result<String, AllocError> {
+    let link = node.link.settings();
+    let peers = peer_list(alloc, &link.peers)?;
+    let initial = id_list(alloc, node.initial.as_slice())?;
+    format!(in alloc;
+        "node {} at {} in {}, peers{peers}, initial{initial}, turns {}, shrink {}",
+        link.me,
+        link.listen,
+        node.dir.as_str(),
+        node.turns,
+        node.shrink
+    )
+}
+
+fn command_text(alloc: Global, command: &ProgramCommand) -> Result<String, AllocError> {
+    match command {
+        ProgramCommand::Replay(level) => format!(in alloc; "replay {}", level_name(*level)),
+        ProgramCommand::Inspect(dir) => format!(in alloc; "inspect {}", dir.as_str()),
+        ProgramCommand::Node(node) => node_text(alloc, node),
+        ProgramCommand::Generate { number, steps } => {
+            format!(in alloc; "generate {number} of {steps}")
+        }
+        ProgramCommand::Trial(trial) => format!(in alloc;
+            "trial of {} in {}, port {}, turns {}",
+            trial.program.as_str(),
+            trial.dir.as_str(),
+            trial.port,
+            trial.turns
+        ),
+    }
+}
+
+fn words_of(alloc: Global, line: &str) -> Result<Vec<String>, AllocError> {
+    let mut words = Vec::new(alloc);
+    for word in line.split(' ') {
+        let word = String::from_str(alloc, word)?;
+        words.push(word)?;
+    }
+    Ok(words)
+}
+
+// The command that the words of a line are, in words of the test's own.
+fn told(alloc: Global, line: &str) -> Result<String, Fail> {
+    let words = words_of(alloc, line)?;
+    match read_words(alloc, &words) {
+        Ok(command) => Ok(command_text(alloc, &command)?),
+        Err(WordsError::Usage) => Ok(String::from_str(alloc, "usage")?),
+        Err(WordsError::Memory) => Err("out of memory".into()),
+    }
+}
+
+const COMMANDS: [(&str, &str); 13] = [
+    ("replay --level core", "replay core"),
+    ("replay --level=node", "replay node"),
+    ("inspect --dir a/b", "inspect a/b"),
+    ("inspect --dir=a=b", "inspect a=b"),
+    ("inspect --dir inspect", "inspect inspect"),
+    (
+        "node --id a --dir d --listen h:1 --peers b=h:2,c=h:3 --initial a,b --turns 5",
+        "node a at h:1 in d, peers b=h:2 c=h:3, initial a b, turns 5, shrink true",
+    ),
+    (
+        "node --no-shrink --turns=0 --initial=_ --peers=_ --listen=h --dir=d/e --id=a-1",
+        "node a-1 at h in d/e, peers, initial, turns 0, shrink false",
+    ),
+    (
+        "node --initial c,a,b --id 0 --turns 0018446744073709551615 --dir _ --peers c=-,b=x=y --listen _",
+        "node 0 at _ in _, peers c=- b=x=y, initial a b c, turns 18446744073709551615, shrink true",
+    ),
+    ("generate --number 7 --steps 0", "generate 7 of 0"),
+    (
+        "generate --steps=100000 --number=18446744073709551615",
+        "generate 18446744073709551615 of 100000",
+    ),
+    ("generate --steps 08 --number 0", "generate 0 of 8"),
+    (
+        "trial --program ./zen --dir /tmp/x --port 65533 --turns 18446744073709551615",
+        "trial of ./zen in /tmp/x, port 65533, turns 18446744073709551615",
+    ),
+    (
+        "trial --turns=0 --port=1 --dir=d --program=p=q",
+        "trial of p=q in d, port 1, turns 0",
+    ),
+];
+
+#[test]
+fn words_are_the_command_that_they_say(rt: HostRuntime) -> Result<(), Fail> {
+    for (line, command) in COMMANDS {
+        assert!(rt; told(rt.alloc(), line)?.as_str() == command, "{line}");
+    }
+    Ok(())
+}
+
+// The lines that are a command, one after another.
+fn commands_among(alloc: Global, lines: &[&str]) -> Result<String, Fail> {
+    let mut found = String::new(alloc);
+    for line in lines {
+        if told(alloc, line)?.as_str() != "usage" {
+            found.push_str(line)?;
+            found.push_str("; ")?;
+        }
+    }
+    Ok(found)
+}
+
+#[test]
+fn other_words_are_a_usage(rt: HostRuntime) -> Result<(), Fail> {
+    let found = commands_among(
+        rt.alloc(),
+        &[
+            "",
+            "replay",
+            "replay --level",
+            "replay --level=",
+            "replay --level none",
+            "replay --level cores",
+            "replay --level core --",
+            "replay -- --level core",
+            "replay --level core --level core",
+            "replay --level=core --level=core",
+            "replay --level core core",
+            "replay -l core",
+            "replay --leve core",
+            "replay --dir core",
+            "--level core replay",
+            "help replay",
+            "replay --help",
+            "replay --version",
+            "inspect",
+            "inspect --dir -",
+            "inspect --dir=-x",
+            "inspect --dir=",
+        ],
+    )?;
+    assert!(rt; found.as_str() == "", "{found}");
+    Ok(())
+}
+
+fn refusal(alloc: Global, words: &[String]) -> Result<Option<ErrorKind>, AllocError> {
+    match program(alloc)?.try_get_matches_from(words) {
+        Ok(_) => Ok(None),
+        Err(error) => Ok(Some(error.kind())),
+    }
+}
+
+// `read_words` says `Usage` for all that clap refuses. Clap itself prints no help of its own.
+#[test]
+fn clap_knows_no_help(rt: HostRuntime) -> Result<(), Fail> {
+    for line in ["--help", "replay --help"] {
+        let words = words_of(rt.alloc(), line)?;
+        assert!(rt;
+            refusal(rt.alloc(), &words)? == Some(ErrorKind::UnknownArgument),
+            "{line}"
+        );
+    }
+    Ok(())
+}
+
+#[test]
+fn a_node_needs_each_option_once(rt: HostRuntime) -> Result<(), Fail> {
+    let found = commands_among(
+        rt.alloc(),
+        &[
+            "node --dir d --listen h --peers _ --initial _ --turns 5",
+            "node --id a --listen h --peers _ --initial _ --turns 5",
+            "node --id a --dir d --peers _ --initial _ --turns 5",
+            "node --id a --dir d --listen h --initial _ --turns 5",
+            "node --id a --dir d --listen h --peers _ --turns 5",
+            "node --id a --dir d --listen h --peers _ --initial _",
+            "node --id a --dir d --listen h --peers _ --initial _ --turns 5 --turns 5",
+            "node --id a --dir d --listen h --peers _ --initial _ --turns 5 --no-shrink --no-shrink",
+            "node --id a --dir d --listen h --peers _ --initial _ --turns 5 --no-shrink=true",
+            "node --id a --dir d --listen h --peers _ --initial _ --turns 5 --level core",
+            "node --id a --dir d --listen h --peers _ --initial _ --turns 5 --",
+            "node --id a --dir d --listen h --peers _ --initial _ --turns 5 a",
+            "node --id a --dir d --listen h --peers --initial _ --turns 5",
+        ],
+    )?;
+    assert!(rt; found.as_str() == "", "{found}");
+    Ok(())
+}
+
+#[test]
+fn a_node_needs_values_of_their_kinds(rt: HostRuntime) -> Result<(), Fail> {
+    let found = commands_among(
+        rt.alloc(),
+        &[
+            "node --id A --dir d --listen h --peers _ --initial _ --turns 5",
+            "node --id=-a --dir d --listen h --peers _ --initial _ --turns 5",
+            "node --id= --dir d --listen h --peers _ --initial _ --turns 5",
+            "node --id aaaaaaaaaaaaaaaaaaaaaaaaaaaaaaaaa --dir d --listen h --peers _ --initial _ --turns 5",
+            "node --id a --dir= --listen h --peers _ --initial _ --turns 5",
+            "node --id a --dir d --listen= --peers _ --initial _ --turns 5",
+            "node --id a --dir d --listen h,i --peers _ --initial _ --turns 5",
+            "node --id a --dir d --listen h --peers b --initial _ --turns 5",
+            "node --id a --dir d --listen h --peers b= --initial _ --turns 5",
+            "node --id a --dir d --listen h --peers =h --initial _ --turns 5",
+            "node --id a --dir d --listen h --peers b=h, --initial _ --turns 5",
+            "node --id a --dir d --listen h --peers b=h,b=i --initial _ --turns 5",
+            "node --id a --dir d --listen h --peers _,b=h --initial _ --turns 5",
+            "node --id a --dir d --listen h --peers=-=h --initial _ --turns 5",
+            "node --id a --dir d --listen h --peers _ --initial a,a --turns 5",
+            "node --id a --dir d --listen h --peers _ --initial a,,b --turns 5",
+            "node --id a --dir d --listen h --peers _ --initial a,_ --turns 5",
+            "node --id a --dir d --listen h --peers _ --initial=-a --turns 5",
+            "node --id a --dir d --listen h --peers _ --initial= --turns 5",
+            "node --id a --dir d --listen h --peers _ --initial _ --turns +5",
+            "node --id a --dir d --listen h --peers _ --initial _ --turns=-5",
+            "node --id a --dir d --listen h --peers _ --initial _ --turns 0x5",
+            "node --id a --dir d --listen h --peers _ --initial _ --turns=",
+            "node --id a --dir d --listen h --peers _ --initial _ --turns 18446744073709551616",
+        ],
+    )?;
+    assert!(rt; found.as_str() == "", "{found}");
+    Ok(())
+}
+
+#[test]
+fn a_generated_schedule_has_a_number_and_few_steps(rt: HostRuntime) -> Result<(), Fail> {
+    let found = commands_among(
+        rt.alloc(),
+        &[
+            "generate",
+            "generate --number 7",
+            "generate --steps 7",
+            "generate --number 7 --steps 100001",
+            "generate --number 18446744073709551616 --steps 7",
+            "generate --number 7 --steps 18446744073709551616",
+            "generate --number +7 --steps 7",
+            "generate --number 7 --steps=-7",
+            "generate --number= --steps 7",
+            "generate --number 7 --steps 7 --steps 7",
+            "generate --number 7 --steps 7 --level core",
+            "generate 7 7",
+        ],
+    )?;
+    assert!(rt; found.as_str() == "", "{found}");
+    Ok(())
+}
+
+#[test]
+fn a_trial_needs_two_ports_above_its_first(rt: HostRuntime) -> Result<(), Fail> {
+    let found = commands_among(
+        rt.alloc(),
+        &[
+            "trial",
+            "trial --dir d --port 1 --turns 1",
+            "trial --program p --port 1 --turns 1",
+            "trial --program p --dir d --turns 1",
+            "trial --program p --dir d --port 1",
+            "trial --program p --dir d --port 0 --turns 1",
+            "trial --program p --dir d --port 65534 --turns 1",
+            "trial --program p --dir d --port 18446744073709551616 --turns 1",
+            "trial --program p --dir d --port +1 --turns 1",
+            "trial --program p --dir d --port 1 --turns=-1",
+            "trial --program p --dir d --port 1 --turns 18446744073709551616",
+            "trial --program= --dir d --port 1 --turns 1",
+            "trial --program=-p --dir d --port 1 --turns 1",
+            "trial --program p --dir=-d --port 1 --turns 1",
+            "trial --program p --dir d --port 1 --port 1 --turns 1",
+            "trial --program p --dir d --port 1 --turns 1 --no-shrink",
+            "trial --program p --dir d --port 1 --turns 1 --",
+        ],
+    )?;
+    assert!(rt; found.as_str() == "", "{found}");
+    Ok(())
+}

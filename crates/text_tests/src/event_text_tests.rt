@@ -1,0 +1,413 @@
+//! The texts are those of the format, written out by hand.
+use crate::begun_text::{begun, goes_on};
+use client_lines::{Answer, LineFault, Reply as ClientReply};
+use cluster_state::{
+    ApplyCommit, ClusterState, Join, PublishRequest, PublishResponse, SharedConfig, SharedState,
+    SharedValue, StartCause, StateId,
+};
+use event_text::*;
+use master_tasks::Outgoing;
+use policy_model::{DropCause, MemberDrop, Mode, Step};
+use schedule_text::Text;
+use std::alloc::{AllocError, Global};
+use std::test::*;
+use voting_config::{NodeId, NodeSet};
+use wire_frames::{Frame, WireMessage};
+use world_model::{Act, ActReply, Cause, Message as Sent, Outcome};
+
+fn id(text: &str) -> NodeId {
+    NodeId::parse(text).unwrap_or_default()
+}
+
+fn both() -> NodeSet {
+    let mut ids = NodeSet::new();
+    let _ = ids.insert(id("b"));
+    let _ = ids.insert(id("a"));
+    ids
+}
+
+fn only_a() -> NodeSet {
+    let mut ids = NodeSet::new();
+    let _ = ids.insert(id("a"));
+    ids
+}
+
+fn state_id(term: u64, version: u64) -> StateId {
+    StateId { term, version }
+}
+
+// The state 2/1 of one voter.
+fn state(alloc: Global) -> Result<SharedState, AllocError> {
+    let mut state = ClusterState::initial(alloc, &only_a());
+    state.term = 2;
+    state.version = 1;
+    SharedState::of(alloc, state)
+}
+
+fn has_text(alloc: Global, message: &WireMessage, wanted: &str) -> Result<bool, AllocError> {
+    let mut text = begun(alloc)?;
+    write_message(&mut text, alloc, message)?;
+    goes_on(alloc, &text, wanted)
+}
+
+fn publication_has_its_text(alloc: Global) -> Result<bool, AllocError> {
+    has_text(
+        alloc,
+        &WireMessage::Publish(state(alloc)?),
+        "publish {\"committed\":[\"a\"],\"config\":[\"a\"],\"term\":2,\"value\":{\"exclusions\":[],\"master\":null,\"members\":[],\"settings\":{}},\"version\":1}",
+    )
+}
+
+#[test]
+fn each_message_has_its_word_and_its_fields(rt: HostRuntime) -> Result<(), Fail> {
+    assert!(rt; publication_has_its_text(rt.alloc())?);
+    for (message, wanted) in &[
+        (
+            WireMessage::StartJoin {
+                candidate: id("a"),
+                term: 1,
+            },
+            "startjoin a 1",
+        ),
+        (
+            WireMessage::Join {
+                term: 1,
+                last: state_id(0, 0),
+            },
+            "join 1 0/0",
+        ),
+        (WireMessage::Response(state_id(1, 1)), "response 1/1"),
+        (WireMessage::Commit(state_id(1, 2)), "commit 1/2"),
+        (WireMessage::JoinAsk { term: 7 }, "joinask 7"),
+        (WireMessage::PeersAsk { known: both() }, "peersask a,b"),
+        (
+            WireMessage::PeersAnswer {
+                master: None,
+                term: 3,
+                known: both(),
+            },
+            "peersanswer _ 3 a,b",
+        ),
+        (
+            WireMessage::PeersAnswer {
+                master: Some(id("a")),
+                term: 3,
+                known: NodeSet::new(),
+            },
+            "peersanswer a 3 _",
+        ),
+        (WireMessage::PreVoteAsk, "prevoteask"),
+        (
+            WireMessage::PreVoteAnswer {
+                term: 2,
+                last: state_id(1, 4),
+            },
+            "prevoteanswer 2 1/4",
+        ),
+        (
+            WireMessage::PreVoteRefuse { leader: id("a") },
+            "prevoterefuse a",
+        ),
+        (WireMessage::FollowerCheck { term: 5 }, "followercheck 5"),
+        (
+            WireMessage::FollowerAnswer {
+                good: true,
+                term: 1,
+                applied: state_id(1, 2),
+            },
+            "followeranswer yes 1 1/2",
+        ),
+        (
+            WireMessage::FollowerAnswer {
+                good: false,
+                term: 6,
+                applied: state_id(0, 0),
+            },
+            "followeranswer no 6 0/0",
+        ),
+        (WireMessage::LeaderCheck { term: 5 }, "leadercheck 5"),
+        (WireMessage::LeaderAnswer { good: true }, "leaderanswer yes"),
+        (WireMessage::LeaderAnswer { good: false }, "leaderanswer no"),
+    ] {
+        assert!(rt; has_text(rt.alloc(), message, wanted)?, "{wanted}");
+    }
+    Ok(())
+}
+
+fn joins() -> [Frame; 2] {
+    [
+        Frame {
+            from: id("a"),
+            to: id("b"),
+            message: WireMessage::JoinAsk { term: 7 },
+        },
+        Frame {
+            from: id("a"),
+            to: id("c"),
+            message: WireMessage::PreVoteAsk,
+        },
+    ]
+}
+
+fn many_frames(alloc: Global) -> Result<Text, AllocError> {
+    let mut text = Text::new(alloc);
+    let frames = joins();
+    write_frames(&mut text, alloc, 4, &frames)?;
+    for frame in &frames {
+        write_frame_line(&mut text, alloc, 1 << 62, frame)?;
+    }
+    Ok(text)
+}
+
+const FRAMES: &str =
+    "m5 a->b joinask 7\nm6 a->c prevoteask\nm4611686018427387904 a->b joinask 7\nm4611686018427387904 a->c prevoteask\n";
+
+#[test]
+fn frames_are_numbered_from_the_next_one_on(rt: HostRuntime) -> Result<(), Fail> {
+    let text = many_frames(rt.alloc())?;
+    assert!(rt; text.as_bytes() == FRAMES.as_bytes());
+    Ok(())
+}
+
+#[test]
+fn modes_have_their_term_and_a_follower_its_leader(rt: HostRuntime) -> Result<(), Fail> {
+    let mut text = Text::new(rt.alloc());
+    for mode in [Mode::Candidate, Mode::Leader, Mode::Follower(id("b"))] {
+        write_mode(&mut text, id("a"), mode, 3)?;
+    }
+    let wanted = "mode a candidate 3\nmode a leader 3\nmode a follower b 3\n";
+    assert!(rt; text.as_bytes() == wanted.as_bytes());
+    Ok(())
+}
+
+fn drops() -> [MemberDrop; 2] {
+    [
+        MemberDrop {
+            member: id("b"),
+            cause: DropCause::Checks,
+        },
+        MemberDrop {
+            member: id("c"),
+            cause: DropCause::Lag,
+        },
+    ]
+}
+
+#[test]
+fn drops_have_their_cause(rt: HostRuntime) -> Result<(), Fail> {
+    let mut text = Text::new(rt.alloc());
+    write_drops(&mut text, id("a"), &drops())?;
+    assert!(rt; text.as_bytes() == b"drop a b checks\ndrop a c lag\n".as_slice());
+    Ok(())
+}
+
+fn replies() -> [Outgoing; 2] {
+    [
+        Outgoing {
+            conn: 1,
+            reply: ClientReply::To {
+                id: 7,
+                answer: Answer::NotMaster(None),
+            },
+        },
+        Outgoing {
+            conn: 2,
+            reply: ClientReply::BadLine(LineFault::NotJson),
+        },
+    ]
+}
+
+const REPLIES: &str = "reply a {\"id\":7,\"not_master\":null}\nreply a {\"error\":\"not_json\"}\n";
+
+#[test]
+fn replies_are_json_behind_the_node(rt: HostRuntime) -> Result<(), Fail> {
+    let mut text = Text::new(rt.alloc());
+    write_replies(&mut text, rt.alloc(), id("a"), &replies())?;
+    assert!(rt; text.as_bytes() == REPLIES.as_bytes());
+    Ok(())
+}
+
+fn request(alloc: Global) -> Result<PublishRequest, AllocError> {
+    Ok(PublishRequest {
+        source: id("a"),
+        state: state(alloc)?,
+    })
+}
+
+fn taken(sends: Option<Sent>, wins: bool) -> Outcome {
+    Outcome::Answered(ActReply::Taken(sends, wins))
+}
+
+fn publishing(alloc: Global) -> Result<Step, AllocError> {
+    let request = request(alloc)?;
+    let config = SharedConfig::of(request.state.share()?);
+    let value = SharedValue::of(request.state.share()?);
+    let sent = Some(Sent::Publish(request));
+    Ok(Step::Act(Act::Value(1, config, value), taken(sent, false)))
+}
+
+// The node wins an election and publishes.
+fn winning(alloc: Global) -> Result<[Step; 3], AllocError> {
+    let publishing = publishing(alloc)?;
+    let join = Join {
+        source: id("b"),
+        target: id("a"),
+        term: 2,
+        last_term: 0,
+        last_version: 0,
+    };
+    Ok([
+        Step::Act(Act::TakeJoin(join), taken(None, true)),
+        Step::Mode(Mode::Leader, 2),
+        publishing,
+    ])
+}
+
+const WINNING: &str =
+    "act a ok join b a 2 0/0\nwon a 2\nmode a leader 2\nact a ok value 1 a {\"exclusions\":[],\"master\":null,\"members\":[],\"settings\":{}}\ndrop a b checks\ndrop a c lag\nm5 a->b joinask 7\nm6 a->c prevoteask\nreply a {\"id\":7,\"not_master\":null}\nreply a {\"error\":\"not_json\"}\n";
+
+fn event(alloc: Global, published: &mut Option<SharedState>) -> Result<Text, AllocError> {
+    let steps = winning(alloc)?;
+    let mut text = Text::new(alloc);
+    write_event(
+        &mut text,
+        alloc,
+        4,
+        id("a"),
+        published,
+        &steps,
+        &drops(),
+        &joins(),
+        &replies(),
+    )?;
+    Ok(text)
+}
+
+fn is_state(published: &Option<SharedState>, wanted: StateId) -> bool {
+    match published {
+        Some(state) => state.id() == wanted,
+        None => false,
+    }
+}
+
+#[test]
+fn an_event_shows_steps_then_drops_then_frames_then_replies(rt: HostRuntime) -> Result<(), Fail> {
+    let mut published = None;
+    let text = event(rt.alloc(), &mut published)?;
+    assert!(rt; text.as_bytes() == WINNING.as_bytes());
+    assert!(rt; is_state(&published, state_id(2, 1)));
+    Ok(())
+}
+
+fn response() -> Step {
+    let response = PublishResponse {
+        source: id("b"),
+        target: id("a"),
+        term: 2,
+        version: 1,
+    };
+    Step::Act(
+        Act::Response(response),
+        taken(Some(Sent::Commit(commit())), false),
+    )
+}
+
+fn commit() -> ApplyCommit {
+    ApplyCommit {
+        source: id("a"),
+        term: 2,
+        version: 1,
+    }
+}
+
+fn accepting(alloc: Global, outcome: Outcome) -> Result<Step, AllocError> {
+    Ok(Step::Act(Act::Publish(request(alloc)?), outcome))
+}
+
+fn booting(alloc: Global) -> Result<Step, AllocError> {
+    let initial = SharedState::of(alloc, ClusterState::initial(alloc, &both()))?;
+    Ok(Step::Act(
+        Act::Bootstrap(SharedConfig::of(initial)),
+        Outcome::Disk(true),
+    ))
+}
+
+// Each other act, and each way in which one ends.
+fn responding(alloc: Global) -> Result<[Step; 5], AllocError> {
+    let accepting = accepting(alloc, Outcome::Crashed(true))?;
+    let booting = booting(alloc)?;
+    let late = Cause::Start(StartCause::TermNotGreater(2, 2));
+    Ok([
+        response(),
+        Step::Act(
+            Act::StartJoin(id("b"), 2),
+            Outcome::Answered(ActReply::Refused(late)),
+        ),
+        Step::Act(Act::Commit(commit()), Outcome::Answered(ActReply::Stopped)),
+        accepting,
+        booting,
+    ])
+}
+
+const RESPONDING: &str =
+    "act a ok response b a 2/1\ncommitted {\"committed\":[\"a\"],\"config\":[\"a\"],\"term\":2,\"value\":{\"exclusions\":[],\"master\":null,\"members\":[],\"settings\":{}},\"version\":1}\nact a refused:TermNotGreater(2,2) startjoin b 2\nact a stopped commit a 2/1\nact a crashed publish a {\"committed\":[\"a\"],\"config\":[\"a\"],\"term\":2,\"value\":{\"exclusions\":[],\"master\":null,\"members\":[],\"settings\":{}},\"version\":1}\nact a disk boot a,b\n";
+
+fn steps_text(
+    alloc: Global,
+    published: &mut Option<SharedState>,
+    steps: &[Step],
+) -> Result<Text, AllocError> {
+    let mut text = Text::new(alloc);
+    write_steps(&mut text, alloc, id("a"), published, steps)?;
+    Ok(text)
+}
+
+#[test]
+fn a_response_that_sends_a_commit_shows_what_was_published_last(
+    rt: HostRuntime,
+) -> Result<(), Fail> {
+    let mut published = Some(state(rt.alloc())?);
+    let text = steps_text(rt.alloc(), &mut published, &responding(rt.alloc())?)?;
+    assert!(rt; text.as_bytes() == RESPONDING.as_bytes());
+    Ok(())
+}
+
+const ACCEPTING: &str =
+    "act a ok publish a {\"committed\":[\"a\"],\"config\":[\"a\"],\"term\":2,\"value\":{\"exclusions\":[],\"master\":null,\"members\":[],\"settings\":{}},\"version\":1}\n";
+
+#[test]
+fn a_state_that_was_accepted_was_not_published(rt: HostRuntime) -> Result<(), Fail> {
+    let step = accepting(rt.alloc(), taken(None, false))?;
+    let mut published = None;
+    let text = steps_text(rt.alloc(), &mut published, &[step])?;
+    assert!(rt; text.as_bytes() == ACCEPTING.as_bytes());
+    assert!(rt; published.is_none());
+    Ok(())
+}
+
+fn struck() -> [Step; 2] {
+    [
+        Step::Mode(Mode::Candidate, 2),
+        Step::Act(Act::StartJoin(id("b"), 3), Outcome::Disk(false)),
+    ]
+}
+
+fn struck_text(alloc: Global, last: &mut Option<SharedState>) -> Result<Text, AllocError> {
+    let steps = struck();
+    let mut text = Text::new(alloc);
+    write_struck_steps(&mut text, alloc, id("a"), last, &steps, false)?;
+    write_struck_event(&mut text, alloc, id("a"), last, &steps, &drops(), true)?;
+    Ok(text)
+}
+
+const STRUCK: &str =
+    "mode a candidate 2\nact a disk startjoin b 3\nmode a candidate 2\nact a crashed startjoin b 3\ndrop a b checks\ndrop a c lag\n";
+
+#[test]
+fn an_act_in_which_the_node_stopped_is_shown_as_crashed(rt: HostRuntime) -> Result<(), Fail> {
+    let mut last = None;
+    let text = struck_text(rt.alloc(), &mut last)?;
+    assert!(rt; text.as_bytes() == STRUCK.as_bytes());
+    assert!(rt; last.is_none());
+    Ok(())
+}

@@ -1,0 +1,317 @@
+//! Texts with their first bad lines, and texts that are printed as they were read.
+use schedule_text::fault::{BadSchedule, ReadError, WhyBad};
+use schedule_text::level::Level;
+use schedule_text::printing::write_schedule;
+use schedule_text::reading::read_schedule;
+use schedule_text::schedule::Line;
+use schedule_text::text::Text;
+use std::alloc::{AllocError, Global};
+use std::test::Fail;
+use zen_disk::Way;
+
+const HEADER: &[u8] = b"nodes a\ninitial a\n";
+
+// The line and the reason of a text's fault.
+fn fault(alloc: Global, level: Level, text: &[u8]) -> Option<(usize, WhyBad)> {
+    match read_schedule(alloc, text, level) {
+        Err(ReadError::Bad(bad)) => Some((bad.line, bad.why)),
+        _ => None,
+    }
+}
+
+// A text with so many times these bytes after a header.
+fn many(alloc: Global, count: usize, bytes: &[u8]) -> Option<Vec<u8>> {
+    let Ok(mut text) = Vec::from_slice(alloc, HEADER) else {
+        return None;
+    };
+    for _ in 0..count {
+        if text.extend_from_slice(bytes).is_err() {
+            return None;
+        }
+    }
+    Some(text)
+}
+
+// The fault of a text with so many times these bytes after a header.
+fn fault_of_many(
+    alloc: Global,
+    level: Level,
+    count: usize,
+    bytes: &[u8],
+) -> Option<(usize, WhyBad)> {
+    match many(alloc, count, bytes) {
+        Some(text) => fault(alloc, level, text.as_slice()),
+        None => None,
+    }
+}
+
+// Whether a text with this line after its header is bad there, for this reason.
+fn third_line_is_bad(alloc: Global, level: Level, line: &str, why: WhyBad) -> bool {
+    fault_of_many(alloc, level, 1, line.as_bytes()) == Some((3, why))
+}
+
+#[test]
+fn names_the_reason_of_a_third_line_at_level_core(rt: HostRuntime) {
+    let a = rt.alloc();
+    for (line, why) in [
+        ("tick a 0 0\n", WhyBad::Verb),
+        ("client a x\n", WhyBad::Verb),
+        ("deliver a\n", WhyBad::Arity),
+        ("deliver z x\n", WhyBad::Id),
+        ("deliver a 01\n", WhyBad::Number),
+        ("deliver a 0\n", WhyBad::Number),
+        ("deliver a 4294967296\n", WhyBad::Number),
+        ("startjoin a a 18446744073709551616\n", WhyBad::Number),
+        ("value a 1 X a\n", WhyBad::Text),
+        ("value a 1 x a,a\n", WhyBad::List),
+        ("boot a", WhyBad::NoNewline),
+        ("boot  a\n", WhyBad::Arity),
+        ("boot a \n", WhyBad::Arity),
+        (" boot a\n", WhyBad::Verb),
+        ("boot \n", WhyBad::Id),
+        ("boot\ta\n", WhyBad::Verb),
+        ("\n", WhyBad::Verb),
+        ("crash a\n", WhyBad::Arity),
+        ("crash a all all\n", WhyBad::Arity),
+        ("crash z all\n", WhyBad::Id),
+        ("crash a most\n", WhyBad::Mode),
+        ("crash a \n", WhyBad::Mode),
+        ("crash a torn:\n", WhyBad::Mode),
+        ("crash a torn:1\n", WhyBad::Mode),
+        ("crash a torn:123\n", WhyBad::Mode),
+        ("crash a torn:0G\n", WhyBad::Mode),
+        ("crash a torn:AB\n", WhyBad::Mode),
+        ("crash a Torn:ab\n", WhyBad::Mode),
+        ("restart\n", WhyBad::Arity),
+        ("restart \n", WhyBad::Id),
+        ("fuse a 1\n", WhyBad::Arity),
+        ("fuse a 0 all\n", WhyBad::Number),
+        ("fuse a 4294967296 all\n", WhyBad::Number),
+        ("fuse a 0 x\n", WhyBad::Number),
+        ("fuse a 1 x\n", WhyBad::Mode),
+        ("fail a\n", WhyBad::Arity),
+        ("fail a 0\n", WhyBad::Number),
+    ] {
+        assert!(rt; third_line_is_bad(a, Level::Core, line, why), "at {line}");
+    }
+}
+
+#[test]
+fn names_the_reason_of_a_third_line_at_level_node(rt: HostRuntime) {
+    let a = rt.alloc();
+    for (line, why) in [
+        ("boot a\n", WhyBad::Verb),
+        ("startjoin a a 1\n", WhyBad::Verb),
+        ("value a 1 x a\n", WhyBad::Verb),
+        ("clients a x\n", WhyBad::Verb),
+        ("tick a 0\n", WhyBad::Arity),
+        ("tick a 0 0 0\n", WhyBad::Arity),
+        ("tick z x x\n", WhyBad::Id),
+        ("tick a 00 0\n", WhyBad::Number),
+        ("tick a 0 \n", WhyBad::Number),
+        ("tick a 4611686018427387905 0\n", WhyBad::Number),
+        ("tick a 0 18446744073709551616\n", WhyBad::Number),
+        ("client\n", WhyBad::Arity),
+        ("client \n", WhyBad::Arity),
+        ("client a\n", WhyBad::Arity),
+        ("client  a\n", WhyBad::Id),
+        ("client z \n", WhyBad::Id),
+        ("client a x", WhyBad::NoNewline),
+        ("deliver a\n", WhyBad::Arity),
+        ("deliver a 0\n", WhyBad::Number),
+        ("crash a most\n", WhyBad::Mode),
+        ("restart z\n", WhyBad::Id),
+        ("fuse a 1\n", WhyBad::Arity),
+        ("fail a 0\n", WhyBad::Number),
+    ] {
+        assert!(rt; third_line_is_bad(a, Level::Node, line, why), "at {line}");
+    }
+}
+
+#[test]
+fn names_the_reason_of_a_header(rt: HostRuntime) {
+    let a = rt.alloc();
+    for (text, line, why) in [
+        ("nodes a\ninitial _\n", 2, WhyBad::Header),
+        ("nodes a\ninitial b\n", 2, WhyBad::Header),
+        ("nodes a\ninitial a", 2, WhyBad::NoNewline),
+        ("nodes a\n", 2, WhyBad::Header),
+        ("nodes a", 1, WhyBad::NoNewline),
+        ("nodes b,a\n", 1, WhyBad::Header),
+        ("\n", 1, WhyBad::Header),
+    ] {
+        for level in [Level::Core, Level::Node] {
+            assert!(rt;
+                fault(a, level, text.as_bytes()) == Some((line, why)),
+                "at {text}"
+            );
+        }
+    }
+    for level in [Level::Core, Level::Node] {
+        assert!(rt; read_schedule(a, b"", level).is_ok());
+        assert!(rt; read_schedule(a, HEADER, level).is_ok());
+    }
+}
+
+#[test]
+fn counts_the_lines_before_a_bad_one(rt: HostRuntime) {
+    let text = b"nodes a\ninitial a\nrestart a\nfail a 10\nrestart z\n";
+    assert!(rt; fault(rt.alloc(), Level::Core, text) == Some((5, WhyBad::Id)));
+}
+
+// Whether the schedule that a text spells is printed as that text.
+fn prints_itself(alloc: Global, level: Level, text: &[u8]) -> bool {
+    let Ok(schedule) = read_schedule(alloc, text, level) else {
+        return false;
+    };
+    match write_schedule(alloc, &schedule) {
+        Ok(printed) => printed.as_bytes() == text,
+        Err(_) => false,
+    }
+}
+
+#[test]
+fn prints_what_it_has_read(rt: HostRuntime) {
+    let text =
+        b"nodes a,b\ninitial a\nboot a\nstartjoin a b 18446744073709551615\nvalue b 0 x-1 _\nvalue b 7 x a,b\ndeliver a 4294967295\n";
+    assert!(rt; prints_itself(rt.alloc(), Level::Core, text));
+}
+
+#[test]
+fn prints_each_stop_that_it_has_read(rt: HostRuntime) {
+    let text =
+        b"nodes a,b\ninitial a\ncrash b none\ncrash b all\ncrash b torn:09\nrestart b\nfuse a 1 torn:af\nfuse a 4294967295 none\nfail b 10\n";
+    assert!(rt; prints_itself(rt.alloc(), Level::Core, text));
+}
+
+#[test]
+fn prints_what_it_has_read_at_level_node(rt: HostRuntime) {
+    let text =
+        b"nodes a,b\ninitial a\ntick a 0 0\ntick b 4611686018427387904 18446744073709551615\nclient a \nclient b  get  x \nclient a \xff\x00\x80\ndeliver a 1\ncrash a torn:09\nrestart a\nfuse b 1 all\nfail b 10\n";
+    assert!(rt; prints_itself(rt.alloc(), Level::Node, text));
+}
+
+// Whether a line is this one of a client.
+fn is_client(line: &Line, shown: &str) -> bool {
+    match line {
+        Line::Client(_, bytes) => bytes.as_slice() == shown.as_bytes(),
+        _ => false,
+    }
+}
+
+fn shows_client(alloc: Global, text: &str, shown: &str) -> bool {
+    let Ok(schedule) = read_schedule(alloc, text.as_bytes(), Level::Node) else {
+        return false;
+    };
+    match schedule.lines.as_slice().first() {
+        Some(line) => is_client(line, shown),
+        None => false,
+    }
+}
+
+#[test]
+fn shows_a_clients_line_with_its_spaces(rt: HostRuntime) {
+    for (text, shown) in [
+        ("nodes a\ninitial a\nclient a put x  1 \n", "put x  1 "),
+        ("nodes a\ninitial a\nclient a \n", ""),
+    ] {
+        assert!(rt; shows_client(rt.alloc(), text, shown), "{shown}");
+    }
+}
+
+// What a first line is, where it is a crash that tears to a byte, or a value: the version, the length of its text and
+// the number of its nodes.
+#[derive(Clone, Copy, PartialEq, Eq)]
+enum First {
+    Torn(u8),
+    Value(u64, usize, usize),
+    Other,
+}
+
+fn shown_by(line: &Line) -> First {
+    match line {
+        Line::Crash(_, Way::Torn(byte)) => First::Torn(*byte),
+        Line::Value(_, version, text, config) => {
+            First::Value(*version, text.get().as_str().len(), config.to_set().len())
+        }
+        _ => First::Other,
+    }
+}
+
+fn first_of(alloc: Global, text: &str) -> First {
+    let Ok(schedule) = read_schedule(alloc, text.as_bytes(), Level::Core) else {
+        return First::Other;
+    };
+    match schedule.lines.as_slice().first() {
+        Some(line) => shown_by(line),
+        None => First::Other,
+    }
+}
+
+#[test]
+fn shows_a_torn_byte(rt: HostRuntime) {
+    let first = first_of(rt.alloc(), "nodes a,b\ninitial a\ncrash b torn:a7\n");
+    assert!(rt; first == First::Torn(167));
+}
+
+#[test]
+fn shows_a_value(rt: HostRuntime) {
+    let first = first_of(rt.alloc(), "nodes a,b\ninitial a\nvalue b 7 x-1 a,b\n");
+    assert!(rt; first == First::Value(7, 3, 2));
+}
+
+fn write_fault(text: &mut Text) -> Result<(), AllocError> {
+    text.bad_schedule(&BadSchedule {
+        line: 3,
+        why: WhyBad::Id,
+    })
+}
+
+#[test]
+fn prints_a_fault(rt: HostRuntime) -> Result<(), Fail> {
+    let mut text = Text::new(rt.alloc());
+    text.word("act ")?;
+    assert!(rt; text.len() == 4);
+    text.clear();
+    write_fault(&mut text)?;
+    assert!(rt; text.as_bytes() == b"zen: bad schedule at line 3: Id\n".as_slice());
+    Ok(())
+}
+
+// Whether a text of a million lines is read, and not with a line more.
+fn reads_a_million(alloc: Global) -> Option<bool> {
+    let mut text = many(alloc, 999998, b"deliver a 1\n")?;
+    let is_read = read_schedule(alloc, text.as_slice(), Level::Core).is_ok();
+    text.push(b'x').ok()?;
+    let fault = fault(alloc, Level::Core, text.as_slice());
+    Some(is_read && fault == Some((1000001, WhyBad::TooMany)))
+}
+
+#[test]
+fn takes_a_million_lines(rt: HostRuntime) {
+    assert!(rt; reads_a_million(rt.alloc()) == Some(true));
+}
+
+#[test]
+fn names_a_text_that_is_too_big(rt: HostRuntime) {
+    // The header has 18 bytes.
+    let too_big = fault_of_many(rt.alloc(), Level::Core, 16777199, b"x");
+    assert!(rt; too_big == Some((3, WhyBad::TooBig)));
+}
+
+// The fault of a third line with so many bytes.
+fn fault_of_long(alloc: Global, bytes: usize) -> Option<(usize, WhyBad)> {
+    let mut text = many(alloc, bytes, b"x")?;
+    text.push(b'\n').ok()?;
+    fault(alloc, Level::Core, text.as_slice())
+}
+
+#[test]
+fn names_a_line_that_is_too_long(rt: HostRuntime) {
+    for (bytes, why) in [(16384, WhyBad::Verb), (16385, WhyBad::TooLong)] {
+        assert!(rt;
+            fault_of_long(rt.alloc(), bytes) == Some((3, why)),
+            "at {bytes}"
+        );
+    }
+}

@@ -1,0 +1,333 @@
+//! Acts, messages and causes with their texts. Their forms are those of docs/formats.md.
+use crate::begun_text::{begun, goes_on};
+use cluster_state::{
+    ApplyCommit, ClusterState, ClusterValue, CommitCause, InitialCause, Join, JoinCause, Kept,
+    PublishCause, PublishRequest, PublishResponse, ResponseCause, SharedState, StartCause,
+    ValueCause, to_json,
+};
+use schedule_text::Text;
+use std::alloc::{AllocError, Global};
+use std::test::Fail;
+use trace_text::{
+    Ending, write_act_head, write_boot, write_cause, write_commit, write_commit_message,
+    write_committed, write_crashed, write_disk, write_down, write_join, write_join_message,
+    write_publish, write_publish_message, write_record, write_response, write_response_message,
+    write_start_join, write_up, write_value, write_won,
+};
+use voting_config::{NodeId, NodeSet, VotingConfig};
+use world_model::Cause;
+
+fn a() -> NodeId {
+    NodeId::parse("a").unwrap_or(NodeId::default())
+}
+
+fn b() -> NodeId {
+    NodeId::parse("b").unwrap_or(NodeId::default())
+}
+
+fn is_cause(alloc: Global, cause: Cause, wanted: &str) -> Result<bool, AllocError> {
+    let mut text = begun(alloc)?;
+    write_cause(&mut text, cause)?;
+    goes_on(alloc, &text, wanted)
+}
+
+// The values of a cause stand in the order of the clause that refuses, the node's own first.
+#[test]
+fn causes_have_their_values(rt: HostRuntime) -> Result<(), Fail> {
+    for (cause, wanted) in [
+        (Cause::Initial(InitialCause::AlreadySet), "AlreadySet"),
+        (Cause::Initial(InitialCause::EmptyConfig), "EmptyConfig"),
+        (
+            Cause::Start(StartCause::TermNotGreater(2, 1)),
+            "TermNotGreater(2,1)",
+        ),
+        (Cause::Start(StartCause::TermTooLarge(9)), "TermTooLarge(9)"),
+        (Cause::Join(JoinCause::NotForMe(a())), "NotForMe(a)"),
+        (
+            Cause::Join(JoinCause::TermMismatch(2, 1)),
+            "TermMismatch(2,1)",
+        ),
+        (Cause::Join(JoinCause::NotStarted), "NotStarted"),
+        (
+            Cause::Join(JoinCause::FresherTerm(1, 2)),
+            "FresherTerm(1,2)",
+        ),
+        (
+            Cause::Join(JoinCause::FresherVersion(3, 4)),
+            "FresherVersion(3,4)",
+        ),
+        (Cause::Join(JoinCause::NoConfig), "NoConfig"),
+        (Cause::Value(ValueCause::NotWon), "NotWon"),
+        (
+            Cause::Value(ValueCause::NotAccepted(5, 6)),
+            "NotAccepted(5,6)",
+        ),
+        (
+            Cause::Value(ValueCause::VersionNotGreater(7, 6)),
+            "VersionNotGreater(7,6)",
+        ),
+        (
+            Cause::Value(ValueCause::VersionTooLarge(9)),
+            "VersionTooLarge(9)",
+        ),
+        (Cause::Value(ValueCause::Reconfiguring), "Reconfiguring"),
+        (Cause::Value(ValueCause::NoJoinQuorum), "NoJoinQuorum"),
+        (
+            Cause::Publish(PublishCause::TermMismatch(2, 3)),
+            "TermMismatch(2,3)",
+        ),
+        (
+            Cause::Publish(PublishCause::VersionNotGreater(8, 7)),
+            "VersionNotGreater(8,7)",
+        ),
+        (Cause::Response(ResponseCause::NotForMe(b())), "NotForMe(b)"),
+        (Cause::Response(ResponseCause::NotWon), "NotWon"),
+        (
+            Cause::Response(ResponseCause::TermMismatch(4, 5)),
+            "TermMismatch(4,5)",
+        ),
+        (
+            Cause::Response(ResponseCause::VersionMismatch(6, 7)),
+            "VersionMismatch(6,7)",
+        ),
+        (
+            Cause::Commit(CommitCause::TermMismatch(1, 2)),
+            "TermMismatch(1,2)",
+        ),
+        (
+            Cause::Commit(CommitCause::AcceptedTermMismatch(1, 2)),
+            "AcceptedTermMismatch(1,2)",
+        ),
+        (
+            Cause::Commit(CommitCause::VersionMismatch(3, 2)),
+            "VersionMismatch(3,2)",
+        ),
+        (
+            Cause::Commit(CommitCause::Publishing(4, 3)),
+            "Publishing(4,3)",
+        ),
+    ] {
+        assert!(rt; is_cause(rt.alloc(), cause, wanted)?, "{wanted}");
+    }
+    Ok(())
+}
+
+fn join() -> Join {
+    Join {
+        source: a(),
+        target: a(),
+        term: 2,
+        last_term: 0,
+        last_version: 3,
+    }
+}
+
+// What an election writes.
+#[derive(Clone, Copy)]
+enum Election {
+    Head(Ending),
+    Boot,
+    StartJoin,
+    Join,
+    JoinMessage,
+    Won(bool),
+}
+
+fn write_election(text: &mut Text, part: Election) -> Result<(), AllocError> {
+    match part {
+        Election::Head(ending) => write_act_head(text, a(), ending),
+        Election::Boot => write_boot(text, &NodeSet::new()),
+        Election::StartJoin => write_start_join(text, a(), 1),
+        Election::Join => write_join(text, &join()),
+        Election::JoinMessage => write_join_message(text, 7, &join()),
+        Election::Won(won) => write_won(text, won, a(), 2),
+    }
+}
+
+fn is_election(alloc: Global, part: Election, wanted: &str) -> Result<bool, AllocError> {
+    let mut text = begun(alloc)?;
+    write_election(&mut text, part)?;
+    goes_on(alloc, &text, wanted)
+}
+
+#[test]
+fn lines_of_elections(rt: HostRuntime) -> Result<(), Fail> {
+    let cause = Cause::Start(StartCause::TermNotGreater(2, 1));
+    for (part, wanted) in [
+        (Election::Head(Ending::Taken), "act a ok "),
+        (
+            Election::Head(Ending::Refused(cause)),
+            "act a refused:TermNotGreater(2,1) ",
+        ),
+        (Election::Head(Ending::Stopped), "act a stopped "),
+        (Election::Head(Ending::Disk), "act a disk "),
+        (Election::Head(Ending::Crashed), "act a crashed "),
+        (Election::Boot, "boot _"),
+        (Election::StartJoin, "startjoin a 1"),
+        (Election::Join, "join a a 2 0/3"),
+        (Election::Won(true), "won a 2\n"),
+        (Election::Won(false), ""),
+        (Election::JoinMessage, "m7 a->a join 2 0/3\n"),
+    ] {
+        assert!(rt; is_election(rt.alloc(), part, wanted)?, "{wanted}");
+    }
+    Ok(())
+}
+
+// What a publication writes, a response with its target.
+#[derive(Clone, Copy)]
+enum Publication {
+    Value,
+    Publish,
+    Response(NodeId),
+    Commit,
+    Committed,
+    PublishMessage,
+    ResponseMessage(NodeId),
+    CommitMessage,
+}
+
+fn initial(alloc: Global) -> ClusterState {
+    ClusterState::initial(alloc, &NodeSet::new())
+}
+
+fn response(target: NodeId) -> PublishResponse {
+    PublishResponse {
+        source: a(),
+        target,
+        term: 1,
+        version: 2,
+    }
+}
+
+fn commit() -> ApplyCommit {
+    ApplyCommit {
+        source: a(),
+        term: 1,
+        version: 2,
+    }
+}
+
+fn write_config_and_value(text: &mut Text, alloc: Global) -> Result<(), AllocError> {
+    let config = VotingConfig::of(&NodeSet::new());
+    write_value(text, alloc, 5, &config, &ClusterValue::empty(alloc))
+}
+
+fn write_request(text: &mut Text, alloc: Global) -> Result<(), AllocError> {
+    let request = PublishRequest {
+        source: a(),
+        state: SharedState::of(alloc, initial(alloc))?,
+    };
+    write_publish(text, alloc, &request)
+}
+
+fn write_request_message(text: &mut Text, alloc: Global) -> Result<(), AllocError> {
+    let state = initial(alloc);
+    let json = to_json(alloc, &state)?;
+    write_publish_message(text, 1, &a(), &state, json.as_slice())
+}
+
+fn write_publication(text: &mut Text, alloc: Global, part: Publication) -> Result<(), AllocError> {
+    match part {
+        Publication::Value => write_config_and_value(text, alloc),
+        Publication::Publish => write_request(text, alloc),
+        Publication::Response(target) => write_response(text, &response(target)),
+        Publication::Commit => write_commit(text, &commit()),
+        Publication::Committed => write_committed(text, alloc, &initial(alloc)),
+        Publication::PublishMessage => write_request_message(text, alloc),
+        Publication::ResponseMessage(target) => write_response_message(text, 2, &response(target)),
+        Publication::CommitMessage => write_commit_message(text, 3, &commit()),
+    }
+}
+
+fn is_publication(alloc: Global, part: Publication, wanted: &str) -> Result<bool, AllocError> {
+    let mut text = begun(alloc)?;
+    write_publication(&mut text, alloc, part)?;
+    goes_on(alloc, &text, wanted)
+}
+
+#[test]
+fn lines_of_publications(rt: HostRuntime) -> Result<(), Fail> {
+    for (part, wanted) in [
+        (
+            Publication::Value,
+            "value 5 _ {\"exclusions\":[],\"master\":null,\"members\":[],\"settings\":{}}",
+        ),
+        (
+            Publication::Publish,
+            "publish a {\"committed\":[],\"config\":[],\"term\":0,\"value\":{\"exclusions\":[],\"master\":null,\"members\":[],\"settings\":{}},\"version\":0}",
+        ),
+        (Publication::Response(a()), "response a a 1/2"),
+        (Publication::Response(b()), "response a b 1/2"),
+        (Publication::Commit, "commit a 1/2"),
+        (
+            Publication::Committed,
+            "committed {\"committed\":[],\"config\":[],\"term\":0,\"value\":{\"exclusions\":[],\"master\":null,\"members\":[],\"settings\":{}},\"version\":0}\n",
+        ),
+        (
+            Publication::PublishMessage,
+            "m1 a->* publish {\"committed\":[],\"config\":[],\"term\":0,\"value\":{\"exclusions\":[],\"master\":null,\"members\":[],\"settings\":{}},\"version\":0}\n",
+        ),
+        (Publication::ResponseMessage(a()), "m2 a->a response 1/2\n"),
+        (Publication::ResponseMessage(b()), "m2 a->b response 1/2\n"),
+        (Publication::CommitMessage, "m3 a->* commit 1/2\n"),
+    ] {
+        assert!(rt; is_publication(rt.alloc(), part, wanted)?, "{wanted}");
+    }
+    Ok(())
+}
+
+// What is written as a node stops, and as it starts again.
+#[derive(Clone, Copy)]
+enum Stop {
+    Crashed,
+    Down,
+    Disk,
+    Record,
+    Up,
+}
+
+// The state 2/5 of one voter is accepted, that of none committed.
+fn write_found(text: &mut Text, alloc: Global) -> Result<(), AllocError> {
+    let mut voters = NodeSet::new();
+    let _ = voters.insert(a());
+    let mut accepted = ClusterState::initial(alloc, &voters);
+    accepted.term = 2;
+    accepted.version = 5;
+    let found = Kept {
+        term: 3,
+        accepted: SharedState::of(alloc, accepted)?,
+        committed: VotingConfig::of(&NodeSet::new()),
+    };
+    write_record(text, a(), &found)
+}
+
+fn write_stop(text: &mut Text, alloc: Global, stop: Stop) -> Result<(), AllocError> {
+    match stop {
+        Stop::Crashed => write_crashed(text, a()),
+        Stop::Down => write_down(text, a()),
+        Stop::Disk => write_disk(text, a()),
+        Stop::Record => write_found(text, alloc),
+        Stop::Up => write_up(text, a()),
+    }
+}
+
+fn is_stop(alloc: Global, stop: Stop, wanted: &str) -> Result<bool, AllocError> {
+    let mut text = begun(alloc)?;
+    write_stop(&mut text, alloc, stop)?;
+    goes_on(alloc, &text, wanted)
+}
+
+#[test]
+fn lines_of_stops(rt: HostRuntime) -> Result<(), Fail> {
+    for (stop, wanted) in [
+        (Stop::Crashed, "crashed a\n"),
+        (Stop::Down, "down a\n"),
+        (Stop::Disk, "disk a\n"),
+        (Stop::Record, "record a 3 2/5 a _\n"),
+        (Stop::Up, "up a\n"),
+    ] {
+        assert!(rt; is_stop(rt.alloc(), stop, wanted)?, "{wanted}");
+    }
+    Ok(())
+}
