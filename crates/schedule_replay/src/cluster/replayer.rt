@@ -63,16 +63,21 @@ impl ClusterReplayer {
     {
         text.echo(line)?;
         match line {
-            Line::Tick(n, now, word) => self.tick(alloc, schedule, *n, *now, *word, text)?,
-            Line::Client(n, bytes) => self.client(alloc, schedule, *n, bytes, text)?,
-            Line::Deliver(n, ordinal) => self.deliver(alloc, schedule, *n, *ordinal, text)?,
-            Line::Crash(n, way) => self.crash(alloc, schedule, *n, *way, text)?,
-            Line::Restart(n) => self.restart(alloc, schedule, *n, text)?,
-            Line::Fuse(n, count, way) => self.arm(schedule, *n, Order::Stop(*count, *way)),
-            Line::Fail(n, count) => self.arm(schedule, *n, Order::Fault(*count)),
+            Line::Tick(n, now, word) => self.tick(alloc, schedule, *n, *now, *word, text),
+            Line::Client(n, bytes) => self.client(alloc, schedule, *n, bytes, text),
+            Line::Deliver(n, ordinal) => self.deliver(alloc, schedule, *n, *ordinal, text),
+            Line::Crash(n, way) => self.crash(alloc, schedule, *n, *way, text),
+            Line::Restart(n) => self.restart(alloc, schedule, *n, text),
+            Line::Fuse(n, count, way) => {
+                self.arm(schedule, *n, Order::Stop(*count, *way));
+                Ok(())
+            }
+            Line::Fail(n, count) => {
+                self.arm(schedule, *n, Order::Fault(*count));
+                Ok(())
+            }
             Line::Boot(_) | Line::StartJoin(_, _, _) | Line::Value(_, _, _, _) => unreachable!(),
         }
-        Ok(())
     }
 
     fn tick(
