@@ -5,7 +5,8 @@ ghost use Rattle.zen_disk.specs.declared.side.Side.TheVariants.{Zero, One};
 use thiserror::Error;
 use zen_disk::Side;
 
-/// Why a file is no journal: its first fault. All but `Header` have the offset of the open gate before the body, in bytes.
+/// Why one of the two files is none of a journal: its first fault. All but `Header` have the offset of the open gate before the
+/// body, in bytes.
 #[derive(Clone, Copy, Debug, PartialEq, Eq, Error)]
 pub enum Fault {
     /// It is longer than nine bytes, and its first eight are not the header.

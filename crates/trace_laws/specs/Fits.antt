@@ -1,4 +1,4 @@
--- What holds of the values of the types: an id is one, and a number has 64 bits.
+-- Laws of their own: what holds of the values of the types: an id is one, and a number has 64 bits.
 use Rattle.std.specs.Prelude.{ℕ, Option, None, Some, List, ◌^◌, ◌<◌, IsTrue}
 use Rattle.std.specs.List.{list_all}
 use Rattle.voting_config.specs.Ids.{Id, is_id}

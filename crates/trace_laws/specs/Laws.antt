@@ -1,4 +1,4 @@
--- The lines that `zen` writes are read as what they are.
+-- Laws of their own: the lines that `zen` writes are read as what they are.
 use Rattle.std.specs.Prelude.{◌≡◌, ℕ, true, Some, Ok, List, ◌++◌, codes, IsTrue, [], ◌∷◌}
 use Rattle.voting_config.specs.Ids.{Id, is_id, IsIdSet}
 use Rattle.cluster_state.specs.declared.state.ClusterState.{ClusterState}

@@ -1,4 +1,4 @@
--- What the lines of a trace tell, by the values that they are the text of.
+-- Laws of their own: what the lines of a trace tell, by the values that they are the text of.
 use Rattle.std.specs.Prelude.{None, Some}
 use Rattle.voting_config.specs.Ids.{Id}
 use Rattle.world_model.specs.declared.acts.Act.{Act}

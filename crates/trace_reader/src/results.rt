@@ -21,6 +21,7 @@ fn only_part(rest: Option<&[u8]>) -> Result<&[u8], WhyBad>
     let Some(rest) = rest else {
         return Ok(part);
     };
+    // For the proof alone: the rest has one more part at least, so these are too many.
     let _ = cut(rest, b'>');
     Err(WhyBad::Id)
 }

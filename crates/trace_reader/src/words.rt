@@ -35,6 +35,7 @@ pub fn no_word(rest: Option<&[u8]>) -> Result<(), WhyBad>
     let Some(rest) = rest else {
         return Ok(());
     };
+    // For the proof alone: the rest has one more word at least.
     let _ = cut(rest, b' ');
     Err(WhyBad::Arity)
 }
@@ -46,6 +47,7 @@ pub fn some_word(rest: Option<&[u8]>) -> Result<(), WhyBad>
     let Some(rest) = rest else {
         return Err(WhyBad::Arity);
     };
+    // For the proof alone: the rest has one more word at least.
     let _ = cut(rest, b' ');
     Ok(())
 }

@@ -41,8 +41,9 @@ fn refuse_words<S: Sink>(out: &mut S) -> Status
 
 /// Runs the program: `words` are those after its name. `replay --level core` reads a schedule of single acts and writes its
 /// trace, `replay --level node` a schedule of whole nodes. `inspect --dir D` opens the journal in a folder and writes what
-/// it keeps. `node` runs one node over the journal in a folder and a link, and writes its history. The clause says what
-/// each status means.
+/// it keeps. `node` runs one node over the journal in a folder and a link, and writes its history. `generate` replays the
+/// schedule that a number gives, and writes the summary of its trace. `trial` runs three nodes as children of the program
+/// and writes how they ended. The clause says what each status means.
 pub fn run<L: Link<Out = Sealed> + Drop, H: Host<Link = L>>(
     alloc: Global,
     words: &[String],

@@ -53,7 +53,7 @@ fn refusal(error: HostError) -> Status
     }
 }
 
-// Writes why a file is no journal.
+// Writes why the two files are no journal.
 fn write_why<S: Sink>(alloc: Global, out: &mut S, why: Why) -> Status
     ensures refused { SaysLine (not_a_journal why) exit.NotAJournal (S.written out.old) (S.written out.new) result }
     ensures write { result ≡ exit.WriteFault → Rose (S.faults out.old) (S.faults out.new) }
@@ -69,7 +69,7 @@ fn write_why<S: Sink>(alloc: Global, out: &mut S, why: Why) -> Status
     Status::NotAJournal
 }
 
-// Gives the disk back whose journal was not opened, and says why where its file is no journal.
+// Gives the disk back whose journal was not opened, and says why where its files are no journal.
 fn refuse_journal<H: Host>(
     alloc: Global,
     out: &mut H::Out,

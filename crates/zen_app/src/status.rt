@@ -21,7 +21,7 @@ pub enum Status {
     LinkFault,
     /// The host failed: its count of faults rose.
     HostFault,
-    /// The file in the folder is no journal.
+    /// The two files in the folder are no journal.
     NotAJournal,
     /// A node has taken all its turns.
     Turns,

@@ -1,4 +1,4 @@
--- Part of the statement: the exit status that stands for each end of a run.
+-- Part of the statement of `zen_chart`: the exit status that stands for each end of a run.
 use Rattle.std.specs.Prelude.{ℕ}
 use Rattle.zen_chart.specs.declared.status.Status.{Status}
 use Rattle.zen_chart.specs.declared.status.Status.TheVariants as exit

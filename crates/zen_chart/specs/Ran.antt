@@ -1,4 +1,4 @@
--- Part of the statement: how a run of the program ends. `Ran` is the contract of `run`.
+-- Part of the statement of `zen_chart`: how a run of the program ends. `Ran` is the contract of `run`.
 use Rattle.std.specs.Prelude.{◌≡◌, ℕ, ◌≤◌, ◌⊎◌, Bool, true, false, Option, Some, Result, Ok, Err, List, [], codes}
 use Rattle.zen_disk.specs.Faults.{Rose}
 use Rattle.zen_link.specs.Streams.{Appended, AppendedFront}

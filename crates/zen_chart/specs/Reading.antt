@@ -1,4 +1,4 @@
--- Part of the statement: what is read of the input.
+-- Part of the statement of `zen_chart`: what is read of the input.
 use Rattle.std.specs.Prelude.{ℕ, ◌+◌, List, take, drop}
 use Rattle.trace_reader.specs.Limits.{most_trace_bytes}
 

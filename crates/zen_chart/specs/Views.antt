@@ -1,4 +1,4 @@
--- Part of the statement: what a run sees of its input and output.
+-- Part of the statement of `zen_chart`: what a run sees of its input and output.
 use Rattle.std.specs.Prelude.{ℕ, Option, List}
 
 -- what a source tells: the bytes left, where it tells them, and how many faults there were
