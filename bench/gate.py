@@ -1,0 +1,131 @@
+"""bench/gate.sh's work: runs `rt ci` and adds up what its checks take of the processors, by crate and by kind.
+
+Each check is a process of its own, whose words name the crate and the kind. Its seconds are read from /proc four times a second until it ends, so up to a
+quarter of a second of each is not seen; the sum at the foot is what the system counted for the whole run, and what no row has stands in a row of its own.
+"""
+import collections
+import os
+import subprocess
+import sys
+import threading
+import time
+
+TICKS = os.sysconf("SC_CLK_TCK")
+PAUSE = 0.25
+KINDS = ("proof", "tests", "seed", "edits", "sound")
+
+
+def words_of(process):
+    """Returns the words that a process was started with, or none where it has ended."""
+    try:
+        with open(f"/proc/{process}/cmdline", "rb") as it:
+            return it.read().decode(errors="replace").split("\0")
+    except OSError:
+        return []
+
+
+def seconds_of(process):
+    """Returns the processor seconds of a process, and when it was started."""
+    try:
+        with open(f"/proc/{process}/stat", "rb") as it:
+            fields = it.read().rpartition(b")")[2].split()
+    except OSError:
+        return None
+    return sum(int(it) for it in fields[11:13]) / TICKS, fields[19]
+
+
+def below(root):
+    """Returns the processes that descend from this one."""
+    parents = {}
+    for name in os.listdir("/proc"):
+        if name.isdigit():
+            try:
+                with open(f"/proc/{name}/stat", "rb") as it:
+                    parents[int(name)] = int(it.read().rpartition(b")")[2].split()[1])
+            except OSError:
+                pass
+    found = {root}
+    while True:
+        more = {it for it, parent in parents.items() if parent in found} - found
+        if not more:
+            return found
+        found |= more
+
+
+class Seen:
+    """What was seen of each check: its crate, its kind, and its seconds."""
+
+    def __init__(self):
+        self.checks = {}
+        self.seeds = set()
+
+    def kind_of(self, words):
+        """Returns the kind of a check by its words: each edit is checked over a copy of what one check, the seed, has proved, which is looked at once more at the end."""
+        if "--test" in words:
+            return "tests"
+        if words[1] == "build" or "--empty-contracts" in words:
+            return "proof"
+        kept = words[words.index("--incremental") + 1] if "--incremental" in words else ""
+        if os.path.basename(kept) != "seed":
+            return "edits"
+        if kept in self.seeds:
+            return "sound"
+        self.seeds.add(kept)
+        return "seed"
+
+    def look(self, root):
+        for process in below(root):
+            taken = seconds_of(process)
+            if taken is None:
+                continue
+            key = process, taken[1]
+            if key not in self.checks:
+                words = words_of(process)
+                if not words or os.path.basename(words[0]) != "rattle" or "--crate-name" not in words:
+                    continue
+                self.checks[key] = [words[words.index("--crate-name") + 1], self.kind_of(words), 0.0]
+            self.checks[key][2] = taken[0]
+
+    def table(self):
+        """Returns the seconds by crate and kind, and how many edits each crate has."""
+        seconds, edits = collections.defaultdict(collections.Counter), collections.Counter()
+        for crate, kind, taken in self.checks.values():
+            seconds[crate][kind] += taken
+            edits[crate] += kind == "edits"
+        return seconds, edits
+
+
+def run(top, words):
+    seen, done = Seen(), threading.Event()
+    began = time.time()
+    child = subprocess.Popen(["rt", "ci", *words], cwd=top)
+
+    def watch():
+        while not done.wait(PAUSE):
+            seen.look(child.pid)
+
+    watcher = threading.Thread(target=watch)
+    watcher.start()
+    _, status, usage = os.wait4(child.pid, 0)
+    done.set()
+    watcher.join()
+    report(seen, usage.ru_utime + usage.ru_stime, time.time() - began)
+    return os.waitstatus_to_exitcode(status)
+
+
+def report(seen, total, elapsed):
+    seconds, edits = seen.table()
+    sums = collections.Counter()
+    print(f"\n| crate | {' | '.join(KINDS)} | how many edits | sum | share |")
+    print("|---|" + "--:|" * (len(KINDS) + 3))
+    for crate, by in sorted(seconds.items(), key=lambda it: -sum(it[1].values())):
+        own = sum(by.values())
+        sums.update(by)
+        print(f"| {crate} | {' | '.join(f'{by[kind]:.0f}' for kind in KINDS)} | {edits[crate]} | {own:.0f} | {own / total:.1%} |")
+    rest = total - sum(sums.values())
+    print(f"| all else: programs, tests that run, linking, what was not seen | {' | ' * len(KINDS)} | {rest:.0f} | {rest / total:.1%} |")
+    print(f"| **sum** | {' | '.join(f'{sums[kind]:.0f}' for kind in KINDS)} | {sum(edits.values())} | {total:.0f} | |")
+    print(f"\n{total:.0f} processor seconds in {elapsed:.0f} seconds of the clock, on {len(os.sched_getaffinity(0))} processors")
+
+
+sys.exit(run(sys.argv[1], sys.argv[2:]))
