@@ -6,6 +6,7 @@ use Rattle.world_model.specs.NodeState.{accepted_of}
 use Rattle.world_model.specs.Histories.{History, node_history, IsLegal, IsPrefix}
 use Rattle.world_model.specs.Safety.{Published, published, IsCommitted, Descends, IsAtMost, IsSafe, IsSafeFrom}
 use Rattle.world_model.specs.Restarts.{IsAlone, IsLegalFrom}
+use Rattle.world_model.specs.Bare.{WasLegal}
 
 -- each published state descends from each committed state whose id is not above its own
 abbrev pub DescendsFromCommitted : History → Type 0
@@ -25,3 +26,7 @@ LawLost =
 -- from the restart of one node on each legal history is safe over the state that this node had kept
 abbrev pub LawRestarted : Type 0
 LawRestarted = (first : Id) (kept : Kept) (h : History) → IsAlone first kept → IsLegalFrom first kept h → IsSafeFrom kept.accepted h
+
+-- each history that was legal before states had parents is safe
+abbrev pub LawAgreeBefore : Type 0
+LawAgreeBefore = (initial : List Id) (h : History) → WasLegal initial h → IsSafe initial h

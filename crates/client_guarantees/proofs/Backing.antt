@@ -50,7 +50,7 @@ pub record IsUnique (h : History) : Type 0 where
 
 -- the state that a node publishes which is p
 abbrev pub state_of : NodeState → ℕ → List Id → ClusterValue → ClusterState
-state_of p version config value = record { term = p.term; version = version; config = config; committed = p.committed; value = value }
+state_of p version config value = record { term = p.term; version = version; parent = Some (id_of p.accepted); config = config; committed = p.committed; value = value }
 
 -- the node won on a state of an earlier term, and has published none since
 pub record IsNewWinner (p : NodeState) : Type 0 where

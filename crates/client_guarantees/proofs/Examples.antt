@@ -71,10 +71,10 @@ abbrev value_with : List (List ℕ × List ℕ) → ClusterValue
 value_with settings = record { master = Some a; members = a ∷ []; exclusions = []; settings = settings }
 
 abbrev first : ClusterState
-first = record { term = 1; version = 1; config = a ∷ []; committed = a ∷ []; value = value_with [] }
+first = record { term = 1; version = 1; parent = Some (id 0 0); config = a ∷ []; committed = a ∷ []; value = value_with [] }
 
 abbrev second : ClusterState
-second = record { term = 1; version = 2; config = a ∷ []; committed = a ∷ []; value = value_with ((107 ∷ [], 118 ∷ []) ∷ []) }
+second = record { term = 1; version = 2; parent = Some (id 1 1); config = a ∷ []; committed = a ∷ []; value = value_with ((107 ∷ [], 118 ∷ []) ∷ []) }
 
 abbrev put : Request
 put = record { id = 9; ask = ask.Put (107 ∷ []) (118 ∷ []) }

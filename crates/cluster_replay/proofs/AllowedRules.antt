@@ -239,9 +239,9 @@ start-sends me p c t e =
     unless-halted p.halted (start_reply me p c t) (m ∷ []) (unless-checked StartRefused (start_checked p t) (Taken (Some m) false) (m ∷ []) (λ h. refl)) e
 
 value-sends : (me : Id) (p : NodeState) (version : ℕ) (config : List Id) (value : ClusterValue) → is_taken (reply_at me p (Value version config value)) ≡ true
-    → sent_by (Answered (reply_at me p (Value version config value))) ≡ PublishMessage (record { source = me; state = record { term = p.term; version = version; config = config; committed = p.committed; value = value } }) ∷ []
+    → sent_by (Answered (reply_at me p (Value version config value))) ≡ PublishMessage (record { source = me; state = record { term = p.term; version = version; parent = Some (id_of p.accepted); config = config; committed = p.committed; value = value } }) ∷ []
 value-sends me p version config value e =
-    let m : Message = PublishMessage (record { source = me; state = record { term = p.term; version = version; config = config; committed = p.committed; value = value } }) in
+    let m : Message = PublishMessage (record { source = me; state = record { term = p.term; version = version; parent = Some (id_of p.accepted); config = config; committed = p.committed; value = value } }) in
     let f : ActReply = Taken (Some m) false in
     let r5 : ActReply = cond (not (is_quorum_of config p.join_votes)) (Refused (ValueRefused value_cause.NoJoinQuorum)) f in
     let r4 : ActReply = cond (not (same_config config p.accepted.config) && not (same_config p.committed p.accepted.config)) (Refused (ValueRefused value_cause.Reconfiguring)) r5 in

@@ -211,7 +211,7 @@ pub fit-initial : (config : List Id) → (ids most_ids).Fits config → FitAccep
 fit-initial config f = record { config = f; value = empty_value_fits }
 
 pub fit-state : (s : ClusterState) → state_field.Fits s → FitAccepted s
-fit-state s f = record { config = f.1.1.0; value = f.1.1.1.1 }
+fit-state s f = record { config = f.1.0; value = f.1.1.1 }
 
 settings-kept : (ss : List Setting) → AllByRecursion setting.Fits ss → list_all has_texts ss ≡ true
 settings-kept [] f = refl

@@ -171,7 +171,7 @@ module _ (nodes initial : List Id) (ids : IsIdSet nodes) (set : IsIdSet initial)
       fit_found : needs_opening (node_world c.world n) ≡ true → FitAccepted found.accepted
       fit_found needs =
           let fit = (h.world.nodes n).fit k in
-          subst FitAccepted (sym (ap (λ (r : Kept). r.accepted) (finds needs))) (record { config = fit.fits.1.1.0; value = fit.fits.1.1.1.1 })
+          subst FitAccepted (sym (ap (λ (r : Kept). r.accepted) (finds needs))) (record { config = fit.fits.1.0; value = fit.fits.1.1.1 })
 
       view : needs_opening (node_world c.world n) ≡ true → FitView (view_of (settings_of nodes initial n) (log_of (Opened (settled_life k (c.lives n)) found)))
       view needs =

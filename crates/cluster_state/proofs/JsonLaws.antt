@@ -11,9 +11,10 @@ use Rattle.voting_config.specs.Ids.{Id, ascends}
 use Rattle.voting_config.proofs.Sorted.{ascends-push}
 use Rattle.cluster_state.specs.declared.state.ClusterState.{ClusterState}
 use Rattle.cluster_state.specs.declared.state.ClusterValue.{ClusterValue}
+use Rattle.cluster_state.specs.declared.state.StateId.{StateId}
 use Rattle.cluster_state.specs.Order.{ascends_from}
 use Rattle.cluster_state.specs.Settings.{Setting, setting_of, comes_after_keys}
-use Rattle.cluster_state.specs.Json.{master_json, setting_members, value_json, state_json}
+use Rattle.cluster_state.specs.Json.{master_json, setting_members, value_json, parent_json, state_json}
 
 -- ---- no float
 
@@ -32,8 +33,12 @@ no_float_master (Some x) = refl
 pub no_float_value : (v : ClusterValue) → has_float (value_json v) ≡ false
 no_float_value v = rw (no_float_texts v.exclusions, no_float_master v.master, no_float_texts v.members, no_float_settings v.settings) refl
 
+no_float_parent : (o : Option StateId) → has_float (parent_json o) ≡ false
+no_float_parent None = refl
+no_float_parent (Some i) = refl
+
 pub no_float : (s : ClusterState) → has_float (state_json s) ≡ false
-no_float s = rw (no_float_texts s.committed, no_float_texts s.config, no_float_value s.value) refl
+no_float s = rw (no_float_texts s.committed, no_float_texts s.config, no_float_parent s.parent, no_float_value s.value) refl
 
 -- ---- how many there are
 

@@ -6,10 +6,11 @@ use Rattle.std.proofs.lemmas.List.Concat.{flat_map-cons}
 use Rattle.voting_config.specs.Ids.{Id, most_ids}
 use Rattle.cluster_state.specs.declared.state.ClusterState.{ClusterState}
 use Rattle.cluster_state.specs.declared.state.ClusterValue.{ClusterValue}
+use Rattle.cluster_state.specs.declared.state.StateId.{StateId}
 use Rattle.cluster_state.specs.Field.{eight_bytes, two_bytes, optional}
 use Rattle.cluster_state.specs.Fields.{id, ids, text_bytes, setting, settings, most_exclusions, most_settings}
 use Rattle.cluster_state.specs.Settings.{Setting}
-use Rattle.cluster_state.specs.States.{value, state}
+use Rattle.cluster_state.specs.States.{value, state_id, lineage, state, id_of}
 
 pub length-eight : (n : ℕ) → length (eight_bytes n) ≡ 8
 unfolding eight_bytes
@@ -56,17 +57,25 @@ value_short v fits =
       length-append ((ids most_exclusions).spelling v.exclusions) (settings.spelling v.settings),
     )
 
+length-state_id : (i : StateId) → length (state_id.spelling i) ≡ 16
+length-state_id i = omega (arith, length-append (eight_bytes i.term) (eight_bytes i.version), length-eight i.term, length-eight i.version)
+
+parent_short : (o : Option StateId) → length ((optional state_id).spelling o) ≤ 17
+parent_short None = omega arith
+parent_short (Some i) = omega (arith, length-state_id i)
+
+lineage_short : (i : StateId) (o : Option StateId) → length (lineage.spelling (i, o)) ≤ 33
+lineage_short i o = omega (arith, length-append (state_id.spelling i) ((optional state_id).spelling o), length-state_id i, parent_short o)
+
 pub state_short : (s : ClusterState) → state.Fits s → length (state.spelling s) ≤ 1200000
 state_short s fits =
     omega (
       arith,
-      length-eight s.term,
-      length-eight s.version,
-      ids_short most_ids s.config fits.1.1.0,
-      ids_short most_ids s.committed fits.1.1.1.0,
-      value_short s.value fits.1.1.1.1,
-      length-append (eight_bytes s.term) (eight_bytes s.version ++ ((ids most_ids).spelling s.config ++ ((ids most_ids).spelling s.committed ++ value.spelling s.value))),
-      length-append (eight_bytes s.version) ((ids most_ids).spelling s.config ++ ((ids most_ids).spelling s.committed ++ value.spelling s.value)),
+      lineage_short (id_of s) s.parent,
+      ids_short most_ids s.config fits.1.0,
+      ids_short most_ids s.committed fits.1.1.0,
+      value_short s.value fits.1.1.1,
+      length-append (lineage.spelling (id_of s, s.parent)) ((ids most_ids).spelling s.config ++ ((ids most_ids).spelling s.committed ++ value.spelling s.value)),
       length-append ((ids most_ids).spelling s.config) ((ids most_ids).spelling s.committed ++ value.spelling s.value),
       length-append ((ids most_ids).spelling s.committed) (value.spelling s.value),
     )

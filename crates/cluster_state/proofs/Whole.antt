@@ -1,6 +1,6 @@
 -- A field that is all of the bytes.
 use Rattle.std.proofs.Common.{◌≡◌, ℕ, true, false, cond, eqb, List, [], ◌∷◌, length, Result, Ok, Err, refl, sym, ap, ◌∙◌}
-use Rattle.std.specs.Prelude.{IfOk}
+use Rattle.std.specs.Prelude.{IfOk, IfSome, Option, Some, None}
 use Rattle.std.specs.List.{AllByRecursion}
 use Rattle.std.proofs.lemmas.Bool.{eqb-true}
 use Rattle.std.proofs.lemmas.List.{append-nil, nil_from_length}
@@ -9,11 +9,12 @@ use Rattle.cluster_state.specs.declared.fault.StateFault.{StateFault}
 use Rattle.cluster_state.specs.declared.fault.StateFault.TheVariants.{Trailing}
 use Rattle.cluster_state.specs.declared.fault.DecodeError.{DecodeError}
 use Rattle.cluster_state.specs.declared.state.ClusterState.{ClusterState}
+use Rattle.cluster_state.specs.declared.state.StateId.{StateId}
 use Rattle.cluster_state.specs.Faults.{Decodes}
 use Rattle.cluster_state.specs.Settings.{Setting}
 use Rattle.cluster_state.specs.Field.{Field}
 use Rattle.cluster_state.specs.Fields.{setting, IsFitSetting}
-use Rattle.cluster_state.specs.States.{whole, state, Spells, IsFit}
+use Rattle.cluster_state.specs.States.{whole, state_id, state, Spells, IsFitId, IsFit}
 use Rattle.cluster_state.proofs.Laws.{IsBytes, IsField}
 
 abbrev read_as : {A : Type 0} → A → List ℕ → Result (A × List ℕ) FieldError
@@ -46,13 +47,19 @@ pub fit_entries : (xs : List Setting) → AllByRecursion setting.Fits xs → All
 fit_entries [] h = tt
 fit_entries (x ∷ xs) h = (record { key = h.0.0.0; short_key = h.0.0.1; short_value = h.0.1.1 }, fit_entries xs h.1)
 
+fit_parent : (o : Option StateId) → IfSome o state_id.Fits → IfSome o IsFitId
+fit_parent None h = tt
+fit_parent (Some p) h = record { term = h.0; version = h.1 }
+
 -- what has a spelling is within the limits
 pub is_fit : (s : ClusterState) → state.Fits s → IsFit s
 is_fit s h =
-    let v = h.1.1.1.1 in
+    let v = h.1.1.1 in
     record {
-      term = h.0;
-      version = h.1.0;
+      term = h.0.0.0.0;
+      version = h.0.0.0.1;
+      parent = fit_parent s.parent h.0.0.1;
+      above_parent = h.0.1;
       value = record { exclusions = v.1.1.0.0; settings = record { few = v.1.1.1.0; each = fit_entries s.value.settings v.1.1.1.2 } };
     }
 

@@ -10,7 +10,7 @@ empty_value = record { master = None; members = []; exclusions = []; settings = 
 
 -- the state that a bootstrap with this configuration makes the accepted one
 abbrev pub initial_state : List Id → ClusterState
-initial_state config = record { term = 0; version = 0; config = config; committed = config; value = empty_value }
+initial_state config = record { term = 0; version = 0; parent = None; config = config; committed = config; value = empty_value }
 
 abbrev pub empty_state : ClusterState
 empty_state = initial_state []

@@ -2,10 +2,10 @@
 ghost use Rattle.std.specs.Prelude.{◌≡◌, IfOk, OnOk};
 ghost use Rattle.serde_json.specs.Events.{SendsValue};
 ghost use Rattle.serde_json.specs.Written.{compact_text};
-ghost use Rattle.cluster_state.specs.Json.{ids_json, master_json, settings_json, value_json, state_json};
+ghost use Rattle.cluster_state.specs.Json.{ids_json, master_json, settings_json, value_json, state_id_json, parent_json, state_json};
 
 use crate::settings::Settings;
-use crate::state::{ClusterState, ClusterValue};
+use crate::state::{ClusterState, ClusterValue, StateId};
 use serde::{Described, Serialize, Serializer};
 use std::alloc::{AllocError, Global};
 use voting_config::{NodeId, NodeSet};
@@ -61,17 +61,39 @@ impl Serialize for ClusterValue {
     }
 }
 
+fn send_state_id<S: Serializer>(id: StateId, out: &mut S) -> Result<(), S::Error>
+    ensures { OnOk result (SendsValue (state_id_json id) (S.written out.old) (S.written out.new)) }
+{
+    out.begin_map(Some(2))?;
+    out.key("term")?;
+    out.u64(id.term)?;
+    out.key("version")?;
+    out.u64(id.version)?;
+    out.end_map()
+}
+
+fn send_parent<S: Serializer>(parent: Option<StateId>, out: &mut S) -> Result<(), S::Error>
+    ensures { OnOk result (SendsValue (parent_json parent) (S.written out.old) (S.written out.new)) }
+{
+    match parent {
+        None => out.unit(),
+        Some(id) => send_state_id(id, out),
+    }
+}
+
 impl Described for ClusterState {
     ghost writes = { λ s. SendsValue (state_json s) };
 }
 
 impl Serialize for ClusterState {
     fn serialize<S: Serializer>(&self, out: &mut S) -> Result<(), S::Error> {
-        out.begin_map(Some(5))?;
+        out.begin_map(Some(6))?;
         out.key("committed")?;
         send_ids(self.committed.members(), out)?;
         out.key("config")?;
         send_ids(self.config.members(), out)?;
+        out.key("parent")?;
+        send_parent(self.parent, out)?;
         out.key("term")?;
         out.u64(self.term)?;
         out.key("value")?;

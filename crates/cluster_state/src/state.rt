@@ -50,12 +50,14 @@ impl StateId {
 /// The greatest term and the greatest version: 2^62.
 pub const LAST_NUMBER: u64 = 1 << 62;
 
-/// A cluster state: its id, the voting configuration, the committed configuration as the publisher knew it, and the
-/// value that the nodes agree on.
+/// A cluster state: its id, the id of the state that it was made from, the voting configuration, the committed
+/// configuration as the publisher knew it, and the value that the nodes agree on.
 #[derive(Drop)]
 pub struct ClusterState {
     pub term: u64,
     pub version: u64,
+    /// The id of the state that the publisher had accepted. A state that was not published has none.
+    pub parent: Option<StateId>,
     pub config: VotingConfig,
     pub committed: VotingConfig,
     pub value: ClusterValue,
@@ -150,6 +152,7 @@ impl ClusterState {
         ClusterState {
             term: 0,
             version: 0,
+            parent: None,
             config: VotingConfig::of(config),
             committed: VotingConfig::of(config),
             value: ClusterValue::empty(alloc),
@@ -173,6 +176,7 @@ impl ClusterState {
         Ok(ClusterState {
             term: self.term,
             version: self.version,
+            parent: self.parent,
             config: VotingConfig::of(self.config.members()),
             committed: VotingConfig::of(self.committed.members()),
             value: self.value.copy()?,

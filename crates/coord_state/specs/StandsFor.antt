@@ -1,5 +1,5 @@
 -- For the contracts inside: when a node's fields stand for its acts so far, and what an act makes of them.
-use Rattle.std.specs.Prelude.{◌≡◌, ℕ, ◌≤◌, List, true, false}
+use Rattle.std.specs.Prelude.{◌≡◌, ℕ, ◌≤◌, Some, List, true, false}
 use Rattle.std.proofs.Common.{subst, sym, ◌∙◌, ap}
 use Rattle.zen_disk.specs.Faults.{Rose}
 use Rattle.voting_config.specs.Ids.{Id}
@@ -10,7 +10,7 @@ use Rattle.world_model.specs.declared.acts.Act.{Act}
 use Rattle.world_model.specs.declared.acts.Outcome.{Outcome}
 use Rattle.world_model.specs.Acts.{NodeHistory, Then, is_disk, is_crashed}
 use Rattle.world_model.specs.NodeState.{NodeState, node_state}
-use Rattle.world_model.specs.Replies.{IsOutcome, IsOutcomeAt}
+use Rattle.world_model.specs.Replies.{id_of, IsOutcome, IsOutcomeAt}
 use Rattle.world_model.specs.Steps.{node_state_after, node_state-Then, is_opening}
 use Rattle.coord_state.specs.declared.coord.CoordState.{CoordState}
 
@@ -34,7 +34,7 @@ module _ {K : Type 0} (k : Ghosts K) where
   abbrev pub request_of : CoordState K → ℕ → List Id → ClusterValue → PublishRequest
   request_of c version config value =
       let kept = k.record_of c.keeper in
-      record { source = c.me; state = record { term = kept.term; version = version; config = config; committed = kept.committed; value = value } }
+      record { source = c.me; state = record { term = kept.term; version = version; parent = Some (id_of kept.accepted); config = config; committed = kept.committed; value = value } }
 
   -- the fields are what the acts so far make of a node
   abbrev pub StandsFor : CoordState K → NodeHistory → Type 0

@@ -34,7 +34,7 @@ use Rattle.coordinator.proofs.Sealing.{sealed_so}
 -- the moment is within no limit that matters here
 fit_begun : (v : View) (event : Event) → IsFitView v → IsFitView (begun v event)
 fit_begun v Start fit = fit
-fit_begun v (Tick now word) fit = record { term = fit.term; accepted = fit.accepted; settings = fit.settings; applied_id = fit.applied_id; terms = fit.terms; good = fit.good }
+fit_begun v (Tick now word) fit = record { term = fit.term; accepted = fit.accepted; older = fit.older; settings = fit.settings; applied_id = fit.applied_id; terms = fit.terms; good = fit.good }
 fit_begun v (FrameCame frame) fit = fit
 fit_begun v (LineCame conn line) fit = fit
 

@@ -1,8 +1,9 @@
 //! Whether a frame is within the limits that a node may count on: a host knows it of each frame that it reads from bytes.
-ghost use Rattle.std.specs.Prelude.{IsTrue, map};
+ghost use Rattle.std.specs.Prelude.{IsTrue, IfSome, map};
 ghost use Rattle.std.specs.List.{AllByRecursion};
 ghost use Rattle.cluster_state.specs.Fields.{AreFitSettings, IsFitSetting};
 ghost use Rattle.cluster_state.specs.Settings.{setting_of};
+ghost use Rattle.cluster_state.specs.StateIds.{is_above_parent};
 ghost use Rattle.cluster_state.specs.States.{IsFit, IsFitValue};
 ghost use Rattle.wire_frames.specs.Messages.{IsFitId, IsFitMessage};
 
@@ -47,10 +48,22 @@ fn is_fit_value(value: &ClusterValue) -> bool
     value.exclusions.len() <= 10 && are_fit_settings(&value.settings)
 }
 
+fn is_fit_parent(id: StateId, parent: Option<StateId>) -> bool
+    ensures { IsTrue result → IfSome parent IsFitId × IsTrue (is_above_parent id parent) }
+{
+    match parent {
+        None => true,
+        Some(parent) => is_fit_id(&parent) && id.is_fresher(parent),
+    }
+}
+
 fn is_fit_state(state: &ClusterState) -> bool
     ensures { IsTrue result → IsFit state.now }
 {
-    state.term <= LAST_NUMBER && state.version <= LAST_NUMBER && is_fit_value(&state.value)
+    state.term <= LAST_NUMBER
+        && state.version <= LAST_NUMBER
+        && is_fit_parent(state.id(), state.parent)
+        && is_fit_value(&state.value)
 }
 
 /// Whether the numbers and the state of a message are within the limits.

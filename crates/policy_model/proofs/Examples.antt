@@ -76,11 +76,11 @@ sends m = record { from = a; to = a; message = m } ∷ []
 abbrev first_value : ClusterValue
 first_value = record { master = Some a; members = a ∷ []; exclusions = []; settings = [] }
 
-abbrev first_state : ClusterState
-first_state = record { term = 1; version = 1; config = a ∷ []; committed = a ∷ []; value = first_value }
-
 abbrev state_id : ℕ → ℕ → StateId
 state_id term version = record { term = term; version = version }
+
+abbrev first_state : ClusterState
+first_state = record { term = 1; version = 1; parent = Some (state_id 0 0); config = a ∷ []; committed = a ∷ []; value = first_value }
 
 abbrev elected : Log
 elected = after (after started (Tick 0 7)) (Tick 8 0)

@@ -1,5 +1,5 @@
 -- From what is within the limits a node sends and becomes only what is.
-use Rattle.std.proofs.Common.{◌≡◌, ℕ, ◌+◌, ◌≤◌, ◌^◌, Bool, true, false, not, cond, ◌&&◌, Option, None, Some, Result, Ok, Err, List, [], ◌∷◌, ◌++◌, refl, sym, ◌∙◌, arith}
+use Rattle.std.proofs.Common.{◌≡◌, ℕ, ◌+◌, ◌≤◌, ◌<◌, ◌^◌, Bool, true, false, not, cond, ◌&&◌, Option, None, Some, Result, Ok, Err, List, [], ◌∷◌, ◌++◌, refl, sym, ◌∙◌, arith}
 use Rattle.std.specs.Prelude.{if◌then◌else◌, max, is_some, nat_le, nat_lt, nat_eq}
 use Rattle.std.specs.List.{flat_map, AllByRecursion}
 use Rattle.std.proofs.lemmas.Bool.Decides.{nat_tests}
@@ -17,9 +17,11 @@ use Rattle.cluster_state.specs.declared.state.ClusterState.{ClusterState}
 use Rattle.cluster_state.specs.declared.state.ClusterValue.{ClusterValue}
 use Rattle.cluster_state.specs.declared.state.Kept.{Kept}
 use Rattle.cluster_state.specs.declared.state.StateId.{StateId}
+use Rattle.cluster_state.specs.declared.messages.PublishRequest.{PublishRequest}
 use Rattle.cluster_state.specs.Initial.{initial_state}
 use Rattle.cluster_state.specs.Puts.{bad_setting_of}
 use Rattle.cluster_state.specs.Settings.{IsSettings}
+use Rattle.cluster_state.specs.StateIds.{is_above_parent}
 use Rattle.cluster_state.specs.States.{IsFit, IsFitValue, id_of}
 use Rattle.cluster_state.proofs.JsonLaws.{ascending_keys}
 use Rattle.wire_frames.specs.declared.frame.Frame.{Frame}
@@ -54,7 +56,7 @@ use Rattle.world_model.specs.declared.acts.ActReply.{ActReply}
 use Rattle.world_model.specs.declared.acts.ActReply.TheVariants.{Taken, Refused, Stopped}
 use Rattle.world_model.specs.Acts.{is_effective}
 use Rattle.world_model.specs.NodeState.{NodeState}
-use Rattle.world_model.specs.Replies.{reply_at, is_taken, after_check, start_checked, start_reply, value_reply}
+use Rattle.world_model.specs.Replies.{reply_at, is_taken, after_check, start_checked, start_reply, value_reply, publish_reply}
 use Rattle.policy_model.specs.declared.settings.Settings.{Settings}
 use Rattle.policy_model.specs.Events.{Mode, Candidate, Leader, Follower, Event, Start, Tick, FrameCame, LineCame, DropCause, Note, Met, Heard, PeersAsked, ElectionOff, ElectionSet, RoundBegun, RoundAnswered, RoundEnded, Joined, FollowersChecked, FollowerAnswered, LeaderChecked, LeaderAnswered, Queued, ExclusionsTimedOut, CommitAcked, ExclusionsAcked, StateMade, HandedOver, Item, Opens, Begins, Acts, Turns, Drops, Sends, Replies, Notes}
 use Rattle.policy_model.specs.Entries.{frames_in, put_frame, by_receiver}
@@ -114,11 +116,11 @@ waiting-added t (id ∷ ids) = waiting-added (to_be_added t id) ids
 
 with_waiting : (node : NodeState) (applied : StateId) (round : Option Round) (ws more : List Waiting) → AreFit node applied round ws → HaveGoodSettings more → AreFit node applied round more
 with_waiting node applied round ws more f good =
-    record { term = f.term; accepted = f.accepted; settings = f.settings; applied_id = f.applied_id; terms = f.terms; good = good }
+    record { term = f.term; accepted = f.accepted; older = f.older; settings = f.settings; applied_id = f.applied_id; terms = f.terms; good = good }
 
 with_round : (node : NodeState) (applied : StateId) (round now : Option Round) (ws : List Waiting) → AreFit node applied round ws → IsFitRound now → AreFit node applied now ws
 with_round node applied round now ws f terms =
-    record { term = f.term; accepted = f.accepted; settings = f.settings; applied_id = f.applied_id; terms = terms; good = f.good }
+    record { term = f.term; accepted = f.accepted; older = f.older; settings = f.settings; applied_id = f.applied_id; terms = terms; good = f.good }
 
 greater : (m n : ℕ) → m ≤ 2 ^ 62 → n ≤ 2 ^ 62 → max m n ≤ 2 ^ 62
 greater m n h k = omega (arith, h, k)
@@ -150,7 +152,7 @@ module _ (s : Settings) where
   note-fits v HandedOver f e = f
 
   item-fits : (v : View) (i : Item) → IsFitView v → FitItem i → IsFitView (moved s v i)
-  item-fits v (Turns Candidate term) f e = record { term = f.term; accepted = f.accepted; settings = f.settings; applied_id = f.applied_id; terms = tt; good = tt }
+  item-fits v (Turns Candidate term) f e = record { term = f.term; accepted = f.accepted; older = f.older; settings = f.settings; applied_id = f.applied_id; terms = tt; good = tt }
   item-fits v (Turns Leader term) f e = f
   item-fits v (Turns (Follower leader) term) f e = f
   item-fits v (Drops member cause) f e = f
@@ -204,7 +206,13 @@ value-fits me p version config value e =
     unless-refused (nat_lt last_number version) (ValueRefused (value_cause.VersionTooLarge version)) r3 P (λ d taken. grind (arith, nat_tests)))))) e
   where
     published : Id → NodeState → ℕ → List Id → ClusterValue → SentMessage
-    published me p version config value = PublishSent (record { source = me; state = record { term = p.term; version = version; config = config; committed = p.committed; value = value } })
+    published me p version config value = PublishSent (record { source = me; state = record { term = p.term; version = version; parent = Some (id_of p.accepted); config = config; committed = p.committed; value = value } })
+
+-- a published state that is taken is of the node's term
+published-term : (me : Id) (p : NodeState) (r : PublishRequest) → is_taken (reply_at me p (Publish r)) ≡ true → r.state.term ≤ p.term
+published-term me p r e =
+    let P : Type 0 = r.state.term ≤ p.term in
+    unless-halted p.halted (publish_reply me p r) P (unless-refused (not (nat_eq p.term r.state.term)) _ _ P (λ a taken. grind (arith, nat_tests))) e
 
 taken-effective : (r : ActReply) → is_effective (Answered r) ≡ is_taken r
 taken-effective (Taken sends wins) = refl
@@ -225,6 +233,14 @@ fit-state : (b : Bool) (x y : ClusterState) → IsFit x → IsFit y → IsFit (c
 fit-state true x y f g = f
 fit-state false x y f g = g
 
+older-state : (b : Bool) (x y : ClusterState) (t : ℕ) → (b ≡ true → x.term ≤ t) → y.term ≤ t → (cond b x y).term ≤ t
+older-state true x y t f h = f refl
+older-state false x y t f h = h
+
+older-term : (b : Bool) (accepted t term : ℕ) → accepted ≤ term → accepted ≤ cond b (max t term) term
+older-term true accepted t term h = omega (arith, h)
+older-term false accepted t term h = h
+
 settled : (b : Bool) (x y : ClusterState) → IsSettings x.value.settings → IsSettings y.value.settings → IsSettings (cond b x y).value.settings
 settled true x y f g = f
 settled false x y f g = g
@@ -234,7 +250,7 @@ fit-id true x y f g = f
 fit-id false x y f g = g
 
 pub initial-fits : (config : List Id) → IsFit (initial_state config)
-initial-fits config = record { term = omega arith; version = omega arith; value = record { exclusions = omega arith; settings = record { few = omega arith; each = tt } } }
+initial-fits config = record { term = omega arith; version = omega arith; parent = tt; above_parent = refl; value = record { exclusions = omega arith; settings = record { few = omega arith; each = tt } } }
 
 pub no_settings : IsSettings []
 no_settings = record { ascending = refl; texts = refl }
@@ -242,11 +258,16 @@ no_settings = record { ascending = refl; texts = refl }
 id-fits : (x : ClusterState) → IsFit x → IsFitId (id_of x)
 id-fits x f = record { term = f.term; version = f.version }
 
+-- a state of no lower term and a greater version is above another one
+pub above-accepted : (x : ClusterState) (t v : ℕ) → x.term ≤ t → x.version < v → is_above_parent (record { term = t; version = v }) (Some (id_of x)) ≡ true
+above-accepted x t v h k = grind (arith, nat_tests)
+
 module _ (s : Settings) where
   act-fits : (v : View) (act : Act) → IsFitView v → FitAct act → IsFitView (doing.after_act s v act)
   act-fits v (Bootstrap config) f e = record {
     term = f.term;
     accepted = fit-state _ (initial_state config) v.node.accepted (initial-fits config) f.accepted;
+    older = older-state _ (initial_state config) v.node.accepted v.node.term (λ h. omega arith) f.older;
     settings = settled _ (initial_state config) v.node.accepted no_settings f.settings;
     applied_id = f.applied_id;
     terms = f.terms;
@@ -255,25 +276,28 @@ module _ (s : Settings) where
   act-fits v (StartJoin candidate term) f e = record {
     term = fit-term _ (max term v.node.term) v.node.term (λ h. greater term v.node.term (started-fits s.me v.node candidate term (sym (taken-effective (reply_at s.me v.node (StartJoin candidate term))) ∙ h)) f.term) f.term;
     accepted = f.accepted;
+    older = older-term _ v.node.accepted.term term v.node.term f.older;
     settings = f.settings;
     applied_id = f.applied_id;
     terms = f.terms;
     good = f.good;
   }
-  act-fits v (TakeJoin join) f e = record { term = f.term; accepted = f.accepted; settings = f.settings; applied_id = f.applied_id; terms = f.terms; good = f.good }
-  act-fits v (Value version config value) f e = record { term = f.term; accepted = f.accepted; settings = f.settings; applied_id = f.applied_id; terms = f.terms; good = f.good }
+  act-fits v (TakeJoin join) f e = record { term = f.term; accepted = f.accepted; older = f.older; settings = f.settings; applied_id = f.applied_id; terms = f.terms; good = f.good }
+  act-fits v (Value version config value) f e = record { term = f.term; accepted = f.accepted; older = f.older; settings = f.settings; applied_id = f.applied_id; terms = f.terms; good = f.good }
   act-fits v (Publish request) f e = record {
     term = f.term;
     accepted = fit-state _ request.state v.node.accepted e.0 f.accepted;
+    older = older-state _ request.state v.node.accepted v.node.term (λ h. published-term s.me v.node request (sym (taken-effective (reply_at s.me v.node (Publish request))) ∙ h)) f.older;
     settings = settled _ request.state v.node.accepted e.1 f.settings;
     applied_id = f.applied_id;
     terms = f.terms;
     good = f.good;
   }
-  act-fits v (Response response) f e = record { term = f.term; accepted = f.accepted; settings = f.settings; applied_id = f.applied_id; terms = f.terms; good = f.good }
+  act-fits v (Response response) f e = record { term = f.term; accepted = f.accepted; older = f.older; settings = f.settings; applied_id = f.applied_id; terms = f.terms; good = f.good }
   act-fits v (Commit commit) f e = record {
     term = f.term;
     accepted = f.accepted;
+    older = f.older;
     settings = f.settings;
     applied_id = fit-id _ (id_of v.node.accepted) v.applied (id-fits v.node.accepted f.accepted) f.applied_id;
     terms = f.terms;
@@ -373,7 +397,13 @@ module _ (s : Settings) where
       fit-act made (next.value_act s v) _ g tt (λ h.
       fit-if _ (doing.takes s made (next.value_act s v)) _ _
       (λ e. fit-sound _ _ h
-      (sound-sends _ _ (record { term = f.term; version = value-fits s.me made.node (v.node.accepted.version + 1) (next.config_now s v) (next.value_now s v) e; value = next-fits v f })))
+      (sound-sends _ _ (record {
+        term = f.term;
+        version = value-fits s.me made.node (v.node.accepted.version + 1) (next.config_now s v) (next.value_now s v) e;
+        parent = id-fits v.node.accepted f.accepted;
+        above_parent = above-accepted v.node.accepted v.node.term (v.node.accepted.version + 1) f.older (omega arith);
+        value = next-fits v f;
+      })))
       (fit-sound _ _ h (sound-becomes_candidate (doing.after_act s made (next.value_act s v)))))
 
   fit-makes_state : (v : View) → IsFitView v → Fit v (next.makes_state s v)
@@ -636,6 +666,7 @@ pub opened_fit : (s : Settings) (found : Kept) → IsFitKept found → IsFitView
 opened_fit s found f = record {
   term = f.term;
   accepted = f.accepted;
+  older = f.older;
   settings = f.settings;
   applied_id = record { term = omega arith; version = omega arith };
   terms = tt;

@@ -30,6 +30,7 @@ IsFitRound (Some round) = round.greatest ≤ last_number
 pub record AreFit (node : NodeState) (applied : StateId) (round : Option Round) (waiting : List Waiting) : Type 0 where
   pub term : node.term ≤ last_number
   pub accepted : IsFit node.accepted
+  pub older : node.accepted.term ≤ node.term
   pub settings : IsSettings node.accepted.value.settings
   pub applied_id : IsFitId applied
   pub terms : IsFitRound round
@@ -42,6 +43,7 @@ IsFitView v = AreFit v.node v.applied v.round v.tasks.waiting
 pub record IsFitKept (found : Kept) : Type 0 where
   pub term : found.term ≤ last_number
   pub accepted : IsFit found.accepted
+  pub older : found.accepted.term ≤ found.term
   pub settings : IsSettings found.accepted.value.settings
 
 -- what comes to a node

@@ -4,6 +4,7 @@ use Rattle.cluster_state.specs.Field.{last_number}
 use Rattle.voting_config.specs.Ids.{Id, has}
 use Rattle.cluster_state.specs.declared.state.ClusterState.{ClusterState}
 use Rattle.cluster_state.specs.declared.state.ClusterValue.{ClusterValue}
+use Rattle.cluster_state.specs.States.{id_of}
 use Rattle.wire_frames.specs.declared.frame.WireMessage.TheVariants as message
 use Rattle.election_clock.specs.Delays.{is_due}
 use Rattle.publication.specs.Publications.{Publication}
@@ -46,6 +47,7 @@ module _ (s : Settings) where
       record {
         term = v.node.term;
         version = v.node.accepted.version + 1;
+        parent = Some (id_of v.node.accepted);
         config = config_now v;
         committed = v.node.committed;
         value = value_now v;

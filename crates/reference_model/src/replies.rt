@@ -143,6 +143,7 @@ impl NodeNow {
         let state = ClusterState {
             term: self.term,
             version,
+            parent: Some(self.accepted.id()),
             config: VotingConfig::of(config.members()),
             committed: VotingConfig::of(self.committed.members()),
             value: value.copy()?,

@@ -69,7 +69,7 @@ empty_value_fits : value_field.Fits empty_value
 empty_value_fits = (tt, (none_fit most_ids, (none_fit 10, (omega arith, refl, tt))))
 
 initial_fits : (config : List Id) → (ids most_ids).Fits config → state.Fits (initial_state config)
-initial_fits config fits = (omega arith, (omega arith, (fits, (fits, empty_value_fits))))
+initial_fits config fits = ((((omega arith, omega arith), tt), refl), (fits, (fits, empty_value_fits)))
 
 pub empty_begins : MayBegin empty_record
 empty_begins = record { bounded = omega arith; fits = initial_fits [] (none_fit most_ids); named = none_fit most_ids; older = omega arith }
@@ -91,7 +91,7 @@ may_accept kept s may fits older = record {
   order = le-leb s.term kept.term older;
   short = short_state s fits;
   plain = accepted_plain s;
-  begins = record { bounded = may.bounded; fits = fits; named = fits.1.1.1.0; older = older };
+  begins = record { bounded = may.bounded; fits = fits; named = fits.1.1.0; older = older };
 }
 
 -- the change of an act that is taken, and what it makes of the record
@@ -143,7 +143,7 @@ keeps me g (Commit commit) sends wins is w fits kept = record {
     order = refl;
     short = short_committed;
     plain = committed_plain;
-    begins = record { bounded = kept.bounded; fits = kept.fits; named = kept.fits.1.1.0; older = kept.older };
+    begins = record { bounded = kept.bounded; fits = kept.fits; named = kept.fits.1.0; older = kept.older };
   };
 }
 keeps me g (TakeJoin join) sends wins is w fits kept = absurd (cc)

@@ -1,11 +1,12 @@
 -- What each line of a schedule keeps true of all nodes: their history is legal, each node's files hold the record of its acts, and what was
 -- published fits into a body.
-use Rattle.std.proofs.Common.{◌≡◌, ℕ, zero, suc, ◌≤◌, ◌^◌, Bool, true, false, None, Some, List, [], ◌∷◌, ◌++◌, refl, sym, ◌∙◌, ap, subst, arith, append-nil, slice_get, if◌then◌else◌}
+use Rattle.std.proofs.Common.{◌≡◌, ℕ, zero, suc, ◌≤◌, ◌^◌, Bool, true, false, Option, None, Some, List, [], ◌∷◌, ◌++◌, refl, sym, ◌∙◌, ap, subst, arith, append-nil, slice_get, if◌then◌else◌}
 use Rattle.std.specs.Prelude.{◌||◌}
 use Rattle.std.specs.List.{AllByRecursion}
 use Rattle.voting_config.specs.Ids.{Id, same, most_ids}
 use Rattle.cluster_state.specs.Fields.{ids}
-use Rattle.cluster_state.specs.States.{state}
+use Rattle.cluster_state.specs.States.{lineage, state, id_of}
+use Rattle.cluster_state.specs.declared.state.StateId.{StateId}
 use Rattle.cluster_state.specs.declared.messages.PublishRequest.{PublishRequest}
 use Rattle.cluster_state.specs.declared.state.Kept.{Kept}
 use Rattle.zen_disk.specs.declared.orders.Order.{Order}
@@ -19,7 +20,8 @@ use Rattle.world_model.specs.declared.acts.ActReply.{ActReply}
 use Rattle.world_model.specs.declared.acts.ActReply.TheVariants.{Taken, Refused, Stopped}
 use Rattle.world_model.specs.declared.acts.Outcome.TheVariants.{Answered}
 use Rattle.world_model.specs.Acts.{NodeHistory}
-use Rattle.world_model.specs.NodeState.{durable_of, halted_of}
+use Rattle.world_model.specs.NodeState.{durable_of, accepted_of, halted_of}
+use Rattle.policy_model.proofs.Fits.{above-accepted}
 use Rattle.world_model.specs.Histories.{History, node_history, sent, sent_by, is_opening, IsLegal, IsLocal, IsSourced}
 use Rattle.world_model.specs.Replies.{reply_of}
 use Rattle.world_model.proofs.Assemble.{legal_is}
@@ -94,7 +96,10 @@ published_fits me w act r wins s up fits is by =
     let guard = value_guard me w.acts r.state.version r.state.config r.state.value (Some (PublishMessage r)) wins (subst (λ (a : Act). Taken (Some (PublishMessage r)) wins ≡ reply_of me w.acts a) by.act_is is) in
     let bounded = kept.bounded in
     let term : r.state.term ≤ 2 ^ 62 = omega (arith, by.term_is) in
-    (term, (guard.below, (fits_value.0, (subst (λ (c : List Id). (ids most_ids).Fits c) (sym by.committed_is) kept.named, fits_value.1))))
+    let base = accepted_of w.acts in
+    let above = above-accepted base r.state.term r.state.version (omega (arith, by.term_is, kept.older)) (omega (arith, by.settled, by.above)) in
+    let own = subst (λ (o : Option StateId). lineage.Fits (id_of r.state, o)) (sym by.parent_is) (((term, guard.below), kept.fits.0.0.0), above) in
+    (own, (fits_value.0, (subst (λ (c : List Id). (ids most_ids).Fits c) (sym by.committed_is) kept.named, fits_value.1)))
 
 sent_fits : (me : Id) (w : NodeWorld) (act : Act) (m : Message) (wins : Bool) → Sound w → w.down ≡ false → IsFitAct act → Taken (Some m) wins ≡ reply_of me w.acts act → Origin me w.acts act m → IsFitMessage m
 sent_fits me w act (JoinMessage j) wins s up fits is by = tt

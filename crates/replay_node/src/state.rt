@@ -1,11 +1,11 @@
 //! The acts of a node whose journal is open, each with what it did.
-ghost use Rattle.std.specs.Prelude.{◌≡◌, ◌≤◌, IfOk, Some, Ok, Option};
+ghost use Rattle.std.specs.Prelude.{◌≡◌, ◌≤◌, ◌<◌, IfOk, Some, Ok, Option};
 ghost use Rattle.cluster_state.specs.Field.{last_number};
 ghost use Rattle.cluster_state.specs.Initial.{empty_value};
 ghost use Rattle.cluster_state.specs.States.{IsFitValue};
 ghost use Rattle.cluster_state.specs.declared.state.ClusterState.{ClusterState as State};
 ghost use Rattle.coord_state.specs.Outcomes.{join_outcome, response_outcome};
-ghost use Rattle.coord_state.specs.StandsFor.{request_of};
+ghost use Rattle.coord_state.specs.StandsFor.{fields_of, request_of};
 ghost use Rattle.world_model.specs.declared.acts.Act.TheVariants as act;
 ghost use Rattle.world_model.specs.declared.acts.Message.TheVariants.{Publish as PublishMessage};
 ghost use Rattle.replay_node.specs.Did.{outcome_of, WinsIn, CommitsLast};
@@ -141,6 +141,7 @@ fn publication(
 ) -> Result<SentMessage, AllocError>
     requires value { IsFitValue (record empty_value { settings = settings }) }
     requires version { version ≤ last_number }
+    requires above { (fields_of journal_ghosts state.now).accepted.version < version }
     ensures { IfOk result (λ sent. message_of sent ≡ PublishMessage (request_of journal_ghosts state.now version config.now (record empty_value { settings = settings }))) }
 {
     // For the proof alone: what is kept is within the limits of a state.
@@ -148,6 +149,7 @@ fn publication(
     let published = ClusterState {
         term: kept.term,
         version,
+        parent: Some(kept.accepted.id()),
         config: VotingConfig::of(config.members()),
         committed: VotingConfig::of(kept.committed.members()),
         value: ClusterValue {

@@ -28,6 +28,6 @@ unfolding join_checked processed_by next_value config_for next_config is_accepte
 one_win = refl
 
 one_commit : states_of (core_of (cluster_steps alone))
-    ≡ record { term = 1; version = 1; config = a ∷ []; committed = a ∷ []; value = record { master = Some a; members = a ∷ []; exclusions = []; settings = [] } } ∷ []
+    ≡ record { term = 1; version = 1; parent = Some (record { term = 0; version = 0 }); config = a ∷ []; committed = a ∷ []; value = record { master = Some a; members = a ∷ []; exclusions = []; settings = [] } } ∷ []
 unfolding join_checked processed_by next_value config_for next_config is_accepted is_nothing_new next_answers tasks_after digits eight_bytes two_bytes sized framed laid size_at bodies_from bodies_of generations_of misplaced_from epoch_in body_of change_tagged with_body folded_from
 one_commit = refl

@@ -1,5 +1,5 @@
 -- What the steps of two schedules show.
-use Rattle.std.proofs.Common.{◌≡◌, false, true, None, List, [], ◌∷◌, ◌++◌, refl}
+use Rattle.std.proofs.Common.{◌≡◌, false, true, None, Some, List, [], ◌∷◌, ◌++◌, refl}
 use Rattle.std.specs.Prelude.{codes}
 use Rattle.voting_config.specs.Ids.{Id}
 use Rattle.cluster_state.specs.JoinCheck.{join_checked}
@@ -34,7 +34,7 @@ one_win : wins_of (steps alone) ≡ record { node = a; term = 1 } ∷ []
 unfolding join_checked eight_bytes two_bytes sized framed laid size_at bodies_from bodies_of generations_of misplaced_from epoch_in body_of change_tagged with_body folded_from
 one_win = refl
 
-one_commit : states_of (steps alone) ≡ record { term = 1; version = 1; config = a ∷ []; committed = a ∷ []; value = value_with (codes "x") } ∷ []
+one_commit : states_of (steps alone) ≡ record { term = 1; version = 1; parent = Some (record { term = 0; version = 0 }); config = a ∷ []; committed = a ∷ []; value = value_with (codes "x") } ∷ []
 unfolding join_checked eight_bytes two_bytes sized framed laid size_at bodies_from bodies_of generations_of misplaced_from epoch_in body_of change_tagged with_body folded_from
 one_commit = refl
 

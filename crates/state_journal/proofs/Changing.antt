@@ -52,7 +52,7 @@ module _ {D : Type 0} {disks : Ghosts D} (old : StateJournal D disks) (state : C
   state_follows = record { reads = reads_state state (fits_of state has); order = le-leb _ _ older }
 
   pub state_begins : renews (place old.log) (body_of (Accepted state)) ≡ true → MayBegin (changed old.kept (Accepted state))
-  state_begins = λ renewing. record { bounded = old.bounded; fits = fits_of state has; named = (fits_of state has).1.1.1.0; older = older }
+  state_begins = λ renewing. record { bounded = old.bounded; fits = fits_of state has; named = (fits_of state has).1.1.0; older = older }
 
   -- also where the state was shown once more
   pub state_leaves : (shown : ClusterState) → shown ≡ state → disks.told → old.log.stopped ≡ false → (new : StateJournal D disks)

@@ -9,10 +9,11 @@ use Rattle.serde_json.specs.Written.{compact_text, items_text, members_text, num
 use Rattle.voting_config.specs.Ids.{Id}
 use Rattle.cluster_state.specs.declared.state.ClusterState.{ClusterState}
 use Rattle.cluster_state.specs.declared.state.ClusterValue.{ClusterValue}
+use Rattle.cluster_state.specs.declared.state.StateId.{StateId}
 use Rattle.cluster_state.specs.Settings.{Setting}
-use Rattle.cluster_state.specs.Json.{ids_json, master_json, settings_json, value_json, state_json}
+use Rattle.cluster_state.specs.Json.{ids_json, master_json, settings_json, value_json, parent_json, state_json}
 use Rattle.schedule_text.proofs.WordLaws.{lacks, all_append}
-use Rattle.trace_laws.specs.Fits.{IsSmall, FitsState}
+use Rattle.trace_laws.specs.Fits.{IsSmall, FitsParent, FitsState}
 use Rattle.trace_laws.proofs.Plain.{plain_lacks, number_plain}
 
 pub both : (xs ys : List ℕ) → lacks 10 xs ≡ true → lacks 10 ys ≡ true → lacks 10 (xs ++ ys) ≡ true
@@ -119,5 +120,9 @@ settings_count (s ∷ ss) = (tt, settings_count ss)
 pub value_counts : (v : ClusterValue) → counts (value_json v)
 value_counts v = (ids_count v.exclusions, (master_count v.master, (ids_count v.members, (settings_count v.settings, tt))))
 
+parent_count : (o : Option StateId) → FitsParent o → counts (parent_json o)
+parent_count None h = tt
+parent_count (Some i) h = (h.0, (h.1, tt))
+
 pub state_counts : (s : ClusterState) → FitsState s → counts (state_json s)
-state_counts s h = (ids_count s.committed, (ids_count s.config, (h.0, (value_counts s.value, (h.1, tt)))))
+state_counts s h = (ids_count s.committed, (ids_count s.config, (parent_count s.parent h.1, (h.0.0, (value_counts s.value, (h.0.1, tt))))))

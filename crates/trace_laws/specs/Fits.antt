@@ -95,8 +95,12 @@ FitsMode (mode.Follower leader) = IsTrue (is_id leader)
 FitsMode other = Unit {0}
 
 -- a state: its texts may be any
+abbrev pub FitsParent : Option StateId → Type 0
+FitsParent None = Unit {0}
+FitsParent (Some id) = AreSmall id.term id.version
+
 abbrev pub FitsState : ClusterState → Type 0
-FitsState s = AreSmall s.term s.version
+FitsState s = AreSmall s.term s.version × FitsParent s.parent
 
 abbrev pub AreIds : List Id → Type 0
 AreIds ids = IsTrue (list_all is_id ids)

@@ -8,8 +8,8 @@ use Rattle.voting_config.specs.Ids.{most_ids}
 use Rattle.cluster_state.specs.Field.{Field, byte_at, flag}
 use Rattle.cluster_state.specs.Fields.{term, id}
 use Rattle.cluster_state.specs.States.{state, whole, Spells}
-use Rattle.cluster_state.proofs.Laws.{IsBytes, IsBytes-rest, IsField, bind_ok, ok_is, byte_law, flag_law, optional_law, then_law, shaped_law}
-use Rattle.cluster_state.proofs.StateLaws.{term_law, version_law, id_law, ids_law, state_law}
+use Rattle.cluster_state.proofs.Laws.{IsBytes, IsBytes-rest, IsField, bind_ok, ok_is, byte_law, flag_law, optional_law, then_law}
+use Rattle.cluster_state.proofs.StateLaws.{term_law, id_law, ids_law, state_id_law, state_law}
 use Rattle.cluster_state.proofs.Whole.{whole_ok, is_fit}
 use Rattle.wire_frames.specs.declared.fault.FrameError.{FrameError}
 use Rattle.wire_frames.specs.declared.frame.Kind.{Kind}
@@ -23,9 +23,6 @@ use Rattle.wire_frames.specs.Messages.{state_id, start_join, term_and_last, know
 use Rattle.wire_frames.specs.Frames.{SpellsBody, IsFitFrame, frame_at, as_frame, frame_of_kind, frame_from_byte, frame_of}
 
 -- ---- fields
-
-state_id_law : IsField state_id
-state_id_law = shaped_law _ _ _ (λ x. refl) (λ s. refl) (then_law _ _ term_law version_law)
 
 start_join_law : IsField start_join
 start_join_law = then_law _ _ id_law term_law

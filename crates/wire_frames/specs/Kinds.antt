@@ -9,7 +9,7 @@ use Rattle.wire_frames.specs.declared.frame.WireMessage.TheVariants as message
 abbrev pub code : Kind → ℕ
 code kind.StartJoin = 1
 code kind.Join = 2
-code kind.Publish = 3
+code kind.Publish = 17
 code kind.Response = 4
 code kind.Commit = 5
 code kind.JoinAsk = 6

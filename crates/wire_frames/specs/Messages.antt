@@ -3,16 +3,14 @@ use Rattle.std.specs.Prelude.{◌≡◌, ℕ, ◌≤◌, Bool, List, [], Option,
 use Rattle.voting_config.specs.Ids.{Id, most_ids}
 use Rattle.cluster_state.specs.declared.fault.FieldError.{FieldError}
 use Rattle.cluster_state.specs.declared.state.StateId.{StateId}
-use Rattle.cluster_state.specs.Field.{Field, ◌>>=◌, flag, optional, ◌then◌, shaped, last_number}
-use Rattle.cluster_state.specs.Fields.{term, version, id, ids}
+use Rattle.cluster_state.specs.Field.{Field, ◌>>=◌, flag, optional, ◌then◌, last_number}
+use Rattle.cluster_state.specs.Fields.{term, id, ids}
+pub use Rattle.cluster_state.specs.States.{state_id, IsFitId}
 use Rattle.cluster_state.specs.States.{state, IsFit}
 use Rattle.wire_frames.specs.declared.frame.Kind.{Kind}
 use Rattle.wire_frames.specs.declared.frame.Kind.TheVariants as kind
 use Rattle.wire_frames.specs.declared.frame.WireMessage.{WireMessage}
 use Rattle.wire_frames.specs.declared.frame.WireMessage.TheVariants as message
-
-abbrev pub state_id : Field StateId
-state_id = shaped (λ p. record { term = p.0; version = p.1 }) (λ s. (s.term, s.version)) (term then version)
 
 abbrev pub start_join : Field (Id × ℕ)
 start_join = id then term
@@ -91,11 +89,6 @@ FitsMessage (message.LeaderAnswer good) = flag.Fits good
 -- the bytes are the message's fields
 abbrev pub SpellsFields : WireMessage → List ℕ → Type 0
 SpellsFields m bytes = FitsMessage m × (bytes ≡ payload m)
-
--- numbers to 2^62
-pub record IsFitId (s : StateId) : Type 0 where
-  pub term : s.term ≤ last_number
-  pub version : s.version ≤ last_number
 
 -- what a sender knows of its message: numbers to 2^62, a state within the limits
 abbrev pub IsFitMessage : WireMessage → Type 0

@@ -39,7 +39,7 @@ impl Kind {
         match self {
             Kind::StartJoin => 1,
             Kind::Join => 2,
-            Kind::Publish => 3,
+            Kind::Publish => 17,
             Kind::Response => 4,
             Kind::Commit => 5,
             Kind::JoinAsk => 6,
@@ -62,7 +62,6 @@ impl Kind {
         match byte {
             1 => Some(Kind::StartJoin),
             2 => Some(Kind::Join),
-            3 => Some(Kind::Publish),
             4 => Some(Kind::Response),
             5 => Some(Kind::Commit),
             6 => Some(Kind::JoinAsk),
@@ -75,6 +74,7 @@ impl Kind {
             13 => Some(Kind::FollowerAnswer),
             14 => Some(Kind::LeaderCheck),
             15 => Some(Kind::LeaderAnswer),
+            17 => Some(Kind::Publish),
             _ => None,
         }
     }

@@ -13,7 +13,7 @@ use Rattle.cluster_state.specs.declared.messages.ApplyCommit.{ApplyCommit}
 use Rattle.world_model.specs.Acts.{Act, Outcome, NodeHistory, ActReply, Message, Cause, Bootstrap, StartJoin, TakeJoin, Value, Publish, Response, Commit, Taken, Refused, Stopped, Answered, Disk, Crashed, JoinMessage, PublishMessage, ResponseMessage, StartRefused, JoinRefused, is_effective}
 use Rattle.world_model.specs.NodeState.{node_state, term_of, accepted_of, committed_of, started_join_of, join_votes_of, election_won_of, published_version_of, halted_of}
 use Rattle.world_model.specs.Safety.{IsIdAtMost}
-use Rattle.world_model.specs.Replies.{is_empty, elects, reply_of, is_taken, join_checked, after_check, IsOutcome, commit_sent}
+use Rattle.world_model.specs.Replies.{id_of, is_empty, elects, reply_of, is_taken, join_checked, after_check, IsOutcome, commit_sent}
 
 -- past a test that refuses
 pub past : (b : Bool) (c : Cause) (r : ActReply) (s : Option Message) (w : Bool) → Taken s w ≡ cond b (Refused c) r → (b ≡ false) × (Taken s w ≡ r)
@@ -134,7 +134,7 @@ pub record Valued (me : Id) (g : NodeHistory) (version : ℕ) (config : List Id)
   pub below : version ≤ last_number
   pub steady : (config ≡ (accepted_of g).config) ⊎ (committed_of g ≡ (accepted_of g).config)
   pub quorum : is_quorum_of config (join_votes_of g) ≡ true
-  pub sends : s ≡ Some (PublishMessage (record { source = me; state = record { term = term_of g; version = version; config = config; committed = committed_of g; value = value } }))
+  pub sends : s ≡ Some (PublishMessage (record { source = me; state = record { term = term_of g; version = version; parent = Some (id_of (accepted_of g)); config = config; committed = committed_of g; value = value } }))
 
 steady_is : (c a k : List Id) → (not (same_config c a) && not (same_config k a)) ≡ false → (c ≡ a) ⊎ (k ≡ a)
 steady_is c a k h = from (and_cases _ _ h)

@@ -11,7 +11,7 @@ use Rattle.cluster_state.specs.declared.messages.PublishResponse.{PublishRespons
 use Rattle.cluster_state.specs.declared.messages.ApplyCommit.{ApplyCommit}
 use Rattle.world_model.specs.Acts.{Act, Outcome, NodeHistory, ActReply, Message, Bootstrap, StartJoin, TakeJoin, Value, Publish, Response, Commit, Open, NoActs, Then, Taken, Refused, Stopped, Answered, Disk, Crashed, JoinMessage, PublishMessage, ResponseMessage, is_ok, is_first, wins}
 use Rattle.world_model.specs.NodeState.{NodeState, node_state, term_of, accepted_of, committed_of, started_join_of, join_votes_of, election_won_of, published_version_of, published_config_of, publish_votes_of, initial_state}
-use Rattle.world_model.specs.Replies.{IsOutcome}
+use Rattle.world_model.specs.Replies.{id_of, IsOutcome}
 use Rattle.world_model.specs.Histories.{is_down, is_opening, MayFollow}
 use Rattle.world_model.specs.Safety.{IsIdAtMost, IsAtMost}
 use Rattle.world_model.proofs.StateIds.{id_trans}
@@ -361,7 +361,7 @@ module _ (D : Id → NodeHistory) (root : ClusterState) (W : IsSystem D root) (m
         low = omega (arith, l.low, k.above);
         within = λ r a d. from l r d (publish_cases D root me g _ _ r f a);
         last = inr (
-          record { source = me; state = record { term = term_of g; version = v; config = c; committed = committed_of g; value = x } },
+          record { source = me; state = record { term = term_of g; version = v; parent = Some (id_of (accepted_of g)); config = c; committed = committed_of g; value = x } },
           record { before = g; act = Value v c x; flag = w; is_in = inl (ap (λ (z : Option Message). Then g (Value v c x) (ok z w)) (sym k.sends)) },
           refl,
           refl,

@@ -9,7 +9,7 @@ use Rattle.cluster_state.specs.declared.messages.PublishResponse.{PublishRespons
 use Rattle.cluster_state.specs.declared.messages.ApplyCommit.{ApplyCommit}
 use Rattle.world_model.specs.Acts.{Act, Outcome, NodeHistory, Message, Bootstrap, StartJoin, TakeJoin, Value, Publish, Response, Commit, Open, NoActs, Then, Taken, Answered, JoinMessage, PublishMessage, ResponseMessage, CommitMessage, is_first}
 use Rattle.world_model.specs.NodeState.{node_state, term_of, accepted_of, committed_of, join_votes_of, election_won_of, published_version_of, publish_votes_of, halted_of, durable_of, initial_state, empty_state}
-use Rattle.world_model.specs.Replies.{commits, reply_of}
+use Rattle.world_model.specs.Replies.{id_of, commits, reply_of}
 use Rattle.world_model.specs.Histories.{is_down, is_opening, MayFollow}
 use Rattle.world_model.proofs.Guards.{Responded, boot_guard, start_guard, join_guard, value_guard, publish_guard, response_guard, commit_guard}
 use Rattle.world_model.proofs.Moments.{Begins, IsSent}
@@ -96,6 +96,7 @@ pub record PublishBy (me : Id) (g : NodeHistory) (r : PublishRequest) (act : Act
   pub source_is : r.source ≡ me
   pub runs : halted_of g ≡ false
   pub term_is : r.state.term ≡ term_of g
+  pub parent_is : r.state.parent ≡ Some (id_of (accepted_of g))
   pub committed_is : r.state.committed ≡ committed_of g
   pub won : election_won_of g ≡ true
   pub settled : published_version_of g ≡ (accepted_of g).version
@@ -149,7 +150,7 @@ origin me g (TakeJoin j) m w h = unsent m (join_guard me g j _ w h).sends
 origin me g (Value v c x) m w h =
     let k = value_guard me g v c x _ w h in
     subst (λ (y : Message). Origin me g (Value v c x) y) (some_is _ _ k.sends)
-    (record { act_is = refl; source_is = refl; runs = k.runs; term_is = refl; committed_is = refl; won = k.won; settled = k.settled; above = k.above; steady = k.steady; quorum = k.quorum })
+    (record { act_is = refl; source_is = refl; runs = k.runs; term_is = refl; parent_is = refl; committed_is = refl; won = k.won; settled = k.settled; above = k.above; steady = k.steady; quorum = k.quorum })
 origin me g (Publish r) m w h =
     let k = publish_guard me g r _ w h in
     subst (λ (y : Message). Origin me g (Publish r) y) (some_is _ _ k.sends)

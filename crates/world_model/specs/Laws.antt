@@ -1,10 +1,11 @@
 -- For the contracts inside: the laws of legal histories, as statements.
-use Rattle.std.specs.Prelude.{◌≡◌, ◌↔◌, List}
+use Rattle.std.specs.Prelude.{◌≡◌, ◌↔◌, Some, List, Contains}
 use Rattle.voting_config.specs.Ids.{Id}
 use Rattle.world_model.specs.Acts.{NodeHistory, NoActs}
 use Rattle.world_model.specs.NodeState.{durable_of}
 use Rattle.world_model.specs.Histories.{History, node_history, IsLegal, IsLocal}
-use Rattle.world_model.specs.Safety.{HoldsAll, HoldsAnswers}
+use Rattle.world_model.specs.Replies.{id_of}
+use Rattle.world_model.specs.Safety.{Published, published, HoldsAll, HoldsAnswers}
 use Rattle.world_model.specs.Local.{NamesConfigs, BeginsEmpty, IsSourcedAll, AreRuns, then_runs}
 
 -- in a legal history each node keeps the terms and the states that it answered for, or later ones, over each opening
@@ -27,3 +28,7 @@ abbrev pub LawAssembleRuns : Type 0
 LawAssembleRuns =
     (initial : List Id) (h : History) (runs : Id → List NodeHistory)
     → ((n : Id) → AreRuns n NoActs (runs n)) → ((n : Id) → node_history h n ≡ then_runs NoActs (runs n)) → IsSourcedAll initial h → IsLegal initial h
+
+-- in a legal history each published state has as parent field the id of the state that it was made from
+abbrev pub LawParent : Type 0
+LawParent = (initial : List Id) (h : History) → IsLegal initial h → (p : Published) → Contains (published h) p → p.state.parent ≡ Some (id_of p.parent)

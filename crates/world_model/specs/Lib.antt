@@ -8,3 +8,4 @@ pub mod Local
 pub mod Laws
 pub mod Literal
 pub mod Restarts
+pub mod Bare

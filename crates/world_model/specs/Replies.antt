@@ -65,7 +65,7 @@ value_reply me p version config value =
     (cond (nat_lt last_number version) (Refused (ValueRefused (value_cause.VersionTooLarge version)))
     (cond (not (same_config config p.accepted.config) && not (same_config p.committed p.accepted.config)) (Refused (ValueRefused value_cause.Reconfiguring))
     (cond (not (is_quorum_of config p.join_votes)) (Refused (ValueRefused value_cause.NoJoinQuorum))
-    (Taken (Some (PublishMessage (record { source = me; state = record { term = p.term; version = version; config = config; committed = p.committed; value = value } }))) false))))))
+    (Taken (Some (PublishMessage (record { source = me; state = record { term = p.term; version = version; parent = Some (id_of p.accepted); config = config; committed = p.committed; value = value } }))) false))))))
 
 abbrev pub publish_reply : Id → NodeState → PublishRequest → ActReply
 publish_reply me p r =

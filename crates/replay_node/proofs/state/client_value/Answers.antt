@@ -1,5 +1,5 @@
-use Rattle.std.proofs.Common.{◌≡◌, ◌≤◌, ℕ, Bool, true, false, cond, not, nat_eq, nat_le, nat_lt, Option, Some, List, refl, ap, ◌∙◌}
-use Rattle.std.proofs.lemmas.Bool.{ltb-false}
+use Rattle.std.proofs.Common.{◌≡◌, ◌≤◌, ◌<◌, arith, ℕ, Bool, true, false, cond, not, nat_eq, nat_le, nat_lt, Option, Some, List, refl, ap, ◌∙◌}
+use Rattle.std.proofs.lemmas.Bool.{leb-false, ltb-false, eqb-true, not-false}
 use Rattle.cluster_state.specs.Field.{last_number}
 use Rattle.voting_config.specs.Ids.{Id}
 use Rattle.cluster_state.specs.Initial.{empty_value}
@@ -49,6 +49,26 @@ publication-requires-clause-version c =
     let old = c.args.state.now in
     let request = request_of journal_ghosts old c.args.version c.args.config.now (with_settings c.args.settings) in
     version_fits old.me (fields_of journal_ghosts old) c.args.version c.args.config.now (with_settings c.args.settings) request (c.in-Ok.ensures.act (with_settings c.args.settings)).at.answers
+
+-- its version is above that of the accepted state
+version_above : (me : Id) (p : NodeState) (version : ℕ) (config : List Id) (value : ClusterValue) (request : PublishRequest)
+    → Taken (Some (PublishMessage request)) false ≡ reply_at me p (act.Value version config value) → p.accepted.version < version
+version_above me p version config value request h =
+    let a = running p.halted _ _ _ h in
+    let b = past (not p.election_won) _ _ _ _ a in
+    let c = past (not (nat_eq p.published_version p.accepted.version)) _ _ _ _ b.1 in
+    let d = past (nat_le version p.published_version) _ _ _ _ c.1 in
+    let settled = eqb-true _ _ (not-false _ c.0) in
+    let above = leb-false _ _ d.0 in
+    omega (arith, settled, above)
+
+pub publication-requires-clause-above : goal.publication-requires-clause-above
+publication-requires-clause-above c =
+    let old = c.args.state.now in
+    let request = request_of journal_ghosts old c.args.version c.args.config.now (with_settings c.args.settings) in
+    let same : (fields_of journal_ghosts c.client_value.new.self).accepted ≡ (fields_of journal_ghosts old).accepted = ap (λ (s : CoordState Journal). (fields_of journal_ghosts s).accepted) c.in-Ok.ensures.same in
+    let above = version_above old.me (fields_of journal_ghosts old) c.args.version c.args.config.now (with_settings c.args.settings) request (c.in-Ok.ensures.act (with_settings c.args.settings)).at.answers in
+    rw same above
 
 pub returns-in-Err-clause-does : goal.returns-in-Err-clause-does
 returns-in-Err-clause-does c =

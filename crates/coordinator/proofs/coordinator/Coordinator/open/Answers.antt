@@ -36,7 +36,7 @@ returns-clause-fit g c =
     let accepted : c.deref.result.now ≡ (g.K.Keeper.record_of c.args.keeper).accepted = c.deref.ensures ∙ ap (λ (r : Kept). r.accepted) c.kept.ensures.kept in
     let settings = subst (λ (s : ClusterState). IsSettings s.value.settings) accepted c.texts.ensures.settings in
     subst (λ (v : View). IsFitView v) (sym (returns-clause-view g c))
-    (opened_fit c.args.settings (g.K.Keeper.record_of c.args.keeper) (record { term = c.kept.ensures.bounded; accepted = c.kept.ensures.fit; settings = settings }))
+    (opened_fit c.args.settings (g.K.Keeper.record_of c.args.keeper) (record { term = c.kept.ensures.bounded; accepted = c.kept.ensures.fit; older = c.kept.ensures.older; settings = settings }))
 
 pub returns-clause-small : goal.returns-clause-small
 returns-clause-small g c =
