@@ -1,5 +1,5 @@
 -- Part of the statement: the bodies that two files stand for, one of which is in use.
-use Rattle.std.specs.Prelude.{◌≡◌, ◌⊎◌, ℕ, ◌+◌, ◌<◌, ◌≤◌, ◌^◌, nat_eq, nat_lt, nat_le, ◌==◌, List, [], ◌∷◌, ◌++◌, length, take, drop, Bool, true, false, Option, Some, None, Result, Ok, Err, if◌then◌else◌}
+use Rattle.std.specs.Prelude.{◌≡◌, ◌⊎◌, ℕ, ◌+◌, ◌<◌, ◌≤◌, ◌^◌, nat_eq, nat_lt, nat_le, ◌==◌, List, [], ◌∷◌, ◌++◌, length, take, drop, Bool, ◌||◌, true, false, Option, Some, None, Result, Ok, Err, if◌then◌else◌}
 use Rattle.std.specs.Result.{result_unwrap_or}
 use Rattle.std.specs.Int.{w64, from_be_bytes}
 use Rattle.zen_disk.specs.Moments.{Only}
@@ -12,10 +12,10 @@ use Rattle.gate_log.specs.declared.why.Why.{Why}
 use Rattle.gate_log.specs.declared.why.Why.TheVariants.{At, Twin}
 use Rattle.gate_log.specs.Journal.{bodies_of, laid, IsLaid}
 
--- a body that begins a generation
+-- a body that begins a generation, by its first byte: that of version 1 or of version 2
 abbrev pub is_generation : List ℕ → Bool
 is_generation [] = false
-is_generation (tag ∷ rest) = tag == 4
+is_generation (tag ∷ rest) = tag == 4 || tag == 132
 
 -- the epoch that such a body has
 unfoldable pub epoch_in : List ℕ → ℕ

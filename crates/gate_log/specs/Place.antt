@@ -1,5 +1,5 @@
 -- Part of the statement: where a journal stands: the side in use, its closed gate and that of the other side, its epoch and its tail.
-use Rattle.std.specs.Prelude.{ℕ, ◌+◌, ◌-◌, nat_lt, ◌&&◌, Bool, List, length}
+use Rattle.std.specs.Prelude.{ℕ, ◌+◌, ◌-◌, nat_lt, ◌&&◌, ◌||◌, Bool, List, length}
 use Rattle.std.specs.Option.{unwrap_or}
 use Rattle.zen_disk.specs.Sides.{on, other}
 use Rattle.zen_disk.specs.declared.disks.Disks.{Ghosts}
@@ -39,6 +39,6 @@ place log = record { side = log.side; gate = log.gate; other_gate = log.other_ga
 abbrev pub most_tail : ℕ
 most_tail = 65536
 
--- whether the next body begins a generation: the tail would be too long with it, and there is a next epoch
-abbrev pub renews : Place → List ℕ → Bool
-renews p body = nat_lt most_tail (p.tail + 5 + length body) && nat_lt p.epoch last_epoch
+-- whether the next body begins a generation: one is due, or the tail would be too long with it; and there is a next epoch
+abbrev pub renews : (due : Bool) → Place → List ℕ → Bool
+renews due p body = (due || nat_lt most_tail (p.tail + 5 + length body)) && nat_lt p.epoch last_epoch

@@ -199,7 +199,7 @@ impl<D: Disks> GateLog<D> {
     }
 
     /// Begins a new generation: its one body, given as its length in 4 bytes, the body and a closed gate, is written to the
-    /// other side, which is then in use. The body begins with a 4 and the next epoch in 8 bytes.
+    /// other side, which is then in use. The body begins with a 4 or a 132 and the next epoch in 8 bytes.
     ///
     /// It takes no memory and reads nothing. It makes four device calls, or six where the other side has bodies: these are
     /// put away first.

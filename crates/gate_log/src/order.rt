@@ -10,10 +10,15 @@ use zen_disk::Side;
 /// The greatest epoch.
 pub const LAST_EPOCH: u64 = 1 << 62;
 
+// The first byte of a body that begins a generation: in version 1, and in version 2.
+const OLD_GENERATION: u8 = 4;
+
+const GENERATION: u8 = 132;
+
 fn is_generation(body: &[u8]) -> bool
     ensures { result ≡ spec_is_generation body.now }
 {
-    !body.is_empty() && body[0] == 4
+    !body.is_empty() && (body[0] == OLD_GENERATION || body[0] == GENERATION)
 }
 
 fn read_epoch(body: &[u8]) -> u64

@@ -47,6 +47,7 @@ fault_text fault.Header = codes "Header"
 fault_text (fault.Cut at) = codes "Cut(" ++ decimal at ++ codes ")"
 fault_text (fault.Long at) = codes "Long(" ++ decimal at ++ codes ")"
 fault_text (fault.Body at why) = codes "Body(" ++ decimal at ++ codes "," ++ body_fault_text why ++ codes ")"
+fault_text (fault.Damaged at stored found) = codes "Damaged(" ++ decimal at ++ codes ")"
 fault_text (fault.Order at) = codes "Order(" ++ decimal at ++ codes ")"
 
 -- a fault of side one is marked as its

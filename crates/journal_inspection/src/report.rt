@@ -97,6 +97,11 @@ fn write_fault(text: &mut Text, fault: Fault) -> Result<(), AllocError>
             text.word(name_of_fault(fault))?;
             text.word(")")
         }
+        Fault::Damaged { at, .. } => {
+            text.word("Damaged(")?;
+            text.number(at)?;
+            text.word(")")
+        }
         Fault::Order(at) => {
             text.word("Order(")?;
             text.number(at)?;

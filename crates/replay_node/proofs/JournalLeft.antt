@@ -27,15 +27,17 @@ use Rattle.gate_log.proofs.Added.{emptied, first_closed, first_is_open, laid_not
 use Rattle.gate_log.proofs.Folded.{append_finds, renewal_finds}
 use Rattle.gate_log.proofs.Laid.{gate_is, stands_for}
 use Rattle.gate_log.proofs.Settled.{after_it, append_leaves, appended_settled, other_other, renewal_leaves, renewed_settled, standing_is}
-use Rattle.state_journal.specs.Bodies.{body_of, change_at}
+use Rattle.state_journal.specs.Bodies.{holds_old, body_of, change_at}
 use Rattle.state_journal.specs.Changes.{changed}
-use Rattle.state_journal.specs.Drafts.{MayBegin}
+use Rattle.state_journal.specs.Drafts.{MayBegin, generation_front}
 use Rattle.state_journal.specs.Journal.{in_order, found_in, found_of, on_its_side, record_of_bodies}
-use Rattle.state_journal.specs.Keeping.{generation_after, keeping_calls, writing_calls}
+use Rattle.state_journal.specs.Keeping.{generation_after, keeping_calls, keeping_calls_in, writing_calls}
 use Rattle.state_journal.specs.declared.change.Change.{Change}
+use Rattle.state_journal.proofs.Beginning.{begins_next, length-generation}
 use Rattle.state_journal.proofs.Folds.{folded-push, makes, fold_end}
 use Rattle.state_journal.proofs.Found.{appended_reads, in_use_read, on_side_ok, renewed_reads}
 use Rattle.cluster_state.proofs.Sizes.{ids_short, length-eight, state_short}
+use Rattle.state_journal.proofs.Spelled.{length-body, renewed_is}
 use Rattle.state_journal.proofs.Writing.{begun, next_epoch}
 use Rattle.replay_node.specs.NodeDisk.{NodeDisk, bytes_read, calls_made}
 use Rattle.replay_node.proofs.FilesLeft.{Since, Nothing, MayBe, Leaves, Ends, Rest, state_since, no_calls, pair, pair_here, pair_there, writes}
@@ -281,7 +283,7 @@ module _ (files : Sides FileState) (kept next : Kept) (runs : Runs files kept) w
         let is_renewed =
         renewal_leaves g runs.bytes (only runs.bytes) side runs.gate runs.other_gate runs.epoch runs.settled body begins_it now leaves in
         stands_by now (readable_pair (other side) c d readable (subst IsReadable (sym same) used_readable))
-        (renewal_finds record_of_bodies g body kept next empty_record reads_kept (fold_end 8 empty_record) alone now is_renewed)
+        (renewal_finds record_of_bodies g body kept next empty_record reads_kept (fold_end 8 false empty_record) alone now is_renewed)
 
     past_inside : 8 < length unused
     past_inside = room past unused runs.other_gate runs.settled.there
@@ -377,27 +379,17 @@ module _ (files : Sides FileState) (kept next : Kept) (runs : Runs files kept) w
 -- the body that begins the next generation
 module _ (p : Place) (next : Kept) (small : p.epoch < 2 ^ 62) (may : MayBegin next) where
   generation_begins : Begins p.epoch (generation_after p next)
-  unfolding body_of eight_bytes epoch_in
   generation_begins =
-      let rest = term.spelling next.term ++ (state.spelling next.accepted ++ (ids most_ids).spelling next.committed) in
-      record {
-        tagged = refl;
-        long = omega (arith, length-append (eight_bytes (p.epoch + 1)) rest);
-        next = from_be_bytes-to_be_bytes_8 (p.epoch + 1) (omega (arith, small));
-        limit = omega (arith, small);
-      }
+      subst (Begins p.epoch) (renewed_is (p.epoch + 1) next.term next.accepted next.committed) (begins_next p.epoch next.term (state.spelling next.accepted) next.committed small)
 
   generation_short : length (generation_after p next) ≤ most_body
-  unfolding body_of
   generation_short =
-      let committed = (ids most_ids).spelling next.committed in
+      let front = generation_front (p.epoch + 1) next.term (state.spelling next.accepted) next.committed in
       omega (
         arith,
-        length-append (eight_bytes (p.epoch + 1)) (term.spelling next.term ++ (state.spelling next.accepted ++ committed)),
-        length-append (eight_bytes next.term) (state.spelling next.accepted ++ committed),
-        length-append (state.spelling next.accepted) committed,
-        length-eight (p.epoch + 1),
-        length-eight next.term,
+        ap length (sym (renewed_is (p.epoch + 1) next.term next.accepted next.committed)),
+        length-body front,
+        length-generation (p.epoch + 1) next.term (state.spelling next.accepted) next.committed,
         state_short next.accepted may.fits,
         ids_short most_ids next.committed may.named,
       )
@@ -413,32 +405,33 @@ module _ (files : Sides FileState) (kept : Kept) (change : Change) (runs : Runs 
 
   with_it : record_of_bodies (in_use runs.generations ++ body_of change ∷ []) ≡ Ok after
   with_it =
-      folded-push (body_of change) kept after (λ at. makes at kept (body_of change) change may.reads may.order)
-      (in_use runs.generations) 8 empty_record
+      folded-push (body_of change) kept after (λ at behind. makes at behind kept change may.reads may.order)
+      (in_use runs.generations) 8 false empty_record
       (in_use_kept files kept after runs)
 
-  by : (renewing : Bool) → renews (here files kept after runs) (body_of change) ≡ renewing
+  by : (due renewing : Bool) → renews due (here files kept after runs) (body_of change) ≡ renewing
       → EndsWell (writing_calls renewing (here files kept after runs) (body_of change) (generation_after (here files kept after runs) after))
-  by true renewing =
+  by due true renewing =
       let p = here files kept after runs in
-      let small : runs.epoch < 2 ^ 62 = next_epoch p (body_of change) renewing in
+      let small : runs.epoch < 2 ^ 62 = next_epoch due p (body_of change) renewing in
       renews_it files kept after runs (generation_after p after) (generation_begins p after small may.begins)
       (generation_short p after small may.begins)
       (begun p after small may.begins)
-  by false appending = appends files kept after runs (body_of change) may.plain may.short with_it
+  by due false appending = appends files kept after runs (body_of change) may.plain may.short with_it
 
-  keeps : EndsWell (keeping_calls (place_of (standing_in runs.bytes)) kept change)
+  keeps : EndsWell (keeping_calls_in (standing_in runs.bytes) kept change)
   keeps =
-      subst (λ (p : Place). EndsWell (keeping_calls p kept change)) (stands_here files kept after runs)
-      (by (renews (here files kept after runs) (body_of change)) refl)
+      let due = holds_old (in_use (standing_in runs.bytes)) in
+      subst (λ (p : Place). EndsWell (keeping_calls due p kept change)) (stands_here files kept after runs)
+      (by due (renews due (here files kept after runs) (body_of change)) refl)
 
 pub keep_ends : (disk : NodeDisk) (kept : Kept) (change : Change) → Runs disk.files kept → MayKeep kept change
-    → let calls = keeping_calls (place_of (standing_in (bytes_read disk.files))) kept change in
+    → let calls = keeping_calls_in (standing_in (bytes_read disk.files)) kept change in
     Ends (calls_made disk calls) (λ f. Runs f (changed kept change)) (λ f. Leaves f (StandsWithEither kept (changed kept change)))
 keep_ends disk kept change runs may =
     let next = changed kept change in
     let D : Files → Type 0 =
-    λ read. Ends (calls_made disk (keeping_calls (place_of (standing_in read)) kept change)) (λ f. Runs f next)
+    λ read. Ends (calls_made disk (keeping_calls_in (standing_in read) kept change)) (λ f. Runs f next)
     (λ f. Leaves f (StandsWithEither kept next)) in
     subst D (sym (ap bytes_read runs.is)) (keeps disk.files kept change runs may disk runs.is)
 

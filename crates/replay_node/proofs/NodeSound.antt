@@ -17,16 +17,15 @@ use Rattle.zen_disk.specs.Sides.{Sides}
 use Rattle.zen_disk.specs.declared.orders.Order.{Order}
 use Rattle.zen_disk.specs.declared.orders.Way.{Way}
 use Rattle.gate_log.specs.Generations.{standing_in}
-use Rattle.gate_log.specs.Place.{place_of}
 use Rattle.state_journal.specs.Bodies.{body_of}
 use Rattle.state_journal.specs.Changes.{changed}
 use Rattle.state_journal.specs.Drafts.{MayBegin}
-use Rattle.state_journal.specs.Keeping.{keeping_calls}
+use Rattle.state_journal.specs.Keeping.{keeping_calls_in}
 use Rattle.state_journal.specs.declared.change.Change.{Change}
 use Rattle.state_journal.specs.declared.change.Change.TheVariants.{Term, Accepted, Committed}
 use Rattle.state_journal.specs.declared.why.Why.{Why}
 use Rattle.cluster_state.proofs.Sizes.{state_short}
-use Rattle.state_journal.proofs.Spelled.{reads_term, reads_state, reads_committed, state_is, term_plain, committed_plain, accepted_plain}
+use Rattle.state_journal.proofs.Spelled.{reads_term, reads_state, reads_committed, length-term, length-accepted, length-committed, term_plain, committed_plain, accepted_plain}
 use Rattle.coord_state.specs.Writes.{change_of, kept_after}
 use Rattle.world_model.specs.declared.acts.Act.{Act}
 use Rattle.world_model.specs.declared.acts.Act.TheVariants.{Bootstrap, StartJoin, TakeJoin, Value, Publish, Response, Commit, Open}
@@ -75,15 +74,13 @@ pub empty_begins : MayBegin empty_record
 empty_begins = record { bounded = omega arith; fits = initial_fits [] (none_fit most_ids); named = none_fit most_ids; older = omega arith }
 
 short_term : (t : ℕ) → length (body_of (Term t)) ≤ most_body
-unfolding body_of eight_bytes
-short_term t = let e : length (body_of (Term t)) ≡ 9 = refl in omega arith
+short_term t = omega (arith, length-term t)
 
 short_state : (s : ClusterState) → state.Fits s → length (body_of (Accepted s)) ≤ most_body
-short_state s fits = omega (arith, ap length (state_is s), state_short s fits)
+short_state s fits = omega (arith, length-accepted s, state_short s fits)
 
 short_committed : length (body_of Committed) ≤ most_body
-unfolding body_of
-short_committed = let e : length (body_of Committed) ≡ 1 = refl in omega arith
+short_committed = omega (arith, length-committed)
 
 may_accept : (kept : Kept) (s : ClusterState) → MayBegin kept → state.Fits s → s.term ≤ kept.term → MayKeep kept (Accepted s)
 may_accept kept s may fits older = record {
@@ -258,7 +255,7 @@ module _ (me : Id) (w : NodeWorld) (act : Act) (s : Sound w) (up : w.down ≡ fa
       let free = s.unstruck needs in
       let fit : MayBegin (durable_of w.acts) = subst (λ (h : NodeHistory). MayBegin (durable_of h)) (unstruck w.acts false free) (s.fit false) in
       let k : Keeps w.acts act = keeps me w.acts act sends wins is w_act fits fit in
-      let called : Called = calls_made w.disk (keeping_calls (place_of (standing_in (bytes_read w.disk.files))) (durable_of w.acts) k.change) in
+      let called : Called = calls_made w.disk (keeping_calls_in (standing_in (bytes_read w.disk.files)) (durable_of w.acts) k.change) in
       let there : Sound (acted_by called.ended called.disk w.acts act (Taken sends wins)) =
       kept_sound w.acts act o k free going fit called.ended called.disk sends wins (keep_ends w.disk (durable_of w.acts) k.change (s.runs needs) k.may) in
       subst (λ (c : Option Change). let called : Called = calls_made w.disk (act_calls (Taken sends wins) c (durable_of w.acts) (bytes_read w.disk.files)) in Sound (acted_by called.ended called.disk w.acts act (Taken sends wins))) (sym k.is) there

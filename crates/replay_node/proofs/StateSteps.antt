@@ -21,7 +21,8 @@ use Rattle.gate_log.specs.Place.{place, place_of}
 use Rattle.gate_log.proofs.Places.{place_is}
 use Rattle.state_journal.specs.Changes.{IsEither}
 use Rattle.state_journal.specs.Journal.{only_record, record_of_files}
-use Rattle.state_journal.specs.Keeping.{keeping_calls}
+use Rattle.state_journal.specs.Bodies.{holds_old}
+use Rattle.state_journal.specs.Keeping.{keeping_calls, keeping_calls_in}
 use Rattle.state_journal.specs.declared.change.Change.{Change}
 use Rattle.coord_state.specs.Checks.{Foretells}
 use Rattle.coord_state.specs.Outcomes.{ending, publish_outcome}
@@ -69,10 +70,11 @@ pub record Step (old new : CoordState Journal) (act : Act) (o : Outcome) : Type 
 -- ---- the device calls
 
 calls_are : (j : Journal) (d : NodeDisk) (kept : Kept) (change : Change) → DiskStands j.log.disk d → j.log.stopped ≡ false → j.kept ≡ kept
-    → keeping_calls (place j.log) j.kept change ≡ keeping_calls (place_of (standing_in (bytes_read d.files))) kept change
+    → keeping_calls j.due (place j.log) j.kept change ≡ keeping_calls_in (standing_in (bytes_read d.files)) kept change
 calls_are j d kept change stands running same =
     let there : place j.log ≡ place_of (standing_in (bytes_read d.files)) = place_is fuse_ghosts j.log tt running ∙ ap (λ (s : Sides FileState). place_of (standing_in (bytes_read s))) stands.files in
-    λ i. keeping_calls (there i) (same i) change
+    let due : j.due ≡ holds_old (in_use (standing_in (bytes_read d.files))) = j.aged tt running ∙ ap (λ (s : Sides FileState). holds_old (in_use (standing_in (bytes_read s)))) stands.files in
+    λ i. keeping_calls (due i) (there i) (same i) change
 
 abbrev CallsDone : Journal → Called → Type 0
 CallsDone new called = (called.ended ≡ Done) × DiskStands new.log.disk called.disk
@@ -81,7 +83,7 @@ module _ (old new : Journal) (d : NodeDisk) (kept : Kept) (stands : DiskStands o
   taken_done : (change : Option Change) (sends : Option Message) (wins : Bool) → old.log.stopped ≡ false → Wrote journal_ghosts old change new true → CallsDone new (calls_made d (act_calls (Taken sends wins) change kept (bytes_read d.files)))
   taken_done (Some change) sends wins running wrote =
       let ran = subst (λ (calls : List DeviceCall). CallsMade (FuseSteps MemSteps) calls old.log.disk new.log.disk true) (calls_are old d kept change stands running same) wrote in
-      said_done (keeping_calls (place_of (standing_in (bytes_read d.files))) kept change) old.log.disk new.log.disk d true stands ran refl
+      said_done (keeping_calls_in (standing_in (bytes_read d.files)) kept change) old.log.disk new.log.disk d true stands ran refl
   taken_done None sends wins running wrote = (refl, subst (λ (j : Journal). DiskStands j.log.disk d) (sym wrote) stands)
 
   answered_done : (act : Act) (reply : ActReply) → (is_taken reply ≡ true → old.log.stopped ≡ false) → WritesBy journal_ghosts old act new (Answered reply) → CallsDone new (calls_made d (act_calls reply (change_of act) kept (bytes_read d.files)))
@@ -206,7 +208,7 @@ module _ (old new : CoordState Journal) (act : Act) (step : Step old new act (Di
   change = change_is act struck_taken.1
 
   abbrev calls : List DeviceCall
-  calls = keeping_calls (place_of (standing_in (bytes_read w.disk.files))) (durable_of w.acts) change.0
+  calls = keeping_calls_in (standing_in (bytes_read w.disk.files)) (durable_of w.acts) change.0
 
   struck_ran : CallsMade (FuseSteps MemSteps) calls old.keeper.log.disk new.keeper.log.disk false
   struck_ran =

@@ -9,9 +9,8 @@ use Rattle.zen_disk.specs.declared.orders.Order.{Order}
 use Rattle.zen_disk.specs.declared.orders.Way.{Way}
 use Rattle.zen_disk.specs.Sides.{Files}
 use Rattle.gate_log.specs.Generations.{standing_in}
-use Rattle.gate_log.specs.Place.{place_of}
 use Rattle.state_journal.specs.Journal.{found_of}
-use Rattle.state_journal.specs.Keeping.{keeping_calls}
+use Rattle.state_journal.specs.Keeping.{keeping_calls_in}
 use Rattle.state_journal.specs.declared.change.Change.{Change}
 use Rattle.world_model.specs.declared.acts.Act.{Act}
 use Rattle.world_model.specs.declared.acts.Outcome.{Outcome}
@@ -41,7 +40,7 @@ fresh_node = record { acts = NoActs; disk = fresh_disk; down = false }
 -- The device calls of an act that is answered so, where the node keeps this record in files that read so: those that keep its change, where
 -- it is taken and has one.
 abbrev pub act_calls : ActReply → Option Change → Kept → Files → List DeviceCall
-act_calls (Taken sends wins) (Some change) kept files = keeping_calls (place_of (standing_in files)) kept change
+act_calls (Taken sends wins) (Some change) kept files = keeping_calls_in (standing_in files) kept change
 act_calls (Taken sends wins) None kept files = []
 act_calls (Refused cause) change kept files = []
 act_calls Stopped change kept files = []

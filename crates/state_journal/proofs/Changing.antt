@@ -20,46 +20,46 @@ use Rattle.state_journal.proofs.Spelled.{fits_of, reads_committed, reads_state}
 use Rattle.state_journal.proofs.Writing.{IsOpen, MayFollow, leaves_either}
 
 module _ {D : Type 0} {disks : Ghosts D} (old : StateJournal D disks) (told : disks.told) (running : old.log.stopped ≡ false) where
-  pub is_open : IsOpen (disks.seen old.log.disk) (disks.may_leave old.log.disk) (place old.log) old.kept old.records
-  is_open = record { settled = old.log.settled told running; limit = old.log.limit; stands = old.stands told running; counted = old.counted told running }
+  pub is_open : IsOpen (disks.seen old.log.disk) (disks.may_leave old.log.disk) (place old.log) old.kept old.records old.due
+  is_open = record { settled = old.log.settled told running; limit = old.log.limit; stands = old.stands told running; counted = old.counted told running; aged = old.aged told running }
 
-  pub crash_leaves : (change : Change) → MayFollow old.kept change → (renews (place old.log) (body_of change) ≡ true → MayBegin (changed old.kept change))
+  pub crash_leaves : (change : Change) → MayFollow old.kept change → (renews old.due (place old.log) (body_of change) ≡ true → MayBegin (changed old.kept change))
       → (new : StateJournal D disks) (body : List ℕ) → body ≡ body_of change
-      → LeavesOnly disks.moment disks.left_since old.log.disk new.log.disk (IsWritten (renews (place old.log) body) (standing_in (disks.seen old.log.disk)) body (generation_after (place old.log) (changed old.kept change)))
+      → LeavesOnly disks.moment disks.left_since old.log.disk new.log.disk (IsWritten (renews old.due (place old.log) body) (standing_in (disks.seen old.log.disk)) body (generation_after (place old.log) (changed old.kept change)))
       → LeavesOnly (λ (j : StateJournal D disks). disks.moment j.log.disk) (λ (j : StateJournal D disks). StoodFor (disks.left_since j.log.disk)) old new (IsEither old.kept (changed old.kept change))
   crash_leaves change may begins new body same run =
       let p = place old.log in
       let written =
-      subst (λ (b : List ℕ). LeavesOnly disks.moment disks.left_since old.log.disk new.log.disk (IsWritten (renews p b) (standing_in (disks.seen old.log.disk)) b (generation_after p (changed old.kept change)))) same run in
+      subst (λ (b : List ℕ). LeavesOnly disks.moment disks.left_since old.log.disk new.log.disk (IsWritten (renews old.due p b) (standing_in (disks.seen old.log.disk)) b (generation_after p (changed old.kept change)))) same run in
       record { later = written.later; since = leaves_either is_open change may begins disks.moment disks.left_since old.log.disk new.log.disk written }
 
   -- the change that commits the configuration of the accepted state, whose journal shows this state as the accepted one
   pub commit_leaves : (shown : ClusterState) → shown ≡ old.kept.accepted → (new : StateJournal D disks) (body : List ℕ) → body ≡ body_of Committed
-      → (renews (place old.log) body ≡ true → (ids most_ids).Fits shown.config)
-      → LeavesOnly disks.moment disks.left_since old.log.disk new.log.disk (IsWritten (renews (place old.log) body) (standing_in (disks.seen old.log.disk)) body (generation_after (place old.log) (record_with old.kept.term old.kept.accepted shown.config)))
+      → (renews old.due (place old.log) body ≡ true → (ids most_ids).Fits shown.config)
+      → LeavesOnly disks.moment disks.left_since old.log.disk new.log.disk (IsWritten (renews old.due (place old.log) body) (standing_in (disks.seen old.log.disk)) body (generation_after (place old.log) (record_with old.kept.term old.kept.accepted shown.config)))
       → LeavesOnly (λ (j : StateJournal D disks). disks.moment j.log.disk) (λ (j : StateJournal D disks). StoodFor (disks.left_since j.log.disk)) old new (IsEither old.kept (changed old.kept Committed))
   commit_leaves shown is new body same named run =
       let p = place old.log in
-      let fits = λ (renewing : renews p (body_of Committed) ≡ true).
-      subst (λ (s : ClusterState). (ids most_ids).Fits s.config) is (named (ap (renews p) same ∙ renewing)) in
+      let fits = λ (renewing : renews old.due p (body_of Committed) ≡ true).
+      subst (λ (s : ClusterState). (ids most_ids).Fits s.config) is (named (ap (renews old.due p) same ∙ renewing)) in
       crash_leaves Committed (record { reads = reads_committed; order = refl })
       (λ renewing. record { bounded = old.bounded; fits = fits_of old.kept.accepted old.drafted.fits; named = fits renewing; older = old.older }) new body same
-      (subst (λ (s : ClusterState). LeavesOnly disks.moment disks.left_since old.log.disk new.log.disk (IsWritten (renews p body) (standing_in (disks.seen old.log.disk)) body (generation_after p (record_with old.kept.term old.kept.accepted s.config)))) is run)
+      (subst (λ (s : ClusterState). LeavesOnly disks.moment disks.left_since old.log.disk new.log.disk (IsWritten (renews old.due p body) (standing_in (disks.seen old.log.disk)) body (generation_after p (record_with old.kept.term old.kept.accepted s.config)))) is run)
 
 -- a state that may be accepted: its change may follow, and its record may begin a generation
 module _ {D : Type 0} {disks : Ghosts D} (old : StateJournal D disks) (state : ClusterState) (has : HasSpelling state) (older : state.term ≤ old.kept.term) where
   pub state_follows : MayFollow old.kept (Accepted state)
   state_follows = record { reads = reads_state state (fits_of state has); order = le-leb _ _ older }
 
-  pub state_begins : renews (place old.log) (body_of (Accepted state)) ≡ true → MayBegin (changed old.kept (Accepted state))
+  pub state_begins : renews old.due (place old.log) (body_of (Accepted state)) ≡ true → MayBegin (changed old.kept (Accepted state))
   state_begins = λ renewing. record { bounded = old.bounded; fits = fits_of state has; named = (fits_of state has).1.1.0; older = older }
 
   -- also where the state was shown once more
   pub state_leaves : (shown : ClusterState) → shown ≡ state → disks.told → old.log.stopped ≡ false → (new : StateJournal D disks)
-      → LeavesOnly disks.moment disks.left_since old.log.disk new.log.disk (IsWritten (renews (place old.log) (body_of (Accepted state))) (standing_in (disks.seen old.log.disk)) (body_of (Accepted state)) (generation_after (place old.log) (record_with old.kept.term state shown.committed)))
+      → LeavesOnly disks.moment disks.left_since old.log.disk new.log.disk (IsWritten (renews old.due (place old.log) (body_of (Accepted state))) (standing_in (disks.seen old.log.disk)) (body_of (Accepted state)) (generation_after (place old.log) (record_with old.kept.term state shown.committed)))
       → LeavesOnly (λ (j : StateJournal D disks). disks.moment j.log.disk) (λ (j : StateJournal D disks). StoodFor (disks.left_since j.log.disk)) old new (IsEither old.kept (changed old.kept (Accepted state)))
   state_leaves shown is told running new run =
       let p = place old.log in
       let same =
-      subst (λ (s : ClusterState). LeavesOnly disks.moment disks.left_since old.log.disk new.log.disk (IsWritten (renews p (body_of (Accepted state))) (standing_in (disks.seen old.log.disk)) (body_of (Accepted state)) (generation_after p (record_with old.kept.term state s.committed)))) is run in
+      subst (λ (s : ClusterState). LeavesOnly disks.moment disks.left_since old.log.disk new.log.disk (IsWritten (renews old.due p (body_of (Accepted state))) (standing_in (disks.seen old.log.disk)) (body_of (Accepted state)) (generation_after p (record_with old.kept.term state s.committed)))) is run in
       crash_leaves old told running (Accepted state) state_follows state_begins new (body_of (Accepted state)) refl same

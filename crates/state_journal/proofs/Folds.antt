@@ -1,14 +1,15 @@
 -- What the bodies of one side make of the record.
-use Rattle.std.proofs.Common.{◌≡◌, ℕ, ◌+◌, ◌<◌, List, [], ◌∷◌, ◌++◌, length, Ok, Err, refl, sym, ◌∙◌, ap, subst, true, get_or, drop}
+use Rattle.std.proofs.Common.{◌≡◌, ℕ, ◌+◌, ◌<◌, List, [], ◌∷◌, ◌++◌, length, Ok, Err, refl, sym, ◌∙◌, ap, subst, Bool, true, false, get_or, drop}
 use Rattle.std.specs.declared.alloc.Global.{Global}
 use Rattle.std.proofs.lemmas.List.{drop_more}
 use Rattle.gate_log.specs.Opened.{lists}
-use Rattle.std.specs.Prelude.{Result, Vec}
+use Rattle.std.specs.Prelude.{Result, Vec, Option, Some, None, not, ◌&&◌}
+use Rattle.std.proofs.Math.Bool.{and-false}
 use Rattle.std.proofs.lemmas.Bool.{cond-true}
 use Rattle.cluster_state.specs.declared.state.Kept.{Kept}
-use Rattle.state_journal.specs.Bodies.{change_at}
+use Rattle.state_journal.specs.Bodies.{is_guarded, guard_fault, body_of, change_at}
 use Rattle.state_journal.specs.Changes.{changed}
-use Rattle.state_journal.specs.Journal.{in_order, with_body, goes_on_with, folded_from}
+use Rattle.state_journal.specs.Journal.{in_order, unless, with_change, with_body, goes_on_with, folded_from}
 use Rattle.state_journal.specs.Reads.{error_at, IsBodyError, IsFoldError}
 use Rattle.state_journal.specs.declared.body.BodyError.{BodyError}
 use Rattle.state_journal.specs.declared.body.BodyError.TheVariants.{Memory, Fault as BodyFaultOf}
@@ -17,45 +18,61 @@ use Rattle.state_journal.specs.declared.fold.FoldError.TheVariants.{Memory as No
 use Rattle.state_journal.specs.declared.change.Change.{Change}
 use Rattle.state_journal.specs.declared.why.BodyFault.{BodyFault}
 use Rattle.state_journal.specs.declared.why.Fault.{Fault}
+use Rattle.state_journal.proofs.Spelled.{body_sound, body_guarded}
 
-pub error_with : (p : ℕ) (kept : Kept) (e : BodyError) (read : Result Change BodyFault) → IsBodyError e read → IsFoldError (error_at p e) (with_body p kept read)
-unfolding with_body
-error_with p kept Memory read is = tt
-error_with p kept (BodyFaultOf f) read is = ap (λ (r : Result Change BodyFault). with_body p kept r) is
+pub error_with : (p : ℕ) (late : Bool) (kept : Kept) (e : BodyError) (read : Result Change BodyFault) → IsBodyError e read → IsFoldError (error_at p e) (with_change p late kept read)
+unfolding with_change
+error_with p late kept Memory read is = tt
+error_with p late kept (BodyFaultOf f) read is = ap (λ (r : Result Change BodyFault). with_change p late kept r) is
 
--- a change in order is made, wherever its gate stands
-pub makes : (p : ℕ) (kept : Kept) (body : List ℕ) (change : Change) → change_at body ≡ Ok change → in_order kept change ≡ true → with_body p kept (change_at body) ≡ Ok (changed kept change)
-unfolding with_body
-makes p kept body change reads order = ap (λ (r : Result Change BodyFault). with_body p kept r) reads ∙ cond-true (in_order kept change) _ _ order
+-- a fault of its digest is that of the body
+pub error_of_digest : (p : ℕ) (after : Bool) (kept : Kept) (body : List ℕ) (fault : Fault) → guard_fault p body ≡ Some fault → with_body p after kept body ≡ Err fault
+error_of_digest p after kept body fault is = ap (λ (f : Option Fault). unless f (with_change p (after && not (is_guarded body)) kept (change_at body))) is
 
-module _ (body : List ℕ) (last next : Kept) (more : (p : ℕ) → with_body p last (change_at body) ≡ Ok next) where
-  step : (r : Result Kept Fault) (bodies : List (List ℕ)) (p : ℕ) → ((k : Kept) → folded_from p k bodies ≡ Ok last → folded_from p k (bodies ++ body ∷ []) ≡ Ok next)
-      → goes_on_with (λ (k : Kept). folded_from p k bodies) r ≡ Ok last → goes_on_with (λ (k : Kept). folded_from p k (bodies ++ body ∷ [])) r ≡ Ok next
-  step (Ok k) bodies p each is = each k is
-  step (Err fault) bodies p each is = absurd cc
+pub without_fault : (p : ℕ) (after : Bool) (kept : Kept) (body : List ℕ) → guard_fault p body ≡ None → with_body p after kept body ≡ with_change p (after && not (is_guarded body)) kept (change_at body)
+without_fault p after kept body is = ap (λ (f : Option Fault). unless f (with_change p (after && not (is_guarded body)) kept (change_at body))) is
 
-  pub folded-push : (bodies : List (List ℕ)) (p : ℕ) (kept : Kept) → folded_from p kept bodies ≡ Ok last → folded_from p kept (bodies ++ body ∷ []) ≡ Ok next
+in_time : (p : ℕ) (kept : Kept) (change : Change) → in_order kept change ≡ true → with_change p false kept (Ok change) ≡ Ok (changed kept change)
+unfolding with_change
+in_time p kept change order = cond-true (in_order kept change) _ _ order
+
+-- a change in order is made, wherever its gate stands and whatever comes before it
+pub makes : (p : ℕ) (after : Bool) (kept : Kept) (change : Change) → change_at (body_of change) ≡ Ok change → in_order kept change ≡ true → with_body p after kept (body_of change) ≡ Ok (changed kept change)
+makes p after kept change reads order =
+    without_fault p after kept (body_of change) (body_sound p change)
+    ∙ (λ i. with_change p (after && not (body_guarded change i)) kept (reads i))
+    ∙ ap (λ (late : Bool). with_change p late kept (Ok change)) (and-false after)
+    ∙ in_time p kept change order
+
+module _ (body : List ℕ) (last next : Kept) (more : (p : ℕ) (after : Bool) → with_body p after last body ≡ Ok next) where
+  step : (r : Result Kept Fault) (bodies : List (List ℕ)) (p : ℕ) (after : Bool) → ((k : Kept) → folded_from p after k bodies ≡ Ok last → folded_from p after k (bodies ++ body ∷ []) ≡ Ok next)
+      → goes_on_with (λ (k : Kept). folded_from p after k bodies) r ≡ Ok last → goes_on_with (λ (k : Kept). folded_from p after k (bodies ++ body ∷ [])) r ≡ Ok next
+  step (Ok k) bodies p after each is = each k is
+  step (Err fault) bodies p after each is = absurd cc
+
+  pub folded-push : (bodies : List (List ℕ)) (p : ℕ) (after : Bool) (kept : Kept) → folded_from p after kept bodies ≡ Ok last → folded_from p after kept (bodies ++ body ∷ []) ≡ Ok next
   unfolding folded_from
-  folded-push [] p kept is =
+  folded-push [] p after kept is =
       let same : kept ≡ last = cc in
-      subst (λ (k : Kept). goes_on_with (λ (j : Kept). Ok j) (with_body p k (change_at body)) ≡ Ok next) (sym same) (ap (λ (r : Result Kept Fault). goes_on_with (λ (j : Kept). Ok j) r) (more p))
-  folded-push (first ∷ bodies) p kept is =
-      step (with_body p kept (change_at first)) bodies (p + 5 + length first) (λ k. folded-push bodies (p + 5 + length first) k) is
+      subst (λ (k : Kept). goes_on_with (λ (j : Kept). Ok j) (with_body p after k body) ≡ Ok next) (sym same) (ap (λ (r : Result Kept Fault). goes_on_with (λ (j : Kept). Ok j) r) (more p after))
+  folded-push (first ∷ bodies) p after kept is =
+      step (with_body p after kept first) bodies (p + 5 + length first) (is_guarded first) (λ k. folded-push bodies (p + 5 + length first) (is_guarded first) k) is
 
 -- ---- one body of those that are folded
 
-pub fold_step : (p : ℕ) (kept next : Kept) (body : List ℕ) (bodies : List (List ℕ)) → with_body p kept (change_at body) ≡ Ok next → folded_from p kept (body ∷ bodies) ≡ folded_from (p + 5 + length body) next bodies
+pub fold_step : (p : ℕ) (after : Bool) (kept next : Kept) (body : List ℕ) (bodies : List (List ℕ)) → with_body p after kept body ≡ Ok next
+    → folded_from p after kept (body ∷ bodies) ≡ folded_from (p + 5 + length body) (is_guarded body) next bodies
 unfolding folded_from
-fold_step p kept next body bodies is = ap (λ (r : Result Kept Fault). goes_on_with (λ (k : Kept). folded_from (p + 5 + length body) k bodies) r) is
+fold_step p after kept next body bodies is = ap (λ (r : Result Kept Fault). goes_on_with (λ (k : Kept). folded_from (p + 5 + length body) (is_guarded body) k bodies) r) is
 
-pub fold_fault : (p : ℕ) (kept : Kept) (body : List ℕ) (bodies : List (List ℕ)) (e : FoldError) → IsFoldError e (with_body p kept (change_at body)) → IsFoldError e (folded_from p kept (body ∷ bodies))
+pub fold_fault : (p : ℕ) (after : Bool) (kept : Kept) (body : List ℕ) (bodies : List (List ℕ)) (e : FoldError) → IsFoldError e (with_body p after kept body) → IsFoldError e (folded_from p after kept (body ∷ bodies))
 unfolding folded_from
-fold_fault p kept body bodies NoMemory is = tt
-fold_fault p kept body bodies (FoldFault fault) is = ap (λ (r : Result Kept Fault). goes_on_with (λ (k : Kept). folded_from (p + 5 + length body) k bodies) r) is
+fold_fault p after kept body bodies NoMemory is = tt
+fold_fault p after kept body bodies (FoldFault fault) is = ap (λ (r : Result Kept Fault). goes_on_with (λ (k : Kept). folded_from (p + 5 + length body) (is_guarded body) k bodies) r) is
 
-pub fold_end : (p : ℕ) (kept : Kept) → folded_from p kept [] ≡ Ok kept
+pub fold_end : (p : ℕ) (after : Bool) (kept : Kept) → folded_from p after kept [] ≡ Ok kept
 unfolding folded_from
-fold_end p kept = refl
+fold_end p after kept = refl
 
 pub lists_drop : (vs : List (Vec ℕ Global)) (i : ℕ) (v : Vec ℕ Global) → i < length vs → v ≡ get_or vs i v → lists (drop i vs) ≡ v.items ∷ lists (drop (i + 1) vs)
 lists_drop vs i v inside is = ap lists (drop_more vs i v inside) ∙ ap (λ (w : Vec ℕ Global). w.items ∷ lists (drop (i + 1) vs)) (sym is)

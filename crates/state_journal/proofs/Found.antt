@@ -11,9 +11,10 @@ use Rattle.zen_disk.specs.DeviceCall.{DeviceCall}
 use Rattle.zen_disk.specs.Runs.{CallsMade}
 use Rattle.gate_log.specs.Opening.{RanPartly}
 use Rattle.gate_log.specs.Folded.{both_read, read_on, found_by}
-use Rattle.gate_log.specs.Generations.{Generations, generations_of, in_use, no_generations, appended, renewed}
+use Rattle.gate_log.specs.Generations.{Generations, generations_of, in_use, no_generations, standing_in, appended, renewed}
 use Rattle.gate_log.specs.declared.why.Why.{Why as LogWhy}
 use Rattle.gate_log.proofs.Folded.{are_read, used, switched}
+use Rattle.state_journal.specs.Bodies.{holds_old}
 use Rattle.state_journal.specs.Changes.{IsEither}
 use Rattle.state_journal.specs.Journal.{record_of_bodies, on_its_side, found_in, found_of, record_of_files, records_of}
 use Rattle.state_journal.specs.declared.why.Fault.{Fault}
@@ -52,6 +53,9 @@ finds files g found is folds = ap found_in is ∙ folds
 
 pub counts : (files : Files) (g : Generations) → generations_of files ≡ Ok g → length (in_use g) ≡ records_of files
 counts files g is = ap (λ (r : Result Generations LogWhy). length (in_use (result_unwrap_or r no_generations))) (sym is)
+
+pub ages : (files : Files) (g : Generations) → generations_of files ≡ Ok g → holds_old (in_use g) ≡ holds_old (in_use (standing_in files))
+ages files g is = ap (λ (r : Result Generations LogWhy). holds_old (in_use (result_unwrap_or r no_generations))) (sym is)
 
 -- all the calls were made
 pub ran_all : {D : Type 0} (steps : D → DeviceCall → D → Bool → Type 0) (calls : List DeviceCall) (old new now : D) → now ≡ new → CallsMade steps calls old new true → RanPartly steps calls old now

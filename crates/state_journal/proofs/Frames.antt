@@ -1,30 +1,42 @@
 -- Bytes that are laid around a state are frames of bodies.
-use Rattle.std.proofs.Common.{◌≡◌, ℕ, ◌+◌, List, [], ◌∷◌, ◌++◌, length, get_or, sym, ap, ◌∙◌, arith, append_assoc}
+use Rattle.std.proofs.Common.{◌≡◌, ℕ, ◌+◌, ◌≤◌, List, [], ◌∷◌, ◌++◌, length, get_or, sym, ap, ◌∙◌, arith, length-append, append_assoc}
 use Rattle.std.specs.Int.{w32, w64, to_be_bytes}
+use Rattle.sha2.specs.Sha256.{sha256}
+use Rattle.std.proofs.lemmas.List.{append-nil}
 use Rattle.voting_config.specs.Ids.{Id, most_ids}
 use Rattle.cluster_state.specs.Field.{eight_bytes}
 use Rattle.cluster_state.specs.Fields.{ids}
 use Rattle.gate_log.specs.Journal.{framed, sized}
-use Rattle.state_journal.specs.Drafts.{generation_body}
-use Rattle.state_journal.proofs.Beginning.{length-generation}
+use Rattle.state_journal.specs.Bodies.{guarded}
+use Rattle.state_journal.specs.Drafts.{generation_front}
+use Rattle.state_journal.proofs.Spelled.{length-body}
 
-abbrev at4 : List ℕ → List ℕ → List ℕ
-at4 n rest = get_or n 0 0 ∷ get_or n 1 0 ∷ get_or n 2 0 ∷ get_or n 3 0 ∷ rest
+-- the parts of a frame, grouped as they are laid and as they are spelled
+regroup : (n before state after digest gate : List ℕ) → (n ++ before) ++ (state ++ (after ++ (digest ++ gate))) ≡ (n ++ ((before ++ (state ++ after)) ++ digest)) ++ gate
+regroup n before state after digest gate =
+    append_assoc n before (state ++ (after ++ (digest ++ gate)))
+    ∙ ap (λ (l : List ℕ). n ++ l)
+    (ap (λ (l : List ℕ). before ++ l) (sym (append_assoc state after (digest ++ gate))) ∙ sym (append_assoc before (state ++ after) (digest ++ gate)) ∙ sym (append_assoc (before ++ (state ++ after)) digest gate))
+    ∙ sym (append_assoc n ((before ++ (state ++ after)) ++ digest) gate)
+
+pub laid_frame : (before state after digest head tail frame : List ℕ) (size : ℕ) → digest ≡ sha256 (before ++ (state ++ after)) → size ≡ length before + length state + length after + 32
+    → head ≡ to_be_bytes w32 size ++ before → tail ≡ after ++ (digest ++ 0 ∷ []) → frame ≡ head ++ (state ++ tail) → frame ≡ framed (guarded (before ++ (state ++ after)))
+unfolding framed sized guarded
+laid_frame before state after digest head tail frame size digest_is size_is head_is tail_is is =
+    let front = before ++ (state ++ after) in
+    let count : size ≡ length (guarded front) = omega (arith, size_is, length-body front, length-append before (state ++ after), length-append state after) in
+    is ∙ (λ i. head_is i ++ (state ++ tail_is i))
+    ∙ (λ i. (to_be_bytes w32 (count i) ++ before) ++ (state ++ (after ++ (digest_is i ++ 0 ∷ []))))
+    ∙ regroup (to_be_bytes w32 (length (guarded front))) before state after (sha256 front) (0 ∷ [])
 
 abbrev at8 : List ℕ → List ℕ → List ℕ
 at8 n rest = get_or n 0 0 ∷ get_or n 1 0 ∷ get_or n 2 0 ∷ get_or n 3 0 ∷ get_or n 4 0 ∷ get_or n 5 0 ∷ get_or n 6 0 ∷ get_or n 7 0 ∷ rest
 
-pub accepted_frame : (n state frame : List ℕ) (size : ℕ) → n ≡ to_be_bytes w32 (size + 1) → size ≡ length state → frame ≡ at4 n (2 ∷ (state ++ 0 ∷ [])) → frame ≡ framed (2 ∷ state)
-unfolding framed sized
-accepted_frame n state frame size n_is size_is is =
-    let count : size + 1 ≡ length (2 ∷ state) = omega (arith, size_is) in
-    is ∙ ap (λ (l : List ℕ). at4 l (2 ∷ (state ++ 0 ∷ []))) (n_is ∙ ap (to_be_bytes w32) count)
+pub generation_frame : (e t state after frame : List ℕ) (epoch term : ℕ) (committed : List Id) → e ≡ to_be_bytes w64 epoch → t ≡ to_be_bytes w64 term → after ≡ (ids most_ids).spelling committed
+    → frame ≡ framed (guarded (132 ∷ at8 e (at8 t (state ++ after)))) → frame ≡ framed (guarded (generation_front epoch term state committed))
+unfolding eight_bytes
+generation_frame e t state after frame epoch term committed e_is t_is after_is is = is ∙ (λ i. framed (guarded (132 ∷ at8 (e_is i) (at8 (t_is i) (state ++ after_is i)))))
 
-pub generation_frame : (n e t state tail frame : List ℕ) (epoch term len : ℕ) (committed : List Id) → n ≡ to_be_bytes w32 len → e ≡ to_be_bytes w64 epoch → t ≡ to_be_bytes w64 term
-    → len ≡ 17 + length state + length ((ids most_ids).spelling committed) → tail ≡ (ids most_ids).spelling committed ++ 0 ∷ []
-    → frame ≡ at4 n (4 ∷ at8 e (at8 t (state ++ tail))) → frame ≡ framed (generation_body epoch term state committed)
-unfolding framed sized eight_bytes
-generation_frame n e t state tail frame epoch term len committed n_is e_is t_is len_is tail_is is =
-    let count : len ≡ length (generation_body epoch term state committed) = len_is ∙ sym (length-generation epoch term state committed) in
-    is ∙ (λ i. at4 ((n_is ∙ ap (to_be_bytes w32) count) i) (4 ∷ at8 (e_is i) (at8 (t_is i) (state ++ tail_is i))))
-    ∙ ap (λ (l : List ℕ). at4 (to_be_bytes w32 (length (generation_body epoch term state committed))) (4 ∷ at8 (to_be_bytes w64 epoch) (at8 (to_be_bytes w64 term) l))) (sym (append_assoc state ((ids most_ids).spelling committed) (0 ∷ [])))
+-- the state alone behind its tag
+pub accepted_front : (state frame : List ℕ) → frame ≡ framed (guarded (130 ∷ (state ++ []))) → frame ≡ framed (guarded (130 ∷ state))
+accepted_front state frame is = is ∙ ap (λ (l : List ℕ). framed (guarded (130 ∷ l))) (append-nil state)

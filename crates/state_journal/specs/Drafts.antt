@@ -16,9 +16,9 @@ pub record Drafted : Type 0 where
 abbrev pub room_before : ℕ
 room_before = 21
 
--- and after it: a committed configuration and the closed gate
+-- and after it: a committed configuration, the digest and the closed gate
 abbrev pub room_behind : ℕ
-room_behind = 1058
+room_behind = 1090
 
 -- no state is spelled by more bytes
 abbrev pub most_state_bytes : ℕ
@@ -44,6 +44,7 @@ pub record MayBegin (kept : Kept) : Type 0 where
   pub named : (ids most_ids).Fits kept.committed
   pub older : kept.accepted.term ≤ kept.term
 
--- the body of a generation with this epoch and this term, a state of these bytes and this committed configuration
-abbrev pub generation_body : ℕ → ℕ → List ℕ → List Id → List ℕ
-generation_body epoch t accepted committed = 4 ∷ (version.spelling epoch ++ (term.spelling t ++ (accepted ++ (ids most_ids).spelling committed)))
+-- what stands before the digest in the body of a generation with this epoch and this term, a state of these bytes and this committed
+-- configuration
+abbrev pub generation_front : ℕ → ℕ → List ℕ → List Id → List ℕ
+generation_front epoch t accepted committed = 132 ∷ (version.spelling epoch ++ (term.spelling t ++ (accepted ++ (ids most_ids).spelling committed)))

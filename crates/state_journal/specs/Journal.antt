@@ -1,5 +1,5 @@
 -- Part of the statement: the record that a journal stands for.
-use Rattle.std.specs.Prelude.{◌≡◌, ℕ, ◌+◌, List, [], ◌∷◌, length, nat_lt, nat_le, Bool, true, Option, Some, Result, Ok, Err, if◌then◌else◌}
+use Rattle.std.specs.Prelude.{◌≡◌, ℕ, ◌+◌, List, [], ◌∷◌, length, nat_lt, nat_le, Bool, true, false, not, ◌&&◌, Option, Some, None, Result, Ok, Err, if◌then◌else◌}
 use Rattle.std.specs.Result.{result_ok}
 use Rattle.std.proofs.Common.{◌∙◌, ap, sym}
 use Rattle.zen_disk.specs.Moments.{Only}
@@ -13,7 +13,7 @@ use Rattle.gate_log.specs.declared.why.Fault.{Fault as LogFault}
 use Rattle.gate_log.specs.declared.why.Fault.TheVariants as log_fault
 use Rattle.gate_log.specs.declared.why.Why.{Why as LogWhy}
 use Rattle.gate_log.specs.declared.why.Why.TheVariants as log
-use Rattle.state_journal.specs.Bodies.{change_at}
+use Rattle.state_journal.specs.Bodies.{is_guarded, guard_fault, change_at}
 use Rattle.state_journal.specs.Changes.{changed}
 use Rattle.state_journal.specs.declared.change.Change.{Change}
 use Rattle.state_journal.specs.declared.change.Change.TheVariants.{Term, Accepted, Committed, Renewed}
@@ -30,23 +30,32 @@ in_order kept (Accepted state) = nat_le state.term kept.term
 in_order kept Committed = true
 in_order kept (Renewed generation) = nat_le generation.kept.accepted.term generation.kept.term
 
--- the record with what a body holds, whose gate stands at p
-unfoldable pub with_body : ℕ → Kept → Result Change BodyFault → Result Kept Fault
-with_body p kept (Ok change) = if in_order kept change then Ok (changed kept change) else Err (Order p)
-with_body p kept (Err fault) = Err (Body p fault)
+-- the record with what a body spells, whose gate stands at p; a body of version 1 that comes late, after one of version 2, is not in order
+unfoldable pub with_change : ℕ → (late : Bool) → Kept → Result Change BodyFault → Result Kept Fault
+with_change p late kept (Ok change) = if late then Err (Order p) else if in_order kept change then Ok (changed kept change) else Err (Order p)
+with_change p late kept (Err fault) = Err (Body p fault)
+
+abbrev pub unless : Option Fault → Result Kept Fault → Result Kept Fault
+unless None read = read
+unless (Some fault) read = Err fault
+
+-- The record with a body whose gate stands at p, or its first fault, of which that of its digest comes first. It may come after one
+-- of version 2.
+abbrev pub with_body : ℕ → (after : Bool) → Kept → List ℕ → Result Kept Fault
+with_body p after kept body = unless (guard_fault p body) (with_change p (after && not (is_guarded body)) kept (change_at body))
 
 abbrev pub goes_on_with : (Kept → Result Kept Fault) → Result Kept Fault → Result Kept Fault
 goes_on_with more (Ok kept) = more kept
 goes_on_with more (Err why) = Err why
 
 -- the record with these bodies, of which the first one's gate stands at p, or the first fault
-unfoldable pub folded_from : ℕ → Kept → List (List ℕ) → Result Kept Fault
-folded_from p kept [] = Ok kept
-folded_from p kept (body ∷ bodies) = goes_on_with (λ (k : Kept). folded_from (p + 5 + length body) k bodies) (with_body p kept (change_at body))
+unfoldable pub folded_from : ℕ → (after : Bool) → Kept → List (List ℕ) → Result Kept Fault
+folded_from p after kept [] = Ok kept
+folded_from p after kept (body ∷ bodies) = goes_on_with (λ (k : Kept). folded_from (p + 5 + length body) (is_guarded body) k bodies) (with_body p after kept body)
 
 -- the record of the bodies of one side, or its first fault
 abbrev pub record_of_bodies : List (List ℕ) → Result Kept Fault
-record_of_bodies bodies = folded_from 8 empty_record bodies
+record_of_bodies bodies = folded_from 8 false empty_record bodies
 
 abbrev pub fault_by : LogFault → Fault
 fault_by log_fault.Header = Header

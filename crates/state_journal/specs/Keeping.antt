@@ -6,10 +6,10 @@ use Rattle.cluster_state.specs.declared.state.Kept.{Kept}
 use Rattle.zen_disk.specs.DeviceCall.{DeviceCall}
 use Rattle.zen_disk.specs.Sides.{Files, other}
 use Rattle.gate_log.specs.Calls.{append_calls, renewal_calls}
-use Rattle.gate_log.specs.Generations.{Generations, appended, renewed, IsAppended, IsRenewed}
+use Rattle.gate_log.specs.Generations.{Generations, in_use, appended, renewed, IsAppended, IsRenewed}
 use Rattle.gate_log.specs.Journal.{framed}
-use Rattle.gate_log.specs.Place.{Place, renews}
-use Rattle.state_journal.specs.Bodies.{body_of}
+use Rattle.gate_log.specs.Place.{Place, place_of, renews}
+use Rattle.state_journal.specs.Bodies.{body_of, holds_old}
 use Rattle.state_journal.specs.Changes.{changed}
 use Rattle.state_journal.specs.declared.change.Change.{Change}
 use Rattle.state_journal.specs.declared.change.Change.TheVariants.{Renewed}
@@ -27,9 +27,14 @@ writing_calls renewing p body generation =
     if renewing then renewal_calls (other p.side) p.other_gate (framed generation)
     else append_calls p.side p.gate (framed body)
 
--- A change is appended to the side in use, or the record with it begins the next generation on the other side.
-abbrev pub keeping_calls : Place → Kept → Change → List DeviceCall
-keeping_calls p kept change = writing_calls (renews p (body_of change)) p (body_of change) (generation_after p (changed kept change))
+-- A change is appended to the side in use, or the record with it begins the next generation on the other side, as it does where one is
+-- due.
+abbrev pub keeping_calls : (due : Bool) → Place → Kept → Change → List DeviceCall
+keeping_calls due p kept change = writing_calls (renews due p (body_of change)) p (body_of change) (generation_after p (changed kept change))
+
+-- The same where these generations stand: one is due where a body of version 1 is in use.
+abbrev pub keeping_calls_in : Generations → Kept → Change → List DeviceCall
+keeping_calls_in g kept change = keeping_calls (holds_old (in_use g)) (place_of g) kept change
 
 -- what stands after either
 abbrev pub written_in : Bool → Generations → (body generation : List ℕ) → Generations

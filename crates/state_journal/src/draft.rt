@@ -1,16 +1,21 @@
 //! The bytes of a state, laid out so that it can be framed in no memory.
-ghost use Rattle.std.specs.Prelude.{◌≡◌, ◌≤◌, ◌+◌, ◌-◌, ◌++◌, ◌∷◌, [], length, IfOk};
+ghost use Rattle.std.specs.Int.{w32, to_be_bytes};
+ghost use Rattle.std.specs.Prelude.{◌≡◌, ◌≤◌, ◌+◌, ◌-◌, ◌++◌, ◌∷◌, [], length, List, ℕ, IfOk};
 ghost use Rattle.arrayvec.specs.ArrayVec.{array_vec_len};
 ghost use Rattle.cluster_state.specs.Fields.{id, ids};
 ghost use Rattle.cluster_state.specs.States.{IsFit};
 ghost use Rattle.gate_log.specs.Journal.{framed};
-ghost use Rattle.state_journal.specs.Drafts.{IsDraft, generation_body, room_before, room_behind, most_state_bytes};
+ghost use Rattle.sha2.specs.Sha256.{sha256};
+ghost use Rattle.state_journal.specs.Bodies.{guarded};
+ghost use Rattle.state_journal.specs.Drafts.{IsDraft, generation_front, room_before, room_behind, most_state_bytes};
 ghost use Rattle.voting_config.specs.Ids.{most_ids};
 ghost use Rattle.zen_disk.specs.Disk.{part, written};
 
+use crate::body::DIGEST;
 use arrayvec::ArrayVec;
 use cluster_state::ClusterState;
 use cluster_state::encoding::write_state;
+use sha2::{Digest, Sha256};
 use std::alloc::{AllocError, Global};
 use std::marker::Model;
 use voting_config::{NodeId, NodeSet, VotingConfig};
@@ -18,8 +23,11 @@ use voting_config::{NodeId, NodeSet, VotingConfig};
 // Where the state begins: after the length, the tag, the epoch and the term of a generation.
 const STATE_AT: usize = 21;
 
-// A committed configuration takes 1,057 bytes at most, and the closed gate after it one.
-const ROOM: usize = 1058;
+// A committed configuration takes 1,057 bytes at most.
+const SET: usize = 1057;
+
+// After it stand the digest and the closed gate.
+const ROOM: usize = SET + 33;
 
 // Enough for most states, so that the bytes are not moved as they are written.
 const FIRST_CAPACITY: usize = 2048;
@@ -48,8 +56,8 @@ impl Model for Draft {
 }
 
 // An id after those that stand there.
-fn put_id(out: &mut ArrayVec<u8, ROOM>, node: NodeId)
-    requires { array_vec_len out.old + 33 ≤ room_behind }
+fn put_id(out: &mut ArrayVec<u8, SET>, node: NodeId)
+    requires { array_vec_len out.old + 33 ≤ 1057 }
     ensures items { out.new.items ≡ out.old.items ++ id.spelling node }
     ensures room { array_vec_len out.new ≤ array_vec_len out.old + 33 }
 {
@@ -61,20 +69,53 @@ fn put_id(out: &mut ArrayVec<u8, ROOM>, node: NodeId)
     }
 }
 
-// A set of ids with a closed gate after it.
-fn set_and_gate(set: &NodeSet) -> ArrayVec<u8, ROOM>
-    ensures items { result.items ≡ (ids most_ids).spelling set.now ++ 0 ∷ [] }
+// The bytes of a set of ids.
+fn set_bytes(set: &NodeSet) -> ArrayVec<u8, SET>
+    ensures items { result.items ≡ (ids most_ids).spelling set.now }
     ensures fits { (ids most_ids).Fits set.now }
-    ensures length { array_vec_len result ≡ length ((ids most_ids).spelling set.now) + 1 }
 {
     let nodes = set.as_slice();
-    let mut out: ArrayVec<u8, ROOM> = ArrayVec::new();
+    let mut out: ArrayVec<u8, SET> = ArrayVec::new();
     out.push(nodes.len() as u8);
     for node in nodes {
         put_id(&mut out, *node);
     }
-    out.push(0);
     out
+}
+
+// What stands before a state: the length of a body, and the bytes that the body begins with.
+fn head_of(size: u32, before: &[u8]) -> ArrayVec<u8, STATE_AT>
+    requires { length before.now ≤ 17 }
+    ensures { result.items ≡ to_be_bytes w32 size ++ before.now }
+{
+    let mut head: ArrayVec<u8, STATE_AT> = ArrayVec::new();
+    match head.try_extend_from_slice(&size.to_be_bytes()) {
+        Ok(()) => {}
+        Err(_) => unreachable!(),
+    }
+    match head.try_extend_from_slice(before) {
+        Ok(()) => {}
+        Err(_) => unreachable!(),
+    }
+    head
+}
+
+// What stands after it: the other fields of the body, its digest, and a closed gate.
+fn tail_of(after: &[u8], digest: &[u8; 32]) -> ArrayVec<u8, ROOM>
+    requires { length after.now ≤ 1057 }
+    ensures { result.items ≡ after.now ++ (digest.now ++ 0 ∷ []) }
+{
+    let mut tail: ArrayVec<u8, ROOM> = ArrayVec::new();
+    match tail.try_extend_from_slice(after) {
+        Ok(()) => {}
+        Err(_) => unreachable!(),
+    }
+    match tail.try_extend_from_slice(digest) {
+        Ok(()) => {}
+        Err(_) => unreachable!(),
+    }
+    tail.push(0);
+    tail
 }
 
 // Puts bytes in place of others.
@@ -145,8 +186,19 @@ impl Draft {
         &self.bytes[self.start..self.start + self.len]
     }
 
+    // The SHA-256 of the state between these bytes.
+    fn digest(&self, before: &[u8], after: &[u8]) -> [u8; 32]
+        ensures { result ≡ sha256 (before.now ++ (self.now.state ++ after.now)) }
+    {
+        let mut hasher = Sha256::new();
+        hasher.update(before);
+        hasher.update(&self.bytes[STATE_AT..STATE_AT + self.size]);
+        hasher.update(after);
+        hasher.finalize()
+    }
+
     // Lays a frame: the state between these bytes.
-    fn lay(&mut self, head: &[u8], tail: &[u8])
+    fn put_around(&mut self, head: &[u8], tail: &[u8])
         requires head { length head.now ≤ room_before }
         requires tail { length tail.now ≤ room_behind }
         ensures frame { self.new.frame ≡ head.now ++ (self.old.state ++ tail.now) }
@@ -157,34 +209,47 @@ impl Draft {
         self.len = head.len() + self.size + tail.len();
     }
 
-    // Lays the body that accepts the state, with its length and a closed gate.
-    #[tactic(auto, unfolding(gate_log::specs::Journal::framed, gate_log::specs::Journal::sized))]
-    pub(crate) fn lay_accepted(&mut self)
-        requires { length self.old.state ≤ most_state_bytes }
-        ensures frame { self.new.frame ≡ framed (2 ∷ self.old.state) }
+    // Lays a body of version 2 that is the state between these bytes, with its length and a closed gate.
+    fn lay(&mut self, before: &[u8], after: &[u8])
+        requires before { length before.now ≤ 17 }
+        requires after { length after.now ≤ 1057 }
+        requires state { length self.old.state ≤ most_state_bytes }
+        ensures frame { self.new.frame ≡ framed (guarded (before.now ++ (self.old.state ++ after.now))) }
         ensures same { self.new.state ≡ self.old.state }
     {
-        let n = (self.len() as u32 + 1).to_be_bytes();
-        self.lay(&[n[0], n[1], n[2], n[3], 2], &[0]);
+        let digest = self.digest(before, after);
+        let size = before.len() + self.len() + after.len() + DIGEST;
+        let head = head_of(size as u32, before);
+        let tail = tail_of(after, &digest);
+        self.put_around(&head, &tail);
+    }
+
+    // Lays the body that accepts the state, with its length and a closed gate.
+    #[tactic(auto, using(crate::proofs::Frames::accepted_front))]
+    pub(crate) fn lay_accepted(&mut self)
+        requires { length self.old.state ≤ most_state_bytes }
+        ensures frame { self.new.frame ≡ framed (guarded (130 ∷ self.old.state)) }
+        ensures same { self.new.state ≡ self.old.state }
+    {
+        self.lay(&[130], &[]);
     }
 
     // Lays the body that begins a generation with this epoch and term, the state and this committed configuration, with its length and
     // a closed gate.
-    #[tactic(auto, unfolding(gate_log::specs::Journal::framed, gate_log::specs::Journal::sized, cluster_state::specs::Field::eight_bytes))]
+    #[tactic(auto, unfolding(cluster_state::specs::Field::eight_bytes))]
     pub(crate) fn lay_generation(&mut self, epoch: u64, term: u64, committed: &VotingConfig)
         requires { length self.old.state ≤ most_state_bytes }
-        ensures frame { self.new.frame ≡ framed (generation_body epoch term self.old.state committed.now) }
+        ensures frame { self.new.frame ≡ framed (guarded (generation_front epoch term self.old.state committed.now)) }
         ensures fits { (ids most_ids).Fits committed.now }
         ensures same { self.new.state ≡ self.old.state }
     {
-        let tail = set_and_gate(committed.members());
-        let n = ((16 + self.len() + tail.len()) as u32).to_be_bytes();
+        let after = set_bytes(committed.members());
         let e = epoch.to_be_bytes();
         let t = term.to_be_bytes();
-        let head = [
-            n[0], n[1], n[2], n[3], 4, e[0], e[1], e[2], e[3], e[4], e[5], e[6], e[7], t[0], t[1],
-            t[2], t[3], t[4], t[5], t[6], t[7],
+        let before = [
+            132, e[0], e[1], e[2], e[3], e[4], e[5], e[6], e[7], t[0], t[1], t[2], t[3], t[4],
+            t[5], t[6], t[7],
         ];
-        self.lay(&head, &tail);
+        self.lay(&before, &after);
     }
 }

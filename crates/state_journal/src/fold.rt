@@ -1,14 +1,14 @@
 //! The record that the bodies of a journal make.
-ghost use Rattle.std.specs.Prelude.{◌≡◌, Ok, IfOk};
+ghost use Rattle.std.specs.Prelude.{◌≡◌, Ok, IfOk, ◌&&◌, not, false};
 ghost use Rattle.cluster_state.specs.Initial.{empty_record};
 ghost use Rattle.gate_log.specs.Folded.{found_by};
 ghost use Rattle.gate_log.specs.Opened.{lists, generations_in};
-ghost use Rattle.state_journal.specs.Bodies.{change_at};
-ghost use Rattle.state_journal.specs.Journal.{with_body, folded_from, record_of_bodies, on_its_side};
+ghost use Rattle.state_journal.specs.Bodies.{is_guarded as spec_is_guarded, change_at};
+ghost use Rattle.state_journal.specs.Journal.{with_change, with_body, folded_from, record_of_bodies, on_its_side};
 ghost use Rattle.state_journal.specs.Reads.{error_at, error_on, IsFitChange, IsFitRecord, ReadsRecord, FindsRecord};
 ghost use Rattle.state_journal.specs.declared.fold.FoldError.TheVariants as fold_error;
 
-use crate::body::{BodyError, read_body};
+use crate::body::{BodyError, guard_fault, is_guarded, read_body};
 use crate::{Change, Fault, Why};
 use cluster_state::Kept;
 use std::alloc::{AllocError, Global};
@@ -64,14 +64,17 @@ fn error_of(error: BodyError, at: u64) -> FoldError
     }
 }
 
-// The record with a change whose gate stands at this offset.
-#[tactic(auto, unfolding(crate::specs::Journal::with_body))]
-fn apply(kept: Kept, change: Change, at: u64) -> Result<Kept, Fault>
+// The record with a change whose gate stands at this offset, and whose body may come too late.
+#[tactic(auto, unfolding(crate::specs::Journal::with_change))]
+fn apply(kept: Kept, change: Change, at: u64, late: bool) -> Result<Kept, Fault>
     requires kept { IsFitRecord kept }
     requires change { IsFitChange change }
-    ensures next { result ≡ with_body at kept (Ok change) }
+    ensures next { result ≡ with_change at late kept (Ok change) }
     ensures fit { IfOk result IsFitRecord }
 {
+    if late {
+        return Err(Fault::Order(at));
+    }
     let mut kept = kept;
     match change {
         Change::Term(term) => {
@@ -97,31 +100,52 @@ fn apply(kept: Kept, change: Change, at: u64) -> Result<Kept, Fault>
     Ok(kept)
 }
 
-// The record with a body whose gate stands at this offset.
+// The record with what a body spells, whose gate stands at this offset.
 #[tactic(auto, using(crate::proofs::Folds::error_with))]
-fn add_body(alloc: Global, kept: Kept, body: &[u8], at: u64) -> Result<Kept, FoldError>
+fn add_change(
+    alloc: Global,
+    kept: Kept,
+    body: &[u8],
+    at: u64,
+    late: bool,
+) -> Result<Kept, FoldError>
     requires { IsFitRecord kept }
-    ensures reads { ReadsRecord result (with_body at kept (change_at body.now)) }
+    ensures reads { ReadsRecord result (with_change at late kept (change_at body.now)) }
     ensures fit { IfOk result IsFitRecord }
 {
     match read_body(alloc, body) {
-        Ok(change) => Ok(apply(kept, change, at)?),
+        Ok(change) => Ok(apply(kept, change, at, late)?),
         Err(error) => Err(error_of(error, at)),
     }
 }
 
+// The record with a body whose gate stands at this offset, and which may come after one of version 2.
+fn add_body(alloc: Global, kept: Kept, body: &[u8], at: u64, after: bool) -> Result<Kept, FoldError>
+    requires { IsFitRecord kept }
+    ensures reads { ReadsRecord result (with_body at after kept body.now) }
+    ensures fit { IfOk result IsFitRecord }
+{
+    if let Some(fault) = guard_fault(at, body) {
+        return Err(FoldError::Fault(fault));
+    }
+    let late = after && !is_guarded(body);
+    add_change(alloc, kept, body, at, late)
+}
+
 // The record that these bodies of one side make, all of them.
 fn fold_bodies(alloc: Global, bodies: &[Vec<u8>]) -> Result<Kept, FoldError>
-    ensures reads { ReadsRecord result (folded_from 8 empty_record (lists bodies.now)) }
+    ensures reads { ReadsRecord result (folded_from 8 false empty_record (lists bodies.now)) }
     ensures fit { IfOk result IsFitRecord }
 {
     let mut kept = Kept::empty(alloc)?;
     let mut at: u64 = 8;
+    let mut after = false;
     for body in bodies {
-        kept = match add_body(alloc, kept, body, at) {
+        kept = match add_body(alloc, kept, body, at, after) {
             Ok(next) => next,
             Err(error) => return Err(error),
         };
+        after = is_guarded(body);
         // No memory holds bodies that are too many for an offset.
         let Some(next) = at.checked_add(5 + body.len() as u64) else {
             return Err(FoldError::Memory);

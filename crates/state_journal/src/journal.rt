@@ -3,20 +3,21 @@ ghost use Rattle.std.specs.Prelude.{◌≡◌, ◌≤◌, true, false, length, O
 ghost use Rattle.cluster_state.specs.Field.{last_number};
 ghost use Rattle.cluster_state.specs.States.{IsFit};
 ghost use Rattle.gate_log.specs.Calls.{both_opening_calls};
-ghost use Rattle.gate_log.specs.Generations.{in_use};
-ghost use Rattle.gate_log.specs.Opened.{generations_in};
+ghost use Rattle.gate_log.specs.Generations.{in_use, standing_in};
+ghost use Rattle.gate_log.specs.Opened.{generations_in, lists};
 ghost use Rattle.gate_log.specs.Place.{place};
 ghost use Rattle.zen_disk.specs.Moments.{LeavesOnly};
 ghost use Rattle.zen_disk.specs.Runs.{CallsMade};
+ghost use Rattle.state_journal.specs.Bodies.{holds_old as spec_holds_old};
 ghost use Rattle.state_journal.specs.Drafts.{IsDraft};
 ghost use Rattle.state_journal.specs.Fit.{IsFit-prop, IsDraft-prop};
 ghost use Rattle.state_journal.specs.Keeping.{keeping_calls};
 ghost use Rattle.state_journal.specs.Journal.{found_of, records_of, only_record, record_stays, FoundAsSome, StoodFor};
 
-use crate::body::{committed_body, term_body};
+use crate::body::{committed_body, is_guarded, term_body};
 use crate::draft::Draft;
 use crate::fold::{FoundError, fold_sides};
-use crate::keep::{keep_small, keep_state, records_after};
+use crate::keep::{due_after, keep_small, keep_state, records_after};
 use crate::refusal::refused;
 use crate::{ArmKeeper, KeepError, Keeper, OpenError, Ready};
 use cluster_state::Kept;
@@ -27,17 +28,20 @@ use zen_disk::{Armable, Disks, Order, Side};
 /// A keeper over a journal in two generations, in which each change is a body.
 ///
 /// Where a change would make the bodies after the record that a generation began with take more than 65,536 bytes, the record with
-/// the change begins the next generation, in the other file.
+/// the change begins the next generation, in the other file. The same holds of the first change after a body of version 1.
 #[derive(Drop)]
 pub struct StateJournal<D: Disks> {
     log: GateLog<D>,
     kept: Kept,
     // how many bodies are in use
     records: u64,
+    // whether one of them is of version 1: then a generation is due
+    due: bool,
     // the accepted state, ready to begin a generation
     draft: Draft,
     ghost stands: { D.told → log.stopped ≡ false → found_of (D.seen log.disk) ≡ Ok kept },
     ghost counted: { D.told → log.stopped ≡ false → records ≡ records_of (D.seen log.disk) },
+    ghost aged: { D.told → log.stopped ≡ false → due ≡ spec_holds_old (in_use (standing_in (D.seen log.disk))) },
     ghost bounded: { kept.term ≤ last_number },
     ghost fit: { IsFit kept.accepted } by { IsFit-prop kept.accepted },
     ghost older: { kept.accepted.term ≤ kept.term },
@@ -51,6 +55,28 @@ fn count_in_use(side: Side, zero: &[Vec<u8>], one: &[Vec<u8>]) -> u64
     match side {
         Side::Zero => zero.len() as u64,
         Side::One => one.len() as u64,
+    }
+}
+
+// Whether one of these bodies is of version 1.
+fn holds_old(bodies: &[Vec<u8>]) -> bool
+    ensures { result ≡ spec_holds_old (lists bodies.now) }
+{
+    for body in bodies {
+        if !is_guarded(body) {
+            return true;
+        }
+    }
+    false
+}
+
+// Whether one of the bodies of the side in use is of version 1.
+fn old_in_use(side: Side, zero: &[Vec<u8>], one: &[Vec<u8>]) -> bool
+    ensures { result ≡ spec_holds_old (in_use (generations_in side zero.now one.now)) }
+{
+    match side {
+        Side::Zero => holds_old(zero),
+        Side::One => holds_old(one),
     }
 }
 
@@ -96,10 +122,12 @@ impl<D: Disks> StateJournal<D> {
             return Err(OpenError::Memory(opened.log.into_disk()));
         };
         let records = count_in_use(opened.log.side(), &opened.zero, &opened.one);
+        let due = old_in_use(opened.log.side(), &opened.zero, &opened.one);
         Ok(StateJournal {
             log: opened.log,
             kept,
             records,
+            due,
             draft,
         })
     }
@@ -139,7 +167,7 @@ impl<D: Disks> Keeper for StateJournal<D> {
 
     ghost left_since = { λ j. StoodFor (D.left_since j.log.disk) };
 
-    ghost writes = { λ j change k ok. CallsMade D.steps (keeping_calls (place j.log) j.kept change) j.log.disk k.log.disk ok };
+    ghost writes = { λ j change k ok. CallsMade D.steps (keeping_calls j.due (place j.log) j.kept change) j.log.disk k.log.disk ok };
 
     ghost only_kept = { λ j found told running left.
         only_record (D.seen j.log.disk) (D.left_since j.log.disk (D.moment j.log.disk)) (D.may_leave j.log.disk) j.kept found (D.only_now j.log.disk) (j.log.settled told running).durable (j.stands told running) left };
@@ -160,10 +188,12 @@ impl<D: Disks> Keeper for StateJournal<D> {
             return Err(KeepError::Stopped);
         }
         let body = term_body(term);
-        let records = records_after(&self.log, self.records, body.len());
+        let records = records_after(&self.log, self.due, self.records, body.len());
+        let due = due_after(&self.log, self.due, body.len());
         let Ok(()) = keep_small(
             &mut self.log,
             &mut self.draft,
+            self.due,
             &body,
             term,
             &self.kept.committed,
@@ -172,6 +202,7 @@ impl<D: Disks> Keeper for StateJournal<D> {
         };
         self.kept.term = term;
         self.records = records;
+        self.due = due;
         Ok(())
     }
 
@@ -180,13 +211,21 @@ impl<D: Disks> Keeper for StateJournal<D> {
             return Err(KeepError::Stopped);
         }
         let Ready { state, mut draft } = ready;
-        let records = records_after(&self.log, self.records, draft.len() + 1);
-        let Ok(()) = keep_state(&mut self.log, &mut draft, self.kept.term, &state.committed) else {
+        let records = records_after(&self.log, self.due, self.records, draft.len() + 33);
+        let due = due_after(&self.log, self.due, draft.len() + 33);
+        let Ok(()) = keep_state(
+            &mut self.log,
+            &mut draft,
+            self.due,
+            self.kept.term,
+            &state.committed,
+        ) else {
             return Err(KeepError::Disk);
         };
         self.kept.accept(state);
         self.draft = draft;
         self.records = records;
+        self.due = due;
         Ok(())
     }
 
@@ -195,10 +234,12 @@ impl<D: Disks> Keeper for StateJournal<D> {
             return Err(KeepError::Stopped);
         }
         let body = committed_body();
-        let records = records_after(&self.log, self.records, body.len());
+        let records = records_after(&self.log, self.due, self.records, body.len());
+        let due = due_after(&self.log, self.due, body.len());
         let Ok(()) = keep_small(
             &mut self.log,
             &mut self.draft,
+            self.due,
             &body,
             self.kept.term,
             &self.kept.accepted.config,
@@ -207,13 +248,14 @@ impl<D: Disks> Keeper for StateJournal<D> {
         };
         self.kept.commit();
         self.records = records;
+        self.due = due;
         Ok(())
     }
 }
 
 impl<D: Armable> ArmKeeper for StateJournal<D> {
     ghost arms = { λ j order k. D.arms j.log.disk order k.log.disk × (place k.log ≡ place j.log)
-        × (k.log.stopped ≡ j.log.stopped) × (k.kept ≡ j.kept) × (k.records ≡ j.records) };
+        × (k.log.stopped ≡ j.log.stopped) × (k.kept ≡ j.kept) × (k.records ≡ j.records) × (k.due ≡ j.due) };
 
     fn arm(&mut self, order: Order) {
         self.log.arm(order);

@@ -1,5 +1,5 @@
 //! How a body is kept: it is appended to the side in use, or the record with it begins a generation on the other side.
-ghost use Rattle.std.specs.Prelude.{◌≡◌, ◌+◌, ◌-◌, ◌<◌, ◌≤◌, ◌^◌, true, false, ℕ, List, length, is_ok, IsErr, IsErrOf, OnOk, min};
+ghost use Rattle.std.specs.Prelude.{◌≡◌, ◌+◌, ◌-◌, ◌<◌, ◌≤◌, ◌^◌, true, false, ◌&&◌, not, ℕ, List, length, is_ok, IsErr, IsErrOf, OnOk, min};
 ghost use Rattle.cluster_state.specs.Fields.{ids};
 ghost use Rattle.cluster_state.specs.declared.state.ClusterState.{ClusterState};
 ghost use Rattle.gate_log.specs.Calls.{renewal_calls};
@@ -24,25 +24,33 @@ use zen_disk::Disks;
 // How many bytes the bodies after a generation take at most.
 const MAX_TAIL: u64 = 65_536;
 
-// Whether a body of this length begins a generation.
-fn begins<D: Disks>(log: &GateLog<D>, len: usize) -> bool
+// Whether a body of this length begins a generation, which may be due.
+fn begins<D: Disks>(log: &GateLog<D>, due: bool, len: usize) -> bool
     requires { len ≤ most_body }
-    ensures { (body : List ℕ) → length body ≡ len → result ≡ renews (place log.now) body }
+    ensures { (body : List ℕ) → length body ≡ len → result ≡ renews due (place log.now) body }
 {
-    MAX_TAIL < log.tail() + 5 + len as u64 && log.epoch() < LAST_EPOCH
+    (due || MAX_TAIL < log.tail() + 5 + len as u64) && log.epoch() < LAST_EPOCH
 }
 
 // How many bodies are in use after one of this length is kept.
-pub(crate) fn records_after<D: Disks>(log: &GateLog<D>, records: u64, len: usize) -> u64
+pub(crate) fn records_after<D: Disks>(log: &GateLog<D>, due: bool, records: u64, len: usize) -> u64
     requires { len ≤ most_body }
-    ensures one { (body : List ℕ) → length body ≡ len → renews (place log.now) body ≡ true → result ≡ 1 }
-    ensures more { (body : List ℕ) → length body ≡ len → renews (place log.now) body ≡ false → result ≡ min (records + 1) (2 ^ 64 - 1) }
+    ensures one { (body : List ℕ) → length body ≡ len → renews due (place log.now) body ≡ true → result ≡ 1 }
+    ensures more { (body : List ℕ) → length body ≡ len → renews due (place log.now) body ≡ false → result ≡ min (records + 1) (2 ^ 64 - 1) }
 {
-    if begins(log, len) {
+    if begins(log, due, len) {
         1
     } else {
         records.saturating_add(1)
     }
+}
+
+// Whether a generation is due still after a body of this length is kept.
+pub(crate) fn due_after<D: Disks>(log: &GateLog<D>, due: bool, len: usize) -> bool
+    requires { len ≤ most_body }
+    ensures { (body : List ℕ) → length body ≡ len → result ≡ (due && not (renews due (place log.now) body)) }
+{
+    due && !begins(log, due, len)
 }
 
 // Begins the next generation with the record of this term, the draft's state and this committed configuration.
@@ -80,6 +88,7 @@ fn begin<D: Disks>(
 pub(crate) fn keep_small<D: Disks>(
     log: &mut GateLog<D>,
     draft: &mut Draft,
+    due: bool,
     body: &[u8],
     term: u64,
     committed: &VotingConfig,
@@ -91,7 +100,7 @@ pub(crate) fn keep_small<D: Disks>(
     ensures ok { D.told → (s : ClusterState) → IsDraft s draft.old
         → let p = place log.old in let next = record_with term s committed.now in
         OnOk result (standing_in (D.seen log.new.disk)
-        ≡ written_in (renews p body.now) (standing_in (D.seen log.old.disk)) body.now (generation_after p next)) }
+        ≡ written_in (renews due p body.now) (standing_in (D.seen log.old.disk)) body.now (generation_after p next)) }
     ensures only { IsErr result → IsErrOf result AppendError.Disk }
     ensures cause { IsErrOf result AppendError.Disk → Rose (D.faults log.old.disk) (D.faults log.new.disk) }
     ensures later { D.faults log.old.disk ≤ D.faults log.new.disk }
@@ -100,14 +109,14 @@ pub(crate) fn keep_small<D: Disks>(
     ensures any_moment { D.told → (s : ClusterState) → IsDraft s draft.old
         → let p = place log.old in let next = record_with term s committed.now in
         LeavesOnly D.moment D.left_since log.old.disk log.new.disk
-        (IsWritten (renews p body.now) (standing_in (D.seen log.old.disk)) body.now (generation_after p next)) }
+        (IsWritten (renews due p body.now) (standing_in (D.seen log.old.disk)) body.now (generation_after p next)) }
     ensures ran { (s : ClusterState) → IsDraft s draft.old
         → let p = place log.old in let next = record_with term s committed.now in
-        CallsMade D.steps (writing_calls (renews p body.now) p body.now (generation_after p next)) log.old.disk log.new.disk (is_ok result) }
-    ensures fits { renews (place log.old) body.now ≡ true → (ids most_ids).Fits committed.now }
+        CallsMade D.steps (writing_calls (renews due p body.now) p body.now (generation_after p next)) log.old.disk log.new.disk (is_ok result) }
+    ensures fits { renews due (place log.old) body.now ≡ true → (ids most_ids).Fits committed.now }
     ensures same { draft.new.state ≡ draft.old.state }
 {
-    if begins(log, body.len()) {
+    if begins(log, due, body.len()) {
         return begin(log, draft, term, committed);
     }
     log.append_small(body)
@@ -117,6 +126,7 @@ pub(crate) fn keep_small<D: Disks>(
 pub(crate) fn keep_state<D: Disks>(
     log: &mut GateLog<D>,
     draft: &mut Draft,
+    due: bool,
     term: u64,
     committed: &VotingConfig,
 ) -> Result<(), AppendError>
@@ -125,7 +135,7 @@ pub(crate) fn keep_state<D: Disks>(
     ensures ok { D.told → (s : ClusterState) → IsDraft s draft.old
         → let p = place log.old in let body = body_of (change.Accepted s) in let next = record_with term s committed.now in
         OnOk result (standing_in (D.seen log.new.disk)
-        ≡ written_in (renews p body) (standing_in (D.seen log.old.disk)) body (generation_after p next)) }
+        ≡ written_in (renews due p body) (standing_in (D.seen log.old.disk)) body (generation_after p next)) }
     ensures only { IsErr result → IsErrOf result AppendError.Disk }
     ensures cause { IsErrOf result AppendError.Disk → Rose (D.faults log.old.disk) (D.faults log.new.disk) }
     ensures later { D.faults log.old.disk ≤ D.faults log.new.disk }
@@ -134,13 +144,13 @@ pub(crate) fn keep_state<D: Disks>(
     ensures any_moment { D.told → (s : ClusterState) → IsDraft s draft.old
         → let p = place log.old in let body = body_of (change.Accepted s) in let next = record_with term s committed.now in
         LeavesOnly D.moment D.left_since log.old.disk log.new.disk
-        (IsWritten (renews p body) (standing_in (D.seen log.old.disk)) body (generation_after p next)) }
+        (IsWritten (renews due p body) (standing_in (D.seen log.old.disk)) body (generation_after p next)) }
     ensures ran { (s : ClusterState) → IsDraft s draft.old
         → let p = place log.old in let body = body_of (change.Accepted s) in let next = record_with term s committed.now in
-        CallsMade D.steps (writing_calls (renews p body) p body (generation_after p next)) log.old.disk log.new.disk (is_ok result) }
+        CallsMade D.steps (writing_calls (renews due p body) p body (generation_after p next)) log.old.disk log.new.disk (is_ok result) }
     ensures same { draft.new.state ≡ draft.old.state }
 {
-    if begins(log, draft.len() + 1) {
+    if begins(log, due, draft.len() + 33) {
         return begin(log, draft, term, committed);
     }
     draft.lay_accepted();

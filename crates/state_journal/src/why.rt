@@ -7,7 +7,7 @@ use zen_disk::Side;
 /// What is wrong with a body: the first fault from left to right.
 #[derive(Clone, Copy, Debug, PartialEq, Eq, Error)]
 pub enum BodyFault {
-    /// Its first byte is none of 1, 2, 3 and 4, or it has no byte.
+    /// Its first byte is none of 1 to 4 and 129 to 132, or it has no byte.
     #[error("Tag")]
     Tag,
     /// A field of it is wrong.
@@ -33,8 +33,16 @@ pub enum Fault {
     /// The body spells no change.
     #[error("Body({0},{1})")]
     Body(u64, BodyFault),
+    /// The body is of version 2, and its digest is not that of its tag and fields.
+    #[error("Damaged({at})")]
+    Damaged {
+        at: u64,
+        stored: [u8; 32],
+        found: [u8; 32],
+    },
     /// The body sets a term that is not greater than the one so far, or accepts a state of a greater term, or begins a
-    /// generation where none may begin, with no epoch or with a state of a term above its own.
+    /// generation where none may begin, with no epoch or with a state of a term above its own, or is of version 1 and
+    /// follows one of version 2.
     #[error("Order({0})")]
     Order(u64),
 }

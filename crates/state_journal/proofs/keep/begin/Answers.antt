@@ -4,8 +4,8 @@ use Rattle.zen_disk.specs.Runs.{CallsMade}
 use Rattle.zen_disk.specs.Sides.{other}
 use Rattle.gate_log.specs.Calls.{renewal_calls}
 use Rattle.gate_log.specs.Journal.{framed, most_body}
-use Rattle.state_journal.specs.Bodies.{body_of}
-use Rattle.state_journal.specs.Drafts.{generation_body}
+use Rattle.state_journal.specs.Bodies.{guarded, body_of}
+use Rattle.state_journal.specs.Drafts.{generation_front}
 use Rattle.state_journal.specs.Keeping.{record_with}
 use Rattle.state_journal.specs.declared.change.Change.TheVariants.{Renewed}
 use Rattle.state_journal.proofs.Beginning.{begins_next, generation_is, begins_with, frame_short}
@@ -21,8 +21,8 @@ renew-requires g c =
     let epoch = c.args.log.now.epoch in
     let e = c.epoch.result in
     let state = c.args.draft.now.state in
-    let body = generation_body (epoch + 1) c.args.term state c.args.committed.now in
-    let next : generation_body (e + 1) c.args.term state c.args.committed.now ≡ body = ap (λ (n : ℕ). generation_body (n + 1) c.args.term state c.args.committed.now) c.epoch.ensures.value in
+    let body = guarded (generation_front (epoch + 1) c.args.term state c.args.committed.now) in
+    let next : guarded (generation_front (e + 1) c.args.term state c.args.committed.now) ≡ body = ap (λ (n : ℕ). guarded (generation_front (n + 1) c.args.term state c.args.committed.now)) c.epoch.ensures.value in
     (body, c.frame.ensures ∙ c.lay_generation.ensures.frame ∙ ap framed next, begins_next epoch c.args.term state c.args.committed.now c.requires.next)
 
 pub returns-clause-ok : goal.returns-clause-ok

@@ -1,4 +1,4 @@
-use Rattle.std.proofs.Common.{◌≡◌, ℕ, List, Ok, true, false, refl, sym, ap, ◌∙◌, subst, rules}
+use Rattle.std.proofs.Common.{◌≡◌, ℕ, List, Ok, true, false, length, refl, sym, ap, ◌∙◌, subst, rules}
 use Rattle.voting_config.specs.Ids.{most_ids}
 use Rattle.cluster_state.specs.Fields.{ids}
 use Rattle.cluster_state.specs.declared.state.ClusterState.{ClusterState}
@@ -11,47 +11,53 @@ use Rattle.state_journal.specs.Keeping.{generation_after, record_with, written_i
 use Rattle.state_journal.specs.declared.change.Change.TheVariants.{Committed}
 use Rattle.state_journal.proofs.Changing.{is_open, commit_leaves}
 use Rattle.state_journal.proofs.Same.{same_journal}
-use Rattle.state_journal.proofs.Spelled.{fits_of, reads_committed, committed_plain, length-committed}
-use Rattle.state_journal.proofs.Writing.{MayFollow, few, stands_after, counted_after, counts_by}
+use Rattle.state_journal.proofs.Spelled.{fits_of, reads_committed, committed_plain}
+use Rattle.state_journal.proofs.Writing.{MayFollow, few, stands_after, counted_after, due_after, counts_by}
 use Rattle.state_journal.proofs.journal.StateJournalKeeper.mark_committed.Goals as goal
 
 pub returns-then-stopped-clause-unchanged : goal.returns-then-stopped-clause-unchanged
-returns-then-stopped-clause-unchanged g c = λ stopped. same_journal _ _ refl refl refl refl
+returns-then-stopped-clause-unchanged g c = λ stopped. same_journal _ _ refl refl refl refl refl
 
 pub keep_small-requires-clause-plain : goal.keep_small-requires-clause-plain
-keep_small-requires-clause-plain g c = subst (λ (b : List ℕ). is_generation b ≡ false) (sym c.committed_body-body.ensures) committed_plain
+keep_small-requires-clause-plain g c = subst (λ (b : List ℕ). is_generation b ≡ false) (sym (c.deref.ensures.0 ∙ c.committed_body-body.ensures)) committed_plain
 
 pub returns-in_default-clause-any_moment : goal.returns-in_default-clause-any_moment
 returns-in_default-clause-any_moment g c = λ told running.
     let old = c.args.self.now in
-    let shown : c.deref.result.now ≡ old.kept.accepted = search rules in
-    commit_leaves old told running c.deref.result.now shown _ _ c.committed_body-body.ensures c.keep_small.ensures.fits (c.keep_small.ensures.any_moment told old.kept.accepted old.drafted)
+    let shown : c.deref-2.result.now ≡ old.kept.accepted = search rules in
+    commit_leaves old told running c.deref-2.result.now shown _ _ (c.deref.ensures.0 ∙ c.committed_body-body.ensures) c.keep_small.ensures.fits (c.keep_small.ensures.any_moment told old.kept.accepted old.drafted)
 
 pub invariant_of-self-2 : goal.invariant_of-self-2
 invariant_of-self-2 g c =
     let old = c.args.self.now in
-    let shown : c.deref.result.now ≡ old.kept.accepted = search rules in
+    let shown : c.deref-2.result.now ≡ old.kept.accepted = search rules in
     let now = c.keep_small.new.log in
     let p = place old.log in
     let change = Committed in
+    let same : c.deref.result.now ≡ body_of change = c.deref.ensures.0 ∙ c.committed_body-body.ensures in
     let next = changed old.kept change in
     let ran : old.log.stopped ≡ false = sym c.stopped.ensures ∙ c.if-stopped.false in
     let may : MayFollow old.kept change = record { reads = reads_committed; order = refl } in
-    let begins : renews p (body_of change) ≡ true → MayBegin next =
-    λ renewing. record { bounded = old.bounded; fits = fits_of old.kept.accepted old.drafted.fits; named = subst (λ (s : ClusterState). (ids most_ids).Fits s.config) shown (c.keep_small.ensures.fits (ap (renews p) c.committed_body-body.ensures ∙ renewing)); older = old.older } in
+    let begins : renews old.due p (body_of change) ≡ true → MayBegin next =
+    λ renewing. record { bounded = old.bounded; fits = fits_of old.kept.accepted old.drafted.fits; named = subst (λ (s : ClusterState). (ids most_ids).Fits s.config) shown (c.keep_small.ensures.fits (ap (renews old.due p) same ∙ renewing)); older = old.older } in
     let grown = λ (told : g.D.Disks.told).
-    subst (λ (b : List ℕ). standing_in (g.D.Disks.seen now.disk) ≡ written_in (renews p b) (standing_in (g.D.Disks.seen old.log.disk)) b (generation_after p next)) c.committed_body-body.ensures
+    subst (λ (b : List ℕ). standing_in (g.D.Disks.seen now.disk) ≡ written_in (renews old.due p b) (standing_in (g.D.Disks.seen old.log.disk)) b (generation_after p next)) same
     (subst (λ (s : ClusterState). standing_in (g.D.Disks.seen now.disk)
-    ≡ written_in (renews p c.committed_body-body.result) (standing_in (g.D.Disks.seen old.log.disk)) c.committed_body-body.result (generation_after p (record_with old.kept.term old.kept.accepted s.config))) shown
+    ≡ written_in (renews old.due p c.deref.result.now) (standing_in (g.D.Disks.seen old.log.disk)) c.deref.result.now (generation_after p (record_with old.kept.term old.kept.accepted s.config))) shown
     (c.in-Ok.ensures.ok told old.kept.accepted old.drafted)) in
+    let size : length (body_of change) ≡ c.len.result = ap length (sym c.committed_body-body.ensures) ∙ sym c.len.ensures.value in
+    let size_again : length (body_of change) ≡ c.len-2.result = ap length (sym c.committed_body-body.ensures) ∙ sym c.len-2.ensures.value in
     record {
       stands = λ told running.
           let is = is_open old told ran in
           stands_after is change may begins (g.D.Disks.seen now.disk) (grown told) (now.settled told running).stands ∙ ap Ok (sym c.commit.ensures);
       counted = λ told running.
           let is = is_open old told ran in
-          counts_by (renews p (body_of change)) old.records c.records_after-records.result _ (counted_after is change may begins (g.D.Disks.seen now.disk) (grown told)) (few is)
-          (c.records_after-records.ensures.one (body_of change) length-committed) (c.records_after-records.ensures.more (body_of change) length-committed);
+          counts_by (renews old.due p (body_of change)) old.records c.records_after-records.result _ (counted_after is change may begins (g.D.Disks.seen now.disk) (grown told)) (few is)
+          (c.records_after-records.ensures.one (body_of change) size) (c.records_after-records.ensures.more (body_of change) size);
+      aged = λ told running.
+          let is = is_open old told ran in
+          c.due_after-due.ensures (body_of change) size_again ∙ due_after is change may begins (g.D.Disks.seen now.disk) (grown told);
       bounded = rw c.commit.ensures old.bounded;
       fit = rw c.commit.ensures old.fit;
       older = rw c.commit.ensures old.older;
@@ -61,5 +67,5 @@ invariant_of-self-2 g c =
 pub returns-clause-any_moment : goal.returns-clause-any_moment
 returns-clause-any_moment g c = λ told running.
     let old = c.args.self.now in
-    let shown : c.deref.result.now ≡ old.kept.accepted = search rules in
-    commit_leaves old told running c.deref.result.now shown _ _ c.committed_body-body.ensures c.keep_small.ensures.fits (c.keep_small.ensures.any_moment told old.kept.accepted old.drafted)
+    let shown : c.deref-2.result.now ≡ old.kept.accepted = search rules in
+    commit_leaves old told running c.deref-2.result.now shown _ _ (c.deref.ensures.0 ∙ c.committed_body-body.ensures) c.keep_small.ensures.fits (c.keep_small.ensures.any_moment told old.kept.accepted old.drafted)

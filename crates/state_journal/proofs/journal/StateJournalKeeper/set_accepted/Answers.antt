@@ -9,14 +9,17 @@ use Rattle.state_journal.specs.declared.change.Change.TheVariants.{Accepted}
 use Rattle.state_journal.proofs.Changing.{is_open, state_follows, state_begins, state_leaves}
 use Rattle.state_journal.proofs.Same.{same_journal}
 use Rattle.state_journal.proofs.Spelled.{draft_short, length-accepted}
-use Rattle.state_journal.proofs.Writing.{few, stands_after, counted_after, counts_by}
+use Rattle.state_journal.proofs.Writing.{few, stands_after, counted_after, due_after, counts_by}
 use Rattle.state_journal.proofs.journal.StateJournalKeeper.set_accepted.Goals as goal
 
 pub returns-then-stopped-clause-unchanged : goal.returns-then-stopped-clause-unchanged
-returns-then-stopped-clause-unchanged g c = λ stopped. same_journal _ _ refl refl refl refl
+returns-then-stopped-clause-unchanged g c = λ stopped. same_journal _ _ refl refl refl refl refl
 
 pub records_after-records-requires : goal.records_after-records-requires
 records_after-records-requires g c = let ready = c.ready.inside in omega (arith, c.len.ensures, draft_short ready.state ready.draft ready.drafted)
+
+pub due_after-due-requires : goal.due_after-due-requires
+due_after-due-requires g c = let ready = c.ready.inside in omega (arith, c.len-2.ensures, draft_short ready.state ready.draft ready.drafted)
 
 pub returns-in_default-clause-any_moment : goal.returns-in_default-clause-any_moment
 returns-in_default-clause-any_moment g c = λ told running.
@@ -39,19 +42,23 @@ invariant_of-self-2 g c =
     let p = place old.log in
     let change = Accepted state in
     let ran : old.log.stopped ≡ false = sym c.stopped.ensures ∙ c.if-stopped.false in
-    let size : length (body_of change) ≡ c.len.result + 1 = omega (arith, c.len.ensures, length-accepted state, ap length drafted.spelled) in
+    let size : length (body_of change) ≡ c.len.result + 33 = omega (arith, c.len.ensures, length-accepted state, ap length drafted.spelled) in
+    let size_again : length (body_of change) ≡ c.len-2.result + 33 = omega (arith, c.len-2.ensures, length-accepted state, ap length drafted.spelled) in
     let may = state_follows old state drafted.fits older in
     let begins = state_begins old state drafted.fits older in
     let grown = λ (told : g.D.Disks.told).
-    subst (λ (s : ClusterState). standing_in (g.D.Disks.seen now.disk) ≡ written_in (renews p (body_of change)) (standing_in (g.D.Disks.seen old.log.disk)) (body_of change) (generation_after p (record_with old.kept.term state s.committed)))
+    subst (λ (s : ClusterState). standing_in (g.D.Disks.seen now.disk) ≡ written_in (renews old.due p (body_of change)) (standing_in (g.D.Disks.seen old.log.disk)) (body_of change) (generation_after p (record_with old.kept.term state s.committed)))
     here (c.in-Ok.ensures.ok told state drafted) in
     record {
       stands = λ told running.
           stands_after (is_open old told ran) change may begins (g.D.Disks.seen now.disk) (grown told) (now.settled told running).stands ∙ ap Ok (sym c.accept.ensures);
       counted = λ told running.
           let is = is_open old told ran in
-          counts_by (renews p (body_of change)) old.records c.records_after-records.result _ (counted_after is change may begins (g.D.Disks.seen now.disk) (grown told)) (few is)
+          counts_by (renews old.due p (body_of change)) old.records c.records_after-records.result _ (counted_after is change may begins (g.D.Disks.seen now.disk) (grown told)) (few is)
           (c.records_after-records.ensures.one (body_of change) size) (c.records_after-records.ensures.more (body_of change) size);
+      aged = λ told running.
+          let is = is_open old told ran in
+          c.due_after-due.ensures (body_of change) size_again ∙ due_after is change may begins (g.D.Disks.seen now.disk) (grown told);
       bounded = rw c.accept.ensures old.bounded;
       fit = rw c.accept.ensures c.ready.inside.fit;
       older = rw c.accept.ensures older;

@@ -1,4 +1,4 @@
-use Rattle.std.proofs.Common.{◌≡◌, ℕ, List, true, false, refl, sym, ap, ◌∙◌, subst, arith}
+use Rattle.std.proofs.Common.{◌≡◌, ℕ, List, true, false, length, refl, sym, ap, ◌∙◌, subst, arith}
 use Rattle.std.proofs.lemmas.Bool.{lt-ltb}
 use Rattle.gate_log.specs.Generations.{is_generation, standing_in}
 use Rattle.gate_log.specs.Place.{place, renews}
@@ -9,24 +9,25 @@ use Rattle.state_journal.specs.Keeping.{generation_after, written_in}
 use Rattle.state_journal.specs.declared.change.Change.TheVariants.{Term}
 use Rattle.state_journal.proofs.Changing.{is_open, crash_leaves}
 use Rattle.state_journal.proofs.Same.{same_journal}
-use Rattle.state_journal.proofs.Spelled.{fits_of, reads_term, term_plain, length-term}
-use Rattle.state_journal.proofs.Writing.{MayFollow, few, stands_after, counted_after, counts_by}
+use Rattle.state_journal.proofs.Spelled.{fits_of, reads_term, term_plain}
+use Rattle.state_journal.proofs.Writing.{MayFollow, few, stands_after, counted_after, due_after, counts_by}
 use Rattle.state_journal.proofs.journal.StateJournalKeeper.set_term.Goals as goal
 
 pub returns-then-stopped-clause-unchanged : goal.returns-then-stopped-clause-unchanged
-returns-then-stopped-clause-unchanged g c = λ stopped. same_journal _ _ refl refl refl refl
+returns-then-stopped-clause-unchanged g c = λ stopped. same_journal _ _ refl refl refl refl refl
 
 pub keep_small-requires-clause-plain : goal.keep_small-requires-clause-plain
-keep_small-requires-clause-plain g c = subst (λ (b : List ℕ). is_generation b ≡ false) (sym c.term_body-body.ensures) (term_plain c.args.term)
+keep_small-requires-clause-plain g c = subst (λ (b : List ℕ). is_generation b ≡ false) (sym (c.deref.ensures.0 ∙ c.term_body-body.ensures)) (term_plain c.args.term)
 
 pub returns-in_default-clause-any_moment : goal.returns-in_default-clause-any_moment
 returns-in_default-clause-any_moment g c = λ told running.
     let old = c.args.self.now in
     let change = Term c.args.term in
+    let same : c.deref.result.now ≡ body_of change = c.deref.ensures.0 ∙ c.term_body-body.ensures in
     let may : MayFollow old.kept change = record { reads = reads_term c.args.term c.requires.fits; order = lt-ltb _ _ c.requires.above } in
-    let begins : renews (place old.log) (body_of change) ≡ true → MayBegin (changed old.kept change) =
-    λ renewing. record { bounded = c.requires.fits; fits = fits_of old.kept.accepted old.drafted.fits; named = c.keep_small.ensures.fits (ap (renews (place old.log)) c.term_body-body.ensures ∙ renewing); older = omega (arith, old.older, c.requires.above) } in
-    crash_leaves old told running change may begins _ _ c.term_body-body.ensures (c.keep_small.ensures.any_moment told old.kept.accepted old.drafted)
+    let begins : renews old.due (place old.log) (body_of change) ≡ true → MayBegin (changed old.kept change) =
+    λ renewing. record { bounded = c.requires.fits; fits = fits_of old.kept.accepted old.drafted.fits; named = c.keep_small.ensures.fits (ap (renews old.due (place old.log)) same ∙ renewing); older = omega (arith, old.older, c.requires.above) } in
+    crash_leaves old told running change may begins _ _ same (c.keep_small.ensures.any_moment told old.kept.accepted old.drafted)
 
 pub invariant_of-self-2 : goal.invariant_of-self-2
 invariant_of-self-2 g c =
@@ -36,19 +37,26 @@ invariant_of-self-2 g c =
     let change = Term c.args.term in
     let next = changed old.kept change in
     let ran : old.log.stopped ≡ false = sym c.stopped.ensures ∙ c.if-stopped.false in
+    let same : c.deref.result.now ≡ body_of change = c.deref.ensures.0 ∙ c.term_body-body.ensures in
     let may : MayFollow old.kept change = record { reads = reads_term c.args.term c.requires.fits; order = lt-ltb _ _ c.requires.above } in
-    let begins : renews p (body_of change) ≡ true → MayBegin next =
-    λ renewing. record { bounded = c.requires.fits; fits = fits_of old.kept.accepted old.drafted.fits; named = c.keep_small.ensures.fits (ap (renews p) c.term_body-body.ensures ∙ renewing); older = omega (arith, old.older, c.requires.above) } in
+    let begins : renews old.due p (body_of change) ≡ true → MayBegin next =
+    λ renewing. record { bounded = c.requires.fits; fits = fits_of old.kept.accepted old.drafted.fits; named = c.keep_small.ensures.fits (ap (renews old.due p) same ∙ renewing); older = omega (arith, old.older, c.requires.above) } in
+    let size : length (body_of change) ≡ c.len.result = ap length (sym c.term_body-body.ensures) ∙ sym c.len.ensures.value in
+    let size_again : length (body_of change) ≡ c.len-2.result = ap length (sym c.term_body-body.ensures) ∙ sym c.len-2.ensures.value in
     record {
       stands = λ told running.
           let is = is_open old told ran in
-          let grown = subst (λ (b : List ℕ). standing_in (g.D.Disks.seen now.disk) ≡ written_in (renews p b) (standing_in (g.D.Disks.seen old.log.disk)) b (generation_after p next)) c.term_body-body.ensures (c.in-Ok.ensures.ok told old.kept.accepted old.drafted) in
+          let grown = subst (λ (b : List ℕ). standing_in (g.D.Disks.seen now.disk) ≡ written_in (renews old.due p b) (standing_in (g.D.Disks.seen old.log.disk)) b (generation_after p next)) same (c.in-Ok.ensures.ok told old.kept.accepted old.drafted) in
           stands_after is change may begins (g.D.Disks.seen now.disk) grown (now.settled told running).stands;
       counted = λ told running.
           let is = is_open old told ran in
-          let grown = subst (λ (b : List ℕ). standing_in (g.D.Disks.seen now.disk) ≡ written_in (renews p b) (standing_in (g.D.Disks.seen old.log.disk)) b (generation_after p next)) c.term_body-body.ensures (c.in-Ok.ensures.ok told old.kept.accepted old.drafted) in
-          counts_by (renews p (body_of change)) old.records c.records_after-records.result _ (counted_after is change may begins (g.D.Disks.seen now.disk) grown) (few is)
-          (c.records_after-records.ensures.one (body_of change) (length-term c.args.term)) (c.records_after-records.ensures.more (body_of change) (length-term c.args.term));
+          let grown = subst (λ (b : List ℕ). standing_in (g.D.Disks.seen now.disk) ≡ written_in (renews old.due p b) (standing_in (g.D.Disks.seen old.log.disk)) b (generation_after p next)) same (c.in-Ok.ensures.ok told old.kept.accepted old.drafted) in
+          counts_by (renews old.due p (body_of change)) old.records c.records_after-records.result _ (counted_after is change may begins (g.D.Disks.seen now.disk) grown) (few is)
+          (c.records_after-records.ensures.one (body_of change) size) (c.records_after-records.ensures.more (body_of change) size);
+      aged = λ told running.
+          let is = is_open old told ran in
+          let grown = subst (λ (b : List ℕ). standing_in (g.D.Disks.seen now.disk) ≡ written_in (renews old.due p b) (standing_in (g.D.Disks.seen old.log.disk)) b (generation_after p next)) same (c.in-Ok.ensures.ok told old.kept.accepted old.drafted) in
+          c.due_after-due.ensures (body_of change) size_again ∙ due_after is change may begins (g.D.Disks.seen now.disk) grown;
       bounded = c.requires.fits;
       fit = old.fit;
       older = omega (arith, old.older, c.requires.above);
@@ -59,7 +67,8 @@ pub returns-clause-any_moment : goal.returns-clause-any_moment
 returns-clause-any_moment g c = λ told running.
     let old = c.args.self.now in
     let change = Term c.args.term in
+    let same : c.deref.result.now ≡ body_of change = c.deref.ensures.0 ∙ c.term_body-body.ensures in
     let may : MayFollow old.kept change = record { reads = reads_term c.args.term c.requires.fits; order = lt-ltb _ _ c.requires.above } in
-    let begins : renews (place old.log) (body_of change) ≡ true → MayBegin (changed old.kept change) =
-    λ renewing. record { bounded = c.requires.fits; fits = fits_of old.kept.accepted old.drafted.fits; named = c.keep_small.ensures.fits (ap (renews (place old.log)) c.term_body-body.ensures ∙ renewing); older = omega (arith, old.older, c.requires.above) } in
-    crash_leaves old told running change may begins _ _ c.term_body-body.ensures (c.keep_small.ensures.any_moment told old.kept.accepted old.drafted)
+    let begins : renews old.due (place old.log) (body_of change) ≡ true → MayBegin (changed old.kept change) =
+    λ renewing. record { bounded = c.requires.fits; fits = fits_of old.kept.accepted old.drafted.fits; named = c.keep_small.ensures.fits (ap (renews old.due (place old.log)) same ∙ renewing); older = omega (arith, old.older, c.requires.above) } in
+    crash_leaves old told running change may begins _ _ same (c.keep_small.ensures.any_moment told old.kept.accepted old.drafted)

@@ -1,0 +1,6 @@
+use Rattle.std.proofs.Common.{arith}
+use Rattle.state_journal.proofs.Reading.{fit_old_state}
+use Rattle.state_journal.proofs.body.read_old_state.Goals as goal
+
+pub returns-clause-fit : goal.returns-clause-fit
+returns-clause-fit c = fit_old_state c.args.bytes.now c.whole_old_state.result (λ i. omega (arith, c.type_inv.bytes i)) c.whole_old_state.ensures
