@@ -23,13 +23,23 @@ pub struct StateId {
 }
 
 impl StateId {
-    ghost use Rattle.cluster_state.specs.StateIds.{is_fresher as is_fresher_of, is_reached, is_same_state};
+    ghost use Rattle.cluster_state.specs.StateIds.{is_fresher as is_fresher_of, is_above_parent as is_above_parent_of, is_reached, is_same_state};
 
     /// Whether the id is above the other.
     pub fn is_fresher(self, other: StateId) -> bool
         ensures { result ≡ is_fresher_of self other }
     {
         self > other
+    }
+
+    /// Whether the id is above that of the parent, where there is one.
+    pub fn is_above_parent(self, parent: Option<StateId>) -> bool
+        ensures { result ≡ is_above_parent_of self parent }
+    {
+        match parent {
+            None => true,
+            Some(parent) => self.is_fresher(parent),
+        }
     }
 
     /// Whether the other is this id or above it.

@@ -3,7 +3,6 @@ ghost use Rattle.std.specs.Prelude.{IsTrue, IfSome, map};
 ghost use Rattle.std.specs.List.{AllByRecursion};
 ghost use Rattle.cluster_state.specs.Fields.{AreFitSettings, IsFitSetting};
 ghost use Rattle.cluster_state.specs.Settings.{setting_of};
-ghost use Rattle.cluster_state.specs.StateIds.{is_above_parent};
 ghost use Rattle.cluster_state.specs.States.{IsFit, IsFitValue};
 ghost use Rattle.wire_frames.specs.Messages.{IsFitId, IsFitMessage};
 
@@ -48,12 +47,12 @@ fn is_fit_value(value: &ClusterValue) -> bool
     value.exclusions.len() <= 10 && are_fit_settings(&value.settings)
 }
 
-fn is_fit_parent(id: StateId, parent: Option<StateId>) -> bool
-    ensures { IsTrue result → IfSome parent IsFitId × IsTrue (is_above_parent id parent) }
+fn is_fit_parent(parent: Option<StateId>) -> bool
+    ensures { IsTrue result → IfSome parent IsFitId }
 {
     match parent {
         None => true,
-        Some(parent) => is_fit_id(&parent) && id.is_fresher(parent),
+        Some(parent) => is_fit_id(&parent),
     }
 }
 
@@ -62,7 +61,8 @@ fn is_fit_state(state: &ClusterState) -> bool
 {
     state.term <= LAST_NUMBER
         && state.version <= LAST_NUMBER
-        && is_fit_parent(state.id(), state.parent)
+        && is_fit_parent(state.parent)
+        && state.id().is_above_parent(state.parent)
         && is_fit_value(&state.value)
 }
 

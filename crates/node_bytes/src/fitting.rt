@@ -4,7 +4,6 @@ ghost use Rattle.std.specs.List.{AllByRecursion};
 ghost use Rattle.cluster_state.specs.Field.{last_number};
 ghost use Rattle.cluster_state.specs.Fields.{IsFitSetting, AreFitSettings};
 ghost use Rattle.cluster_state.specs.Settings.{setting_of};
-ghost use Rattle.cluster_state.specs.StateIds.{is_above_parent};
 ghost use Rattle.cluster_state.specs.States.{IsFit, IsFitValue};
 ghost use Rattle.wire_frames.specs.Frames.{IsFitFrame};
 ghost use Rattle.wire_frames.specs.Messages.{IsFitId, IsFitMessage};
@@ -58,13 +57,12 @@ fn is_fit_value(value: &ClusterValue) -> bool
         && are_fit_settings(&value.settings)
 }
 
-// Whether the parent, where there is one, is within the limits and below the state of this id.
-fn is_fit_parent(id: StateId, parent: Option<StateId>) -> bool
-    ensures { IsTrue result ↔ (IfSome parent IsFitId × IsTrue (is_above_parent id parent)) }
+fn is_fit_parent(parent: Option<StateId>) -> bool
+    ensures { IsTrue result ↔ IfSome parent IsFitId }
 {
     match parent {
         None => true,
-        Some(parent) => is_fit_id(parent) && id.is_fresher(parent),
+        Some(parent) => is_fit_id(parent),
     }
 }
 
@@ -73,7 +71,8 @@ fn is_fit_state(state: &ClusterState) -> bool
 {
     is_fit_number(state.term)
         && is_fit_number(state.version)
-        && is_fit_parent(state.id(), state.parent)
+        && is_fit_parent(state.parent)
+        && state.id().is_above_parent(state.parent)
         && is_fit_value(&state.value)
 }
 

@@ -5,22 +5,14 @@ ghost use Rattle.cluster_state.specs.States.{whole};
 ghost use Rattle.wire_frames.specs.declared.frame.Frame.{Frame};
 ghost use Rattle.wire_frames.specs.declared.frame.Kind.TheVariants as kind;
 ghost use Rattle.wire_frames.specs.Faults.{ReadsFrame};
-ghost use Rattle.wire_frames.specs.Messages.{state_id, message_at};
+ghost use Rattle.wire_frames.specs.Messages.{message_at};
 ghost use Rattle.wire_frames.specs.Frames.{frame_at, as_frame, frame_of, SpellsBody, IsFitFrame};
 
 use crate::fault::{FrameError, FrameFault};
 use crate::frame::{Frame, Kind, WireMessage};
-use cluster_state::{FieldError, ReadError, Reader, SharedState, StateId};
+use cluster_state::{FieldError, ReadError, Reader, SharedState};
 use std::alloc::Global;
 use voting_config::MAX_IDS;
-
-fn state_id(reader: &mut Reader) -> Result<StateId, FieldError>
-    ensures { Reads (λ x. x) result reader.new (state_id.at reader.old) }
-{
-    let term = reader.term()?;
-    let version = reader.version()?;
-    Ok(StateId { term, version })
-}
 
 fn start_join(reader: &mut Reader) -> Result<WireMessage, FieldError>
     ensures { Reads (λ x. x) result reader.new (message_at kind.StartJoin reader.old) }
@@ -34,7 +26,7 @@ fn join(reader: &mut Reader) -> Result<WireMessage, FieldError>
     ensures { Reads (λ x. x) result reader.new (message_at kind.Join reader.old) }
 {
     let term = reader.term()?;
-    let last = state_id(reader)?;
+    let last = reader.state_id()?;
     Ok(WireMessage::Join { term, last })
 }
 
@@ -55,7 +47,7 @@ fn pre_vote_answer(reader: &mut Reader) -> Result<WireMessage, FieldError>
     ensures { Reads (λ x. x) result reader.new (message_at kind.PreVoteAnswer reader.old) }
 {
     let term = reader.term()?;
-    let last = state_id(reader)?;
+    let last = reader.state_id()?;
     Ok(WireMessage::PreVoteAnswer { term, last })
 }
 
@@ -64,7 +56,7 @@ fn follower_answer(reader: &mut Reader) -> Result<WireMessage, FieldError>
 {
     let good = reader.flag()?;
     let term = reader.term()?;
-    let applied = state_id(reader)?;
+    let applied = reader.state_id()?;
     Ok(WireMessage::FollowerAnswer {
         good,
         term,
@@ -82,8 +74,8 @@ fn message(alloc: Global, reader: &mut Reader, kind: Kind) -> Result<WireMessage
             let state = SharedState::of(alloc, reader.state(alloc)?)?;
             Ok(WireMessage::Publish(state))
         }
-        Kind::Response => Ok(WireMessage::Response(state_id(reader)?)),
-        Kind::Commit => Ok(WireMessage::Commit(state_id(reader)?)),
+        Kind::Response => Ok(WireMessage::Response(reader.state_id()?)),
+        Kind::Commit => Ok(WireMessage::Commit(reader.state_id()?)),
         Kind::JoinAsk => Ok(WireMessage::JoinAsk {
             term: reader.term()?,
         }),

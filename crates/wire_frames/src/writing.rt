@@ -1,7 +1,7 @@
 //! A frame written as its bytes.
 ghost use Rattle.std.specs.Prelude.{◌≡◌, ◌++◌, ◌+◌, ◌≤◌, length, OnOk, IfOk};
 ghost use Rattle.cluster_state.specs.Fields.{id};
-ghost use Rattle.wire_frames.specs.Messages.{state_id, term_and_last, payload, FitsMessage, IsFitId, IsFitMessage};
+ghost use Rattle.wire_frames.specs.Messages.{term_and_last, payload, FitsMessage, IsFitId, IsFitMessage};
 ghost use Rattle.wire_frames.specs.Frames.{SpellsBody, SpellsFrame, IsFitFrame, most_body};
 
 use crate::frame::{Frame, WireMessage};
@@ -9,18 +9,9 @@ use bytes::{BufMut, Bytes, BytesMut};
 use cluster_state::StateId;
 use cluster_state::encoding::write_state;
 use cluster_state::writing::{
-    write_flag, write_id, write_ids, write_optional_id, write_term, write_version,
+    write_flag, write_id, write_ids, write_optional_id, write_state_id, write_term,
 };
 use std::alloc::{AllocError, Global};
-
-fn write_state_id(out: &mut Vec<u8>, written: StateId) -> Result<(), AllocError>
-    requires { IsFitId written }
-    ensures written { OnOk result (out.new.items ≡ out.old.items ++ state_id.spelling written) }
-    ensures fits { state_id.Fits written }
-{
-    write_term(out, written.term)?;
-    write_version(out, written.version)
-}
 
 fn write_term_and_last(out: &mut Vec<u8>, term: u64, last: StateId) -> Result<(), AllocError>
     requires { IsFitId last }
