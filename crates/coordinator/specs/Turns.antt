@@ -4,7 +4,9 @@ use Rattle.state_journal.specs.declared.keeper.Keeper.{Ghosts}
 use Rattle.zen_disk.specs.Moments.{LeavesOnly}
 use Rattle.cluster_state.specs.declared.state.Kept.{Kept}
 use Rattle.world_model.specs.declared.acts.Act.{Act}
+use Rattle.world_model.specs.declared.acts.ActReply.TheVariants.{Taken, Refused, Stopped}
 use Rattle.world_model.specs.declared.acts.Outcome.{Outcome}
+use Rattle.world_model.specs.declared.acts.Outcome.TheVariants.{Answered, Disk, Crashed}
 use Rattle.world_model.specs.Acts.{NodeHistory, Then}
 use Rattle.world_model.specs.NodeState.{durable_of}
 use Rattle.coord_state.specs.declared.coord.CoordState.{CoordState}
@@ -13,10 +15,18 @@ use Rattle.coord_state.specs.StandsFor.{Acts as CoreActs, StandsFor}
 use Rattle.coord_state.specs.Writes.{WritesBy, IsDuring}
 use Rattle.policy_model.specs.Events.{Item, Opens, Begins, Acts, Turns, Drops, Sends, Replies, Notes}
 
--- what a crash leaves at a moment of these items: what is kept of the acts so far, without the act in hand or with it
+-- what a crash leaves during an act that ends so: what is kept of the acts before it, or, unless it is refused, of these with it
+abbrev pub IsDuringAs : NodeHistory → Act → Outcome → Option Kept → Type 0
+IsDuringAs g act (Answered (Taken sends wins)) found = IsDuring g act found
+IsDuringAs g act (Answered (Refused cause)) found = found ≡ Some (durable_of g)
+IsDuringAs g act (Answered Stopped) found = found ≡ Some (durable_of g)
+IsDuringAs g act (Disk kept) found = IsDuring g act found
+IsDuringAs g act (Crashed kept) found = IsDuring g act found
+
+-- what a crash leaves at a moment of these items: what is kept of the acts so far, without the act in hand or, unless that is refused, with it
 abbrev pub IsAlong : NodeHistory → List Item → Option Kept → Type 0
 IsAlong g [] found = found ≡ Some (durable_of g)
-IsAlong g (Acts act o ∷ is) found = IsDuring g act found ⊎ IsAlong (Then g act o) is found
+IsAlong g (Acts act o ∷ is) found = IsDuringAs g act o found ⊎ IsAlong (Then g act o) is found
 IsAlong g (Opens kept ∷ is) found = IsAlong g is found
 IsAlong g (Begins event ∷ is) found = IsAlong g is found
 IsAlong g (Turns mode term ∷ is) found = IsAlong g is found
