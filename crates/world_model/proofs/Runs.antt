@@ -29,7 +29,7 @@ abbrev kept_of : NodeState → Kept
 kept_of p = record { term = p.term; accepted = p.accepted; committed = p.committed }
 
 -- after its opening a run is what it is by itself
-same_part : (g r : NodeHistory) → OpensWith (durable_of g) r → node_state (then_run g r) ≡ node_state r
+pub same_part : (g r : NodeHistory) → OpensWith (durable_of g) r → node_state (then_run g r) ≡ node_state r
 same_part g NoActs w = absurd w
 same_part NoActs (Then NoActs (Open found) o) w = refl
 same_part (Then g b u) (Then NoActs (Open found) o) w = ap opened (sym w)
