@@ -14,6 +14,7 @@ pub mod Checks
 pub mod Requests
 pub mod Rules
 pub mod Follows
+pub mod Struck
 pub mod Fitting
 pub mod Bounds
 pub mod Local

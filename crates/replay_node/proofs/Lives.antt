@@ -17,7 +17,8 @@ use Rattle.policy_model.specs.Entries.{Life, NotBegun, Opened, Lived, Did, Gone,
 use Rattle.policy_model.specs.Views.{view_of}
 use Rattle.policy_model.specs.Follows.{Follows, IsNext, IsStruck, Here, Later, is_fault, has_fault, is_struck, items_of}
 use Rattle.policy_model.proofs.Faults.{next-fault}
-use Rattle.replay_node.specs.Course.{settled_item, settled_life}
+use Rattle.policy_model.specs.Struck.{settled_item}
+use Rattle.replay_node.specs.Course.{settled_life}
 
 -- ---- items without a fault
 

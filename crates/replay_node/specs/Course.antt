@@ -1,13 +1,13 @@
 -- Part of the statement: what its disk lets a node do of an event, and what a later opening says of it.
-use Rattle.std.specs.Prelude.{Bool, true, false, List, [], ◌∷◌, ◌++◌, map, if◌then◌else◌}
+use Rattle.std.specs.Prelude.{Bool, true, false, List, [], ◌∷◌, ◌++◌, if◌then◌else◌}
 use Rattle.voting_config.specs.Ids.{Id}
-use Rattle.world_model.specs.declared.acts.Outcome.TheVariants.{Disk, Crashed}
 use Rattle.replay_node.specs.NodeDisk.{CallsEnd, Done, Failed, CrashedIn}
 use Rattle.replay_node.specs.NodeWorld.{NodeWorld, act_called, after_act, outcome_at}
 use Rattle.replay_node.specs.Worlds.{World, node_world, did}
 use Rattle.policy_model.specs.Events.{Item, Opens, Begins, Acts, Turns, Drops, Sends, Replies, Notes}
 use Rattle.policy_model.specs.Entries.{Life, NotBegun, Opened, Lived, Entry, Did}
 use Rattle.policy_model.specs.Follows.{without_output}
+use Rattle.policy_model.specs.Struck.{settled_items}
 
 -- what was done of some items, all nodes then, and whether the disk struck one of their acts
 pub record Course : Type 0 where
@@ -65,15 +65,9 @@ node_played n x (Notes note ∷ is) = node_behind (Notes note) (node_played n x 
 
 -- ---- what a later opening says
 
--- an act that the disk failed or stopped in was kept, or was not
-abbrev pub settled_item : Bool → Item → Item
-settled_item kept (Acts act (Disk was)) = Acts act (Disk kept)
-settled_item kept (Acts act (Crashed was)) = Acts act (Crashed kept)
-settled_item kept i = i
-
--- it is among the items of the last entry, since nothing but an opening comes after it
+-- The act that was struck is among the items of the last entry, since nothing but an opening comes after it.
 abbrev pub settled_entry : Bool → Entry → Entry
-settled_entry kept (Did event items) = Did event (map (settled_item kept) items)
+settled_entry kept (Did event items) = Did event (settled_items kept items)
 settled_entry kept other = other
 
 abbrev pub settled_life : Bool → Life → Life

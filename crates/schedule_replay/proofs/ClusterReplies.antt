@@ -17,7 +17,8 @@ use Rattle.policy_model.specs.declared.events.Step.TheVariants as step
 use Rattle.policy_model.specs.declared.events.MemberDrop.{MemberDrop}
 use Rattle.policy_model.specs.Events.{Item, Opens, Begins, Acts, Turns, Drops, Sends, Replies, Notes}
 use Rattle.policy_model.specs.Entries.{Life, NotBegun, Opened, Lived, Did, Gone, Bad, NoMemory, Unread, steps_of, drops_of, frames_of, replies_of}
-use Rattle.replay_node.specs.Course.{settled_item, settled_life}
+use Rattle.policy_model.specs.Struck.{settled_item}
+use Rattle.replay_node.specs.Course.{settled_life}
 use Rattle.replay_node.specs.NodeDisk.{CallsEnd, Done, Failed, CrashedIn, opening}
 use Rattle.replay_node.specs.NodeWorld.{found_at, needs_opening}
 use Rattle.replay_node.specs.Settled.{is_kept}
