@@ -1,5 +1,6 @@
 pub mod Beginning
 mod Changing
+mod Digests
 pub mod Folds
 pub mod Found
 pub mod Frames

@@ -4,6 +4,7 @@ pub mod Drafts
 pub mod Fit
 pub mod Journal
 pub mod Keeping
+pub mod Laws
 pub mod Opening
 pub mod Reads
 pub mod Writes

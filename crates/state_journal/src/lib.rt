@@ -10,6 +10,7 @@ mod fold;
 pub mod journal;
 mod keep;
 pub mod keeper;
+pub mod laws;
 pub mod plain;
 pub mod ready;
 mod refusal;
