@@ -13,27 +13,29 @@ use std::alloc::{AllocError, Global};
 use std::test::*;
 use voting_config::{NodeSet, VotingConfig};
 
-const STATE: [u8; 41] = [
-    0, 0, 0, 0, 0, 0, 0, 1, 0, 0, 0, 0, 0, 0, 0, 1, 3, 1, 97, 1, 98, 1, 99, 3, 1, 97, 1, 98, 1, 99,
-    0, 0, 0, 0, 1, 0, 1, 118, 0, 1, 120,
+// The state 1/1 of the parent 0/0, with two equal configurations and one setting.
+const STATE: [u8; 58] = [
+    0, 0, 0, 0, 0, 0, 0, 1, 0, 0, 0, 0, 0, 0, 0, 1, 1, 0, 0, 0, 0, 0, 0, 0, 0, 0, 0, 0, 0, 0, 0, 0,
+    0, 3, 1, 97, 1, 98, 1, 99, 3, 1, 97, 1, 98, 1, 99, 0, 0, 0, 0, 1, 0, 1, 118, 0, 1, 120,
 ];
 
 const JSON: &str =
-    "{\"committed\":[\"a\",\"b\",\"c\"],\"config\":[\"a\",\"b\",\"c\"],\"term\":1,\"value\":{\"exclusions\":[],\"master\":null,\"members\":[],\"settings\":{\"v\":\"x\"}},\"version\":1}";
+    "{\"committed\":[\"a\",\"b\",\"c\"],\"config\":[\"a\",\"b\",\"c\"],\"parent\":{\"term\":0,\"version\":0},\"term\":1,\"value\":{\"exclusions\":[],\"master\":null,\"members\":[],\"settings\":{\"v\":\"x\"}},\"version\":1}";
 
-const EMPTY_STATE: [u8; 23] = [0; 23];
+const EMPTY_STATE: [u8; 24] = [0; 24];
 
 const EMPTY_JSON: &str =
-    "{\"committed\":[],\"config\":[],\"term\":0,\"value\":{\"exclusions\":[],\"master\":null,\"members\":[],\"settings\":{}},\"version\":0}";
+    "{\"committed\":[],\"config\":[],\"parent\":null,\"term\":0,\"value\":{\"exclusions\":[],\"master\":null,\"members\":[],\"settings\":{}},\"version\":0}";
 
-// Of term 2 and version 3, with two configurations, a master, a member and an exclusion.
-const FULL_STATE: [u8; 33] = [
-    0, 0, 0, 0, 0, 0, 0, 2, 0, 0, 0, 0, 0, 0, 0, 3, 1, 1, 97, 1, 1, 98, 1, 1, 97, 1, 1, 99, 1, 1,
-    100, 0, 0,
+// Of term 2 and version 3, of a parent of an older term and a greater version, with two configurations, a master, a member and
+// an exclusion.
+const FULL_STATE: [u8; 50] = [
+    0, 0, 0, 0, 0, 0, 0, 2, 0, 0, 0, 0, 0, 0, 0, 3, 1, 0, 0, 0, 0, 0, 0, 0, 1, 0, 0, 0, 0, 0, 0, 0,
+    4, 1, 1, 97, 1, 1, 98, 1, 1, 97, 1, 1, 99, 1, 1, 100, 0, 0,
 ];
 
 const FULL_JSON: &str =
-    "{\"committed\":[\"b\"],\"config\":[\"a\"],\"term\":2,\"value\":{\"exclusions\":[\"d\"],\"master\":\"a\",\"members\":[\"c\"],\"settings\":{}},\"version\":3}";
+    "{\"committed\":[\"b\"],\"config\":[\"a\"],\"parent\":{\"term\":1,\"version\":4},\"term\":2,\"value\":{\"exclusions\":[\"d\"],\"master\":\"a\",\"members\":[\"c\"],\"settings\":{}},\"version\":3}";
 
 // Whether the bytes are those of a state, which has this JSON and whose copy has these bytes.
 fn is_state(alloc: Global, bytes: &[u8], json: &str) -> Result<bool, AllocError> {
@@ -66,15 +68,15 @@ fn fault_of(alloc: Global, bytes: &[u8]) -> Option<StateFault> {
 }
 
 // STATE with its first ids as b, a, c.
-const UNORDERED: [u8; 41] = [
-    0, 0, 0, 0, 0, 0, 0, 1, 0, 0, 0, 0, 0, 0, 0, 1, 3, 1, 98, 1, 97, 1, 99, 3, 1, 97, 1, 98, 1, 99,
-    0, 0, 0, 0, 1, 0, 1, 118, 0, 1, 120,
+const UNORDERED: [u8; 58] = [
+    0, 0, 0, 0, 0, 0, 0, 1, 0, 0, 0, 0, 0, 0, 0, 1, 1, 0, 0, 0, 0, 0, 0, 0, 0, 0, 0, 0, 0, 0, 0, 0,
+    0, 3, 1, 98, 1, 97, 1, 99, 3, 1, 97, 1, 98, 1, 99, 0, 0, 0, 0, 1, 0, 1, 118, 0, 1, 120,
 ];
 
 // STATE and a byte after it.
-const LONGER: [u8; 42] = [
-    0, 0, 0, 0, 0, 0, 0, 1, 0, 0, 0, 0, 0, 0, 0, 1, 3, 1, 97, 1, 98, 1, 99, 3, 1, 97, 1, 98, 1, 99,
-    0, 0, 0, 0, 1, 0, 1, 118, 0, 1, 120, 0,
+const LONGER: [u8; 59] = [
+    0, 0, 0, 0, 0, 0, 0, 1, 0, 0, 0, 0, 0, 0, 0, 1, 1, 0, 0, 0, 0, 0, 0, 0, 0, 0, 0, 0, 0, 0, 0, 0,
+    0, 3, 1, 97, 1, 98, 1, 99, 3, 1, 97, 1, 98, 1, 99, 0, 0, 0, 0, 1, 0, 1, 118, 0, 1, 120, 0,
 ];
 
 const TERM_OF_2_TO_62: [u8; 8] = [64, 0, 0, 0, 0, 0, 0, 0];
@@ -83,31 +85,70 @@ const TERM_OVER_2_TO_62: [u8; 8] = [64, 0, 0, 0, 0, 0, 0, 1];
 
 const VERSION_OVER_2_TO_62: [u8; 16] = [0, 0, 0, 0, 0, 0, 0, 0, 64, 0, 0, 0, 0, 0, 0, 1];
 
-const ELEVEN_EXCLUSIONS: [u8; 21] = [
-    0, 0, 0, 0, 0, 0, 0, 0, 0, 0, 0, 0, 0, 0, 0, 0, 0, 0, 0, 0, 11,
+const ELEVEN_EXCLUSIONS: [u8; 22] = [
+    0, 0, 0, 0, 0, 0, 0, 0, 0, 0, 0, 0, 0, 0, 0, 0, 0, 0, 0, 0, 0, 11,
+];
+
+const FLAG_OF_TWO: [u8; 17] = [0, 0, 0, 0, 0, 0, 0, 0, 0, 0, 0, 0, 0, 0, 0, 0, 2];
+
+const PARENT_OF_A_TERM_OVER_2_TO_62: [u8; 25] = [
+    0, 0, 0, 0, 0, 0, 0, 0, 0, 0, 0, 0, 0, 0, 0, 0, 1, 64, 0, 0, 0, 0, 0, 0, 1,
+];
+
+// Of the term 1, so the parent is above the state too.
+const PARENT_OF_A_VERSION_OVER_2_TO_62: [u8; 33] = [
+    0, 0, 0, 0, 0, 0, 0, 0, 0, 0, 0, 0, 0, 0, 0, 0, 1, 0, 0, 0, 0, 0, 0, 0, 1, 64, 0, 0, 0, 0, 0,
+    0, 1,
+];
+
+// The empty state with itself as the parent.
+const ITS_OWN_PARENT: [u8; 40] = [
+    0, 0, 0, 0, 0, 0, 0, 0, 0, 0, 0, 0, 0, 0, 0, 0, 1, 0, 0, 0, 0, 0, 0, 0, 0, 0, 0, 0, 0, 0, 0, 0,
+    0, 0, 0, 0, 0, 0, 0, 0,
+];
+
+// The state 1/2 of the parent 2/1, with the ids b, a.
+const FRESHER_PARENT: [u8; 38] = [
+    0, 0, 0, 0, 0, 0, 0, 1, 0, 0, 0, 0, 0, 0, 0, 2, 1, 0, 0, 0, 0, 0, 0, 0, 2, 0, 0, 0, 0, 0, 0, 0,
+    1, 2, 1, 98, 1, 97,
+];
+
+const FAULTS: [(&[u8], StateFault); 12] = [
+    (&[0; 25], Trailing),
+    (&LONGER, Trailing),
+    (&UNORDERED, Field(FieldError::NotOrdered)),
+    (&TERM_OF_2_TO_62, Field(FieldError::Short)),
+    (&TERM_OVER_2_TO_62, Field(FieldError::TermTooLarge)),
+    (&VERSION_OVER_2_TO_62, Field(FieldError::VersionTooLarge)),
+    (&ELEVEN_EXCLUSIONS, Field(FieldError::TooMany)),
+    (&FLAG_OF_TWO, Field(FieldError::BadFlag)),
+    (
+        &PARENT_OF_A_TERM_OVER_2_TO_62,
+        Field(FieldError::TermTooLarge),
+    ),
+    (
+        &PARENT_OF_A_VERSION_OVER_2_TO_62,
+        Field(FieldError::VersionTooLarge),
+    ),
+    (&ITS_OWN_PARENT, Field(FieldError::BadParent)),
+    (&FRESHER_PARENT, Field(FieldError::BadParent)),
 ];
 
 #[test]
 fn the_first_fault_of_a_state_is_named(rt: HostRuntime) {
-    for (bytes, fault) in [
-        (&STATE[..40], Field(FieldError::Short)),
-        ([0; 24].as_slice(), Trailing),
-        (LONGER.as_slice(), Trailing),
-        (UNORDERED.as_slice(), Field(FieldError::NotOrdered)),
-        (TERM_OF_2_TO_62.as_slice(), Field(FieldError::Short)),
-        (
-            TERM_OVER_2_TO_62.as_slice(),
-            Field(FieldError::TermTooLarge),
-        ),
-        (
-            VERSION_OVER_2_TO_62.as_slice(),
-            Field(FieldError::VersionTooLarge),
-        ),
-        (ELEVEN_EXCLUSIONS.as_slice(), Field(FieldError::TooMany)),
-    ] {
-        assert!(rt; fault_of(rt.alloc(), bytes) == Some(fault));
+    for (bytes, fault) in &FAULTS {
+        assert!(rt; fault_of(rt.alloc(), bytes) == Some(*fault));
     }
     assert!(rt; FieldError::NotOrdered.name() == "NotOrdered");
+    assert!(rt; FieldError::BadParent.name() == "BadParent");
+}
+
+// A state that ends before its flag, within its parent, and within its last setting.
+#[test]
+fn a_state_that_is_cut_is_short(rt: HostRuntime) {
+    for length in [16, 32, 57] {
+        assert!(rt; fault_of(rt.alloc(), &STATE[..length]) == Some(Field(FieldError::Short)));
+    }
 }
 
 #[test]
@@ -126,6 +167,7 @@ fn ids_of_states_are_ordered_by_term_and_then_by_version(rt: HostRuntime) {
         let other = StateId { term, version };
         assert!(rt; one.is_fresher(other) == is_fresher);
         assert!(rt; one.is_reached_by(other) != is_fresher && one.is_same(other) == is_same);
+        assert!(rt; one.is_above_parent(Some(other)) == is_fresher && one.is_above_parent(None));
     }
 }
 

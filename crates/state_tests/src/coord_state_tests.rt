@@ -4,7 +4,7 @@ ghost use Rattle.cluster_state.specs.States.{IsFit};
 
 use cluster_state::{
     ApplyCommit, ClusterState, ClusterValue, Join, PublishCause, PublishRequest, PublishResponse,
-    SharedState, ValueCause,
+    SharedState, StateId, ValueCause,
 };
 use coord_state::{CoordState, NotTaken, outcome_of_value};
 use state_journal::{Keeper, PlainKeeper, Ready};
@@ -27,7 +27,7 @@ fn opened(alloc: Global) -> Result<CoordState<PlainKeeper>, AllocError> {
     Ok(CoordState::new(a(), PlainKeeper::new(alloc)?))
 }
 
-// The state of version 1 of this term, with the empty value.
+// The state of version 1 of this term, of the parent 0/0 and with the empty value.
 fn published(alloc: Global, term: u64) -> ClusterState
     requires { term ≤ 2 ^ 62 }
     ensures { IsFit result }
@@ -35,6 +35,10 @@ fn published(alloc: Global, term: u64) -> ClusterState
     ClusterState {
         term,
         version: 1,
+        parent: Some(StateId {
+            term: 0,
+            version: 0,
+        }),
         config: VotingConfig::of(&only_a()),
         committed: VotingConfig::of(&only_a()),
         value: ClusterValue::empty(alloc),

@@ -1,7 +1,10 @@
 //! The core and the model, act for act: each answer of the core is the reply of the model.
+ghost use Rattle.std.specs.Prelude.{IsTrue, IfSome};
+ghost use Rattle.cluster_state.specs.States.{IsFitId};
+
 use cluster_state::{
     ApplyCommit, ClusterState, ClusterValue, Join, Kept, LAST_NUMBER, PublishRequest,
-    PublishResponse, SharedConfig, SharedState, SharedValue,
+    PublishResponse, SharedConfig, SharedState, SharedValue, StateId,
 };
 use coord_state::{CoordState, outcome_of, outcome_of_value};
 use reference_model::{Entry, reply};
@@ -37,11 +40,27 @@ fn config(text: &str) -> VotingConfig {
     VotingConfig::of(&NodeSet::parse(text).unwrap_or(NodeSet::new()))
 }
 
+// What a state of this version has as its parent, where each state follows the one of the version before.
+fn parent(version: u64) -> Option<StateId> {
+    match version {
+        0 => None,
+        1 => Some(StateId {
+            term: 0,
+            version: 0,
+        }),
+        _ => Some(StateId {
+            term: 1,
+            version: version.saturating_sub(1),
+        }),
+    }
+}
+
 // The state of this version and configuration that a publishes in term 1.
 fn state(alloc: Global, version: u64, ids: &str) -> Result<SharedState, AllocError> {
     let state = ClusterState {
         term: 1,
         version,
+        parent: parent(version),
         config: config(ids),
         committed: config("a,b,c"),
         value: ClusterValue::empty(alloc),
@@ -103,14 +122,31 @@ fn act(alloc: Global, step: Step) -> Result<Act, AllocError> {
     }
 }
 
+fn is_fit_id(id: StateId) -> bool
+    ensures { IsTrue result → IsFitId id }
+{
+    id.term <= LAST_NUMBER && id.version <= LAST_NUMBER
+}
+
+fn is_fit_parent(parent: Option<StateId>) -> bool
+    ensures { IsTrue result → IfSome parent IsFitId }
+{
+    match parent {
+        None => true,
+        Some(parent) => is_fit_id(parent),
+    }
+}
+
 // The state ready to be kept, where its value is the empty one, as in each act here.
 fn ready(alloc: Global, state: &ClusterState) -> Result<Ready, AllocError> {
-    if state.term > LAST_NUMBER || state.version > LAST_NUMBER {
+    let id = state.id();
+    if !is_fit_id(id) || !is_fit_parent(state.parent) || !id.is_above_parent(state.parent) {
         return Err(AllocError);
     }
     let fit = ClusterState {
         term: state.term,
         version: state.version,
+        parent: state.parent,
         config: VotingConfig::of(state.config.members()),
         committed: VotingConfig::of(state.committed.members()),
         value: ClusterValue::empty(alloc),
@@ -132,6 +168,7 @@ fn request(
     let state = ClusterState {
         term: node.term(),
         version,
+        parent: Some(node.accepted().id()),
         config: VotingConfig::of(config.members()),
         committed: VotingConfig::of(node.committed().members()),
         value: value.copy()?,
@@ -183,13 +220,21 @@ fn ids_text(alloc: Global, ids: &NodeSet) -> Result<String, AllocError> {
     Ok(text)
 }
 
+fn parent_text(alloc: Global, parent: Option<StateId>) -> Result<String, AllocError> {
+    match parent {
+        Some(id) => format!(in alloc; "{}/{}", id.term, id.version),
+        None => format!(in alloc; "_"),
+    }
+}
+
 fn state_text(alloc: Global, state: &ClusterState) -> Result<String, AllocError> {
+    let parent = parent_text(alloc, state.parent)?;
     let config = ids_text(alloc, state.config.members())?;
     let committed = ids_text(alloc, state.committed.members())?;
     let members = ids_text(alloc, &state.value.members)?;
     let term = state.term;
     let version = state.version;
-    format!(in alloc; "{term}/{version} {config} {committed} {members}")
+    format!(in alloc; "{term}/{version} {parent} {config} {committed} {members}")
 }
 
 fn message_text(alloc: Global, message: &Message) -> Result<String, AllocError> {
@@ -338,7 +383,7 @@ const A_PUBLISHES: [Row; 6] = [
     (Step::Start(1), "join a a 1 0/0"),
     (Step::Join("a", 1, 0, 0), "won=false"),
     (Step::Join("b", 1, 0, 0), "won=true"),
-    (Step::Value(1, "a,b,c"), "publish a 1/1 abc abc "),
+    (Step::Value(1, "a,b,c"), "publish a 1/1 0/0 abc abc "),
     (Step::Publish(1, "a,b,c"), "response a a 1/1"),
 ];
 
@@ -382,7 +427,7 @@ fn a_quorum_commits(rt: HostRuntime) -> Result<(), Fail> {
 #[test]
 fn one_change_of_the_configuration(rt: HostRuntime) -> Result<(), Fail> {
     const ROWS: [Row; 6] = [
-        (Step::Value(2, "a,b"), "publish a 1/2 ab abc "),
+        (Step::Value(2, "a,b"), "publish a 1/2 1/1 ab abc "),
         (Step::Value(3, "a,b"), "Value(NotAccepted(2, 1))"),
         (Step::Commit, "Commit(Publishing(1, 2))"),
         (Step::Publish(2, "a,b"), "response a a 1/2"),
@@ -396,7 +441,7 @@ fn one_change_of_the_configuration(rt: HostRuntime) -> Result<(), Fail> {
 fn both_configurations_have_a_quorum(rt: HostRuntime) -> Result<(), Fail> {
     const ROWS: [Row; 8] = [
         (Step::Value(1, "c"), "Value(NoJoinQuorum)"),
-        (Step::Value(1, "a"), "publish a 1/1 a abc "),
+        (Step::Value(1, "a"), "publish a 1/1 0/0 a abc "),
         (Step::Publish(1, "a"), "response a a 1/1"),
         (Step::Response("a"), "won=false"),
         (Step::Response("c"), "commit a 1/1"),
