@@ -423,7 +423,7 @@ fn each_answer_has_this_text(rt: HostRuntime) {
 }
 
 const STATE: &str =
-    r#"{"id":0,"state":{"committed":["a","b"],"config":["a","b"],"term":0,"value":{"exclusions":[],"master":null,"members":[],"settings":{"k":"\n"}},"version":0}}"#;
+    r#"{"id":0,"state":{"committed":["a","b"],"config":["a","b"],"parent":null,"term":0,"value":{"exclusions":[],"master":null,"members":[],"settings":{"k":"\n"}},"version":0}}"#;
 
 #[test]
 fn an_answered_state_has_this_text(rt: HostRuntime) -> Result<(), Fail> {

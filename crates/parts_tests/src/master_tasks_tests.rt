@@ -103,6 +103,10 @@ fn state(
     let state = ClusterState {
         term: 1,
         version: 1,
+        parent: Some(StateId {
+            term: 0,
+            version: 0,
+        }),
         config: config(voters),
         committed: config(voters),
         value: ClusterValue {
@@ -246,7 +250,7 @@ const OUTCOMES: &[(&str, &str, &[Wish], &str)] = &[
         "a,b,c",
         "_",
         &[Wish::State],
-        r#"same {"id":1,"state":{"committed":["a","b","c"],"config":["a","b","c"],"term":1,"value":{"exclusions":[],"master":"a","members":["a","b","c"],"settings":{"v":"x"}},"version":1}}"#,
+        r#"same {"id":1,"state":{"committed":["a","b","c"],"config":["a","b","c"],"parent":{"term":0,"version":0},"term":1,"value":{"exclusions":[],"master":"a","members":["a","b","c"],"settings":{"v":"x"}},"version":1}}"#,
     ),
     (
         "a,b,c",

@@ -109,11 +109,33 @@ const FAULTS: &[(&str, &[(usize, u8)], &[u8], usize, Option<FrameFault>)] = &[
         Some(FrameFault::Field(FieldError::TermTooLarge)),
     ),
     (
-        "a 16th kind",
+        "a kind between two others",
+        &[(4, 3)],
+        &[],
+        0,
+        Some(FrameFault::UnknownKind(3)),
+    ),
+    (
+        "a kind before the last",
         &[(4, 16)],
         &[],
         0,
         Some(FrameFault::UnknownKind(16)),
+    ),
+    (
+        "a kind after the last",
+        &[(4, 18)],
+        &[],
+        0,
+        Some(FrameFault::UnknownKind(18)),
+    ),
+    ("an empty state", &[(4, 17)], &[], 1, None),
+    (
+        "a state that is its own parent",
+        &[(3, 45), (4, 17), (16, 0), (25, 1)],
+        &[0; 16],
+        0,
+        Some(FrameFault::Field(FieldError::BadParent)),
     ),
 ];
 
@@ -259,8 +281,8 @@ const FOLLOWER_ANSWER: [u8; 25] = [
 ];
 
 // The state 0/0 that node a begins with.
-const INITIAL: [u8; 27] = [
-    0, 0, 0, 0, 0, 0, 0, 0, 0, 0, 0, 0, 0, 0, 0, 0, 1, 1, 97, 1, 1, 97, 0, 0, 0, 0, 0,
+const INITIAL: [u8; 28] = [
+    0, 0, 0, 0, 0, 0, 0, 0, 0, 0, 0, 0, 0, 0, 0, 0, 0, 1, 1, 97, 1, 1, 97, 0, 0, 0, 0, 0,
 ];
 
 #[test]
@@ -281,7 +303,7 @@ fn spelled_elections(rt: HostRuntime) -> Result<(), Fail> {
 #[test]
 fn spelled_publications(rt: HostRuntime) -> Result<(), Fail> {
     let state = SharedState::of(rt.alloc(), ClusterState::initial(rt.alloc(), &set("a")))?;
-    assert!(rt; is_spelled(rt.alloc(), WireMessage::Publish(state), 3, &INITIAL)?);
+    assert!(rt; is_spelled(rt.alloc(), WireMessage::Publish(state), 17, &INITIAL)?);
     assert!(rt; is_spelled(rt.alloc(), WireMessage::Response(ID), 4, &ID_BYTES)?);
     assert!(rt; is_spelled(rt.alloc(), WireMessage::Commit(ID), 5, &ID_BYTES)?);
     Ok(())
