@@ -36,11 +36,12 @@ fn state_id(term: u64, version: u64) -> StateId {
     StateId { term, version }
 }
 
-// The state 2/1 of one voter.
+// The state 2/1 of one voter, of the parent 1/4.
 fn state(alloc: Global) -> Result<SharedState, AllocError> {
     let mut state = ClusterState::initial(alloc, &only_a());
     state.term = 2;
     state.version = 1;
+    state.parent = Some(state_id(1, 4));
     SharedState::of(alloc, state)
 }
 
@@ -54,7 +55,7 @@ fn publication_has_its_text(alloc: Global) -> Result<bool, AllocError> {
     has_text(
         alloc,
         &WireMessage::Publish(state(alloc)?),
-        "publish {\"committed\":[\"a\"],\"config\":[\"a\"],\"term\":2,\"value\":{\"exclusions\":[],\"master\":null,\"members\":[],\"settings\":{}},\"version\":1}",
+        "publish {\"committed\":[\"a\"],\"config\":[\"a\"],\"parent\":{\"term\":1,\"version\":4},\"term\":2,\"value\":{\"exclusions\":[],\"master\":null,\"members\":[],\"settings\":{}},\"version\":1}",
     )
 }
 
@@ -350,7 +351,7 @@ fn responding(alloc: Global) -> Result<[Step; 5], AllocError> {
 }
 
 const RESPONDING: &str =
-    "act a ok response b a 2/1\ncommitted {\"committed\":[\"a\"],\"config\":[\"a\"],\"term\":2,\"value\":{\"exclusions\":[],\"master\":null,\"members\":[],\"settings\":{}},\"version\":1}\nact a refused:TermNotGreater(2,2) startjoin b 2\nact a stopped commit a 2/1\nact a crashed publish a {\"committed\":[\"a\"],\"config\":[\"a\"],\"term\":2,\"value\":{\"exclusions\":[],\"master\":null,\"members\":[],\"settings\":{}},\"version\":1}\nact a disk boot a,b\n";
+    "act a ok response b a 2/1\ncommitted {\"committed\":[\"a\"],\"config\":[\"a\"],\"parent\":{\"term\":1,\"version\":4},\"term\":2,\"value\":{\"exclusions\":[],\"master\":null,\"members\":[],\"settings\":{}},\"version\":1}\nact a refused:TermNotGreater(2,2) startjoin b 2\nact a stopped commit a 2/1\nact a crashed publish a {\"committed\":[\"a\"],\"config\":[\"a\"],\"parent\":{\"term\":1,\"version\":4},\"term\":2,\"value\":{\"exclusions\":[],\"master\":null,\"members\":[],\"settings\":{}},\"version\":1}\nact a disk boot a,b\n";
 
 fn steps_text(
     alloc: Global,
@@ -373,7 +374,7 @@ fn a_response_that_sends_a_commit_shows_what_was_published_last(
 }
 
 const ACCEPTING: &str =
-    "act a ok publish a {\"committed\":[\"a\"],\"config\":[\"a\"],\"term\":2,\"value\":{\"exclusions\":[],\"master\":null,\"members\":[],\"settings\":{}},\"version\":1}\n";
+    "act a ok publish a {\"committed\":[\"a\"],\"config\":[\"a\"],\"parent\":{\"term\":1,\"version\":4},\"term\":2,\"value\":{\"exclusions\":[],\"master\":null,\"members\":[],\"settings\":{}},\"version\":1}\n";
 
 #[test]
 fn a_state_that_was_accepted_was_not_published(rt: HostRuntime) -> Result<(), Fail> {

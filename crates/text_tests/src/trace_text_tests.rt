@@ -255,18 +255,18 @@ fn lines_of_publications(rt: HostRuntime) -> Result<(), Fail> {
         ),
         (
             Publication::Publish,
-            "publish a {\"committed\":[],\"config\":[],\"term\":0,\"value\":{\"exclusions\":[],\"master\":null,\"members\":[],\"settings\":{}},\"version\":0}",
+            "publish a {\"committed\":[],\"config\":[],\"parent\":null,\"term\":0,\"value\":{\"exclusions\":[],\"master\":null,\"members\":[],\"settings\":{}},\"version\":0}",
         ),
         (Publication::Response(a()), "response a a 1/2"),
         (Publication::Response(b()), "response a b 1/2"),
         (Publication::Commit, "commit a 1/2"),
         (
             Publication::Committed,
-            "committed {\"committed\":[],\"config\":[],\"term\":0,\"value\":{\"exclusions\":[],\"master\":null,\"members\":[],\"settings\":{}},\"version\":0}\n",
+            "committed {\"committed\":[],\"config\":[],\"parent\":null,\"term\":0,\"value\":{\"exclusions\":[],\"master\":null,\"members\":[],\"settings\":{}},\"version\":0}\n",
         ),
         (
             Publication::PublishMessage,
-            "m1 a->* publish {\"committed\":[],\"config\":[],\"term\":0,\"value\":{\"exclusions\":[],\"master\":null,\"members\":[],\"settings\":{}},\"version\":0}\n",
+            "m1 a->* publish {\"committed\":[],\"config\":[],\"parent\":null,\"term\":0,\"value\":{\"exclusions\":[],\"master\":null,\"members\":[],\"settings\":{}},\"version\":0}\n",
         ),
         (Publication::ResponseMessage(a()), "m2 a->a response 1/2\n"),
         (Publication::ResponseMessage(b()), "m2 a->b response 1/2\n"),
