@@ -1,5 +1,5 @@
-//! The tests of policy_model, client_guarantees, coordinator, node_loop, node_bytes. They stand apart, so that a check of one of
-//! these, or of what stands on it, does not prove them again.
+//! The tests of policy_model, system_laws, client_guarantees, coordinator, node_loop, node_bytes. They stand apart, so that a
+//! check of one of these, or of what stands on it, does not prove them again.
 #![tactic(auto)]
 
 #[cfg(test)]
@@ -18,3 +18,5 @@ mod node_loop_tests;
 mod policy_model_tests;
 #[cfg(test)]
 mod shown;
+#[cfg(test)]
+mod system_laws_tests;

@@ -1,0 +1,6 @@
+pub mod Messages
+pub mod EventLaws
+pub mod Systems
+pub mod Laws
+pub mod Moments
+pub mod Restarts
