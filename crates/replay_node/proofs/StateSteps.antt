@@ -16,7 +16,7 @@ use Rattle.zen_disk.specs.Runs.{CallsMade}
 use Rattle.zen_disk.specs.Sides.{Sides, Files}
 use Rattle.zen_disk.specs.UndoOrder.{AreImages, WereImages, only-last, were-are}
 use Rattle.zen_disk.specs.declared.orders.Struck.TheVariants.{Stop, Fault}
-use Rattle.gate_log.specs.Generations.{standing_in}
+use Rattle.gate_log.specs.Generations.{in_use, standing_in}
 use Rattle.gate_log.specs.Place.{place, place_of}
 use Rattle.gate_log.proofs.Places.{place_is}
 use Rattle.state_journal.specs.Changes.{IsEither}
