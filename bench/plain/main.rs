@@ -6,7 +6,8 @@
 //!     rustc -O -C target-cpu=x86-64 main.rs
 //!
 //! It does the work that `zen` does: each line is read and checked, the whole schedule and all messages that were sent are
-//! held, and each node keeps its record in a journal in memory, from which a restart reads it back. Less than in `zen`:
+//! held, and each node keeps its record in a journal in memory, each body with its digest, from which a restart reads it
+//! back. Less than in `zen`:
 //!
 //! - a line is echoed as it was read, since it has one spelling, and a state that is accepted is shared and not copied;
 //! - a line `fuse` or `fail` is checked, and then refused as `not in this program`;
@@ -346,10 +347,12 @@ struct StateId {
     version: u64,
 }
 
-/// `committed` is the committed configuration as the publisher of the state knew it. The default is the empty state 0/0.
+/// `parent` is the id of the state that its publisher had accepted, and `committed` the committed configuration as the
+/// publisher knew it. The default is the empty state 0/0.
 #[derive(Default)]
 struct ClusterState {
     id: StateId,
+    parent: Option<StateId>,
     config: NodeSet,
     committed: NodeSet,
     value: Rc<ClusterValue>,
@@ -389,9 +392,12 @@ const CLOSED_GATE: u8 = 0;
 const OPEN_GATE: u8 = 1;
 
 // The first byte of a body: which change of the record it is.
-const TERM_BODY: u8 = 1;
-const STATE_BODY: u8 = 2;
-const COMMIT_BODY: u8 = 3;
+const TERM_BODY: u8 = 0x81;
+const STATE_BODY: u8 = 0x82;
+const COMMIT_BODY: u8 = 0x83;
+
+/// How many bytes the digest has, with which a body ends.
+const DIGEST_BYTES: usize = 32;
 
 /// What a node keeps durably: its record.
 #[derive(Default)]
@@ -415,12 +421,14 @@ impl<'a> Journal<'a> {
         Journal { ids, bytes }
     }
 
-    /// Appends a body: its first byte, and the fields after it.
+    /// Appends a body: its first byte, the fields after it, and the digest of both.
     fn append(&mut self, kind: u8, put_fields: impl FnOnce(&Ids, &mut Vec<u8>)) {
         let gate = self.bytes.len() - 1;
         self.bytes.extend_from_slice(&[0; 4]);
         self.bytes.push(kind);
         put_fields(self.ids, &mut self.bytes);
+        let digest = sha256(&self.bytes[gate + 5..]);
+        self.bytes.extend_from_slice(&digest);
         let length = (self.bytes.len() - gate - 5) as u32;
         self.bytes[gate + 1..gate + 5].copy_from_slice(&length.to_be_bytes());
         self.bytes.push(CLOSED_GATE);
@@ -430,9 +438,12 @@ impl<'a> Journal<'a> {
     /// The record after all changes of the journal, from the empty one on. `None` where this is no journal.
     fn read(&self) -> Option<PersistedState> {
         let mut record = PersistedState::default();
-        let mut fields = Fields { ids: self.ids, rest: self.bytes.strip_prefix(JOURNAL_HEADER)? };
-        while fields.byte()? == OPEN_GATE {
-            fields.take(4)?;
+        let mut bodies = Fields { ids: self.ids, rest: self.bytes.strip_prefix(JOURNAL_HEADER)? };
+        while bodies.byte()? == OPEN_GATE {
+            let length = bodies.u32()? as usize;
+            let guarded = bodies.take(length.checked_sub(DIGEST_BYTES)?)?;
+            check(bodies.take(DIGEST_BYTES)? == sha256(guarded), ()).ok()?;
+            let mut fields = Fields { ids: self.ids, rest: guarded };
             match fields.byte()? {
                 TERM_BODY => record.current_term = fields.u64()?,
                 STATE_BODY => {
@@ -464,14 +475,22 @@ fn put_nodes(ids: &Ids, out: &mut Vec<u8>, nodes: NodeSet) {
     }
 }
 
+fn put_state_id(out: &mut Vec<u8>, id: StateId) {
+    put_u64(out, id.term);
+    put_u64(out, id.version);
+}
+
 fn put_text(out: &mut Vec<u8>, text: &str) {
     out.extend_from_slice(&(text.len() as u16).to_be_bytes());
     out.extend_from_slice(text.as_bytes());
 }
 
 fn put_state(ids: &Ids, out: &mut Vec<u8>, state: &ClusterState) {
-    put_u64(out, state.id.term);
-    put_u64(out, state.id.version);
+    put_state_id(out, state.id);
+    out.push(u8::from(state.parent.is_some()));
+    if let Some(parent) = state.parent {
+        put_state_id(out, parent);
+    }
     put_nodes(ids, out, state.config);
     put_nodes(ids, out, state.committed);
     let value = &state.value;
@@ -509,9 +528,18 @@ impl<'a> Fields<'a> {
         Some(u16::from_be_bytes([self.byte()?, self.byte()?]))
     }
 
+    fn u32(&mut self) -> Option<u32> {
+        let bytes = self.take(4)?;
+        Some(bytes.iter().fold(0, |number, byte| number << 8 | u32::from(*byte)))
+    }
+
     fn u64(&mut self) -> Option<u64> {
         let bytes = self.take(8)?;
         Some(bytes.iter().fold(0, |number, byte| number << 8 | u64::from(*byte)))
+    }
+
+    fn state_id(&mut self) -> Option<StateId> {
+        Some(StateId { term: self.u64()?, version: self.u64()? })
     }
 
     fn node(&mut self) -> Option<Node> {
@@ -533,7 +561,8 @@ impl<'a> Fields<'a> {
     }
 
     fn state(&mut self) -> Option<ClusterState> {
-        let id = StateId { term: self.u64()?, version: self.u64()? };
+        let id = self.state_id()?;
+        let parent = if self.byte()? == 1 { Some(self.state_id()?) } else { None };
         let (config, committed) = (self.nodes()?, self.nodes()?);
         let master = if self.byte()? == 1 { Some(self.node()?) } else { None };
         let (members, exclusions) = (self.nodes()?, self.nodes()?);
@@ -542,7 +571,76 @@ impl<'a> Fields<'a> {
             settings.insert(self.text()?, self.text()?);
         }
         let value = Rc::new(ClusterValue { master, members, exclusions, settings });
-        Some(ClusterState { id, config, committed, value })
+        Some(ClusterState { id, parent, config, committed, value })
+    }
+}
+
+// SHA-256 -------------------------------------------------------------------------------------------------------------
+
+/// The words that a digest begins with, and those of the rounds: bits of the roots of primes, as FIPS 180-4 lists them.
+const FIRST_WORDS: [u32; 8] =
+    [0x6a09e667, 0xbb67ae85, 0x3c6ef372, 0xa54ff53a, 0x510e527f, 0x9b05688c, 0x1f83d9ab, 0x5be0cd19];
+const ROUND_WORDS: [u32; 64] = [
+    0x428a2f98, 0x71374491, 0xb5c0fbcf, 0xe9b5dba5, 0x3956c25b, 0x59f111f1, 0x923f82a4, 0xab1c5ed5,
+    0xd807aa98, 0x12835b01, 0x243185be, 0x550c7dc3, 0x72be5d74, 0x80deb1fe, 0x9bdc06a7, 0xc19bf174,
+    0xe49b69c1, 0xefbe4786, 0x0fc19dc6, 0x240ca1cc, 0x2de92c6f, 0x4a7484aa, 0x5cb0a9dc, 0x76f988da,
+    0x983e5152, 0xa831c66d, 0xb00327c8, 0xbf597fc7, 0xc6e00bf3, 0xd5a79147, 0x06ca6351, 0x14292967,
+    0x27b70a85, 0x2e1b2138, 0x4d2c6dfc, 0x53380d13, 0x650a7354, 0x766a0abb, 0x81c2c92e, 0x92722c85,
+    0xa2bfe8a1, 0xa81a664b, 0xc24b8b70, 0xc76c51a3, 0xd192e819, 0xd6990624, 0xf40e3585, 0x106aa070,
+    0x19a4c116, 0x1e376c08, 0x2748774c, 0x34b0bcb5, 0x391c0cb3, 0x4ed8aa4a, 0x5b9cca4f, 0x682e6ff3,
+    0x748f82ee, 0x78a5636f, 0x84c87814, 0x8cc70208, 0x90befffa, 0xa4506ceb, 0xbef9a3f7, 0xc67178f2,
+];
+
+const BLOCK_BYTES: usize = 64;
+
+/// The SHA-256 of these bytes.
+fn sha256(bytes: &[u8]) -> [u8; DIGEST_BYTES] {
+    let mut words = FIRST_WORDS;
+    let mut blocks = bytes.chunks_exact(BLOCK_BYTES);
+    for block in &mut blocks {
+        compress(&mut words, block);
+    }
+    // What is left, a bit, zeros, and the count of bits, in one block or two.
+    let rest = blocks.remainder();
+    let mut last = [0; 2 * BLOCK_BYTES];
+    last[..rest.len()].copy_from_slice(rest);
+    last[rest.len()] = 0x80;
+    let end = if rest.len() + 9 <= BLOCK_BYTES { BLOCK_BYTES } else { 2 * BLOCK_BYTES };
+    last[end - 8..end].copy_from_slice(&(8 * bytes.len() as u64).to_be_bytes());
+    for block in last[..end].chunks_exact(BLOCK_BYTES) {
+        compress(&mut words, block);
+    }
+    let mut digest = [0; DIGEST_BYTES];
+    for (place, word) in digest.chunks_exact_mut(4).zip(words) {
+        place.copy_from_slice(&word.to_be_bytes());
+    }
+    digest
+}
+
+/// Takes a block into the words of a digest.
+fn compress(words: &mut [u32; 8], block: &[u8]) {
+    let mut schedule = [0; 64];
+    for (word, bytes) in schedule.iter_mut().zip(block.chunks_exact(4)) {
+        *word = u32::from_be_bytes([bytes[0], bytes[1], bytes[2], bytes[3]]);
+    }
+    for at in 16..64 {
+        let (early, late) = (schedule[at - 15], schedule[at - 2]);
+        let early = early.rotate_right(7) ^ early.rotate_right(18) ^ early >> 3;
+        let late = late.rotate_right(17) ^ late.rotate_right(19) ^ late >> 10;
+        schedule[at] = schedule[at - 16].wrapping_add(early).wrapping_add(schedule[at - 7]).wrapping_add(late);
+    }
+    let [mut a, mut b, mut c, mut d, mut e, mut f, mut g, mut h] = *words;
+    for (round, word) in ROUND_WORDS.iter().zip(schedule) {
+        let mixed = e.rotate_right(6) ^ e.rotate_right(11) ^ e.rotate_right(25);
+        let chosen = e & f ^ !e & g;
+        let first = h.wrapping_add(mixed).wrapping_add(chosen).wrapping_add(*round).wrapping_add(word);
+        let mixed = a.rotate_right(2) ^ a.rotate_right(13) ^ a.rotate_right(22);
+        let most = a & b ^ a & c ^ b & c;
+        let second = mixed.wrapping_add(most);
+        (h, g, f, e, d, c, b, a) = (g, f, e, d.wrapping_add(first), c, b, a, first.wrapping_add(second));
+    }
+    for (word, added) in words.iter_mut().zip([a, b, c, d, e, f, g, h]) {
+        *word = word.wrapping_add(added);
     }
 }
 
@@ -676,7 +774,8 @@ impl CoordinationState {
         check(config == accepted.config || is_settled, Cause::Plain("Reconfiguring"))?;
         check(config.has_quorum(self.join_votes), Cause::Plain("NoJoinQuorum"))?;
         let id = StateId { term: self.persisted.current_term, version };
-        let state = Rc::new(ClusterState { id, config, committed, value: Rc::clone(value) });
+        let parent = Some(accepted.id);
+        let state = Rc::new(ClusterState { id, parent, config, committed, value: Rc::clone(value) });
         self.last_published = Some(Rc::clone(&state));
         self.last_published_version = version;
         self.last_published_config = config;
@@ -832,6 +931,11 @@ impl<'a> Trace<'a> {
 
     fn json_state(&mut self, state: &ClusterState) -> &mut Self {
         self.word("{\"committed\":").json_nodes(state.committed).word(",\"config\":").json_nodes(state.config);
+        self.word(",\"parent\":");
+        match state.parent {
+            Some(id) => self.word("{\"term\":").number(id.term).word(",\"version\":").number(id.version).byte(b'}'),
+            None => self.word("null"),
+        };
         self.word(",\"term\":").number(state.id.term).word(",\"value\":").json_value(&state.value);
         self.word(",\"version\":").number(state.id.version).byte(b'}')
     }
