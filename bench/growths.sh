@@ -14,7 +14,7 @@ if [ $# -eq 0 ]; then
     for story in "$top"/examples/*.md; do
         "$top/examples/cut" schedule "$story" > "$work/stories/$(basename "$story" .md)"
     done
-    rm "$work/stories/README" "$work/stories/three-nodes"
+    rm "$work/stories/README" "$work/stories/three-nodes" "$work/stories/old-folder"
     set -- "$work"/stories/*
 fi
 cc -shared -fPIC -O1 -o "$work/refuse.so" "$top/bench/refuse_growth.c" -ldl
