@@ -20,7 +20,7 @@ const WAIT_MS: u64 = 50;
 // The longest time without a tick while inputs come, in milliseconds; where an event takes longer, each second input is one.
 const LATE_MS: u64 = 100;
 
-/// A link over sockets. It tells nothing.
+/// A link over sockets. It tells nothing but its counts.
 #[derive(Drop)]
 pub struct SocketLink<R: Net + Clock + RandomSource + Drop, F: Framing + Drop> {
     rt: R,
@@ -31,6 +31,8 @@ pub struct SocketLink<R: Net + Clock + RandomSource + Drop, F: Framing + Drop> {
     ticked: u64,
     // Whether a tick was given last.
     ticked_last: bool,
+    // how often `next` was called
+    asked: u64,
     faults: u64,
 }
 
@@ -55,6 +57,7 @@ impl<R: Net + Clock + RandomSource + Drop, F: Framing + Drop> SocketLink<R, F> {
             opened,
             ticked: 0,
             ticked_last: false,
+            asked: 0,
             faults: 0,
         })
     }
@@ -70,6 +73,7 @@ impl<R: Net + Clock + RandomSource + Drop, F: Framing + Drop> SocketLink<R, F> {
     fn found(&mut self) -> Result<Option<Input>, LinkError>
         ensures conn { IfOk result (λ found. IfSome found (λ input. IsTrue (has_low_conn input))) }
         ensures same { self.new.faults ≡ self.old.faults }
+        ensures asked { self.new.asked ≡ self.old.asked }
     {
         let Ok(now) = passed(&self.rt, &self.opened) else {
             return Err(LinkError::Failed);
@@ -88,6 +92,7 @@ impl<R: Net + Clock + RandomSource + Drop, F: Framing + Drop> SocketLink<R, F> {
     fn tick(&mut self) -> Result<Input, LinkError>
         ensures conn { IfOk result (λ input. IsTrue (has_low_conn input)) }
         ensures later { self.old.faults ≤ self.new.faults }
+        ensures asked { self.new.asked ≡ self.old.asked }
         ensures failed { IsErrOf result LinkError.Failed → Rose self.old.faults self.new.faults }
     {
         match moment(&self.rt, &self.opened) {
@@ -122,11 +127,14 @@ impl<R: Net + Clock + RandomSource + Drop, F: Framing + Drop> Link for SocketLin
 
     ghost told = { λ _. None };
 
+    ghost asked = { λ link. link.asked };
+
     ghost faults = { λ link. link.faults };
 
     ghost steps = { λ _ _ _. ⊤ };
 
     fn next(&mut self) -> Result<Input, LinkError> {
+        self.asked = self.asked.saturating_add(1);
         let found = self.found();
         self.faults = self.faults.saturating_add(self.sockets.take_errors());
         match found {

@@ -95,5 +95,6 @@ fn a_link_in_memory_tells_what_went_over_it(rt: HostRuntime) -> Result<(), Fail>
     let _ = link.next();
     assert!(rt; letters(alloc, &link)?.as_slice() == b"b7dcs".as_slice());
     assert!(rt; link.fault_count() == 1);
+    assert!(rt; link.ask_count() == 4);
     Ok(())
 }

@@ -1,7 +1,8 @@
 -- What was written to a sink, piece by piece.
-use Rattle.std.proofs.Common.{◌≡◌, ℕ, ◌+◌, Option, None, Some, List, [], ◌++◌, take, drop, sym, ◌∙◌, ap, subst, append_assoc, append-nil}
+use Rattle.std.proofs.Common.{◌≡◌, ℕ, ◌+◌, ◌<◌, Option, None, Some, List, [], ◌++◌, length, take, drop, sym, ◌∙◌, ap, subst, arith, append_assoc, append-nil}
 use Rattle.std.proofs.Math.Seq.{take-add}
-use Rattle.zen_link.specs.Streams.{Appended, AppendedFront}
+use Rattle.std.proofs.lemmas.List.{length-drop, take-append-drop}
+use Rattle.zen_link.specs.Streams.{Appended, AppendedFront, AppendedPart}
 
 pub appended_more : (a b c : Option (List ℕ)) (xs ys : List ℕ) → Appended a b xs → Appended b c ys → Appended a c (xs ++ ys)
 appended_more None b c xs ys g h = subst (λ (x : Option (List ℕ)). Appended x c ys) g h
@@ -32,4 +33,16 @@ front_within a b piece rest all e h = record {
   rest = h.rest ++ rest;
   whole = sym (append_assoc h.front h.rest rest) ∙ ap (λ (l : List ℕ). l ++ rest) h.whole ∙ e;
   appended = h.appended;
+}
+
+-- the write of what follows this place was refused
+pub part_at : (a b c : Option (List ℕ)) (bytes : List ℕ) (at : ℕ) → at < length bytes → Appended a b (take at bytes) → Appended b c [] → AppendedPart a c bytes
+part_at a b c bytes at inside g h = record {
+  front = record {
+    front = take at bytes;
+    rest = drop at bytes;
+    whole = take-append-drop at bytes;
+    appended = subst (λ (l : List ℕ). Appended a c l) (append-nil (take at bytes)) (appended_more a b c (take at bytes) [] g h);
+  };
+  unwritten = λ none. let empty : length (drop at bytes) ≡ 0 = ap (λ (l : List ℕ). length l) none in omega (arith, inside, length-drop at bytes, empty);
 }

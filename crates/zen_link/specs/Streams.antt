@@ -14,6 +14,11 @@ pub record AppendedFront (was now : Option (List ℕ)) (bytes : List ℕ) : Type
   pub whole : front ++ rest ≡ bytes
   pub appended : Appended was now front
 
+-- a prefix of the bytes was added, and not all of them
+pub record AppendedPart (was now : Option (List ℕ)) (bytes : List ℕ) : Type 0 where
+  pub front : AppendedFront was now bytes
+  pub unwritten : front.rest ≡ [] → ⊥
+
 -- a write takes a prefix of the bytes, which is not empty where they are not; a refused one takes none
 abbrev pub Writes : Option (List ℕ) → Option (List ℕ) → List ℕ → Result ℕ Failed → Type 0
 Writes was now bytes (Ok count) = (count ≤ length bytes) × (0 < length bytes → 0 < count) × Appended was now (take count bytes)

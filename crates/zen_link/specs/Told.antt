@@ -1,5 +1,5 @@
 -- For the contracts inside: what a link tells: what was taken, given and dropped, in order.
-use Rattle.std.specs.Prelude.{◌≡◌, ℕ, Bool, true, nat_lt, ◌⊎◌, Option, None, Some, Result, Ok, Err, List, [], ◌∷◌, ◌++◌, unwrap_or, slice_get}
+use Rattle.std.specs.Prelude.{◌≡◌, ℕ, ◌+◌, ◌-◌, ◌^◌, min, Bool, true, nat_lt, ◌⊎◌, Option, None, Some, Result, Ok, Err, List, [], ◌∷◌, ◌++◌, unwrap_or, slice_get}
 use Rattle.zen_disk.specs.Faults.{Rose}
 use Rattle.zen_link.specs.declared.link.Input.{Input}
 use Rattle.zen_link.specs.declared.link.Input.TheVariants.{Bytes, Closed, Tick, Stop}
@@ -20,6 +20,10 @@ Takes was now (Err e) = now ≡ was
 -- one more is told, or at a fault nothing is told from then on
 abbrev pub Adds : {A : Type 0} → Option (List A) → Option (List A) → A → ℕ → ℕ → Type 0
 Adds was now x before after = (now ≡ with_last was x) ⊎ ((now ≡ None) × Rose before after)
+
+-- a count of calls after so many more of them; it stands at the end of its type
+abbrev pub counted : ℕ → ℕ → ℕ
+counted before more = min (before + more) (2 ^ 64 - 1)
 
 -- how many connections a link has at most
 abbrev pub most_connections : ℕ

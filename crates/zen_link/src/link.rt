@@ -1,7 +1,7 @@
 //! The trait `Link`: what comes to a node, and what it sends.
 ghost use Rattle.std.specs.Prelude.{◌≡◌, ℕ, ◌≤◌, Option, List, Result, IsTrue, IfOk, IsErrOf};
 ghost use Rattle.zen_disk.specs.Faults.{Rose};
-ghost use Rattle.zen_link.specs.Told.{Takes, Adds, has_low_conn};
+ghost use Rattle.zen_link.specs.Told.{Takes, Adds, counted, has_low_conn};
 ghost use Rattle.zen_link.specs.declared.link.Traffic.{Traffic as Told};
 ghost use Rattle.zen_link.specs.declared.link.Traffic.TheVariants.{Gave, Dropped};
 
@@ -95,6 +95,9 @@ pub trait Link {
     /// What was taken, given and dropped, in order, where the link tells.
     ghost told: { Self → Option (List (Told Self.Out)) };
 
+    /// How often `next` was called, whatever it answered. A link that tells nothing else counts these calls too.
+    ghost asked: { Self → ℕ };
+
     /// How many faults there were.
     ghost faults: { Self → ℕ };
 
@@ -105,6 +108,7 @@ pub trait Link {
     /// `Err` no input was taken.
     fn next(&mut self) -> Result<Input, LinkError>
         ensures takes { Takes (told self.old) (told self.new) result }
+        ensures asked { asked self.new ≡ counted (asked self.old) 1 }
         ensures conn { IfOk result (λ input. IsTrue (has_low_conn input)) }
         ensures later { faults self.old ≤ faults self.new }
         ensures failed { IsErrOf result LinkError.Failed → Rose (faults self.old) (faults self.new) }
@@ -113,10 +117,12 @@ pub trait Link {
     /// Sends. What is sent may be lost, and no answer says so.
     fn send(&mut self, out: Self::Out)
         ensures gives { Adds (told self.old) (told self.new) (Gave out) (faults self.old) (faults self.new) }
+        ensures asked { asked self.new ≡ asked self.old }
         ensures later { faults self.old ≤ faults self.new };
 
     /// Ends the connection with this number, if there is one.
     fn drop_conn(&mut self, conn: u64)
         ensures drops { Adds (told self.old) (told self.new) (Dropped conn) (faults self.old) (faults self.new) }
+        ensures asked { asked self.new ≡ asked self.old }
         ensures later { faults self.old ≤ faults self.new };
 }

@@ -32,7 +32,7 @@ impl<O: Drop> MemLink<O> {
         ensures faults { ⟦<MemLink<O> as Link>⟧.faults result ≡ 0 }
         ensures script { result.script ≡ script }
         ensures at { result.at ≡ 0 }
-        ensures calls { result.calls ≡ 0 }
+        ensures asked { ⟦<MemLink<O> as Link>⟧.asked result ≡ 0 }
         ensures fails { result.fails ≡ fails }
     {
         MemLink {
@@ -64,6 +64,13 @@ impl<O: Drop> MemLink<O> {
         self.faults
     }
 
+    /// How often `next` was called.
+    pub fn ask_count(&self) -> u64
+        ensures { result ≡ ⟦<MemLink<O> as Link>⟧.asked self.now }
+    {
+        self.calls
+    }
+
     // The input whose turn it is.
     fn scripted(&self) -> Result<Input, AllocError>
         ensures input { IfOk result (λ input. input ≡ scripted_at self.now.script.items self.now.at) }
@@ -78,6 +85,7 @@ impl<O: Drop> MemLink<O> {
     // Tells what went over it, or nothing from now on.
     fn tell(&mut self, traffic: Traffic<O>)
         ensures told { Adds (told_of self.old) (told_of self.new) traffic self.old.faults self.new.faults }
+        ensures same { self.new.calls ≡ self.old.calls }
         ensures later { self.old.faults ≤ self.new.faults }
     {
         if self.tells && self.traffic.push(traffic).is_err() {
@@ -93,6 +101,8 @@ impl<O: Drop> Link for MemLink<O> {
     type Out = O;
 
     ghost told = { told_of };
+
+    ghost asked = { λ link. link.calls };
 
     ghost faults = { λ link. link.faults };
 

@@ -1,7 +1,7 @@
 //! The traits `Source` and `Sink`, and a write of all bytes.
-ghost use Rattle.std.specs.Prelude.{◌≡◌, ℕ, ◌<◌, ◌≤◌, List, Option, Result};
+ghost use Rattle.std.specs.Prelude.{◌≡◌, ℕ, ◌<◌, ◌≤◌, List, Option, Result, OnErr};
 ghost use Rattle.zen_disk.specs.Faults.{HasCause};
-ghost use Rattle.zen_link.specs.Streams.{Reads, Writes, WritesAll};
+ghost use Rattle.zen_link.specs.Streams.{AppendedPart, Reads, Writes, WritesAll};
 
 use thiserror::Error;
 
@@ -52,9 +52,10 @@ pub trait Sink {
         ensures steps { steps self.old bytes.now self.new result };
 }
 
-/// Writes all of the bytes. `Failed` only where the sink's count of faults rose; a prefix of them is written then.
+/// Writes all of the bytes. `Failed` only where the sink's count of faults rose; a prefix of them is written then, and not all.
 pub fn write_all<S: Sink>(out: &mut S, bytes: &[u8]) -> Result<(), Failed>
     ensures writes { WritesAll (S.written out.old) (S.written out.new) bytes.now result }
+    ensures part { OnErr result (AppendedPart (S.written out.old) (S.written out.new) bytes.now) }
     ensures cause { HasCause (S.faults out.old) (S.faults out.new) result }
 {
     let mut at = 0;

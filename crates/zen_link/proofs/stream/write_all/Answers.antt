@@ -1,7 +1,7 @@
-use Rattle.std.proofs.Common.{arith, ◌≤◌, ℕ, List, length, take, drop, subst, [], append-nil}
-use Rattle.std.proofs.lemmas.List.{take_rest, length-drop, take-append-drop}
+use Rattle.std.proofs.Common.{arith, ◌≤◌, ℕ, List, length, take, drop, subst}
+use Rattle.std.proofs.lemmas.List.{take_rest, length-drop}
 use Rattle.zen_link.specs.Streams.{Appended}
-use Rattle.zen_link.proofs.Appending.{appended_on, appended_more, appended_none}
+use Rattle.zen_link.proofs.Appending.{appended_on, appended_none, part_at}
 use Rattle.zen_link.proofs.stream.write_all.Goals as goal
 
 pub loop-at-init : goal.loop-at-init
@@ -14,12 +14,9 @@ loop-at-preserved g c =
     let gained : Appended (g.S.Sink.written c.loop-at.out) (g.S.Sink.written c.write.new.self) (take c.in-Ok.count (drop c.loop-at.at c.args.bytes.now)) = subst (λ (l : List ℕ). Appended (g.S.Sink.written c.loop-at.out) (g.S.Sink.written c.write.new.self) (take c.in-Ok.count l)) rest c.in-Ok.ensures.writes.2 in
     (omega (arith, length-drop c.loop-at.at c.args.bytes.now, c.loop-at-test.true), appended_on _ _ _ c.args.bytes.now c.loop-at.at c.in-Ok.count c.loop-at.invariant.1 gained, omega (arith, c.loop-at.invariant.2, c.in-Ok.ensures.cause.later))
 
+pub returns-in_default-clause-part : goal.returns-in_default-clause-part
+returns-in_default-clause-part g c =
+    part_at (g.S.Sink.written c.args.out.now) (g.S.Sink.written c.loop-at.out) (g.S.Sink.written c.write.new.self) c.args.bytes.now c.loop-at.at c.loop-at-test.true c.loop-at.invariant.1 c.in_default.ensures.writes
+
 pub returns-in_default-clause-writes : goal.returns-in_default-clause-writes
-returns-in_default-clause-writes g c =
-    let told : Appended (g.S.Sink.written c.loop-at.out) (g.S.Sink.written c.write.new.self) [] = c.in_default.ensures.writes in
-    record {
-      front = take c.loop-at.at c.args.bytes.now;
-      rest = drop c.loop-at.at c.args.bytes.now;
-      whole = take-append-drop c.loop-at.at c.args.bytes.now;
-      appended = subst (λ (l : List ℕ). Appended (g.S.Sink.written c.args.out.now) (g.S.Sink.written c.write.new.self) l) (append-nil _) (appended_more _ _ _ _ _ c.loop-at.invariant.1 told);
-    }
+returns-in_default-clause-writes g c = (returns-in_default-clause-part g c).front
