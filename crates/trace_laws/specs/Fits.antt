@@ -94,11 +94,12 @@ abbrev pub FitsMode : Mode → Type 0
 FitsMode (mode.Follower leader) = IsTrue (is_id leader)
 FitsMode other = Unit {0}
 
--- a state: its texts may be any
+-- the id of a parent, where there is one
 abbrev pub FitsParent : Option StateId → Type 0
 FitsParent None = Unit {0}
 FitsParent (Some id) = AreSmall id.term id.version
 
+-- a state: its texts may be any
 abbrev pub FitsState : ClusterState → Type 0
 FitsState s = AreSmall s.term s.version × FitsParent s.parent
 
@@ -106,7 +107,7 @@ abbrev pub AreIds : List Id → Type 0
 AreIds ids = IsTrue (list_all is_id ids)
 
 abbrev pub FitsKept : Kept → Type 0
-FitsKept k = IsSmall k.term × FitsState k.accepted × AreIds k.accepted.config × AreIds k.committed
+FitsKept k = IsSmall k.term × AreSmall k.accepted.term k.accepted.version × AreIds k.accepted.config × AreIds k.committed
 
 abbrev pub FitsAct : Act → Type 0
 FitsAct (Bootstrap config) = AreIds config
