@@ -19,6 +19,8 @@ JOINS = 200
 # The most requests that a leader keeps unanswered.
 FLIGHT = 64
 HEADER = b'ZENJRNL1'
+# The first byte of a body that begins a generation, of version 1 and of version 2.
+GENERATION = (0x04, 0x84)
 
 
 def puts(client, first, count, flight):
@@ -53,7 +55,7 @@ def generations(folder):
     """The bodies of both generations, by their epochs."""
     found = {0: bodies_of(os.path.join(folder, 'journal.0'))}
     for bodies in (found[0], bodies_of(os.path.join(folder, 'journal.1'))):
-        if bodies and bodies[0][0] == 4:
+        if bodies and bodies[0][0] in GENERATION:
             found[struct.unpack('>Q', bodies[0][1:9])[0]] = bodies
     return found
 
@@ -175,8 +177,8 @@ def frame(kind, fields, to=b'z'):
 
 def measure_frames(program, top):
     settings = b''.join(text(b'key-%04d' % number) + text(b'x' * 1024) for number in range(1000))
-    state = struct.pack('>QQ', 1, 1) + b'\1\1b\1\1b' + b'\0\0\0' + struct.pack('>H', 1000) + settings
-    for name, sent, count in (('publish requests of 1,000 settings', frame(3, state), 200), ('leader checks', frame(14, struct.pack('>Q', 1)), 50000)):
+    state = struct.pack('>QQBQQ', 1, 1, 1, 0, 0) + b'\1\1b\1\1b' + b'\0\0\0' + struct.pack('>H', 1000) + settings
+    for name, sent, count in (('publish requests of 1,000 settings', frame(17, state), 200), ('leader checks', frame(14, struct.pack('>Q', 1)), 50000)):
         nodes = running.started(program, ['a'], tempfile.mkdtemp(dir=top))
         try:
             start = time.perf_counter()

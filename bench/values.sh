@@ -27,7 +27,7 @@ for settings in 256 512 1024; do
     rounds=$((32768 / settings))
     echo "$settings $rounds $(seconds "$settings" "$rounds")"
 done | awk '{
-    bytes = 43 + $1 * (2 + 128 + 2 + 1024)
+    bytes = 60 + $1 * (2 + 128 + 2 + 1024)
     printf "%d settings, %d bytes: %.3f ms a round, %.2f ns a byte (%d rounds)\n", $1, bytes, 1000 * $3 / $2, 1e9 * $3 / $2 / bytes, $2
     printf "    peak memory %d kB, of which the journals have %d kB\n", $4, 5 * $2 * bytes / 1024
     if ($1 == 256) small = $3
@@ -40,7 +40,7 @@ for settings in 256 1024; do
     valgrind --tool=callgrind --callgrind-out-file="$work/counts" "$bench" "$settings" "$rounds" > /dev/null 2>&1
     echo "$settings $rounds $(awk '/^(summary|totals):/ { print $2; exit }' "$work/counts")"
 done | awk '{
-    bytes = 43 + $1 * (2 + 128 + 2 + 1024)
+    bytes = 60 + $1 * (2 + 128 + 2 + 1024)
     printf "%d settings: %.1f million instructions a round, %.2f a byte (%d rounds)\n", $1, $3 / $2 / 1e6, $3 / $2 / bytes, $2
     if ($1 == 256) small = $3
     if ($1 == 1024) printf "ratio of the instructions a byte: %.2f\n", $3 / small
