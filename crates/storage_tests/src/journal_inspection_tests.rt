@@ -1,5 +1,8 @@
 //! Journals in memory with the lines that show them, and each way in which an inspection ends.
 use crate::files::files_of;
+use crate::journals::{
+    CHANGED, NO_DIGEST, OLD_AFTER, OLD_TERM_ONE, SECOND, SECOND_CHANGED, TERM_ONE,
+};
 use journal_inspection::{Inspection, inspect};
 use std::alloc::{AllocError, Global};
 use std::test::Fail;
@@ -7,28 +10,21 @@ use zen_disk::MemDisks;
 use zen_host::MemHost;
 use zen_link::MemSink;
 
-// A journal of one body, which sets term 1.
-const TERM_ONE: &[u8] = b"ZENJRNL1\x01\0\0\0\x09\x01\0\0\0\0\0\0\0\x01\0";
-
-// Its lines. The digest is that of 23 zero bytes.
+// The lines of a journal of term 1. The digest is that of 24 zero bytes.
 const TERM_ONE_LINES: &str = "term=1\naccepted=0/0\nconfig=_\ncommitted=_\nrecords=1\n\
-    sha256=015275e61fa0d0751c1d9f45541c7804c895404455470710ade3786f282f2da0\n\
-    state={\"committed\":[],\"config\":[],\"term\":0,\
+    sha256=9d908ecfb6b256def8b49a7c504e6c889c4b0e41fe6ce3e01863dd7b61a20aa0\n\
+    state={\"committed\":[],\"config\":[],\"parent\":null,\"term\":0,\
     \"value\":{\"exclusions\":[],\"master\":null,\"members\":[],\"settings\":{}},\"version\":0}\n";
 
-// The file of a second generation of one body, which keeps term 4682 and no state.
-const SECOND: &[u8] = b"ZENJRNL1\x01\0\0\0\x29\x04\0\0\0\0\0\0\0\x01\0\0\0\0\0\0\x12\x4a\
-    \0\0\0\0\0\0\0\0\0\0\0\0\0\0\0\0\0\0\0\0\0\0\0\0\0";
-
-// Its lines.
-const SECOND_LINES: &str = "term=4682\naccepted=0/0\nconfig=_\ncommitted=_\nrecords=1\n\
-    sha256=015275e61fa0d0751c1d9f45541c7804c895404455470710ade3786f282f2da0\n\
-    state={\"committed\":[],\"config\":[],\"term\":0,\
+// The lines of a generation of one body, which keeps term 2 and no state.
+const SECOND_LINES: &str = "term=2\naccepted=0/0\nconfig=_\ncommitted=_\nrecords=1\n\
+    sha256=9d908ecfb6b256def8b49a7c504e6c889c4b0e41fe6ce3e01863dd7b61a20aa0\n\
+    state={\"committed\":[],\"config\":[],\"parent\":null,\"term\":0,\
     \"value\":{\"exclusions\":[],\"master\":null,\"members\":[],\"settings\":{}},\"version\":0}\n";
 
 const EMPTY_LINES: &str = "term=0\naccepted=0/0\nconfig=_\ncommitted=_\nrecords=0\n\
-    sha256=015275e61fa0d0751c1d9f45541c7804c895404455470710ade3786f282f2da0\n\
-    state={\"committed\":[],\"config\":[],\"term\":0,\
+    sha256=9d908ecfb6b256def8b49a7c504e6c889c4b0e41fe6ce3e01863dd7b61a20aa0\n\
+    state={\"committed\":[],\"config\":[],\"parent\":null,\"term\":0,\
     \"value\":{\"exclusions\":[],\"master\":null,\"members\":[],\"settings\":{}},\"version\":0}\n";
 
 // The numbers of the calls that fail, of the host, of its disk and of the sink.
@@ -76,7 +72,9 @@ fn is_done(alloc: Global, zero: &[u8], one: &[u8], text: &str) -> Result<bool, A
 
 #[test]
 fn a_journal_is_shown_in_seven_lines(rt: HostRuntime) -> Result<(), Fail> {
-    assert!(&rt; is_done(rt.alloc(), TERM_ONE, b"", TERM_ONE_LINES)?);
+    for file in [TERM_ONE, OLD_TERM_ONE] {
+        assert!(&rt; is_done(rt.alloc(), file, b"", TERM_ONE_LINES)?);
+    }
     Ok(())
 }
 
@@ -90,7 +88,9 @@ fn nine_bytes_are_an_empty_journal(rt: HostRuntime) -> Result<(), Fail> {
 
 #[test]
 fn the_newer_generation_is_shown(rt: HostRuntime) -> Result<(), Fail> {
-    assert!(&rt; is_done(rt.alloc(), TERM_ONE, SECOND, SECOND_LINES)?);
+    for file in [TERM_ONE, OLD_TERM_ONE] {
+        assert!(&rt; is_done(rt.alloc(), file, SECOND, SECOND_LINES)?);
+    }
     Ok(())
 }
 
@@ -101,7 +101,7 @@ const TAG: &[u8] = b"ZENJRNL1\x01\0\0\0\x01\x05\0";
 const TERM_ZERO: &[u8] = b"ZENJRNL1\x01\0\0\0\x09\x01\0\0\0\0\0\0\0\0\0";
 
 // The two files, and why they are no journal.
-const FAULTS: [(&[u8], &[u8], &str); 16] = [
+const FAULTS: [(&[u8], &[u8], &str); 21] = [
     (b"ABCDEFGHIJ", b"", "Header"),
     (CUT, b"", "Cut(8)"),
     (b"ZENJRNL1\x01\0\x80\0\x01\0", b"", "Long(8)"),
@@ -114,6 +114,11 @@ const FAULTS: [(&[u8], &[u8], &str); 16] = [
         "Body(8,TermTooLarge)",
     ),
     (TERM_ZERO, b"", "Order(8)"),
+    (CHANGED, b"", "Damaged(8)"),
+    (OLD_AFTER, b"", "Order(54)"),
+    (NO_DIGEST, b"", "Body(8,Short)"),
+    (CHANGED, SECOND, "Damaged(8)"),
+    (TERM_ONE, SECOND_CHANGED, "1:Damaged(8)"),
     (TERM_ONE, b"ABCDEFGHIJ", "1:Header"),
     (TERM_ONE, CUT, "1:Cut(8)"),
     (CUT, b"ABCDEFGHIJ", "Cut(8)"),

@@ -9,6 +9,8 @@ mod gate_log_tests;
 #[cfg(test)]
 mod journal_inspection_tests;
 #[cfg(test)]
+mod journals;
+#[cfg(test)]
 mod state_journal_tests;
 #[cfg(test)]
 mod zen_disk_tests;

@@ -1,12 +1,17 @@
-//! Journals byte by byte, what an opening finds, and each device call of a renewal struck in turn.
+//! Journals byte by byte, what an opening finds, each byte of two files changed, and each device call of a renewal struck in
+//! turn. Bodies are of version 2, with a digest, where nothing else is said.
 use crate::files::{Files, disk_of, files_in, files_of, is_written};
+use crate::journals::{
+    CHANGED, NO_DIGEST, OLD_AFTER, OLD_TERM_ONE, SECOND, SECOND_CHANGED, TERM_ONE,
+};
+use cluster_state::ClusterState;
 use state_journal::{
-    ArmKeeper, KeepError, Keeper, OpenError, PlainKeeper, Ready, StateJournal, Why,
+    ArmKeeper, Fault, KeepError, Keeper, Kept, OpenError, PlainKeeper, Ready, StateJournal, Why,
 };
 use std::alloc::{AllocError, Global};
 use std::test::Fail;
 use voting_config::{NodeSet, VotingConfig};
-use zen_disk::{Fuse, MemDisks, Order, Way};
+use zen_disk::{Fuse, MemDisks, Order, Side, Way};
 
 type Journal = StateJournal<Fuse<MemDisks>>;
 
@@ -24,7 +29,8 @@ enum Act {
     // Each term from this one to that one.
     Terms(u32, u32),
     Accept(How),
-    Commit,
+    // So many times.
+    Commit(u32),
 }
 
 fn ids(text: &str) -> NodeSet {
@@ -64,12 +70,21 @@ fn keeps_terms<K: Keeper>(keeper: &mut K, first: u32, last: u32) -> bool {
     true
 }
 
+fn commits<K: Keeper>(keeper: &mut K, times: u32) -> bool {
+    for _ in 0..times {
+        if keeper.mark_committed().is_err() {
+            return false;
+        }
+    }
+    true
+}
+
 fn does<K: Keeper>(alloc: Global, keeper: &mut K, act: Act) -> bool {
     match act {
         Act::Nothing => true,
         Act::Terms(first, last) => keeps_terms(keeper, first, last),
         Act::Accept(how) => accepts(alloc, keeper, how),
-        Act::Commit => keeper.mark_committed().is_ok(),
+        Act::Commit(times) => commits(keeper, times),
     }
 }
 
@@ -87,7 +102,7 @@ fn a_plain_keeper_keeps(rt: HostRuntime) -> Result<(), Fail> {
         (Act::Accept(How::Initial), "b"),
         (Act::Accept(How::Shared), "b"),
         (Act::Accept(How::Copied), "b"),
-        (Act::Commit, "b"),
+        (Act::Commit(1), "b"),
     ];
     let mut keeper = PlainKeeper::new(rt.alloc())?;
     for (act, members) in rows {
@@ -150,8 +165,8 @@ fn is_file(file: &[u8], before: &[u8], want: File) -> bool {
 // Acts on a journal from its opening on, and then its two files. The next acts come after another opening.
 type Run<'a> = (&'a [Row], File, File);
 
-fn run_each(alloc: Global, zero: &[u8], runs: &[Run<'_>]) -> Result<(), Fail> {
-    let mut files = files_of(alloc, zero, b"")?;
+fn run_each(alloc: Global, zero: &[u8], one: &[u8], runs: &[Run<'_>]) -> Result<(), Fail> {
+    let mut files = files_of(alloc, zero, one)?;
     for (rows, zero, one) in runs {
         let left = after(alloc, &files, rows)?;
         if !is_file(&left.0, &files.0, *zero) || !is_file(&left.1, &files.1, *one) {
@@ -164,65 +179,70 @@ fn run_each(alloc: Global, zero: &[u8], runs: &[Run<'_>]) -> Result<(), Fail> {
 
 const EMPTY: &[u8] = b"ZENJRNL1\0";
 
-const TERM_ONE: &[u8] = b"ZENJRNL1\x01\0\0\0\x09\x01\0\0\0\0\0\0\0\x01\0";
-
-// The first generation, which keeps term 4682 and no state.
-const TERM_4682: &[u8] =
-    b"ZENJRNL1\x01\0\0\0\x29\x04\0\0\0\0\0\0\0\x01\0\0\0\0\0\0\x12\x4a\0\0\0\0\0\0\0\0\0\0\0\0\0\0\0\0\0\0\0\0\0\0\0\0\0";
+// The first generation, which keeps term 1,425 and no state.
+const TERM_1425: &[u8] =
+    b"ZENJRNL1\x01\0\0\0\x4a\x84\0\0\0\0\0\0\0\x01\0\0\0\0\0\0\x05\x91\0\0\0\0\0\0\0\0\0\0\0\0\0\0\0\0\0\0\0\0\0\0\0\0\0\
+    \x46\xe8\x82\x23\xe8\x57\xa8\xcd\xf2\x61\xf8\xe2\x7c\xa1\x43\x22\x0d\x48\x5d\xa4\xd4\xa5\x88\xd7\x1f\x5f\x8a\xb4\xac\xb9\x07\x8d\0";
 
 #[test]
 fn keeps_these_bytes(rt: HostRuntime) -> Result<(), Fail> {
     let rows = [(Act::Nothing, 0, 0, "_"), (Act::Terms(1, 1), 1, 1, "_")];
     let run = (rows.as_slice(), File::Is(TERM_ONE), File::Is(EMPTY));
-    run_each(rt.alloc(), b"ABCDEFGHI", &[run])
+    run_each(rt.alloc(), b"ABCDEFGHI", b"", &[run])
 }
 
 #[test]
 fn renews_at_a_long_tail(rt: HostRuntime) -> Result<(), Fail> {
-    let full = [(Act::Terms(1, 4681), 4681, 4681, "_")];
-    let renewed = [(Act::Terms(4682, 4682), 1, 4682, "_")];
-    let next = [(Act::Terms(4683, 4683), 2, 4683, "_")];
-    let found = [(Act::Nothing, 2, 4683, "_")];
+    let full = [(Act::Terms(1, 1424), 1424, 1424, "_")];
+    let renewed = [(Act::Terms(1425, 1425), 1, 1425, "_")];
+    let next = [(Act::Terms(1426, 1426), 2, 1426, "_")];
+    let found = [(Act::Nothing, 2, 1426, "_")];
     let runs = [
-        (full.as_slice(), File::Long(65_543), File::Is(EMPTY)),
-        (renewed.as_slice(), File::Same, File::Is(TERM_4682)),
-        (next.as_slice(), File::Same, File::Long(69)),
+        (full.as_slice(), File::Long(65_513), File::Is(EMPTY)),
+        (renewed.as_slice(), File::Same, File::Is(TERM_1425)),
+        (next.as_slice(), File::Same, File::Long(134)),
         (found.as_slice(), File::Same, File::Same),
     ];
-    run_each(rt.alloc(), b"", &runs)
+    run_each(rt.alloc(), b"", b"", &runs)
 }
 
-// 4,679 bodies of 14 bytes and five of six take 65,536 bytes, which is not too long yet.
+// 1,409 bodies of 46 bytes and 19 of 38 take 65,536 bytes, which is not too long yet.
 #[test]
 fn a_tail_may_be_full(rt: HostRuntime) -> Result<(), Fail> {
     let rows = [
-        (Act::Terms(1, 4679), 4679, 4679, "_"),
-        (Act::Commit, 4680, 4679, "_"),
-        (Act::Commit, 4681, 4679, "_"),
-        (Act::Commit, 4682, 4679, "_"),
-        (Act::Commit, 4683, 4679, "_"),
-        (Act::Commit, 4684, 4679, "_"),
-        (Act::Commit, 1, 4679, "_"),
+        (Act::Terms(1, 1409), 1409, 1409, "_"),
+        (Act::Commit(19), 1428, 1409, "_"),
+        (Act::Commit(1), 1, 1409, "_"),
     ];
-    let run = (rows.as_slice(), File::Long(65_545), File::Long(55));
-    run_each(rt.alloc(), b"", &[run])
+    let run = (rows.as_slice(), File::Long(65_545), File::Long(88));
+    run_each(rt.alloc(), b"", b"", &[run])
 }
+
+// The second generation, which keeps term 1,425 and the initial state of b.
+const TERM_1425_OF_B: &[u8] =
+    b"ZENJRNL1\x01\0\0\0\x50\x84\0\0\0\0\0\0\0\x02\0\0\0\0\0\0\x05\x91\0\0\0\0\0\0\0\0\0\0\0\0\0\0\0\0\0\x01\x01\x62\x01\
+    \x01\x62\0\0\0\0\0\x01\x01\x62\
+    \xa9\x2a\x44\x8c\x25\x73\xfb\x1c\x61\xa9\xa2\xb4\x33\x3e\x86\xbe\x10\xa2\xf6\x2c\xe1\x64\x6d\xb8\x65\xe9\xa4\xcd\xcb\x86\xfc\xb7\0";
 
 #[test]
 fn renews_again_on_side_zero(rt: HostRuntime) -> Result<(), Fail> {
     let rows = [
-        (Act::Terms(1, 4682), 1, 4682, "_"),
-        (Act::Accept(How::Initial), 2, 4682, "b"),
-        (Act::Terms(4683, 9360), 4680, 9360, "b"),
-        (Act::Commit, 4681, 9360, "b"),
-        (Act::Terms(9361, 9361), 1, 9361, "b"),
+        (Act::Nothing, 1, 2, "_"),
+        (Act::Accept(How::Initial), 2, 2, "b"),
+        (Act::Terms(3, 1424), 1424, 1424, "b"),
+        (Act::Commit(1), 1425, 1424, "b"),
+        (Act::Terms(1425, 1425), 1, 1425, "b"),
     ];
-    let found = [(Act::Nothing, 1, 9361, "b")];
+    let found = [(Act::Nothing, 1, 1425, "b")];
     let runs = [
-        (rows.as_slice(), File::Long(65_543), File::Long(65_586)),
+        (
+            rows.as_slice(),
+            File::Is(TERM_1425_OF_B),
+            File::Long(65_604),
+        ),
         (found.as_slice(), File::Same, File::Same),
     ];
-    run_each(rt.alloc(), b"", &runs)
+    run_each(rt.alloc(), TERM_ONE, SECOND, &runs)
 }
 
 #[test]
@@ -230,14 +250,95 @@ fn finds_what_it_kept(rt: HostRuntime) -> Result<(), Fail> {
     let rows = [
         (Act::Terms(7, 7), 1, 7, "_"),
         (Act::Accept(How::Initial), 2, 7, "b"),
-        (Act::Commit, 3, 7, "b"),
+        (Act::Commit(1), 3, 7, "b"),
     ];
     let found = [(Act::Nothing, 3, 7, "b")];
     let runs = [
-        (rows.as_slice(), File::Long(62), File::Is(EMPTY)),
+        (rows.as_slice(), File::Long(159), File::Is(EMPTY)),
         (found.as_slice(), File::Same, File::Same),
     ];
-    run_each(rt.alloc(), b"", &runs)
+    run_each(rt.alloc(), b"", b"", &runs)
+}
+
+// The first generation of version 1, which keeps term 2 and no state.
+const OLD_SECOND: &[u8] =
+    b"ZENJRNL1\x01\0\0\0\x29\x04\0\0\0\0\0\0\0\x01\0\0\0\0\0\0\0\x02\0\0\0\0\0\0\0\0\0\0\0\0\0\0\0\0\0\0\0\0\0\0\0\0\0";
+
+// The second generation, which keeps term 3 and no state.
+const THIRD: &[u8] =
+    b"ZENJRNL1\x01\0\0\0\x4a\x84\0\0\0\0\0\0\0\x02\0\0\0\0\0\0\0\x03\0\0\0\0\0\0\0\0\0\0\0\0\0\0\0\0\0\0\0\0\0\0\0\0\0\
+    \xef\xa3\x73\xaf\xba\x99\xf1\x2d\x4d\x07\xd8\x54\xbe\x52\x7d\x3b\x62\x1d\x40\x03\x11\xc2\x26\x22\xed\x18\xbe\x2a\x75\x62\x52\x04\0";
+
+// Bodies of version 1 that set term 7 and accept the initial state of b.
+const OLD_B: &[u8] = b"ZENJRNL1\x01\0\0\0\x09\x01\0\0\0\0\0\0\0\x07\
+    \x01\0\0\0\x1c\x02\0\0\0\0\0\0\0\0\0\0\0\0\0\0\0\0\x01\x01\x62\x01\x01\x62\0\0\0\0\0\0";
+
+// The first generation, which keeps term 7 and that state.
+const B_AFTER_OLD: &[u8] =
+    b"ZENJRNL1\x01\0\0\0\x50\x84\0\0\0\0\0\0\0\x01\0\0\0\0\0\0\0\x07\0\0\0\0\0\0\0\0\0\0\0\0\0\0\0\0\0\x01\x01\x62\x01\
+    \x01\x62\0\0\0\0\0\x01\x01\x62\
+    \x20\x22\x20\x15\xc9\x73\x11\x56\x23\xde\x71\x56\xbe\x70\xf0\xd2\x8f\xa5\x4e\xe1\xa8\x34\xa5\x7e\xa5\xdf\x4e\x13\xc8\x33\x3a\xfc\0";
+
+// Where a body in use is of version 1, the first act begins a generation, in which the next acts go on.
+#[test]
+fn renews_after_version_1(rt: HostRuntime) -> Result<(), Fail> {
+    let found = [(Act::Nothing, 1, 1, "_")];
+    let first = [(Act::Terms(2, 2), 1, 2, "_")];
+    let next = [(Act::Terms(3, 3), 2, 3, "_")];
+    let runs = [
+        (found.as_slice(), File::Same, File::Is(EMPTY)),
+        (first.as_slice(), File::Same, File::Is(SECOND)),
+        (next.as_slice(), File::Same, File::Long(134)),
+    ];
+    run_each(rt.alloc(), OLD_TERM_ONE, b"", &runs)?;
+    let found = [(Act::Nothing, 1, 2, "_")];
+    let first = [(Act::Terms(3, 3), 1, 3, "_")];
+    let next = [(Act::Terms(4, 4), 2, 4, "_")];
+    let runs = [
+        (found.as_slice(), File::Same, File::Same),
+        (first.as_slice(), File::Is(THIRD), File::Same),
+        (next.as_slice(), File::Long(134), File::Same),
+    ];
+    run_each(rt.alloc(), OLD_TERM_ONE, OLD_SECOND, &runs)
+}
+
+// The act may be any of the three.
+#[test]
+fn keeps_the_state_of_version_1(rt: HostRuntime) -> Result<(), Fail> {
+    for act in [Act::Commit(1), Act::Accept(How::Initial)] {
+        let first = [(Act::Nothing, 2, 7, "b"), (act, 1, 7, "b")];
+        let found = [(Act::Nothing, 1, 7, "b")];
+        let runs = [
+            (first.as_slice(), File::Same, File::Is(B_AFTER_OLD)),
+            (found.as_slice(), File::Same, File::Same),
+        ];
+        run_each(rt.alloc(), OLD_B, b"", &runs)?;
+    }
+    Ok(())
+}
+
+// The generation of the last epoch, of version 1, which keeps term 2 and no state.
+const OLD_LAST: &[u8] =
+    b"ZENJRNL1\x01\0\0\0\x29\x04\x40\0\0\0\0\0\0\0\0\0\0\0\0\0\0\x02\0\0\0\0\0\0\0\0\0\0\0\0\0\0\0\0\0\0\0\0\0\0\0\0\0";
+
+// The same of version 2.
+const LAST: &[u8] =
+    b"ZENJRNL1\x01\0\0\0\x4a\x84\x40\0\0\0\0\0\0\0\0\0\0\0\0\0\0\x02\0\0\0\0\0\0\0\0\0\0\0\0\0\0\0\0\0\0\0\0\0\0\0\0\0\
+    \x06\x96\xea\xb3\x8e\x78\xa1\xc4\x9c\x81\x86\x64\xc2\x7d\x3f\xc3\x55\x33\x9f\x02\x46\x76\x7b\x8b\x10\x76\x08\x86\x89\x7c\x3b\x8e\0";
+
+// There is no generation after the last one: neither after version 1 nor at a long tail.
+#[test]
+fn goes_on_in_the_last_epoch(rt: HostRuntime) -> Result<(), Fail> {
+    let next = [(Act::Terms(3, 4), 3, 4, "_")];
+    let found = [(Act::Nothing, 3, 4, "_"), (Act::Terms(5, 5), 4, 5, "_")];
+    let runs = [
+        (next.as_slice(), File::Same, File::Long(147)),
+        (found.as_slice(), File::Same, File::Long(193)),
+    ];
+    run_each(rt.alloc(), OLD_TERM_ONE, OLD_LAST, &runs)?;
+    let rows = [(Act::Terms(3, 1427), 1426, 1427, "_")];
+    let run = (rows.as_slice(), File::Same, File::Long(65_638));
+    run_each(rt.alloc(), TERM_ONE, LAST, &[run])
 }
 
 // The answer to a term that this order strikes.
@@ -294,57 +395,57 @@ fn strike_each(alloc: Global, files: &Files, term: u32, calls: &[[u64; 4]]) -> R
     Ok(())
 }
 
-// Acts after which the next term begins a generation, that term, and what each call leaves: the second time a side is
-// cleared before, with two calls more.
-const RENEWALS: [(Row, u32, &[[u64; 4]]); 2] = [
+// Two files, the next term, which begins a generation, and what each call leaves: where
+// the other side has a generation it is cleared before, with two calls more.
+type Renewal = (&'static [u8], &'static [u8], u32, &'static [[u64; 4]]);
+
+const RENEWALS: [Renewal; 2] = [
     (
-        (Act::Terms(1, 4681), 4681, 4681, "_"),
-        4682,
-        &[
-            [4681, 4681, 4681, 4681],
-            [4681, 4681, 4681, 4681],
-            [4681, 4682, 4682, 4681],
-            [4681, 4682, 4682, 4682],
-        ],
+        OLD_TERM_ONE,
+        EMPTY,
+        2,
+        &[[1, 1, 1, 1], [1, 1, 1, 1], [1, 2, 2, 1], [1, 2, 2, 2]],
     ),
     (
-        (Act::Terms(4682, 9363), 4682, 9363, "_"),
-        9364,
+        OLD_TERM_ONE,
+        OLD_SECOND,
+        3,
         &[
-            [9363, 9363, 9363, 9363],
-            [9363, 9363, 9363, 9363],
-            [9363, 9363, 9363, 9363],
-            [9363, 9363, 9363, 9363],
-            [9363, 9364, 9364, 9363],
-            [9363, 9364, 9364, 9364],
+            [2, 2, 2, 2],
+            [2, 2, 2, 2],
+            [2, 2, 2, 2],
+            [2, 2, 2, 2],
+            [2, 3, 3, 2],
+            [2, 3, 3, 3],
         ],
     ),
 ];
 
 #[test]
 fn a_renewal_that_is_struck_leaves_one_of_two_records(rt: HostRuntime) -> Result<(), Fail> {
-    let mut files = files_of(rt.alloc(), b"", b"")?;
-    for (row, term, calls) in &RENEWALS {
-        files = after(rt.alloc(), &files, &[*row])?;
+    for (zero, one, term, calls) in &RENEWALS {
+        let files = files_of(rt.alloc(), zero, one)?;
         strike_each(rt.alloc(), &files, *term, calls)?;
     }
     Ok(())
 }
 
-// A first generation of term 2, and one whose state has a greater term than it.
-const BEGUN: &[u8] =
-    b"ZENJRNL1\x01\0\0\0\x29\x04\0\0\0\0\0\0\0\x01\0\0\0\0\0\0\0\x02\0\0\0\0\0\0\0\0\0\0\0\0\0\0\0\0\0\0\0\0\0\0\0\0\0";
-
-const OLDER: &[u8] =
+// A first generation whose state has a greater term than it: of version 1 and of version 2.
+const OLD_OLDER: &[u8] =
     b"ZENJRNL1\x01\0\0\0\x29\x04\0\0\0\0\0\0\0\x01\0\0\0\0\0\0\0\x02\0\0\0\0\0\0\0\x03\0\0\0\0\0\0\0\0\0\0\0\0\0\0\0\0\0";
 
-// A file on side zero, and its first fault.
-const FAULTS: [(&[u8], &str); 14] = [
+const OLDER: &[u8] =
+    b"ZENJRNL1\x01\0\0\0\x4a\x84\0\0\0\0\0\0\0\x01\0\0\0\0\0\0\0\x02\0\0\0\0\0\0\0\x03\0\0\0\0\0\0\0\0\0\0\0\0\0\0\0\0\0\
+    \xbd\x42\x14\x51\x1d\x05\x4f\x1c\xd6\x1c\x15\x82\x8e\x71\xc7\xbe\x03\x1d\xb3\xf1\x7c\xc5\x1f\xaa\x53\xac\xb1\xc0\xd4\xc9\x43\x2b\0";
+
+// A file on side zero of bodies of version 1, and its first fault.
+const OLD_FAULTS: [(&[u8], &str); 15] = [
     (b"ABCDEFGHIJ", "Header"),
     (b"ZENJRNL1\x01\0\0\0\xff\0", "Cut(8)"),
     (b"ZENJRNL1\x01\xff\0\0\0\0", "Long(8)"),
     (b"ZENJRNL1\x01\0\0\0\0\0", "Body(8,Tag)"),
     (b"ZENJRNL1\x01\0\0\0\x01\x05\0", "Body(8,Tag)"),
+    (b"ZENJRNL1\x01\0\0\0\x01\x80\0", "Body(8,Tag)"),
     (b"ZENJRNL1\x01\0\0\0\x01\x04\0", "Order(8)"),
     (b"ZENJRNL1\x01\0\0\0\x03\x01\0\0\0", "Body(8,Short)"),
     (
@@ -368,9 +469,84 @@ const FAULTS: [(&[u8], &str); 14] = [
     ),
 ];
 
+// The same of bodies of version 2: a digest that is not theirs comes before their fields.
+const FAULTS: [(&[u8], &str); 17] = [
+    (CHANGED, "Damaged(8)"),
+    (OLD_AFTER, "Order(54)"),
+    (
+        b"ZENJRNL1\x01\0\0\0\x29\x81\0\0\0\0\0\0\0\x01\
+        \x92\x01\x39\xd9\x73\x69\x77\xbb\xa9\xf8\x23\xbb\xa2\x04\x6e\xfd\x82\x28\x92\x77\xe0\x6e\xce\x8c\xf7\xd3\x41\xde\x67\x58\0\xc8\
+        \x01\0\0\0\x01\x03\0",
+        "Order(54)",
+    ),
+    (
+        b"ZENJRNL1\x01\0\0\0\x29\x81\0\0\0\0\0\0\0\x01\
+        \x92\x01\x39\xd9\x73\x69\x77\xbb\xa9\xf8\x23\xbb\xa2\x04\x6e\xfd\x82\x28\x92\x77\xe0\x6e\xce\x8c\xf7\xd3\x41\xde\x67\x58\0\xc8\
+        \x01\0\0\0\x02\x01\0\0",
+        "Body(54,Short)",
+    ),
+    (NO_DIGEST, "Body(8,Short)"),
+    (
+        b"ZENJRNL1\x01\0\0\0\x21\x81\
+        \x59\x1b\x7c\xc9\x50\x37\x82\x2d\xec\x5a\x4d\x59\x3a\x2e\x2e\x8b\x19\xc0\x7d\xdd\x25\x70\xe5\x69\x90\x03\xd1\x7f\x14\xc4\x40\xa6\0",
+        "Body(8,Short)",
+    ),
+    (
+        b"ZENJRNL1\x01\0\0\0\x29\x81\x80\0\0\0\0\0\0\0\
+        \xe7\x19\x78\x2f\xc4\xb4\xe9\xc6\xa0\xe3\x2e\x77\x8e\xa9\xaa\x61\xa7\x9c\x0b\x25\xde\x39\xc6\x90\x95\xd6\x14\xcc\x03\xe2\x82\xfd\0",
+        "Body(8,TermTooLarge)",
+    ),
+    (
+        b"ZENJRNL1\x01\0\0\0\x2a\x81\0\0\0\0\0\0\0\x01\xff\
+        \xd4\xcf\xc8\x36\x7c\xc7\x83\xf7\xaf\x7f\x22\x84\x9c\x29\x56\xc2\xba\x51\xb8\x56\x01\xe3\xb4\x7a\xbf\xa8\x76\x26\xd5\xca\x13\x30\0",
+        "Body(8,Trailing)",
+    ),
+    (
+        b"ZENJRNL1\x01\0\0\0\x22\x83\x03\
+        \xad\x49\xd7\x97\x2a\xb6\x52\xbc\x92\x9a\xf7\xdd\x2b\xde\x65\x19\xca\xfc\x0e\xfd\x37\xf5\xde\x86\x93\x3a\xa3\x20\x05\xf5\x20\x23\0",
+        "Body(8,Trailing)",
+    ),
+    (
+        b"ZENJRNL1\x01\0\0\0\x22\x82\0\
+        \x1c\x53\xd1\xa4\x6b\x33\x30\xcc\x47\x0e\xec\xfb\x6a\x3d\x9b\x8d\x61\xce\xbe\x92\xf8\x1c\x65\x51\xc5\xc6\xaf\xe5\xa3\x50\x71\xd5\0",
+        "Body(8,Short)",
+    ),
+    (
+        b"ZENJRNL1\x01\0\0\0\x49\x82\0\0\0\0\0\0\0\0\0\0\0\0\0\0\0\0\x01\0\0\0\0\0\0\0\0\0\0\0\0\0\0\0\0\0\0\0\0\0\0\0\
+        \xf9\xfa\xaa\x10\x90\x0e\x98\x8b\x15\x5d\x76\x9a\x43\x23\x49\x86\x8a\xd3\xe8\x2c\xd8\x7d\xd7\xec\xe3\xf8\xae\xc9\xf5\x73\x7b\xac\0",
+        "Body(8,BadParent)",
+    ),
+    (
+        b"ZENJRNL1\x01\0\0\0\x29\x81\0\0\0\0\0\0\0\0\
+        \x07\xcc\x70\x6b\x79\x51\x03\x10\x88\x73\x10\x12\xc0\xc4\xc8\xdd\xff\x0c\xd4\xd1\xc6\x5f\x8d\x4e\xb1\x9b\xe3\x7a\x4f\xd1\xfd\xba\0",
+        "Order(8)",
+    ),
+    (
+        b"ZENJRNL1\x01\0\0\0\x29\x81\0\0\0\0\0\0\0\x01\
+        \x92\x01\x39\xd9\x73\x69\x77\xbb\xa9\xf8\x23\xbb\xa2\x04\x6e\xfd\x82\x28\x92\x77\xe0\x6e\xce\x8c\xf7\xd3\x41\xde\x67\x58\0\xc8\
+        \x01\0\0\0\x29\x81\0\0\0\0\0\0\0\x01\
+        \x92\x01\x39\xd9\x73\x69\x77\xbb\xa9\xf8\x23\xbb\xa2\x04\x6e\xfd\x82\x28\x92\x77\xe0\x6e\xce\x8c\xf7\xd3\x41\xde\x67\x58\0\xc8\0",
+        "Order(54)",
+    ),
+    (
+        b"ZENJRNL1\x01\0\0\0\x39\x82\0\0\0\0\0\0\0\x01\0\0\0\0\0\0\0\0\0\0\0\0\0\0\0\0\
+        \x68\x4a\x16\xd2\x18\xee\x40\x8c\x76\x2d\0\xf0\x61\x68\x8e\x21\xf4\x10\x34\x6a\x09\x6a\xc1\x9a\xe2\x25\x52\x10\xe6\xf2\x6d\x14\0",
+        "Order(8)",
+    ),
+    (b"ZENJRNL1\x01\0\0\0\x01\x83\0", "Body(8,Short)"),
+    (b"ZENJRNL1\x01\0\0\0\x01\x84\0", "Order(8)"),
+    (b"ZENJRNL1\x01\0\0\0\x01\x85\0", "Body(8,Tag)"),
+];
+
 // Two files, and the first fault of both.
-const FAULTS_OF_BOTH: [(&[u8], &[u8], &str); 10] = [
-    (BEGUN, BEGUN, "Twin"),
+const FAULTS_OF_BOTH: [(&[u8], &[u8], &str); 18] = [
+    (OLD_SECOND, OLD_SECOND, "Twin"),
+    (SECOND, SECOND, "Twin"),
+    (SECOND, OLD_SECOND, "Twin"),
+    (CHANGED, SECOND, "Damaged(8)"),
+    (TERM_ONE, SECOND_CHANGED, "1:Damaged(8)"),
+    (CHANGED, SECOND_CHANGED, "Damaged(8)"),
+    (SECOND, SECOND_CHANGED, "Twin"),
     (b"ABCDEFGHIJ", b"ABCDEFGHIJ", "Header"),
     (b"", b"ABCDEFGHIJ", "1:Header"),
     (b"", b"ZENJRNL1\x01\0\0\0\xff\0", "1:Cut(8)"),
@@ -390,7 +566,13 @@ const FAULTS_OF_BOTH: [(&[u8], &[u8], &str); 10] = [
         b"ZENJRNL1\x01\0\0\0\x09\x04\0\0\0\0\0\0\0\x01\0",
         "1:Body(8,Short)",
     ),
-    (b"ZENJRNL1\x01\0\0\0\0\0", OLDER, "Body(8,Tag)"),
+    (
+        b"ZENJRNL1\x01\0\0\0\x09\x84\0\0\0\0\0\0\0\x01\0",
+        b"",
+        "Body(8,Short)",
+    ),
+    (b"ZENJRNL1\x01\0\0\0\0\0", OLD_OLDER, "Body(8,Tag)"),
+    (b"", OLD_OLDER, "1:Order(8)"),
     (b"", OLDER, "1:Order(8)"),
 ];
 
@@ -414,6 +596,9 @@ fn is_refused(alloc: Global, zero: &[u8], one: &[u8], want: &str) -> bool {
 
 #[test]
 fn names_the_first_fault(rt: HostRuntime) {
+    for (zero, want) in &OLD_FAULTS {
+        assert!(rt; is_refused(rt.alloc(), zero, b"", want), "{want}");
+    }
     for (zero, want) in &FAULTS {
         assert!(rt; is_refused(rt.alloc(), zero, b"", want), "{want}");
     }
@@ -424,6 +609,182 @@ fn names_the_first_fault_of_both(rt: HostRuntime) {
     for (zero, one, want) in &FAULTS_OF_BOTH {
         assert!(rt; is_refused(rt.alloc(), zero, one, want), "{want}");
     }
+}
+
+// The digests of bodies that set term 1 and term 2.
+const DIGEST_OF_ONE: [u8; 32] = [
+    146, 1, 57, 217, 115, 105, 119, 187, 169, 248, 35, 187, 162, 4, 110, 253, 130, 40, 146, 119,
+    224, 110, 206, 140, 247, 211, 65, 222, 103, 88, 0, 200,
+];
+
+const DIGEST_OF_TWO: [u8; 32] = [
+    2, 83, 161, 45, 28, 53, 233, 82, 103, 20, 199, 172, 222, 71, 197, 238, 122, 115, 237, 163, 222,
+    160, 238, 222, 153, 54, 253, 193, 105, 6, 140, 121,
+];
+
+#[test]
+fn a_damaged_body_is_shown_with_both_digests(rt: HostRuntime) {
+    let fault = Fault::Damaged {
+        at: 8,
+        stored: DIGEST_OF_ONE,
+        found: DIGEST_OF_TWO,
+    };
+    assert!(rt; why_refused(rt.alloc(), CHANGED, b"") == Some(Why::At(Side::Zero, fault)));
+}
+
+// Bodies that set term 1, accept the state 1/1 of a and b where a was committed, and commit it.
+const COMMITTED: &[u8] = b"ZENJRNL1\x01\0\0\0\x29\x81\0\0\0\0\0\0\0\x01\
+    \x92\x01\x39\xd9\x73\x69\x77\xbb\xa9\xf8\x23\xbb\xa2\x04\x6e\xfd\x82\x28\x92\x77\xe0\x6e\xce\x8c\xf7\xd3\x41\xde\x67\x58\0\xc8\
+    \x01\0\0\0\x55\x82\0\0\0\0\0\0\0\x01\0\0\0\0\0\0\0\x01\x01\0\0\0\0\0\0\0\0\0\0\0\0\0\0\0\0\x02\x01\x61\x01\x62\x01\
+    \x01\x61\0\0\0\0\x01\0\x01\x76\0\x01\x78\
+    \xa9\xf1\x2c\x7a\xbd\xb1\xd3\x8a\xdd\x73\x36\xf5\x9c\xbe\xe0\xe3\xd1\xea\x32\xc3\x66\xb1\x35\x0c\x94\x4a\xb0\xcf\x98\xf4\x48\x9a\
+    \x01\0\0\0\x21\x83\
+    \x5e\xe0\xdd\x4d\x48\x40\x22\x9f\xab\x4a\x86\x43\x8e\xfb\xca\xf1\xb9\x57\x1a\xf9\x4f\x5a\xce\x5a\xcc\x94\xde\x19\xe9\x8e\xa9\xab\0";
+
+// The first generation, which keeps term 2 and that, and a body that sets term 3.
+const NEWER: &[u8] =
+    b"ZENJRNL1\x01\0\0\0\x6a\x84\0\0\0\0\0\0\0\x01\0\0\0\0\0\0\0\x02\0\0\0\0\0\0\0\x01\0\0\0\0\0\0\0\x01\x01\0\0\0\0\0\0\
+    \0\0\0\0\0\0\0\0\0\0\x02\x01\x61\x01\x62\x01\x01\x61\0\0\0\0\x01\0\x01\x76\0\x01\x78\x02\x01\x61\x01\x62\
+    \xa9\x9a\xc6\x82\xd9\x84\xe3\xfc\xf1\xfc\x44\xb6\x91\xed\xf1\xd5\x89\xe9\xf9\xea\xd9\xeb\x9c\x4e\xb0\xbc\x65\x07\x26\x34\xc7\x26\
+    \x01\0\0\0\x29\x81\0\0\0\0\0\0\0\x03\
+    \x25\xcd\xf2\x0c\x08\x7f\xc3\x66\x06\x26\xb2\x03\x5c\x56\xef\x93\x41\x1e\xfd\xfb\x62\x4c\xa3\x20\x75\x21\x4f\x96\x96\x72\xa6\xa4\0";
+
+// An open gate of these files, and what is found once it is closed: the term, the accepted version, the committed ids and how many
+// bodies are in use.
+type Gate = (Side, usize, (u64, u64, &'static str, u64));
+
+// Two files, and those of their gates without which another record is found.
+const FILES: [(&[u8], &[u8], &[Gate]); 2] = [
+    (
+        COMMITTED,
+        EMPTY,
+        &[
+            (Side::Zero, 8, (0, 0, "_", 0)),
+            (Side::Zero, 54, (1, 0, "_", 1)),
+            (Side::Zero, 144, (1, 1, "a", 2)),
+        ],
+    ),
+    (
+        COMMITTED,
+        NEWER,
+        &[
+            (Side::One, 8, (1, 1, "a,b", 3)),
+            (Side::One, 119, (2, 1, "a,b", 1)),
+        ],
+    ),
+];
+
+fn is_same_state(state: &ClusterState, other: &ClusterState) -> bool {
+    state.id().is_same(other.id())
+        && state.parent == other.parent
+        && state.config.is_same(&other.config)
+        && state.committed.is_same(&other.committed)
+        && state.value.is_same(&other.value)
+}
+
+fn is_same_record(kept: &Kept, other: &Kept) -> bool {
+    kept.term == other.term
+        && kept.committed.is_same(&other.committed)
+        && is_same_state(&kept.accepted, &other.accepted)
+}
+
+fn are_same_files(files: &Files, other: &Files) -> bool {
+    files.0.as_slice() == other.0.as_slice() && files.1.as_slice() == other.1.as_slice()
+}
+
+// Whether these files stand for this record, or are no journal and stay as they are.
+fn is_kept_or_refused(alloc: Global, files: &Files, kept: &Kept) -> Result<bool, Fail> {
+    match StateJournal::open(alloc, disk_of(alloc, &files.0, &files.1)?) {
+        Ok(journal) => Ok(is_same_record(journal.kept(), kept)),
+        Err(OpenError::NotAJournal(_, mut disk)) => {
+            Ok(are_same_files(&files_in(alloc, &mut disk)?, files))
+        }
+        Err(_) => Ok(false),
+    }
+}
+
+// The record that is found once this gate is closed, where it is another one.
+fn left_by<'a>(gates: &'a [Gate], side: Side, place: usize) -> Option<&'a Gate> {
+    gates.iter().find(|gate| gate.0 == side && gate.1 == place)
+}
+
+fn is_left(alloc: Global, files: &Files, gate: &Gate) -> Result<bool, Fail> {
+    let journal = opened(alloc, files)?;
+    let (term, version, committed, records) = gate.2;
+    let kept = journal.kept();
+    Ok(
+        kept.term == term
+            && kept.accepted.version == version
+            && kept.committed.is_same(&VotingConfig::of(&ids(committed)))
+            && journal.records() == records,
+    )
+}
+
+// The two files with a bit of one byte changed.
+fn changed(
+    alloc: Global,
+    files: &Files,
+    side: Side,
+    place: usize,
+    bit: u8,
+) -> Result<Files, AllocError> {
+    let mut changed = files_of(alloc, &files.0, &files.1)?;
+    let file = match side {
+        Side::Zero => &mut changed.0,
+        Side::One => &mut changed.1,
+    };
+    if let Some(byte) = file.get_mut(place) {
+        *byte ^= bit;
+    }
+    Ok(changed)
+}
+
+// Whether the lowest and the highest bit of this byte may be changed: the files are refused, or the record is as before; a gate
+// that is closed by it leaves what was kept before the body after it.
+fn may_change(
+    alloc: Global,
+    files: &Files,
+    kept: &Kept,
+    gates: &[Gate],
+    side: Side,
+    place: usize,
+) -> Result<bool, Fail> {
+    let mut may = true;
+    for bit in [1, 128] {
+        let changed = changed(alloc, files, side, place, bit)?;
+        may = may
+            && match left_by(gates, side, place) {
+                Some(gate) => is_left(alloc, &changed, gate)?,
+                None => is_kept_or_refused(alloc, &changed, kept)?,
+            };
+    }
+    Ok(may)
+}
+
+fn each_may_change(
+    alloc: Global,
+    files: &Files,
+    gates: &[Gate],
+    side: Side,
+    len: usize,
+) -> Result<(), Fail> {
+    let whole = opened(alloc, files)?;
+    for place in 0..len {
+        if !may_change(alloc, files, whole.kept(), gates, side, place)? {
+            return Err(Fail::new(format_args!("byte {place}")));
+        }
+    }
+    Ok(())
+}
+
+#[test]
+fn a_changed_byte_makes_no_other_record(rt: HostRuntime) -> Result<(), Fail> {
+    for (zero, one, gates) in &FILES {
+        let files = files_of(rt.alloc(), zero, one)?;
+        each_may_change(rt.alloc(), &files, gates, Side::Zero, zero.len())?;
+        each_may_change(rt.alloc(), &files, gates, Side::One, one.len())?;
+    }
+    Ok(())
 }
 
 #[test]
