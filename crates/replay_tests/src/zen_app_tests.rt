@@ -465,11 +465,11 @@ fn each_status_has_its_exit_code(rt: HostRuntime) {
 // Seeds whose schedules elect, commit, crash and fail most, and what a second replay, in another language, makes of those schedules: a trace of so
 // many bytes, with this 64-bit FNV-1a.
 const DRAWN: [(u64, usize, u64); 5] = [
-    (1_045, 12_220, 0xb4db_ca24_6e72_f8d8),
-    (1_254, 13_392, 0x6bc3_95f0_af2f_4bbc),
-    (1_703, 13_970, 0xd109_f693_5daa_a325),
-    (2_067, 12_104, 0x42f4_6343_3104_d12c),
-    (2_349, 15_673, 0x7cfe_90bb_9cbc_f9d4),
+    (1_045, 12_412, 0xdd8b_c451_8c72_b6d8),
+    (1_254, 13_776, 0xdbf8_e097_7848_ed1c),
+    (1_703, 14_130, 0x1fa6_52a3_eedf_13f9),
+    (2_067, 12_264, 0x2a31_25e7_9637_aa33),
+    (2_349, 16_249, 0xa497_64ed_3938_00d8),
 ];
 
 fn fnv(bytes: &[u8]) -> u64 {

@@ -5,41 +5,69 @@ use std::test::Fail;
 use zen_app::Status;
 use zen_disk::{Disks, MemDisks, Side};
 
-// A journal that has set term 1, and one that has then accepted a state and committed it.
-const TERM_ONE: &[u8] = b"ZENJRNL1\x01\0\0\0\x09\x01\0\0\0\0\0\0\0\x01\0";
+// A journal that has set term 1, the same with term 2 in the place of term 1, and one that has then accepted a state and committed
+// it.
+const TERM_ONE: &[u8] = b"ZENJRNL1\x01\0\0\0\x29\x81\0\0\0\0\0\0\0\x01\
+    \x92\x01\x39\xd9\x73\x69\x77\xbb\xa9\xf8\x23\xbb\xa2\x04\x6e\xfd\x82\x28\x92\x77\xe0\x6e\xce\x8c\xf7\xd3\x41\xde\x67\x58\0\xc8\0";
 
-const COMMITTED: &[u8] =
+const CHANGED: &[u8] = b"ZENJRNL1\x01\0\0\0\x29\x81\0\0\0\0\0\0\0\x02\
+    \x92\x01\x39\xd9\x73\x69\x77\xbb\xa9\xf8\x23\xbb\xa2\x04\x6e\xfd\x82\x28\x92\x77\xe0\x6e\xce\x8c\xf7\xd3\x41\xde\x67\x58\0\xc8\0";
+
+const COMMITTED: &[u8] = b"ZENJRNL1\x01\0\0\0\x29\x81\0\0\0\0\0\0\0\x01\
+    \x92\x01\x39\xd9\x73\x69\x77\xbb\xa9\xf8\x23\xbb\xa2\x04\x6e\xfd\x82\x28\x92\x77\xe0\x6e\xce\x8c\xf7\xd3\x41\xde\x67\x58\0\xc8\
+    \x01\0\0\0\x5b\x82\0\0\0\0\0\0\0\x01\0\0\0\0\0\0\0\x01\x01\0\0\0\0\0\0\0\0\0\0\0\0\0\0\0\0\x03\x01\x61\x01\x62\x01\
+    \x63\x03\x01\x61\x01\x62\x01\x63\0\0\0\0\x01\0\x01\x76\0\x01\x78\
+    \0\x20\x45\x74\x30\xb8\x15\x05\xad\xa9\x42\x2b\x31\x9c\x4b\x53\x59\x72\x81\x3a\xd0\x21\x36\x0d\xd5\x87\xb5\xec\x0a\x37\xfe\x3f\
+    \x01\0\0\0\x21\x83\
+    \x5e\xe0\xdd\x4d\x48\x40\x22\x9f\xab\x4a\x86\x43\x8e\xfb\xca\xf1\xb9\x57\x1a\xf9\x4f\x5a\xce\x5a\xcc\x94\xde\x19\xe9\x8e\xa9\xab\0";
+
+// The first generation of the other file, whose record has term 4682.
+const RENEWED: &[u8] =
+    b"ZENJRNL1\x01\0\0\0\x4a\x84\0\0\0\0\0\0\0\x01\0\0\0\0\0\0\x12\x4a\0\0\0\0\0\0\0\0\0\0\0\0\0\0\0\0\0\0\0\0\0\0\0\0\0\
+    \xf9\xd0\xa7\x36\xc9\xb4\x4d\xad\x06\x98\x32\xa6\x2e\x11\x07\x16\x9a\xf8\x3b\xf2\xe5\x9f\x12\x17\x66\x09\x0f\xea\x46\x84\xfe\xff\0";
+
+// The same three of version 1, whose bodies have no digest and whose states no parent.
+const OLD_TERM_ONE: &[u8] = b"ZENJRNL1\x01\0\0\0\x09\x01\0\0\0\0\0\0\0\x01\0";
+
+const OLD_COMMITTED: &[u8] =
     b"ZENJRNL1\x01\0\0\0\x09\x01\0\0\0\0\0\0\0\x01\x01\0\0\0*\x02\0\0\0\0\0\0\0\x01\0\0\0\0\0\0\0\x01\
     \x03\x01a\x01b\x01c\x03\x01a\x01b\x01c\0\0\0\0\x01\0\x01v\0\x01x\x01\0\0\0\x01\x03\0";
 
-// The first generation of the other file, whose record has term 4682.
-const RENEWED: &[u8] = b"ZENJRNL1\x01\0\0\0\x29\x04\0\0\0\0\0\0\0\x01\0\0\0\0\0\0\x12\x4a\
+const OLD_RENEWED: &[u8] = b"ZENJRNL1\x01\0\0\0\x29\x04\0\0\0\0\0\0\0\x01\0\0\0\0\0\0\x12\x4a\
     \0\0\0\0\0\0\0\0\0\0\0\0\0\0\0\0\0\0\0\0\0\0\0\0\0";
 
 const CUT: &[u8] = b"ZENJRNL1\x01\0\0\0\xff\0";
 
 const EMPTY_SHOWN: &[u8] =
-    b"term=0\naccepted=0/0\nconfig=_\ncommitted=_\nrecords=0\nsha256=015275e61fa0d075";
+    b"term=0\naccepted=0/0\nconfig=_\ncommitted=_\nrecords=0\nsha256=9d908ecfb6b256de";
+
+const TERM_ONE_SHOWN: &[u8] =
+    b"term=1\naccepted=0/0\nconfig=_\ncommitted=_\nrecords=1\nsha256=9d908ecfb6b256de";
 
 const RENEWED_SHOWN: &[u8] =
-    b"term=4682\naccepted=0/0\nconfig=_\ncommitted=_\nrecords=1\nsha256=015275e61fa0d075";
+    b"term=4682\naccepted=0/0\nconfig=_\ncommitted=_\nrecords=1\nsha256=9d908ecfb6b256de";
 
 // Two files that are a journal, and what is shown of it first.
-const SHOWN: [(&[u8], &[u8], &[u8]); 6] = [
+const SHOWN: [(&[u8], &[u8], &[u8]); 11] = [
     (b"", b"", EMPTY_SHOWN),
     (b"ABCDEFGHI", b"", EMPTY_SHOWN),
-    (
-        TERM_ONE,
-        b"",
-        b"term=1\naccepted=0/0\nconfig=_\ncommitted=_\nrecords=1\nsha256=015275e61fa0d075",
-    ),
+    (TERM_ONE, b"", TERM_ONE_SHOWN),
+    (OLD_TERM_ONE, b"", TERM_ONE_SHOWN),
     (
         COMMITTED,
         b"",
-        b"term=1\naccepted=1/1\nconfig=a,b,c\ncommitted=a,b,c\nrecords=3\nsha256=96ee0e6ffa10d333",
+        b"term=1\naccepted=1/1\nconfig=a,b,c\ncommitted=a,b,c\nrecords=3\nsha256=344c174f3c524022",
+    ),
+    (
+        OLD_COMMITTED,
+        b"",
+        b"term=1\naccepted=1/1\nconfig=a,b,c\ncommitted=a,b,c\nrecords=3\nsha256=6fe920e56fe08565",
     ),
     (TERM_ONE, RENEWED, RENEWED_SHOWN),
+    (OLD_TERM_ONE, RENEWED, RENEWED_SHOWN),
+    (OLD_TERM_ONE, OLD_RENEWED, RENEWED_SHOWN),
     (RENEWED, b"", RENEWED_SHOWN),
+    (OLD_RENEWED, b"", RENEWED_SHOWN),
 ];
 
 // Also that of two generations the newer one is shown.
@@ -80,7 +108,7 @@ fn an_empty_folder_gets_an_empty_journal(rt: HostRuntime) -> Result<(), Fail> {
 }
 
 // Two files that are no journal, and what is written of their first fault.
-const OTHER_FILES: [(&[u8], &[u8], &[u8]); 11] = [
+const OTHER_FILES: [(&[u8], &[u8], &[u8]); 16] = [
     (b"ABCDEFGHIJ", b"", b"zen: not a journal: Header\n"),
     (CUT, b"", b"zen: not a journal: Cut(8)\n"),
     (
@@ -98,9 +126,14 @@ const OTHER_FILES: [(&[u8], &[u8], &[u8]); 11] = [
         b"",
         b"zen: not a journal: Order(8)\n",
     ),
+    (CHANGED, b"", b"zen: not a journal: Damaged(8)\n"),
+    (CHANGED, RENEWED, b"zen: not a journal: Damaged(8)\n"),
     (b"", CUT, b"zen: not a journal: 1:Cut(8)\n"),
     (b"", TERM_ONE, b"zen: not a journal: 1:Order(8)\n"),
+    (b"", OLD_TERM_ONE, b"zen: not a journal: 1:Order(8)\n"),
     (RENEWED, RENEWED, b"zen: not a journal: Twin\n"),
+    (RENEWED, OLD_RENEWED, b"zen: not a journal: Twin\n"),
+    (OLD_RENEWED, OLD_RENEWED, b"zen: not a journal: Twin\n"),
     (CUT, b"ABCDEFGHIJ", b"zen: not a journal: Cut(8)\n"),
     (RENEWED, b"ABCDEFGHIJ", b"zen: not a journal: 1:Header\n"),
     (

@@ -119,13 +119,13 @@ pub const A_CRASHES_AND_RESTARTS: Passage = &[
 pub const A_PUBLISHES_X: Passage = &[
     "> value a 1 x a",
     r#"act a ok value 1 a {"exclusions":[],"master":null,"members":[],"settings":{"v":"x"}}"#,
-    r#"m2 a->* publish {"committed":["a"],"config":["a"],"term":1,"value":{"exclusions":[],"master":null,"members":[],"settings":{"v":"x"}},"version":1}"#,
+    r#"m2 a->* publish {"committed":["a"],"config":["a"],"parent":{"term":0,"version":0},"term":1,"value":{"exclusions":[],"master":null,"members":[],"settings":{"v":"x"}},"version":1}"#,
 ];
 
 /// Node a accepts it: message 3.
 pub const A_ACCEPTS_X: Passage = &[
     "> deliver a 2",
-    r#"act a ok publish a {"committed":["a"],"config":["a"],"term":1,"value":{"exclusions":[],"master":null,"members":[],"settings":{"v":"x"}},"version":1}"#,
+    r#"act a ok publish a {"committed":["a"],"config":["a"],"parent":{"term":0,"version":0},"term":1,"value":{"exclusions":[],"master":null,"members":[],"settings":{"v":"x"}},"version":1}"#,
     "m3 a->a response 1/1",
 ];
 
@@ -133,7 +133,7 @@ pub const A_ACCEPTS_X: Passage = &[
 pub const A_COMMITS_X: Passage = &[
     "> deliver a 3",
     "act a ok response a a 1/1",
-    r#"committed {"committed":["a"],"config":["a"],"term":1,"value":{"exclusions":[],"master":null,"members":[],"settings":{"v":"x"}},"version":1}"#,
+    r#"committed {"committed":["a"],"config":["a"],"parent":{"term":0,"version":0},"term":1,"value":{"exclusions":[],"master":null,"members":[],"settings":{"v":"x"}},"version":1}"#,
     "m4 a->* commit 1/1",
 ];
 
@@ -141,37 +141,37 @@ pub const A_COMMITS_X: Passage = &[
 pub const A_PUBLISHES_Y: Passage = &[
     "> value a 2 y a",
     r#"act a ok value 2 a {"exclusions":[],"master":null,"members":[],"settings":{"v":"y"}}"#,
-    r#"m4 a->* publish {"committed":["a"],"config":["a"],"term":1,"value":{"exclusions":[],"master":null,"members":[],"settings":{"v":"y"}},"version":2}"#,
+    r#"m4 a->* publish {"committed":["a"],"config":["a"],"parent":{"term":1,"version":1},"term":1,"value":{"exclusions":[],"master":null,"members":[],"settings":{"v":"y"}},"version":2}"#,
 ];
 
 /// Node a publishes x as version 1 for voters a, b and c: message 4.
 pub const A_PUBLISHES_X_TO_THREE: Passage = &[
     "> value a 1 x a,b,c",
     r#"act a ok value 1 a,b,c {"exclusions":[],"master":null,"members":[],"settings":{"v":"x"}}"#,
-    r#"m4 a->* publish {"committed":["a","b","c"],"config":["a","b","c"],"term":1,"value":{"exclusions":[],"master":null,"members":[],"settings":{"v":"x"}},"version":1}"#,
+    r#"m4 a->* publish {"committed":["a","b","c"],"config":["a","b","c"],"parent":{"term":0,"version":0},"term":1,"value":{"exclusions":[],"master":null,"members":[],"settings":{"v":"x"}},"version":1}"#,
 ];
 
 /// Node a publishes x as version 1, with b as the only voter from then on: message 3.
 pub const A_PUBLISHES_VOTER_B: Passage = &[
     "> value a 1 x b",
     r#"act a ok value 1 b {"exclusions":[],"master":null,"members":[],"settings":{"v":"x"}}"#,
-    r#"m3 a->* publish {"committed":["a"],"config":["b"],"term":1,"value":{"exclusions":[],"master":null,"members":[],"settings":{"v":"x"}},"version":1}"#,
+    r#"m3 a->* publish {"committed":["a"],"config":["b"],"parent":{"term":0,"version":0},"term":1,"value":{"exclusions":[],"master":null,"members":[],"settings":{"v":"x"}},"version":1}"#,
 ];
 
 /// Node b accepts it: message 4.
 pub const B_ACCEPTS_VOTER_B: Passage = &[
     "> deliver b 3",
-    r#"act b ok publish a {"committed":["a"],"config":["b"],"term":1,"value":{"exclusions":[],"master":null,"members":[],"settings":{"v":"x"}},"version":1}"#,
+    r#"act b ok publish a {"committed":["a"],"config":["b"],"parent":{"term":0,"version":0},"term":1,"value":{"exclusions":[],"master":null,"members":[],"settings":{"v":"x"}},"version":1}"#,
     "m4 b->a response 1/1",
 ];
 
 /// Nodes a and b accept it, messages 4 and 5, and a counts its own response.
 pub const BOTH_ACCEPT_VOTER_B: Passage = &[
     "> deliver a 3",
-    r#"act a ok publish a {"committed":["a"],"config":["b"],"term":1,"value":{"exclusions":[],"master":null,"members":[],"settings":{"v":"x"}},"version":1}"#,
+    r#"act a ok publish a {"committed":["a"],"config":["b"],"parent":{"term":0,"version":0},"term":1,"value":{"exclusions":[],"master":null,"members":[],"settings":{"v":"x"}},"version":1}"#,
     "m4 a->a response 1/1",
     "> deliver b 3",
-    r#"act b ok publish a {"committed":["a"],"config":["b"],"term":1,"value":{"exclusions":[],"master":null,"members":[],"settings":{"v":"x"}},"version":1}"#,
+    r#"act b ok publish a {"committed":["a"],"config":["b"],"parent":{"term":0,"version":0},"term":1,"value":{"exclusions":[],"master":null,"members":[],"settings":{"v":"x"}},"version":1}"#,
     "m5 b->a response 1/1",
     "> deliver a 4",
     "act a ok response a a 1/1",
@@ -184,7 +184,7 @@ pub const A_COUNTS_RESPONSE_OF_B: Passage = &["> deliver a 4", "act a ok respons
 pub const A_PUBLISHES_X_TO_B: Passage = &[
     "> value a 1 x b",
     r#"act a ok value 1 b {"exclusions":[],"master":null,"members":[],"settings":{"v":"x"}}"#,
-    r#"m3 a->* publish {"committed":["b"],"config":["b"],"term":1,"value":{"exclusions":[],"master":null,"members":[],"settings":{"v":"x"}},"version":1}"#,
+    r#"m3 a->* publish {"committed":["b"],"config":["b"],"parent":{"term":0,"version":0},"term":1,"value":{"exclusions":[],"master":null,"members":[],"settings":{"v":"x"}},"version":1}"#,
 ];
 
 /// A whole node, alone: its clock runs down, and it elects itself.
@@ -205,9 +205,9 @@ pub const A_ELECTS_ITSELF: Passage = &[
 /// It publishes its first state, and accepts that: messages 3 and 4.
 pub const A_PUBLISHES_FIRST_STATE: Passage = &[
     r#"act a ok value 1 a {"exclusions":[],"master":"a","members":["a"],"settings":{}}"#,
-    r#"m3 a->a publish {"committed":["a"],"config":["a"],"term":1,"value":{"exclusions":[],"master":"a","members":["a"],"settings":{}},"version":1}"#,
+    r#"m3 a->a publish {"committed":["a"],"config":["a"],"parent":{"term":0,"version":0},"term":1,"value":{"exclusions":[],"master":"a","members":["a"],"settings":{}},"version":1}"#,
     "> deliver a 3",
-    r#"act a ok publish a {"committed":["a"],"config":["a"],"term":1,"value":{"exclusions":[],"master":"a","members":["a"],"settings":{}},"version":1}"#,
+    r#"act a ok publish a {"committed":["a"],"config":["a"],"parent":{"term":0,"version":0},"term":1,"value":{"exclusions":[],"master":"a","members":["a"],"settings":{}},"version":1}"#,
     "m4 a->a response 1/1",
 ];
 
@@ -215,7 +215,7 @@ pub const A_PUBLISHES_FIRST_STATE: Passage = &[
 pub const A_COMMITS_FIRST_STATE: Passage = &[
     "> deliver a 4",
     "act a ok response a a 1/1",
-    r#"committed {"committed":["a"],"config":["a"],"term":1,"value":{"exclusions":[],"master":"a","members":["a"],"settings":{}},"version":1}"#,
+    r#"committed {"committed":["a"],"config":["a"],"parent":{"term":0,"version":0},"term":1,"value":{"exclusions":[],"master":"a","members":["a"],"settings":{}},"version":1}"#,
     "m5 a->a commit 1/1",
     "> deliver a 5",
     "act a ok commit a 1/1",
@@ -248,7 +248,7 @@ pub const B_JOINS_AND_A_LEADS: Passage = &[
     "won a 1",
     "mode a leader 1",
     r#"act a ok value 1 a {"exclusions":[],"master":"a","members":["a"],"settings":{}}"#,
-    r#"m6 a->a publish {"committed":["a"],"config":["a"],"term":1,"value":{"exclusions":[],"master":"a","members":["a"],"settings":{}},"version":1}"#,
+    r#"m6 a->a publish {"committed":["a"],"config":["a"],"parent":{"term":0,"version":0},"term":1,"value":{"exclusions":[],"master":"a","members":["a"],"settings":{}},"version":1}"#,
 ];
 
 /// Node a counts the join of b, and commits its first state: messages 7 and 8.
@@ -256,11 +256,11 @@ pub const A_COMMITS_FIRST_STATE_OF_TWO: Passage = &[
     "> deliver a 5",
     "act a ok join b a 1 0/0",
     "> deliver a 6",
-    r#"act a ok publish a {"committed":["a"],"config":["a"],"term":1,"value":{"exclusions":[],"master":"a","members":["a"],"settings":{}},"version":1}"#,
+    r#"act a ok publish a {"committed":["a"],"config":["a"],"parent":{"term":0,"version":0},"term":1,"value":{"exclusions":[],"master":"a","members":["a"],"settings":{}},"version":1}"#,
     "m7 a->a response 1/1",
     "> deliver a 7",
     "act a ok response a a 1/1",
-    r#"committed {"committed":["a"],"config":["a"],"term":1,"value":{"exclusions":[],"master":"a","members":["a"],"settings":{}},"version":1}"#,
+    r#"committed {"committed":["a"],"config":["a"],"parent":{"term":0,"version":0},"term":1,"value":{"exclusions":[],"master":"a","members":["a"],"settings":{}},"version":1}"#,
     "m8 a->a commit 1/1",
     "> deliver a 8",
     "act a ok commit a 1/1",
@@ -269,6 +269,6 @@ pub const A_COMMITS_FIRST_STATE_OF_TWO: Passage = &[
 /// Node a publishes a state of which b is a member: messages 9 and 10.
 pub const A_ADDS_B: Passage = &[
     r#"act a ok value 2 a {"exclusions":[],"master":"a","members":["a","b"],"settings":{}}"#,
-    r#"m9 a->a publish {"committed":["a"],"config":["a"],"term":1,"value":{"exclusions":[],"master":"a","members":["a","b"],"settings":{}},"version":2}"#,
-    r#"m10 a->b publish {"committed":["a"],"config":["a"],"term":1,"value":{"exclusions":[],"master":"a","members":["a","b"],"settings":{}},"version":2}"#,
+    r#"m9 a->a publish {"committed":["a"],"config":["a"],"parent":{"term":1,"version":1},"term":1,"value":{"exclusions":[],"master":"a","members":["a","b"],"settings":{}},"version":2}"#,
+    r#"m10 a->b publish {"committed":["a"],"config":["a"],"parent":{"term":1,"version":1},"term":1,"value":{"exclusions":[],"master":"a","members":["a","b"],"settings":{}},"version":2}"#,
 ];
