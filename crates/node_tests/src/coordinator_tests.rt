@@ -220,7 +220,7 @@ fn leader(alloc: Global) -> Result<World, Fail> {
                 "won a 1",
                 "mode a leader 1",
                 "act a ok value 1 a {\"exclusions\":[],\"master\":\"a\",\"members\":[\"a\"],\"settings\":{}}",
-                "m3 a->a publish {\"committed\":[\"a\"],\"config\":[\"a\"],\"term\":1,\"value\":{\"exclusions\":[],\"master\":\"a\",\"members\":[\"a\"],\"settings\":{}},\"version\":1}",
+                "m3 a->a publish {\"committed\":[\"a\"],\"config\":[\"a\"],\"parent\":{\"term\":0,\"version\":0},\"term\":1,\"value\":{\"exclusions\":[],\"master\":\"a\",\"members\":[\"a\"],\"settings\":{}},\"version\":1}",
             ],
         ),
         ("deliver a 3", &["..."]),
@@ -247,7 +247,7 @@ fn follower(alloc: Global) -> Result<World, Fail> {
                 "...",
                 "won a 1",
                 "...",
-                "m6 a->a publish {\"committed\":[\"a\"],\"config\":[\"a\"],\"term\":1,\"value\":{\"exclusions\":[],\"master\":\"a\",\"members\":[\"a\"],\"settings\":{}},\"version\":1}",
+                "m6 a->a publish {\"committed\":[\"a\"],\"config\":[\"a\"],\"parent\":{\"term\":0,\"version\":0},\"term\":1,\"value\":{\"exclusions\":[],\"master\":\"a\",\"members\":[\"a\"],\"settings\":{}},\"version\":1}",
             ],
         ),
         ("deliver a 5", &["..."]),
@@ -258,8 +258,8 @@ fn follower(alloc: Global) -> Result<World, Fail> {
             &[
                 "...",
                 "act a ok value 2 a {\"exclusions\":[],\"master\":\"a\",\"members\":[\"a\",\"b\"],\"settings\":{}}",
-                "m9 a->a publish {\"committed\":[\"a\"],\"config\":[\"a\"],\"term\":1,\"value\":{\"exclusions\":[],\"master\":\"a\",\"members\":[\"a\",\"b\"],\"settings\":{}},\"version\":2}",
-                "m10 a->b publish {\"committed\":[\"a\"],\"config\":[\"a\"],\"term\":1,\"value\":{\"exclusions\":[],\"master\":\"a\",\"members\":[\"a\",\"b\"],\"settings\":{}},\"version\":2}",
+                "m9 a->a publish {\"committed\":[\"a\"],\"config\":[\"a\"],\"parent\":{\"term\":1,\"version\":1},\"term\":1,\"value\":{\"exclusions\":[],\"master\":\"a\",\"members\":[\"a\",\"b\"],\"settings\":{}},\"version\":2}",
+                "m10 a->b publish {\"committed\":[\"a\"],\"config\":[\"a\"],\"parent\":{\"term\":1,\"version\":1},\"term\":1,\"value\":{\"exclusions\":[],\"master\":\"a\",\"members\":[\"a\",\"b\"],\"settings\":{}},\"version\":2}",
             ],
         ),
         (
@@ -358,7 +358,7 @@ fn a_leader_whose_publication_fails_stands_again_and_publishes_the_same_value(
             "deliver a 2",
             &[
                 "...",
-                "m3 a->a publish {\"committed\":[\"a\"],\"config\":[\"a\"],\"term\":1,\"value\":{\"exclusions\":[],\"master\":\"a\",\"members\":[\"a\"],\"settings\":{}},\"version\":1}",
+                "m3 a->a publish {\"committed\":[\"a\"],\"config\":[\"a\"],\"parent\":{\"term\":0,\"version\":0},\"term\":1,\"value\":{\"exclusions\":[],\"master\":\"a\",\"members\":[\"a\"],\"settings\":{}},\"version\":1}",
             ],
         ),
         ("deliver a 3", &["..."]),
@@ -373,7 +373,7 @@ fn a_leader_whose_publication_fails_stands_again_and_publishes_the_same_value(
                 "won a 2",
                 "mode a leader 2",
                 "act a ok value 2 a {\"exclusions\":[],\"master\":\"a\",\"members\":[\"a\"],\"settings\":{}}",
-                "m7 a->a publish {\"committed\":[\"a\"],\"config\":[\"a\"],\"term\":2,\"value\":{\"exclusions\":[],\"master\":\"a\",\"members\":[\"a\"],\"settings\":{}},\"version\":2}",
+                "m7 a->a publish {\"committed\":[\"a\"],\"config\":[\"a\"],\"parent\":{\"term\":1,\"version\":1},\"term\":2,\"value\":{\"exclusions\":[],\"master\":\"a\",\"members\":[\"a\"],\"settings\":{}},\"version\":2}",
             ],
         ),
     ])

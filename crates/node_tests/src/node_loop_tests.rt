@@ -56,7 +56,7 @@ fn election(alloc: Global) -> Result<Vec<Input>, AllocError>
         ),
         bytes(
             3,
-            b"\0\0\0\x24\x03\x01a\x01a\0\0\0\0\0\0\0\x01\0\0\0\0\0\0\0\x01\x01\x01a\x01\x01a\x01\x01a\x01\x01a\0\0\0"
+            b"\0\0\0\x35\x11\x01a\x01a\0\0\0\0\0\0\0\x01\0\0\0\0\0\0\0\x01\x01\0\0\0\0\0\0\0\0\0\0\0\0\0\0\0\0\x01\x01a\x01\x01a\x01\x01a\x01\x01a\0\0\0"
         ),
         bytes(
             3,
@@ -69,7 +69,7 @@ fn election(alloc: Global) -> Result<Vec<Input>, AllocError>
         bytes(4, b"{\"id\":1,\"put\":{\"key\":\"k\",\"value\":\"v\"}}\n"),
         bytes(
             3,
-            b"\0\0\0\x2a\x03\x01a\x01a\0\0\0\0\0\0\0\x01\0\0\0\0\0\0\0\x02\x01\x01a\x01\x01a\x01\x01a\x01\x01a\0\0\x01\0\x01k\0\x01v"
+            b"\0\0\0\x3b\x11\x01a\x01a\0\0\0\0\0\0\0\x01\0\0\0\0\0\0\0\x02\x01\0\0\0\0\0\0\0\x01\0\0\0\0\0\0\0\x01\x01\x01a\x01\x01a\x01\x01a\x01\x01a\0\0\x01\0\x01k\0\x01v"
         ),
         bytes(
             3,
@@ -104,25 +104,25 @@ const ELECTED: [&str; 35] = [
     "won a 1",
     "mode a leader 1",
     "act a ok value 1 a {\"exclusions\":[],\"master\":\"a\",\"members\":[\"a\"],\"settings\":{}}",
-    "m3 a->a publish {\"committed\":[\"a\"],\"config\":[\"a\"],\"term\":1,\"value\":{\"exclusions\":[],\"master\":\"a\",\"members\":[\"a\"],\"settings\":{}},\"version\":1}",
-    "> frame a publish {\"committed\":[\"a\"],\"config\":[\"a\"],\"term\":1,\"value\":{\"exclusions\":[],\"master\":\"a\",\"members\":[\"a\"],\"settings\":{}},\"version\":1}",
-    "act a ok publish a {\"committed\":[\"a\"],\"config\":[\"a\"],\"term\":1,\"value\":{\"exclusions\":[],\"master\":\"a\",\"members\":[\"a\"],\"settings\":{}},\"version\":1}",
+    "m3 a->a publish {\"committed\":[\"a\"],\"config\":[\"a\"],\"parent\":{\"term\":0,\"version\":0},\"term\":1,\"value\":{\"exclusions\":[],\"master\":\"a\",\"members\":[\"a\"],\"settings\":{}},\"version\":1}",
+    "> frame a publish {\"committed\":[\"a\"],\"config\":[\"a\"],\"parent\":{\"term\":0,\"version\":0},\"term\":1,\"value\":{\"exclusions\":[],\"master\":\"a\",\"members\":[\"a\"],\"settings\":{}},\"version\":1}",
+    "act a ok publish a {\"committed\":[\"a\"],\"config\":[\"a\"],\"parent\":{\"term\":0,\"version\":0},\"term\":1,\"value\":{\"exclusions\":[],\"master\":\"a\",\"members\":[\"a\"],\"settings\":{}},\"version\":1}",
     "m4 a->a response 1/1",
     "> frame a response 1/1",
     "act a ok response a a 1/1",
-    "committed {\"committed\":[\"a\"],\"config\":[\"a\"],\"term\":1,\"value\":{\"exclusions\":[],\"master\":\"a\",\"members\":[\"a\"],\"settings\":{}},\"version\":1}",
+    "committed {\"committed\":[\"a\"],\"config\":[\"a\"],\"parent\":{\"term\":0,\"version\":0},\"term\":1,\"value\":{\"exclusions\":[],\"master\":\"a\",\"members\":[\"a\"],\"settings\":{}},\"version\":1}",
     "m5 a->a commit 1/1",
     "> frame a commit 1/1",
     "act a ok commit a 1/1",
     "> client {\"id\":1,\"put\":{\"key\":\"k\",\"value\":\"v\"}}",
     "act a ok value 2 a {\"exclusions\":[],\"master\":\"a\",\"members\":[\"a\"],\"settings\":{\"k\":\"v\"}}",
-    "m6 a->a publish {\"committed\":[\"a\"],\"config\":[\"a\"],\"term\":1,\"value\":{\"exclusions\":[],\"master\":\"a\",\"members\":[\"a\"],\"settings\":{\"k\":\"v\"}},\"version\":2}",
-    "> frame a publish {\"committed\":[\"a\"],\"config\":[\"a\"],\"term\":1,\"value\":{\"exclusions\":[],\"master\":\"a\",\"members\":[\"a\"],\"settings\":{\"k\":\"v\"}},\"version\":2}",
-    "act a ok publish a {\"committed\":[\"a\"],\"config\":[\"a\"],\"term\":1,\"value\":{\"exclusions\":[],\"master\":\"a\",\"members\":[\"a\"],\"settings\":{\"k\":\"v\"}},\"version\":2}",
+    "m6 a->a publish {\"committed\":[\"a\"],\"config\":[\"a\"],\"parent\":{\"term\":1,\"version\":1},\"term\":1,\"value\":{\"exclusions\":[],\"master\":\"a\",\"members\":[\"a\"],\"settings\":{\"k\":\"v\"}},\"version\":2}",
+    "> frame a publish {\"committed\":[\"a\"],\"config\":[\"a\"],\"parent\":{\"term\":1,\"version\":1},\"term\":1,\"value\":{\"exclusions\":[],\"master\":\"a\",\"members\":[\"a\"],\"settings\":{\"k\":\"v\"}},\"version\":2}",
+    "act a ok publish a {\"committed\":[\"a\"],\"config\":[\"a\"],\"parent\":{\"term\":1,\"version\":1},\"term\":1,\"value\":{\"exclusions\":[],\"master\":\"a\",\"members\":[\"a\"],\"settings\":{\"k\":\"v\"}},\"version\":2}",
     "m7 a->a response 1/2",
     "> frame a response 1/2",
     "act a ok response a a 1/2",
-    "committed {\"committed\":[\"a\"],\"config\":[\"a\"],\"term\":1,\"value\":{\"exclusions\":[],\"master\":\"a\",\"members\":[\"a\"],\"settings\":{\"k\":\"v\"}},\"version\":2}",
+    "committed {\"committed\":[\"a\"],\"config\":[\"a\"],\"parent\":{\"term\":1,\"version\":1},\"term\":1,\"value\":{\"exclusions\":[],\"master\":\"a\",\"members\":[\"a\"],\"settings\":{\"k\":\"v\"}},\"version\":2}",
     "m8 a->a commit 1/2",
     "reply a {\"acked\":{\"term\":1,\"version\":2},\"id\":1}",
 ];
