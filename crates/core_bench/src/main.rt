@@ -25,11 +25,20 @@ const NAMES: [&str; 5] = ["a", "b", "c", "d", "e"];
 // The nodes of all these names, as a set of ids is spelled.
 const MEMBERS: &[u8] = b"\x05\x01a\x01b\x01c\x01d\x01e";
 
+// The bytes of a parent of this version: the first one is 0/0, the others are of the term.
+fn add_parent(bytes: &mut Vec<u8>, version: u64) -> Result<(), AllocError> {
+    let term = if version == 0 { 0 } else { TERM };
+    bytes.push(1)?;
+    bytes.extend_from_slice(&term.to_be_bytes())?;
+    bytes.extend_from_slice(&version.to_be_bytes())
+}
+
 // The bytes of a state of full settings: keys of 128 bytes and texts of 1,024.
 fn state_bytes(alloc: Global, version: u64, settings: u16) -> Result<Vec<u8>, AllocError> {
     let mut bytes = Vec::new(alloc);
     bytes.extend_from_slice(&TERM.to_be_bytes())?;
     bytes.extend_from_slice(&version.to_be_bytes())?;
+    add_parent(&mut bytes, version.saturating_sub(1))?;
     // The configuration, the committed one, and a value with no master, members or exclusions.
     bytes.extend_from_slice(MEMBERS)?;
     bytes.extend_from_slice(MEMBERS)?;
@@ -126,6 +135,10 @@ impl Cluster {
             "no publication"
         );
         ensure!(state.term == candidate.term(), "a state of another term");
+        ensure!(
+            state.parent == Some(candidate.accepted().id()),
+            "another parent"
+        );
         ensure!(
             state.committed.is_same(candidate.committed()),
             "another configuration is committed"
