@@ -22,6 +22,13 @@ pub struct SystemChild {
     number: u64,
 }
 
+/// Why a child was not waited for, and whether it was ended then.
+#[derive(Clone, Copy)]
+pub struct Unwaited {
+    pub error: HostError,
+    pub ended: bool,
+}
+
 // A child that was neither waited for nor killed.
 #[derive(Drop)]
 struct Running {
@@ -159,35 +166,36 @@ impl Children {
         program: &str,
         words: &[String],
     ) -> Result<SystemChild, HostError> {
+        // A child that has no place here would have to be ended, which may fail.
+        let Ok(()) = self.running.reserve(1) else {
+            return Err(HostError::Memory);
+        };
         let mut process = match launch(rt, self.alloc, program, words) {
             Ok(process) => process,
             Err(error) => return Err(error_of(error)),
         };
         let pipe = process.stdout.take();
         self.spawned = self.spawned.saturating_add(1);
-        let running = Running {
+        self.running.push_reserved(Running {
             number: self.spawned,
             process,
             pipe,
             output: Vec::new(self.alloc),
             fault: None,
-        };
-        if let Err(refused) = self.running.push(running) {
-            let mut running = refused.value;
-            // The answer is the error that came first.
-            let _ = end(&mut running.process);
-            return Err(HostError::Memory);
-        }
+        });
         Ok(SystemChild {
             number: self.spawned,
         })
     }
 
     /// Waits until a child has ended and its output is closed, also by those that it has started. Where that fails, the
-    /// child is killed.
-    pub fn wait(&mut self, child: SystemChild) -> Result<Ended, HostError> {
+    /// child is killed, unless that fails too.
+    pub fn wait(&mut self, child: SystemChild) -> Result<Ended, Unwaited> {
         let Some(mut running) = self.take(&child) else {
-            return Err(HostError::Failed);
+            return Err(Unwaited {
+                error: HostError::Failed,
+                ended: false,
+            });
         };
         match self.status_of(&mut running) {
             Ok(status) => Ok(Ended {
@@ -195,9 +203,9 @@ impl Children {
                 output: running.output,
             }),
             Err(error) => {
-                // The answer is the error that came first.
-                let _ = end(&mut running.process);
-                Err(error)
+                // The error that is told is the one that came first.
+                let ended = end(&mut running.process).is_ok();
+                Err(Unwaited { error, ended })
             }
         }
     }

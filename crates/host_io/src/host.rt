@@ -2,7 +2,7 @@
 ghost use Rattle.std.specs.Prelude.{◌≡◌, ◌≤◌, None, ⊤};
 ghost use Rattle.zen_disk.specs.Faults.{Rose};
 
-use crate::children::{Children, SystemChild};
+use crate::children::{Children, SystemChild, Unwaited};
 use crate::{FileDisks, Framing, SocketLink, StandardInput, StandardOutput};
 use zen_host::{Ended, Host, HostError};
 use zen_link::LinkSettings;
@@ -16,7 +16,9 @@ pub struct SystemHost<'a, F: Framing + Copy + Drop> {
     disk_back: Option<FileDisks>,
     link_back: Option<SocketLink<HostRuntime, F>>,
     children: Children,
-    // how many children were spawned, and neither waited for nor killed
+    // how many children were spawned, and neither waited for nor to be killed
+    held: u64,
+    // how many of all that were spawned have not ended, as far as is known
     running: u64,
     faults: u64,
 }
@@ -32,6 +34,7 @@ impl<'a, F: Framing + Copy + Drop> SystemHost<'a, F> {
             disk_back: None,
             link_back: None,
             children: Children::new(rt.alloc()),
+            held: 0,
             running: 0,
             faults: 0,
         }
@@ -44,6 +47,7 @@ impl<'a, F: Framing + Copy + Drop> SystemHost<'a, F> {
         ensures later { self.old.faults ≤ self.new.faults }
         ensures back { self.new.disk_back ≡ self.old.disk_back }
         ensures link_back { self.new.link_back ≡ self.old.link_back }
+        ensures held { self.new.held ≡ self.old.held }
         ensures running { self.new.running ≡ self.old.running }
     {
         self.faults = self.faults.saturating_add(1);
@@ -71,6 +75,8 @@ impl<F: Framing + Copy + Drop> Host for SystemHost<'_, F> {
     ghost link_ready = { λ _. None };
 
     ghost link_back = { λ host. host.link_back };
+
+    ghost held = { λ host. host.held };
 
     ghost running = { λ host. host.running };
 
@@ -116,11 +122,13 @@ impl<F: Framing + Copy + Drop> Host for SystemHost<'_, F> {
     }
 
     fn spawn(&mut self, program: &str, words: &[String]) -> Result<SystemChild, HostError> {
-        let Some(running) = self.running.checked_add(1) else {
+        let (Some(held), Some(running)) = (self.held.checked_add(1), self.running.checked_add(1))
+        else {
             return Err(self.failed());
         };
         match self.children.spawn(self.rt, program, words) {
             Ok(child) => {
+                self.held = held;
                 self.running = running;
                 Ok(child)
             }
@@ -130,18 +138,31 @@ impl<F: Framing + Copy + Drop> Host for SystemHost<'_, F> {
     }
 
     fn wait(&mut self, child: SystemChild) -> Result<Ended, HostError> {
-        self.running = self.running.saturating_sub(1);
+        self.held = self.held.saturating_sub(1);
         match self.children.wait(child) {
-            Ok(ended) => Ok(ended),
-            Err(HostError::Memory) => Err(HostError::Memory),
-            Err(HostError::Failed) => Err(self.failed()),
+            Ok(ended) => {
+                self.running = self.running.saturating_sub(1);
+                Ok(ended)
+            }
+            Err(Unwaited { error, ended }) => {
+                if ended {
+                    self.running = self.running.saturating_sub(1);
+                }
+                match error {
+                    HostError::Memory => Err(HostError::Memory),
+                    HostError::Failed => Err(self.failed()),
+                }
+            }
         }
     }
 
     fn kill(&mut self, child: SystemChild) -> Result<(), HostError> {
-        self.running = self.running.saturating_sub(1);
+        self.held = self.held.saturating_sub(1);
         match self.children.kill(child) {
-            Ok(()) => Ok(()),
+            Ok(()) => {
+                self.running = self.running.saturating_sub(1);
+                Ok(())
+            }
             Err(HostError::Memory) => Err(HostError::Memory),
             Err(HostError::Failed) => Err(self.failed()),
         }

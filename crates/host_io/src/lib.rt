@@ -14,7 +14,7 @@ mod queue;
 mod sockets;
 pub mod streams;
 
-pub use children::{Children, SystemChild};
+pub use children::{Children, SystemChild, Unwaited};
 pub use disk::FileDisks;
 pub use framing::{Framing, Piece, Target};
 pub use host::SystemHost;

@@ -24,11 +24,15 @@ fn spawned(
     children.spawn(rt, "/bin/sh", words.as_slice())
 }
 
+fn waited(children: &mut Children, child: SystemChild) -> Result<Ended, HostError> {
+    children.wait(child).map_err(|unwaited| unwaited.error)
+}
+
 // The status and the output of a shell that does this.
 fn ended(rt: &HostRuntime, text: &str) -> Result<(u8, Vec<u8>), HostError> {
     let mut children = Children::new(rt.alloc());
     let child = spawned(rt, &mut children, text)?;
-    let ended = children.wait(child)?;
+    let ended = waited(&mut children, child)?;
     Ok((ended.status, ended.output))
 }
 
@@ -107,7 +111,7 @@ fn all_children_write_while_one_is_waited_for(rt: HostRuntime) -> Result<(), Fai
     let _ = fs::remove_file(&rt, "host_io_c2");
     let mut children = Children::new(rt.alloc());
     for child in started(&rt, &mut children)? {
-        assert!(rt; is_all(children.wait(child)));
+        assert!(rt; is_all(waited(&mut children, child)));
     }
     fs::remove_file(&rt, "host_io_c1")?;
     fs::remove_file(&rt, "host_io_c2")?;
@@ -126,7 +130,7 @@ fn sleeper(rt: &HostRuntime, children: &mut Children) -> Result<SystemChild, Hos
     let child = spawned(rt, children, text)?;
     let until_it_has = "while [ ! -e host_io_pid ]; do sleep 0.05; done";
     let other = spawned(rt, children, until_it_has)?;
-    children.wait(other)?;
+    waited(children, other)?;
     Ok(child)
 }
 

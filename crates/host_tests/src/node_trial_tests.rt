@@ -155,13 +155,14 @@ fn are_killed(calls: &[Asked], wanted: &[usize]) -> bool {
     left.next().is_none()
 }
 
-// Whether a trial, where these calls are refused, ends by that, writes nothing, and has made so many calls, of which some
-// killed these children.
+// Whether a trial, where these calls are refused, ends by that, writes nothing, has made so many calls, of which some were to
+// kill these children, and leaves so many running.
 fn is_cut_short(
     alloc: Global,
     refused: &[u64],
     count: usize,
     children: &[usize],
+    running: u64,
 ) -> Result<bool, AllocError> {
     let trial = trial_of(alloc, [0, 0, 0], WON, refused)?;
     let calls = trial.host.asked();
@@ -169,34 +170,35 @@ fn is_cut_short(
         trial.end == TrialEnd::HostFault
             && wrote(&trial, "")
             && calls.len() == count
-            && are_killed(calls, children),
+            && are_killed(calls, children)
+            && trial.host.running_count() == running,
     )
 }
 
-// Which call is refused, how many calls there are then, and the numbers of the children that are killed.
-const CUT_SHORT: [(u64, usize, &[usize]); 6] = [
-    (1, 1, &[]),
-    (2, 3, &[1]),
-    (3, 5, &[1, 2]),
-    (4, 6, &[2, 3]),
-    (5, 6, &[3]),
-    (6, 6, &[]),
+// Which calls are refused, how many calls there are then, the numbers of the children that the host is asked to kill, and how
+// many of these run on, since that was refused too.
+const CUT_SHORT: [(&[u64], usize, &[usize], u64); 9] = [
+    (&[1], 1, &[], 0),
+    (&[2], 3, &[1], 0),
+    (&[3], 5, &[1, 2], 0),
+    (&[4], 6, &[2, 3], 0),
+    (&[5], 6, &[3], 0),
+    (&[6], 6, &[], 0),
+    (&[4, 5], 6, &[2, 3], 1),
+    (&[3, 4], 5, &[1, 2], 1),
+    (&[3, 4, 5], 5, &[1, 2], 2),
 ];
 
 #[test]
-fn where_a_call_is_refused_those_that_still_run_are_killed(rt: HostRuntime) -> Result<(), Fail> {
-    for (call, count, children) in CUT_SHORT {
+fn where_a_call_is_refused_the_host_is_asked_to_kill_those_that_still_run(
+    rt: HostRuntime,
+) -> Result<(), Fail> {
+    for (refused, count, children, running) in CUT_SHORT {
         assert!(rt;
-            is_cut_short(rt.alloc(), &[call], count, children)?,
-            "{call}"
+            is_cut_short(rt.alloc(), refused, count, children, running)?,
+            "{refused:?}"
         );
     }
-    Ok(())
-}
-
-#[test]
-fn a_killing_that_is_refused_ends_no_trial_earlier(rt: HostRuntime) -> Result<(), Fail> {
-    assert!(rt; is_cut_short(rt.alloc(), &[4, 5], 6, &[2, 3])?);
     Ok(())
 }
 

@@ -207,6 +207,7 @@ fn children_end_in_the_order_in_which_they_are_spawned(rt: HostRuntime) -> Resul
     ];
     let mut world = World::new(rt.alloc(), &[2, 5])?;
     assert!(rt; world.first_untrue(THREE_CHILDREN) == None);
+    assert!(rt; world.host.running_count() == 0);
     assert!(rt; are_calls(world.host.asked(), &calls));
     Ok(())
 }
@@ -223,6 +224,8 @@ fn a_killing_is_told(rt: HostRuntime) -> Result<(), Fail> {
     ];
     let mut world = World::new(rt.alloc(), &[3])?;
     assert!(rt; world.first_untrue(KILLINGS) == None);
+    // The child whose killing was refused runs on.
+    assert!(rt; world.host.running_count() == 1);
     assert!(rt; are_calls(world.host.asked(), &calls));
     Ok(())
 }

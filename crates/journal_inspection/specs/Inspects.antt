@@ -12,15 +12,15 @@ use Rattle.journal_inspection.specs.declared.showing.Shown.TheVariants as shown
 use Rattle.journal_inspection.specs.declared.inspecting.Inspection.{Inspection}
 use Rattle.journal_inspection.specs.declared.inspecting.Inspection.TheVariants as end
 
--- What a host tells: the calls made, the disk and the link that it has ready and those that were given back last; how many children run; and how many
--- faults there were.
+-- What a host tells: the calls made, the disk and the link that it has ready and those that were given back last; how many children are held, which were
+-- spawned and given neither to a wait nor to a kill; and how many faults there were.
 pub record HostView (D L : Type 0) : Type 0 where
   pub calls : Option (List HostCall)
   pub disk_ready : Option D
   pub disk_back : Option D
   pub link_ready : Option L
   pub link_back : Option L
-  pub running : ℕ
+  pub held : ℕ
   pub faults : ℕ
 
 -- the host gave no link, and was given none back

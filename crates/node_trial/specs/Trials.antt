@@ -74,6 +74,14 @@ abbrev pub end_by : HostError → TrialEnd
 end_by host.Failed = end.HostFault
 end_by host.Memory = end.NoMemory
 
+-- at these ends each child was waited for, and the host said how it ended
+abbrev pub has_waited : TrialEnd → Bool
+has_waited end.Done = true
+has_waited end.TrialFailed = true
+has_waited end.WriteFault = true
+has_waited end.NoMemory = false
+has_waited end.HostFault = false
+
 -- what is written where each child was waited for, and the end of the trial
 abbrev pub Tells : ToldEnds → (was now : Option (List ℕ)) → TrialEnd → Type 0
 Tells ends was now end.Done = Appended was now (text_of ends) × (have_passed ends ≡ true)

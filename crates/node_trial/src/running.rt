@@ -1,10 +1,10 @@
 //! The three nodes started, waited for, and killed where a start or a wait is refused.
-ghost use Rattle.std.specs.Prelude.{◌≡◌, ◌+◌, ◌-◌, ◌≤◌, [], ◌∷◌, IfOk, OnErr, IsErrOf};
+ghost use Rattle.std.specs.Prelude.{◌≡◌, ◌+◌, ◌-◌, ◌≤◌, true, false, [], ◌∷◌, IfOk, OnErr, IsErrOf};
 ghost use Rattle.zen_disk.specs.Faults.{Rose};
 ghost use Rattle.zen_host.specs.HostCalls.{Spawns, Notes, IsNumber};
 ghost use Rattle.node_trial.specs.Nodes.{told_trial, words_of};
 ghost use Rattle.node_trial.specs.Ends.{told_ends};
-ghost use Rattle.node_trial.specs.Trials.{IsKilled, AreKilled, Begins, Awaits, Tells, Tried, end_by};
+ghost use Rattle.node_trial.specs.Trials.{IsKilled, AreKilled, Begins, Awaits, Tells, Tried, end_by, has_waited};
 
 use crate::ends::{have_passed, write_ends};
 use crate::node::node_words;
@@ -45,8 +45,9 @@ fn start<H: Host>(
 ) -> Result<H::Child, HostError>
     ensures call { Notes (H.calls host.old) (H.calls host.new) (Spawns trial.now.program.now (words_of (told_trial trial.now) node)) result }
     ensures number { IfOk result (λ child. IsNumber (H.calls host.new) (H.child_number child)) }
+    ensures held { IfOk result (λ child. H.held host.new ≡ H.held host.old + 1) }
     ensures running { IfOk result (λ child. H.running host.new ≡ H.running host.old + 1) }
-    ensures refused { OnErr result (H.running host.new ≡ H.running host.old) }
+    ensures refused { OnErr result (H.held host.new ≡ H.held host.old) }
     ensures disk_ready { H.disk_ready host.new ≡ H.disk_ready host.old }
     ensures disk_back { H.disk_back host.new ≡ H.disk_back host.old }
     ensures link_ready { H.link_ready host.new ≡ H.link_ready host.old }
@@ -63,20 +64,20 @@ fn start<H: Host>(
 // Kills a child, as far as the host can.
 fn kill<H: Host>(host: &mut H, child: H::Child)
     ensures killed { IsKilled (H.child_number child) (H.calls host.old) (H.calls host.new) }
-    ensures running { H.running host.new ≡ H.running host.old - 1 }
+    ensures held { H.held host.new ≡ H.held host.old - 1 }
     ensures disk_ready { H.disk_ready host.new ≡ H.disk_ready host.old }
     ensures disk_back { H.disk_back host.new ≡ H.disk_back host.old }
     ensures link_ready { H.link_ready host.new ≡ H.link_ready host.old }
     ensures link_back { H.link_back host.new ≡ H.link_back host.old }
     ensures later { H.faults host.old ≤ H.faults host.new }
 {
-    // A killing that is refused has been counted as a fault of the host.
+    // Where that is refused, the child runs on; the host has counted a fault then, or there was no memory.
     let _ = host.kill(child);
 }
 
 fn kill_both<H: Host>(host: &mut H, first: H::Child, second: H::Child)
     ensures killed { AreKilled (H.child_number first ∷ H.child_number second ∷ []) (H.calls host.old) (H.calls host.new) }
-    ensures running { H.running host.new ≡ H.running host.old - 2 }
+    ensures held { H.held host.new ≡ H.held host.old - 2 }
     ensures disk_ready { H.disk_ready host.new ≡ H.disk_ready host.old }
     ensures disk_back { H.disk_back host.new ≡ H.disk_back host.old }
     ensures link_ready { H.link_ready host.new ≡ H.link_ready host.old }
@@ -87,15 +88,16 @@ fn kill_both<H: Host>(host: &mut H, first: H::Child, second: H::Child)
     kill(host, second);
 }
 
-// Starts all nodes, or leaves none running.
+// Starts all nodes, or asks the host to kill those that it has started.
 fn start_all<H: Host>(
     alloc: Global,
     trial: &Trial<'_>,
     host: &mut H,
 ) -> Result<Children<H::Child>, HostError>
     ensures begins { Begins (told_trial trial.now) (H.calls host.old) (H.calls host.new) result (λ children. H.child_number children.a ∷ H.child_number children.b ∷ H.child_number children.c ∷ []) }
+    ensures held { IfOk result (λ children. H.held host.new ≡ H.held host.old + 3) }
     ensures running { IfOk result (λ children. H.running host.new ≡ H.running host.old + 3) }
-    ensures refused { OnErr result (H.running host.new ≡ H.running host.old) }
+    ensures refused { OnErr result (H.held host.new ≡ H.held host.old) }
     ensures disk_ready { H.disk_ready host.new ≡ H.disk_ready host.old }
     ensures disk_back { H.disk_back host.new ≡ H.disk_back host.old }
     ensures link_ready { H.link_ready host.new ≡ H.link_ready host.old }
@@ -123,10 +125,11 @@ fn start_all<H: Host>(
     }
 }
 
-// Waits for all children, or leaves none running.
+// Waits for all children, or asks the host to kill those that it has not waited for.
 fn wait_for_all<H: Host>(host: &mut H, children: Children<H::Child>) -> Result<TrialEnds, HostError>
     ensures awaits { Awaits told_ends (H.child_number children.a ∷ H.child_number children.b ∷ H.child_number children.c ∷ []) (H.calls host.old) (H.calls host.new) result }
-    ensures running { H.running host.new ≡ H.running host.old - 3 }
+    ensures held { H.held host.new ≡ H.held host.old - 3 }
+    ensures running { IfOk result (λ ends. H.running host.new ≡ H.running host.old - 3) }
     ensures disk_ready { H.disk_ready host.new ≡ H.disk_ready host.old }
     ensures disk_back { H.disk_back host.new ≡ H.disk_back host.old }
     ensures link_ready { H.link_ready host.new ≡ H.link_ready host.old }
@@ -176,7 +179,8 @@ fn tell<S: Sink>(alloc: Global, ends: &TrialEnds, out: &mut S) -> TrialEnd
 }
 
 fn cut_short(error: HostError) -> TrialEnd
-    ensures { result ≡ end_by error }
+    ensures end { result ≡ end_by error }
+    ensures unwaited { has_waited result ≡ false }
 {
     match error {
         HostError::Failed => TrialEnd::HostFault,
@@ -185,7 +189,8 @@ fn cut_short(error: HostError) -> TrialEnd
 }
 
 /// Starts three nodes, waits for each, and writes how they ended and whether one of them has won. Where one cannot be
-/// started or waited for, those that still run are killed. In no case does a child run on.
+/// started or waited for, those that still run are killed. So each child is waited for, or the host is asked to kill it; and
+/// where each is waited for, none runs on.
 pub fn run_trial<H: Host>(
     alloc: Global,
     trial: &Trial<'_>,
@@ -193,7 +198,8 @@ pub fn run_trial<H: Host>(
     host: &mut H,
 ) -> TrialEnd
     ensures tried { Tried (told_trial trial.now) (H.calls host.old) (H.calls host.new) (H.Out.written out.old) (H.Out.written out.new) result }
-    ensures running { H.running host.new ≡ H.running host.old }
+    ensures held { H.held host.new ≡ H.held host.old }
+    ensures running { has_waited result ≡ true → H.running host.new ≡ H.running host.old }
     ensures disk_ready { H.disk_ready host.new ≡ H.disk_ready host.old }
     ensures disk_back { H.disk_back host.new ≡ H.disk_back host.old }
     ensures link_ready { H.link_ready host.new ≡ H.link_ready host.old }

@@ -38,9 +38,9 @@ causes_since end start disk_was disk_now out_was out_now link_was link_now later
 }
 
 -- what a host tells, member by member
-abbrev pub view_by : {H D L : Type 0} → (calls : H → Option (List HostCall)) → (disk_ready disk_back : H → Option D) → (link_ready link_back : H → Option L) → (running faults : H → ℕ) → H → HostView D L
-view_by calls disk_ready disk_back link_ready link_back running faults h =
-    record { calls = calls h; disk_ready = disk_ready h; disk_back = disk_back h; link_ready = link_ready h; link_back = link_back h; running = running h; faults = faults h }
+abbrev pub view_by : {H D L : Type 0} → (calls : H → Option (List HostCall)) → (disk_ready disk_back : H → Option D) → (link_ready link_back : H → Option L) → (held faults : H → ℕ) → H → HostView D L
+view_by calls disk_ready disk_back link_ready link_back held faults h =
+    record { calls = calls h; disk_ready = disk_ready h; disk_back = disk_back h; link_ready = link_ready h; link_back = link_back h; held = held h; faults = faults h }
 
 -- a fault in a call is one in a run round it
 pub rose_within : (before start end after : ℕ) → before ≤ start → Rose start end → after ≡ end → Rose before after

@@ -180,7 +180,7 @@ module _ {D L : Type 0} (d : Disks D) (l : Links L Sealed) where
 
   pub ran_inspect : (words : List (List ℕ)) (source : SourceView) (sink sink_now : SinkView) (host host_now : HostView D L) (status : Status) (dir : List ℕ) (e : Inspection) → command_of words ≡ Some (Inspect dir) → status ≡ status_of e
       → Asked dir host.calls host_now.calls e → EndsWith d.told d.seen d.may_leave d.faults host host_now sink.written sink_now.written sink.faults sink_now.faults e
-      → IsComplete d.told d.seen d.may_leave d.faults host host_now sink.faults sink_now.faults e → LeavesLinks host host_now → host_now.running ≡ host.running → sink.faults ≤ sink_now.faults → host.faults ≤ host_now.faults
+      → IsComplete d.told d.seen d.may_leave d.faults host host_now sink.faults sink_now.faults e → LeavesLinks host host_now → host_now.held ≡ host.held → sink.faults ≤ sink_now.faults → host.faults ≤ host_now.faults
       → Ran d l words source source sink sink_now host host_now status
   ran_inspect words source sink sink_now host host_now status dir e is is_status asked ended complete links children wrote_later host_later = record {
     does = subst (λ (o : Option ProgramCommand). Does d l source source sink sink_now host host_now status o) (sym is)
@@ -199,7 +199,7 @@ module _ {D L : Type 0} (d : Disks D) (l : Links L Sealed) where
 
   pub ran_node : (words : List (List ℕ)) (source : SourceView) (sink sink_now : SinkView) (host host_now : HostView D L) (status : Status) (w : NodeWords) → command_of words ≡ Some (Node w)
       → NodeRun d l w host host_now sink sink_now status → NodeFaults d.faults l.faults host_now.disk_back host_now.link_back host.faults host_now.faults sink.faults sink_now.faults status
-      → host_now.running ≡ host.running → Ran d l words source source sink sink_now host host_now status
+      → host_now.held ≡ host.held → Ran d l words source source sink sink_now host host_now status
   ran_node words source sink sink_now host host_now status w is run faults children = record {
     does = subst (λ (o : Option ProgramCommand). Does d l source source sink sink_now host host_now status o) (sym is) (run, refl);
     read_at_most = none_taken source.left;
@@ -234,7 +234,7 @@ module _ {D L : Type 0} (d : Disks D) (l : Links L Sealed) where
       }
 
   pub ran_trial : (words : List (List ℕ)) (source : SourceView) (sink sink_now : SinkView) (host host_now : HostView D L) (status : Status) (w : TrialWords) → command_of words ≡ Some (Trial w) → TrialRun w host host_now sink sink_now status
-      → host_now.running ≡ host.running → (status ≡ exit.HostFault → Rose host.faults host_now.faults) → (status ≡ exit.WriteFault → Rose sink.faults sink_now.faults) → host.faults ≤ host_now.faults → sink.faults ≤ sink_now.faults
+      → host_now.held ≡ host.held → (status ≡ exit.HostFault → Rose host.faults host_now.faults) → (status ≡ exit.WriteFault → Rose sink.faults sink_now.faults) → host.faults ≤ host_now.faults → sink.faults ≤ sink_now.faults
       → Ran d l words source source sink sink_now host host_now status
   ran_trial words source sink sink_now host host_now status w is run children host_fault write_fault host_later wrote_later = record {
     does = subst (λ (o : Option ProgramCommand). Does d l source source sink sink_now host host_now status o) (sym is) (run, refl);

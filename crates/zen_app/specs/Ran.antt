@@ -156,5 +156,5 @@ pub record Ran {D L : Type 0} (d : Disks D) (l : Links L Sealed) (words : List (
   pub read_later : source.faults ≤ source_now.faults
   pub wrote_later : sink.faults ≤ sink_now.faults
   pub host_later : host.faults ≤ host_now.faults
-  -- no child runs on
-  pub children : host_now.running ≡ host.running
+  -- each child was waited for, or the host was asked to kill it
+  pub children : host_now.held ≡ host.held

@@ -81,7 +81,7 @@ fn refuse_journal<H: Host>(
     ensures link_ready { H.link_ready host.new ≡ H.link_ready host.old }
     ensures link_back { H.link_back host.new ≡ H.link_back host.old }
     ensures calls { H.calls host.new ≡ H.calls host.old }
-    ensures running { H.running host.new ≡ H.running host.old }
+    ensures held { H.held host.new ≡ H.held host.old }
     ensures faults { H.faults host.new ≡ H.faults host.old }
     ensures write { result ≡ exit.WriteFault → Rose (H.Out.faults out.old) (H.Out.faults out.new) }
     ensures later { H.Out.faults out.old ≤ H.Out.faults out.new }
@@ -138,12 +138,12 @@ pub fn run_node<L: Link<Out = Sealed> + Drop, H: Host<Link = L>>(
     host: &mut H,
 ) -> Status
     ensures run { NodeRun H.Disk.Disks L.Link words.now
-        (record { calls = H.calls host.old; disk_ready = H.disk_ready host.old; disk_back = H.disk_back host.old; link_ready = H.link_ready host.old; link_back = H.link_back host.old; running = H.running host.old; faults = H.faults host.old })
-        (record { calls = H.calls host.new; disk_ready = H.disk_ready host.new; disk_back = H.disk_back host.new; link_ready = H.link_ready host.new; link_back = H.link_back host.new; running = H.running host.new; faults = H.faults host.new })
+        (record { calls = H.calls host.old; disk_ready = H.disk_ready host.old; disk_back = H.disk_back host.old; link_ready = H.link_ready host.old; link_back = H.link_back host.old; held = H.held host.old; faults = H.faults host.old })
+        (record { calls = H.calls host.new; disk_ready = H.disk_ready host.new; disk_back = H.disk_back host.new; link_ready = H.link_ready host.new; link_back = H.link_back host.new; held = H.held host.new; faults = H.faults host.new })
         (record { written = H.Out.written out.old; faults = H.Out.faults out.old })
         (record { written = H.Out.written out.new; faults = H.Out.faults out.new })
         result }
-    ensures running { H.running host.new ≡ H.running host.old }
+    ensures held { H.held host.new ≡ H.held host.old }
     ensures faults { NodeFaults H.Disk.faults L.faults (H.disk_back host.new) (H.link_back host.new) (H.faults host.old) (H.faults host.new) (H.Out.faults out.old) (H.Out.faults out.new) result }
 {
     let Ok(settings) = settings(alloc, words) else {

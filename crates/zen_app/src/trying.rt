@@ -33,12 +33,12 @@ pub fn try_nodes<H: Host>(
 ) -> Status
     requires { words.now.port ≤ 65533 }
     ensures run { TrialRun words.now
-        (record { calls = H.calls host.old; disk_ready = H.disk_ready host.old; disk_back = H.disk_back host.old; link_ready = H.link_ready host.old; link_back = H.link_back host.old; running = H.running host.old; faults = H.faults host.old })
-        (record { calls = H.calls host.new; disk_ready = H.disk_ready host.new; disk_back = H.disk_back host.new; link_ready = H.link_ready host.new; link_back = H.link_back host.new; running = H.running host.new; faults = H.faults host.new })
+        (record { calls = H.calls host.old; disk_ready = H.disk_ready host.old; disk_back = H.disk_back host.old; link_ready = H.link_ready host.old; link_back = H.link_back host.old; held = H.held host.old; faults = H.faults host.old })
+        (record { calls = H.calls host.new; disk_ready = H.disk_ready host.new; disk_back = H.disk_back host.new; link_ready = H.link_ready host.new; link_back = H.link_back host.new; held = H.held host.new; faults = H.faults host.new })
         (record { written = H.Out.written out.old; faults = H.Out.faults out.old })
         (record { written = H.Out.written out.new; faults = H.Out.faults out.new })
         result }
-    ensures running { H.running host.new ≡ H.running host.old }
+    ensures held { H.held host.new ≡ H.held host.old }
     ensures host_fault { result ≡ exit.HostFault → Rose (H.faults host.old) (H.faults host.new) }
     ensures write_fault { result ≡ exit.WriteFault → Rose (H.Out.faults out.old) (H.Out.faults out.new) }
     ensures later { H.faults host.old ≤ H.faults host.new }

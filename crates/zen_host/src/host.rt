@@ -1,5 +1,5 @@
 //! The trait `Host`: what a program has outside itself, and how it is opened.
-ghost use Rattle.std.specs.Prelude.{◌≡◌, ℕ, ◌+◌, ◌-◌, ◌≤◌, Option, Some, Result, List, IfOk, OnErr, IsErrOf, map, string_bytes};
+ghost use Rattle.std.specs.Prelude.{◌≡◌, ◌⊎◌, ℕ, ◌+◌, ◌-◌, ◌≤◌, Option, Some, Result, List, IfOk, OnOk, OnErr, IsErrOf, map, string_bytes};
 ghost use Rattle.zen_disk.specs.Faults.{Rose};
 ghost use Rattle.zen_host.specs.HostCalls.{HostCall, OpensDisk, OpensLink, Spawns, Kills, Notes, NotesWait, IsNumber, told_settings};
 
@@ -59,7 +59,11 @@ pub trait Host {
     /// The link that was given back last.
     ghost link_back: { Self → Option Self.Link };
 
-    /// How many children were spawned, and neither waited for nor killed.
+    /// How many children are held: they were spawned, and given neither to `wait` nor to `kill`.
+    ghost held: { Self → ℕ };
+
+    /// How many children run, as far as is known: they were spawned, and neither waited for nor killed. One that the host
+    /// was asked to end, and did not, is among them.
     ghost running: { Self → ℕ };
 
     /// The number of the call that spawned a child, the first call being 1, where the host tells its calls.
@@ -91,6 +95,7 @@ pub trait Host {
         ensures back { disk_back self.new ≡ disk_back self.old }
         ensures link_ready { link_ready self.new ≡ link_ready self.old }
         ensures link_back { link_back self.new ≡ link_back self.old }
+        ensures held { held self.new ≡ held self.old }
         ensures running { running self.new ≡ running self.old }
         ensures later { faults self.old ≤ faults self.new }
         ensures failed { IsErrOf result HostError.Failed → Rose (faults self.old) (faults self.new) }
@@ -104,6 +109,7 @@ pub trait Host {
         ensures back { link_back self.new ≡ link_back self.old }
         ensures disk_ready { disk_ready self.new ≡ disk_ready self.old }
         ensures disk_back { disk_back self.new ≡ disk_back self.old }
+        ensures held { held self.new ≡ held self.old }
         ensures running { running self.new ≡ running self.old }
         ensures later { faults self.old ≤ faults self.new }
         ensures failed { IsErrOf result HostError.Failed → Rose (faults self.old) (faults self.new) }
@@ -115,6 +121,7 @@ pub trait Host {
         ensures link_ready { link_ready self.new ≡ link_ready self.old }
         ensures link_back { link_back self.new ≡ link_back self.old }
         ensures calls { calls self.new ≡ calls self.old }
+        ensures held { held self.new ≡ held self.old }
         ensures running { running self.new ≡ running self.old }
         ensures faults { faults self.new ≡ faults self.old };
 
@@ -124,6 +131,7 @@ pub trait Host {
         ensures disk_ready { disk_ready self.new ≡ disk_ready self.old }
         ensures disk_back { disk_back self.new ≡ disk_back self.old }
         ensures calls { calls self.new ≡ calls self.old }
+        ensures held { held self.new ≡ held self.old }
         ensures running { running self.new ≡ running self.old }
         ensures faults { faults self.new ≡ faults self.old };
 
@@ -132,7 +140,9 @@ pub trait Host {
     fn spawn(&mut self, program: &str, words: &[String]) -> Result<Self::Child, HostError>
         ensures call { Notes (calls self.old) (calls self.new) (Spawns program.now (map string_bytes words.now)) result }
         ensures number { IfOk result (λ child. IsNumber (calls self.new) (child_number child)) }
+        ensures held { IfOk result (λ child. held self.new ≡ held self.old + 1) }
         ensures running { IfOk result (λ child. running self.new ≡ running self.old + 1) }
+        ensures unheld { OnErr result (held self.new ≡ held self.old) }
         ensures refused { OnErr result (running self.new ≡ running self.old) }
         ensures disk_ready { disk_ready self.new ≡ disk_ready self.old }
         ensures disk_back { disk_back self.new ≡ disk_back self.old }
@@ -143,10 +153,12 @@ pub trait Host {
         ensures steps { spawn_steps self.old self.new result };
 
     /// Waits until a child has ended. The other children go on meanwhile, however much they write. `Failed` only where the
-    /// host's count of faults rose; the child is killed then, and where memory ran out.
+    /// host's count of faults rose. The host ends the child then, and where memory ran out; where it can't, the child runs on.
     fn wait(&mut self, child: Self::Child) -> Result<Ended, HostError>
         ensures call { NotesWait (calls self.old) (calls self.new) (child_number child) result }
-        ensures running { running self.new ≡ running self.old - 1 }
+        ensures held { held self.new ≡ held self.old - 1 }
+        ensures running { IfOk result (λ ended. running self.new ≡ running self.old - 1) }
+        ensures refused { OnErr result ((running self.new ≡ running self.old - 1) ⊎ (running self.new ≡ running self.old)) }
         ensures disk_ready { disk_ready self.new ≡ disk_ready self.old }
         ensures disk_back { disk_back self.new ≡ disk_back self.old }
         ensures link_ready { link_ready self.new ≡ link_ready self.old }
@@ -155,10 +167,12 @@ pub trait Host {
         ensures failed { IsErrOf result HostError.Failed → Rose (faults self.old) (faults self.new) }
         ensures steps { wait_steps self.old self.new child result };
 
-    /// Ends a child at once. `Failed` only where the host's count of faults rose.
+    /// Ends a child at once. `Failed` only where the host's count of faults rose. Where it is refused, the child runs on.
     fn kill(&mut self, child: Self::Child) -> Result<(), HostError>
         ensures call { Notes (calls self.old) (calls self.new) (Kills (child_number child)) result }
-        ensures running { running self.new ≡ running self.old - 1 }
+        ensures held { held self.new ≡ held self.old - 1 }
+        ensures running { OnOk result (running self.new ≡ running self.old - 1) }
+        ensures refused { OnErr result (running self.new ≡ running self.old) }
         ensures disk_ready { disk_ready self.new ≡ disk_ready self.old }
         ensures disk_back { disk_back self.new ≡ disk_back self.old }
         ensures link_ready { link_ready self.new ≡ link_ready self.old }

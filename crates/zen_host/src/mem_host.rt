@@ -62,11 +62,13 @@ pub struct MemHost<D: Disks + Drop, L: Link + Drop = MemLink<()>> {
     disk_back: Option<D>,
     link_back: Option<L>,
     ends: Vec<Ended>,
+    held: u64,
     running: u64,
     asked: Vec<Asked>,
     fails: Vec<u64>,
     number: u64,
     faults: u64,
+    ghost counted: { held ≤ running },
     ghost fresh: { ForSome disk (λ given. D.faults given ≡ 0) },
     ghost link_fresh: { ForSome link (λ given. L.faults given ≡ 0) },
 }
@@ -87,6 +89,7 @@ impl<D: Disks + Drop> MemHost<D, MemLink<()>> {
         ensures back { ⟦<MemHost<D, MemLink<()>> as Host>⟧.disk_back result ≡ None }
         ensures link_back { ⟦<MemHost<D, MemLink<()>> as Host>⟧.link_back result ≡ None }
         ensures faults { ⟦<MemHost<D, MemLink<()>> as Host>⟧.faults result ≡ 0 }
+        ensures held { ⟦<MemHost<D, MemLink<()>> as Host>⟧.held result ≡ 0 }
         ensures running { ⟦<MemHost<D, MemLink<()>> as Host>⟧.running result ≡ 0 }
         ensures ends { result.ends ≡ ends }
         ensures number { result.number ≡ 0 }
@@ -99,6 +102,7 @@ impl<D: Disks + Drop> MemHost<D, MemLink<()>> {
             disk_back: None,
             link_back: None,
             ends,
+            held: 0,
             running: 0,
             asked: Vec::new(alloc),
             fails,
@@ -119,6 +123,7 @@ impl<D: Disks + Drop, L: Link + Drop> MemHost<D, L> {
         ensures back { ⟦<MemHost<D, L> as Host>⟧.disk_back result ≡ None }
         ensures link_back { ⟦<MemHost<D, L> as Host>⟧.link_back result ≡ None }
         ensures faults { ⟦<MemHost<D, L> as Host>⟧.faults result ≡ 0 }
+        ensures held { ⟦<MemHost<D, L> as Host>⟧.held result ≡ 0 }
         ensures running { ⟦<MemHost<D, L> as Host>⟧.running result ≡ 0 }
         ensures ends { result.ends.items ≡ [] }
         ensures number { result.number ≡ 0 }
@@ -131,6 +136,7 @@ impl<D: Disks + Drop, L: Link + Drop> MemHost<D, L> {
             disk_back: None,
             link_back: None,
             ends: Vec::new(alloc),
+            held: 0,
             running: 0,
             asked: Vec::new(alloc),
             fails,
@@ -144,6 +150,13 @@ impl<D: Disks + Drop, L: Link + Drop> MemHost<D, L> {
         ensures { Some (map call_of result.now) ≡ ⟦<MemHost<D, L> as Host>⟧.calls self.now }
     {
         self.asked.as_slice()
+    }
+
+    /// How many children run.
+    pub fn running_count(&self) -> u64
+        ensures { result ≡ ⟦<MemHost<D, L> as Host>⟧.running self.now }
+    {
+        self.running
     }
 
     /// The disk that was given back last.
@@ -387,6 +400,8 @@ impl<D: Disks + Drop, L: Link + Drop> Host for MemHost<D, L> {
 
     ghost link_back = { λ host. host.link_back };
 
+    ghost held = { λ host. host.held };
+
     ghost running = { λ host. host.running };
 
     ghost child_number = { λ child. child.number };
@@ -459,6 +474,7 @@ impl<D: Disks + Drop, L: Link + Drop> Host for MemHost<D, L> {
             return Err(HostError::Memory);
         };
         self.running += 1;
+        self.held += 1;
         let ended = self.ends.remove(0);
         Ok(MemChild {
             number: self.asked.len(),
@@ -467,6 +483,7 @@ impl<D: Disks + Drop, L: Link + Drop> Host for MemHost<D, L> {
     }
 
     fn wait(&mut self, child: MemChild) -> Result<Ended, HostError> {
+        self.held = self.held.saturating_sub(1);
         self.running = self.running.saturating_sub(1);
         self.number = self.number.saturating_add(1);
         let MemChild { number, ended } = child;
@@ -484,7 +501,7 @@ impl<D: Disks + Drop, L: Link + Drop> Host for MemHost<D, L> {
     }
 
     fn kill(&mut self, child: MemChild) -> Result<(), HostError> {
-        self.running = self.running.saturating_sub(1);
+        self.held = self.held.saturating_sub(1);
         self.number = self.number.saturating_add(1);
         let refused = is_to_fail(&self.fails, self.number);
         let call = Asked::Kill {
@@ -497,6 +514,7 @@ impl<D: Disks + Drop, L: Link + Drop> Host for MemHost<D, L> {
         let Ok(()) = note(&mut self.asked, call) else {
             return Err(HostError::Memory);
         };
+        self.running = self.running.saturating_sub(1);
         Ok(())
     }
 }

@@ -17,7 +17,7 @@ try_nodes-requires g c = (words_within (map (λ w. string_bytes w) c.args.words.
 pub returns-in-Node : goal.returns-in-Node
 returns-in-Node g c =
     let is = c.in-Ok.ensures ∙ ap (λ (x : ProgramCommand). Some x) c.in-Node.is in
-    ran_node _ _ _ _ _ _ _ _ _ _ is c.run_node.ensures.run c.run_node.ensures.faults c.run_node.ensures.running
+    ran_node _ _ _ _ _ _ _ _ _ _ is c.run_node.ensures.run c.run_node.ensures.faults c.run_node.ensures.held
 
 pub returns-in-Generate : goal.returns-in-Generate
 returns-in-Generate g c =
@@ -27,10 +27,10 @@ returns-in-Generate g c =
 pub returns : goal.returns
 returns g c =
     let is = c.in-Ok.ensures ∙ ap (λ (x : ProgramCommand). Some x) c.in-Trial.is in
-    ran_trial _ _ _ _ _ _ _ _ _ _ is c.try_nodes.ensures.run c.try_nodes.ensures.running c.try_nodes.ensures.host_fault c.try_nodes.ensures.write_fault c.try_nodes.ensures.later c.try_nodes.ensures.wrote_later
+    ran_trial _ _ _ _ _ _ _ _ _ _ is c.try_nodes.ensures.run c.try_nodes.ensures.held c.try_nodes.ensures.host_fault c.try_nodes.ensures.write_fault c.try_nodes.ensures.later c.try_nodes.ensures.wrote_later
 
 pub returns-in-Inspect : goal.returns-in-Inspect
 returns-in-Inspect g c =
     let is = c.in-Ok.ensures ∙ ap (λ (x : ProgramCommand). Some x) c.in-Inspect.is in
     ran_inspect _ _ _ _ _ _ _ _ _ c.in-Inspect.dir c.inspect.result is c.status_after.ensures
-    ((rw c.as_str.ensures at c.inspect.ensures.asked)) c.inspect.ensures.ended c.inspect.ensures.complete c.inspect.ensures.links c.inspect.ensures.running c.inspect.ensures.wrote_later c.inspect.ensures.later
+    ((rw c.as_str.ensures at c.inspect.ensures.asked)) c.inspect.ensures.ended c.inspect.ensures.complete c.inspect.ensures.links c.inspect.ensures.held c.inspect.ensures.wrote_later c.inspect.ensures.later

@@ -13,7 +13,7 @@ use Rattle.zen_link.proofs.Appending.{appended_none}
 
 pub returns-in-Err-open-clause-run : goal.returns-in-Err-open-clause-run
 returns-in-Err-open-clause-run g c =
-    let view = view_by g.H.Host.calls g.H.Host.disk_ready g.H.Host.disk_back g.H.Host.link_ready g.H.Host.link_back g.H.Host.running g.H.Host.faults in
+    let view = view_by g.H.Host.calls g.H.Host.disk_ready g.H.Host.disk_back g.H.Host.link_ready g.H.Host.link_back g.H.Host.held g.H.Host.faults in
     let sink : SinkView = record { written = g.H.Out.Sink.written c.args.out.now; faults = g.H.Out.Sink.faults c.args.out.now } in
     let sink_now : SinkView = record { written = g.H.Out.Sink.written c.refuse_journal.new.out; faults = g.H.Out.Sink.faults c.refuse_journal.new.out } in
     let gave = c.in-Ok-open_disk.ensures in
@@ -24,7 +24,7 @@ returns-in-Err-open-clause-run g c =
 
 pub returns-in-Err-open_link-clause-run : goal.returns-in-Err-open_link-clause-run
 returns-in-Err-open_link-clause-run g c =
-    let view = view_by g.H.Host.calls g.H.Host.disk_ready g.H.Host.disk_back g.H.Host.link_ready g.H.Host.link_back g.H.Host.running g.H.Host.faults in
+    let view = view_by g.H.Host.calls g.H.Host.disk_ready g.H.Host.disk_back g.H.Host.link_ready g.H.Host.link_back g.H.Host.held g.H.Host.faults in
     let sink : SinkView = record { written = g.H.Out.Sink.written c.args.out.now; faults = g.H.Out.Sink.faults c.args.out.now } in
     let gave = c.in-Ok-open_disk.ensures in
     let asked = gave.call ∙ ap (λ dir. and_call (g.H.Host.calls c.args.host.now) (OpensDisk dir false)) c.as_str.ensures in
@@ -37,7 +37,7 @@ returns-in-Err-open_link-clause-run g c =
 
 pub returns-clause-run : goal.returns-clause-run
 returns-clause-run g c =
-    let view = view_by g.H.Host.calls g.H.Host.disk_ready g.H.Host.disk_back g.H.Host.link_ready g.H.Host.link_back g.H.Host.running g.H.Host.faults in
+    let view = view_by g.H.Host.calls g.H.Host.disk_ready g.H.Host.disk_back g.H.Host.link_ready g.H.Host.link_back g.H.Host.held g.H.Host.faults in
     let sink : SinkView = record { written = g.H.Out.Sink.written c.args.out.now; faults = g.H.Out.Sink.faults c.args.out.now } in
     let sink_now : SinkView = record { written = g.H.Out.Sink.written c.write_end.new.out; faults = g.H.Out.Sink.faults c.write_end.new.out } in
     let gave = c.in-Ok-open_disk.ensures in
