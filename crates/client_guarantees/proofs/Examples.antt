@@ -40,7 +40,7 @@ use Rattle.client_guarantees.specs.Laws.{IsLifeIn}
 use Rattle.client_guarantees.specs.Asked.{setting_under, MeetsUnlessUndone}
 use Rattle.client_guarantees.specs.Processed.{processed_into_next, processed_of}
 use Rattle.client_guarantees.specs.Replies.{IsAcked}
-use Rattle.client_guarantees.proofs.Laws.{last_replies_are_true}
+use Rattle.client_guarantees.proofs.Laws.{run_of_life, last_replies_are_true}
 
 abbrev a : Id
 a = 97 ∷ []
@@ -188,7 +188,7 @@ acknowledged : (line : List ℕ) → line_request line ≡ Ok put → IsAcked (a
 acknowledged line e =
     let h = as_history (acts_of (log_of (acked line))) in
     let out : Outgoing = record { conn = 5; reply = reply.To 9 (answer.Acked (id 1 2)) } in
-    last_replies_are_true (a ∷ []) h (legal line e) alone (accepted line) (itself (message.Response (id 1 2))) (items_of alone (log_of (accepted line)) (itself (message.Response (id 1 2)))) (is_life line e) out
+    last_replies_are_true (a ∷ []) h (legal line e) alone (accepted line) (itself (message.Response (id 1 2))) (items_of alone (log_of (accepted line)) (itself (message.Response (id 1 2)))) (run_of_life h alone (acked line) (is_life line e)) out
     (subst (λ (outs : List Outgoing). Contains outs out) (sym (says line)) (0, (omega arith), refl))
 
 record IsCommittedPut (h : History) : Type 0 where

@@ -11,6 +11,7 @@ pub mod GoingOn
 pub mod Rules
 pub mod Queued
 pub mod Coming
+pub mod Running
 pub mod Lives
 pub mod Laws
 mod Examples

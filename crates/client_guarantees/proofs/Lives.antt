@@ -1,5 +1,5 @@
 -- Each event of a life that follows the policy tells what is true of what came and was processed.
-use Rattle.std.proofs.Common.{◌≡◌, ℕ, true, false, true≢false, List, [], ◌∷◌, ◌++◌, refl, sym, ◌∙◌, ap, subst, arith, ◌⊎◌, inl, inr}
+use Rattle.std.proofs.Common.{◌≡◌, ◌≢◌, ℕ, true, false, true≢false, List, [], ◌∷◌, ◌++◌, refl, sym, ◌∙◌, ap, subst, arith, ◌⊎◌, inl, inr}
 use Rattle.std.specs.List.{Contains, All}
 use Rattle.std.proofs.lemmas.Bool.{both_ways, and_parts}
 use Rattle.std.proofs.lemmas.List.Elements.{All-nil, All-cons, All-head, All-tail, Contains-append_left, Contains-append_right}
@@ -9,10 +9,14 @@ use Rattle.cluster_state.specs.declared.reply.Reply.{Reply}
 use Rattle.cluster_state.specs.declared.reply.Reply.TheVariants as reply
 use Rattle.master_tasks.specs.declared.waiting.Waiting.{Waiting}
 use Rattle.master_tasks.specs.declared.waiting.Outgoing.{Outgoing}
+use Rattle.world_model.specs.declared.acts.Act.{Act}
+use Rattle.world_model.specs.declared.acts.ActReply.{ActReply}
 use Rattle.world_model.specs.declared.acts.Outcome.TheVariants.{Answered}
-use Rattle.world_model.specs.Acts.{NodeHistory}
+use Rattle.world_model.specs.Acts.{NodeHistory, NoActs, Then, is_opening}
+use Rattle.world_model.specs.NodeState.{NodeState, node_state, durable_of}
 use Rattle.world_model.specs.Replies.{reply_at}
 use Rattle.world_model.specs.Histories.{History, node_history}
+use Rattle.world_model.specs.Local.{then_run, OpensWith}
 use Rattle.world_model.proofs.System.{IsSystem}
 use Rattle.world_model.proofs.Moments.{Begins as IsBeginning, begins_self, begins_trans}
 use Rattle.policy_model.specs.declared.settings.Settings.{Settings}
@@ -29,6 +33,8 @@ use Rattle.policy_model.proofs.Locals.{struck_fault}
 use Rattle.policy_model.proofs.Faults.{struck-replies}
 use Rattle.client_guarantees.specs.Processed.{processed_of, CameIn}
 use Rattle.client_guarantees.specs.Replies.{IsTrueReply, RepliesTruly}
+use Rattle.client_guarantees.specs.Laws.{IsRunIn}
+use Rattle.client_guarantees.proofs.Running.{begins-run, begins-within, node-within}
 use Rattle.client_guarantees.proofs.Backing.{Backs, backs, unique}
 use Rattle.client_guarantees.proofs.Telling.{processed_after, processed_after_all, ReplyIsTrue, place, AllTrue, AreBacked, Ends}
 use Rattle.client_guarantees.proofs.Holding.{Holds, holds-idle, holds-more}
@@ -131,7 +137,14 @@ all_true_at h s life f (out ∷ outs) t =
     All-cons (λ (x : Outgoing). IsTrueReply h s life x.conn x.reply) out outs (true_at h s life f out.conn out.reply (All-head P out outs t.all))
     (all_true_at h s life f outs (record { all = All-tail P out outs t.all }))
 
-module _ (h : History) (root : ClusterState) (W : IsSystem (node_history h) root) (s : Settings) where
+-- a run of the node, what it did before the run, and what the history has of it
+module _ (h : History) (root : ClusterState) (W : IsSystem (node_history h) root) (s : Settings) (g r : NodeHistory)
+    (opens : g ≢ NoActs → OpensWith (durable_of g) r) (is_in : IsBeginning (then_run g r) (node_history h s.me)) where
+  backs-within : (p : NodeHistory) (act : Act) (reply : ActReply) → is_opening act ≡ false → IsBeginning (Then p act (Answered reply)) r → Backs h (node_state p) act reply
+  backs-within p act reply closed b =
+      let whole = begins_trans (then_run g (Then p act (Answered reply))) (then_run g r) (node_history h s.me) (begins-within g (Then p act (Answered reply)) r b) is_in in
+      subst (λ (n : NodeState). Backs h n act reply) (node-within g r p act (Answered reply) opens closed b) (backs h root W s.me (then_run g p) act reply whole)
+
   quietly : (v : View) (i : Item) (is : List Item) → is_quiet i ≡ true → AreBacked h s (moved s v i) is → AreBacked h s v (i ∷ is)
   quietly v (Opens found) is e a = cc
   quietly v (Begins event) is e a = cc
@@ -143,13 +156,13 @@ module _ (h : History) (root : ClusterState) (W : IsSystem (node_history h) root
   quietly v (Notes note) is e a = (tt, a)
 
   -- the history backs the acts of the node's log
-  backed : (l : Log) (v : View) (is : List Item) → IsAnswered s v is → v ≡ view_of s l → IsBeginning (acts_of (added l is)) (node_history h s.me) → AreBacked h s v is
+  backed : (l : Log) (v : View) (is : List Item) → IsAnswered s v is → v ≡ view_of s l → IsBeginning (acts_of (added l is)) r → AreBacked h s v is
   backed l v xs (Ended u) e b = tt
   backed l v xs (ByAct u act is o a) e b =
       let i : Item = Acts act (Answered (reply_at s.me u.node act)) in
       let own : is_own i ≡ true = rw o refl in
-      let here = begins_trans (acts_of (And l i)) (acts_of (added (And l i) is)) (node_history h s.me) (begins_added (And l i) is) b in (
-        subst (λ (w : View). Backs h w.node act (reply_at s.me u.node act)) (sym e) (backs h root W s.me (acts_of l) act (reply_at s.me u.node act) here),
+      let here = begins_trans (acts_of (And l i)) (acts_of (added (And l i) is)) r (begins_added (And l i) is) b in (
+        subst (λ (w : View). Backs h w.node act (reply_at s.me u.node act)) (sym e) (backs-within (acts_of l) act (reply_at s.me u.node act) o here),
         backed (And l i) (moved s u i) is a (ap (λ (w : View). moved s w i) e ∙ sym (view_of-And s l i own)) b,
       )
   backed l v xs (ByQuiet u i is q a) e b =
@@ -164,7 +177,7 @@ module _ (h : History) (root : ClusterState) (W : IsSystem (node_history h) root
 
   -- an event that does as the rules say
   as_it_does : (life : Life) (e : Event) → Follows s (Lived life (Did e (items_of s (log_of life) e))) → Told life
-      → IsBeginning (acts_of (log_of (Lived life (Did e (items_of s (log_of life) e))))) (node_history h s.me) → Told (Lived life (Did e (items_of s (log_of life) e)))
+      → IsBeginning (acts_of (log_of (Lived life (Did e (items_of s (log_of life) e))))) r → Told (Lived life (Did e (items_of s (log_of life) e)))
   as_it_does life e f t b =
       let log = And (log_of life) (Begins e) in
       let v = view_of s (And (log_of life) (Begins e)) in
@@ -183,32 +196,33 @@ module _ (h : History) (root : ClusterState) (W : IsSystem (node_history h) root
             (subst (λ (g : List Waiting). Holds h s (CameIn (Lived life (Did e (items_of s (log_of life) e)))) (place (moved_all s (view_of s (And (log_of life) (Begins e))) (items_of s (log_of life) e)) g)) (sym processed) ends.stands);
       }
 
-  told_event : (life : Life) (e : Event) (is : List Item) → Follows s (Lived life (Did e is)) → Told life → IsBeginning (acts_of (log_of (Lived life (Did e is)))) (node_history h s.me) → Told (Lived life (Did e is))
+  told_event : (life : Life) (e : Event) (is : List Item) → Follows s (Lived life (Did e is)) → Told life → IsBeginning (acts_of (log_of (Lived life (Did e is)))) r → Told (Lived life (Did e is))
   told_event life e is f t b = by_way f.1.does
     where
       by_way : (is ≡ items_of s (log_of life) e) ⊎ IsStruck (items_of s (log_of life) e) is → Told (Lived life (Did e is))
       by_way (inl same) =
           subst (λ (x : List Item). Told (Lived life (Did e x))) (sym same)
           (as_it_does life e (subst (λ (x : List Item). Follows s (Lived life (Did e x))) same f) t
-          (subst (λ (x : List Item). IsBeginning (acts_of (added (And (log_of life) (Begins e)) x)) (node_history h s.me)) same b))
+          (subst (λ (x : List Item). IsBeginning (acts_of (added (And (log_of life) (Begins e)) x)) r) same b))
       by_way (inr struck) = record {
         tells = (t.tells, subst (All (λ (out : Outgoing). IsTrueReply h s (Lived life (Did e is)) out.conn out.reply)) (sym (struck-replies (items_of s (log_of life) e) is struck)) (All-nil (λ (out : Outgoing). IsTrueReply h s (Lived life (Did e is)) out.conn out.reply)));
         stands = λ u. absurd (both_ways _ u (struck_fault (items_of s (log_of life) e) is struck));
       }
 
-  told : (life : Life) → Follows s life → IsBeginning (acts_of (log_of life)) (node_history h s.me) → Told life
+  told : (life : Life) → Follows s life → IsBeginning (acts_of (log_of life)) r → Told life
   told NotBegun f b = record { tells = tt; stands = λ u. holds-idle h s (CameIn NotBegun) _ refl refl refl }
   told (Opened life found) f b =
-      let t = told life f.0 (begins_trans (acts_of (log_of life)) (acts_of (log_of (Opened life found))) (node_history h s.me) (begins_item (log_of life) (Opens found)) b) in
+      let t = told life f.0 (begins_trans (acts_of (log_of life)) (acts_of (log_of (Opened life found))) r (begins_item (log_of life) (Opens found)) b) in
       record { tells = t.tells; stands = λ u. holds-idle h s (CameIn (Opened life found)) _ refl refl refl }
   told (Lived life (Did e is)) f b =
-      let before = begins_trans (acts_of (log_of life)) (acts_of (log_of (Lived life (Did e is)))) (node_history h s.me) (begins_added (And (log_of life) (Begins e)) is) b in
+      let before = begins_trans (acts_of (log_of life)) (acts_of (log_of (Lived life (Did e is)))) r (begins_added (And (log_of life) (Begins e)) is) b in
       told_event life e is f (told life f.0 before) b
   told (Lived life (Gone conn)) f b = let t = told life f.0 b in record { tells = t.tells; stands = λ u. holds-more h s (CameIn (Lived life (Gone conn))) (CameIn life) (λ c r k. k) _ (t.stands u) }
   told (Lived life (Bad conn fault)) f b = let t = told life f.0 b in record { tells = t.tells; stands = λ u. holds-more h s (CameIn (Lived life (Bad conn fault))) (CameIn life) (λ c r k. k) _ (t.stands u) }
   told (Lived life NoMemory) f b = let t = told life f.0 b in record { tells = t.tells; stands = λ u. holds-more h s (CameIn (Lived life NoMemory)) (CameIn life) (λ c r k. k) _ (t.stands u) }
   told (Lived life (Unread conn)) f b = let t = told life f.0 b in record { tells = t.tells; stands = λ u. holds-more h s (CameIn (Lived life (Unread conn))) (CameIn life) (λ c r k. k) _ (t.stands u) }
 
-  -- where the node's acts are those of its life
-  pub replies_true : (life : Life) → Follows s life → node_history h s.me ≡ acts_of (log_of life) → RepliesTruly h s life
-  replies_true life f e = (told life f (subst (λ (g : NodeHistory). IsBeginning (acts_of (log_of life)) g) (sym e) (begins_self (acts_of (log_of life))))).tells
+pub replies_true : (h : History) (root : ClusterState) → IsSystem (node_history h) root → (s : Settings) (life : Life) → IsRunIn h s life → RepliesTruly h s life
+replies_true h root W s life is =
+    let r : NodeHistory = acts_of (log_of life) in
+    (told h root W s is.before r is.begins (subst (IsBeginning (then_run is.before r)) (sym is.acts) (begins-run (then_run is.before r) is.after)) life is.follows (begins_self r)).tells
