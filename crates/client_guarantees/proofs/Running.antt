@@ -1,8 +1,11 @@
 -- A run of a node, among what the node did before and after it.
-use Rattle.std.proofs.Common.{◌≡◌, ◌≢◌, true, false, refl, sym, ◌∙◌, ap, subst, inl, inr}
+use Rattle.std.proofs.Common.{◌≡◌, ◌≢◌, false, refl, sym, ap, subst, inl, inr}
 use Rattle.cluster_state.specs.declared.state.Kept.{Kept}
-use Rattle.world_model.specs.Acts.{NodeHistory, Act, Outcome, Bootstrap, StartJoin, TakeJoin, Value, Publish, Response, Commit, Open, NoActs, Then, is_opening}
-use Rattle.world_model.specs.NodeState.{NodeState, node_state, durable_of}
+use Rattle.world_model.specs.declared.acts.Act.{Act}
+use Rattle.world_model.specs.declared.acts.Act.TheVariants.{Bootstrap, StartJoin, TakeJoin, Value, Publish, Response, Commit, Open}
+use Rattle.world_model.specs.declared.acts.Outcome.{Outcome}
+use Rattle.world_model.specs.Acts.{NodeHistory, NoActs, Then, is_opening}
+use Rattle.world_model.specs.NodeState.{node_state, durable_of}
 use Rattle.world_model.specs.Local.{then_run, OpensWith}
 use Rattle.world_model.proofs.Moments.{Begins, begins_self}
 use Rattle.world_model.proofs.Runs.{same_part}

@@ -4,7 +4,6 @@ use Rattle.std.proofs.Common.{◌≡◌, ℕ, Bool, true, false, cond, ◌||◌,
 use Rattle.std.specs.Prelude.{nat_lt}
 use Rattle.std.specs.List.{list_all, flat_map, AllByRecursion, Contains}
 use Rattle.std.proofs.lemmas.Bool.{and_parts, and_from}
-use Rattle.std.proofs.lemmas.List.Elements.{Contains-append_left}
 use Rattle.voting_config.specs.Ids.{Id, is_id, has, with_id, most_ids, IsIdSet, has_room, with_room}
 use Rattle.cluster_state.specs.Fields.{ids}
 use Rattle.cluster_state.specs.States.{state as state_field, value as value_field}
@@ -33,12 +32,13 @@ use Rattle.policy_model.specs.declared.settings.Settings.{Settings}
 use Rattle.policy_model.specs.declared.events.Mode.{Mode}
 use Rattle.policy_model.specs.declared.events.Mode.TheVariants.{Candidate, Leader, Follower}
 use Rattle.policy_model.specs.declared.events.DropCause.{DropCause}
-use Rattle.policy_model.specs.Events.{Note, Met, Heard, PeersAsked, ElectionOff, ElectionSet, RoundBegun, RoundAnswered, RoundEnded, Joined, FollowersChecked, FollowerAnswered, LeaderChecked, LeaderAnswered, Queued, ExclusionsTimedOut, CommitAcked, ExclusionsAcked, StateMade, HandedOver, Item, Opens, Begins, Acts, Turns, Drops, Sends, Replies, Notes}
+use Rattle.policy_model.specs.Events.{Note, Met, Heard, PeersAsked, ElectionOff, ElectionSet, RoundBegun, RoundAnswered, RoundEnded, Joined, FollowersChecked, FollowerAnswered, LeaderChecked, LeaderAnswered, Queued, ExclusionsTimedOut, CommitAcked, ExclusionsAcked, StateMade, HandedOver, Item, Acts, Turns, Drops, Sends, Replies, Notes}
 use Rattle.policy_model.specs.Entries.{frames_in}
 use Rattle.policy_model.specs.Joins.{join_from}
 use Rattle.policy_model.specs.Parts.{all_to_be_added, as_master}
 use Rattle.policy_model.specs.Views.{View}
 use Rattle.policy_model.specs.Moves.{moved, moved_all, acted, turned, noted}
+use Rattle.system_laws.proofs.Meant.{Covers, sent_after, covers-after}
 use Rattle.trace_text.proofs.IdLists.{none_set}
 use Rattle.cluster_replay.proofs.Fits.{set-with, set-with_known}
 use Rattle.cluster_replay.proofs.NextFits.{fit-either, fit-initial, fit-state, IsGoodRequest, FitTasks, FitAccepted, good-left, set-rooms, fit-after}
@@ -81,10 +81,6 @@ pub record IsGoodFrame (ms : List Message) (f : Frame) : Type 0 where
   pub from : is_id f.from ≡ true
   pub sent : IsSentBy ms f.from f.to f.message
 
--- all messages of the first list are in the second
-abbrev pub Covers : List Message → List Message → Type 0
-Covers ms ns = (m : Message) → Contains ms m → Contains ns m
-
 pub sent-covers : (ms ns : List Message) (from to : Id) (m : FrameMessage) → Covers ms ns → IsSentBy ms from to m → IsSentBy ns from to m
 sent-covers ms ns from to (message.Join term last) c s = c _ s
 sent-covers ms ns from to (message.Publish state) c s = c _ s
@@ -105,23 +101,6 @@ pub data IsAllowed (s : Settings) : List Message → View → List Item → Type
   ByTurn : (ms : List Message) (v : View) (mode : Mode) (term : ℕ) (is : List Item) → IsAllowed s ms (turned v mode term) is → IsAllowed s ms v (Turns mode term ∷ is)
   ByDrop : (ms : List Message) (v : View) (member : Id) (cause : DropCause) (is : List Item) → IsAllowed s ms (moved s v (Drops member cause)) is → IsAllowed s ms v (Drops member cause ∷ is)
   ByNote : (ms : List Message) (v : View) (note : Note) (is : List Item) → FitNote note → IsAllowed s ms (noted s v note) is → IsAllowed s ms v (Notes note ∷ is)
-
--- the messages that were sent after them
-abbrev pub sent_after : List Message → List Item → List Message
-sent_after ms [] = ms
-sent_after ms (Acts act o ∷ is) = sent_after (ms ++ sent_by o) is
-sent_after ms (i ∷ is) = sent_after ms is
-
-pub covers-after : (ms : List Message) (is : List Item) → Covers ms (sent_after ms is)
-covers-after ms [] m c = c
-covers-after ms (Acts act o ∷ is) m c = covers-after (ms ++ sent_by o) is m (Contains-append_left ms (sent_by o) m c)
-covers-after ms (Opens found ∷ is) m c = covers-after ms is m c
-covers-after ms (Begins event ∷ is) m c = covers-after ms is m c
-covers-after ms (Turns mode term ∷ is) m c = covers-after ms is m c
-covers-after ms (Drops member cause ∷ is) m c = covers-after ms is m c
-covers-after ms (Sends frame ∷ is) m c = covers-after ms is m c
-covers-after ms (Replies answer ∷ is) m c = covers-after ms is m c
-covers-after ms (Notes note ∷ is) m c = covers-after ms is m c
 
 -- ---- the view stays within the limits
 

@@ -1,21 +1,20 @@
 -- What each line of a schedule keeps true of all nodes, and of one node.
-use Rattle.std.proofs.Common.{◌≡◌, Bool, true, false, ◌||◌, ◌⊎◌, inl, inr, cond, Some, List, [], ◌∷◌, refl, sym, ◌∙◌, ap, subst, if◌then◌else◌}
-use Rattle.std.specs.List.{flat_map, AllByRecursion, Contains, list_all}
+use Rattle.std.proofs.Common.{◌≡◌, Bool, true, false, ◌||◌, ◌⊎◌, inl, inr, cond, List, [], ◌∷◌, refl, sym, subst}
+use Rattle.std.specs.List.{flat_map, AllByRecursion, list_all}
 use Rattle.std.proofs.lemmas.Bool.{and_parts}
-use Rattle.std.proofs.lemmas.Option.{slice_get-get_or}
-use Rattle.voting_config.specs.Ids.{Id, is_id, has, same, before, IsIdSet}
+use Rattle.voting_config.specs.Ids.{Id, is_id, has, same, IsIdSet}
 use Rattle.wire_frames.specs.declared.frame.Frame.{Frame}
 use Rattle.world_model.specs.declared.acts.Message.{Message}
 use Rattle.world_model.specs.Histories.{sent}
 use Rattle.voting_config.proofs.Sets.{same_is}
 use Rattle.replay_node.specs.NodeWorld.{NodeWorld, needs_opening}
 use Rattle.replay_node.specs.Worlds.{World, node_world}
-use Rattle.master_tasks.proofs.Limits.{each_append, each_at}
+use Rattle.master_tasks.proofs.Limits.{each_append}
 use Rattle.policy_model.specs.declared.settings.Settings.{Settings}
 use Rattle.policy_model.specs.declared.events.Event.{Event}
 use Rattle.policy_model.specs.declared.events.Event.TheVariants.{Start, Tick, Frame as FrameCame, Client as LineCame}
 use Rattle.policy_model.specs.Events.{Begins, Item, And, acts_of}
-use Rattle.policy_model.specs.Entries.{Life, Lived, Did, log_of, frames_in, frames_of, put_frame, by_receiver}
+use Rattle.policy_model.specs.Entries.{Life, Lived, Did, log_of, frames_in, frames_of}
 use Rattle.policy_model.specs.Views.{view_of}
 use Rattle.policy_model.specs.Moves.{moved, view_of-And}
 use Rattle.policy_model.specs.Follows.{Follows, IsNext, IsStruck, is_struck, is_start, starts_next, items_of}
@@ -23,7 +22,9 @@ use Rattle.policy_model.proofs.Answering.{answered-next}
 use Rattle.policy_model.proofs.Standing.{view_of-added, own-answered}
 use Rattle.replay_node.specs.Course.{Course, played}
 use Rattle.replay_node.specs.Clusters.{Cluster, settings_of, with_life, event_course, after_event}
-use Rattle.cluster_replay.proofs.Allowing.{FitView, IsGoodFrame, Covers, sent-covers, IsAllowed, fit-moved, frames-sent}
+use Rattle.system_laws.proofs.Done.{all-sorted}
+use Rattle.system_laws.proofs.Meant.{Covers}
+use Rattle.cluster_replay.proofs.Allowing.{FitView, IsGoodFrame, sent-covers, IsAllowed, fit-moved, frames-sent}
 use Rattle.cluster_replay.proofs.AllowedRules.{MayCome, allowed-next}
 use Rattle.replay_node.proofs.Lives.{no_fault}
 use Rattle.cluster_replay.proofs.Playing.{Played, Whole, Cut, plays}
@@ -48,24 +49,9 @@ pub record SoundCluster (nodes initial : List Id) (c : Cluster) : Type 0 where
 
 -- ---- lists
 
-all-put : (P : Frame → Type 0) (f : Frame) (fs : List Frame) → P f → AllByRecursion P fs → AllByRecursion P (put_frame f fs)
-all-put P f [] h k = (h, tt)
-all-put P f (g ∷ gs) h k = from (before g.to f.to) (all-put P f gs h k.1)
-  where
-    from : (b : Bool) → AllByRecursion P (put_frame f gs) → AllByRecursion P (if b then g ∷ put_frame f gs else f ∷ g ∷ gs)
-    from true rest = (k.0, rest)
-    from false rest = (h, k)
-
-all-sorted : (P : Frame → Type 0) (fs : List Frame) → AllByRecursion P fs → AllByRecursion P (by_receiver fs)
-all-sorted P [] h = tt
-all-sorted P (f ∷ fs) h = all-put P f (by_receiver fs) h.0 (all-sorted P fs h.1)
-
 pub good-more : (ms ns : List Message) (fs : List Frame) → Covers ms ns → AllByRecursion (IsGoodFrame ms) fs → AllByRecursion (IsGoodFrame ns) fs
 good-more ms ns [] c h = tt
 good-more ms ns (f ∷ fs) c h = (record { from = h.0.from; sent = sent-covers ms ns f.from f.to f.message c h.0.sent }, good-more ms ns fs c h.1)
-
-pub contained : {A : Type 0} (P : A → Type 0) (xs : List A) (x : A) → AllByRecursion P xs → Contains xs x → P x
-contained P xs x h k = each_at P xs k.0 x h (slice_get-get_or xs k.0 x k.1 ∙ ap (λ y. Some y) k.2)
 
 pub listed-id : (n : Id) (nodes : List Id) → list_all is_id nodes ≡ true → has n nodes ≡ true → is_id n ≡ true
 listed-id n [] h k = absurd (cc)

@@ -10,3 +10,4 @@ pub mod Playing
 pub mod Schedules
 pub mod Somes
 pub mod Spelled
+pub mod SystemReplies

@@ -30,7 +30,8 @@ use Rattle.policy_model.specs.Views.{View, view_of}
 use Rattle.policy_model.specs.Moves.{moved, is_own, view_of-And}
 use Rattle.policy_model.specs.Follows.{IsStruck, Here, Later, is_fault, without_output}
 use Rattle.replay_node.specs.Course.{Course, act_then, behind, played}
-use Rattle.cluster_replay.proofs.Allowing.{FitAct, Covers, IsAllowed, Ended, ByAct, BySend, ByReply, ByTurn, ByDrop, ByNote, sent_after}
+use Rattle.system_laws.proofs.Meant.{Covers, sent_after}
+use Rattle.cluster_replay.proofs.Allowing.{FitAct, IsAllowed, Ended, ByAct, BySend, ByReply, ByTurn, ByDrop, ByNote}
 use Rattle.replay_node.proofs.WorldSound.{SoundWorld, acted}
 
 -- ---- small facts

@@ -49,10 +49,11 @@ use Rattle.cluster_replay.proofs.AllowedRules.{MayCome}
 use Rattle.cluster_replay.proofs.Asking.{good-asks}
 use Rattle.trace_text.proofs.IdLists.{none_set}
 use Rattle.cluster_replay.proofs.NextFits.{FitAccepted, empty_accepted}
-use Rattle.cluster_replay.proofs.Invariants.{SoundNode, SoundCluster, Waits, contained, listed-id, each-stays, event_sound}
+use Rattle.system_laws.proofs.Done.{contained}
+use Rattle.cluster_replay.proofs.Invariants.{SoundNode, SoundCluster, Waits, listed-id, each-stays, event_sound}
 use Rattle.replay_node.proofs.Lives.{settled_acts, settled_follows}
 use Rattle.replay_node.proofs.WorldSound.{SoundWorld, IsFitMessage, armed, fresh, reopened, stopped}
-use Rattle.client_guarantees.proofs.Laws.{replies_are_true}
+use Rattle.client_guarantees.proofs.Laws.{run_of_life, replies_are_true}
 use Rattle.master_tasks.proofs.Limits.{each_at}
 
 -- ---- a node that is not touched but in its disk
@@ -263,4 +264,5 @@ cluster_replay_is_legal s is = (sound s is).world.legal
 
 pub cluster_replies_are_true : LawClusterRepliesAreTrue
 cluster_replies_are_true s is n listed =
-    replies_are_true s.initial (replayed_history s) (cluster_replay_is_legal s is) (settings_of s.nodes s.initial n) (replayed_life s n) (lives_follow s is n listed)
+    replies_are_true s.initial (replayed_history s) (cluster_replay_is_legal s is) (settings_of s.nodes s.initial n) (replayed_life s n)
+    (run_of_life (replayed_history s) (settings_of s.nodes s.initial n) (replayed_life s n) (lives_follow s is n listed))

@@ -1,5 +1,7 @@
-//! What holds of each schedule of whole nodes. The calls do nothing: what they promise is proved.
+//! What holds of each schedule of whole nodes, and of what nodes over a network reply. The calls do nothing: what they
+//! promise is proved.
 ghost use Rattle.cluster_replay.specs.Laws.{LawClusterRepliesAreTrue, LawClusterReplayIsLegal, LawLivesFollow};
+ghost use Rattle.cluster_replay.specs.SystemReplies.{LawSystemRepliesAreTrue};
 
 /// Wherever its nodes crash and their disks fail, each node of a schedule lives by the policy, and the history has just
 /// the acts of these lives.
@@ -17,4 +19,10 @@ pub fn law_cluster_replay_is_legal()
 /// asked for, and a state that is shown is committed.
 pub fn law_cluster_replies_are_true()
     ensures { LawClusterRepliesAreTrue }
+{}
+
+/// Of a system of nodes that each follow the policy, each reply of each run of each node is true by the end of its
+/// event, in a first run as in each later one, and also where the node was killed while it sent the reply.
+pub fn law_system_replies_are_true()
+    ensures { LawSystemRepliesAreTrue }
 {}

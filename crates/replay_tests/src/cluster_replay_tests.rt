@@ -7,4 +7,5 @@ fn the_laws_can_be_called() {
     law_lives_follow();
     law_cluster_replay_is_legal();
     law_cluster_replies_are_true();
+    law_system_replies_are_true();
 }
