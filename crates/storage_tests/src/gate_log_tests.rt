@@ -308,6 +308,21 @@ const GENERATION_SECOND: &[u8] =
 const TWO_GENERATIONS: &[u8] =
     b"ZENJRNL1\x01\0\0\0\x09\x04\0\0\0\0\0\0\0\x01\x01\0\0\0\x09\x04\0\0\0\0\0\0\0\x02\0";
 
+// The same rules hold for a body that begins with 84.
+const GUARDED_ONE: &[u8] = b"ZENJRNL1\x01\0\0\0\x09\x84\0\0\0\0\0\0\0\x01\0";
+
+const GUARDED_TWO: &[u8] = b"ZENJRNL1\x01\0\0\0\x09\x84\0\0\0\0\0\0\0\x02\0";
+
+const GUARDED_ZERO: &[u8] = b"ZENJRNL1\x01\0\0\0\x09\x84\0\0\0\0\0\0\0\0\0";
+
+const GUARDED_CUT: &[u8] = b"ZENJRNL1\x01\0\0\0\x08\x84\0\0\0\0\0\0\x01\0";
+
+const GUARDED_SECOND: &[u8] =
+    b"ZENJRNL1\x01\0\0\0\x09\x04\0\0\0\0\0\0\0\x01\x01\0\0\0\x09\x84\0\0\0\0\0\0\0\x02\0";
+
+// Its first body begins with 81, which begins no generation.
+const GUARDED_TERM: &[u8] = b"ZENJRNL1\x01\0\0\0\x09\x81\0\0\0\0\0\0\0\x01\0";
+
 const NO_HEADER: &[u8] = b"ABCDEFGHIJ";
 
 const CUT: &[u8] = b"ZENJRNL1\x01\0\0\0\xff\0";
@@ -317,7 +332,7 @@ const CUT_LENGTH: &[u8] = b"ZENJRNL1\x01\0\0";
 const LONG: &[u8] = b"ZENJRNL1\x01\xff\0\0\0\0";
 
 // Two files, and their first fault.
-const FAULTS: [(&[u8], &[u8], &str); 18] = [
+const FAULTS: [(&[u8], &[u8], &str); 23] = [
     (NO_HEADER, b"", "Header"),
     (CUT, b"", "Cut(8)"),
     (CUT_LENGTH, b"", "Cut(8)"),
@@ -327,6 +342,10 @@ const FAULTS: [(&[u8], &[u8], &str); 18] = [
     (EPOCH_CUT, b"", "Order(8)"),
     (GENERATION_SECOND, b"", "Order(14)"),
     (TWO_GENERATIONS, b"", "Order(22)"),
+    (GUARDED_ZERO, b"", "Order(8)"),
+    (GUARDED_CUT, b"", "Order(8)"),
+    (GUARDED_SECOND, b"", "Order(22)"),
+    (b"", GUARDED_TERM, "1:Order(8)"),
     (b"", NO_HEADER, "1:Header"),
     (b"", CUT, "1:Cut(8)"),
     (PLAIN, LONG, "1:Long(8)"),
@@ -336,6 +355,7 @@ const FAULTS: [(&[u8], &[u8], &str); 18] = [
     (TWO_GENERATIONS, NO_HEADER, "Order(22)"),
     (GENERATION_ONE, CUT, "1:Cut(8)"),
     (GENERATION_ONE, GENERATION_ONE, "Twin"),
+    (GENERATION_ONE, GUARDED_ONE, "Twin"),
 ];
 
 fn why_refused(alloc: Global, zero: &[u8], one: &[u8]) -> Option<Why> {
@@ -364,7 +384,7 @@ fn names_the_first_fault(rt: HostRuntime) {
 }
 
 // Two files, the side in use and its epoch.
-const SIDES: [(&[u8], &[u8], Side, u64); 9] = [
+const SIDES: [(&[u8], &[u8], Side, u64); 13] = [
     (b"", b"", Side::Zero, 0),
     (b"ABCDEFGHI", EMPTY, Side::Zero, 0),
     (PLAIN, b"", Side::Zero, 0),
@@ -373,6 +393,10 @@ const SIDES: [(&[u8], &[u8], Side, u64); 9] = [
     (PLAIN, GENERATION_ONE, Side::One, 1),
     (GENERATION_TWO, GENERATION_ONE, Side::Zero, 2),
     (GENERATION_ONE, GENERATION_TWO, Side::One, 2),
+    (GUARDED_TERM, b"", Side::Zero, 0),
+    (GUARDED_TERM, GUARDED_ONE, Side::One, 1),
+    (GUARDED_TWO, GENERATION_ONE, Side::Zero, 2),
+    (GENERATION_ONE, GUARDED_TWO, Side::One, 2),
     (
         GENERATION_ONE,
         LAST_GENERATION,
