@@ -1,6 +1,6 @@
 -- Part of the statement of `zen_chart`: what of a line is shown, and how it is escaped.
-use Rattle.std.specs.Prelude.{ℕ, ◌/◌, ◌%◌, ◌==◌, ◌&&◌, Result, Ok, Err, List, [], ◌∷◌, ◌++◌, length, take, drop, get_or, codes, decimal, nat_le, nat_lt, if◌then◌else◌}
-use Rattle.std.specs.List.{flat_map, join_with_byte}
+use Rattle.std.specs.Prelude.{ℕ, ◌/◌, ◌%◌, ◌==◌, nat_eq, ◌&&◌, Result, Ok, Err, List, [], ◌∷◌, ◌++◌, length, take, drop, get_or, codes, decimal, nat_le, nat_lt, if◌then◌else◌}
+use Rattle.std.specs.List.{flat_map, join_with_byte, starts_with}
 use Rattle.schedule_text.specs.declared.fault.WhyBad.{WhyBad}
 use Rattle.schedule_text.specs.Words.{hex_byte}
 use Rattle.voting_config.specs.Lists.{parts_of, comma}
@@ -37,9 +37,17 @@ open_brace = 123
 abbrev pub close_brace : ℕ
 close_brace = 125
 
--- the word where a state written as JSON has its term: no colon stands before it but those after `committed`, `config` and `term`
+-- the parent of a state written as JSON, and what stands after it: no colon stands before it but those after `committed`, `config` and `parent`
+abbrev pub from_parent : List ℕ → List ℕ
+from_parent json = behind colon (behind colon (behind colon json))
+
+-- what stands after the parent: where it is an object, after its closing brace
+abbrev pub behind_parent : List ℕ → List ℕ
+behind_parent parent = if starts_with nat_eq parent (open_brace ∷ []) then behind close_brace parent else parent
+
+-- the word where a state has its term, which comes after the next colon
 abbrev pub term_word : List ℕ → List ℕ
-term_word json = before comma (behind colon (behind colon (behind colon json)))
+term_word json = before comma (behind colon (behind_parent (from_parent json)))
 
 -- and where it has its version, its last member
 abbrev pub version_word : List ℕ → List ℕ

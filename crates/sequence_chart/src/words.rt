@@ -1,6 +1,6 @@
 //! Parts of a line, and what of a line is shown.
 ghost use Rattle.std.specs.Prelude.{◌≡◌, ◌++◌, ◌≤◌, ◌+◌, length, OnOk};
-ghost use Rattle.sequence_chart.specs.Words.{before as before_of, behind as behind_of, last_part as last_part_of, term_word as term_word_of, version_word as version_word_of, short_json as short_json_of, short_words as short_words_of, capped as capped_of};
+ghost use Rattle.sequence_chart.specs.Words.{before as before_of, behind as behind_of, last_part as last_part_of, behind_parent as behind_parent_of, term_word as term_word_of, version_word as version_word_of, short_json as short_json_of, short_words as short_words_of, capped as capped_of};
 
 use schedule_text::Text;
 use schedule_text::words::number_at;
@@ -37,11 +37,23 @@ fn last_part(bytes: &[u8], at: u8) -> &[u8]
     part
 }
 
+// What stands after the parent of a state written as JSON: an object, or none.
+fn behind_parent(parent: &[u8]) -> &[u8]
+    ensures { result.now ≡ behind_parent_of parent.now }
+{
+    if parent.starts_with(b"{") {
+        behind(parent, b'}')
+    } else {
+        parent
+    }
+}
+
 /// The word where a state written as JSON has its term.
 pub fn term_word(json: &[u8]) -> &[u8]
     ensures { result.now ≡ term_word_of json.now }
 {
-    before(behind(behind(behind(json, b':'), b':'), b':'), b',')
+    let parent = behind(behind(behind(json, b':'), b':'), b':');
+    before(behind(behind_parent(parent), b':'), b',')
 }
 
 fn version_word(json: &[u8]) -> &[u8]
