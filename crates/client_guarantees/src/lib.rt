@@ -11,8 +11,9 @@ ghost use Rattle.client_guarantees.specs.Laws.{
 };
 
 /// Where a run of a node follows the policy and its acts are those of a legal history, each reply of its last event is
-/// true, whatever the node did before and after. An ack names a committed state that has what the request asked for, unless one that was processed after it undoes
-/// it; and of the nodes that the request excludes none votes in that state. A state that is shown is committed.
+/// true, whatever the node did before and after. An ack names a committed state that has what the request asked for,
+/// unless one that was processed after it undoes it; and of the nodes that the request excludes none votes in that state.
+/// A state that is shown is committed.
 pub fn law_last_replies_are_true()
     ensures { LawLastRepliesAreTrue }
 {}
