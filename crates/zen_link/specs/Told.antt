@@ -1,4 +1,4 @@
--- For the contracts inside: what a link tells: what was taken, given and dropped, in order.
+-- Part of the statement: what a link tells: what was taken, given and dropped, in order.
 use Rattle.std.specs.Prelude.{◌≡◌, ℕ, ◌+◌, ◌-◌, ◌^◌, min, Bool, true, nat_lt, ◌⊎◌, Option, None, Some, Result, Ok, Err, List, [], ◌∷◌, ◌++◌, unwrap_or, slice_get}
 use Rattle.zen_disk.specs.Faults.{Rose}
 use Rattle.zen_link.specs.declared.link.Input.{Input}
