@@ -1,12 +1,12 @@
 -- Part of the statement: what inspecting a folder does.
 use Rattle.std.specs.Prelude.{◌≡◌, ℕ, ◌⊎◌, true, false, Option, Some, Ok, List, []}
 use Rattle.zen_disk.specs.Faults.{Rose}
-use Rattle.zen_disk.specs.Sides.{Files}
+use Rattle.zen_disk.specs.declared.disks.Disks.{Ghosts as Disks}
 use Rattle.zen_host.specs.HostCalls.{HostCall, OpensDisk, and_call}
 use Rattle.zen_link.specs.Streams.{Appended, AppendedFront}
 use Rattle.cluster_state.specs.declared.state.Kept.{Kept}
 use Rattle.state_journal.specs.Journal.{found_of}
-use Rattle.journal_inspection.specs.Shows.{Shows}
+use Rattle.journal_inspection.specs.Shows.{Shows, OnlyOpens, IsUnhurt}
 use Rattle.journal_inspection.specs.declared.showing.Shown.{Shown}
 use Rattle.journal_inspection.specs.declared.showing.Shown.TheVariants as shown
 use Rattle.journal_inspection.specs.declared.inspecting.Inspection.{Inspection}
@@ -34,33 +34,35 @@ Asked dir was now end.HostFault = now ≡ and_call was (OpensDisk dir true)
 Asked dir was now end.NoMemory = (now ≡ was) ⊎ (now ≡ and_call was (OpensDisk dir false))
 Asked dir was now other = now ≡ and_call was (OpensDisk dir false)
 
--- The host gave a disk, the one that it had ready where it tells, and was given it back. This is shown of it.
-pub record Opened {D : Type 0} (told : Type 0) (seen : D → Files) (may_leave : D → Files → Type 0) (count : D → ℕ) (ready back_now : Option D) (s : Shown) : Type 0 where
-  pub given : D
-  pub is_given : (disk : D) → ready ≡ Some disk → given ≡ disk
-  pub fresh : count given ≡ 0
-  pub back : D
-  pub is_back : back_now ≡ Some back
-  pub shows : Shows told (seen given) (may_leave back) (count given) (count back) s
+module _ {D L : Type 0} (d : Disks D) (host host_now : HostView D L) where
+  -- the host gave no disk
+  pub record Undisked : Type 0 where
+    pub calls : host_now.calls ≡ host.calls
+    pub back : host_now.disk_back ≡ host.disk_back
 
-module _ {D L : Type 0} (told : Type 0) (seen : D → Files) (may_leave : D → Files → Type 0) (count : D → ℕ) where
+  -- The host gave a disk, the one that it had ready where it tells, and was given it back. This is shown of it, and its journal is as safe as before.
+  pub record Opened (s : Shown) : Type 0 where
+    pub given : D
+    pub is_given : (disk : D) → host.disk_ready ≡ Some disk → given ≡ disk
+    pub fresh : d.faults given ≡ 0
+    pub back : D
+    pub is_back : host_now.disk_back ≡ Some back
+    pub shows : Shows d given back s
+    pub calls : d.told → OnlyOpens d given back s
+    pub any_moment : d.told → IsUnhurt d given back
+
   -- what was written at each end; a disk that was given is given back, also where memory ran out
-  abbrev pub EndsWith : (host host_now : HostView D L) → (was now : Option (List ℕ)) → (wrote wrote_now : ℕ) → Inspection → Type 0
-  EndsWith host host_now was now wrote wrote_now end.Done =
-      (text : List ℕ) × Opened told seen may_leave count host.disk_ready host_now.disk_back (shown.Report text) × Appended was now text
-  EndsWith host host_now was now wrote wrote_now end.NotAJournal =
-      (text : List ℕ) × Opened told seen may_leave count host.disk_ready host_now.disk_back (shown.NotAJournal text) × Appended was now text
-  EndsWith host host_now was now wrote wrote_now end.WriteFault =
-      (text : List ℕ) × (Opened told seen may_leave count host.disk_ready host_now.disk_back (shown.Report text) ⊎ Opened told seen may_leave count host.disk_ready host_now.disk_back (shown.NotAJournal text))
-      × AppendedFront was now text × Rose wrote wrote_now
-  EndsWith host host_now was now wrote wrote_now end.DiskFault =
-      Opened told seen may_leave count host.disk_ready host_now.disk_back shown.Disk × Appended was now []
-  EndsWith host host_now was now wrote wrote_now end.HostFault = Rose host.faults host_now.faults × Appended was now []
-  EndsWith host host_now was now wrote wrote_now end.NoMemory =
-      ((host_now.calls ≡ host.calls) ⊎ Opened told seen may_leave count host.disk_ready host_now.disk_back shown.Memory) × Appended was now []
+  abbrev pub EndsWith : (was now : Option (List ℕ)) → (wrote wrote_now : ℕ) → Inspection → Type 0
+  EndsWith was now wrote wrote_now end.Done = (text : List ℕ) × Opened (shown.Report text) × Appended was now text
+  EndsWith was now wrote wrote_now end.NotAJournal = (text : List ℕ) × Opened (shown.NotAJournal text) × Appended was now text
+  EndsWith was now wrote wrote_now end.WriteFault =
+      (text : List ℕ) × (Opened (shown.Report text) ⊎ Opened (shown.NotAJournal text)) × AppendedFront was now text × Rose wrote wrote_now
+  EndsWith was now wrote wrote_now end.DiskFault = Opened shown.Disk × Appended was now []
+  EndsWith was now wrote wrote_now end.HostFault = Rose host.faults host_now.faults × Appended was now []
+  EndsWith was now wrote wrote_now end.NoMemory = (Undisked ⊎ Opened shown.Memory) × Appended was now []
 
   -- a disk that stands for a record is shown, unless memory runs out, where nothing fails
-  abbrev pub IsComplete : (host host_now : HostView D L) → (wrote wrote_now : ℕ) → Inspection → Type 0
-  IsComplete host host_now wrote wrote_now e =
-      (disk : D) → host.disk_ready ≡ Some disk → told → (kept : Kept) → found_of (seen disk) ≡ Ok kept → (Rose host.faults host_now.faults → ⊥) → (Rose wrote wrote_now → ⊥)
-      → ((back : D) → host_now.disk_back ≡ Some back → Rose 0 (count back) → ⊥) → (e ≡ end.Done) ⊎ (e ≡ end.NoMemory)
+  abbrev pub IsComplete : (wrote wrote_now : ℕ) → Inspection → Type 0
+  IsComplete wrote wrote_now e =
+      (disk : D) → host.disk_ready ≡ Some disk → d.told → (kept : Kept) → found_of (d.seen disk) ≡ Ok kept → (Rose host.faults host_now.faults → ⊥) → (Rose wrote wrote_now → ⊥)
+      → ((back : D) → host_now.disk_back ≡ Some back → Rose 0 (d.faults back) → ⊥) → (e ≡ end.Done) ⊎ (e ≡ end.NoMemory)

@@ -28,11 +28,11 @@ pub enum Inspection {
 /// written.
 pub fn inspect<H: Host>(alloc: Global, dir: &str, out: &mut H::Out, host: &mut H) -> Inspection
     ensures asked { Asked dir.now (H.calls host.old) (H.calls host.new) result }
-    ensures ended { EndsWith H.Disk.told H.Disk.seen H.Disk.may_leave H.Disk.faults
+    ensures ended { EndsWith H.Disk.Disks
         (record { calls = H.calls host.old; disk_ready = H.disk_ready host.old; disk_back = H.disk_back host.old; link_ready = H.link_ready host.old; link_back = H.link_back host.old; held = H.held host.old; faults = H.faults host.old })
         (record { calls = H.calls host.new; disk_ready = H.disk_ready host.new; disk_back = H.disk_back host.new; link_ready = H.link_ready host.new; link_back = H.link_back host.new; held = H.held host.new; faults = H.faults host.new })
         (H.Out.written out.old) (H.Out.written out.new) (H.Out.faults out.old) (H.Out.faults out.new) result }
-    ensures complete { IsComplete H.Disk.told H.Disk.seen H.Disk.may_leave H.Disk.faults
+    ensures complete { IsComplete H.Disk.Disks
         (record { calls = H.calls host.old; disk_ready = H.disk_ready host.old; disk_back = H.disk_back host.old; link_ready = H.link_ready host.old; link_back = H.link_back host.old; held = H.held host.old; faults = H.faults host.old })
         (record { calls = H.calls host.new; disk_ready = H.disk_ready host.new; disk_back = H.disk_back host.new; link_ready = H.link_ready host.new; link_back = H.link_back host.new; held = H.held host.new; faults = H.faults host.new })
         (H.Out.faults out.old) (H.Out.faults out.new) result }

@@ -1,7 +1,7 @@
 //! The journal on a disk opened and shown.
 ghost use Rattle.std.specs.Prelude.{◌≤◌};
 ghost use Rattle.cluster_state.specs.States.{IsFit};
-ghost use Rattle.journal_inspection.specs.Shows.{Shows, Reports, Refuses};
+ghost use Rattle.journal_inspection.specs.Shows.{Shows, OnlyOpens, IsUnhurt, Reports, Refuses};
 
 use crate::report::{write_not_a_journal, write_report};
 use cluster_state::Kept;
@@ -47,8 +47,12 @@ fn refusal(alloc: Global, why: Why) -> Shown
 /// Opens the journal on a disk, which makes the header of each file that has at most nine bytes, and shows what it keeps, or
 /// why the files are no journal. The disk is handed back.
 pub fn show<D: Disks + Drop>(alloc: Global, disk: D) -> (D, Shown)
-    ensures shows { Shows D.told (D.seen disk) (D.may_leave result.0) (D.faults disk) (D.faults result.0) result.1 }
+    ensures shows { Shows D.Disks disk result.0 result.1 }
     ensures later { D.faults disk ≤ D.faults result.0 }
+
+    // After a crash at any moment an opening finds what it might have found before, whatever is shown.
+    ensures any_moment { D.told → IsUnhurt D.Disks disk result.0 }
+    ensures calls { D.told → OnlyOpens D.Disks disk result.0 result.1 }
 {
     match StateJournal::open(alloc, disk) {
         Ok(journal) => {

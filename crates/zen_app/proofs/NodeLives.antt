@@ -1,5 +1,5 @@
 -- What a node did that served a link, as a life on the disk that was given back.
-use Rattle.std.proofs.Common.{ℕ, ◌≤◌, Option, Some, List, [], ◌∷◌, ◌++◌, refl}
+use Rattle.std.proofs.Common.{◌≡◌, ℕ, ◌≤◌, Option, Some, List, [], ◌∷◌, ◌++◌, refl}
 use Rattle.zen_disk.specs.Sides.{Files}
 use Rattle.zen_disk.specs.declared.disks.Disks.{Ghosts as Disks}
 use Rattle.zen_link.specs.declared.link.Traffic.{Traffic}
@@ -10,10 +10,10 @@ use Rattle.policy_model.specs.Entries.{Life, NotBegun, Opened, Lived, Entry}
 use Rattle.policy_model.specs.Follows.{Follows}
 use Rattle.policy_model.specs.Laws.{LawLifeIsLocal}
 use Rattle.node_loop.specs.declared.node.End.{End}
-use Rattle.node_loop.specs.Crashes.{IsLastRecord}
+use Rattle.node_loop.specs.Crashes.{IsLastRecord, LeavesLast}
 use Rattle.node_loop.specs.Happenings.{Mark}
 use Rattle.node_loop.specs.Reports.{Output, EntriesFollow, lived}
-use Rattle.node_loop.specs.Running.{LeavesLastOn, HoldsOn}
+use Rattle.node_loop.specs.Running.{StoodOn, LeavesLastOn, HoldsOn}
 use Rattle.node_loop.specs.Tells.{Tells}
 use Rattle.node_loop.specs.Turns.{ServesOn, Serves, Unopened, Served}
 use Rattle.zen_app.specs.NodeRuns.{LivesOn}
@@ -84,3 +84,9 @@ module _ {D : Type 0} (d : Disks D) (counts_now : (disk : D) (t : ℕ) (files : 
   serves_on output text s kept opened back end o0 o1 w0 w1 turns opening local serves =
       serves_with output text s (Opened NotBegun kept) (HoldsOn d opened back s (Opened NotBegun kept)) (LivesOn d s kept opened back) (λ es follow holds. lives_on s kept opened back local es follow holds)
       end o0 o1 w0 w1 turns opening serves
+
+  -- a disk whose journal was just opened leaves the record that it gave
+  pub opened_leaves : (opened : D) (kept : Kept) → (d.told → LeavesLast d.moment (StoodOn d) opened (Opened NotBegun kept)) → d.told → (files : Files) → d.may_leave opened files → record_of_files files ≡ Some kept
+  opened_leaves opened kept leaves told files left =
+      let last = leaves told in
+      last.only (record_of_files files) (files, counts_now opened last.since files last.past left, refl)

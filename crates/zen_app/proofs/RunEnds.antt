@@ -42,6 +42,7 @@ use Rattle.zen_app.specs.declared.status.Status.{Status}
 use Rattle.zen_app.specs.declared.status.Status.TheVariants as exit
 use Rattle.zen_app.proofs.Endings.{no_memory}
 use Rattle.zen_app.proofs.NodeStages.{said_line}
+use Rattle.zen_app.proofs.WordBounds.{OfSome, IsWithin, all_within, words_within}
 use Rattle.schedule_replay.proofs.Sending.{generated_spelled}
 use Rattle.zen_app.proofs.Spelled.{spells_safe_trace}
 
@@ -101,7 +102,7 @@ no_replay : (level : Level) (source : SourceView) (sink : SinkView) → ReplayRu
 no_replay level source sink = (no_memory level source source sink sink (none_taken source.left) (omega arith) (omega arith) (appended_none sink.written)).run
 
 module _ {D L : Type 0} (d : Disks D) (l : Links L Sealed) where
-  write_rose : (host host_now : HostView D L) (was now : Option (List ℕ)) (wrote wrote_now : ℕ) (e : Inspection) → EndsWith d.told d.seen d.may_leave d.faults host host_now was now wrote wrote_now e → status_of e ≡ exit.WriteFault → Rose wrote wrote_now
+  write_rose : (host host_now : HostView D L) (was now : Option (List ℕ)) (wrote wrote_now : ℕ) (e : Inspection) → EndsWith d host host_now was now wrote wrote_now e → status_of e ≡ exit.WriteFault → Rose wrote wrote_now
   write_rose host host_now was now wrote wrote_now end.Done ended h = absurd cc
   write_rose host host_now was now wrote wrote_now end.NotAJournal ended h = absurd cc
   write_rose host host_now was now wrote wrote_now end.NoMemory ended h = absurd cc
@@ -109,7 +110,7 @@ module _ {D L : Type 0} (d : Disks D) (l : Links L Sealed) where
   write_rose host host_now was now wrote wrote_now end.DiskFault ended h = absurd cc
   write_rose host host_now was now wrote wrote_now end.HostFault ended h = absurd cc
 
-  host_rose : (host host_now : HostView D L) (was now : Option (List ℕ)) (wrote wrote_now : ℕ) (e : Inspection) → EndsWith d.told d.seen d.may_leave d.faults host host_now was now wrote wrote_now e → status_of e ≡ exit.HostFault → Rose host.faults host_now.faults
+  host_rose : (host host_now : HostView D L) (was now : Option (List ℕ)) (wrote wrote_now : ℕ) (e : Inspection) → EndsWith d host host_now was now wrote wrote_now e → status_of e ≡ exit.HostFault → Rose host.faults host_now.faults
   host_rose host host_now was now wrote wrote_now end.Done ended h = absurd cc
   host_rose host host_now was now wrote wrote_now end.NotAJournal ended h = absurd cc
   host_rose host host_now was now wrote wrote_now end.NoMemory ended h = absurd cc
@@ -117,34 +118,34 @@ module _ {D L : Type 0} (d : Disks D) (l : Links L Sealed) where
   host_rose host host_now was now wrote wrote_now end.DiskFault ended h = absurd cc
   host_rose host host_now was now wrote wrote_now end.HostFault ended h = ended.0
 
-  disk_failed : (ready back : Option D) → Opened d.told d.seen d.may_leave d.faults ready back shown.Disk → Failed d.faults back
-  disk_failed ready back opened = record { given_back = opened.back; is_back = opened.is_back; rose = subst (λ (n : ℕ). Rose n (d.faults opened.back)) opened.fresh opened.shows }
+  disk_failed : (host host_now : HostView D L) → Opened d host host_now shown.Disk → Failed d.faults host_now.disk_back
+  disk_failed host host_now opened = record { given_back = opened.back; is_back = opened.is_back; rose = subst (λ (n : ℕ). Rose n (d.faults opened.back)) opened.fresh opened.shows }
 
-  disk_rose : (host host_now : HostView D L) (was now : Option (List ℕ)) (wrote wrote_now : ℕ) (e : Inspection) → EndsWith d.told d.seen d.may_leave d.faults host host_now was now wrote wrote_now e → status_of e ≡ exit.DiskFault → Failed d.faults host_now.disk_back
+  disk_rose : (host host_now : HostView D L) (was now : Option (List ℕ)) (wrote wrote_now : ℕ) (e : Inspection) → EndsWith d host host_now was now wrote wrote_now e → status_of e ≡ exit.DiskFault → Failed d.faults host_now.disk_back
   disk_rose host host_now was now wrote wrote_now end.Done ended h = absurd cc
   disk_rose host host_now was now wrote wrote_now end.NotAJournal ended h = absurd cc
   disk_rose host host_now was now wrote wrote_now end.NoMemory ended h = absurd cc
   disk_rose host host_now was now wrote wrote_now end.WriteFault ended h = absurd cc
-  disk_rose host host_now was now wrote wrote_now end.DiskFault ended h = disk_failed host.disk_ready host_now.disk_back ended.0
+  disk_rose host host_now was now wrote wrote_now end.DiskFault ended h = disk_failed host host_now ended.0
   disk_rose host host_now was now wrote wrote_now end.HostFault ended h = absurd cc
 
   -- no memory for the words
-  nothing_done : (source : SourceView) (sink : SinkView) (host : HostView D L) (o : Option ProgramCommand) → Does d l source source sink sink host host exit.NoMemory o
-  nothing_done source sink host None = (appended_none sink.written, refl, refl)
-  nothing_done source sink host (Some (Replay level)) = (no_replay level source sink, refl)
-  nothing_done source sink host (Some (Inspect dir)) = (
+  nothing_done : (source : SourceView) (sink : SinkView) (host : HostView D L) (o : Option ProgramCommand) → OfSome IsWithin o → Does d l source source sink sink host host exit.NoMemory o
+  nothing_done source sink host None within = (appended_none sink.written, refl, refl)
+  nothing_done source sink host (Some (Replay level)) within = (no_replay level source sink, refl)
+  nothing_done source sink host (Some (Inspect dir)) within = (
     record {
       end = end.NoMemory;
       is_status = refl;
       asked = inl refl;
-      ended = (inl refl, appended_none sink.written);
+      ended = (inl (record { calls = refl; back = refl }), appended_none sink.written);
       complete = λ disk is t kept found no_host no_write no_disk. inr refl;
       links = record { ready = refl; back = refl };
     },
     refl,
   )
-  nothing_done source sink host (Some (Generate number steps)) = (record { says = appended_none sink.written; safe_trace = generated_safe number steps }, refl, refl)
-  nothing_done source sink host (Some (Trial words)) = (
+  nothing_done source sink host (Some (Generate number steps)) within = (record { says = appended_none sink.written; safe_trace = generated_safe number steps within }, refl, refl)
+  nothing_done source sink host (Some (Trial words)) within = (
     record {
       end = trial.NoMemory;
       is_status = refl;
@@ -155,7 +156,7 @@ module _ {D L : Type 0} (d : Disks D) (l : Links L Sealed) where
     },
     refl,
   )
-  nothing_done source sink host (Some (Node words)) = (
+  nothing_done source sink host (Some (Node words)) within = (
     record {
       came = Undisked (record { asked = inl (refl, refl); written = appended_none sink.written; back = refl; links = record { ready = refl; back = refl } });
       complete = λ disk is t kept found no_host no_write no_disk no_link. inr (inr refl);
@@ -165,7 +166,7 @@ module _ {D L : Type 0} (d : Disks D) (l : Links L Sealed) where
 
   pub ran_without_memory : (words : List (List ℕ)) (source : SourceView) (sink : SinkView) (host : HostView D L) → Ran d l words source source sink sink host host exit.NoMemory
   ran_without_memory words source sink host = record {
-    does = nothing_done source sink host (command_of words);
+    does = nothing_done source sink host (command_of words) (all_within words);
     read_at_most = none_taken source.left;
     read_fault = λ e. absurd cc;
     write_fault = λ e. absurd cc;
@@ -179,8 +180,8 @@ module _ {D L : Type 0} (d : Disks D) (l : Links L Sealed) where
   }
 
   pub ran_inspect : (words : List (List ℕ)) (source : SourceView) (sink sink_now : SinkView) (host host_now : HostView D L) (status : Status) (dir : List ℕ) (e : Inspection) → command_of words ≡ Some (Inspect dir) → status ≡ status_of e
-      → Asked dir host.calls host_now.calls e → EndsWith d.told d.seen d.may_leave d.faults host host_now sink.written sink_now.written sink.faults sink_now.faults e
-      → IsComplete d.told d.seen d.may_leave d.faults host host_now sink.faults sink_now.faults e → LeavesLinks host host_now → host_now.held ≡ host.held → sink.faults ≤ sink_now.faults → host.faults ≤ host_now.faults
+      → Asked dir host.calls host_now.calls e → EndsWith d host host_now sink.written sink_now.written sink.faults sink_now.faults e
+      → IsComplete d host host_now sink.faults sink_now.faults e → LeavesLinks host host_now → host_now.held ≡ host.held → sink.faults ≤ sink_now.faults → host.faults ≤ host_now.faults
       → Ran d l words source source sink sink_now host host_now status
   ran_inspect words source sink sink_now host host_now status dir e is is_status asked ended complete links children wrote_later host_later = record {
     does = subst (λ (o : Option ProgramCommand). Does d l source source sink sink_now host host_now status o) (sym is)
@@ -220,7 +221,7 @@ module _ {D L : Type 0} (d : Disks D) (l : Links L Sealed) where
   ran_generate words source sink sink_now host status number steps is says write later =
       let faults = said_line d.faults l.faults host.disk_back host.link_back host.faults host.faults sink.faults sink_now.faults later (omega arith) _ exit.Ok sink.written sink_now.written status says (λ e. absurd cc) (λ e. absurd cc) (λ e. absurd cc) (λ e. absurd cc) write in
       record {
-        does = subst (λ (o : Option ProgramCommand). Does d l source source sink sink_now host host status o) (sym is) (record { says = says; safe_trace = generated_safe number steps }, refl, refl);
+        does = subst (λ (o : Option ProgramCommand). Does d l source source sink sink_now host host status o) (sym is) (record { says = says; safe_trace = generated_safe number steps (words_within words (Generate number steps) is) }, refl, refl);
         read_at_most = none_taken source.left;
         read_fault = λ e. absurd (faults.read_fault e);
         write_fault = faults.write_fault;

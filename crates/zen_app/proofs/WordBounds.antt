@@ -12,7 +12,7 @@ use Rattle.command_line.specs.Program.{commands}
 use Rattle.command_line.specs.Values.{Look, ◌>>=◌, text_at, number_of, number_within}
 
 -- of what there is, if anything
-abbrev OfSome : {A : Type 0} → (A → Type 0) → Option A → Type 0
+abbrev pub OfSome : {A : Type 0} → (A → Type 0) → Option A → Type 0
 OfSome P None = Unit {0}
 OfSome P (Some x) = P x
 
@@ -87,5 +87,8 @@ of_command name look =
     (of_chosen IsWithin (bytes_eq name (codes "generate")) (generate_of look) _ (of_generate look)
     (of_chosen IsWithin (bytes_eq name (codes "trial")) (trial_of look) None (of_trial look) tt))))
 
+pub all_within : (words : List Text) → OfSome IsWithin (command_of words)
+all_within words = of_last IsWithin (words_given commands words) _ (λ p. of_command p.0.0 (look p.0.1 p.1))
+
 pub words_within : (words : List Text) (c : ProgramCommand) → command_of words ≡ Some c → IsWithin c
-words_within words c is = subst (λ (o : Option ProgramCommand). OfSome IsWithin o) is (of_last IsWithin (words_given commands words) _ (λ p. of_command p.0.0 (look p.0.1 p.1)))
+words_within words c is = subst (λ (o : Option ProgramCommand). OfSome IsWithin o) is (all_within words)

@@ -76,10 +76,11 @@ abbrev pub IsSound : {X : Type 0} → (X → ℕ) → Option X → Type 0
 IsSound count back = (x : _) → back ≡ Some x → Rose 0 (count x) → ⊥
 
 module _ {D : Type 0} (d : Disks D) where
-  -- The journal on a disk was opened, with this record. A crash within it leaves what is opened as before.
+  -- The journal on a disk was opened, with this record. A crash within it leaves what is opened as before, and a crash after it leaves this record.
   pub record OpensJournal (given opened : D) (kept : Kept) : Type 0 where
     pub found : d.told → found_of (d.seen given) ≡ Ok kept
     pub any_moment : d.told → LeavesOnly d.moment d.left_since given opened (FoundAsSome (d.may_leave given))
+    pub leaves : d.told → (files : Files) → d.may_leave opened files → record_of_files files ≡ Some kept
 
   -- A node that was opened with this record lived on to this life, and its disk went from one to the other. It did what the policy says, and its
   -- acts keep the rules of the core by themselves. A crash at any moment leaves the record of what was done so far, without the act in hand or with

@@ -12,7 +12,6 @@ use Rattle.schedule_text.specs.Reading.{fault_of}
 use Rattle.schedule_text.specs.FirstBad.{IsFirstBad}
 use Rattle.schedule_text.specs.Printed.{bad_line}
 use Rattle.schedule_text.specs.declared.level.Level.TheVariants.{Core}
-use Rattle.schedule_generator.specs.Laws.{most_steps}
 use Rattle.schedule_replay.specs.Generated.{generated}
 use Rattle.schedule_replay.specs.Levels.{trace_at}
 use Rattle.trace_summary.specs.Printed.{summary_text}
@@ -111,14 +110,14 @@ pub record InspectRun {D L : Type 0} (d : Disks D) (dir : List ℕ) (host host_n
   pub end : Inspection
   pub is_status : status ≡ status_of end
   pub asked : Asked dir host.calls host_now.calls end
-  pub ended : EndsWith d.told d.seen d.may_leave d.faults host host_now sink.written sink_now.written sink.faults sink_now.faults end
-  pub complete : IsComplete d.told d.seen d.may_leave d.faults host host_now sink.faults sink_now.faults end
+  pub ended : EndsWith d host host_now sink.written sink_now.written sink.faults sink_now.faults end
+  pub complete : IsComplete d host host_now sink.faults sink_now.faults end
   pub links : LeavesLinks host host_now
 
 -- a run of `generate`: the summary of the trace of the one schedule that the number and the steps give, whose history is legal and safe
 pub record GenerateRun (number steps : ℕ) (was now : Option (List ℕ)) (status : Status) : Type 0 where
   pub says : SaysLine (summary_text (summary_of (trace_at Core (generated number steps)))) exit.Ok was now status
-  pub safe_trace : steps ≤ most_steps → IsSafeTraceAt Core (generated number steps)
+  pub safe_trace : IsSafeTraceAt Core (generated number steps)
 
 -- how a run ends whose words are no command
 abbrev pub RefusesWords : (was now : Option (List ℕ)) → Status → Type 0

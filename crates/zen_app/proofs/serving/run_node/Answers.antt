@@ -6,7 +6,7 @@ use Rattle.node_loop.specs.Reporting.{sent_of}
 use Rattle.node_loop.specs.Texts.{entry_text, opening_text}
 use Rattle.zen_app.specs.NodeRuns.{NodeRun, settings_by}
 use Rattle.zen_app.specs.Views.{SinkView}
-use Rattle.zen_app.proofs.NodeLives.{serves_on}
+use Rattle.zen_app.proofs.NodeLives.{serves_on, opened_leaves}
 use Rattle.zen_app.proofs.NodeStages.{view_by, causes_since, rose_within, link_noted, unopened, unlinked, serving_writes, served}
 use Rattle.zen_app.proofs.serving.run_node.Goals as goal
 use Rattle.zen_link.proofs.Appending.{appended_none}
@@ -30,7 +30,11 @@ returns-in-Err-open_link-clause-run g c =
     let asked = gave.call ∙ ap (λ dir. and_call (g.H.Host.calls c.args.host.now) (OpensDisk dir false)) c.as_str.ensures in
     subst (λ status. NodeRun g.H.Disk.Disks g.L.Link c.args.words.now (view c.args.host.now) (view c.close_disk.new.self) sink sink status) (sym c.refusal-in-Err-open_link.ensures)
     (unlinked g.H.Disk.Disks g.L.Link c.args.words.now (view c.args.host.now) (view c.close_disk.new.self) sink sink c.in-Ok-open_disk.disk c.in-Ok-open.node.steps.node.core.keeper.log.disk c.in-Ok-open.node.steps.node.core.keeper.kept c.in-Err-open_link.error
-    (record { same = λ x is. gave.given x is; fresh = gave.fresh }) (record { found = c.in-Ok-open.ensures.found; any_moment = c.in-Ok-open.ensures.any_moment })
+    (record { same = λ x is. gave.given x is; fresh = gave.fresh }) (record {
+      found = c.in-Ok-open.ensures.found;
+      any_moment = c.in-Ok-open.ensures.any_moment;
+      leaves = opened_leaves g.H.Disk.Disks g.met.H.Disk.Disks.counts_now c.in-Ok-open.node.steps.node.core.keeper.log.disk c.in-Ok-open.node.steps.node.core.keeper.kept (λ t. let last = (c.in-Ok-open.ensures.stands NotBegun tt).leaves t in record { since = last.since; past = last.past; at_once = last.at_once; only = last.only });
+    })
     (link_noted g.row.L.Denot _ _ _ _ _ _ c.in-Err-open_link.error asked c.close_disk.ensures.calls c.settings-2.ensures c.in-Err-open_link.ensures.call)
     (λ is. rose_within _ _ _ _ gave.later (c.in-Err-open_link.ensures.failed (ap (λ e. Err e) is)) c.close_disk.ensures.faults)
     (appended_none sink.written) (c.close_disk.ensures.back ∙ ap (λ x. Some x) c.into_disk.ensures) (c.close_disk.ensures.link_back ∙ c.in-Err-open_link.ensures.back ∙ gave.link_back))
@@ -54,7 +58,11 @@ returns-clause-run g c =
       is_given = record { same = λ x is. gave.given x is; fresh = gave.fresh };
       opened = opened;
       kept = kept;
-      opens = record { found = c.in-Ok-open.ensures.found; any_moment = c.in-Ok-open.ensures.any_moment };
+      opens = record {
+        found = c.in-Ok-open.ensures.found;
+        any_moment = c.in-Ok-open.ensures.any_moment;
+        leaves = opened_leaves g.H.Disk.Disks g.met.H.Disk.Disks.counts_now opened kept (λ t. let last = stands.leaves t in record { since = last.since; past = last.past; at_once = last.at_once; only = last.only });
+      };
       link = c.in-Ok-open_link.link;
       is_link = record { same = λ x is. c.in-Ok-open_link.ensures.given x (gave.link_ready ∙ is); fresh = c.in-Ok-open_link.ensures.fresh };
       asked = c.close_disk-2.ensures.calls ∙ c.close_link.ensures.calls ∙ c.in-Ok-open_link.ensures.call ∙ ap (λ t. and_call (g.H.Host.calls c.open_disk.new.self) (OpensLink t false)) c.settings-2.ensures
