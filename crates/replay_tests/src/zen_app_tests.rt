@@ -6,7 +6,9 @@ mod random;
 mod rows;
 mod runs;
 
-use rows::{RULES, SAFE_COMMITS, SAFE_JOINS, SAFE_VALUES, STOPS, Traced, WHOLE_NODES};
+use rows::{
+    RULES, SAFE_COMMITS, SAFE_JOINS, SAFE_PUBLICATIONS, SAFE_VALUES, STOPS, Traced, WHOLE_NODES,
+};
 use runs::{
     Case, INSPECT, REPLAY, Row, UNREAD, Written, all_end, ends, host, ran, replay_of, replays, sink,
 };
@@ -94,6 +96,13 @@ fn values_that_would_be_unsafe_without_one_guard_are_refused(rt: HostRuntime) ->
 #[test]
 fn commits_that_would_be_unsafe_without_one_guard_are_refused(rt: HostRuntime) -> Result<(), Fail> {
     replays_all(&rt, rt.alloc(), Level::Core, &SAFE_COMMITS)
+}
+
+#[test]
+fn publications_that_would_be_unsafe_without_one_guard_are_refused(
+    rt: HostRuntime,
+) -> Result<(), Fail> {
+    replays_all(&rt, rt.alloc(), Level::Core, &SAFE_PUBLICATIONS)
 }
 
 #[test]

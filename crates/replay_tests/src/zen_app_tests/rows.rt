@@ -888,7 +888,7 @@ pub const SAFE_VALUES: [Traced; 8] = [
 ];
 
 /// The shortest schedules that would be unsafe, or break what safety rests on, were one guard left out: those of responses and commits.
-pub const SAFE_COMMITS: [Traced; 7] = [
+pub const SAFE_COMMITS: [Traced; 3] = [
     (
         "no commit while publishing a new configuration",
         TWO_VOTER_A,
@@ -1027,6 +1027,10 @@ pub const SAFE_COMMITS: [Traced; 7] = [
             ],
         ],
     ),
+];
+
+// The same of answers to a publication, and of the quorums that it wants.
+pub const SAFE_PUBLICATIONS: [Traced; 4] = [
     (
         "commit without VersionMismatch",
         TWO_VOTER_A,
