@@ -35,7 +35,7 @@ def seconds_of(process):
 
 
 def below(root):
-    """Returns the processes that descend from this one."""
+    """Returns the processes that descend from this one, each after its parent, with their parents."""
     parents = {}
     for name in os.listdir("/proc"):
         if name.isdigit():
@@ -44,19 +44,29 @@ def below(root):
                     parents[int(name)] = int(it.read().rpartition(b")")[2].split()[1])
             except OSError:
                 pass
-    found = {root}
+    found = {root: None}
     while True:
-        more = {it for it, parent in parents.items() if parent in found} - found
+        more = {it: parent for it, parent in parents.items() if parent in found and it not in found}
         if not more:
             return found
-        found |= more
+        found.update(more)
+
+
+class Check:
+    """A check, or a process that does part of its work: its words, crate, kind and seconds."""
+
+    def __init__(self, words, kind, is_part):
+        self.words, self.kind, self.is_part = words, kind, is_part
+        self.crate = words[words.index("--crate-name") + 1]
+        self.seconds = 0.0
 
 
 class Seen:
-    """What was seen of each check: its crate, its kind, and its seconds."""
+    """What was seen of each check."""
 
     def __init__(self):
         self.checks = {}
+        self.latest = {}
         self.seeds = set()
 
     def kind_of(self, words):
@@ -73,8 +83,15 @@ class Seen:
         self.seeds.add(kept)
         return "seed"
 
+    def added(self, words, parent):
+        """Returns the check of a new process. A check that has more than one processor shares its work among processes with its own words."""
+        above = self.latest.get(parent)
+        if above and above.words == words:
+            return Check(words, above.kind, True)
+        return Check(words, self.kind_of(words), False)
+
     def look(self, root):
-        for process in below(root):
+        for process, parent in below(root).items():
             taken = seconds_of(process)
             if taken is None:
                 continue
@@ -83,15 +100,15 @@ class Seen:
                 words = words_of(process)
                 if not words or os.path.basename(words[0]) != "rattle" or "--crate-name" not in words:
                     continue
-                self.checks[key] = [words[words.index("--crate-name") + 1], self.kind_of(words), 0.0]
-            self.checks[key][2] = taken[0]
+                self.checks[key] = self.latest[process] = self.added(words, parent)
+            self.checks[key].seconds = taken[0]
 
     def table(self):
         """Returns the seconds by crate and kind, and how many edits each crate has."""
         seconds, edits = collections.defaultdict(collections.Counter), collections.Counter()
-        for crate, kind, taken in self.checks.values():
-            seconds[crate][kind] += taken
-            edits[crate] += kind == "edits"
+        for check in self.checks.values():
+            seconds[check.crate][check.kind] += check.seconds
+            edits[check.crate] += check.kind == "edits" and not check.is_part
         return seconds, edits
 
 

@@ -2,6 +2,7 @@
 use Rattle.std.proofs.Common.{◌≡◌, ◌≢◌, ℕ, true, false, true≢false, List, [], ◌∷◌, ◌++◌, refl, sym, ◌∙◌, ap, subst, arith, ◌⊎◌, inl, inr}
 use Rattle.std.specs.List.{Contains, All}
 use Rattle.std.proofs.lemmas.Bool.{both_ways, and_parts}
+use Rattle.std.proofs.lemmas.List.{append-nil}
 use Rattle.std.proofs.lemmas.List.Elements.{All-nil, All-cons, All-head, All-tail, Contains-append_left, Contains-append_right}
 use Rattle.cluster_state.specs.declared.state.ClusterState.{ClusterState}
 use Rattle.cluster_state.specs.declared.reply.Answer.TheVariants as answer
@@ -36,7 +37,7 @@ use Rattle.client_guarantees.specs.Replies.{IsTrueReply, RepliesTruly}
 use Rattle.client_guarantees.specs.Laws.{IsRunIn}
 use Rattle.client_guarantees.proofs.Running.{begins-run, begins-within, node-within}
 use Rattle.client_guarantees.proofs.Backing.{Backs, backs, unique}
-use Rattle.client_guarantees.proofs.Telling.{processed_after, processed_after_all, ReplyIsTrue, place, AllTrue, AreBacked, Ends}
+use Rattle.client_guarantees.proofs.Telling.{processed_after, processed_after_all, ReplyIsTrue, place, AllTrue, AreBacked, Ends, Keeps}
 use Rattle.client_guarantees.proofs.Holding.{Holds, holds-idle, holds-more}
 use Rattle.client_guarantees.proofs.Coming.{processed_came}
 use Rattle.client_guarantees.proofs.Rules.{keeps-next}
@@ -155,18 +156,27 @@ module _ (h : History) (root : ClusterState) (W : IsSystem (node_history h) root
   quietly v (Replies answer) is e a = (tt, a)
   quietly v (Notes note) is e a = (tt, a)
 
-  -- the history backs the acts of the node's log
-  backed : (l : Log) (v : View) (is : List Item) → IsAnswered s v is → v ≡ view_of s l → IsBeginning (acts_of (added l is)) r → AreBacked h s v is
-  backed l v xs (Ended u) e b = tt
-  backed l v xs (ByAct u act is o a) e b =
+  -- the history backs the acts of a part of what the node does, which stand in its log
+  backed : (l : Log) (v : View) (xs front rest : List Item) → IsAnswered s v xs → xs ≡ front ++ rest → v ≡ view_of s l → IsBeginning (acts_of (added l front)) r → AreBacked h s v front
+  backed l v xs [] rest a same e b = tt
+  backed l v xs (f ∷ fs) rest (Ended u) same e b = absurd (cc)
+  backed l v xs (f ∷ fs) rest (ByAct u act is o a) same e b =
       let i : Item = Acts act (Answered (reply_at s.me u.node act)) in
       let own : is_own i ≡ true = rw o refl in
-      let here = begins_trans (acts_of (And l i)) (acts_of (added (And l i) is)) r (begins_added (And l i) is) b in (
+      let head : Acts act (Answered (reply_at s.me u.node act)) ≡ f = cc in
+      let tail : is ≡ fs ++ rest = cc in
+      let all : IsBeginning (acts_of (added (And l i) fs)) r = subst (λ (x : Item). IsBeginning (acts_of (added (And l x) fs)) r) (sym head) b in
+      let here = begins_trans (acts_of (And l i)) (acts_of (added (And l i) fs)) r (begins_added (And l i) fs) all in
+      subst (λ (x : Item). AreBacked h s v (x ∷ fs)) head (
         subst (λ (w : View). Backs h w.node act (reply_at s.me u.node act)) (sym e) (backs-within (acts_of l) act (reply_at s.me u.node act) o here),
-        backed (And l i) (moved s u i) is a (ap (λ (w : View). moved s w i) e ∙ sym (view_of-And s l i own)) b,
+        backed (And l i) (moved s u i) is fs rest a tail (ap (λ (w : View). moved s w i) e ∙ sym (view_of-And s l i own)) all,
       )
-  backed l v xs (ByQuiet u i is q a) e b =
-      quietly u i is q (backed (And l i) (moved s u i) is a (ap (λ (w : View). moved s w i) e ∙ sym (view_of-And s l i (own-quiet i q))) b)
+  backed l v xs (f ∷ fs) rest (ByQuiet u i is q a) same e b =
+      let head : i ≡ f = cc in
+      let tail : is ≡ fs ++ rest = cc in
+      let all : IsBeginning (acts_of (added (And l i) fs)) r = subst (λ (x : Item). IsBeginning (acts_of (added (And l x) fs)) r) (sym head) b in
+      subst (λ (x : Item). AreBacked h s v (x ∷ fs)) head
+      (quietly u i fs q (backed (And l i) (moved s u i) is fs rest a tail (ap (λ (w : View). moved s w i) e ∙ sym (view_of-And s l i (own-quiet i q))) all))
 
   abbrev Stood : Life → Type 0
   Stood life = Holds h s (CameIn life) (place (view_of s (log_of life)) (processed_of s (log_of life)))
@@ -174,6 +184,27 @@ module _ (h : History) (root : ClusterState) (W : IsSystem (node_history h) root
   pub record Told (life : Life) : Type 0 where
     pub tells : RepliesTruly h s life
     pub stands : is_struck life ≡ false → Stood life
+
+  -- what an event tells that does as the rules say
+  keeps-event : (life : Life) (e : Event) → Follows s (Lived life (Did e (items_of s (log_of life) e))) → Told life
+      → Keeps h s (CameIn (Lived life (Did e (items_of s (log_of life) e)))) (view_of s (And (log_of life) (Begins e))) (processed_of s (log_of life)) (items_of s (log_of life) e) (Holds h s (CameIn (Lived life (Did e (items_of s (log_of life) e)))))
+  keeps-event life e f t =
+      let now = Lived life (Did e (items_of s (log_of life) e)) in
+      let before : Holds h s (CameIn (Lived life (Did e (items_of s (log_of life) e)))) (place (view_of s (And (log_of life) (Begins e))) (processed_of s (log_of life))) =
+      holds-more h s (CameIn (Lived life (Did e (items_of s (log_of life) e)))) (CameIn life) (λ c r k. inr k) (place (view_of s (And (log_of life) (Begins e))) (processed_of s (log_of life))) (t.stands f.1.up) in
+      keeps-next h (unique h root W) s (CameIn now) (view_of s (And (log_of life) (Begins e))) (processed_of s (log_of life)) e (λ c r k. inl k) before
+
+  -- the replies of a part of it are true, where the history has the acts of this part
+  pub part_true : (life : Life) (e : Event) (front rest : List Item) → Follows s (Lived life (Did e (items_of s (log_of life) e))) → Told life → items_of s (log_of life) e ≡ front ++ rest
+      → IsBeginning (acts_of (added (And (log_of life) (Begins e)) front)) r → All (λ (out : Outgoing). IsTrueReply h s (Lived life (Did e (items_of s (log_of life) e))) out.conn out.reply) (replies_of front)
+  part_true life e front rest f t whole b =
+      let log = And (log_of life) (Begins e) in
+      let v = view_of s (And (log_of life) (Begins e)) in
+      let items = items_of s (log_of life) e in
+      let told : AllTrue h (CameIn (Lived life (Did e (items_of s (log_of life) e)))) (processed_after_all s (view_of s (And (log_of life) (Begins e))) (processed_of s (log_of life)) (items_of s (log_of life) e)) (replies_of front) =
+      (keeps-event life e f t).within front rest whole (backed log v items front rest (answered-next s v e) whole refl b) in
+      let processed : processed_of s (added (And (log_of life) (Begins e)) (items_of s (log_of life) e)) ≡ processed_after_all s (view_of s (And (log_of life) (Begins e))) (processed_of s (log_of life)) (items_of s (log_of life) e) = processed-added s log items (own-answered s v items (answered-next s v e)) in
+      all_true_at h s (Lived life (Did e (items_of s (log_of life) e))) f (replies_of front) (subst (λ (g : List Waiting). AllTrue h (CameIn (Lived life (Did e (items_of s (log_of life) e)))) g (replies_of front)) (sym processed) told)
 
   -- an event that does as the rules say
   as_it_does : (life : Life) (e : Event) → Follows s (Lived life (Did e (items_of s (log_of life) e))) → Told life
@@ -183,10 +214,8 @@ module _ (h : History) (root : ClusterState) (W : IsSystem (node_history h) root
       let v = view_of s (And (log_of life) (Begins e)) in
       let items = items_of s (log_of life) e in
       let now = Lived life (Did e (items_of s (log_of life) e)) in
-      let before : Holds h s (CameIn (Lived life (Did e (items_of s (log_of life) e)))) (place (view_of s (And (log_of life) (Begins e))) (processed_of s (log_of life))) =
-      holds-more h s (CameIn (Lived life (Did e (items_of s (log_of life) e)))) (CameIn life) (λ c r k. inr k) (place (view_of s (And (log_of life) (Begins e))) (processed_of s (log_of life))) (t.stands f.1.up) in
       let ends : Ends h s (CameIn (Lived life (Did e (items_of s (log_of life) e)))) (view_of s (And (log_of life) (Begins e))) (processed_of s (log_of life)) (items_of s (log_of life) e) (Holds h s (CameIn (Lived life (Did e (items_of s (log_of life) e))))) =
-      (keeps-next h (unique h root W) s (CameIn now) v (processed_of s (log_of life)) e (λ c r k. inl k) before).ends (backed log v items (answered-next s v e) refl b) in
+      (keeps-event life e f t).ends (backed log v items items [] (answered-next s v e) (sym (append-nil items)) refl b) in
       let own = own-answered s v items (answered-next s v e) in
       let processed : processed_of s (added (And (log_of life) (Begins e)) (items_of s (log_of life) e)) ≡ processed_after_all s (view_of s (And (log_of life) (Begins e))) (processed_of s (log_of life)) (items_of s (log_of life) e) = processed-added s log items own in
       record {
@@ -221,6 +250,14 @@ module _ (h : History) (root : ClusterState) (W : IsSystem (node_history h) root
   told (Lived life (Bad conn fault)) f b = let t = told life f.0 b in record { tells = t.tells; stands = λ u. holds-more h s (CameIn (Lived life (Bad conn fault))) (CameIn life) (λ c r k. k) _ (t.stands u) }
   told (Lived life NoMemory) f b = let t = told life f.0 b in record { tells = t.tells; stands = λ u. holds-more h s (CameIn (Lived life NoMemory)) (CameIn life) (λ c r k. k) _ (t.stands u) }
   told (Lived life (Unread conn)) f b = let t = told life f.0 b in record { tells = t.tells; stands = λ u. holds-more h s (CameIn (Lived life (Unread conn))) (CameIn life) (λ c r k. k) _ (t.stands u) }
+
+-- A run was killed within an event. The replies of a part of it are true, where the history has the acts of this part.
+pub part_replies_true : (h : History) (root : ClusterState) → IsSystem (node_history h) root → (s : Settings) (g r : NodeHistory) → (g ≢ NoActs → OpensWith (durable_of g) r) → IsBeginning (then_run g r) (node_history h s.me)
+    → (life : Life) (e : Event) (front rest : List Item) → Follows s (Lived life (Did e (items_of s (log_of life) e))) → items_of s (log_of life) e ≡ front ++ rest → IsBeginning (acts_of (added (And (log_of life) (Begins e)) front)) r
+    → All (λ (out : Outgoing). IsTrueReply h s (Lived life (Did e (items_of s (log_of life) e))) out.conn out.reply) (replies_of front)
+part_replies_true h root W s g r opens is_in life e front rest f whole b =
+    let before = begins_trans (acts_of (log_of life)) (acts_of (added (And (log_of life) (Begins e)) front)) r (begins_added (And (log_of life) (Begins e)) front) b in
+    part_true h root W s g r opens is_in life e front rest f (told h root W s g r opens is_in life f.0 before) whole b
 
 pub replies_true : (h : History) (root : ClusterState) → IsSystem (node_history h) root → (s : Settings) (life : Life) → IsRunIn h s life → RepliesTruly h s life
 replies_true h root W s life is =

@@ -254,6 +254,40 @@ true-later h P g k [] m a = true-none h P k
 true-later h P g k (out ∷ outs) m a =
     true-cons h P k out outs (reply_later h P g k out.conn out.reply m (All-head (Truth h P g) out outs a.all)) (true-later h P g k outs m (record { all = All-tail (Truth h P g) out outs a.all }))
 
+-- ---- a part at the front
+
+no_front : (front rest : List Item) → [] ≡ front ++ rest → front ≡ []
+no_front [] rest e = refl
+no_front (f ∷ fs) rest e = absurd (cc)
+
+steady_front : (front rest xs : List Item) → xs ≡ front ++ rest → IsSteady xs → IsSteady front
+steady_front [] rest xs e q = Calm
+steady_front (f ∷ fs) rest xs e Calm = absurd (cc)
+steady_front (f ∷ fs) rest xs e (Still i is still q) =
+    let head : i ≡ f = cc in
+    let tail : is ≡ fs ++ rest = cc in
+    Still f fs (subst (λ (x : Item). is_steady x ≡ true) head still) (steady_front fs rest is tail q)
+
+-- a part at the front of two parts ends within the first, or goes on into the second
+data Splits (xs ys front rest : List Item) : Type 0 where
+  Within : (more : List Item) → xs ≡ front ++ more → Splits xs ys front rest
+  Beyond : (more : List Item) → front ≡ xs ++ more → ys ≡ more ++ rest → Splits xs ys front rest
+
+splits : (xs ys front rest : List Item) → xs ++ ys ≡ front ++ rest → Splits xs ys front rest
+splits [] ys front rest e = Beyond front refl e
+splits (x ∷ xs) ys [] rest e = Within (x ∷ xs) refl
+splits (x ∷ xs) ys (f ∷ fs) rest e = from (splits xs ys fs rest tail)
+  where
+    head : x ≡ f
+    head = cc
+
+    tail : xs ++ ys ≡ fs ++ rest
+    tail = cc
+
+    from : Splits xs ys fs rest → Splits (x ∷ xs) ys (f ∷ fs) rest
+    from (Within more q) = Within more (λ i. head i ∷ q i)
+    from (Beyond more p q) = Beyond more (λ i. sym head i ∷ p i) q
+
 module _ (h : History) (s : Settings) where
   -- the history backs each act
   abbrev pub IsBacked : View → Item → Type 0
@@ -273,16 +307,21 @@ module _ (h : History) (s : Settings) (P : ℕ → Request → Type 0) where
     pub told : AllTrue h P (processed_after_all s v g is) (replies_of is)
     pub stands : Q (place (moved_all s v is) (processed_after_all s v g is))
 
-  -- where the history backs their acts, the items tell what is true of what was processed by their end, and leave a node that was v so that Q
+  -- Where the history backs their acts, the items tell what is true of what was processed by their end, and leave a node that was v so that Q. Where it
+  -- backs the acts of a part at the front, what that tells is true.
   pub record Keeps (v : View) (g : List Waiting) (is : List Item) (Q : Place → Type 0) : Type 0 where
     pub ends : AreBacked h s v is → Ends v g is Q
+    pub within : (front rest : List Item) → is ≡ front ++ rest → AreBacked h s v front → AllTrue h P (processed_after_all s v g is) (replies_of front)
 
   pub keeps-none : (v : View) (g : List Waiting) (Q : Place → Type 0) → Q (place v g) → Keeps v g [] Q
-  keeps-none v g Q q = record { ends = λ b. record { told = true-none h P g; stands = q } }
+  keeps-none v g Q q = record {
+    ends = λ b. record { told = true-none h P g; stands = q };
+    within = λ front rest e b. subst (λ (f : List Item). AllTrue h P g (replies_of f)) (sym (no_front front rest e)) (true-none h P g);
+  }
 
   pub keeps-append : (v : View) (g : List Waiting) (xs ys : List Item) (R Q : Place → Type 0) → Keeps v g xs R
       → (R (place (moved_all s v xs) (processed_after_all s v g xs)) → Keeps (moved_all s v xs) (processed_after_all s v g xs) ys Q) → Keeps v g (xs ++ ys) Q
-  keeps-append v g xs ys R Q a next = record { ends = λ b. from (backed_parts h s v xs ys b) }
+  keeps-append v g xs ys R Q a next = record { ends = λ b. from (backed_parts h s v xs ys b); within = λ front rest e b. part front rest b (splits xs ys front rest e) }
     where
       from : AreBacked h s v xs × AreBacked h s (moved_all s v xs) ys → Ends v g (xs ++ ys) Q
       from b =
@@ -299,6 +338,22 @@ module _ (h : History) (s : Settings) (P : ℕ → Request → Type 0) where
                 (subst (λ (u : View). Q (place u l)) (sym (moved_all-append s v xs ys)) second.stands);
           }
 
+      part : (front rest : List Item) → AreBacked h s v front → Splits xs ys front rest → AllTrue h P (processed_after_all s v g (xs ++ ys)) (replies_of front)
+      part front rest b (Within more q) =
+          let k = processed_after_all s v g xs in
+          let l = processed_after_all s (moved_all s v xs) k ys in
+          subst (λ (p : List Waiting). AllTrue h P p (replies_of front)) (sym (processed-append s v g xs ys))
+          (true-later h P k l (replies_of front) (grown s (moved_all s v xs) k ys) (a.within front more q b))
+      part front rest b (Beyond more p q) =
+          let both = backed_parts h s v xs more (subst (λ (f : List Item). AreBacked h s v f) p b) in
+          let first = a.ends both.0 in
+          let second = (next first.stands).within more rest q both.1 in
+          let k = processed_after_all s v g xs in
+          let l = processed_after_all s (moved_all s v xs) k ys in
+          subst (λ (p : List Waiting). AllTrue h P p (replies_of front)) (sym (processed-append s v g xs ys))
+          (subst (λ (f : List Item). AllTrue h P l (replies_of f)) (sym p)
+          (subst (AllTrue h P l) (sym (replies-append xs more)) (true-append h P l (replies_of xs) (replies_of more) (true-later h P k l (replies_of xs) (grown s (moved_all s v xs) k ys) first.told) second)))
+
   pub keeps-then : (v : View) (g : List Waiting) (xs : List Item) (rule : View → List Item) (R Q : Place → Type 0) → Keeps v g xs R → ((u : View) (k : List Waiting) → R (place u k) → Keeps u k (rule u) Q)
       → Keeps v g (doing.then_rule s v xs rule) Q
   keeps-then v g xs rule R Q a next = keeps-append v g xs (rule (moved_all s v xs)) R Q a (next (moved_all s v xs) (processed_after_all s v g xs))
@@ -313,7 +368,17 @@ module _ (h : History) (s : Settings) (P : ℕ → Request → Type 0) where
     ends = λ b.
         let rest = (next b.0).ends b.1 in
         record { told = subst (λ (l : List Outgoing). AllTrue h P (processed_after_all s v g (i ∷ is)) (l ++ replies_of is)) (sym silent) rest.told; stands = rest.stands };
+    within = part;
   }
+    where
+      part : (front rest : List Item) → i ∷ is ≡ front ++ rest → AreBacked h s v front → AllTrue h P (processed_after_all s v g (i ∷ is)) (replies_of front)
+      part [] rest e b = true-none h P (processed_after_all s v g (i ∷ is))
+      part (f ∷ fs) rest e b =
+          let head : i ≡ f = cc in
+          let tail : is ≡ fs ++ rest = cc in
+          let own : AreBacked h s v (i ∷ fs) = subst (λ (x : Item). AreBacked h s v (x ∷ fs)) (sym head) b in
+          subst (λ (x : Item). AllTrue h P (processed_after_all s v g (i ∷ is)) (replies_of (x ∷ fs))) head
+          (subst (λ (l : List Outgoing). AllTrue h P (processed_after_all s v g (i ∷ is)) (l ++ replies_of fs)) (sym silent) ((next own.0).within fs rest tail own.1))
 
   pub keeps-steady : (v : View) (g : List Waiting) (is : List Item) (Q : Place → Type 0) → IsSteady is → Q (place v g) → Keeps v g is Q
   keeps-steady v g is Q q k = record {
@@ -322,22 +387,36 @@ module _ (h : History) (s : Settings) (P : ℕ → Request → Type 0) where
           told = subst (AllTrue h P (processed_after_all s v g is)) (sym (steady_silent is q)) (true-none h P (processed_after_all s v g is));
           stands = subst (λ (p : List Waiting). Q (place (moved_all s v is) p)) (sym (processed-steady s v g is q)) (subst (λ (x : Standing). Q (record { stands = x; processed = g })) (sym (steady_stands s v is q)) k);
         };
+    within = λ front rest e b. subst (AllTrue h P (processed_after_all s v g is)) (sym (steady_silent front (steady_front front rest is e q))) (true-none h P (processed_after_all s v g is));
   }
 
-  -- replies that are true of what is processed by the end, and what comes after them
+  -- a reply that is true of what is processed by the end, and what comes after it
+  keeps-first : (v : View) (g : List Waiting) (out : Outgoing) (is : List Item) (Q : Place → Type 0) → ReplyIsTrue h P (processed_after_all s v g is) out.conn out.reply → Keeps v g is Q
+      → Keeps v g (Replies out ∷ is) Q
+  keeps-first v g out is Q t k = record {
+    ends = λ b.
+        let more = k.ends b.1 in
+        record { told = true-cons h P (processed_after_all s v g is) out (replies_of is) t more.told; stands = more.stands };
+    within = part;
+  }
+    where
+      part : (front rest : List Item) → Replies out ∷ is ≡ front ++ rest → AreBacked h s v front → AllTrue h P (processed_after_all s v g is) (replies_of front)
+      part [] rest e b = true-none h P (processed_after_all s v g is)
+      part (f ∷ fs) rest e b =
+          let head : Replies out ≡ f = cc in
+          let tail : is ≡ fs ++ rest = cc in
+          let own : AreBacked h s v (Replies out ∷ fs) = subst (λ (x : Item). AreBacked h s v (x ∷ fs)) (sym head) b in
+          subst (λ (x : Item). AllTrue h P (processed_after_all s v g is) (replies_of (x ∷ fs))) head
+          (true-cons h P (processed_after_all s v g is) out (replies_of fs) t (k.within fs rest tail own.1))
+
+  -- replies that are true so, and what comes after them
   pub keeps-replies : (v : View) (g : List Waiting) (answers : List Outgoing) (rest : List Item) (Q : Place → Type 0) → AllTrue h P (processed_after_all s v g rest) answers → Keeps v g rest Q
       → Keeps v g (doing.reply_all s answers ++ rest) Q
   keeps-replies v g [] rest Q a k = k
-  keeps-replies v g (out ∷ outs) rest Q a k = record {
-    ends = λ b.
-        let more = (keeps-replies v g outs rest Q (record { all = All-tail (Truth h P (processed_after_all s v g rest)) out outs a.all }) k).ends b.1 in
-        let all = processed_after_all s v g (doing.reply_all s outs ++ rest) in
-        record {
-          told = true-cons h P all out (replies_of (doing.reply_all s outs ++ rest))
-              (subst (λ (p : List Waiting). ReplyIsTrue h P p out.conn out.reply) (sym (past s v g outs rest)) (All-head (Truth h P (processed_after_all s v g rest)) out outs a.all)) more.told;
-          stands = more.stands;
-        };
-  }
+  keeps-replies v g (out ∷ outs) rest Q a k =
+      keeps-first v g out (doing.reply_all s outs ++ rest) Q
+      (subst (λ (p : List Waiting). ReplyIsTrue h P p out.conn out.reply) (sym (past s v g outs rest)) (All-head (Truth h P (processed_after_all s v g rest)) out outs a.all))
+      (keeps-replies v g outs rest Q (record { all = All-tail (Truth h P (processed_after_all s v g rest)) out outs a.all }) k)
 
   pub keeps-answers : (v : View) (g : List Waiting) (answers : List Outgoing) (rest : List Item) (Q : Place → Type 0) → AllTrue h P g answers → Keeps v g rest Q → Keeps v g (doing.reply_all s answers ++ rest) Q
   keeps-answers v g answers rest Q a k = keeps-replies v g answers rest Q (true-later h P g (processed_after_all s v g rest) answers (grown s v g rest) a) k
@@ -346,4 +425,4 @@ module _ (h : History) (s : Settings) (P : ℕ → Request → Type 0) where
   keeps-all v g answers Q a k = subst (λ (l : List Item). Keeps v g l Q) (append-nil (doing.reply_all s answers)) (keeps-answers v g answers [] Q a (keeps-none v g Q k))
 
   pub keeps-reply : (v : View) (g : List Waiting) (out : Outgoing) (Q : Place → Type 0) → ReplyIsTrue h P g out.conn out.reply → Q (place v g) → Keeps v g (Replies out ∷ []) Q
-  keeps-reply v g out Q t k = record { ends = λ b. record { told = true-cons h P g out [] t (true-none h P g); stands = k } }
+  keeps-reply v g out Q t k = keeps-first v g out [] Q t (keeps-none v g Q k)

@@ -24,8 +24,8 @@ use Rattle.world_model.proofs.Assemble.{legal_is}
 use Rattle.replay_node.specs.NodeDisk.{CallsEnd, Done, Failed, CrashedIn, opening}
 use Rattle.replay_node.specs.NodeLines.{after_stop}
 use Rattle.replay_node.specs.NodeWorld.{NodeWorld, acts_reopened, after_crash, after_opening, after_order, found_at, needs_opening, opened_by as node_opened}
-use Rattle.replay_node.specs.Settled.{is_kept, settled}
-use Rattle.replay_node.proofs.AllSettled.{settled_sent}
+use Rattle.world_model.specs.Settled.{is_kept, settled}
+use Rattle.world_model.proofs.AllSettled.{settled_sent}
 use Rattle.replay_node.proofs.Found.{found_is}
 use Rattle.replay_node.specs.Worlds.{history_opened, node_world, crashed, ordered, opened}
 use Rattle.replay_node.proofs.Moves.{NodeMoves, moves_crashed, moves_ordered, moves_restarted, history_if}

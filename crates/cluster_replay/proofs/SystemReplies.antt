@@ -1,18 +1,28 @@
 -- What a client may rely on in a system of nodes.
-use Rattle.std.proofs.Common.{◌∙◌, ap}
+use Rattle.std.proofs.Common.{◌≡◌, false, inr, None, List, [], ◌∷◌, ◌++◌, refl, sym, ◌∙◌, ap, subst}
+use Rattle.std.specs.List.{All}
+use Rattle.std.proofs.lemmas.List.Elements.{All-cons, All-head, All-tail}
 use Rattle.voting_config.specs.Ids.{Id}
+use Rattle.master_tasks.specs.declared.waiting.Outgoing.{Outgoing}
+use Rattle.world_model.specs.declared.acts.Act.TheVariants.{Open}
+use Rattle.world_model.specs.declared.acts.Outcome.TheVariants.{Answered}
+use Rattle.world_model.specs.declared.acts.ActReply.TheVariants.{Taken}
+use Rattle.world_model.specs.Acts.{NodeHistory, Then}
 use Rattle.world_model.specs.Histories.{History, node_history}
 use Rattle.world_model.specs.Local.{then_run}
+use Rattle.world_model.proofs.Moments.{Begins as IsBeginning, begins_self}
 use Rattle.policy_model.specs.declared.settings.Settings.{Settings}
-use Rattle.policy_model.specs.Events.{acts_of}
-use Rattle.policy_model.specs.Entries.{Life, log_of}
+use Rattle.policy_model.specs.Events.{Item, Opens, Begins, Acts, Turns, Drops, Sends, Replies, Notes, Log, And, added, acts_of}
+use Rattle.policy_model.specs.Entries.{Life, Lived, Did, log_of, replies_of}
+use Rattle.policy_model.specs.Follows.{items_of}
 use Rattle.client_guarantees.specs.Laws.{IsRunIn}
-use Rattle.client_guarantees.proofs.Laws.{replies_are_true}
+use Rattle.client_guarantees.specs.Replies.{IsTrueReply}
+use Rattle.client_guarantees.proofs.Laws.{replies_are_true, part_replies_are_true}
 use Rattle.client_guarantees.proofs.Running.{Rest, rest-of}
-use Rattle.system_laws.specs.Systems.{history_of}
-use Rattle.system_laws.proofs.RunsKept.{IsOfNode, had-lived}
+use Rattle.system_laws.specs.Systems.{history_of, IsDoneOf, Killed, InAct, Also, Unsent, Unanswered}
+use Rattle.system_laws.proofs.RunsKept.{IsOfNode, had-lived, IsKilledOf, was-killed}
 use Rattle.system_laws.proofs.Assembly.{lives_assemble}
-use Rattle.cluster_replay.specs.SystemReplies.{LawSystemRepliesAreTrue}
+use Rattle.cluster_replay.specs.SystemReplies.{LawSystemRepliesAreTrue, LawKilledRepliesAreTrue}
 
 run-in : (h : History) (n : Id) (s : Settings) (life : Life) → IsOfNode (node_history h n) n s life → IsRunIn h s life
 run-in h n s life r =
@@ -28,3 +38,67 @@ run-in h n s life r =
 pub system_replies_are_true : LawSystemRepliesAreTrue
 system_replies_are_true initial h is n s life lived =
     replies_are_true initial (history_of h) (lives_assemble initial h is) s life (run-in (history_of h) n s life (had-lived initial h is.runs n s life lived))
+
+-- ---- killed within an event
+
+-- of what was done of some items: a part at their front has its acts, as far as they came to their end, and its replies
+record IsPartOf (l k : Log) (items done : List Item) : Type 1 where
+  front : List Item
+  rest : List Item
+  whole : items ≡ front ++ rest
+  acts : IsBeginning (acts_of (added l front)) (acts_of (added k done))
+  answers : (P : Outgoing → Type 0) → All P (replies_of front) → All P (replies_of done)
+
+same-acts : (l k : Log) (i : Item) → acts_of l ≡ acts_of k → acts_of (And l i) ≡ acts_of (And k i)
+same-acts l k (Opens found) e = ap (λ (g : NodeHistory). Then g (Open found) (Answered (Taken None false))) e
+same-acts l k (Begins event) e = e
+same-acts l k (Acts act o) e = ap (λ (g : NodeHistory). Then g act o) e
+same-acts l k (Turns mode term) e = e
+same-acts l k (Drops member cause) e = e
+same-acts l k (Sends frame) e = e
+same-acts l k (Replies answer) e = e
+same-acts l k (Notes note) e = e
+
+with-answers : (P : Outgoing → Type 0) (i : Item) (xs ys : List Item) → (All P (replies_of xs) → All P (replies_of ys)) → All P (replies_of (i ∷ xs)) → All P (replies_of (i ∷ ys))
+with-answers P (Opens found) xs ys more a = more a
+with-answers P (Begins event) xs ys more a = more a
+with-answers P (Acts act o) xs ys more a = more a
+with-answers P (Turns mode term) xs ys more a = more a
+with-answers P (Drops member cause) xs ys more a = more a
+with-answers P (Sends frame) xs ys more a = more a
+with-answers P (Replies answer) xs ys more a = All-cons P answer (replies_of ys) (All-head P answer (replies_of xs) a) (more (All-tail P answer (replies_of xs) a))
+with-answers P (Notes note) xs ys more a = more a
+
+part-of : (l k : Log) (items done : List Item) → acts_of l ≡ acts_of k → IsDoneOf items done → IsPartOf l k items done
+part-of l k items done e (Killed is) = record { front = []; rest = is; whole = refl; acts = subst (IsBeginning (acts_of l)) e (begins_self (acts_of l)); answers = λ P a. a }
+part-of l k items done e (InAct act sends wins rest fault w f) = record {
+  front = [];
+  rest = Acts act (Answered (Taken sends wins)) ∷ rest;
+  whole = refl;
+  acts = inr (subst (IsBeginning (acts_of l)) e (begins_self (acts_of l)));
+  answers = λ P a. a;
+}
+part-of l k items done e (Also i rest some d) =
+    let more = part-of (And l i) (And k i) rest some (same-acts l k i e) d in
+    record { front = i ∷ more.front; rest = more.rest; whole = ap (λ (x : List Item). i ∷ x) more.whole; acts = more.acts; answers = λ P a. with-answers P i more.front some (more.answers P) a }
+part-of l k items done e (Unsent frame rest some d) =
+    let more = part-of (And l (Sends frame)) k rest some e d in
+    record { front = Sends frame ∷ more.front; rest = more.rest; whole = ap (λ (x : List Item). Sends frame ∷ x) more.whole; acts = more.acts; answers = more.answers }
+part-of l k items done e (Unanswered answer rest some d) =
+    let more = part-of (And l (Replies answer)) k rest some e d in
+    record {
+      front = Replies answer ∷ more.front;
+      rest = more.rest;
+      whole = ap (λ (x : List Item). Replies answer ∷ x) more.whole;
+      acts = more.acts;
+      answers = λ P a. more.answers P (All-tail P answer (replies_of more.front) a);
+    }
+
+pub killed_replies_are_true : LawKilledRepliesAreTrue
+killed_replies_are_true initial h is n s life event done was =
+    let k : IsKilledOf (node_history (history_of h) n) n s life event done = was-killed initial h is.runs n s life event done was in
+    let part = part-of (And (log_of life) (Begins event)) (And (log_of life) (Begins event)) (items_of s (log_of life) event) done refl k.did in
+    part.answers (λ (out : Outgoing). IsTrueReply (history_of h) s (Lived life (Did event (items_of s (log_of life) event))) out.conn out.reply)
+    (part_replies_are_true initial (history_of h) (lives_assemble initial h is) s k.before (acts_of (added (And (log_of life) (Begins event)) done)) (λ some. k.opens)
+    (subst (λ (x : Id). IsBeginning (then_run k.before (acts_of (added (And (log_of life) (Begins event)) done))) (node_history (history_of h) x)) (sym k.me) k.begins)
+    life event part.front part.rest k.follows part.whole part.acts)

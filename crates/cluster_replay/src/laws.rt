@@ -1,7 +1,7 @@
 //! What holds of each schedule of whole nodes, and of what nodes over a network reply. The calls do nothing: what they
 //! promise is proved.
 ghost use Rattle.cluster_replay.specs.Laws.{LawClusterRepliesAreTrue, LawClusterReplayIsLegal, LawLivesFollow};
-ghost use Rattle.cluster_replay.specs.SystemReplies.{LawSystemRepliesAreTrue};
+ghost use Rattle.cluster_replay.specs.SystemReplies.{LawKilledRepliesAreTrue, LawSystemRepliesAreTrue};
 
 /// Wherever its nodes crash and their disks fail, each node of a schedule lives by the policy, and the history has just
 /// the acts of these lives.
@@ -25,4 +25,9 @@ pub fn law_cluster_replies_are_true()
 /// event, in a first run as in each later one, and also where the node was killed while it sent the reply.
 pub fn law_system_replies_are_true()
     ensures { LawSystemRepliesAreTrue }
+{}
+
+/// Of an event within which a node was killed, each reply that it sent is true, also where acts were still to come.
+pub fn law_killed_replies_are_true()
+    ensures { LawKilledRepliesAreTrue }
 {}

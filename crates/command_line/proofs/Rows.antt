@@ -3,7 +3,7 @@ use Rattle.std.proofs.Common.{◌≡◌, refl, [], ◌∷◌, Some, None, codes,
 use Rattle.command_line.specs.Commands.{command_of}
 use Rattle.command_line.specs.Lists.{initial_of, peers_of}
 use Rattle.schedule_text.specs.declared.level.Level.TheVariants.{Core, Node}
-use Rattle.command_line.specs.declared.command.ProgramCommand.TheVariants.{Replay, Inspect, Node}
+use Rattle.command_line.specs.declared.command.ProgramCommand.TheVariants.{Replay, Inspect, Node, UnsafeBootstrap, DetachCluster, Audit}
 
 core_level : command_of (codes "replay" ∷ codes "--level" ∷ codes "core" ∷ []) ≡ Some (Replay Core)
 core_level = refl
@@ -35,6 +35,21 @@ node : command_of (codes "node" ∷ codes "--no-shrink" ∷ codes "--id" ∷ cod
       turns = 7;
     }))
 node = refl
+
+alone : command_of (codes "unsafe-bootstrap" ∷ codes "--dir" ∷ codes "d" ∷ codes "--id=a" ∷ []) ≡ Some (UnsafeBootstrap (codes "a") (codes "d"))
+alone = refl
+
+no_one : command_of (codes "unsafe-bootstrap" ∷ codes "--dir=d" ∷ codes "--id=A" ∷ []) ≡ None
+no_one = refl
+
+detached : command_of (codes "detach-cluster" ∷ codes "--dir" ∷ codes "d" ∷ []) ≡ Some (DetachCluster (codes "d"))
+detached = refl
+
+audited : command_of (codes "audit" ∷ []) ≡ Some Audit
+audited = refl
+
+audit_takes_nothing : command_of (codes "audit" ∷ codes "t.txt" ∷ []) ≡ None
+audit_takes_nothing = refl
 
 one_id_twice : initial_of (codes "a,b,a") ≡ None
 one_id_twice = refl

@@ -12,7 +12,7 @@ use Rattle.command_line.specs.declared.command.ProgramCommand.TheVariants as com
 use Rattle.command_line.specs.declared.command.WordsError.{WordsError}
 use Rattle.command_line.specs.declared.command.WordsError.TheVariants.{Usage, Memory}
 use Rattle.command_line.specs.Given.{Text, look, words_given}
-use Rattle.command_line.specs.Lists.{initial_of, peers_of}
+use Rattle.command_line.specs.Lists.{initial_of, up_of, peers_of}
 use Rattle.command_line.specs.Program.{commands, program_app}
 use Rattle.command_line.specs.Values.{Look, ◌>>=◌, text_at, is_set, id_of, address_of, number_of, number_within}
 
@@ -69,6 +69,18 @@ trial_of look =
     text_at (codes "turns") look >>= number_of >>= λ turns.
     Some (command.Trial (record { program = program; dir = dir; port = port; turns = turns }))
 
+abbrev pub rescue_of : Look → Option ProgramCommand
+rescue_of look = text_at (codes "up") look >>= up_of >>= λ up. Some (command.Rescue up)
+
+abbrev pub unsafe_bootstrap_of : Look → Option ProgramCommand
+unsafe_bootstrap_of look =
+    text_at (codes "id") look >>= id_of >>= λ id.
+    text_at (codes "dir") look >>= λ dir.
+    Some (command.UnsafeBootstrap id dir)
+
+abbrev pub detach_cluster_of : Look → Option ProgramCommand
+detach_cluster_of look = text_at (codes "dir") look >>= λ dir. Some (command.DetachCluster dir)
+
 -- the command of this name, where these values stand with the names of its options
 abbrev pub command_by : Text → Look → Option ProgramCommand
 command_by name look =
@@ -77,7 +89,11 @@ command_by name look =
     else (if bytes_eq name (codes "node") then node_of look
     else (if bytes_eq name (codes "generate") then generate_of look
     else (if bytes_eq name (codes "trial") then trial_of look
-    else None))))
+    else (if bytes_eq name (codes "rescue") then rescue_of look
+    else (if bytes_eq name (codes "unsafe-bootstrap") then unsafe_bootstrap_of look
+    else (if bytes_eq name (codes "detach-cluster") then detach_cluster_of look
+    else (if bytes_eq name (codes "audit") then Some command.Audit
+    else None))))))))
 
 -- the command that the words are
 abbrev pub command_of : List Text → Option ProgramCommand

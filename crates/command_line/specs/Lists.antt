@@ -25,6 +25,14 @@ set_in items = if are_set_ids items then Some (set_of items) else None
 abbrev pub initial_of : Text → Option (List Id)
 initial_of t = set_in (items_of t)
 
+-- the same, but not none
+abbrev pub some_of : List Id → Option (List Id)
+some_of [] = None
+some_of (x ∷ xs) = Some (x ∷ xs)
+
+abbrev pub up_of : Text → Option (List Id)
+up_of t = initial_of t >>= some_of
+
 -- ---- peers
 
 abbrev pub is_equals : ℕ → Bool

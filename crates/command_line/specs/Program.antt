@@ -25,10 +25,23 @@ generate_takes = option (codes "number") ∷ option (codes "steps") ∷ []
 abbrev pub trial_takes : List Named
 trial_takes = option (codes "program") ∷ option (codes "dir") ∷ option (codes "port") ∷ option (codes "turns") ∷ []
 
+abbrev pub rescue_takes : List Named
+rescue_takes = option (codes "up") ∷ []
+
+abbrev pub unsafe_bootstrap_takes : List Named
+unsafe_bootstrap_takes = option (codes "id") ∷ option (codes "dir") ∷ []
+
+abbrev pub detach_cluster_takes : List Named
+detach_cluster_takes = option (codes "dir") ∷ []
+
+abbrev pub audit_takes : List Named
+audit_takes = []
+
 abbrev pub commands : List CommandForm
 commands =
     (codes "replay", replay_takes) ∷ (codes "inspect", inspect_takes) ∷ (codes "node", node_takes)
-    ∷ (codes "generate", generate_takes) ∷ (codes "trial", trial_takes) ∷ []
+    ∷ (codes "generate", generate_takes) ∷ (codes "trial", trial_takes) ∷ (codes "rescue", rescue_takes)
+    ∷ (codes "unsafe-bootstrap", unsafe_bootstrap_takes) ∷ (codes "detach-cluster", detach_cluster_takes) ∷ (codes "audit", audit_takes) ∷ []
 
 -- ---- as clap is given it
 

@@ -7,7 +7,7 @@ use schedule_text::Level;
 use std::alloc::AllocError;
 use std::marker::Model;
 use thiserror::Error;
-use voting_config::NodeSet;
+use voting_config::{NodeId, NodeSet};
 use zen_link::LinkSettings;
 
 /// With what a node's link is to be opened, seen as what a host is told of it.
@@ -95,6 +95,18 @@ pub enum ProgramCommand {
     },
     /// Run the trial of three nodes.
     Trial(TrialWords),
+    /// Say how these nodes, at least one, go on after a schedule.
+    Rescue(NodeSet),
+    /// Make the node of this id the only voter of a new cluster.
+    UnsafeBootstrap {
+        id: NodeId,
+        /// The folder of its journal.
+        dir: Text,
+    },
+    /// Take the node whose journal is in this folder out of its cluster.
+    DetachCluster(Text),
+    /// Say whether a recorded trace is legal.
+    Audit,
 }
 
 /// Why the words give no command.

@@ -5,7 +5,7 @@ ghost use Rattle.voting_config.specs.Ids.{same};
 ghost use Rattle.voting_config.specs.Lists.{items_of};
 ghost use Rattle.zen_host.specs.HostCalls.{told_peer};
 ghost use Rattle.command_line.specs.Answers.{Gives, GivesBy};
-ghost use Rattle.command_line.specs.Lists.{set_in, initial_of, peer_of, peers_in, peers_of, with_new_id, with_new_peer};
+ghost use Rattle.command_line.specs.Lists.{set_in, initial_of, up_of, peer_of, peers_in, peers_of, with_new_id, with_new_peer};
 
 use crate::WordsError;
 use crate::values::id;
@@ -51,6 +51,17 @@ pub fn initial(alloc: Global, text: &str) -> Result<NodeSet, WordsError>
 {
     let items = items(alloc, text)?;
     set_of(&items).ok_or(WordsError::Usage)
+}
+
+/// The set of the ids that a text lists by commas, which may not be `_`.
+pub fn up(alloc: Global, text: &str) -> Result<NodeSet, WordsError>
+    ensures { Gives result (up_of text.now) }
+{
+    let ids = initial(alloc, text)?;
+    if ids.len() == 0 {
+        return Err(WordsError::Usage);
+    }
+    Ok(ids)
 }
 
 fn peer(alloc: Global, item: &str) -> Result<Peer, WordsError>

@@ -2,7 +2,7 @@
 ghost use Rattle.std.specs.Prelude.{◌≡◌, IfOk, codes};
 ghost use Rattle.clap.specs.Words.{app_of};
 ghost use Rattle.command_line.specs.Given.{option, flag};
-ghost use Rattle.command_line.specs.Program.{raw, HasOneMore, IsLeaf, replay_takes, inspect_takes, node_takes, generate_takes, trial_takes, program_app};
+ghost use Rattle.command_line.specs.Program.{raw, HasOneMore, IsLeaf, replay_takes, inspect_takes, node_takes, generate_takes, trial_takes, rescue_takes, unsafe_bootstrap_takes, detach_cluster_takes, audit_takes, program_app};
 
 use clap::{Arg, ArgAction, Command};
 use std::alloc::{AllocError, Global};
@@ -67,6 +67,31 @@ fn trial<'a>(alloc: Global) -> Result<Command<'a>, AllocError>
     with_option(alloc, command, "turns")
 }
 
+fn rescue<'a>(alloc: Global) -> Result<Command<'a>, AllocError>
+    ensures { IfOk result (IsLeaf (codes "rescue") rescue_takes) }
+{
+    with_option(alloc, Command::new(alloc, "rescue"), "up")
+}
+
+fn unsafe_bootstrap<'a>(alloc: Global) -> Result<Command<'a>, AllocError>
+    ensures { IfOk result (IsLeaf (codes "unsafe-bootstrap") unsafe_bootstrap_takes) }
+{
+    let command = with_option(alloc, Command::new(alloc, "unsafe-bootstrap"), "id")?;
+    with_option(alloc, command, "dir")
+}
+
+fn detach_cluster<'a>(alloc: Global) -> Result<Command<'a>, AllocError>
+    ensures { IfOk result (IsLeaf (codes "detach-cluster") detach_cluster_takes) }
+{
+    with_option(alloc, Command::new(alloc, "detach-cluster"), "dir")
+}
+
+fn audit<'a>(alloc: Global) -> Command<'a>
+    ensures { IsLeaf (codes "audit") audit_takes result }
+{
+    Command::new(alloc, "audit")
+}
+
 /// The commands and what they take, as clap is given them.
 pub fn program<'a>(alloc: Global) -> Result<Command<'a>, AllocError>
     ensures { IfOk result (λ c. app_of c ≡ program_app) }
@@ -80,5 +105,9 @@ pub fn program<'a>(alloc: Global) -> Result<Command<'a>, AllocError>
         .subcommand(inspect(alloc)?)?
         .subcommand(node(alloc)?)?
         .subcommand(generate(alloc)?)?
-        .subcommand(trial(alloc)?)
+        .subcommand(trial(alloc)?)?
+        .subcommand(rescue(alloc)?)?
+        .subcommand(unsafe_bootstrap(alloc)?)?
+        .subcommand(detach_cluster(alloc)?)?
+        .subcommand(audit(alloc))
 }

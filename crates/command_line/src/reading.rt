@@ -3,9 +3,9 @@ ghost use Rattle.std.specs.Prelude.{◌≡◌, ◌↔◌, IsTrue, codes, map, st
 ghost use Rattle.std.specs.List.{list_all};
 ghost use Rattle.clap.specs.Words.{first_value, found_of, kind_of, subcommand_rows_of};
 ghost use Rattle.command_line.specs.Answers.{Gives};
-ghost use Rattle.command_line.specs.Commands.{level_of, replay_of, inspect_of, link_of, node_of, steps_of, generate_of, port_of, trial_of, command_by, command_of, entered_command, Parses, is_fair as fair};
+ghost use Rattle.command_line.specs.Commands.{level_of, replay_of, inspect_of, link_of, node_of, steps_of, generate_of, port_of, trial_of, rescue_of, unsafe_bootstrap_of, detach_cluster_of, command_by, command_of, entered_command, Parses, is_fair as fair};
 
-use crate::lists::{initial, peers};
+use crate::lists::{initial, peers, up};
 use crate::program::program;
 use crate::values::{address, id, is_set, number, number_within, text, value};
 use crate::{LinkWords, MAX_PORT, MAX_STEPS, NodeWords, ProgramCommand, TrialWords, WordsError};
@@ -116,6 +116,34 @@ fn read_trial(alloc: Global, matches: &ArgMatches<'_>) -> Result<ProgramCommand,
     }))
 }
 
+fn read_rescue(alloc: Global, matches: &ArgMatches<'_>) -> Result<ProgramCommand, WordsError>
+    ensures { Gives result (rescue_of (first_value (found_of matches.now))) }
+{
+    let up = up(alloc, value(matches, "up").ok_or(WordsError::Usage)?)?;
+    Ok(ProgramCommand::Rescue(up))
+}
+
+fn read_unsafe_bootstrap(
+    alloc: Global,
+    matches: &ArgMatches<'_>,
+) -> Result<ProgramCommand, WordsError>
+    ensures { Gives result (unsafe_bootstrap_of (first_value (found_of matches.now))) }
+{
+    let id = value(matches, "id").and_then(id).ok_or(WordsError::Usage)?;
+    let dir = text(alloc, matches, "dir")?;
+    Ok(ProgramCommand::UnsafeBootstrap { id, dir })
+}
+
+fn read_detach_cluster(
+    alloc: Global,
+    matches: &ArgMatches<'_>,
+) -> Result<ProgramCommand, WordsError>
+    ensures { Gives result (detach_cluster_of (first_value (found_of matches.now))) }
+{
+    let dir = text(alloc, matches, "dir")?;
+    Ok(ProgramCommand::DetachCluster(dir))
+}
+
 fn by_name(
     alloc: Global,
     name: &str,
@@ -133,6 +161,14 @@ fn by_name(
         read_generate(matches)
     } else if name == "trial" {
         read_trial(alloc, matches)
+    } else if name == "rescue" {
+        read_rescue(alloc, matches)
+    } else if name == "unsafe-bootstrap" {
+        read_unsafe_bootstrap(alloc, matches)
+    } else if name == "detach-cluster" {
+        read_detach_cluster(alloc, matches)
+    } else if name == "audit" {
+        Ok(ProgramCommand::Audit)
     } else {
         Err(WordsError::Usage)
     }

@@ -1,6 +1,6 @@
 -- What is reported of one event, by how far it came.
 use Rattle.std.proofs.Common.{◌≡◌, ℕ, false, Option, None, Some, List, [], ◌∷◌, refl, ap, subst}
-use Rattle.zen_link.specs.Streams.{Appended, AppendedFront}
+use Rattle.zen_link.specs.Streams.{Appended, AppendedPart}
 use Rattle.policy_model.specs.declared.settings.Settings.{Settings}
 use Rattle.policy_model.specs.declared.events.Event.{Event}
 use Rattle.policy_model.specs.Entries.{Life, Lived}
@@ -14,8 +14,8 @@ use Rattle.node_loop.specs.Reports.{Output, IsIdle, StandsFor, moves_in}
 use Rattle.policy_model.specs.Entries.{Entry, Did, Bad, Gone, NoMemory, Unread as UnreadEntry}
 use Rattle.node_loop.specs.Steps.{Does, IsHalted}
 use Rattle.policy_model.specs.Follows.{EntryFollows}
-use Rattle.node_loop.specs.Tells.{Tells, IsUp, says_all, Grows}
-use Rattle.node_loop.proofs.Appending.{front_none}
+use Rattle.node_loop.specs.Tells.{Tells, CutShort, IsUp, says_all, Grows}
+use Rattle.node_loop.proofs.Appending.{cut_none, cut_part}
 use Rattle.node_loop.proofs.Telling.{says, says_part, grows_added, grows_none}
 
 module _ {C S : Type 0} (stands_for : C → Settings → Life → Type 0) (output : S → Output) (text : Life → Entry → List ℕ) (s : Settings) (life : Life) (event : Event) (now : C) (sealed : S) where
@@ -27,20 +27,20 @@ module _ {C S : Type 0} (stands_for : C → Settings → Life → Type 0) (outpu
       says output text s life (Comes event) (Did event does.items) None o0 o1 w0 w1 (stands_for now s)
       refl does.next does.stands (λ on. record { started = refl; unstruck = does.whole })
       (subst (λ l. Appended o0 o1 l) does.said written)
-      (subst (λ m. Grows output w0 w1 m) sends (grows_added output w0 w1 (Gave sealed) a b adds)) (λ is. absurd cc)
+      (subst (λ m. Grows output w0 w1 m) sends (grows_added output w0 w1 (Gave sealed) a b adds)) (λ is. absurd cc) (λ is. absurd cc)
 
   pub done_part : (lines : List ℕ) (o0 o1 : Option (List ℕ)) (w : Option (List (Traffic S))) → Does stands_for text s life event now output (record { sealed = sealed; lines = Some lines })
-      → AppendedFront o0 o1 lines
+      → AppendedPart o0 o1 lines
       → Tells output text s life (Makes (Comes event) ∷ []) (Some ends.Write) o0 o1 w w (stands_for now s)
   done_part lines o0 o1 w does front =
       says_part output text s life (Comes event) (Did event does.items) ends.Write o0 o1 w (stands_for now s)
-      refl refl does.next does.stands (subst (λ l. AppendedFront o0 o1 l) does.said front)
+      refl refl does.next does.stands (cut_part o0 o1 (text life (Did event does.items)) (subst (λ l. AppendedPart o0 o1 l) does.said front))
 
   pub done_silent : (lines : Option (List ℕ)) (o : Option (List ℕ)) (w : Option (List (Traffic S))) → Does stands_for text s life event now output (record { sealed = sealed; lines = lines })
       → Tells output text s life (Makes (Comes event) ∷ []) (Some ends.Memory) o o w w (stands_for now s)
   done_silent lines o w does =
       says_part output text s life (Comes event) (Did event does.items) ends.Memory o o w (stands_for now s)
-      refl refl does.next does.stands (front_none o (text life (Did event does.items)))
+      refl refl does.next does.stands (cut_none o (text life (Did event does.items)))
 
 module _ {C S : Type 0} (stands_for : C → Settings → Life → Type 0) (output : S → Output) (text : Life → Entry → List ℕ) (s : Settings) (life : Life) (event : Event) (now : C) (told : Option (List (Traffic S))) where
   pub struck_said : (lines : List ℕ) (o0 o1 : Option (List ℕ)) → IsHalted stands_for text s life event now (Some lines)
@@ -50,20 +50,20 @@ module _ {C S : Type 0} (stands_for : C → Settings → Life → Type 0) (outpu
       says output text s life (Comes event) (Did event does.items) (Some ends.Disk) o0 o1 told told (stands_for now s)
       refl does.next does.stands (λ on. absurd cc)
       (subst (λ l. Appended o0 o1 l) does.said written)
-      (rw does.fault (grows_none output told told refl)) (λ is. does.fault)
+      (rw does.fault (grows_none output told told refl)) (λ is. does.fault) (λ is. absurd cc)
 
   pub struck_part : (lines : List ℕ) (o0 o1 : Option (List ℕ)) → IsHalted stands_for text s life event now (Some lines)
-      → AppendedFront o0 o1 lines
+      → AppendedPart o0 o1 lines
       → Tells output text s life (Makes (Comes event) ∷ []) (Some ends.Write) o0 o1 told told (stands_for now s)
   struck_part lines o0 o1 does front =
       says_part output text s life (Comes event) (Did event does.items) ends.Write o0 o1 told (stands_for now s)
-      refl refl does.next does.stands (subst (λ l. AppendedFront o0 o1 l) does.said front)
+      refl refl does.next does.stands (cut_part o0 o1 (text life (Did event does.items)) (subst (λ l. AppendedPart o0 o1 l) does.said front))
 
   pub struck_silent : (lines : Option (List ℕ)) (o : Option (List ℕ)) → IsHalted stands_for text s life event now lines
       → Tells output text s life (Makes (Comes event) ∷ []) (Some ends.Memory) o o told told (stands_for now s)
   struck_silent lines o does =
       says_part output text s life (Comes event) (Did event does.items) ends.Memory o o told (stands_for now s)
-      refl refl does.next does.stands (front_none o (text life (Did event does.items)))
+      refl refl does.next does.stands (cut_none o (text life (Did event does.items)))
 
 -- a report of no event
 idle_up : (life : Life) (r : Entry) → IsIdle r → IsUp life → IsUp (Lived life r)
@@ -86,8 +86,8 @@ module _ {C S : Type 0} (stands_for : C → Settings → Life → Type 0) (outpu
   pub idle_said : (o0 o1 : Option (List ℕ)) (w0 w1 : Option (List (Traffic S))) → Appended o0 o1 (text life r) → Grows output w0 w1 (moves_in r)
       → Tells output text s life (Makes h ∷ []) None o0 o1 w0 w1 (stands_for now s)
   idle_said o0 o1 w0 w1 written grows =
-      says output text s life h r None o0 o1 w0 w1 (stands_for now s) st (idle_next s life r is up) (idle now s life r is stands) (λ on. idle_up life r is up) written grows (λ is. absurd cc)
+      says output text s life h r None o0 o1 w0 w1 (stands_for now s) st (idle_next s life r is up) (idle now s life r is stands) (λ on. idle_up life r is up) written grows (λ is. absurd cc) (λ is. absurd cc)
 
-  pub idle_part : (end : End) (o0 o1 : Option (List ℕ)) (w : Option (List (Traffic S))) → says_all (Some end) ≡ false → AppendedFront o0 o1 (text life r)
+  pub idle_part : (end : End) (o0 o1 : Option (List ℕ)) (w : Option (List (Traffic S))) → says_all (Some end) ≡ false → CutShort end o0 o1 (text life r)
       → Tells output text s life (Makes h ∷ []) (Some end) o0 o1 w w (stands_for now s)
-  idle_part end o0 o1 w ends front = says_part output text s life h r end o0 o1 w (stands_for now s) ends st (idle_next s life r is up) (idle now s life r is stands) front
+  idle_part end o0 o1 w ends cut = says_part output text s life h r end o0 o1 w (stands_for now s) ends st (idle_next s life r is up) (idle now s life r is stands) cut

@@ -9,3 +9,4 @@ pub mod Lasting
 pub mod Stepping
 pub mod Holding
 pub mod Running
+pub mod Killing

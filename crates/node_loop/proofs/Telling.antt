@@ -4,7 +4,7 @@ use Rattle.std.proofs.lemmas.List.{map-append}
 use Rattle.std.proofs.lemmas.Grind.{flat_map-append}
 use Rattle.std.specs.List.{flat_map}
 use Rattle.std.proofs.lemmas.Option.{same_Some}
-use Rattle.zen_link.specs.Streams.{Appended, AppendedFront}
+use Rattle.zen_link.specs.Streams.{Appended}
 use Rattle.policy_model.specs.declared.settings.Settings.{Settings}
 use Rattle.policy_model.specs.Entries.{Life, Lived}
 use Rattle.policy_model.specs.Follows.{EntryFollows, is_struck}
@@ -18,7 +18,7 @@ use Rattle.node_loop.specs.Happenings.{Happening, Mark, Takes, Makes}
 use Rattle.node_loop.specs.Connections.{makes}
 use Rattle.node_loop.specs.Reports.{Output, lived, EntriesFollow, happened_in, Reported, StandsFor, text_of, moves_in, moves_of}
 use Rattle.policy_model.specs.Entries.{Entry}
-use Rattle.node_loop.specs.Tells.{Tells, HasCauses, IsUp, says_all, does_all, Grows, seen}
+use Rattle.node_loop.specs.Tells.{Tells, CutShort, HasCauses, IsUp, says_all, does_all, Grows, seen}
 use Rattle.zen_link.proofs.Appending.{appended_more, appended_none}
 
 module _ {X : Type 0} (output : X → Output) where
@@ -86,7 +86,7 @@ reported_left (h ∷ hs) more [] left f = ap (λ l. l ++ more) f
 reported_left [] more (r ∷ rs) left f = absurd f
 reported_left (h ∷ hs) more (r ∷ rs) left f = (f.0, reported_left hs more rs left f.1)
 
-happened_makes : (h : List Happening) → flat_map happened_in (makes h) ≡ h
+pub happened_makes : (h : List Happening) → flat_map happened_in (makes h) ≡ h
 happened_makes [] = refl
 happened_makes (x ∷ h) = ap (λ l. x ∷ l) (happened_makes h)
 
@@ -146,43 +146,55 @@ module _ {X : Type 0} (output : X → Output) (text : Life → Entry → List �
         told = tells.told;
       }
 
-  -- and then what comes next
+  -- and then what comes next, and what it left
+  pub joined_left : (life : Life) (c1 c2 : List Mark) (end : Option End) (o0 o1 o2 : Option (List ℕ)) (w0 w1 w2 : Option (List (Traffic X))) (stands1 stands2 : Life → Type 0) (P : List Happening → Type 0)
+      → Tells output text s life c1 None o0 o1 w0 w1 stands1
+      → ((mid : Life) → stands1 mid → IsUp mid → (t : Tells output text s mid c2 end o1 o2 w1 w2 stands2) × P t.left)
+      → (t : Tells output text s life (c1 ++ c2) end o0 o2 w0 w2 stands2) × P t.left
+  joined_left life c1 c2 end o0 o1 o2 w0 w1 w2 stands1 stands2 P tells then =
+      let a = all_said life c1 o0 o1 w0 w1 stands1 tells in
+      let more = then (lived life a.said) a.lives a.up in
+      let b = more.0 in
+      let all : (a.said ++ b.said) ++ b.unsaid ≡ a.said ++ (b.said ++ b.unsaid) = append_assoc a.said b.said b.unsaid in
+      let end_life : lived (lived life a.said) (b.said ++ b.unsaid) ≡ lived life ((a.said ++ b.said) ++ b.unsaid) = sym (lived_more life a.said (b.said ++ b.unsaid)) ∙ ap (lived life) (sym all) in
+      let both : Reported (flat_map happened_in c1 ++ flat_map happened_in c2) (a.said ++ (b.said ++ b.unsaid)) b.left =
+      reported_more (flat_map happened_in c1) (flat_map happened_in c2) a.said (b.said ++ b.unsaid) b.left a.reports b.reports in (
+        record {
+          said = a.said ++ b.said;
+          unsaid = b.unsaid;
+          left = b.left;
+          part = b.part;
+          rest = b.rest;
+          reports = subst (λ h. Reported h ((a.said ++ b.said) ++ b.unsaid) b.left) (sym (flat_map-append happened_in c1 c2))
+              (subst (λ l. Reported (flat_map happened_in c1 ++ flat_map happened_in c2) l b.left) (sym all) both);
+          follows = subst (λ l. EntriesFollow s life l) (sym all) (follows_more s life a.said (b.said ++ b.unsaid) a.follows b.follows);
+          lives = subst stands2 end_life b.lives;
+          up = λ on. subst IsUp end_life (b.up on);
+          all_done = b.all_done;
+          all_said = b.all_said;
+          at_most_one = b.at_most_one;
+          cut = b.cut ∙ ap (λ l. text_of text l b.unsaid) (sym (lived_more life a.said b.said));
+          silent = b.silent;
+          short = b.short;
+          written = subst (λ l. Appended o0 o2 l) (sym (append_assoc (text_of text life a.said) (text_of text (lived life a.said) b.said) b.part) ∙ ap (λ l. l ++ b.part) (sym (text_more text life a.said b.said)))
+              (appended_more o0 o1 o2 (text_of text life a.said) (text_of text (lived life a.said) b.said ++ b.part) a.written b.written);
+          told = subst (λ m. Grows output w0 w2 m) (sym (moves_more c1 c2 a.said b.said a.reports)) (grows_more output w0 w1 w2 (moves_of c1 a.said) (moves_of c2 b.said) a.told b.told);
+          struck = λ is. subst (λ l. is_struck l ≡ true) end_life (b.struck is);
+        },
+        more.1,
+      )
+
   pub joined : (life : Life) (c1 c2 : List Mark) (end : Option End) (o0 o1 o2 : Option (List ℕ)) (w0 w1 w2 : Option (List (Traffic X))) (stands1 stands2 : Life → Type 0)
       → Tells output text s life c1 None o0 o1 w0 w1 stands1
       → ((mid : Life) → stands1 mid → IsUp mid → Tells output text s mid c2 end o1 o2 w1 w2 stands2)
       → Tells output text s life (c1 ++ c2) end o0 o2 w0 w2 stands2
   joined life c1 c2 end o0 o1 o2 w0 w1 w2 stands1 stands2 tells then =
-      let a = all_said life c1 o0 o1 w0 w1 stands1 tells in
-      let b = then (lived life a.said) a.lives a.up in
-      let all : (a.said ++ b.said) ++ b.unsaid ≡ a.said ++ (b.said ++ b.unsaid) = append_assoc a.said b.said b.unsaid in
-      let end_life : lived (lived life a.said) (b.said ++ b.unsaid) ≡ lived life ((a.said ++ b.said) ++ b.unsaid) = sym (lived_more life a.said (b.said ++ b.unsaid)) ∙ ap (lived life) (sym all) in
-      let both : Reported (flat_map happened_in c1 ++ flat_map happened_in c2) (a.said ++ (b.said ++ b.unsaid)) b.left =
-      reported_more (flat_map happened_in c1) (flat_map happened_in c2) a.said (b.said ++ b.unsaid) b.left a.reports b.reports in
-      record {
-        said = a.said ++ b.said;
-        unsaid = b.unsaid;
-        left = b.left;
-        part = b.part;
-        rest = b.rest;
-        reports = subst (λ h. Reported h ((a.said ++ b.said) ++ b.unsaid) b.left) (sym (flat_map-append happened_in c1 c2))
-            (subst (λ l. Reported (flat_map happened_in c1 ++ flat_map happened_in c2) l b.left) (sym all) both);
-        follows = subst (λ l. EntriesFollow s life l) (sym all) (follows_more s life a.said (b.said ++ b.unsaid) a.follows b.follows);
-        lives = subst stands2 end_life b.lives;
-        up = λ on. subst IsUp end_life (b.up on);
-        all_done = b.all_done;
-        all_said = b.all_said;
-        at_most_one = b.at_most_one;
-        cut = b.cut ∙ ap (λ l. text_of text l b.unsaid) (sym (lived_more life a.said b.said));
-        written = subst (λ l. Appended o0 o2 l) (sym (append_assoc (text_of text life a.said) (text_of text (lived life a.said) b.said) b.part) ∙ ap (λ l. l ++ b.part) (sym (text_more text life a.said b.said)))
-            (appended_more o0 o1 o2 (text_of text life a.said) (text_of text (lived life a.said) b.said ++ b.part) a.written b.written);
-        told = subst (λ m. Grows output w0 w2 m) (sym (moves_more c1 c2 a.said b.said a.reports)) (grows_more output w0 w1 w2 (moves_of c1 a.said) (moves_of c2 b.said) a.told b.told);
-        struck = λ is. subst (λ l. is_struck l ≡ true) end_life (b.struck is);
-      }
+      (joined_left life c1 c2 end o0 o1 o2 w0 w1 w2 stands1 stands2 (λ left. Unit {0}) tells (λ mid lives up. (then mid lives up, tt))).0
 
   -- nothing is said
   unsaid : (life : Life) (c : List Mark) (end : Option End) (o : Option (List ℕ)) (w0 w1 : Option (List (Traffic X))) (stands : Life → Type 0)
-      → flat_map happened_in c ≡ [] → (end ≡ Some ends.Disk → ⊥) → stands life → IsUp life → Grows output w0 w1 (moves_of c []) → Tells output text s life c end o o w0 w1 stands
-  unsaid life c end o w0 w1 stands quiet other lives up told = record {
+      → flat_map happened_in c ≡ [] → (end ≡ Some ends.Disk → ⊥) → (end ≡ Some ends.Write → ⊥) → stands life → IsUp life → Grows output w0 w1 (moves_of c []) → Tells output text s life c end o o w0 w1 stands
+  unsaid life c end o w0 w1 stands quiet other no_write lives up told = record {
     said = [];
     unsaid = [];
     left = [];
@@ -196,6 +208,8 @@ module _ {X : Type 0} (output : X → Output) (text : Life → Entry → List �
     all_said = λ e. refl;
     at_most_one = omega arith;
     cut = refl;
+    silent = λ is. refl;
+    short = λ is. absurd (no_write is);
     written = appended_none o;
     told = told;
     struck = λ is. absurd (other is);
@@ -203,21 +217,21 @@ module _ {X : Type 0} (output : X → Output) (text : Life → Entry → List �
 
   -- nothing happens
   pub rests : (life : Life) (end : Option End) (o : Option (List ℕ)) (w0 w1 : Option (List (Traffic X))) (stands : Life → Type 0)
-      → (end ≡ Some ends.Disk → ⊥) → stands life → IsUp life → w1 ≡ w0 → Tells output text s life [] end o o w0 w1 stands
-  rests life end o w0 w1 stands other lives up same = unsaid life [] end o w0 w1 stands refl other lives up (grows_none output w0 w1 same)
+      → (end ≡ Some ends.Disk → ⊥) → (end ≡ Some ends.Write → ⊥) → stands life → IsUp life → w1 ≡ w0 → Tells output text s life [] end o o w0 w1 stands
+  rests life end o w0 w1 stands other no_write lives up same = unsaid life [] end o w0 w1 stands refl other no_write lives up (grows_none output w0 w1 same)
 
   -- an input is taken
   pub takes : (life : Life) (input : Input) (o : Option (List ℕ)) (w0 w1 : Option (List (Traffic X))) (stands : Life → Type 0)
       → stands life → IsUp life → w1 ≡ with_last w0 (Took input) → Tells output text s life (Takes input ∷ []) None o o w0 w1 stands
   takes life input o w0 w1 stands lives up took =
-      unsaid life (Takes input ∷ []) None o w0 w1 stands refl (λ is. absurd cc) lives up (grows_last output w0 w1 (Took input) took)
+      unsaid life (Takes input ∷ []) None o w0 w1 stands refl (λ is. absurd cc) (λ is. absurd cc) lives up (grows_last output w0 w1 (Took input) took)
 
   -- one thing happens, and is said
   pub says : (life : Life) (h : Happening) (r : Entry) (end : Option End) (o0 o1 : Option (List ℕ)) (w0 w1 : Option (List (Traffic X))) (stands : Life → Type 0)
       → StandsFor r h → EntryFollows s life r → stands (Lived life r) → (IsTrue (does_all end) → IsUp (Lived life r))
-      → Appended o0 o1 (text life r) → Grows output w0 w1 (moves_in r) → (end ≡ Some ends.Disk → is_struck (Lived life r) ≡ true)
+      → Appended o0 o1 (text life r) → Grows output w0 w1 (moves_in r) → (end ≡ Some ends.Disk → is_struck (Lived life r) ≡ true) → (end ≡ Some ends.Write → ⊥)
       → Tells output text s life (Makes h ∷ []) end o0 o1 w0 w1 stands
-  says life h r end o0 o1 w0 w1 stands st follows lives up written told struck = record {
+  says life h r end o0 o1 w0 w1 stands st follows lives up written told struck no_write = record {
     said = r ∷ [];
     unsaid = [];
     left = [];
@@ -231,6 +245,8 @@ module _ {X : Type 0} (output : X → Output) (text : Life → Entry → List �
     all_said = λ e. refl;
     at_most_one = omega arith;
     cut = refl;
+    silent = λ is. refl;
+    short = λ is. absurd (no_write is);
     written = subst (λ l. Appended o0 o1 l) (sym (append-nil (text life r ++ []) ∙ append-nil (text life r))) written;
     told = subst (λ m. Grows output w0 w1 m) (sym (append-nil (moves_in r))) told;
     struck = struck;
@@ -238,14 +254,14 @@ module _ {X : Type 0} (output : X → Output) (text : Life → Entry → List �
 
   -- one thing happens, and a prefix of it is said
   pub says_part : (life : Life) (h : Happening) (r : Entry) (end : End) (o0 o1 : Option (List ℕ)) (w : Option (List (Traffic X))) (stands : Life → Type 0)
-      → says_all (Some end) ≡ false → StandsFor r h → EntryFollows s life r → stands (Lived life r) → AppendedFront o0 o1 (text life r)
+      → says_all (Some end) ≡ false → StandsFor r h → EntryFollows s life r → stands (Lived life r) → CutShort end o0 o1 (text life r)
       → Tells output text s life (Makes h ∷ []) (Some end) o0 o1 w w stands
-  says_part life h r end o0 o1 w stands ends st follows lives front = record {
+  says_part life h r end o0 o1 w stands ends st follows lives cut = record {
     said = [];
     unsaid = r ∷ [];
     left = [];
-    part = front.front;
-    rest = front.rest;
+    part = cut.front.front;
+    rest = cut.front.rest;
     reports = (st, refl);
     follows = (follows, tt);
     lives = lives;
@@ -253,16 +269,18 @@ module _ {X : Type 0} (output : X → Output) (text : Life → Entry → List �
     all_done = λ e. refl;
     all_said = λ e. absurd cc;
     at_most_one = omega arith;
-    cut = front.whole ∙ sym (append-nil (text life r));
-    written = front.appended;
+    cut = cut.front.whole ∙ sym (append-nil (text life r));
+    silent = λ is. cut.silent (same_Some _ _ is);
+    short = λ is. cut.short (same_Some _ _ is);
+    written = cut.front.appended;
     told = grows_none output w w refl;
     struck = λ is. absurd (not_disk end ends is);
   }
 
   -- nothing of it is done
   pub stops : (life : Life) (h : List Happening) (end : End) (o : Option (List ℕ)) (w : Option (List (Traffic X))) (stands : Life → Type 0)
-      → does_all (Some end) ≡ false → says_all (Some end) ≡ false → stands life → Tells output text s life (makes h) (Some end) o o w w stands
-  stops life h end o w stands within ends lives = record {
+      → does_all (Some end) ≡ false → says_all (Some end) ≡ false → (end ≡ ends.Write → ⊥) → stands life → Tells output text s life (makes h) (Some end) o o w w stands
+  stops life h end o w stands within ends no_write lives = record {
     said = [];
     unsaid = [];
     left = h;
@@ -276,6 +294,8 @@ module _ {X : Type 0} (output : X → Output) (text : Life → Entry → List �
     all_said = λ e. refl;
     at_most_one = omega arith;
     cut = refl;
+    silent = λ is. refl;
+    short = λ is. absurd (no_write (same_Some _ _ is));
     written = appended_none o;
     told = subst (λ m. Grows output w w m) (sym (moves_none h)) (grows_none output w w refl);
     struck = λ is. absurd (not_disk end ends is);
@@ -299,6 +319,8 @@ module _ {X : Type 0} (output : X → Output) (text : Life → Entry → List �
     all_said = tells.all_said;
     at_most_one = tells.at_most_one;
     cut = tells.cut;
+    silent = tells.silent;
+    short = tells.short;
     written = tells.written;
     told = subst (λ m. Grows output w0 w1 m) (sym (moves_left c more tells.said tells.unsaid tells.left tells.reports)) tells.told;
     struck = tells.struck;
@@ -306,7 +328,7 @@ module _ {X : Type 0} (output : X → Output) (text : Life → Entry → List �
 
   -- nothing has happened
   pub nothing : (life : Life) (o : Option (List ℕ)) (w : Option (List (Traffic X))) (stands : Life → Type 0) → stands life → IsUp life → Tells output text s life [] None o o w w stands
-  nothing life o w stands lives up = rests life None o w w stands (λ is. absurd cc) lives up refl
+  nothing life o w stands lives up = rests life None o w w stands (λ is. absurd cc) (λ is. absurd cc) lives up refl
 
   -- one after the other
   pub then_one : {A : Type 0} (f : A → Happening) (done : List A) (x : A) (life : Life) (end : Option End) (o0 o1 o2 : Option (List ℕ)) (w0 w1 w2 : Option (List (Traffic X))) (stands1 stands2 : Life → Type 0)
@@ -329,45 +351,58 @@ module _ {X : Type 0} (output : X → Output) (text : Life → Entry → List �
       subst (λ c. Tells output text s life c end o0 o2 w0 w2 stands2) (sym (map-append Makes (map f (done ++ x ∷ [])) (map f rest)) ∙ ap makes parts)
       (cut_short life (makes (map f (done ++ x ∷ []))) (map f rest) end o0 o2 w0 w2 stands2 ends so_far)
 
-  -- something else stands at the end
-  restood : (life : Life) (c : List Mark) (end : Option End) (o0 o1 : Option (List ℕ)) (w0 w1 : Option (List (Traffic X))) (stands stands2 : Life → Type 0)
+  -- something else stands at the end, and the same is left
+  pub restood_left : (life : Life) (c : List Mark) (end : Option End) (o0 o1 : Option (List ℕ)) (w0 w1 : Option (List (Traffic X))) (stands stands2 : Life → Type 0) (P : List Happening → Type 0)
+      → (tells : Tells output text s life c end o0 o1 w0 w1 stands) → stands2 (lived life (tells.said ++ tells.unsaid)) → P tells.left → (t : Tells output text s life c end o0 o1 w0 w1 stands2) × P t.left
+  restood_left life c end o0 o1 w0 w1 stands stands2 P tells lives last = (
+    record {
+      said = tells.said;
+      unsaid = tells.unsaid;
+      left = tells.left;
+      part = tells.part;
+      rest = tells.rest;
+      reports = tells.reports;
+      follows = tells.follows;
+      lives = lives;
+      up = tells.up;
+      all_done = tells.all_done;
+      all_said = tells.all_said;
+      at_most_one = tells.at_most_one;
+      cut = tells.cut;
+      silent = tells.silent;
+      short = tells.short;
+      written = tells.written;
+      told = tells.told;
+      struck = tells.struck;
+    },
+    last,
+  )
+
+  pub restood : (life : Life) (c : List Mark) (end : Option End) (o0 o1 : Option (List ℕ)) (w0 w1 : Option (List (Traffic X))) (stands stands2 : Life → Type 0)
       → (tells : Tells output text s life c end o0 o1 w0 w1 stands) → stands2 (lived life (tells.said ++ tells.unsaid)) → Tells output text s life c end o0 o1 w0 w1 stands2
-  restood life c end o0 o1 w0 w1 stands stands2 tells lives = record {
-    said = tells.said;
-    unsaid = tells.unsaid;
-    left = tells.left;
-    part = tells.part;
-    rest = tells.rest;
-    reports = tells.reports;
-    follows = tells.follows;
-    lives = lives;
-    up = tells.up;
-    all_done = tells.all_done;
-    all_said = tells.all_said;
-    at_most_one = tells.at_most_one;
-    cut = tells.cut;
-    written = tells.written;
-    told = tells.told;
-    struck = tells.struck;
-  }
+  restood life c end o0 o1 w0 w1 stands stands2 tells lives = (restood_left life c end o0 o1 w0 w1 stands stands2 (λ left. Unit {0}) tells lives tt).0
 
   -- what stands at the end may be told in other words
   pub mapped : (life : Life) (c : List Mark) (end : Option End) (o0 o1 : Option (List ℕ)) (w0 w1 : Option (List (Traffic X))) (stands stands2 : Life → Type 0)
       → ((l : Life) → stands l → stands2 l) → Tells output text s life c end o0 o1 w0 w1 stands → Tells output text s life c end o0 o1 w0 w1 stands2
   mapped life c end o0 o1 w0 w1 stands stands2 f tells = restood life c end o0 o1 w0 w1 stands stands2 tells (f (lived life (tells.said ++ tells.unsaid)) tells.lives)
 
+  pub mapped_left : (life : Life) (c : List Mark) (end : Option End) (o0 o1 : Option (List ℕ)) (w0 w1 : Option (List (Traffic X))) (stands stands2 : Life → Type 0) (P : List Happening → Type 0)
+      → ((l : Life) → stands l → stands2 l) → (tells : Tells output text s life c end o0 o1 w0 w1 stands) → P tells.left → (t : Tells output text s life c end o0 o1 w0 w1 stands2) × P t.left
+  mapped_left life c end o0 o1 w0 w1 stands stands2 P f tells last = restood_left life c end o0 o1 w0 w1 stands stands2 P tells (f (lived life (tells.said ++ tells.unsaid)) tells.lives) last
+
   -- at the life that it came to
   pub pinned : (life : Life) (c : List Mark) (end : Option End) (o0 o1 : Option (List ℕ)) (w0 w1 : Option (List (Traffic X))) (stands : Life → Type 0)
       → (tells : Tells output text s life c end o0 o1 w0 w1 stands) → Tells output text s life c end o0 o1 w0 w1 (λ l. l ≡ lived life (tells.said ++ tells.unsaid))
   pinned life c end o0 o1 w0 w1 stands tells = restood life c end o0 o1 w0 w1 stands (λ l. l ≡ lived life (tells.said ++ tells.unsaid)) tells refl
 
-  pub joined_at : (life : Life) (c1 c2 : List Mark) (end : Option End) (o0 o1 o2 : Option (List ℕ)) (w0 w1 w2 : Option (List (Traffic X))) (stands1 stands2 : Life → Type 0)
+  pub joined_at : (life : Life) (c1 c2 : List Mark) (end : Option End) (o0 o1 o2 : Option (List ℕ)) (w0 w1 w2 : Option (List (Traffic X))) (stands1 stands2 : Life → Type 0) (P : List Happening → Type 0)
       → (first : Tells output text s life c1 None o0 o1 w0 w1 stands1)
-      → Tells output text s (lived life (first.said ++ first.unsaid)) c2 end o1 o2 w1 w2 stands2
-      → Tells output text s life (c1 ++ c2) end o0 o2 w0 w2 stands2
-  joined_at life c1 c2 end o0 o1 o2 w0 w1 w2 stands1 stands2 first second =
-      joined life c1 c2 end o0 o1 o2 w0 w1 w2 (λ l. l ≡ lived life (first.said ++ first.unsaid)) stands2 (pinned life c1 None o0 o1 w0 w1 stands1 first)
-      (λ mid same on. subst (λ l. Tells output text s l c2 end o1 o2 w1 w2 stands2) (sym same) second)
+      → (t : Tells output text s (lived life (first.said ++ first.unsaid)) c2 end o1 o2 w1 w2 stands2) × P t.left
+      → (t : Tells output text s life (c1 ++ c2) end o0 o2 w0 w2 stands2) × P t.left
+  joined_at life c1 c2 end o0 o1 o2 w0 w1 w2 stands1 stands2 P first second =
+      joined_left life c1 c2 end o0 o1 o2 w0 w1 w2 (λ l. l ≡ lived life (first.said ++ first.unsaid)) stands2 P (pinned life c1 None o0 o1 w0 w1 stands1 first)
+      (λ mid same on. subst (λ l. (t : Tells output text s l c2 end o1 o2 w1 w2 stands2) × P t.left) (sym same) second)
 
   -- all turns are taken
   pub all_taken : (life : Life) (c : List Mark) (o0 o1 : Option (List ℕ)) (w0 w1 : Option (List (Traffic X))) (stands : Life → Type 0)
@@ -386,6 +421,8 @@ module _ {X : Type 0} (output : X → Output) (text : Life → Entry → List �
     all_said = λ e. tells.all_said refl;
     at_most_one = tells.at_most_one;
     cut = tells.cut;
+    silent = λ is. absurd cc;
+    short = λ is. absurd cc;
     written = tells.written;
     told = tells.told;
     struck = λ is. absurd cc;

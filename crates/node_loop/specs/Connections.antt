@@ -95,6 +95,11 @@ abbrev pub course_from : Intakes → List Intake → List Mark
 course_from before [] = []
 course_from before (i ∷ is) = course_by before i ++ course_from (Then before i) is
 
+-- what the last of these intakes made, or this where there is none
+abbrev pub last_made : List Happening → Intakes → List Intake → List Happening
+last_made made before [] = made
+last_made made before (i ∷ is) = last_made (made_by before i) (Then before i) is
+
 -- what the reader of a connection holds after these bytes: nothing, what stands after the frames so far, or a line that has not ended
 abbrev pub reading_of : List ℕ → Connection
 reading_of [] = Fresh

@@ -13,3 +13,4 @@ pub mod Reporting
 pub mod Limits
 pub mod Running
 pub mod Nodes
+pub mod Killed

@@ -2,7 +2,7 @@
 use Rattle.std.specs.Prelude.{◌≡◌, ℕ, ◌≤◌, Bool, true, false, IsTrue, Option, None, Some, List, [], ◌++◌, map, length}
 use Rattle.std.specs.List.{flat_map}
 use Rattle.zen_disk.specs.Faults.{Rose}
-use Rattle.zen_link.specs.Streams.{Appended}
+use Rattle.zen_link.specs.Streams.{Appended, AppendedFront}
 use Rattle.policy_model.specs.declared.settings.Settings.{Settings}
 use Rattle.policy_model.specs.Entries.{Life}
 use Rattle.policy_model.specs.Follows.{is_struck, starts_next}
@@ -66,8 +66,8 @@ Grows output was now moves = (all : List (Traffic _)) → now ≡ Some all → G
 
 -- A run of a node that lived so far. All that happened in its course is reported as the policy says, or a prefix of it where
 -- the run ended within an input. The lines of what is said are written whole, and it is sent; what is unsaid is at most one
--- entry, which the node lived but of which only a part was written, and nothing is sent for it. A run that the disk ended
--- ends with an event that the disk struck.
+-- entry, which the node lived but of which only a part was written, none where memory ran out and not all where the sink
+-- failed, and nothing is sent for it. A run that the disk ended ends with an event that the disk struck.
 pub record Tells {X : Type 0} (output : X → Output) (text : Life → Entry → List ℕ) (s : Settings) (life : Life) (course : List Mark)
     (end : Option End) (out_was out_now : Option (List ℕ)) (was now : Option (List (Traffic X))) (stands : Life → Type 0) : Type 0 where
   pub said : List Entry
@@ -83,9 +83,17 @@ pub record Tells {X : Type 0} (output : X → Output) (text : Life → Entry →
   pub all_said : IsTrue (says_all end) → unsaid ≡ []
   pub at_most_one : length unsaid ≤ 1
   pub cut : part ++ rest ≡ text_of text (lived life said) unsaid
+  pub silent : end ≡ Some ends.Memory → part ≡ []
+  pub short : end ≡ Some ends.Write → rest ≡ [] → ⊥
   pub written : Appended out_was out_now (text_of text life said ++ part)
   pub told : Grows output was now (moves_of course said)
   pub struck : end ≡ Some ends.Disk → is_struck (lived life (said ++ unsaid)) ≡ true
+
+-- A text was not written whole: nothing of it where memory ran out, and where the sink failed a prefix that is not all of it.
+pub record CutShort (end : End) (out_was out_now : Option (List ℕ)) (text : List ℕ) : Type 0 where
+  pub front : AppendedFront out_was out_now text
+  pub silent : end ≡ ends.Memory → front.front ≡ []
+  pub short : end ≡ ends.Write → front.rest ≡ [] → ⊥
 
 -- An end comes only where the count of faults of its object rose; the counts never fall.
 pub record HasCauses (end : Option End) (disk_was disk_now out_was out_now link_was link_now : ℕ) : Type 0 where

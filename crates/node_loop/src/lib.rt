@@ -2,6 +2,7 @@
 #![tactic(auto)]
 
 pub mod connection;
+pub mod laws;
 pub mod lines;
 pub mod node;
 pub mod opening;
@@ -9,6 +10,7 @@ pub mod reporter;
 pub mod steps;
 
 pub use connection::{Came, Connection};
+pub use laws::{law_crash_is_kill, law_end_is_kept, law_moment_is_cut};
 pub use lines::LastSent;
 pub use node::{End, Node, law_holds_little};
 pub use opening::JournalNode;

@@ -59,6 +59,7 @@ fn tell_done<S: Steps, L: Link<Out = S::Sealed>, O: Sink>(
     ensures within { does_all result ≡ goes_on result }
     ensures stop { is_stop result ≡ false }
     ensures causes { HasCauses result (S.faults steps.now) (S.faults steps.now) (O.faults out.old) (O.faults out.new) (L.faults link.old) (L.faults link.new) }
+    ensures asked { L.asked link.new ≡ L.asked link.old }
 {
     let Done { sealed, lines } = done;
     let Some(lines) = lines else {
@@ -122,6 +123,7 @@ fn tell_event<S: Steps, L: Link<Out = S::Sealed>, O: Sink>(
     ensures within { does_all result ≡ goes_on result }
     ensures stop { is_stop result ≡ false }
     ensures causes { HasCauses result (S.faults steps.old) (S.faults steps.new) (O.faults out.old) (O.faults out.new) (L.faults link.old) (L.faults link.new) }
+    ensures asked { L.asked link.new ≡ L.asked link.old }
 {
     match steps.step(alloc, event) {
         Ok(done) => tell_done(steps, link, out, done),
@@ -162,6 +164,7 @@ fn tell_gone<S: Steps, L: Link<Out = S::Sealed>, O: Sink>(
     ensures within { does_all result ≡ goes_on result }
     ensures stop { is_stop result ≡ false }
     ensures causes { HasCauses result (S.faults steps.now) (S.faults steps.now) (O.faults out.old) (O.faults out.new) (L.faults link.old) (L.faults link.new) }
+    ensures asked { L.asked link.new ≡ L.asked link.old }
 {
     let Ok(line) = steps.gone_line(alloc, conn) else {
         return Some(End::Memory);
@@ -186,6 +189,7 @@ fn tell_bad<S: Steps, L: Link<Out = S::Sealed>, O: Sink>(
     ensures within { does_all result ≡ goes_on result }
     ensures stop { is_stop result ≡ false }
     ensures causes { HasCauses result (S.faults steps.now) (S.faults steps.now) (O.faults out.old) (O.faults out.new) (L.faults link.old) (L.faults link.new) }
+    ensures asked { L.asked link.new ≡ L.asked link.old }
 {
     let Ok(line) = steps.bad_line(alloc, conn, fault) else {
         return Some(End::Memory);
@@ -209,6 +213,7 @@ fn tell_unread<S: Steps, L: Link<Out = S::Sealed>, O: Sink>(
     ensures within { does_all result ≡ goes_on result }
     ensures stop { is_stop result ≡ false }
     ensures causes { HasCauses result (S.faults steps.now) (S.faults steps.now) (O.faults out.old) (O.faults out.new) (L.faults link.old) (L.faults link.new) }
+    ensures asked { L.asked link.new ≡ L.asked link.old }
 {
     let Ok(()) = write_all(out, steps.no_memory_line()) else {
         return Some(End::Write);
@@ -231,6 +236,7 @@ fn tell_frames<S: Steps, L: Link<Out = S::Sealed>, O: Sink>(
     ensures within { does_all result ≡ goes_on result }
     ensures stop { is_stop result ≡ false }
     ensures causes { HasCauses result (S.faults steps.old) (S.faults steps.new) (O.faults out.old) (O.faults out.new) (L.faults link.old) (L.faults link.new) }
+    ensures asked { L.asked link.new ≡ L.asked link.old }
 {
     for frame in frames {
         if let Some(end) = tell_event(steps, alloc, link, out, Event::Frame(frame)) {
@@ -254,6 +260,7 @@ fn tell_lines<S: Steps, L: Link<Out = S::Sealed>, O: Sink>(
     ensures within { does_all result ≡ goes_on result }
     ensures stop { is_stop result ≡ false }
     ensures causes { HasCauses result (S.faults steps.old) (S.faults steps.new) (O.faults out.old) (O.faults out.new) (L.faults link.old) (L.faults link.new) }
+    ensures asked { L.asked link.new ≡ L.asked link.old }
 {
     for line in lines {
         if let Some(end) = tell_event(steps, alloc, link, out, Event::Client { conn, line }) {
@@ -278,6 +285,7 @@ fn tell_fed<S: Steps, L: Link<Out = S::Sealed>, O: Sink>(
     ensures within { does_all result ≡ goes_on result }
     ensures stop { is_stop result ≡ false }
     ensures causes { HasCauses result (S.faults steps.old) (S.faults steps.new) (O.faults out.old) (O.faults out.new) (L.faults link.old) (L.faults link.new) }
+    ensures asked { L.asked link.new ≡ L.asked link.old }
 {
     let Fed { frames, fault } = fed;
     if let Some(end) = tell_frames(steps, alloc, link, out, frames) {
@@ -300,6 +308,7 @@ fn tell_fault<S: Steps, L: Link<Out = S::Sealed>, O: Sink>(
     ensures within { does_all result ≡ goes_on result }
     ensures stop { is_stop result ≡ false }
     ensures causes { HasCauses result (S.faults steps.now) (S.faults steps.now) (O.faults out.old) (O.faults out.new) (L.faults link.old) (L.faults link.new) }
+    ensures asked { L.asked link.new ≡ L.asked link.old }
 {
     match fault {
         Some(fault) => tell_bad(steps, alloc, link, out, conn, fault),
@@ -322,6 +331,7 @@ fn tell_came<S: Steps, L: Link<Out = S::Sealed>, O: Sink>(
     ensures within { does_all result ≡ goes_on result }
     ensures stop { is_stop result ≡ false }
     ensures causes { HasCauses result (S.faults steps.old) (S.faults steps.new) (O.faults out.old) (O.faults out.new) (L.faults link.old) (L.faults link.new) }
+    ensures asked { L.asked link.new ≡ L.asked link.old }
 {
     match came {
         Came::Nothing => None,
@@ -345,6 +355,7 @@ fn take_bytes<S: Steps, L: Link<Out = S::Sealed>, O: Sink>(
     ensures takes { (s : Settings) (life : Life) (intakes : Intakes) → S.stands_for steps.old s life → IsUp life → Reads connections.old intakes
         → TakesIn S.output (S.text s) s life intakes result (O.written out.old) (O.written out.new) (L.told link.old) (L.told link.new) (HoldsBy S.Steps steps.old steps.new s life) connections.new (BytesCame conn bytes.now) }
     ensures causes { HasCauses result (S.faults steps.old) (S.faults steps.new) (O.faults out.old) (O.faults out.new) (L.faults link.old) (L.faults link.new) }
+    ensures asked { L.asked link.new ≡ L.asked link.old }
     ensures within { does_all result ≡ goes_on result }
     ensures stop { is_stop result ≡ false }
 {
@@ -368,6 +379,7 @@ fn take_closed<S: Steps, L: Link<Out = S::Sealed>, O: Sink>(
     ensures takes { (s : Settings) (life : Life) (intakes : Intakes) → S.stands_for steps.old s life → IsUp life → Reads connections.old intakes
         → TakesIn S.output (S.text s) s life intakes result (O.written out.old) (O.written out.new) (L.told link.old) (L.told link.new) (HoldsBy S.Steps steps.old steps.new s life) connections.new (ConnectionClosed conn) }
     ensures causes { HasCauses result (S.faults steps.old) (S.faults steps.new) (O.faults out.old) (O.faults out.new) (L.faults link.old) (L.faults link.new) }
+    ensures asked { L.asked link.new ≡ L.asked link.old }
     ensures within { does_all result ≡ goes_on result }
     ensures stop { is_stop result ≡ false }
 {
@@ -390,7 +402,9 @@ fn take_input<S: Steps, L: Link<Out = S::Sealed>, O: Sink>(
         → TakesIn S.output (S.text s) s life intakes result (O.written out.old) (O.written out.new) (L.told link.old) (L.told link.new) (HoldsBy S.Steps steps.old steps.new s life) connections.new (input) }
     ensures stop { is_stop result ≡ is_stop_input input }
     ensures never { ¬ (result ≡ Some End.Turns) }
+    ensures unlinked { ¬ (result ≡ Some End.Link) }
     ensures causes { HasCauses result (S.faults steps.old) (S.faults steps.new) (O.faults out.old) (O.faults out.new) (L.faults link.old) (L.faults link.new) }
+    ensures asked { L.asked link.new ≡ L.asked link.old }
 {
     match input {
         Input::Bytes { conn, bytes } => take_bytes(
@@ -418,7 +432,7 @@ fn take_turn<S: Steps, L: Link<Out = S::Sealed>, O: Sink>(
 ) -> Option<End>
     requires all { length connections.old ≡ most_connections }
     ensures turns { (s : Settings) (life : Life) (intakes : Intakes) → S.stands_for steps.old s life → IsUp life → Reads connections.old intakes
-        → Turns S.output (S.text s) s life intakes result (O.written out.old) (O.written out.new) (L.told link.old) (L.told link.new) (HoldsBy S.Steps steps.old steps.new s life) connections.new 1 }
+        → Turns S.output (S.text s) s life intakes result (O.written out.old) (O.written out.new) (L.told link.old) (L.told link.new) (HoldsBy S.Steps steps.old steps.new s life) connections.new (L.asked link.old) (L.asked link.new) 1 }
     ensures never { ¬ (result ≡ Some End.Turns) }
     ensures causes { HasCauses result (S.faults steps.old) (S.faults steps.new) (O.faults out.old) (O.faults out.new) (L.faults link.old) (L.faults link.new) }
 {
@@ -440,7 +454,7 @@ fn take_turns<S: Steps, L: Link<Out = S::Sealed>, O: Sink>(
 ) -> Option<End>
     requires all { length connections.old ≡ most_connections }
     ensures turns { (s : Settings) (life : Life) (intakes : Intakes) → S.stands_for steps.old s life → IsUp life → Reads connections.old intakes
-        → Turns S.output (S.text s) s life intakes result (O.written out.old) (O.written out.new) (L.told link.old) (L.told link.new) (HoldsBy S.Steps steps.old steps.new s life) connections.new turns }
+        → Turns S.output (S.text s) s life intakes result (O.written out.old) (O.written out.new) (L.told link.old) (L.told link.new) (HoldsBy S.Steps steps.old steps.new s life) connections.new (L.asked link.old) (L.asked link.new) turns }
     ensures never { ¬ (result ≡ Some End.Turns) }
     ensures causes { HasCauses result (S.faults steps.old) (S.faults steps.new) (O.faults out.old) (O.faults out.new) (L.faults link.old) (L.faults link.new) }
 {
@@ -464,6 +478,7 @@ fn start<S: Steps, L: Link<Out = S::Sealed>, O: Sink>(
     ensures within { does_all result ≡ goes_on result }
     ensures stop { is_stop result ≡ false }
     ensures causes { HasCauses result (S.faults steps.old) (S.faults steps.new) (O.faults out.old) (O.faults out.new) (L.faults link.old) (L.faults link.new) }
+    ensures asked { L.asked link.new ≡ L.asked link.old }
 {
     match steps.step(alloc, Event::Start) {
         Ok(done) => tell_done(steps, link, out, done),
@@ -517,7 +532,7 @@ fn serve_on<S: Steps, L: Link<Out = S::Sealed>, O: Sink>(
 ) -> End
     requires all { length connections.old ≡ most_connections }
     ensures serves { (s : Settings) (life : Life) → S.stands_for steps.old s life → IsOpened life → Reads connections.old NoIntakes
-        → ServesOn S.output (S.text s) s life result (O.written out.old) (O.written out.new) (L.told link.old) (L.told link.new) (HoldsBy S.Steps steps.old steps.new s life) turns }
+        → ServesOn S.output (S.text s) s life result (O.written out.old) (O.written out.new) (L.told link.old) (L.told link.new) (HoldsBy S.Steps steps.old steps.new s life) (L.asked link.old) (L.asked link.new) turns }
     ensures causes { HasCauses (Some result) (S.faults steps.old) (S.faults steps.new) (O.faults out.old) (O.faults out.new) (L.faults link.old) (L.faults link.new) }
 {
     if let Some(end) = start(steps, alloc, link, out) {
@@ -588,7 +603,7 @@ impl<S: Steps> Node<S> {
         out: &mut O,
     ) -> Option<End>
         ensures turns { (s : Settings) (life : Life) (intakes : Intakes) → S.stands_for self.old.steps s life → IsUp life → Reads self.old.connections.items intakes
-            → Turns S.output (S.text s) s life intakes result (O.written out.old) (O.written out.new) (L.told link.old) (L.told link.new) (HoldsBy S.Steps self.old.steps self.new.steps s life) self.new.connections.items 1 }
+            → Turns S.output (S.text s) s life intakes result (O.written out.old) (O.written out.new) (L.told link.old) (L.told link.new) (HoldsBy S.Steps self.old.steps self.new.steps s life) self.new.connections.items (L.asked link.old) (L.asked link.new) 1 }
         ensures never { ¬ (result ≡ Some End.Turns) }
         ensures causes { HasCauses result (S.faults self.old.steps) (S.faults self.new.steps) (O.faults out.old) (O.faults out.new) (L.faults link.old) (L.faults link.new) }
     {
@@ -609,7 +624,7 @@ impl<S: Steps> Node<S> {
         turns: u64,
     ) -> End
         ensures serves { (s : Settings) (life : Life) → S.stands_for self.old.steps s life → IsOpened life → Reads self.old.connections.items NoIntakes
-            → Serves S.output (S.text s) s life result (O.written out.old) (O.written out.new) (L.told link.old) (L.told link.new) (HoldsBy S.Steps self.old.steps self.new.steps s life) turns (S.opening s life) }
+            → Serves S.output (S.text s) s life result (O.written out.old) (O.written out.new) (L.told link.old) (L.told link.new) (HoldsBy S.Steps self.old.steps self.new.steps s life) (L.asked link.old) (L.asked link.new) turns (S.opening s life) }
         ensures causes { HasCauses (Some result) (S.faults self.old.steps) (S.faults self.new.steps) (O.faults out.old) (O.faults out.new) (L.faults link.old) (L.faults link.new) }
     {
         match tell_opening(&self.steps, self.alloc, out) {

@@ -2,7 +2,7 @@
 ghost use Rattle.std.specs.Prelude.{◌≡◌, ◌≤◌, IfOk, IfErr, Ok, Some};
 ghost use Rattle.zen_disk.specs.Moments.{LeavesOnly};
 ghost use Rattle.state_journal.specs.Journal.{found_of, FoundAsSome};
-ghost use Rattle.state_journal.specs.Opening.{handed_back, IsWhyOf, RoseIfDisk};
+ghost use Rattle.state_journal.specs.Opening.{handed_back, IsWhyOf, RanUntil, RoseIfDisk};
 ghost use Rattle.world_model.specs.declared.acts.Act.TheVariants.{Open};
 ghost use Rattle.world_model.specs.Histories.{ContinuesUnlessFirst};
 ghost use Rattle.policy_model.specs.declared.settings.Settings.{Settings as SettingsOf};
@@ -46,6 +46,9 @@ impl<D: Disks> Node<Reporter<StateJournal<D>>> {
         // After a crash at any moment an opening finds what it might have found before.
         ensures any_moment { D.told → IfOk result (λ node. LeavesOnly D.moment D.left_since disk node.steps.node.core.keeper.log.disk (FoundAsSome (D.may_leave disk))) }
         ensures any_moment_err { D.told → IfErr result (λ e. LeavesOnly D.moment D.left_since disk (handed_back e) (FoundAsSome (D.may_leave disk))) }
+
+        // Where it is refused, the device calls of an opening and no others.
+        ensures ran_err { D.told → IfErr result (RanUntil D.steps (D.seen disk) disk) }
     {
         let journal = StateJournal::open(alloc, disk)?;
         match Node::new(alloc, Reporter::open(alloc, settings, journal)) {
@@ -69,7 +72,7 @@ impl<D: Disks> Node<Reporter<StateJournal<D>>> {
         turns: u64,
     ) -> (D, End)
         ensures serves { (s : SettingsOf) (life : Life) → Reports ⟦<StateJournal<D> as Keeper>⟧ self.steps.node self.steps.told s life → IsOpened life → Reads self.connections.items NoIntakes
-            → Serves sent_of (entry_text s) s life result.1 (O.written out.old) (O.written out.new) (L.told link.old) (L.told link.new) (HoldsOn D.Disks self.steps.node.core.keeper.log.disk result.0 s life) turns (opening_text s life) }
+            → Serves sent_of (entry_text s) s life result.1 (O.written out.old) (O.written out.new) (L.told link.old) (L.told link.new) (HoldsOn D.Disks self.steps.node.core.keeper.log.disk result.0 s life) (L.asked link.old) (L.asked link.new) turns (opening_text s life) }
         ensures causes { HasCauses (Some result.1) (D.faults self.steps.node.core.keeper.log.disk) (D.faults result.0) (O.faults out.old) (O.faults out.new) (L.faults link.old) (L.faults link.new) }
     {
         let mut node = self;

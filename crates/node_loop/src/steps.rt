@@ -69,7 +69,7 @@ pub trait Steps {
     fn step(&mut self, alloc: Global, event: Event) -> Result<Done<Self::Sealed>, StepError>
         requires fit { IsFitEvent event }
         ensures steps { (s : Settings) (life : Life) → stands_for self.old s life → is_start event ≡ starts_next life
-            → StepsTo (λ now s2 new. Holds stands_for told moment left_since self.old now s2 life new) (text s) s life event self.new output result }
+            → StepsTo (λ now s2 new. Holds stands_for told moment left_since faults self.old now s2 life new) (text s) s life event self.new output result }
         ensures later { faults self.old ≤ faults self.new }
         ensures disk { IsDisk result → Rose (faults self.old) (faults self.new) };
 

@@ -1,14 +1,16 @@
 //! Over real sockets on this machine. The bytes that are expected are those of docs/formats.md.
 use crate::members::{Member, settings_of};
 use client_lines::{Line, LineReader};
-use host_io::{SocketLink, SystemHost};
-use node_bytes::SealedFrames;
+use cluster_state::{ClusterState, SharedState};
+use host_io::{Framing, SocketLink, SystemHost};
+use node_bytes::{SealedFrames, is_fit};
 use policy_model::Event;
-use std::alloc::Global;
+use std::alloc::{AllocError, Global};
 use std::io::{Read, Write};
 use std::net::{TcpListener, TcpStream};
 use std::test::Fail;
-use voting_config::NodeId;
+use voting_config::{NodeId, NodeSet};
+use wire_frames::{Frame, WireMessage};
 use zen_host::Host;
 use zen_link::{Input, Link, LinkSettings, Peer};
 
@@ -97,8 +99,45 @@ fn a_frame_comes_whole_to_its_receiver(rt: HostRuntime) -> Result<(), Fail> {
         let _ = asking.next();
         if let Ok(Input::Bytes { bytes, .. }) = asked.next() {
             assert!(rt; bytes.as_slice().starts_with(ASKED));
+            assert!(rt; SealedFrames.sender(bytes.as_slice()) == Some(NodeId::parse("a")?));
             return Ok(());
         }
     }
     Err(Fail::new("no frame came"))
+}
+
+fn blanks(alloc: Global, length: usize) -> Result<String, AllocError> {
+    let mut text = String::new(alloc);
+    for _ in 0..length {
+        text.push_str(" ")?;
+    }
+    Ok(text)
+}
+
+// A frame that publishes a state with one setting, whose key and text have so many bytes.
+fn published(alloc: Global, key: usize, text: usize) -> Result<Frame, AllocError> {
+    let mut state = ClusterState::initial(alloc, &NodeSet::new());
+    state.value.settings.put(blanks(alloc, key)?.as_str(), blanks(alloc, text)?.as_str())?;
+    Ok(Frame {
+        from: NodeId::default(),
+        to: NodeId::default(),
+        message: WireMessage::Publish(SharedState::of(alloc, state)?),
+    })
+}
+
+#[test]
+fn a_frame_is_fit_up_to_keys_of_128_bytes_and_texts_of_1024(rt: HostRuntime) -> Result<(), Fail> {
+    for (key, text, wanted) in [
+        (1, 0, true),
+        (128, 1_024, true),
+        (0, 1, false),
+        (129, 1, false),
+        (1, 1_025, false),
+    ] {
+        assert!(rt;
+            is_fit(&published(rt.alloc(), key, text)?) == wanted,
+            "{key}"
+        );
+    }
+    Ok(())
 }

@@ -7,11 +7,21 @@ use crate::members::settings_of;
 use crate::shown::shows;
 use bytes::Bytes;
 use coordinator::Sealed;
-use node_loop::{End, JournalNode, Node};
+use node_loop::{End, JournalNode, Node, law_crash_is_kill, law_end_is_kept, law_moment_is_cut};
 use std::alloc::{AllocError, Global};
 use std::test::Fail;
 use zen_disk::MemDisks;
 use zen_link::{Input, MemLink, MemSink, Traffic};
+
+// ---- the laws
+
+// A law is an empty function: its contract says it all, and the call shows that it can be called.
+#[test]
+fn the_laws_can_be_called() {
+    law_crash_is_kill();
+    law_moment_is_cut::<MemDisks>();
+    law_end_is_kept();
+}
 
 // ---- what comes
 

@@ -30,6 +30,7 @@ enum Named {
 // What comes of the checks of b, by version and moment, or where a tick names it.
 #[derive(Clone, Copy)]
 enum Row {
+    Watched(u64),
     Answers(u64, u64),
     Finished(u64, u64),
     Ticks(u64, Named),
@@ -37,6 +38,10 @@ enum Row {
 
 fn is_checked(checks: &mut FollowerChecks, row: Row) -> bool {
     match row {
+        Row::Watched(now) => {
+            checks.watch(&only_b(), now);
+            true
+        }
         Row::Answers(version, now) => {
             checks.answer(b(), true, state(version), now);
             true
@@ -85,24 +90,48 @@ fn a_follower_that_never_answers(rt: HostRuntime) {
     }
 }
 
-const LAGGING: &[Row] = &[
-    Row::Ticks(1_000, Named::ToAsk),
-    Row::Answers(1, 1_000),
-    Row::Finished(2, 5_000),
-    Row::Ticks(94_999, Named::ToAsk),
-    Row::Answers(1, 94_999),
+const HISTORIES: &[&[Row]] = &[
+    // It is behind from the first state that it has not applied, and is watched no more once it is dropped.
+    &[
+        Row::Watched(0),
+        Row::Ticks(1_000, Named::ToAsk),
+        Row::Answers(1, 1_000),
+        Row::Finished(2, 5_000),
+        Row::Finished(3, 50_000),
+        Row::Ticks(94_999, Named::ToAsk),
+        Row::Answers(1, 94_999),
+        Row::Ticks(95_000, Named::ToDropForLag),
+        Row::Ticks(96_000, Named::Nowhere),
+    ],
+    // A state that is finished once more says nothing of who came after it.
+    &[
+        Row::Finished(2, 0),
+        Row::Watched(0),
+        Row::Finished(2, 500),
+        Row::Ticks(1_000, Named::ToAsk),
+        Row::Answers(1, 1_000),
+        Row::Ticks(91_000, Named::ToAsk),
+    ],
+    // An answer counts only where a check is outstanding.
+    &[
+        Row::Watched(0),
+        Row::Finished(2, 0),
+        Row::Answers(2, 500),
+        Row::Ticks(1_000, Named::ToAsk),
+        Row::Answers(1, 1_000),
+        Row::Ticks(90_000, Named::ToDropForLag),
+    ],
 ];
 
 #[test]
 fn a_follower_that_lags(rt: HostRuntime) {
-    let mut checks = FollowerChecks::new();
-    checks.watch(&only_b(), 0);
-    for (at, row) in LAGGING.iter().enumerate() {
-        assert!(rt; is_checked(&mut checks, *row), "row {at}");
+    for (number, history) in HISTORIES.iter().enumerate() {
+        let mut checks = FollowerChecks::new();
+        for (at, row) in history.iter().enumerate() {
+            checks = checks.copy();
+            assert!(rt; is_checked(&mut checks, *row), "history {number}, row {at}");
+        }
     }
-    let mut copy = checks.copy();
-    assert!(rt; is_named(&copy.tick(95_000), Named::ToDropForLag));
-    assert!(rt; is_named(&checks.tick(95_000), Named::ToDropForLag));
 }
 
 #[test]

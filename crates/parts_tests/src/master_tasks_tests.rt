@@ -343,6 +343,22 @@ fn an_accepted_state_of_an_older_term_is_published_anew(rt: HostRuntime) -> Resu
 }
 
 #[test]
+fn a_request_is_processed_once(rt: HostRuntime) -> Result<(), Fail> {
+    let settings = one_setting(rt.alloc())?;
+    let accepted = state(rt.alloc(), "a,b,c", "a,b,c", "_", settings)?;
+    let mut tasks = MasterTasks::new(rt.alloc());
+    take(rt.alloc(), &mut tasks, 5, 1, Wish::Put("w", "1"))?;
+    for want in [
+        r#"abc {"exclusions":[],"master":"a","members":["a","b","c"],"settings":{"v":"x","w":"1"}}"#,
+        r#"same {"acked":{"term":1,"version":1},"id":1}"#,
+    ] {
+        let text = next(rt.alloc(), &mut tasks, 1, &accepted)?;
+        assert!(rt; text.as_slice() == want.as_bytes(), "{want}");
+    }
+    Ok(())
+}
+
+#[test]
 fn a_1025th_setting_is_refused(rt: HostRuntime) -> Result<(), Fail> {
     let settings = as_many_settings_as_there_may_be(rt.alloc())?;
     let accepted = state(rt.alloc(), "a,b,c", "a,b,c", "_", settings)?;

@@ -54,6 +54,15 @@ const ROUNDS: &[(&[AnswerOf], Added)] = &[
         Added::Quorum(10),
     ),
     (&[AnswerOf("b", 4, 2)], Added::Quorum(5)),
+    (&[AnswerOf("c", 4, 4), AnswerOf("d", 4, 2)], Added::Counted),
+    (
+        &[
+            AnswerOf("b", 4, 2),
+            AnswerOf("b", 4, 4),
+            AnswerOf("d", 4, 2),
+        ],
+        Added::Counted,
+    ),
 ];
 
 #[test]

@@ -71,6 +71,7 @@ const STEPS: &[Step] = &[
     Step::IsCommitSent(false),
     Step::CommitSent,
     Step::IsCommitSent(true),
+    Step::IsRunning(30_099),
     Step::IsFinished(false),
     Step::Applied("a"),
     Step::Finished,

@@ -11,10 +11,10 @@ use Rattle.world_model.specs.Acts.{NodeHistory, NoActs, Then}
 use Rattle.world_model.specs.NodeState.{durable_of}
 use Rattle.world_model.specs.Replies.{reply_of, is_taken, writes}
 use Rattle.world_model.specs.Histories.{is_opening, IsLocal, MayFollow}
-use Rattle.replay_node.specs.Settled.{settled, shows_as, is_kept}
-use Rattle.replay_node.proofs.Settling.{unstruck}
-use Rattle.replay_node.proofs.Struck.{durable_refused, durable_lost, durable_lost_crash, durable_kept, closed_of_writes, shown_same, kept_choice}
-use Rattle.replay_node.proofs.SettledLocal.{IsStill, still, halted_reply}
+use Rattle.world_model.specs.Settled.{settled, shows_as, is_kept}
+use Rattle.world_model.proofs.Settling.{unstruck}
+use Rattle.world_model.proofs.Struck.{durable_refused, durable_lost, durable_lost_crash, durable_kept, closed_of_writes, shown_same, kept_choice}
+use Rattle.world_model.proofs.SettledLocal.{IsStill, still, halted_reply}
 
 -- where two records show the same, they are the same
 abbrev pub Tells : Kept → Kept → Type 0

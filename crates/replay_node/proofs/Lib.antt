@@ -1,4 +1,3 @@
-pub mod AllSettled
 pub mod Alone
 pub mod AsSaid
 pub mod Carried
@@ -14,8 +13,6 @@ pub mod Nodes
 pub mod Opened
 pub mod OpeningLeft
 pub mod Reopened
-pub mod SettledLocal
-pub mod Settling
+pub mod SettledTakes
 pub mod StateSteps
-pub mod Struck
 pub mod WorldSound

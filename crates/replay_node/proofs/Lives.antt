@@ -8,8 +8,8 @@ use Rattle.world_model.specs.declared.acts.Outcome.{Outcome}
 use Rattle.world_model.specs.declared.acts.Outcome.TheVariants.{Answered, Disk, Crashed}
 use Rattle.world_model.specs.Acts.{NodeHistory, Then}
 use Rattle.world_model.specs.Replies.{writes}
-use Rattle.replay_node.specs.Settled.{settled, IsUnstruck}
-use Rattle.replay_node.proofs.Settling.{unstruck, unstruck_then}
+use Rattle.world_model.specs.Settled.{settled, IsUnstruck}
+use Rattle.world_model.proofs.Settling.{unstruck, unstruck_then}
 use Rattle.policy_model.specs.declared.settings.Settings.{Settings}
 use Rattle.policy_model.specs.declared.events.Event.{Event}
 use Rattle.policy_model.specs.Events.{Item, Opens, Begins, Acts, Turns, Drops, Sends, Replies, Notes, Log, And, added, acts_of}

@@ -17,9 +17,9 @@ use Rattle.replay_node.specs.Did.{after_unless_down}
 use Rattle.replay_node.specs.NodeDisk.{NodeDisk, CallsEnd, Done, Failed, CrashedIn, opening}
 use Rattle.replay_node.specs.NodeLines.{after_stop, after_restart}
 use Rattle.replay_node.specs.NodeWorld.{NodeWorld, outcome_at, after_act, after_crash, after_order, after_opening, opened_by, found_at, needs_opening}
-use Rattle.replay_node.specs.Settled.{is_kept, settled_for}
+use Rattle.world_model.specs.Settled.{is_kept, settled_for}
 use Rattle.replay_node.specs.Worlds.{World, node_world, with_node, did, did_unless_down, crashed, ordered, history_opened, opened, restarted}
-use Rattle.replay_node.proofs.AllSettled.{settled_own, settled_other}
+use Rattle.world_model.proofs.AllSettled.{settled_own, settled_other}
 
 -- after w the node stands in v at x, and the others as they stood
 pub record NodeMoves (n : Id) (w : World) (x : NodeWorld) (v : World) : Type 0 where

@@ -41,13 +41,13 @@ use Rattle.world_model.proofs.Guards.{start_guard, publish_guard}
 use Rattle.replay_node.specs.NodeDisk.{NodeDisk, CallsEnd, Done, Failed, CrashedIn, Called, bytes_read, calls_made, no_files, opening}
 use Rattle.replay_node.specs.NodeLines.{after_stop}
 use Rattle.replay_node.specs.NodeWorld.{NodeWorld, act_calls, acts_reopened, after_act, after_crash, after_opening, after_order, found_at, fresh_node, ends_in_a_crash, needs_opening, opened_by, outcome_by}
-use Rattle.replay_node.specs.Settled.{settled, is_kept, IsUnstruck}
+use Rattle.world_model.specs.Settled.{settled, is_kept, IsUnstruck}
 use Rattle.replay_node.proofs.Found.{found_is}
 use Rattle.replay_node.proofs.Reopened.{IsFound}
-use Rattle.replay_node.proofs.SettledLocal.{halted_reply}
-use Rattle.replay_node.proofs.Settling.{settled_then, unstruck, unstruck_then}
+use Rattle.world_model.proofs.SettledLocal.{halted_reply}
+use Rattle.world_model.proofs.Settling.{settled_then, unstruck, unstruck_then}
 use Rattle.replay_node.proofs.StateSteps.{halted_then, halted_disk}
-use Rattle.replay_node.proofs.Struck.{durable_kept, durable_lost, durable_lost_crash, durable_refused}
+use Rattle.world_model.proofs.Struck.{durable_kept, durable_lost, durable_lost_crash, durable_refused}
 use Rattle.replay_node.proofs.FilesLeft.{Nothing, Leaves, EndsIn, leaves_stop}
 use Rattle.replay_node.proofs.JournalLeft.{StandsWith, StandsWithEither, Runs, MayKeep, keep_ends, runs_leaves}
 use Rattle.replay_node.proofs.OpeningLeft.{Opening, empty_stands, opening_ends}

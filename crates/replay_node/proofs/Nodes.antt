@@ -25,7 +25,7 @@ use Rattle.replay_node.specs.NodeLines.{after_stop, stop_text, DoesLine}
 use Rattle.trace_text.specs.Published.{last_published}
 use Rattle.replay_node.specs.Published.{state_published}
 use Rattle.replay_node.specs.Sent.{taking}
-use Rattle.replay_node.specs.Settled.{IsUnstruck}
+use Rattle.world_model.specs.Settled.{IsUnstruck}
 use Rattle.replay_node.specs.Stands.{Journal, journal_ghosts, LeavesActs, OpenStands, DownStands, CrashedStands, SlotStands, NodeStands, NodeDid, NodeDoes}
 use Rattle.replay_node.specs.StateDoes.{StandsAfter, StateDid, StateDoes, WritesText, Closes}
 use Rattle.replay_node.specs.declared.did.Did.{Did}
@@ -34,7 +34,7 @@ use Rattle.replay_node.specs.declared.node.ReplayNode.{ReplayNode}
 use Rattle.replay_node.specs.declared.node.Slot.{Slot}
 use Rattle.replay_node.specs.declared.node.Slot.TheVariants.{Open, Down}
 use Rattle.replay_node.proofs.AsSaid.{crashed_stands}
-use Rattle.replay_node.proofs.Settling.{unstruck}
+use Rattle.world_model.proofs.Settling.{unstruck}
 
 pub leaves_less : (old new : MemFuse) (g : NodeHistory) → ((files : Files) → MayLeave new files → MayLeave old files) → LeavesActs old g → LeavesActs new g
 leaves_less old new g within leaves = record { left = λ files may. leaves.left files (within files may); shown = leaves.shown }

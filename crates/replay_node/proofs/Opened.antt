@@ -35,7 +35,7 @@ use Rattle.replay_node.specs.NodeLines.{after_restart, restart_text, DoesLine}
 use Rattle.replay_node.specs.Opens.{ClosedStands, Opens, StaysDown}
 use Rattle.trace_text.specs.Published.{last_published}
 use Rattle.replay_node.specs.Published.{state_published}
-use Rattle.replay_node.specs.Settled.{settled, is_kept, IsUnstruck}
+use Rattle.world_model.specs.Settled.{settled, is_kept, IsUnstruck}
 use Rattle.replay_node.specs.Stands.{Journal, journal_ghosts, LeavesActs, OpenStands, DownStands, SlotStands, NodeStands}
 use Rattle.replay_node.specs.declared.node.ReplayNode.{ReplayNode}
 use Rattle.replay_node.specs.declared.node.Slot.{Slot}
@@ -43,8 +43,8 @@ use Rattle.replay_node.specs.declared.node.Slot.TheVariants.{Open, Down}
 use Rattle.replay_node.proofs.AsSaid.{StopLeaves, said_done, said_failed, said_crashed, restarted_stands}
 use Rattle.replay_node.proofs.Crashed.{images_within}
 use Rattle.replay_node.proofs.Nodes.{leaves_less}
-use Rattle.replay_node.proofs.Settling.{settled_published}
-use Rattle.replay_node.proofs.Struck.{kept_choice}
+use Rattle.replay_node.proofs.SettledTakes.{settled_published}
+use Rattle.world_model.proofs.Struck.{kept_choice}
 
 abbrev pub moment_of : MemFuse → ℕ
 moment_of f = length (reverse f.disk.order.items)

@@ -9,8 +9,8 @@ use Rattle.world_model.specs.Acts.{NodeHistory}
 use Rattle.world_model.specs.NodeState.{durable_of}
 use Rattle.world_model.specs.Histories.{History, Next, node_history, IsLegal}
 use Rattle.world_model.proofs.Assemble.{legal_is}
-use Rattle.replay_node.specs.Settled.{settled, is_kept, settled_for}
-use Rattle.replay_node.proofs.AllSettled.{settled_own, settled_legal}
+use Rattle.world_model.specs.Settled.{settled, is_kept, settled_for}
+use Rattle.world_model.proofs.AllSettled.{settled_own, settled_legal}
 use Rattle.replay_node.proofs.Found.{found_is}
 
 -- the record is that of the node's acts, where the act that was struck was kept or was not

@@ -50,16 +50,16 @@ use Rattle.world_model.proofs.Guards.{as_taken}
 use Rattle.replay_node.specs.Did.{outcome_of}
 use Rattle.replay_node.specs.NodeDisk.{NodeDisk, CallsEnd, Done, Failed, CrashedIn, Called, MemFuse, MayLeave, DiskStands, bytes_read, calls_made}
 use Rattle.replay_node.specs.NodeWorld.{NodeWorld, act_calls, act_called, after_act, ends_in_a_crash, outcome_at, outcome_by}
-use Rattle.replay_node.specs.Settled.{settled, IsUnstruck}
+use Rattle.world_model.specs.Settled.{settled, IsUnstruck}
 use Rattle.replay_node.specs.Stands.{Journal, LeavesActs, OpenStands, CrashedStands, fuse_ghosts, journal_ghosts}
 use Rattle.replay_node.specs.StateDoes.{IsToldBy, StandsAfter, StateDid, StateDoes}
 use Rattle.replay_node.specs.declared.did.Did.{Did}
 use Rattle.replay_node.specs.declared.did.Did.TheVariants as did
 use Rattle.replay_node.proofs.AsSaid.{said_done, said_failed, said_crashed, StopLeaves}
 use Rattle.replay_node.proofs.Found.{struck_tells, tells_of, Tells}
-use Rattle.replay_node.proofs.SettledLocal.{halted_reply}
-use Rattle.replay_node.proofs.Settling.{settled_then, unstruck_then}
-use Rattle.replay_node.proofs.Struck.{closed_of_writes, durable_kept, durable_lost, durable_lost_crash, durable_refused}
+use Rattle.world_model.proofs.SettledLocal.{halted_reply}
+use Rattle.world_model.proofs.Settling.{settled_then, unstruck_then}
+use Rattle.world_model.proofs.Struck.{closed_of_writes, durable_kept, durable_lost, durable_lost_crash, durable_refused}
 
 -- what coord_state says of an act
 pub record Step (old new : CoordState Journal) (act : Act) (o : Outcome) : Type 0 where

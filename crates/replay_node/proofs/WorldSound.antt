@@ -33,14 +33,14 @@ use Rattle.replay_node.specs.NodeDisk.{CallsEnd, Done, Failed, CrashedIn, openin
 use Rattle.replay_node.specs.NodeLines.{after_restart}
 use Rattle.replay_node.specs.NodeWorld.{NodeWorld, act_called, after_act, after_opening, found_at, needs_opening, outcome_at, outcome_by}
 use Rattle.replay_node.specs.Sent.{taking}
-use Rattle.replay_node.specs.Settled.{is_kept, settled_for}
+use Rattle.world_model.specs.Settled.{is_kept, settled_for}
 use Rattle.replay_node.specs.Worlds.{World, crashed, did, did_unless_down, fresh_world, history_opened, node_world, opened, ordered, restarted}
-use Rattle.replay_node.proofs.AllSettled.{settled_sent}
+use Rattle.world_model.proofs.AllSettled.{settled_sent}
 use Rattle.replay_node.proofs.MayAct.{may_act}
 use Rattle.replay_node.proofs.Moves.{NodeMoves, moves_crashed, moves_did_unless_down, moves_ordered, moves_restarted}
 use Rattle.replay_node.proofs.NodeSound.{IsFitAct, Sound, act_sound, found_either, fresh_sound, opening_sound, order_sound, stop_sound}
 use Rattle.replay_node.proofs.Reopened.{IsFound, reopened_legal}
-use Rattle.replay_node.proofs.Settling.{unstruck}
+use Rattle.world_model.proofs.Settling.{unstruck}
 
 -- a state that was published fits into a body
 abbrev pub IsFitMessage : Message → Type 0

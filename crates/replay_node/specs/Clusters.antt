@@ -10,7 +10,7 @@ use Rattle.schedule_text.specs.declared.schedule.Schedule.{Schedule}
 use Rattle.world_model.specs.Histories.{History}
 use Rattle.replay_node.specs.NodeDisk.{CallsEnd, Done, Failed, CrashedIn, opening}
 use Rattle.replay_node.specs.NodeWorld.{NodeWorld, found_at, needs_opening}
-use Rattle.replay_node.specs.Settled.{is_kept}
+use Rattle.world_model.specs.Settled.{is_kept}
 use Rattle.replay_node.specs.Worlds.{World, fresh_world, node_world, crashed, ordered, opened}
 use Rattle.policy_model.specs.declared.settings.Settings.{Settings}
 use Rattle.policy_model.specs.declared.events.Event.{Event}

@@ -7,7 +7,6 @@ pub mod NodeWorld
 pub mod Opens
 pub mod Published
 pub mod Sent
-pub mod Settled
 pub mod Stands
 pub mod StateDoes
 pub mod Takes

@@ -6,7 +6,7 @@ use Rattle.world_model.specs.NodeState.{durable_of}
 use Rattle.trace_text.specs.Trace.{crashed_line, down_line, up_line}
 use Rattle.replay_node.specs.NodeDisk.{Done, opening}
 use Rattle.replay_node.specs.NodeWorld.{NodeWorld, after_crash, after_opening, found_at, needs_opening, opening_text}
-use Rattle.replay_node.specs.Settled.{settled, is_kept}
+use Rattle.world_model.specs.Settled.{settled, is_kept}
 use Rattle.replay_node.specs.Stands.{NodeStands}
 use Rattle.replay_node.specs.declared.node.ReplayNode.{ReplayNode}
 

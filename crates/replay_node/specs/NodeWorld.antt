@@ -24,7 +24,7 @@ use Rattle.world_model.specs.Replies.{reply_of}
 use Rattle.coord_state.specs.Writes.{change_of}
 use Rattle.trace_text.specs.Trace.{record_line, crashed_line, disk_line}
 use Rattle.replay_node.specs.NodeDisk.{NodeDisk, CallsEnd, Done, Failed, CrashedIn, Called, calls_made, opening, bytes_read, fresh_disk, with_order, crashed_by}
-use Rattle.replay_node.specs.Settled.{settled, is_kept}
+use Rattle.world_model.specs.Settled.{settled, is_kept}
 
 -- what it did, its disk, and whether it is down
 pub record NodeWorld : Type 0 where

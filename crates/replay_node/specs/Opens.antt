@@ -7,7 +7,7 @@ use Rattle.world_model.specs.NodeState.{durable_of}
 use Rattle.trace_text.specs.Trace.{crashed_line, disk_line}
 use Rattle.replay_node.specs.NodeDisk.{Done, opening, MemFuse, DiskStands, Restarted}
 use Rattle.replay_node.specs.NodeWorld.{NodeWorld, after_opening, found_at, opening_text}
-use Rattle.replay_node.specs.Settled.{settled, is_kept}
+use Rattle.world_model.specs.Settled.{settled, is_kept}
 use Rattle.replay_node.specs.Stands.{LeavesActs, SlotStands}
 use Rattle.replay_node.specs.declared.node.Slot.{Slot}
 

@@ -29,7 +29,7 @@ use Rattle.replay_node.specs.NodeDisk.{MemFuse, MayLeave, DiskStands}
 use Rattle.replay_node.specs.NodeWorld.{NodeWorld}
 use Rattle.trace_text.specs.Published.{last_published}
 use Rattle.replay_node.specs.Published.{state_published}
-use Rattle.replay_node.specs.Settled.{settled, shows_as, IsUnstruck}
+use Rattle.world_model.specs.Settled.{settled, shows_as, IsUnstruck}
 use Rattle.replay_node.specs.declared.did.Did.{Did}
 use Rattle.replay_node.specs.declared.node.ReplayNode.{ReplayNode}
 use Rattle.replay_node.specs.declared.node.Slot.{Slot}

@@ -11,7 +11,7 @@ use Rattle.world_model.specs.declared.acts.Outcome.TheVariants.{Answered}
 use Rattle.world_model.specs.Histories.{History, NoEntries, Next, node_history}
 use Rattle.replay_node.specs.NodeDisk.{NodeDisk, CallsEnd, Done, Failed, CrashedIn, fresh_disk, opening}
 use Rattle.replay_node.specs.NodeWorld.{NodeWorld, outcome_at, after_act, after_crash, after_order, after_opening, found_at, needs_opening}
-use Rattle.replay_node.specs.Settled.{is_kept, settled_for}
+use Rattle.world_model.specs.Settled.{is_kept, settled_for}
 
 -- what all nodes did, each node's disk, and which nodes are down
 pub record World : Type 0 where

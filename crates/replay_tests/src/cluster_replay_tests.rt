@@ -8,4 +8,5 @@ fn the_laws_can_be_called() {
     law_cluster_replay_is_legal();
     law_cluster_replies_are_true();
     law_system_replies_are_true();
+    law_killed_replies_are_true();
 }

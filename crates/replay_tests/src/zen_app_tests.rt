@@ -1,11 +1,15 @@
 //! Whole runs of the program in memory: schedules with their traces, and each way in which a run ends.
+mod audits;
 mod inspections;
 mod nodes;
 mod passages;
 mod random;
+mod rescues;
 mod rows;
 mod runs;
+mod tools;
 
+use rescues::{RESCUES, drawn_lines_are_refused, drawn_lines_go_on, two_of_three_go_on};
 use rows::{
     RULES, SAFE_COMMITS, SAFE_JOINS, SAFE_PUBLICATIONS, SAFE_VALUES, STOPS, Traced, WHOLE_NODES,
 };
@@ -449,7 +453,28 @@ fn a_schedule_is_drawn_and_a_trial_asks_for_its_nodes(rt: HostRuntime) -> Result
     all_end(&rt, rt.alloc(), &DRAWN_OR_TRIED)
 }
 
-const CODES: [(Status, u8); 12] = [
+#[test]
+fn a_schedule_is_gone_on_with_or_it_is_said_why_not(rt: HostRuntime) -> Result<(), Fail> {
+    all_end(&rt, rt.alloc(), &RESCUES)
+}
+
+#[test]
+fn a_schedule_and_its_plan_elect_a_node_and_commit_a_state(rt: HostRuntime) -> Result<(), Fail> {
+    let goes_on = two_of_three_go_on(rt.alloc())?;
+    assert!(rt; goes_on);
+    Ok(())
+}
+
+#[test]
+fn a_drawn_schedule_is_gone_on_with_where_a_quorum_is_up(rt: HostRuntime) -> Result<(), Fail> {
+    let goes_on = drawn_lines_go_on(rt.alloc())?;
+    assert!(rt; goes_on);
+    let are_refused = drawn_lines_are_refused(rt.alloc())?;
+    assert!(rt; are_refused);
+    Ok(())
+}
+
+const CODES: [(Status, u8); 16] = [
     (Status::Ok, 0),
     (Status::Usage, 2),
     (Status::BadSchedule, 3),
@@ -462,6 +487,10 @@ const CODES: [(Status, u8); 12] = [
     (Status::NotAJournal, 10),
     (Status::Turns, 11),
     (Status::TrialFailed, 12),
+    (Status::RescueRefused, 13),
+    (Status::NotLegal, 14),
+    (Status::BadTrace, 15),
+    (Status::ToolRefused, 16),
 ];
 
 #[test]

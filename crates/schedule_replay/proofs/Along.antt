@@ -8,8 +8,8 @@ use Rattle.world_model.specs.declared.acts.Outcome.{Outcome}
 use Rattle.world_model.specs.declared.acts.Outcome.TheVariants.{Answered, Disk, Crashed}
 use Rattle.world_model.specs.Histories.{History, node_history, sent, sent_by, is_opening, IsLegal}
 use Rattle.trace_text.specs.Published.{last_published}
-use Rattle.replay_node.specs.Settled.{is_kept, settled_for}
-use Rattle.replay_node.proofs.AllSettled.{settled_sent}
+use Rattle.world_model.specs.Settled.{is_kept, settled_for}
+use Rattle.world_model.proofs.AllSettled.{settled_sent}
 use Rattle.schedule_replay.specs.Steps.{ActShown, Step, Echo, Did, Opened, WasDown, WasUp, WentDown, DiskFailed, Unsent}
 use Rattle.schedule_replay.specs.Told.{outcome_shown, told_by, told_from, some_numbered, numbered_in, messages_of, numbered}
 use Rattle.schedule_replay.specs.ActShown.{message_sent, act_shown}

@@ -12,7 +12,7 @@ use Rattle.coord_state.specs.declared.ending.NotTaken.TheVariants as untaken
 use Rattle.replay_node.specs.declared.did.Did.{Did}
 use Rattle.replay_node.specs.declared.did.Did.TheVariants as did
 use Rattle.replay_node.proofs.StateSteps.{Step}
-use Rattle.replay_node.proofs.Struck.{closed_of_writes}
+use Rattle.world_model.proofs.Struck.{closed_of_writes}
 use Rattle.policy_model.specs.declared.settings.Settings.{Settings}
 use Rattle.policy_model.specs.declared.events.Step.{Step as Shown}
 use Rattle.policy_model.specs.Views.{View}

@@ -21,7 +21,7 @@ use Rattle.policy_model.specs.Struck.{settled_item}
 use Rattle.replay_node.specs.Course.{settled_life}
 use Rattle.replay_node.specs.NodeDisk.{CallsEnd, Done, Failed, CrashedIn, opening}
 use Rattle.replay_node.specs.NodeWorld.{found_at, needs_opening}
-use Rattle.replay_node.specs.Settled.{is_kept}
+use Rattle.world_model.specs.Settled.{is_kept}
 use Rattle.replay_node.specs.Clusters.{Cluster, after, after_event, after_event_if_up, after_frame, after_restart, event_course, fresh_cluster, frame_at, life_opened, opened_by, own_world, replayed_from, settings_of, with_life, with_opened}
 use Rattle.schedule_replay.specs.Steps.{WasDown, WentDown, Unsent}
 use Rattle.schedule_replay.specs.TraceSteps.{restart_step}

@@ -25,14 +25,14 @@ use Rattle.world_model.proofs.Commits.{commit_is_value}
 use Rattle.world_model.proofs.Rounds.{ok, other_request}
 use Rattle.world_model.proofs.Legal.{system_of_legal, own_deeds, moment, is_listed, one_of, none_of}
 use Rattle.trace_text.specs.Published.{last_published}
-use Rattle.replay_node.specs.Settled.{settled_for}
-use Rattle.replay_node.proofs.AllSettled.{settled_sent}
+use Rattle.world_model.specs.Settled.{settled_for}
+use Rattle.world_model.proofs.AllSettled.{settled_sent}
 use Rattle.schedule_replay.specs.Steps.{NumberedMessage, ActShown, Step, Echo, Did, Opened, WasDown, WasUp, WentDown, DiskFailed, Unsent}
 use Rattle.schedule_replay.specs.Told.{message_in, outcome_shown, told_by, told_from, state_in, states_of, some_state, commit_of, if_commit, ShowsCommit}
 use Rattle.schedule_replay.specs.ActShown.{state_committed, message_sent, act_shown}
 use Rattle.schedule_replay.specs.Showing.{HasCommitted}
 use Rattle.schedule_replay.proofs.Along.{Along, IsSound}
-use Rattle.schedule_replay.proofs.Settled.{settled_publications}
+use Rattle.world_model.proofs.SettledLists.{settled_publications}
 use Rattle.schedule_replay.proofs.LastPublished.{HasPublished, last_state}
 
 -- ---- an act that sends a commit

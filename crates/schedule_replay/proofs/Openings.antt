@@ -22,13 +22,13 @@ use Rattle.replay_node.specs.NodeLines.{stop_text}
 use Rattle.replay_node.specs.NodeWorld.{NodeWorld, after_crash, after_opening, found_at, fresh_node, needs_opening, opened_by, opening_text}
 use Rattle.replay_node.specs.Opens.{Opens}
 use Rattle.trace_text.specs.Published.{last_published}
-use Rattle.replay_node.specs.Settled.{is_kept, settled}
+use Rattle.world_model.specs.Settled.{is_kept, settled}
 use Rattle.replay_node.specs.Stands.{Journal, DownStands, OpenStands}
 use Rattle.replay_node.specs.declared.node.Slot.TheVariants.{Open as CoreOpen, Down as CoreDown}
 use Rattle.replay_node.proofs.AsSaid.{crashed_stands}
 use Rattle.replay_node.proofs.Nodes.{leaves_less, open_leaves, CrashedAs}
 use Rattle.replay_node.proofs.Opened.{JustOpened, JustOver, opens, new_stands, IsEmptyDisk, open_asks, empty_found}
-use Rattle.replay_node.proofs.Settling.{settled_published}
+use Rattle.replay_node.proofs.SettledTakes.{settled_published}
 use Rattle.policy_model.specs.declared.settings.Settings.{Settings}
 use Rattle.policy_model.specs.declared.events.Event.TheVariants.{Start}
 use Rattle.policy_model.specs.Entries.{NotBegun, Opened, log_of, frames_of}

@@ -15,14 +15,14 @@ use Rattle.schedule_generator.proofs.Spelling.{all_spelled}
 use Rattle.schedule_generator.specs.Generated.{generated_from}
 use Rattle.replay_node.specs.NodeDisk.{CallsEnd, Done, Failed, CrashedIn, opening}
 use Rattle.replay_node.specs.NodeWorld.{found_at, needs_opening, outcome_at}
-use Rattle.replay_node.specs.Settled.{is_kept, settled_for}
+use Rattle.world_model.specs.Settled.{is_kept, settled_for}
 use Rattle.replay_node.specs.Sent.{taking}
 use Rattle.replay_node.specs.Worlds.{World, did, did_unless_down, fresh_world, history_opened, node_world, opened}
-use Rattle.replay_node.proofs.AllSettled.{settled_sent}
+use Rattle.world_model.proofs.AllSettled.{settled_sent}
 use Rattle.schedule_replay.specs.Generated.{LawGenerated, count_sent}
 use Rattle.schedule_replay.specs.Replayed.{after, message_at, replayed_from, took_some, value_with}
 
-abbrev count_in : World → ℕ
+abbrev pub count_in : World → ℕ
 count_in w = length (sent w.history)
 
 one_sent : (o : Outcome) → length (sent_by o) ≤ 1
@@ -67,7 +67,7 @@ line_sends initial w (line.Fail n count) = omega arith
 line_sends initial w (line.Tick n now word) = omega arith
 line_sends initial w (line.Client n bytes) = omega arith
 
-lines_send : (initial : List Id) (w : World) (ls : List Line) → count_in (replayed_from initial w ls) ≤ count_in w + length ls
+pub lines_send : (initial : List Id) (w : World) (ls : List Line) → count_in (replayed_from initial w ls) ≤ count_in w + length ls
 lines_send initial w [] = omega arith
 lines_send initial w (l ∷ ls) = omega (arith, line_sends initial w l, lines_send initial (after initial w l) ls)
 

@@ -3,8 +3,8 @@
 use Rattle.std.proofs.Common.{List, [], ◌∷◌}
 use Rattle.voting_config.specs.Ids.{Id}
 use Rattle.world_model.specs.Histories.{History, node_history, IsLegal}
-use Rattle.replay_node.specs.Settled.{is_kept}
-use Rattle.replay_node.proofs.AllSettled.{unsettled_legal}
+use Rattle.world_model.specs.Settled.{is_kept}
+use Rattle.world_model.proofs.AllSettled.{unsettled_legal}
 use Rattle.schedule_replay.specs.Steps.{Step, Echo, Did, Opened, WasDown, WasUp, WentDown, DiskFailed, Unsent}
 use Rattle.schedule_replay.specs.Told.{told_by, told_from}
 use Rattle.schedule_replay.proofs.Along.{Along, IsRight, IsSound}

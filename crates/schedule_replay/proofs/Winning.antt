@@ -14,12 +14,12 @@ use Rattle.world_model.specs.Histories.{History, Next, node_history, is_opening}
 use Rattle.world_model.specs.Safety.{winners}
 use Rattle.world_model.proofs.Guards.{join_guard}
 use Rattle.replay_node.specs.Did.{is_won}
-use Rattle.replay_node.specs.Settled.{is_kept}
+use Rattle.world_model.specs.Settled.{is_kept}
 use Rattle.schedule_replay.specs.Steps.{ActShown, Step, Echo, Did, Opened, WasDown, WasUp, WentDown, DiskFailed, Unsent}
 use Rattle.schedule_replay.specs.Told.{told_by, told_from, some_win, win_in, wins_of}
 use Rattle.schedule_replay.specs.ActShown.{won_term}
 use Rattle.schedule_replay.proofs.Along.{Along, grows, IsSound}
-use Rattle.schedule_replay.proofs.Settled.{win_added, winners_more, settled_winners}
+use Rattle.world_model.proofs.SettledLists.{win_added, winners_more, settled_winners}
 use Rattle.schedule_replay.proofs.ActShown.{no_win}
 
 -- an act other than a join wins nothing

@@ -1,5 +1,5 @@
 -- The history of each schedule is legal.
-use Rattle.std.proofs.Common.{◌≡◌, ◌≢◌, ℕ, ◌-◌, Option, None, Some, List, [], ◌∷◌, refl, slice_get}
+use Rattle.std.proofs.Common.{◌≡◌, ◌≢◌, ℕ, ◌-◌, ◌<◌, Option, None, Some, List, [], ◌∷◌, length, refl, ap, arith, slice_get}
 use Rattle.std.specs.List.{AllByRecursion, Contains}
 use Rattle.std.proofs.lemmas.Option.{slice_get_within, get_or_from_slice_get}
 use Rattle.voting_config.specs.Ids.{Id, most_ids}
@@ -12,12 +12,16 @@ use Rattle.schedule_text.specs.declared.schedule.Line.{Line}
 use Rattle.schedule_text.specs.declared.schedule.Line.TheVariants as line
 use Rattle.schedule_text.specs.declared.level.Level.TheVariants.{Core}
 use Rattle.schedule_text.specs.Lines.{FitsLine}
+use Rattle.schedule_text.specs.Spelled.{IsSchedule}
+use Rattle.schedule_text.specs.declared.schedule.Schedule.{Schedule}
+use Rattle.trace_text.proofs.IdLists.{ids_set}
 use Rattle.replay_node.specs.Sent.{taking}
 use Rattle.replay_node.specs.Worlds.{World, fresh_world}
 use Rattle.replay_node.proofs.MayAct.{sourced_taking, taking_shut}
 use Rattle.replay_node.proofs.WorldSound.{SoundWorld, acted, armed, fresh, message_fits, reopened, stopped, taking_fits}
 use Rattle.schedule_replay.specs.Legal.{LawReplayIsLegal}
 use Rattle.schedule_replay.specs.Replayed.{after, message_at, replayed_from, took_some}
+use Rattle.schedule_replay.specs.Survey.{world_after}
 use Rattle.schedule_replay.proofs.FitLines.{set_fits, config_fits, text_fits}
 
 taken : (initial : List Id) (w : World) (n : Id) (k : ℕ) (m : Option Message) → SoundWorld initial w → slice_get (sent w.history) k ≡ m → SoundWorld initial (took_some w n m)
@@ -41,6 +45,13 @@ line_sound nodes initial w (line.Client n bytes) named fits f s = s
 lines_sound : (nodes initial : List Id) (w : World) (ls : List Line) → initial ≢ [] → (ids most_ids).Fits initial → AllByRecursion (FitsLine Core nodes) ls → SoundWorld initial w → SoundWorld initial (replayed_from initial w ls)
 lines_sound nodes initial w [] named fits f s = s
 lines_sound nodes initial w (l ∷ ls) named fits f s = lines_sound nodes initial (after initial w l) ls named fits f.1 (line_sound nodes initial w l named fits f.0 s)
+
+none_named : (xs : List Id) → 0 < length xs → xs ≡ [] → ⊥
+none_named xs some e = let zero_long : length xs ≡ 0 = ap (λ (l : List Id). length l) e in omega (arith, some, zero_long)
+
+-- so of all nodes after the lines of a schedule
+pub world_sound : (s : Schedule) → IsSchedule Core s → SoundWorld s.initial (world_after s)
+world_sound s is = lines_sound s.nodes s.initial fresh_world s.lines (none_named s.initial is.some_initial) (set_fits s.initial (ids_set s.initial is.initial)) is.lines (fresh s.initial)
 
 pub replay_is_legal : LawReplayIsLegal
 replay_is_legal s well = from s.lines well.fit well.named

@@ -16,15 +16,15 @@ use Rattle.replay_node.specs.Did.{outcome_of}
 use Rattle.replay_node.specs.NodeDisk.{CallsEnd, Done, Failed, CrashedIn, opening}
 use Rattle.replay_node.specs.NodeWorld.{found_at, needs_opening, outcome_at}
 use Rattle.replay_node.specs.Sent.{message_of, are_from, sent_some}
-use Rattle.replay_node.specs.Settled.{is_kept, settled, settled_for}
+use Rattle.world_model.specs.Settled.{is_kept, settled, settled_for}
 use Rattle.replay_node.specs.Takes.{TakesFrom}
 use Rattle.replay_node.specs.declared.did.Did.{Did}
 use Rattle.replay_node.specs.declared.message.SentMessage.{SentMessage}
 use Rattle.replay_node.specs.declared.node.ReplayNode.{ReplayNode}
 use Rattle.replay_node.specs.Worlds.{World, crashed, did, did_unless_down, history_opened, node_world, opened, ordered, restarted}
 use Rattle.schedule_replay.specs.WorldStands.{ActDone, AllStand, Stands}
-use Rattle.replay_node.proofs.AllSettled.{settled_own, settled_other, settled_sent}
-use Rattle.replay_node.proofs.Settling.{settled_takes}
+use Rattle.world_model.proofs.AllSettled.{settled_own, settled_other, settled_sent}
+use Rattle.replay_node.proofs.SettledTakes.{settled_takes}
 use Rattle.replay_node.proofs.Moves.{history_if}
 use Rattle.schedule_replay.proofs.Sources.{more_from, takes_next}
 use Rattle.voting_config.proofs.Sets.{same_is}

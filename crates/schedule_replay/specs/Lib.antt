@@ -26,3 +26,5 @@ pub mod ClusterStands
 pub mod Generated
 pub mod Tallied
 pub mod Written
+pub mod GoesOn
+pub mod Survey

@@ -8,7 +8,7 @@ use Rattle.trace_text.specs.Trace.{down_line}
 use Rattle.replay_node.specs.NodeDisk.{CallsEnd, Done, Failed, CrashedIn, opening}
 use Rattle.replay_node.specs.NodeLines.{after_stop, restart_text}
 use Rattle.replay_node.specs.NodeWorld.{NodeWorld, after_opening, after_order, found_at, needs_opening}
-use Rattle.replay_node.specs.Settled.{is_kept}
+use Rattle.world_model.specs.Settled.{is_kept}
 use Rattle.policy_model.specs.declared.settings.Settings.{Settings}
 use Rattle.policy_model.specs.declared.events.Event.{Event}
 use Rattle.policy_model.specs.declared.events.Event.TheVariants.{Start}

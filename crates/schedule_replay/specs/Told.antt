@@ -16,7 +16,7 @@ use Rattle.schedule_text.specs.declared.schedule.Line.{Line}
 use Rattle.trace_text.specs.declared.ending.Ending.{Ending}
 use Rattle.trace_text.specs.declared.ending.Ending.TheVariants as ending
 use Rattle.replay_node.specs.Did.{is_won}
-use Rattle.replay_node.specs.Settled.{is_kept, settled_for}
+use Rattle.world_model.specs.Settled.{is_kept, settled_for}
 use Rattle.schedule_replay.specs.Steps.{NumberedMessage, Step, Echo, Did, Opened}
 
 -- ---- the history

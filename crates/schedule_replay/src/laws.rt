@@ -1,6 +1,7 @@
 //! What holds of the history and the trace of every schedule. The calls do nothing: what they promise is proved.
 ghost use Rattle.schedule_replay.specs.ClusterLaws.{LawClusterStepsGoOn, LawClusterTraceAgrees, LawClusterTraceShows, LawClusterTraceTells};
 ghost use Rattle.schedule_replay.specs.Generated.{LawGenerated};
+ghost use Rattle.schedule_replay.specs.GoesOn.{LawGoesOn};
 ghost use Rattle.schedule_replay.specs.Legal.{LawReplayIsLegal};
 ghost use Rattle.schedule_replay.specs.TraceLaws.{LawStepsGoOn, LawTraceAgrees, LawTraceFollows, LawTraceShows, LawTraceTells};
 
@@ -62,4 +63,10 @@ pub fn law_cluster_trace_agrees()
 /// The text of each generated schedule spells that schedule at level core, so it is read back from its text.
 pub fn law_generated()
     ensures { LawGenerated }
+{}
+
+/// After every schedule the lines of a plan, for nodes that are up, run and have no order left, do the acts of the plan and commit a
+/// new state.
+pub fn law_plan_goes_on()
+    ensures { LawGoesOn }
 {}

@@ -37,7 +37,8 @@ pub fn one_word(rest: Option<&[u8]>) -> Result<&[u8], WhyBad>
     }
 }
 
-fn two_words(rest: Option<&[u8]>) -> Result<(&[u8], &[u8]), WhyBad>
+/// The two words after a verb, and `Arity` where there is another number of words.
+pub fn two_words(rest: Option<&[u8]>) -> Result<(&[u8], &[u8]), WhyBad>
     ensures { Gives (λ w. (w.0.now, w.1.now)) result (two_words_of (parts_in space rest.entry)) }
 {
     let Some(rest) = rest else {
@@ -48,7 +49,8 @@ fn two_words(rest: Option<&[u8]>) -> Result<(&[u8], &[u8]), WhyBad>
     Ok((first, last))
 }
 
-fn three_words(rest: Option<&[u8]>) -> Result<(&[u8], &[u8], &[u8]), WhyBad>
+/// The three words after a verb, and `Arity` where there is another number of words.
+pub fn three_words(rest: Option<&[u8]>) -> Result<(&[u8], &[u8], &[u8]), WhyBad>
     ensures { Gives (λ w. (w.0.now, w.1.now, w.2.now)) result (three_words_of (parts_in space rest.entry)) }
 {
     let Some(rest) = rest else {
@@ -89,7 +91,8 @@ fn deliver(ids: &NodeSet, rest: Option<&[u8]>) -> Result<Line, ReadError<WhyBad>
     Ok(Line::Deliver(node, message))
 }
 
-fn four_words(rest: Option<&[u8]>) -> Result<(&[u8], &[u8], &[u8], &[u8]), WhyBad>
+/// The four words after a verb, and `Arity` where there is another number of words.
+pub fn four_words(rest: Option<&[u8]>) -> Result<(&[u8], &[u8], &[u8], &[u8]), WhyBad>
     ensures { Gives (λ w. (w.0.now, w.1.now, w.2.now, w.3.now)) result (four_words_of (parts_in space rest.entry)) }
 {
     let Some(rest) = rest else {

@@ -3,6 +3,8 @@ use voting_config::{IdError, MAX_IDS, NodeId, NodeSet, VotingConfig};
 
 const FULL: &str = "0,1,2,3,4,5,a,b,c,d,e,f,g,h,i,j,k,l,m,n,o,p,q,r,s,t,u,v,w,x,y,z";
 
+const ALL_BUT_Z: &str = "0,1,2,3,4,5,a,b,c,d,e,f,g,h,i,j,k,l,m,n,o,p,q,r,s,t,u,v,w,x,y";
+
 fn id(text: &str) -> NodeId {
     NodeId::parse(text).unwrap_or(NodeId::default())
 }
@@ -102,6 +104,7 @@ fn a_33rd_id_is_refused(rt: HostRuntime) {
         ("a,c", Act::Insert("b"), Some(true), "a,b,c"),
         ("a,b,c", Act::Remove("b"), Some(true), "a,c"),
         ("a,c", Act::Remove("b"), Some(false), "a,c"),
+        (ALL_BUT_Z, Act::Insert("z"), Some(true), FULL),
         (FULL, Act::Insert("6"), None, FULL),
         (FULL, Act::Insert("5"), Some(false), FULL),
     ]);

@@ -27,6 +27,16 @@ const EMPTY_LINES: &str = "term=0\naccepted=0/0\nconfig=_\ncommitted=_\nrecords=
     state={\"committed\":[],\"config\":[],\"parent\":null,\"term\":0,\
     \"value\":{\"exclusions\":[],\"master\":null,\"members\":[],\"settings\":{}},\"version\":0}\n";
 
+// A journal of version 1 that has set term 1 and accepted a state of voters a, b and c, in which that of a is the committed configuration.
+const ACCEPTED: &[u8] =
+    b"ZENJRNL1\x01\0\0\0\x09\x01\0\0\0\0\0\0\0\x01\x01\0\0\0\x20\x02\0\0\0\0\0\0\0\x01\0\0\0\0\0\0\0\x01\
+    \x03\x01a\x01b\x01c\x01\x01a\0\0\0\0\0\0";
+
+const ACCEPTED_LINES: &str = "term=1\naccepted=1/1\nconfig=a,b,c\ncommitted=a\nrecords=2\n\
+    sha256=6e1b9fad16b42bd2b81d3cfa3999181e58456e86beedf8edaea03edd37906aaf\n\
+    state={\"committed\":[\"a\"],\"config\":[\"a\",\"b\",\"c\"],\"parent\":null,\"term\":1,\
+    \"value\":{\"exclusions\":[],\"master\":null,\"members\":[],\"settings\":{}},\"version\":1}\n";
+
 // The numbers of the calls that fail, of the host, of its disk and of the sink.
 #[derive(Clone, Copy)]
 struct Failing<'a> {
@@ -72,8 +82,12 @@ fn is_done(alloc: Global, zero: &[u8], one: &[u8], text: &str) -> Result<bool, A
 
 #[test]
 fn a_journal_is_shown_in_seven_lines(rt: HostRuntime) -> Result<(), Fail> {
-    for file in [TERM_ONE, OLD_TERM_ONE] {
-        assert!(&rt; is_done(rt.alloc(), file, b"", TERM_ONE_LINES)?);
+    for (file, lines) in [
+        (TERM_ONE, TERM_ONE_LINES),
+        (OLD_TERM_ONE, TERM_ONE_LINES),
+        (ACCEPTED, ACCEPTED_LINES),
+    ] {
+        assert!(&rt; is_done(rt.alloc(), file, b"", lines)?);
     }
     Ok(())
 }

@@ -1,4 +1,4 @@
-//! The tests of zen_disk, gate_log, state_journal, journal_inspection. They stand apart, so that a check of one of these, or of
+//! The tests of zen_disk, gate_log, state_journal, journal_inspection, node_tool. They stand apart, so that a check of one of these, or of
 //! what stands on it, does not prove them again.
 #![tactic(auto)]
 
@@ -10,6 +10,8 @@ mod gate_log_tests;
 mod journal_inspection_tests;
 #[cfg(test)]
 mod journals;
+#[cfg(test)]
+mod node_tool_tests;
 #[cfg(test)]
 mod state_journal_tests;
 #[cfg(test)]

@@ -19,12 +19,12 @@ use Rattle.world_model.specs.Steps.{is_opening}
 use Rattle.policy_model.specs.declared.settings.Settings.{Settings}
 use Rattle.policy_model.specs.declared.events.Event.{Event}
 use Rattle.policy_model.specs.Events.{Item, Opens, Begins, Acts, Turns, Drops, Sends, Replies, Notes, Log, And, added, acts_of}
-use Rattle.policy_model.specs.Entries.{Did, Life, Lived, log_of, frames_in, by_receiver}
+use Rattle.policy_model.specs.Entries.{Did, Life, Lived, log_of, frames_in, by_receiver, replies_of}
 use Rattle.policy_model.specs.Views.{View, view_of}
 use Rattle.policy_model.specs.Moves.{moved}
 use Rattle.policy_model.specs.Follows.{Follows, IsNext, IsStruck, Here, Later, is_struck, starts_next, is_start, has_fault, items_of}
 use Rattle.policy_model.specs.Struck.{settled_item, settled_items, settled_acts}
-use Rattle.policy_model.proofs.Faults.{next-fault, struck-frames}
+use Rattle.policy_model.proofs.Faults.{next-fault, struck-frames, struck-replies}
 use Rattle.system_laws.specs.Messages.{comes_with}
 use Rattle.system_laws.specs.Systems.{System, Runs, run_of, history_of, IsDoneOf, Killed, InAct, Also, Unsent, Unanswered, IsSystem}
 use Rattle.system_laws.specs.Restarts.{IsSettled, IsLeftAmong, IsKilled}
@@ -97,11 +97,14 @@ fault_is_settled s life e items follows f kept = from follows.1.does
   where
     from : (items ≡ items_of s (log_of life) e) ⊎ IsStruck (items_of s (log_of life) e) items → IsSettled s life e items kept
     from (inl whole) = absurd (both_ways _ (ap has_fault whole ∙ next-fault s (view_of s (And (log_of life) (Begins e))) e) f)
-    from (inr struck) = record {
-      follows = (follows.0, settled-next kept s life e items f follows.1);
-      acts = settled-acts kept s (comes_with e) [] _ (And (log_of life) (Begins e)) (items_of s (log_of life) e) items (event-meant s life e) struck;
-      silent = ap by_receiver (struck-frames (items_of s (log_of life) e) (settled_items kept items) (settled-struck kept s (comes_with e) [] _ (items_of s (log_of life) e) items (event-meant s life e) struck));
-    }
+    from (inr struck) =
+        let left : IsStruck (items_of s (log_of life) e) (settled_items kept items) = settled-struck kept s (comes_with e) [] _ (items_of s (log_of life) e) items (event-meant s life e) struck in
+        record {
+          follows = (follows.0, settled-next kept s life e items f follows.1);
+          acts = settled-acts kept s (comes_with e) [] _ (And (log_of life) (Begins e)) (items_of s (log_of life) e) items (event-meant s life e) struck;
+          silent = ap by_receiver (struck-frames (items_of s (log_of life) e) (settled_items kept items) left);
+          unanswered = struck-replies (items_of s (log_of life) e) (settled_items kept items) left;
+        }
 
 -- within an event
 
@@ -109,13 +112,14 @@ pub record CutTo (l : Log) (is : List Item) (found : Kept) : Type 0 where
   pub done : List Item
   pub did : IsDoneOf is done
   pub silent : flat_map frames_in done ≡ []
+  pub unanswered : replies_of done ≡ []
   pub is_left : found ≡ durable_of (acts_of (added l done))
 
 at-once : (l : Log) (is : List Item) (found : Kept) → found ≡ durable_of (acts_of l) → CutTo l is found
-at-once l is found e = record { done = []; did = Killed is; silent = refl; is_left = e }
+at-once l is found e = record { done = []; did = Killed is; silent = refl; unanswered = refl; is_left = e }
 
 in-act : (l : Log) (act : Act) (o : Outcome) (is : List Item) (found : Kept) → writes act ≡ true → is_ok o ≡ true → found ≡ durable_of (Then (acts_of l) act (Crashed true)) → CutTo l (Acts act o ∷ is) found
-in-act l act (Answered (Taken sends wins)) is found w ok e = record { done = Acts act (Crashed true) ∷ []; did = InAct act sends wins is (Crashed true) w refl; silent = refl; is_left = e }
+in-act l act (Answered (Taken sends wins)) is found w ok e = record { done = Acts act (Crashed true) ∷ []; did = InAct act sends wins is (Crashed true) w refl; silent = refl; unanswered = refl; is_left = e }
 in-act l act (Answered (Refused cause)) is found w ok e = absurd (cc)
 in-act l act (Answered Stopped) is found w ok e = absurd (cc)
 in-act l act (Disk kept) is found w ok e = absurd (cc)
@@ -147,22 +151,22 @@ cut-to s came ms v l (Acts act o ∷ is) found a (inl (inl e)) = at-once l (Acts
 cut-to s came ms v l (Acts act o ∷ is) found a (inl (inr e)) = with-act l act o is found a.0.closed e.0 e.1
 cut-to s came ms v l (Acts act o ∷ is) found a (inr k) =
     let r = cut-to s came (ms ++ sent_by o) (moved s v (Acts act o)) (And l (Acts act o)) is found a.1 k in
-    record { done = Acts act o ∷ r.done; did = Also (Acts act o) is r.done r.did; silent = r.silent; is_left = r.is_left }
+    record { done = Acts act o ∷ r.done; did = Also (Acts act o) is r.done r.did; silent = r.silent; unanswered = r.unanswered; is_left = r.is_left }
 cut-to s came ms v l (Turns mode term ∷ is) found a k =
     let r = cut-to s came ms (moved s v (Turns mode term)) (And l (Turns mode term)) is found a k in
-    record { done = Turns mode term ∷ r.done; did = Also (Turns mode term) is r.done r.did; silent = r.silent; is_left = r.is_left }
+    record { done = Turns mode term ∷ r.done; did = Also (Turns mode term) is r.done r.did; silent = r.silent; unanswered = r.unanswered; is_left = r.is_left }
 cut-to s came ms v l (Drops member cause ∷ is) found a k =
     let r = cut-to s came ms (moved s v (Drops member cause)) (And l (Drops member cause)) is found a k in
-    record { done = Drops member cause ∷ r.done; did = Also (Drops member cause) is r.done r.did; silent = r.silent; is_left = r.is_left }
+    record { done = Drops member cause ∷ r.done; did = Also (Drops member cause) is r.done r.did; silent = r.silent; unanswered = r.unanswered; is_left = r.is_left }
 cut-to s came ms v l (Sends frame ∷ is) found a k =
     let r = cut-to s came ms v l is found a.1 k in
-    record { done = r.done; did = Unsent frame is r.done r.did; silent = r.silent; is_left = r.is_left }
+    record { done = r.done; did = Unsent frame is r.done r.did; silent = r.silent; unanswered = r.unanswered; is_left = r.is_left }
 cut-to s came ms v l (Replies answer ∷ is) found a k =
     let r = cut-to s came ms v l is found a k in
-    record { done = r.done; did = Unanswered answer is r.done r.did; silent = r.silent; is_left = r.is_left }
+    record { done = r.done; did = Unanswered answer is r.done r.did; silent = r.silent; unanswered = r.unanswered; is_left = r.is_left }
 cut-to s came ms v l (Notes note ∷ is) found a k =
     let r = cut-to s came ms (moved s v (Notes note)) (And l (Notes note)) is found a k in
-    record { done = Notes note ∷ r.done; did = Also (Notes note) is r.done r.did; silent = r.silent; is_left = r.is_left }
+    record { done = Notes note ∷ r.done; did = Also (Notes note) is r.done r.did; silent = r.silent; unanswered = r.unanswered; is_left = r.is_left }
 
 pub kill_leaves : (initial : List Id) (h : System) → IsSystem initial h → (n : Id) (s : Settings) (life : Life) → run_of h n ≡ Runs s life → is_struck life ≡ false
     → (e : Event) → is_start e ≡ starts_next life → (found : Kept) → IsLeftAmong (acts_of (log_of life)) (items_of s (log_of life) e) found → IsKilled h n e found
@@ -172,5 +176,6 @@ kill_leaves initial h l n s life runs up e first found left =
       items = c.done;
       may = record { settings = s; life = life; runs = runs; up = up; start = first; did = c.did };
       silent = ap by_receiver c.silent;
+      unanswered = c.unanswered;
       kept = c.is_left ∙ ap kept_of (node-after initial h (sound initial h l) n s life runs e c.done c.did);
     }

@@ -23,7 +23,7 @@ use Rattle.policy_model.specs.Moves.{are_own}
 use Rattle.policy_model.specs.Follows.{Follows, is_struck, is_start, starts_next, items_of}
 use Rattle.system_laws.specs.Messages.{comes_with}
 use Rattle.system_laws.specs.Systems.{System, Nothing, Starts, Lives, Dies, Run, Down, Runs, lives_on, run_of, history_of, then_acts, IsDoneOf, MayLive, MayDie, AreRuns}
-use Rattle.system_laws.specs.Moments.{IsKilledAfterActs, HadLived}
+use Rattle.system_laws.specs.Moments.{IsKilledAfterActs, HadLived, IsKilledIn, WasKilled}
 use Rattle.system_laws.proofs.Done.{event-meant, event-done, done-own}
 use Rattle.system_laws.proofs.Stepping.{others-stay}
 
@@ -221,3 +221,58 @@ module _ (initial : List Id) where
   had-lived (Lives h m (Unread conn)) l n s life (inr w) = had-lived h l.0 n s life w
   had-lived (Dies h m e items) l n s life (inl k) = killed-lived h m e items l.0 l.1 n s life k
   had-lived (Dies h m e items) l n s life (inr w) = of-later (history_of h) (then_acts (history_of h) m items) n s life (then-acts_prefix (history_of h) m items) (had-lived h l.0 n s life w)
+
+-- ---- a run that was killed
+
+pub record IsKilledOf (g : NodeHistory) (n : Id) (s : Settings) (life : Life) (e : Event) (done : List Item) : Type 0 where
+  pub me : s.me ≡ n
+  pub follows : Follows s (Lived life (Did e (items_of s (log_of life) e)))
+  pub did : IsDoneOf (items_of s (log_of life) e) done
+  pub before : NodeHistory
+  pub begins : IsBeginning (then_run before (acts_of (added (And (log_of life) (Begins e)) done))) g
+  pub opens : OpensWith (durable_of before) (acts_of (added (And (log_of life) (Begins e)) done))
+
+killed-of-later : (h k : History) (n : Id) (s : Settings) (life : Life) (e : Event) (done : List Item) → IsPrefix h k → IsKilledOf (node_history h n) n s life e done → IsKilledOf (node_history k n) n s life e done
+killed-of-later h k n s life e done i r = record {
+  me = r.me;
+  follows = r.follows;
+  did = r.did;
+  before = r.before;
+  begins = begins_trans (then_run r.before (acts_of (added (And (log_of life) (Begins e)) done))) (node_history h n) (node_history k n) r.begins (deeds_begin h k n i);
+  opens = r.opens;
+}
+
+module _ (initial : List Id) where
+  killed-now : (h : System) (m : Id) (e : Event) (done : List Item) → AreRuns initial h → MayDie h m e done → (s : Settings) (life : Life) → run_of h m ≡ Runs s life
+      → IsKilledOf (node_history (then_acts (history_of h) m done) m) m s life e done
+  killed-now h m e done l may s life runs =
+      let same_run : Runs may.settings may.life ≡ Runs s life = sym may.runs ∙ runs in
+      let up = subst (λ (x : Run). IsUpIn x e done) same_run (record { up = may.up; start = may.start; did = may.did }) in
+      let now : IsNow (node_history (history_of h) m) m s life = is-now (history_of h) m (run_of h m) s life runs (runs-now initial h l m) in
+      let acts = own-acts (history_of h) m now.before (And (log_of life) (Begins e)) done (done-own s (comes_with e) [] _ _ done (event-meant s life e) up.did) now.acts in
+      record {
+        me = now.me;
+        follows = (now.follows, record { up = up.up; start = up.start; does = inl refl });
+        did = up.did;
+        before = now.before;
+        begins = subst (IsBeginning (then_run now.before (acts_of (added (And (log_of life) (Begins e)) done)))) (sym acts) (begins_self (then_run now.before (acts_of (added (And (log_of life) (Begins e)) done))));
+        opens = opens-added (durable_of now.before) (And (log_of life) (Begins e)) done now.opens;
+      }
+
+  killed-in : (h : System) (m : Id) (came : Event) (items : List Item) → AreRuns initial h → MayDie h m came items → (n : Id) (s : Settings) (life : Life) (e : Event) (done : List Item) → IsKilledIn h m came items n s life e done
+      → IsKilledOf (node_history (then_acts (history_of h) m items) n) n s life e done
+  killed-in h m came items l may n s life e done k =
+      subst (λ (x : Id). IsKilledOf (node_history (then_acts (history_of h) m items) x) x s life e done) k.node
+      (subst (λ (x : List Item). IsKilledOf (node_history (then_acts (history_of h) m items) m) m s life e x) k.did
+      (subst (λ (x : Event). IsKilledOf (node_history (then_acts (history_of h) m items) m) m s life x items) k.within (killed-now h m came items l may s life k.runs)))
+
+  pub was-killed : (h : System) → AreRuns initial h → (n : Id) (s : Settings) (life : Life) (e : Event) (done : List Item) → WasKilled h n s life e done → IsKilledOf (node_history (history_of h) n) n s life e done
+  was-killed Nothing l n s life e done w = absurd w
+  was-killed (Starts h t found) l n s life e done w = killed-of-later (history_of h) (history_of (Starts h t found)) n s life e done (inr (prefix_self (history_of h))) (was-killed h l.0 n s life e done w)
+  was-killed (Lives h m (Did came items)) l n s life e done w = killed-of-later (history_of h) (then_acts (history_of h) m items) n s life e done (then-acts_prefix (history_of h) m items) (was-killed h l.0 n s life e done w)
+  was-killed (Lives h m (Gone conn)) l n s life e done w = was-killed h l.0 n s life e done w
+  was-killed (Lives h m (Bad conn fault)) l n s life e done w = was-killed h l.0 n s life e done w
+  was-killed (Lives h m NoMemory) l n s life e done w = was-killed h l.0 n s life e done w
+  was-killed (Lives h m (Unread conn)) l n s life e done w = was-killed h l.0 n s life e done w
+  was-killed (Dies h m came items) l n s life e done (inl k) = killed-in h m came items l.0 l.1 n s life e done k
+  was-killed (Dies h m came items) l n s life e done (inr w) = killed-of-later (history_of h) (then_acts (history_of h) m items) n s life e done (then-acts_prefix (history_of h) m items) (was-killed h l.0 n s life e done w)

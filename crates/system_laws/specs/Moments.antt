@@ -22,3 +22,17 @@ HadLived Nothing n s life = ⊥
 HadLived (Starts h settings found) n s life = (run_of (Starts h settings found) n ≡ Runs s life) ⊎ HadLived h n s life
 HadLived (Lives h node entry) n s life = (run_of (Lives h node entry) n ≡ Runs s life) ⊎ HadLived h n s life
 HadLived (Dies h node event items) n s life = IsKilledAfterActs h node event items n s life ⊎ HadLived h n s life
+
+-- the node had lived this and was then killed within this event, of which it had done this
+pub record IsKilledIn (h : System) (killed : Id) (came : Event) (items : List Item) (n : Id) (s : Settings) (life : Life) (event : Event) (done : List Item) : Type 0 where
+  pub node : killed ≡ n
+  pub runs : run_of h killed ≡ Runs s life
+  pub within : came ≡ event
+  pub did : items ≡ done
+
+-- at some moment a run of the node was killed so
+abbrev pub WasKilled : System → Id → Settings → Life → Event → List Item → Type 0
+WasKilled Nothing n s life event done = ⊥
+WasKilled (Starts h settings found) n s life event done = WasKilled h n s life event done
+WasKilled (Lives h node entry) n s life event done = WasKilled h n s life event done
+WasKilled (Dies h node came items) n s life event done = IsKilledIn h node came items n s life event done ⊎ WasKilled h n s life event done

@@ -11,7 +11,7 @@ use Rattle.world_model.specs.Histories.{node_history}
 use Rattle.policy_model.specs.declared.settings.Settings.{Settings}
 use Rattle.policy_model.specs.declared.events.Event.{Event}
 use Rattle.policy_model.specs.Events.{Item, Acts, acts_of}
-use Rattle.policy_model.specs.Entries.{Life, Lived, Did, log_of, frames_of}
+use Rattle.policy_model.specs.Entries.{Life, Lived, Did, log_of, frames_of, replies_of}
 use Rattle.policy_model.specs.Follows.{Follows, is_struck, starts_next, is_start, has_fault, items_of}
 use Rattle.policy_model.specs.Struck.{settled_items, settled_acts}
 use Rattle.system_laws.specs.Systems.{System, Dies, Runs, run_of, history_of, MayDie, IsSystem}
@@ -30,6 +30,7 @@ pub record IsSettled (s : Settings) (life : Life) (event : Event) (items : List 
   pub follows : Follows s (Lived life (Did event (settled_items kept items)))
   pub acts : acts_of (log_of (Lived life (Did event (settled_items kept items)))) ≡ settled_acts kept (acts_of (log_of (Lived life (Did event items))))
   pub silent : frames_of (settled_items kept items) ≡ []
+  pub unanswered : replies_of (settled_items kept items) ≡ []
 
 abbrev pub LawFaultIsSettled : Type 0
 LawFaultIsSettled =
@@ -48,11 +49,12 @@ IsLeftAmong g [] found = found ≡ durable_of g
 IsLeftAmong g (Acts act outcome ∷ is) found = IsLeftIn g act outcome found ⊎ IsLeftAmong (Then g act outcome) is found
 IsLeftAmong g (i ∷ is) found = IsLeftAmong g is found
 
--- this was done of the event when the node was killed, nothing was sent, and the record is what the node then kept
+-- this was done of the event when the node was killed, with no frame and no reply sent, and the record is what the node then kept
 pub record IsKilled (h : System) (n : Id) (event : Event) (found : Kept) : Type 0 where
   pub items : List Item
   pub may : MayDie h n event items
   pub silent : frames_of items ≡ []
+  pub unanswered : replies_of items ≡ []
   pub kept : found ≡ durable_of (node_history (history_of (Dies h n event items)) n)
 
 -- whatever is left at a moment of an event, the node may have been killed so that it left that

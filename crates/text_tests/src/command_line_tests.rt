@@ -62,6 +62,15 @@ fn command_text(alloc: Global, command: &ProgramCommand) -> Result<String, Alloc
             trial.port,
             trial.turns
         ),
+        ProgramCommand::Rescue(up) => {
+            let up = id_list(alloc, up.as_slice())?;
+            format!(in alloc; "rescue of{up}")
+        }
+        ProgramCommand::UnsafeBootstrap { id, dir } => {
+            format!(in alloc; "alone {id} in {}", dir.as_str())
+        }
+        ProgramCommand::DetachCluster(dir) => format!(in alloc; "detach {}", dir.as_str()),
+        ProgramCommand::Audit => String::from_str(alloc, "audit"),
     }
 }
 
@@ -84,7 +93,7 @@ fn told(alloc: Global, line: &str) -> Result<String, Fail> {
     }
 }
 
-const COMMANDS: [(&str, &str); 13] = [
+const COMMANDS: [(&str, &str); 19] = [
     ("replay --level core", "replay core"),
     ("replay --level=node", "replay node"),
     ("inspect --dir a/b", "inspect a/b"),
@@ -116,6 +125,12 @@ const COMMANDS: [(&str, &str); 13] = [
         "trial --turns=0 --port=1 --dir=d --program=p=q",
         "trial of p=q in d, port 1, turns 0",
     ),
+    ("rescue --up c,a", "rescue of a c"),
+    ("rescue --up=b", "rescue of b"),
+    ("unsafe-bootstrap --id a --dir d", "alone a in d"),
+    ("unsafe-bootstrap --dir=d/e --id=a-1", "alone a-1 in d/e"),
+    ("detach-cluster --dir a/b", "detach a/b"),
+    ("audit", "audit"),
 ];
 
 #[test]
@@ -165,6 +180,18 @@ fn other_words_are_a_usage(rt: HostRuntime) -> Result<(), Fail> {
             "inspect --dir -",
             "inspect --dir=-x",
             "inspect --dir=",
+            "unsafe-bootstrap",
+            "unsafe-bootstrap --dir d",
+            "unsafe-bootstrap --id a",
+            "unsafe-bootstrap --id A --dir d",
+            "unsafe-bootstrap --id a --dir d --dir d",
+            "detach-cluster",
+            "detach-cluster --dir=",
+            "detach-cluster --id a --dir d",
+            "audit a",
+            "audit --",
+            "audit --dir d",
+            "audits",
         ],
     )?;
     assert!(rt; found.as_str() == "", "{found}");
@@ -295,6 +322,30 @@ fn a_trial_needs_two_ports_above_its_first(rt: HostRuntime) -> Result<(), Fail> 
             "trial --program p --dir d --port 1 --port 1 --turns 1",
             "trial --program p --dir d --port 1 --turns 1 --no-shrink",
             "trial --program p --dir d --port 1 --turns 1 --",
+        ],
+    )?;
+    assert!(rt; found.as_str() == "", "{found}");
+    Ok(())
+}
+
+#[test]
+fn a_rescue_names_a_node_that_is_up(rt: HostRuntime) -> Result<(), Fail> {
+    let found = commands_among(
+        rt.alloc(),
+        &[
+            "rescue",
+            "rescue a",
+            "rescue --up",
+            "rescue --up _",
+            "rescue --up=",
+            "rescue --up a,",
+            "rescue --up a,a",
+            "rescue --up a,B",
+            "rescue --up=-a",
+            "rescue --up a b",
+            "rescue --up a --up b",
+            "rescue --up a --level core",
+            "rescue --up a --",
         ],
     )?;
     assert!(rt; found.as_str() == "", "{found}");

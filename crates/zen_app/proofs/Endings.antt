@@ -29,7 +29,7 @@ use Rattle.zen_app.proofs.Spelled.{spells_short, spells_safe_trace}
 -- ---- of what was read
 
 -- all of the input was read, where that is no longer than a schedule
-all_read : (left : List ℕ) (now : Option (List ℕ)) (bytes : List ℕ) → IsInput most_read (Some left) now bytes → length bytes ≤ most_bytes → (bytes ≡ left) × (now ≡ Some [])
+pub all_read : (left : List ℕ) (now : Option (List ℕ)) (bytes : List ℕ) → IsInput most_read (Some left) now bytes → length bytes ≤ most_bytes → (bytes ≡ left) × (now ≡ Some [])
 all_read left now bytes r short =
     let long : length (take most_read left) ≤ most_bytes = subst (λ (l : List ℕ). length l ≤ most_bytes) r.0 short in
     let low : length left ≤ most_bytes = omega (arith, long, length-take most_read left) in
@@ -42,7 +42,7 @@ module _ (level : Level) where
       (subst (λ (l : List ℕ). Spells level l s) all.0 spelled, all.1)
 
   -- what the input spells is spelled by what was read
-  spells_read : (left : List ℕ) (now : Option (List ℕ)) (bytes : List ℕ) (s : Schedule) → IsInput most_read (Some left) now bytes → Spells level left s → Spells level bytes s
+  pub spells_read : (left : List ℕ) (now : Option (List ℕ)) (bytes : List ℕ) (s : Schedule) → IsInput most_read (Some left) now bytes → Spells level left s → Spells level bytes s
   spells_read left now bytes s r spelled =
       let short = spells_short level left s spelled in
       let is : bytes ≡ left = r.0 ∙ take_all most_read left (omega (arith, short)) in
@@ -125,7 +125,7 @@ module _ (level : Level) (source source_now : SourceView) (sink sink_now : SinkV
       complete = λ t sp r w. inr refl;
     })
 
-    pub bad : (status : Status) (bad : BadSchedule) → fault_of level bytes ≡ Some bad → ((s : Schedule) → Spells level bytes s → ⊥) → Refusal sink.written sink_now.written sink.faults sink_now.faults (bad_line bad) status
+    pub bad : (status : Status) (bad : BadSchedule) → fault_of level bytes ≡ Some bad → ((s : Schedule) → Spells level bytes s → ⊥) → Refusal sink.written sink_now.written sink.faults sink_now.faults (bad_line bad) exit.BadSchedule status
         → ReplayEnded level source source_now sink sink_now status
     bad status b fault none refusal = from refusal.refused
       where

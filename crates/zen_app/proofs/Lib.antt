@@ -2,6 +2,9 @@ pub mod Endings
 pub mod NodeLives
 pub mod NodeSettings
 pub mod NodeStages
+pub mod RescueEndings
+pub mod Rescued
 pub mod RunEnds
 pub mod Spelled
 pub mod WordBounds
+pub mod ToolRunning

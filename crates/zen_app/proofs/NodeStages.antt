@@ -14,7 +14,7 @@ use Rattle.coordinator.specs.declared.step.Sealed.{Sealed}
 use Rattle.state_journal.specs.declared.error.OpenError.{OpenError}
 use Rattle.state_journal.specs.declared.error.OpenError.TheVariants as refused
 use Rattle.state_journal.specs.Journal.{found_of, FoundAsSome}
-use Rattle.state_journal.specs.Opening.{handed_back, IsWhyOf, RoseIfDisk}
+use Rattle.state_journal.specs.Opening.{handed_back, IsWhyOf, RanUntil, RoseIfDisk}
 use Rattle.node_loop.specs.declared.node.End.{End}
 use Rattle.node_loop.specs.declared.node.End.TheVariants as ends
 use Rattle.node_loop.specs.Tells.{HasCauses}
@@ -68,6 +68,10 @@ line_status line whole was now exit.HostFault says = inl says.0
 line_status line whole was now exit.NotAJournal says = inl says.0
 line_status line whole was now exit.Turns says = inl says.0
 line_status line whole was now exit.TrialFailed says = inl says.0
+line_status line whole was now exit.RescueRefused says = inl says.0
+line_status line whole was now exit.NotLegal says = inl says.0
+line_status line whole was now exit.BadTrace says = inl says.0
+line_status line whole was now exit.ToolRefused says = inl says.0
 
 -- so it ends with no other
 line_no : (line : List ℕ) (whole other : Status) (was now : Option (List ℕ)) (status : Status) → SaysLine line whole was now status → (whole ≡ other → ⊥) → (exit.WriteFault ≡ other → ⊥) → (exit.NoMemory ≡ other → ⊥) → status ≡ other → ⊥
@@ -106,11 +110,11 @@ module _ {D L : Type 0} (d : Disks D) (l : Links L Sealed) (w : NodeWords) (host
   refused_complete given (refused.Memory back) status kept said is_why found cause quiet = inr (inr said.0)
 
   pub unopened : (given : D) (error : OpenError D) (status : Status) → IsGiven d.faults host.disk_ready given → (d.told → IsWhyOf (d.seen given) error)
-      → (d.told → LeavesOnly d.moment d.left_since given (handed_back error) (FoundAsSome (d.may_leave given))) → RefusedBy error sink.written sink_now.written status
+      → (d.told → LeavesOnly d.moment d.left_since given (handed_back error) (FoundAsSome (d.may_leave given))) → (d.told → RanUntil d.steps (d.seen given) given error) → RefusedBy error sink.written sink_now.written status
       → host_now.calls ≡ and_call host.calls (OpensDisk w.dir false) → host_now.disk_back ≡ Some (handed_back error) → LeavesLinks host host_now → RoseIfDisk d.faults (d.faults given) error
       → NodeRun d l w host host_now sink sink_now status
-  unopened given error status is_given why any_moment said asked back links cause = record {
-    came = Unopened (record { given = given; is_given = is_given; error = error; why = why; any_moment = any_moment; refused = said; asked = asked; back = back; links = links });
+  unopened given error status is_given why any_moment calls said asked back links cause = record {
+    came = Unopened (record { given = given; is_given = is_given; error = error; why = why; any_moment = any_moment; calls = calls; refused = said; asked = asked; back = back; links = links });
     complete = λ disk is t kept found no_host no_write no_disk no_link.
         refused_complete given error status kept said (why t) (ap (λ (x : D). found_of (d.seen x)) (is_given.same disk is) ∙ found) cause
         (λ rose. no_disk (handed_back error) back (subst (λ (n : ℕ). Rose n (d.faults (handed_back error))) is_given.fresh rose));

@@ -7,7 +7,7 @@ use Rattle.command_line.specs.declared.command.NodeWords.{NodeWords}
 use Rattle.coordinator.specs.declared.step.Sealed.{Sealed}
 use Rattle.schedule_text.specs.declared.level.Level.{Level}
 use Rattle.command_line.specs.declared.command.ProgramCommand.{ProgramCommand}
-use Rattle.command_line.specs.declared.command.ProgramCommand.TheVariants.{Replay, Inspect, Node, Generate, Trial}
+use Rattle.command_line.specs.declared.command.ProgramCommand.TheVariants.{Replay, Inspect, Node, Generate, Trial, Rescue, UnsafeBootstrap, DetachCluster, Audit}
 use Rattle.command_line.specs.Commands.{command_of}
 use Rattle.journal_inspection.specs.declared.inspecting.Inspection.{Inspection}
 use Rattle.journal_inspection.specs.declared.inspecting.Inspection.TheVariants as end
@@ -28,27 +28,39 @@ use Rattle.trace_summary.specs.Printed.{summary_text}
 use Rattle.trace_summary.specs.Summaries.{summary_of}
 use Rattle.zen_host.specs.HostCalls.{HostCall}
 use Rattle.zen_host.specs.declared.host.HostError.TheVariants as host_error
+use Rattle.node_tool.specs.declared.tool.Tool.{Tool}
+use Rattle.node_tool.specs.declared.tool.Tool.TheVariants as tool
 use Rattle.node_trial.specs.declared.node.TrialNode.TheVariants as node
 use Rattle.node_trial.specs.declared.running.TrialEnd.{TrialEnd}
 use Rattle.node_trial.specs.declared.running.TrialEnd.TheVariants as trial
 use Rattle.node_trial.specs.Trials.{Tried}
-use Rattle.zen_app.specs.Codes.{status_of_trial}
+use Rattle.trace_audit.specs.declared.running.AuditEnd.{AuditEnd}
+use Rattle.trace_audit.specs.declared.running.AuditEnd.TheVariants as audit
+use Rattle.trace_audit.specs.Runs.{Audited}
+use Rattle.trace_audit.proofs.Endings.{audit_no_memory}
+use Rattle.zen_app.specs.Codes.{status_of_trial, status_of_audit}
 use Rattle.zen_app.specs.NodeRuns.{NodeRun, Undisked, SaysLine}
+use Rattle.zen_app.specs.Runs.{ReplayEnded, RescueEnded}
+use Rattle.zen_app.specs.RescueRuns.{MayEndRescue, RescueRun}
 use Rattle.zen_app.specs.SafeTrace.{IsSafeTraceAt}
+use Rattle.zen_app.specs.ToolRuns.{ToolRun}
 use Rattle.zen_app.specs.TrialRuns.{TrialRun, trial_by}
-use Rattle.zen_app.specs.Ran.{ReplayRun, Does, Ran}
+use Rattle.zen_app.specs.Ran.{MayEndReplay, ReplayRun, AuditRun, Does, most_by, Ran}
 use Rattle.zen_app.specs.Views.{SourceView, SinkView}
+use Rattle.voting_config.specs.Ids.{Id}
 use Rattle.zen_app.specs.declared.status.Status.{Status}
 use Rattle.zen_app.specs.declared.status.Status.TheVariants as exit
 use Rattle.zen_app.proofs.Endings.{no_memory}
 use Rattle.zen_app.proofs.NodeStages.{said_line}
+use Rattle.zen_app.proofs.ToolRunning.{nothing_used}
+use Rattle.zen_app.proofs.RescueEndings.{no_memory as no_memory_to_rescue}
 use Rattle.zen_app.proofs.WordBounds.{OfSome, IsWithin, all_within, words_within}
 use Rattle.schedule_replay.proofs.Sending.{generated_spelled}
 use Rattle.zen_app.proofs.Spelled.{spells_safe_trace}
 
-none_taken : (left : Option (List ℕ)) → ReadsAtMost most_read left left
-none_taken None = refl
-none_taken (Some left) = (0, omega arith, refl)
+none_taken : (most : ℕ) (left : Option (List ℕ)) → ReadsAtMost most left left
+none_taken most None = refl
+none_taken most (Some left) = (0, omega arith, refl)
 
 no_read_fault : (e : Inspection) → status_of e ≡ exit.ReadFault → ⊥
 no_read_fault end.Done h = absurd cc
@@ -99,7 +111,51 @@ nothing_tried w calls written = inl (record {
 })
 
 no_replay : (level : Level) (source : SourceView) (sink : SinkView) → ReplayRun level source source sink sink exit.NoMemory
-no_replay level source sink = (no_memory level source source sink sink (none_taken source.left) (omega arith) (omega arith) (appended_none sink.written)).run
+no_replay level source sink = (no_memory level source source sink sink (none_taken _ source.left) (omega arith) (omega arith) (appended_none sink.written)).run
+
+no_rescue : (ids : List Id) (source : SourceView) (sink : SinkView) → RescueRun ids source source sink sink exit.NoMemory
+no_rescue ids source sink = (no_memory_to_rescue ids source source sink sink (none_taken _ source.left) (omega arith) (omega arith) (appended_none sink.written)).run
+
+no_audit : (source : SourceView) (sink : SinkView) → AuditRun source source sink sink exit.NoMemory
+no_audit source sink = record {
+  end = audit.NoMemory;
+  is_status = refl;
+  audited = audit_no_memory source.left source.left source.faults source.faults sink.written sink.written sink.faults sink.faults (none_taken _ source.left) (omega arith) (omega arith) (appended_none sink.written);
+}
+
+-- no audit ends with another status
+audit_no : (other : Status) (e : AuditEnd) → status_of_audit e ≡ other → (exit.Ok ≡ other → ⊥) → (exit.NotLegal ≡ other → ⊥) → (exit.BadTrace ≡ other → ⊥) → (exit.NoMemory ≡ other → ⊥) → (exit.ReadFault ≡ other → ⊥) → (exit.WriteFault ≡ other → ⊥) → ⊥
+audit_no other audit.Legal is ok broken bad memory read write = ok is
+audit_no other audit.NotLegal is ok broken bad memory read write = broken is
+audit_no other audit.BadTrace is ok broken bad memory read write = bad is
+audit_no other audit.NoMemory is ok broken bad memory read write = memory is
+audit_no other audit.ReadFault is ok broken bad memory read write = read is
+audit_no other audit.WriteFault is ok broken bad memory read write = write is
+
+-- which end a fault of the input, or of the output, was
+audit_unread : (e : AuditEnd) → status_of_audit e ≡ exit.ReadFault → e ≡ audit.ReadFault
+audit_unread audit.Legal h = absurd cc
+audit_unread audit.NotLegal h = absurd cc
+audit_unread audit.BadTrace h = absurd cc
+audit_unread audit.NoMemory h = absurd cc
+audit_unread audit.ReadFault h = refl
+audit_unread audit.WriteFault h = absurd cc
+
+audit_unwritten : (e : AuditEnd) → status_of_audit e ≡ exit.WriteFault → e ≡ audit.WriteFault
+audit_unwritten audit.Legal h = absurd cc
+audit_unwritten audit.NotLegal h = absurd cc
+audit_unwritten audit.BadTrace h = absurd cc
+audit_unwritten audit.NoMemory h = absurd cc
+audit_unwritten audit.ReadFault h = absurd cc
+audit_unwritten audit.WriteFault h = refl
+
+-- no rescue ends with any of these statuses
+no_rescue_ends : (status other : Status) → MayEndRescue status → status ≡ other → (MayEndRescue other → ⊥) → ⊥
+no_rescue_ends status other may is not = not (subst MayEndRescue is may)
+
+-- no replay ends with any of these statuses
+no_replay_ends : (status other : Status) → MayEndReplay status → status ≡ other → (MayEndReplay other → ⊥) → ⊥
+no_replay_ends status other may is not = not (subst MayEndReplay is may)
 
 module _ {D L : Type 0} (d : Disks D) (l : Links L Sealed) where
   write_rose : (host host_now : HostView D L) (was now : Option (List ℕ)) (wrote wrote_now : ℕ) (e : Inspection) → EndsWith d host host_now was now wrote wrote_now e → status_of e ≡ exit.WriteFault → Rose wrote wrote_now
@@ -156,6 +212,8 @@ module _ {D L : Type 0} (d : Disks D) (l : Links L Sealed) where
     },
     refl,
   )
+  nothing_done source sink host (Some (UnsafeBootstrap id dir)) within = (nothing_used d (tool.UnsafeBootstrap id) dir host sink, refl)
+  nothing_done source sink host (Some (DetachCluster dir)) within = (nothing_used d tool.DetachCluster dir host sink, refl)
   nothing_done source sink host (Some (Node words)) within = (
     record {
       came = Undisked (record { asked = inl (refl, refl); written = appended_none sink.written; back = refl; links = record { ready = refl; back = refl } });
@@ -163,11 +221,13 @@ module _ {D L : Type 0} (d : Disks D) (l : Links L Sealed) where
     },
     refl,
   )
+  nothing_done source sink host (Some (Rescue ids)) within = (no_rescue ids source sink, refl)
+  nothing_done source sink host (Some Audit) within = (no_audit source sink, refl)
 
   pub ran_without_memory : (words : List (List ℕ)) (source : SourceView) (sink : SinkView) (host : HostView D L) → Ran d l words source source sink sink host host exit.NoMemory
   ran_without_memory words source sink host = record {
     does = nothing_done source sink host (command_of words) (all_within words);
-    read_at_most = none_taken source.left;
+    read_at_most = none_taken _ source.left;
     read_fault = λ e. absurd cc;
     write_fault = λ e. absurd cc;
     disk_fault = λ e. absurd cc;
@@ -186,7 +246,7 @@ module _ {D L : Type 0} (d : Disks D) (l : Links L Sealed) where
   ran_inspect words source sink sink_now host host_now status dir e is is_status asked ended complete links children wrote_later host_later = record {
     does = subst (λ (o : Option ProgramCommand). Does d l source source sink sink_now host host_now status o) (sym is)
         (record { end = e; is_status = is_status; asked = asked; ended = ended; complete = complete; links = links }, refl);
-    read_at_most = none_taken source.left;
+    read_at_most = none_taken _ source.left;
     read_fault = λ h. absurd (no_read_fault e (sym is_status ∙ h));
     write_fault = λ h. write_rose host host_now sink.written sink_now.written sink.faults sink_now.faults e ended (sym is_status ∙ h);
     link_fault = λ h. absurd (no_link_fault e (sym is_status ∙ h));
@@ -203,7 +263,26 @@ module _ {D L : Type 0} (d : Disks D) (l : Links L Sealed) where
       → host_now.held ≡ host.held → Ran d l words source source sink sink_now host host_now status
   ran_node words source sink sink_now host host_now status w is run faults children = record {
     does = subst (λ (o : Option ProgramCommand). Does d l source source sink sink_now host host_now status o) (sym is) (run, refl);
-    read_at_most = none_taken source.left;
+    read_at_most = none_taken _ source.left;
+    read_fault = λ e. absurd (faults.read_fault e);
+    write_fault = faults.write_fault;
+    disk_fault = faults.disk_fault;
+    link_fault = faults.link_fault;
+    host_fault = faults.host_fault;
+    read_later = omega arith;
+    wrote_later = faults.wrote_later;
+    host_later = faults.host_later;
+    children = children;
+  }
+
+  -- what a command does that is the use of a tool on a folder
+  pub ran_tool : (words : List (List ℕ)) (source : SourceView) (sink sink_now : SinkView) (host host_now : HostView D L) (status : Status) (c : ProgramCommand) → command_of words ≡ Some c
+      → Does d l source source sink sink_now host host_now status (Some c)
+      → NodeFaults d.faults l.faults host_now.disk_back host_now.link_back host.faults host_now.faults sink.faults sink_now.faults status
+      → host_now.held ≡ host.held → Ran d l words source source sink sink_now host host_now status
+  ran_tool words source sink sink_now host host_now status c is does faults children = record {
+    does = subst (λ (o : Option ProgramCommand). Does d l source source sink sink_now host host_now status o) (sym is) does;
+    read_at_most = none_taken _ source.left;
     read_fault = λ e. absurd (faults.read_fault e);
     write_fault = faults.write_fault;
     disk_fault = faults.disk_fault;
@@ -222,7 +301,7 @@ module _ {D L : Type 0} (d : Disks D) (l : Links L Sealed) where
       let faults = said_line d.faults l.faults host.disk_back host.link_back host.faults host.faults sink.faults sink_now.faults later (omega arith) _ exit.Ok sink.written sink_now.written status says (λ e. absurd cc) (λ e. absurd cc) (λ e. absurd cc) (λ e. absurd cc) write in
       record {
         does = subst (λ (o : Option ProgramCommand). Does d l source source sink sink_now host host status o) (sym is) (record { says = says; safe_trace = generated_safe number steps (words_within words (Generate number steps) is) }, refl, refl);
-        read_at_most = none_taken source.left;
+        read_at_most = none_taken _ source.left;
         read_fault = λ e. absurd (faults.read_fault e);
         write_fault = faults.write_fault;
         disk_fault = faults.disk_fault;
@@ -239,7 +318,7 @@ module _ {D L : Type 0} (d : Disks D) (l : Links L Sealed) where
       → Ran d l words source source sink sink_now host host_now status
   ran_trial words source sink sink_now host host_now status w is run children host_fault write_fault host_later wrote_later = record {
     does = subst (λ (o : Option ProgramCommand). Does d l source source sink sink_now host host_now status o) (sym is) (run, refl);
-    read_at_most = none_taken source.left;
+    read_at_most = none_taken _ source.left;
     read_fault = λ e. absurd (trial_no exit.ReadFault run.end (sym run.is_status ∙ e) (λ h. absurd cc) (λ h. absurd cc) (λ h. absurd cc) (λ h. absurd cc) (λ h. absurd cc));
     write_fault = write_fault;
     disk_fault = λ e. absurd (trial_no exit.DiskFault run.end (sym run.is_status ∙ e) (λ h. absurd cc) (λ h. absurd cc) (λ h. absurd cc) (λ h. absurd cc) (λ h. absurd cc));
@@ -249,4 +328,52 @@ module _ {D L : Type 0} (d : Disks D) (l : Links L Sealed) where
     wrote_later = wrote_later;
     host_later = host_later;
     children = children;
+  }
+
+  pub ran_replay : (words : List (List ℕ)) (source source_now : SourceView) (sink sink_now : SinkView) (host : HostView D L) (status : Status) (level : Level) → command_of words ≡ Some (Replay level)
+      → ReplayEnded level source source_now sink sink_now status → Ran d l words source source_now sink sink_now host host status
+  ran_replay words source source_now sink sink_now host status level is ended = record {
+    does = subst (λ (o : Option ProgramCommand). Does d l source source_now sink sink_now host host status o) (sym is) (ended.run, refl);
+    read_at_most = subst (λ (o : Option ProgramCommand). ReadsAtMost (most_by o) source.left source_now.left) (sym is) ended.read_at_most;
+    read_fault = ended.read_fault;
+    write_fault = ended.write_fault;
+    disk_fault = λ e. absurd (no_replay_ends status exit.DiskFault ended.run.ends e (λ none. none));
+    link_fault = λ e. absurd (no_replay_ends status exit.LinkFault ended.run.ends e (λ none. none));
+    host_fault = λ e. absurd (no_replay_ends status exit.HostFault ended.run.ends e (λ none. none));
+    read_later = ended.read_later;
+    wrote_later = ended.wrote_later;
+    host_later = omega arith;
+    children = refl;
+  }
+
+  pub ran_rescue : (words : List (List ℕ)) (source source_now : SourceView) (sink sink_now : SinkView) (host : HostView D L) (status : Status) (ids : List Id) → command_of words ≡ Some (Rescue ids)
+      → RescueEnded ids source source_now sink sink_now status → Ran d l words source source_now sink sink_now host host status
+  ran_rescue words source source_now sink sink_now host status ids is ended = record {
+    does = subst (λ (o : Option ProgramCommand). Does d l source source_now sink sink_now host host status o) (sym is) (ended.run, refl);
+    read_at_most = subst (λ (o : Option ProgramCommand). ReadsAtMost (most_by o) source.left source_now.left) (sym is) ended.read_at_most;
+    read_fault = ended.read_fault;
+    write_fault = ended.write_fault;
+    disk_fault = λ e. absurd (no_rescue_ends status exit.DiskFault ended.run.ends e (λ none. none));
+    link_fault = λ e. absurd (no_rescue_ends status exit.LinkFault ended.run.ends e (λ none. none));
+    host_fault = λ e. absurd (no_rescue_ends status exit.HostFault ended.run.ends e (λ none. none));
+    read_later = ended.read_later;
+    wrote_later = ended.wrote_later;
+    host_later = omega arith;
+    children = refl;
+  }
+
+  pub ran_audit : (words : List (List ℕ)) (source source_now : SourceView) (sink sink_now : SinkView) (host : HostView D L) (status : Status) (e : AuditEnd) → command_of words ≡ Some Audit → status ≡ status_of_audit e
+      → Audited source.left source_now.left source.faults source_now.faults sink.written sink_now.written sink.faults sink_now.faults e → Ran d l words source source_now sink sink_now host host status
+  ran_audit words source source_now sink sink_now host status e is is_status audited = record {
+    does = subst (λ (o : Option ProgramCommand). Does d l source source_now sink sink_now host host status o) (sym is) (record { end = e; is_status = is_status; audited = audited }, refl);
+    read_at_most = subst (λ (o : Option ProgramCommand). ReadsAtMost (most_by o) source.left source_now.left) (sym is) audited.read_at_most;
+    read_fault = λ h. audited.read_fault (audit_unread e (sym is_status ∙ h));
+    write_fault = λ h. audited.write_fault (audit_unwritten e (sym is_status ∙ h));
+    disk_fault = λ h. absurd (audit_no exit.DiskFault e (sym is_status ∙ h) (λ k. absurd cc) (λ k. absurd cc) (λ k. absurd cc) (λ k. absurd cc) (λ k. absurd cc) (λ k. absurd cc));
+    link_fault = λ h. absurd (audit_no exit.LinkFault e (sym is_status ∙ h) (λ k. absurd cc) (λ k. absurd cc) (λ k. absurd cc) (λ k. absurd cc) (λ k. absurd cc) (λ k. absurd cc));
+    host_fault = λ h. absurd (audit_no exit.HostFault e (sym is_status ∙ h) (λ k. absurd cc) (λ k. absurd cc) (λ k. absurd cc) (λ k. absurd cc) (λ k. absurd cc) (λ k. absurd cc));
+    read_later = audited.read_later;
+    wrote_later = audited.wrote_later;
+    host_later = omega arith;
+    children = refl;
   }

@@ -1,15 +1,16 @@
 -- The numbers in the words of a command are within their bounds.
-use Rattle.std.proofs.Common.{◌≡◌, ℕ, ◌≤◌, Bool, true, false, ◌&&◌, Option, None, Some, List, refl, subst}
+use Rattle.std.proofs.Common.{◌≡◌, ℕ, ◌<◌, ◌≤◌, Bool, true, false, ◌&&◌, Option, None, Some, List, [], ◌∷◌, length, refl, subst, arith}
 use Rattle.std.specs.Prelude.{if◌then◌else◌, nat_le, codes}
 use Rattle.std.specs.Str.{bytes_eq}
+use Rattle.voting_config.specs.Ids.{Id}
 use Rattle.std.proofs.lemmas.Bool.{leb-true, and_parts}
 use Rattle.command_line.specs.declared.command.ProgramCommand.{ProgramCommand}
-use Rattle.command_line.specs.declared.command.ProgramCommand.TheVariants.{Replay, Inspect, Node, Generate, Trial}
-use Rattle.command_line.specs.Commands.{level_of, replay_of, inspect_of, link_of, node_of, generate_of, trial_of, command_by, command_of, steps_of, port_of, most_steps}
+use Rattle.command_line.specs.declared.command.ProgramCommand.TheVariants.{Replay, Inspect, Node, Generate, Trial, Rescue, UnsafeBootstrap, DetachCluster, Audit}
+use Rattle.command_line.specs.Commands.{level_of, replay_of, inspect_of, link_of, node_of, generate_of, trial_of, rescue_of, unsafe_bootstrap_of, detach_cluster_of, command_by, command_of, steps_of, port_of, most_steps}
 use Rattle.command_line.specs.Given.{Text, look, words_given}
-use Rattle.command_line.specs.Lists.{initial_of}
+use Rattle.command_line.specs.Lists.{initial_of, some_of, up_of}
 use Rattle.command_line.specs.Program.{commands}
-use Rattle.command_line.specs.Values.{Look, ◌>>=◌, text_at, number_of, number_within}
+use Rattle.command_line.specs.Values.{Look, ◌>>=◌, text_at, id_of, number_of, number_within}
 
 -- of what there is, if anything
 abbrev pub OfSome : {A : Type 0} → (A → Type 0) → Option A → Type 0
@@ -41,6 +42,10 @@ IsWithin (Inspect dir) = Unit {0}
 IsWithin (Node words) = Unit {0}
 IsWithin (Generate number steps) = steps ≤ most_steps
 IsWithin (Trial words) = (1 ≤ words.port) × (words.port ≤ 65533)
+IsWithin (UnsafeBootstrap id dir) = Unit {0}
+IsWithin (DetachCluster dir) = Unit {0}
+IsWithin (Rescue ids) = 0 < length ids
+IsWithin Audit = Unit {0}
 
 of_replay : (look : Look) → OfSome IsWithin (replay_of look)
 of_replay look = of_last IsWithin (text_at (codes "level") look >>= level_of) _ (λ level. tt)
@@ -79,13 +84,37 @@ of_trial look =
     of_both (λ (n : ℕ). (1 ≤ n) × (n ≤ 65533)) IsWithin (text_at (codes "port") look >>= port_of) _ (of_port (text_at (codes "port") look)) (λ port within.
     of_last IsWithin (text_at (codes "turns") look >>= number_of) _ (λ turns. within))))
 
+of_up : (o : Option Text) → OfSome (λ (ids : List Id). 0 < length ids) (o >>= up_of)
+of_up None = tt
+of_up (Some t) = of_some (initial_of t)
+  where
+    of_some : (o : Option (List Id)) → OfSome (λ (ids : List Id). 0 < length ids) (o >>= some_of)
+    of_some None = tt
+    of_some (Some []) = tt
+    of_some (Some (id ∷ ids)) = omega arith
+
+of_rescue : (look : Look) → OfSome IsWithin (rescue_of look)
+of_rescue look = of_both (λ (ids : List Id). 0 < length ids) IsWithin (text_at (codes "up") look >>= up_of) _ (of_up (text_at (codes "up") look)) (λ ids some. some)
+
+of_unsafe_bootstrap : (look : Look) → OfSome IsWithin (unsafe_bootstrap_of look)
+of_unsafe_bootstrap look =
+    of_last IsWithin (text_at (codes "id") look >>= id_of) _ (λ id.
+    of_last IsWithin (text_at (codes "dir") look) _ (λ dir. tt))
+
+of_detach_cluster : (look : Look) → OfSome IsWithin (detach_cluster_of look)
+of_detach_cluster look = of_last IsWithin (text_at (codes "dir") look) _ (λ dir. tt)
+
 of_command : (name : Text) (look : Look) → OfSome IsWithin (command_by name look)
 of_command name look =
     of_chosen IsWithin (bytes_eq name (codes "replay")) (replay_of look) _ (of_replay look)
     (of_chosen IsWithin (bytes_eq name (codes "inspect")) (inspect_of look) _ (of_inspect look)
     (of_chosen IsWithin (bytes_eq name (codes "node")) (node_of look) _ (of_node look)
     (of_chosen IsWithin (bytes_eq name (codes "generate")) (generate_of look) _ (of_generate look)
-    (of_chosen IsWithin (bytes_eq name (codes "trial")) (trial_of look) None (of_trial look) tt))))
+    (of_chosen IsWithin (bytes_eq name (codes "trial")) (trial_of look) _ (of_trial look)
+    (of_chosen IsWithin (bytes_eq name (codes "rescue")) (rescue_of look) _ (of_rescue look)
+    (of_chosen IsWithin (bytes_eq name (codes "unsafe-bootstrap")) (unsafe_bootstrap_of look) _ (of_unsafe_bootstrap look)
+    (of_chosen IsWithin (bytes_eq name (codes "detach-cluster")) (detach_cluster_of look) _ (of_detach_cluster look)
+    (of_chosen IsWithin (bytes_eq name (codes "audit")) (Some Audit) None tt tt))))))))
 
 pub all_within : (words : List Text) → OfSome IsWithin (command_of words)
 all_within words = of_last IsWithin (words_given commands words) _ (λ p. of_command p.0.0 (look p.0.1 p.1))

@@ -1,10 +1,16 @@
+pub mod Choosing
 pub mod Codes
+pub mod Misspelled
 pub mod NodeFaults
 pub mod NodeRuns
 pub mod Ran
 pub mod Reading
 pub mod Refusing
+pub mod RescueRuns
+pub mod RescueText
+pub mod Rescues
 pub mod Runs
 pub mod SafeTrace
+pub mod ToolRuns
 pub mod TrialRuns
 pub mod Views

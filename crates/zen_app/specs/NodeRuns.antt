@@ -12,15 +12,15 @@ use Rattle.world_model.specs.Histories.{IsLocal}
 use Rattle.state_journal.specs.declared.error.OpenError.{OpenError}
 use Rattle.state_journal.specs.declared.error.OpenError.TheVariants as refused
 use Rattle.state_journal.specs.Journal.{found_of, record_of_files, FoundAsSome}
-use Rattle.state_journal.specs.Opening.{handed_back, IsWhyOf}
+use Rattle.state_journal.specs.Opening.{handed_back, IsWhyOf, RanUntil}
 use Rattle.policy_model.specs.declared.settings.Settings.{Settings}
 use Rattle.policy_model.specs.Entries.{Life, NotBegun, Opened, log_of}
 use Rattle.policy_model.specs.Events.{acts_of}
-use Rattle.policy_model.specs.Follows.{Follows}
+use Rattle.policy_model.specs.Follows.{Follows, is_struck}
 use Rattle.node_loop.specs.declared.node.End.{End}
 use Rattle.node_loop.specs.declared.node.End.TheVariants as ends
 use Rattle.coordinator.specs.declared.step.Sealed.{Sealed}
-use Rattle.node_loop.specs.Crashes.{IsLastRecord}
+use Rattle.node_loop.specs.Crashes.{IsLastRecord, has_crashed}
 use Rattle.node_loop.specs.Reporting.{sent_of}
 use Rattle.node_loop.specs.Running.{HoldsOn}
 use Rattle.node_loop.specs.Tells.{HasCauses}
@@ -83,13 +83,17 @@ module _ {D : Type 0} (d : Disks D) where
     pub leaves : d.told → (files : Files) → d.may_leave opened files → record_of_files files ≡ Some kept
 
   -- A node that was opened with this record lived on to this life, and its disk went from one to the other. It did what the policy says, and its
-  -- acts keep the rules of the core by themselves. A crash at any moment leaves the record of what was done so far, without the act in hand or with
-  -- it; and at the end whatever files a crash may leave stand for the record of all acts, a last one that was struck counted as not kept or as kept.
+  -- acts keep the rules of the core by themselves. It went on by one entry after the other: at the end of each a crash leaves the record of all acts
+  -- by then, and within one that of what was done by then, without the act in hand or with it (`holds`). At the end whatever files a crash may leave
+  -- stand for the record of all acts, a last one that was struck counted as not kept or as kept. An act is struck only where the disk failed
+  -- meanwhile, and none is said to be one at which the node crashed.
   pub record LivesOn (s : Settings) (kept : Kept) (opened back : D) (life : Life) : Type 0 where
     pub follows : Follows s life
     pub local : IsLocal s.me (acts_of (log_of life))
     pub holds : HoldsOn d opened back s (Opened NotBegun kept) life
     pub leaves : d.told → (files : Files) → d.may_leave back files → IsLastRecord life (record_of_files files)
+    pub struck : is_struck life ≡ true → Rose (d.faults opened) (d.faults back)
+    pub uncrashed : has_crashed (acts_of (log_of life)) ≡ false
 
 module _ {D L : Type 0} (d : Disks D) (l : Links L Sealed) (w : NodeWords) (host host_now : HostView D L) (sink sink_now : SinkView) (status : Status) where
   -- the host gave no disk, or no memory was found before it was asked
@@ -99,13 +103,15 @@ module _ {D L : Type 0} (d : Disks D) (l : Links L Sealed) (w : NodeWords) (host
     pub back : host_now.disk_back ≡ host.disk_back
     pub links : LeavesLinks host host_now
 
-  -- the host gave a disk whose journal was not opened, and was given it back
+  -- The host gave a disk whose journal was not opened, and was given it back. No device call was made but those of an opening: so what is read is as it
+  -- was, but for the header of a file of at most nine bytes.
   pub record WithoutJournal : Type 0 where
     pub given : D
     pub is_given : IsGiven d.faults host.disk_ready given
     pub error : OpenError D
     pub why : d.told → IsWhyOf (d.seen given) error
     pub any_moment : d.told → LeavesOnly d.moment d.left_since given (handed_back error) (FoundAsSome (d.may_leave given))
+    pub calls : d.told → RanUntil d.steps (d.seen given) given error
     pub refused : RefusedBy error sink.written sink_now.written status
     pub asked : host_now.calls ≡ and_call host.calls (OpensDisk w.dir false)
     pub back : host_now.disk_back ≡ Some (handed_back error)
@@ -142,7 +148,7 @@ module _ {D L : Type 0} (d : Disks D) (l : Links L Sealed) (w : NodeWords) (host
     pub served : Option (List ℕ)
     pub wrote : ℕ
     pub serves : Serves sent_of (entry_text (settings_by w)) (settings_by w) (Opened NotBegun kept) end sink.written served (l.told link) (l.told link_now)
-        (LivesOn d (settings_by w) kept opened back) w.turns (opening_text (settings_by w) (Opened NotBegun kept))
+        (LivesOn d (settings_by w) kept opened back) (l.asked link) (l.asked link_now) w.turns (opening_text (settings_by w) (Opened NotBegun kept))
     pub causes : HasCauses (Some end) (d.faults given) (d.faults back) sink.faults wrote (l.faults link) (l.faults link_now)
     pub ends : EndsBy end served sink_now.written status
 

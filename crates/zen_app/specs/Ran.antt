@@ -4,30 +4,32 @@ use Rattle.zen_disk.specs.Faults.{Rose}
 use Rattle.zen_disk.specs.declared.disks.Disks.{Ghosts as Disks}
 use Rattle.zen_link.specs.declared.link.Link.{Ghosts as Links}
 use Rattle.zen_link.specs.Streams.{Appended, AppendedFront}
-use Rattle.schedule_text.specs.declared.fault.BadSchedule.{BadSchedule}
 use Rattle.schedule_text.specs.declared.level.Level.{Level}
 use Rattle.schedule_text.specs.declared.schedule.Schedule.{Schedule}
 use Rattle.schedule_text.specs.Spelled.{Spells}
-use Rattle.schedule_text.specs.Reading.{fault_of}
-use Rattle.schedule_text.specs.FirstBad.{IsFirstBad}
-use Rattle.schedule_text.specs.Printed.{bad_line}
 use Rattle.schedule_text.specs.declared.level.Level.TheVariants.{Core}
 use Rattle.schedule_replay.specs.Generated.{generated}
 use Rattle.schedule_replay.specs.Levels.{trace_at}
 use Rattle.trace_summary.specs.Printed.{summary_text}
 use Rattle.trace_summary.specs.Summaries.{summary_of}
 use Rattle.command_line.specs.declared.command.ProgramCommand.{ProgramCommand}
-use Rattle.command_line.specs.declared.command.ProgramCommand.TheVariants.{Replay, Inspect, Node, Generate, Trial}
+use Rattle.command_line.specs.declared.command.ProgramCommand.TheVariants.{Replay, Inspect, Node, Generate, Trial, Rescue, UnsafeBootstrap, DetachCluster, Audit}
 use Rattle.command_line.specs.Commands.{command_of}
 use Rattle.journal_inspection.specs.declared.inspecting.Inspection.{Inspection}
 use Rattle.journal_inspection.specs.Inspects.{HostView, LeavesLinks, Asked, EndsWith, IsComplete}
+use Rattle.node_tool.specs.declared.tool.Tool.TheVariants as tool
 use Rattle.coordinator.specs.declared.step.Sealed.{Sealed}
-use Rattle.zen_app.specs.Codes.{status_of}
+use Rattle.trace_audit.specs.declared.running.AuditEnd.{AuditEnd}
+use Rattle.trace_audit.specs.Runs.{Audited, most_audited}
+use Rattle.zen_app.specs.Codes.{status_of, status_of_audit}
 use Rattle.zen_link.specs.Reading.{ReadsAtMost}
-use Rattle.zen_app.specs.Reading.{most_read, read_of, unread_of}
+use Rattle.zen_app.specs.Misspelled.{Refused, RefusedPrefix}
+use Rattle.zen_app.specs.Reading.{most_read, unread_of}
+use Rattle.zen_app.specs.RescueRuns.{RescueRun}
 use Rattle.zen_app.specs.NodeFaults.{Failed}
 use Rattle.zen_app.specs.NodeRuns.{NodeRun, SaysLine}
 use Rattle.zen_app.specs.SafeTrace.{IsSafeTraceAt}
+use Rattle.zen_app.specs.ToolRuns.{ToolRun}
 use Rattle.zen_app.specs.TrialRuns.{TrialRun}
 use Rattle.zen_app.specs.Views.{SourceView, SinkView}
 use Rattle.zen_app.specs.declared.status.Status.{Status}
@@ -51,21 +53,6 @@ pub record ReplayedPrefix (level : Level) (bytes : List ℕ) (was now : Option (
   pub spelled : Spells level bytes schedule
   pub written : AppendedFront was now (trace_at level schedule)
   pub safe_trace : IsSafeTraceAt level schedule
-
--- What was read of the bytes is no schedule of this level, and which line is bad and why was written: some schedule has the same lines before
--- it, and none has the same lines up to it.
-pub record Refused (level : Level) (bytes : List ℕ) (was now : Option (List ℕ)) : Type 0 where
-  pub bad : BadSchedule
-  pub fault : fault_of level (read_of bytes) ≡ Some bad
-  pub first : IsFirstBad level bad.line (read_of bytes)
-  pub written : Appended was now (bad_line bad)
-
--- the same, but only a prefix of that line was written
-pub record RefusedPrefix (level : Level) (bytes : List ℕ) (was now : Option (List ℕ)) : Type 0 where
-  pub bad : BadSchedule
-  pub fault : fault_of level (read_of bytes) ≡ Some bad
-  pub first : IsFirstBad level bad.line (read_of bytes)
-  pub written : AppendedFront was now (bad_line bad)
 
 -- ---- how a run ends
 
@@ -97,6 +84,10 @@ MayEndReplay exit.HostFault = ⊥
 MayEndReplay exit.NotAJournal = ⊥
 MayEndReplay exit.Turns = ⊥
 MayEndReplay exit.TrialFailed = ⊥
+MayEndReplay exit.RescueRefused = ⊥
+MayEndReplay exit.NotLegal = ⊥
+MayEndReplay exit.BadTrace = ⊥
+MayEndReplay exit.ToolRefused = ⊥
 MayEndReplay other = Unit {0}
 
 -- a run of `replay --level`
@@ -119,6 +110,12 @@ pub record GenerateRun (number steps : ℕ) (was now : Option (List ℕ)) (statu
   pub says : SaysLine (summary_text (summary_of (trace_at Core (generated number steps)))) exit.Ok was now status
   pub safe_trace : IsSafeTraceAt Core (generated number steps)
 
+-- a run of `audit`: what it found in the input, and that a history that it found legal is safe
+pub record AuditRun (source source_now : SourceView) (sink sink_now : SinkView) (status : Status) : Type 0 where
+  pub end : AuditEnd
+  pub is_status : status ≡ status_of_audit end
+  pub audited : Audited source.left source_now.left source.faults source_now.faults sink.written sink_now.written sink.faults sink_now.faults end
+
 -- how a run ends whose words are no command
 abbrev pub RefusesWords : (was now : Option (List ℕ)) → Status → Type 0
 RefusesWords was now exit.Usage = Appended was now usage_line
@@ -138,15 +135,28 @@ Does d l source source_now sink sink_now host host_now status (Some (Generate nu
     GenerateRun number steps sink.written sink_now.written status × (source_now ≡ source) × (host_now ≡ host)
 Does d l source source_now sink sink_now host host_now status (Some (Trial words)) =
     TrialRun words host host_now sink sink_now status × (source_now ≡ source)
+Does d l source source_now sink sink_now host host_now status (Some (Rescue ids)) =
+    RescueRun ids source source_now sink sink_now status × (host_now ≡ host)
+Does d l source source_now sink sink_now host host_now status (Some Audit) =
+    AuditRun source source_now sink sink_now status × (host_now ≡ host)
 Does d l source source_now sink sink_now host host_now status (Some (Node words)) =
     NodeRun d l words host host_now sink sink_now status × (source_now ≡ source)
+Does d l source source_now sink sink_now host host_now status (Some (UnsafeBootstrap id dir)) =
+    ToolRun d (tool.UnsafeBootstrap id) dir host host_now sink sink_now status × (source_now ≡ source)
+Does d l source source_now sink sink_now host host_now status (Some (DetachCluster dir)) =
+    ToolRun d tool.DetachCluster dir host host_now sink sink_now status × (source_now ≡ source)
+
+-- how many bytes of the source are read at most: one more than a recorded trace has where the command is an audit, one more than a schedule has
+-- otherwise
+abbrev pub most_by : Option ProgramCommand → ℕ
+most_by (Some Audit) = most_audited
+most_by other = most_read
 
 -- The whole clause: of the words, of what the source, the sink and the host told before the run and after it, and of the status. `d` and `l` are what
 -- disks and links of this host tell.
 pub record Ran {D L : Type 0} (d : Disks D) (l : Links L Sealed) (words : List (List ℕ)) (source source_now : SourceView) (sink sink_now : SinkView) (host host_now : HostView D L) (status : Status) : Type 0 where
   pub does : Does d l source source_now sink sink_now host host_now status (command_of words)
-  -- at most one byte more is read than a schedule has
-  pub read_at_most : ReadsAtMost most_read source.left source_now.left
+  pub read_at_most : ReadsAtMost (most_by (command_of words)) source.left source_now.left
   pub read_fault : status ≡ exit.ReadFault → Rose source.faults source_now.faults
   pub write_fault : status ≡ exit.WriteFault → Rose sink.faults sink_now.faults
   pub disk_fault : status ≡ exit.DiskFault → Failed d.faults host_now.disk_back

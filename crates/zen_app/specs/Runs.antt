@@ -4,7 +4,9 @@ use Rattle.zen_disk.specs.Faults.{Rose}
 use Rattle.schedule_text.specs.declared.level.Level.{Level}
 use Rattle.zen_app.specs.Ran.{ReplayRun, RefusesWords}
 use Rattle.zen_link.specs.Reading.{ReadsAtMost}
+use Rattle.voting_config.specs.Ids.{Id}
 use Rattle.zen_app.specs.Reading.{most_read}
+use Rattle.zen_app.specs.RescueRuns.{RescueRun}
 use Rattle.zen_app.specs.Views.{SourceView, SinkView}
 use Rattle.zen_app.specs.declared.status.Status.{Status}
 use Rattle.zen_app.specs.declared.status.Status.TheVariants as exit
@@ -18,6 +20,15 @@ pub record UsageRun (was now : Option (List ℕ)) (wrote wrote_now : ℕ) (statu
 -- a replay, and the faults that it met
 pub record ReplayEnded (level : Level) (source source_now : SourceView) (sink sink_now : SinkView) (status : Status) : Type 0 where
   pub run : ReplayRun level source source_now sink sink_now status
+  pub read_at_most : ReadsAtMost most_read source.left source_now.left
+  pub read_fault : status ≡ exit.ReadFault → Rose source.faults source_now.faults
+  pub write_fault : status ≡ exit.WriteFault → Rose sink.faults sink_now.faults
+  pub read_later : source.faults ≤ source_now.faults
+  pub wrote_later : sink.faults ≤ sink_now.faults
+
+-- a rescue, and the faults that it met
+pub record RescueEnded (ids : List Id) (source source_now : SourceView) (sink sink_now : SinkView) (status : Status) : Type 0 where
+  pub run : RescueRun ids source source_now sink sink_now status
   pub read_at_most : ReadsAtMost most_read source.left source_now.left
   pub read_fault : status ≡ exit.ReadFault → Rose source.faults source_now.faults
   pub write_fault : status ≡ exit.WriteFault → Rose sink.faults sink_now.faults

@@ -3,6 +3,7 @@ ghost use Rattle.std.specs.Prelude.{◌≡◌};
 ghost use Rattle.schedule_text.specs.Printed.{bad_line};
 ghost use Rattle.zen_app.specs.Refusing.{Refusal};
 ghost use Rattle.zen_app.specs.Runs.{ReplayEnded};
+ghost use Rattle.zen_app.specs.declared.status.Status.TheVariants as exit;
 
 use crate::Status;
 use schedule_replay::{ReplayError, write_trace};
@@ -32,7 +33,7 @@ pub fn run_replay<I: Source, S: Sink>(
     let schedule = match read_schedule(alloc, bytes.as_slice(), level) {
         Ok(schedule) => schedule,
         Err(ReadError::Memory) => return Status::NoMemory,
-        Err(ReadError::Bad(bad)) => return refuse(alloc, out, bad),
+        Err(ReadError::Bad(bad)) => return refuse_schedule(alloc, out, bad),
     };
     match write_trace(alloc, &schedule, level, out) {
         Ok(()) => Status::Ok,
@@ -41,9 +42,9 @@ pub fn run_replay<I: Source, S: Sink>(
     }
 }
 
-// Writes which line is bad and why.
-fn refuse<S: Sink>(alloc: Global, out: &mut S, bad: BadSchedule) -> Status
-    ensures { Refusal (S.written out.old) (S.written out.new) (S.faults out.old) (S.faults out.new) (bad_line bad) result }
+/// Writes which line is bad and why.
+pub fn refuse_schedule<S: Sink>(alloc: Global, out: &mut S, bad: BadSchedule) -> Status
+    ensures { Refusal (S.written out.old) (S.written out.new) (S.faults out.old) (S.faults out.new) (bad_line bad) exit.BadSchedule result }
 {
     let mut text = Text::new(alloc);
     let Ok(()) = text.bad_schedule(&bad) else {

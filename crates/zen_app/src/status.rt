@@ -27,6 +27,14 @@ pub enum Status {
     Turns,
     /// A node of a trial ended with another status than 0 and 11.
     TrialFailed,
+    /// There is no rescue, and why was written.
+    RescueRefused,
+    /// An entry of a recorded trace is not legal.
+    NotLegal,
+    /// The input is no recorded trace.
+    BadTrace,
+    /// A tool has refused the record of a journal.
+    ToolRefused,
 }
 
 impl Status {
@@ -50,6 +58,10 @@ impl Status {
             Status::NotAJournal => 10,
             Status::Turns => 11,
             Status::TrialFailed => 12,
+            Status::RescueRefused => 13,
+            Status::NotLegal => 14,
+            Status::BadTrace => 15,
+            Status::ToolRefused => 16,
         }
     }
 }

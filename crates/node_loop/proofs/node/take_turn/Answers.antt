@@ -1,3 +1,4 @@
+use Rattle.std.proofs.Common.{◌∙◌}
 use Rattle.node_loop.proofs.Turning.{turn_took, turn_failed, turn_refused}
 use Rattle.node_loop.specs.Nodes.{HoldsBy}
 use Rattle.node_loop.proofs.Leaving.{holds_still}
@@ -7,17 +8,19 @@ pub returns-in-Ok-clause-turns : goal.returns-in-Ok-clause-turns
 returns-in-Ok-clause-turns g c s life intakes stands up reads =
     turn_took g.S.Steps.output (g.S.Steps.text s) s life intakes c.take_input.result (g.O.Sink.written c.args.out.now) (g.O.Sink.written c.take_input.new.out)
     (g.L.Link.told c.args.link.now) (g.L.Link.told c.next.new.self) (g.L.Link.told c.take_input.new.link) (HoldsBy g.S.Steps c.args.steps.now c.take_input.new.steps s life)
-    c.take_input.new.connections c.in-Ok.input
+    c.take_input.new.connections (g.L.Link.asked c.args.link.now) (g.L.Link.asked c.take_input.new.link) c.in-Ok.input
     up c.in-Ok.ensures.takes (c.take_input.ensures.takes s life intakes stands up reads) c.take_input.ensures.stop
+    (c.take_input.ensures.asked ∙ c.next.ensures.asked) c.take_input.ensures.unlinked
 
 pub returns-in-Err-Failed-clause-turns : goal.returns-in-Err-Failed-clause-turns
 returns-in-Err-Failed-clause-turns g c s life intakes stands up reads =
     turn_failed g.S.Steps.output (g.S.Steps.text s) s life intakes (g.O.Sink.written c.args.out.now) (g.L.Link.told c.args.link.now) (g.L.Link.told c.next.new.self)
-    (HoldsBy g.S.Steps c.args.steps.now c.args.steps.now s life) c.args.connections.now
-    (holds_still g.S.Steps s c.args.steps.now life stands) up reads c.in-Err-Failed.ensures.takes
+    (HoldsBy g.S.Steps c.args.steps.now c.args.steps.now s life) c.args.connections.now (g.L.Link.asked c.args.link.now) (g.L.Link.asked c.next.new.self)
+    (holds_still g.S.Steps s c.args.steps.now life stands) up reads c.in-Err-Failed.ensures.takes c.next.ensures.asked
 
 pub returns-in-Err-Memory-clause-turns : goal.returns-in-Err-Memory-clause-turns
 returns-in-Err-Memory-clause-turns g c s life intakes stands up reads =
     turn_refused g.S.Steps.output (g.S.Steps.text s) s life intakes c.tell_no_memory.result (g.O.Sink.written c.args.out.now) (g.O.Sink.written c.tell_no_memory.new.out)
-    (g.L.Link.told c.args.link.now) (g.L.Link.told c.next.new.self) (HoldsBy g.S.Steps c.args.steps.now c.args.steps.now s life) c.args.connections.now
+    (g.L.Link.told c.args.link.now) (g.L.Link.told c.next.new.self) (HoldsBy g.S.Steps c.args.steps.now c.args.steps.now s life) c.args.connections.now (g.L.Link.asked c.args.link.now) (g.L.Link.asked c.next.new.self)
     reads c.in-Err-Memory.ensures.takes c.tell_no_memory.ensures.stop (c.tell_no_memory.ensures.refused s life (g.L.Link.told c.args.link.now) up stands)
+    c.next.ensures.asked c.tell_no_memory.ensures.others.0

@@ -3,7 +3,7 @@ use Rattle.node_loop.specs.Happenings.{Faulty}
 use Rattle.policy_model.specs.Entries.{Bad}
 use Rattle.zen_link.specs.declared.link.Traffic.TheVariants.{Dropped}
 use Rattle.node_loop.specs.declared.node.End.TheVariants as ends
-use Rattle.node_loop.proofs.Appending.{front_none}
+use Rattle.node_loop.proofs.Appending.{cut_none, cut_part}
 use Rattle.node_loop.proofs.Telling.{grows_added}
 use Rattle.node_loop.proofs.Doing.{idle_said, idle_part}
 use Rattle.node_loop.specs.Nodes.{HoldsBy}
@@ -16,7 +16,7 @@ returns-in_default-clause-tells g c s life stands up =
     (holds_idle g.S.Steps s g.met.S.Steps.idle c.args.steps.now life) (Faulty c.args.conn c.args.fault) (Bad c.args.conn c.args.fault) tt up
     (holds_still g.S.Steps s c.args.steps.now life stands) (refl, refl)
     ends.Memory (g.O.Sink.written c.args.out.now) (g.O.Sink.written c.args.out.now) (g.L.Link.told c.args.link.now) refl
-    (front_none (g.O.Sink.written c.args.out.now) (g.S.Steps.text s life (Bad c.args.conn c.args.fault)))
+    (cut_none (g.O.Sink.written c.args.out.now) (g.S.Steps.text s life (Bad c.args.conn c.args.fault)))
 
 pub returns-in_default-write_all-clause-tells : goal.returns-in_default-write_all-clause-tells
 returns-in_default-write_all-clause-tells g c s life stands up =
@@ -24,7 +24,7 @@ returns-in_default-write_all-clause-tells g c s life stands up =
     (holds_idle g.S.Steps s g.met.S.Steps.idle c.args.steps.now life) (Faulty c.args.conn c.args.fault) (Bad c.args.conn c.args.fault) tt up
     (holds_still g.S.Steps s c.args.steps.now life stands) (refl, refl)
     ends.Write (g.O.Sink.written c.args.out.now) (g.O.Sink.written c.write_all.new.out) (g.L.Link.told c.args.link.now) refl
-    (rw (c.as_bytes.ensures ∙ c.in-Ok.ensures s life) at c.in_default-write_all.ensures.writes)
+    (cut_part _ _ _ (rw (c.as_bytes.ensures ∙ c.in-Ok.ensures s life) at c.in_default-write_all.ensures.part))
 
 pub returns-clause-tells : goal.returns-clause-tells
 returns-clause-tells g c s life stands up =

@@ -11,7 +11,7 @@ pub returns-in_default-write_all-clause-tells : goal.returns-in_default-write_al
 returns-in_default-write_all-clause-tells g c old s life event does =
     done_part (λ n s2 l. HoldsBy g.S.Steps old n s2 life l) g.S.Steps.output (g.S.Steps.text s) s life event c.args.steps.now c.args.done.sealed c.in-Some.lines
     (g.O.Sink.written c.args.out.now) (g.O.Sink.written c.write_all.new.out) (g.L.Link.told c.args.link.now) (rw c.in-Some.is at does)
-    (rw c.as_bytes.ensures at c.in_default-write_all.ensures.writes)
+    (rw c.as_bytes.ensures at c.in_default-write_all.ensures.part)
 
 pub returns-clause-tells : goal.returns-clause-tells
 returns-clause-tells g c old s life event does =

@@ -21,6 +21,7 @@ loop-frame-init g c =
           (HoldsBy g.S.Steps c.args.steps.now c.args.steps.now s life)
           (holds_still g.S.Steps s c.args.steps.now life stands) up;
       causes = causes_none _ _ _;
+      asked = refl;
     }
 
 pub returns-in-Some-tell_event-clause-tells : goal.returns-in-Some-tell_event-clause-tells
@@ -56,4 +57,5 @@ loop-frame-preserved g c =
           (λ mid lives on. carried g.S.Steps s g.S.Steps.output (g.S.Steps.text s)
           c.args.steps.now at.steps c.tell_event.new.steps life mid _ _ _ _ _ _ lives (c.in_default.ensures.tells refl s mid lives.stands on));
       causes = causes_more None _ _ _ _ _ _ _ _ _ at.invariant.causes c.in_default.ensures.causes;
+      asked = c.tell_event.ensures.asked ∙ at.invariant.asked;
     }

@@ -14,4 +14,5 @@ invariant-loop-line g l = record {
   tells : (s : Settings) (life : Life) → g.S.Steps.stands_for l.fn.steps s life → IsUp life
       → Tells g.S.Steps.output (g.S.Steps.text s) s life (makes (of_lines l.conn l.yielded)) None (g.O.Sink.written l.fn.out) (g.O.Sink.written l.out) (g.L.Link.told l.fn.link) (g.L.Link.told l.link) (HoldsBy g.S.Steps l.fn.steps l.steps s life);
   causes : HasCauses None (g.S.Steps.faults l.fn.steps) (g.S.Steps.faults l.steps) (g.O.Sink.faults l.fn.out) (g.O.Sink.faults l.out) (g.L.Link.faults l.fn.link) (g.L.Link.faults l.link);
+  asked : g.L.Link.asked l.link ≡ g.L.Link.asked l.fn.link;
 }

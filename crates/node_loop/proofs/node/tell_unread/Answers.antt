@@ -3,6 +3,7 @@ use Rattle.node_loop.specs.Happenings.{Unread}
 use Rattle.policy_model.specs.Entries.{Unread as UnreadEntry}
 use Rattle.zen_link.specs.declared.link.Traffic.TheVariants.{Dropped}
 use Rattle.node_loop.specs.declared.node.End.TheVariants as ends
+use Rattle.node_loop.proofs.Appending.{cut_part}
 use Rattle.node_loop.proofs.Telling.{grows_added}
 use Rattle.node_loop.proofs.Doing.{idle_said, idle_part}
 use Rattle.node_loop.specs.Nodes.{HoldsBy}
@@ -15,7 +16,7 @@ returns-in_default-clause-tells g c s life stands up =
     (holds_idle g.S.Steps s g.met.S.Steps.idle c.args.steps.now life) (Unread c.args.conn) (UnreadEntry c.args.conn) tt up (holds_still g.S.Steps s c.args.steps.now life stands)
     refl
     ends.Write (g.O.Sink.written c.args.out.now) (g.O.Sink.written c.write_all.new.out) (g.L.Link.told c.args.link.now) refl
-    (rw (c.no_memory_line.ensures.unread s life c.args.conn) at c.in_default.ensures.writes)
+    (cut_part _ _ _ (rw (c.no_memory_line.ensures.unread s life c.args.conn) at c.in_default.ensures.part))
 
 pub returns-clause-tells : goal.returns-clause-tells
 returns-clause-tells g c s life stands up =

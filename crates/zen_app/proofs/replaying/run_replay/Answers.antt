@@ -31,5 +31,5 @@ returns g c =
 
 pub returns-in-Err-Bad : goal.returns-in-Err-Bad
 returns-in-Err-Bad g c =
-    bad _ _ _ _ _ c.read_input.ensures.at_most c.read_input.ensures.later c.refuse.ensures.later c.as_slice.result.now (rw c.as_slice.ensures.value c.in-Ok.ensures.read) c.refuse.result c.in-Err-Bad.bad
-    (rw c.in-Err-Bad.field-0-is at c.in-Err-Bad.ensures.fault) (λ s spelled. let other = (rw c.in-Err-Bad.field-0-is at c.in-Err-Bad.ensures.only) s spelled in cc) (rw c.in-Err-Bad.field-0-is at c.refuse.ensures)
+    bad _ _ _ _ _ c.read_input.ensures.at_most c.read_input.ensures.later c.refuse_schedule.ensures.later c.as_slice.result.now (rw c.as_slice.ensures.value c.in-Ok.ensures.read) c.refuse_schedule.result c.in-Err-Bad.bad
+    (rw c.in-Err-Bad.field-0-is at c.in-Err-Bad.ensures.fault) (λ s spelled. let other = (rw c.in-Err-Bad.field-0-is at c.in-Err-Bad.ensures.only) s spelled in cc) (rw c.in-Err-Bad.field-0-is at c.refuse_schedule.ensures)

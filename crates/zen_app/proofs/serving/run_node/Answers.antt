@@ -18,7 +18,7 @@ returns-in-Err-open-clause-run g c =
     let sink_now : SinkView = record { written = g.H.Out.Sink.written c.refuse_journal.new.out; faults = g.H.Out.Sink.faults c.refuse_journal.new.out } in
     let gave = c.in-Ok-open_disk.ensures in
     unopened g.H.Disk.Disks g.L.Link c.args.words.now (view c.args.host.now) (view c.refuse_journal.new.host) sink sink_now c.in-Ok-open_disk.disk c.in-Err-open.error c.refuse_journal.result
-    (record { same = λ x is. gave.given x is; fresh = gave.fresh }) c.in-Err-open.ensures.why c.in-Err-open.ensures.any_moment_err c.refuse_journal.ensures.refused
+    (record { same = λ x is. gave.given x is; fresh = gave.fresh }) c.in-Err-open.ensures.why c.in-Err-open.ensures.any_moment_err c.in-Err-open.ensures.ran_err c.refuse_journal.ensures.refused
     (c.refuse_journal.ensures.calls ∙ gave.call ∙ ap (λ dir. and_call (g.H.Host.calls c.args.host.now) (OpensDisk dir false)) c.as_str.ensures)
     c.refuse_journal.ensures.back (record { ready = c.refuse_journal.ensures.link_ready ∙ gave.link_ready; back = c.refuse_journal.ensures.link_back ∙ gave.link_back }) c.in-Err-open.ensures.cause
 
@@ -74,7 +74,7 @@ returns-clause-run g c =
       end = c.run-disk.result.1;
       served = g.H.Out.Sink.written c.run-disk.new.out;
       wrote = g.H.Out.Sink.faults c.run-disk.new.out;
-      serves = serves_on g.H.Disk.Disks g.met.H.Disk.Disks.counts_now sent_of (entry_text s) s kept opened c.run-disk.result.0 c.run-disk.result.1 _ _ _ _ c.args.words.now.turns (opening_text s life) life_local
+      serves = serves_on g.H.Disk.Disks g.met.H.Disk.Disks.counts_now sent_of (entry_text s) s kept opened c.run-disk.result.0 c.run-disk.result.1 _ _ _ _ _ _ c.args.words.now.turns (opening_text s life) life_local
           (c.run-disk.ensures.serves s life stands (record { unstarted = refl; unstruck = refl }) c.in-Ok-open.ensures.reads);
       causes = causes;
       ends = c.write_end.ensures.ends;

@@ -1,0 +1,10 @@
+//! One node of an audit: what it answers to an act, what it keeps, and what an act, a fault, a crash or an opening makes of it.
+#![tactic(auto)]
+
+pub mod node;
+pub mod running;
+pub mod sources;
+
+pub use node::{Node, Struck, shows_as};
+pub use running::Running;
+pub use sources::Sources;

@@ -1,0 +1,83 @@
+//! A tool used on the journal in a folder: the disk is opened, and given back before anything is written.
+ghost use Rattle.std.specs.Prelude.{◌≡◌, ◌≤◌};
+ghost use Rattle.journal_inspection.specs.Inspects.{HostView, LeavesLinks};
+ghost use Rattle.node_tool.specs.Runs.{Asked, EndsWith, IsComplete, Says};
+
+use crate::{Tool, Tooled, use_tool};
+use schedule_text::Text;
+use std::alloc::Global;
+use zen_host::{Host, HostError};
+use zen_link::{Sink, write_all};
+
+/// How the use of a tool on a folder ended.
+#[derive(Clone, Copy, Debug, PartialEq, Eq)]
+pub enum ToolEnd {
+    /// The journal keeps the new record, whose seven lines were written.
+    Done,
+    /// The record is refused and stays, and the line that says why was written.
+    Refused,
+    /// The files are no journal, and the line that says why was written.
+    NotAJournal,
+    /// Memory ran out, and nothing was written to the sink.
+    NoMemory,
+    /// The sink failed, and its count of faults rose.
+    WriteFault,
+    /// The disk that the host gave failed, and its count of faults rose.
+    DiskFault,
+    /// The host failed, and its count of faults rose.
+    HostFault,
+}
+
+// Writes a text, which ends so where it was written whole.
+fn say<S: Sink>(out: &mut S, text: &Text, end: ToolEnd) -> ToolEnd
+    ensures says { Says text.now end (S.written out.old) (S.written out.new) (S.faults out.old) (S.faults out.new) result }
+    ensures later { S.faults out.old ≤ S.faults out.new }
+{
+    match write_all(out, text.as_bytes()) {
+        Ok(()) => end,
+        Err(_) => ToolEnd::WriteFault,
+    }
+}
+
+/// Opens the journal in a folder and uses a tool on it, and writes what it keeps then, or why the tool refuses it, or why it is no
+/// journal. The disk is given back before anything is written.
+///
+/// The folder must be that of a node that does not run.
+pub fn run_tool<H: Host>(
+    alloc: Global,
+    tool: Tool,
+    dir: &str,
+    out: &mut H::Out,
+    host: &mut H,
+) -> ToolEnd
+    ensures asked { Asked dir.now (H.calls host.old) (H.calls host.new) result }
+    ensures ended { EndsWith H.Disk.Disks tool
+        (record { calls = H.calls host.old; disk_ready = H.disk_ready host.old; disk_back = H.disk_back host.old; link_ready = H.link_ready host.old; link_back = H.link_back host.old; held = H.held host.old; faults = H.faults host.old })
+        (record { calls = H.calls host.new; disk_ready = H.disk_ready host.new; disk_back = H.disk_back host.new; link_ready = H.link_ready host.new; link_back = H.link_back host.new; held = H.held host.new; faults = H.faults host.new })
+        (H.Out.written out.old) (H.Out.written out.new) (H.Out.faults out.old) (H.Out.faults out.new) result }
+    ensures complete { IsComplete H.Disk.Disks tool
+        (record { calls = H.calls host.old; disk_ready = H.disk_ready host.old; disk_back = H.disk_back host.old; link_ready = H.link_ready host.old; link_back = H.link_back host.old; held = H.held host.old; faults = H.faults host.old })
+        (record { calls = H.calls host.new; disk_ready = H.disk_ready host.new; disk_back = H.disk_back host.new; link_ready = H.link_ready host.new; link_back = H.link_back host.new; held = H.held host.new; faults = H.faults host.new })
+        (H.Out.faults out.old) (H.Out.faults out.new) result }
+    ensures links { LeavesLinks
+        (record { calls = H.calls host.old; disk_ready = H.disk_ready host.old; disk_back = H.disk_back host.old; link_ready = H.link_ready host.old; link_back = H.link_back host.old; held = H.held host.old; faults = H.faults host.old })
+        (record { calls = H.calls host.new; disk_ready = H.disk_ready host.new; disk_back = H.disk_back host.new; link_ready = H.link_ready host.new; link_back = H.link_back host.new; held = H.held host.new; faults = H.faults host.new }) }
+    ensures held { H.held host.new ≡ H.held host.old }
+    ensures wrote_later { H.Out.faults out.old ≤ H.Out.faults out.new }
+    ensures later { H.faults host.old ≤ H.faults host.new }
+{
+    let disk = match host.open_disk(dir) {
+        Ok(disk) => disk,
+        Err(HostError::Failed) => return ToolEnd::HostFault,
+        Err(HostError::Memory) => return ToolEnd::NoMemory,
+    };
+    let (disk, tooled) = use_tool(alloc, tool, disk);
+    host.close_disk(disk);
+    match &tooled {
+        Tooled::Report(text) => say(out, text, ToolEnd::Done),
+        Tooled::Refused(text) => say(out, text, ToolEnd::Refused),
+        Tooled::NotAJournal(text) => say(out, text, ToolEnd::NotAJournal),
+        Tooled::Disk => ToolEnd::DiskFault,
+        Tooled::Memory => ToolEnd::NoMemory,
+    }
+}

@@ -1,0 +1,132 @@
+//! Runs of the tools over disks in memory. The journals that they are used on, and the digests that they show, were made apart from
+//! the program.
+use super::inspections::{COMMITTED, TERM_ONE};
+use super::runs::{Case, Row, UNREAD, Written, all_end};
+use std::test::Fail;
+use zen_app::Status;
+
+// A journal of the last version.
+const LAST: &[u8] =
+    b"ZENJRNL\x31\x01\x00\x00\x00\x29\x81\x00\x00\x00\x00\x00\x00\x00\x01\x92\x01\x39\xd9siw\xbb\xa9\xf8\x23\xbb\xa2\
+    \x04n\xfd\x82\x28\x92w\xe0n\xce\x8c\xf7\xd3A\xdegX\x00\xc8\x01\x00\x00\x00M\x82\x00\x00\x00\x00\x00\x00\x00\x01\
+    \x40\x00\x00\x00\x00\x00\x00\x00\x01\x00\x00\x00\x00\x00\x00\x00\x00\x00\x00\x00\x00\x00\x00\x00\x00\x01\x01a\
+    \x01\x01a\x00\x00\x00\x00\x00\x5e\x1d\xb5\xbfrX\x9b\x34v\x3d\x21N\xe3\xect\x3b\xe1\x28\xd9\xb0q\xf2n\x7em\xbb\
+    \xb0\x7b\x35\xcc\xe5\x9f\x00";
+
+const NO_STATE: Written<'static> = Written::Whole(b"zen: refused: NoState\n");
+
+// The node a is to go on alone.
+const ALONE: Case<'static> = Case {
+    words: &["unsafe-bootstrap", "--id", "a", "--dir", "a"],
+    file: COMMITTED,
+    ..UNREAD
+};
+
+// The node is to leave its cluster.
+const LEAVE: Case<'static> = Case {
+    words: &["detach-cluster", "--dir", "a"],
+    ..ALONE
+};
+
+const ROWS: &[Row<'static>] = &[
+    (
+        "a node goes on alone",
+        ALONE,
+        Status::Ok,
+        Written::Begins(
+            b"term=1\naccepted=1/2\nconfig=a\ncommitted=a\nrecords=4\nsha256=853ba6494ff963ea",
+        ),
+        1,
+    ),
+    (
+        "a node leaves its cluster",
+        LEAVE,
+        Status::Ok,
+        Written::Begins(
+            b"term=1\naccepted=0/0\nconfig=_\ncommitted=_\nrecords=4\nsha256=9d908ecfb6b256de",
+        ),
+        1,
+    ),
+    (
+        "a node of no cluster does not go on alone",
+        Case {
+            file: TERM_ONE,
+            ..ALONE
+        },
+        Status::ToolRefused,
+        NO_STATE,
+        1,
+    ),
+    (
+        "a node of no cluster leaves none",
+        Case { file: b"", ..LEAVE },
+        Status::ToolRefused,
+        NO_STATE,
+        1,
+    ),
+    (
+        "no version comes after the last",
+        Case {
+            file: LAST,
+            ..ALONE
+        },
+        Status::ToolRefused,
+        Written::Whole(b"zen: refused: Exhausted(4611686018427387904)\n"),
+        1,
+    ),
+    (
+        "no journal",
+        Case {
+            file: b"ABCDEFGHIJ",
+            ..LEAVE
+        },
+        Status::NotAJournal,
+        Written::Whole(b"zen: not a journal: Header\n"),
+        1,
+    ),
+    (
+        "a fault of the disk in the first call after the seven that open it",
+        Case {
+            device_calls: &[8],
+            ..ALONE
+        },
+        Status::DiskFault,
+        Written::Whole(b""),
+        1,
+    ),
+    (
+        "a fault of the host",
+        Case {
+            openings: &[1],
+            ..LEAVE
+        },
+        Status::HostFault,
+        Written::Whole(b""),
+        1,
+    ),
+    (
+        "a fault of the output",
+        Case {
+            writes: &[1],
+            ..ALONE
+        },
+        Status::WriteFault,
+        Written::Whole(b""),
+        1,
+    ),
+    (
+        "an id that is none",
+        Case {
+            words: &["unsafe-bootstrap", "--id", "A", "--dir", "a"],
+            ..ALONE
+        },
+        Status::Usage,
+        Written::Whole(b"zen: usage\n"),
+        0,
+    ),
+];
+
+#[test]
+fn a_tool_changes_a_record_or_refuses_it(rt: HostRuntime) -> Result<(), Fail> {
+    all_end(&rt, rt.alloc(), ROWS)
+}

@@ -1,0 +1,12 @@
+pub mod Choosing
+pub mod Examples
+pub mod MoreVotes
+pub mod Named
+pub mod Numbers
+pub mod Planned
+pub mod Rescue
+pub mod Stages
+pub mod Steps
+pub mod Sweeps
+pub mod Taking
+pub mod Views

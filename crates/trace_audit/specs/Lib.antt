@@ -1,0 +1,9 @@
+pub mod Runs
+pub mod Reports
+pub mod Printed
+pub mod Traced
+pub mod Clauses
+pub mod Verdicts
+pub mod Messages
+pub mod Places
+pub mod Stands
