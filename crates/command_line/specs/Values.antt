@@ -1,10 +1,11 @@
 -- Part of the statement: the values of options, by their kinds.
-use Rattle.std.specs.Prelude.{ℕ, ◌^◌, ◌==◌, ◌&&◌, ◌||◌, Bool, false, if◌then◌else◌, length, codes, nat_le, nat_lt, Option, Some, None, option_and_then}
+use Rattle.std.specs.Prelude.{ℕ, ◌^◌, ◌==◌, ◌&&◌, ◌||◌, Bool, false, not, if◌then◌else◌, length, codes, nat_le, nat_lt, Option, Some, None, is_some, option_and_then}
 use Rattle.std.specs.Char.{is_ascii_digit}
 use Rattle.std.specs.List.{list_all, list_any}
 use Rattle.std.specs.Option.{option_map_or}
 use Rattle.std.specs.Str.{bytes_eq}
 use Rattle.std.specs.Str.Parse.{digits_value}
+use Rattle.clap.specs.Lexer.{strip_byte}
 use Rattle.voting_config.specs.Ids.{Id, is_id}
 use Rattle.command_line.specs.Given.{Text, is_hyphened}
 
@@ -35,9 +36,13 @@ id_of t = if is_id t then Some t else None
 abbrev pub address_of : Text → Option Text
 address_of t = if list_any (λ b. b == 44) t then None else Some t
 
--- decimal digits alone, of a number of 64 bits
+-- a zero before other bytes
+abbrev pub has_leading_zero : Text → Bool
+has_leading_zero t = is_some (strip_byte 48 t) && nat_lt 1 (length t)
+
+-- decimal digits alone, without a zero before others, of a number of 64 bits
 abbrev pub is_number : Text → Bool
-is_number t = list_all is_ascii_digit t && (nat_lt 0 (length t) && nat_lt (digits_value 10 t) (2 ^ 64))
+is_number t = list_all is_ascii_digit t && (not (has_leading_zero t) && (nat_lt 0 (length t) && nat_lt (digits_value 10 t) (2 ^ 64)))
 
 abbrev pub number_of : Text → Option ℕ
 number_of t = if is_number t then Some (digits_value 10 t) else None

@@ -4,7 +4,7 @@ ghost use Rattle.std.specs.Char.{is_ascii_digit};
 ghost use Rattle.std.specs.List.{list_all, list_any};
 ghost use Rattle.clap.specs.Words.{first_value, found_of};
 ghost use Rattle.command_line.specs.Answers.{Gives};
-ghost use Rattle.command_line.specs.Values.{plain_text, text_at, is_set as is_set_at, id_of, address_of, number_of, number_within as within};
+ghost use Rattle.command_line.specs.Values.{plain_text, text_at, is_set as is_set_at, id_of, address_of, has_leading_zero as is_led_by_zero, number_of, number_within as within};
 
 use crate::WordsError;
 use clap::ArgMatches;
@@ -76,17 +76,26 @@ fn are_digits(text: &str) -> bool
     text.as_bytes().iter().all(|b| b.is_ascii_digit())
 }
 
-/// The number of 64 bits that decimal digits alone say.
+fn has_leading_zero(text: &str) -> bool
+    ensures { result ≡ is_led_by_zero text.now }
+{
+    text.starts_with('0') && text.len() > 1
+}
+
+/// The number of 64 bits that decimal digits alone say, without a zero before others.
 pub fn number(text: &str) -> Option<u64>
     ensures { result ≡ number_of text.now }
 {
     if !are_digits(text) {
         return None;
     }
+    if has_leading_zero(text) {
+        return None;
+    }
     text.parse().ok()
 }
 
-/// The number from `least` to `most` that decimal digits alone say.
+/// The number from `least` to `most` that decimal digits alone say, without a zero before others.
 pub fn number_within(text: &str, least: u64, most: u64) -> Option<u64>
     ensures { result ≡ within least most text.now }
 {

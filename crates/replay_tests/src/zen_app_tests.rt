@@ -9,7 +9,6 @@ mod rows;
 mod runs;
 mod tools;
 
-use rescues::{RESCUES, drawn_lines_are_refused, drawn_lines_go_on, two_of_three_go_on};
 use rows::{
     RULES, SAFE_COMMITS, SAFE_JOINS, SAFE_PUBLICATIONS, SAFE_VALUES, STOPS, Traced, WHOLE_NODES,
 };
@@ -451,27 +450,6 @@ const DRAWN_OR_TRIED: [Row<'static>; 2] = [
 #[test]
 fn a_schedule_is_drawn_and_a_trial_asks_for_its_nodes(rt: HostRuntime) -> Result<(), Fail> {
     all_end(&rt, rt.alloc(), &DRAWN_OR_TRIED)
-}
-
-#[test]
-fn a_schedule_is_gone_on_with_or_it_is_said_why_not(rt: HostRuntime) -> Result<(), Fail> {
-    all_end(&rt, rt.alloc(), &RESCUES)
-}
-
-#[test]
-fn a_schedule_and_its_plan_elect_a_node_and_commit_a_state(rt: HostRuntime) -> Result<(), Fail> {
-    let goes_on = two_of_three_go_on(rt.alloc())?;
-    assert!(rt; goes_on);
-    Ok(())
-}
-
-#[test]
-fn a_drawn_schedule_is_gone_on_with_where_a_quorum_is_up(rt: HostRuntime) -> Result<(), Fail> {
-    let goes_on = drawn_lines_go_on(rt.alloc())?;
-    assert!(rt; goes_on);
-    let are_refused = drawn_lines_are_refused(rt.alloc())?;
-    assert!(rt; are_refused);
-    Ok(())
 }
 
 const CODES: [(Status, u8); 16] = [

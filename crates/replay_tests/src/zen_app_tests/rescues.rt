@@ -1,8 +1,9 @@
 //! Schedules that are gone on with, and those that can't be.
-use super::runs::{Case, REPLAY, Row, Written, ends, host, ran, replays, sink};
+use super::runs::{Case, REPLAY, Row, Written, all_end, ends, host, ran, replays, sink};
 use schedule_generator::Generator;
 use schedule_text::{Level, Text};
 use std::alloc::{AllocError, Global};
+use std::test::Fail;
 use zen_app::Status;
 
 const A: Case<'static> = Case {
@@ -55,245 +56,156 @@ const WINS_AND_COMMITS: &[u8] = b"won a 2\n\
     committed {\"committed\":[\"a\",\"b\",\"c\"],\"config\":[\"a\",\"b\",\"c\"],\"parent\":{\"term\":0,\"version\":0},\"term\":2,\"value\":{\"exclusions\":[],\"master\":null,\"members\":[],\"settings\":{\"v\":\"rescue\"}},\"version\":1}\n\
     m9 a->* commit 2/1\n";
 
-pub const RESCUES: [Row<'static>; 20] = [
+// Nodes a and b, of which b has accepted a state.
+const NEWEST_OF_THE_LAST: &[u8] =
+    b"nodes a,b\ninitial a,b\nboot a\nboot b\nstartjoin a b 1\nstartjoin b b 1\n\
+    deliver b 1\ndeliver b 2\nvalue b 1 x a,b\ndeliver b 3\n";
+
+const GOES_ON_WITH_THE_LAST: &[u8] =
+    b"startjoin a b 2\nstartjoin b b 2\ndeliver b 5\ndeliver b 6\nvalue b 2 rescue a,b\n\
+    deliver a 7\ndeliver b 7\ndeliver b 8\ndeliver b 9\n";
+
+// A schedule, the nodes that are up, the status, and what is written.
+type Answer = (&'static [u8], &'static str, Status, &'static [u8]);
+
+const ANSWERS: [Answer; 17] = [
+    // two of three go on
+    (ELECTED, "a,b", Status::Ok, GOES_ON),
+    // one of three does not
     (
-        "two of three go on",
-        Case {
-            input: ELECTED,
-            ..A_AND_B
-        },
+        ELECTED,
+        "c",
+        Status::RescueRefused,
+        b"zen: no rescue: NoQuorum(1/3,1/3)\n",
+    ),
+    // a node that is none
+    (
+        ELECTED,
+        "a,b,d,e",
+        Status::RescueRefused,
+        b"zen: no rescue: NotUp(d)\n",
+    ),
+    // no node at all
+    (
+        b"",
+        "a",
+        Status::RescueRefused,
+        b"zen: no rescue: NotUp(a)\n",
+    ),
+    // a node that crashed, within an act or between two, and one whose disk failed
+    (
+        b"nodes a\ninitial a\nboot a\ncrash a all\n",
+        "a",
+        Status::RescueRefused,
+        b"zen: no rescue: NotUp(a)\n",
+    ),
+    (
+        b"nodes a\ninitial a\nfuse a 1 none\nboot a\n",
+        "a",
+        Status::RescueRefused,
+        b"zen: no rescue: NotUp(a)\n",
+    ),
+    (
+        b"nodes a\ninitial a\nfail a 1\nboot a\n",
+        "a",
+        Status::RescueRefused,
+        b"zen: no rescue: NotUp(a)\n",
+    ),
+    // a node that was opened again
+    (
+        b"nodes a\ninitial a\nboot a\ncrash a all\nrestart a\n",
+        "a",
         Status::Ok,
-        Written::Whole(GOES_ON),
-        0,
+        b"startjoin a a 1\ndeliver a 1\nvalue a 1 rescue a\ndeliver a 2\ndeliver a 3\n",
     ),
+    // a stop or a fault that has not come; a node that is down comes first
     (
-        "one of three does not",
-        Case {
-            words: &["rescue", "--up", "c"],
-            input: ELECTED,
-            ..REPLAY
-        },
+        b"nodes a\ninitial a\nboot a\nfuse a 9 none\n",
+        "a",
         Status::RescueRefused,
-        Written::Whole(b"zen: no rescue: NoQuorum(1/3,1/3)\n"),
-        0,
+        b"zen: no rescue: Armed(a)\n",
     ),
     (
-        "a node that is none",
-        Case {
-            words: &["rescue", "--up", "a,b,d,e"],
-            input: ELECTED,
-            ..REPLAY
-        },
+        b"nodes a\ninitial a\nfail a 9\n",
+        "a",
         Status::RescueRefused,
-        Written::Whole(b"zen: no rescue: NotUp(d)\n"),
-        0,
+        b"zen: no rescue: Armed(a)\n",
     ),
     (
-        "no node at all",
-        Case { input: b"", ..A },
+        b"nodes a,b\ninitial a\nfuse a 9 none\ncrash b all\n",
+        "a,b",
         Status::RescueRefused,
-        Written::Whole(b"zen: no rescue: NotUp(a)\n"),
-        0,
+        b"zen: no rescue: NotUp(b)\n",
     ),
+    // no configuration, and a quorum of the committed one alone
     (
-        "a node that crashed",
-        Case {
-            input: b"nodes a\n\
-            initial a\n\
-            boot a\n\
-            crash a all\n",
-            ..A
-        },
+        b"nodes a\ninitial a\nstartjoin a a 4611686018427387904\n",
+        "a",
         Status::RescueRefused,
-        Written::Whole(b"zen: no rescue: NotUp(a)\n"),
-        0,
+        b"zen: no rescue: NoQuorum(0/0,0/0)\n",
     ),
     (
-        "a node that crashed within an act",
-        Case {
-            input: b"nodes a\n\
-            initial a\n\
-            fuse a 1 none\n\
-            boot a\n",
-            ..A
-        },
+        b"nodes a,b\ninitial a\nboot a\nstartjoin a a 1\nstartjoin b a 1\ndeliver a 1\ndeliver a 2\nvalue a 1 x a,b\ndeliver a 3\n",
+        "a",
         Status::RescueRefused,
-        Written::Whole(b"zen: no rescue: NotUp(a)\n"),
-        0,
+        b"zen: no rescue: NoQuorum(1/1,1/2)\n",
     ),
+    // the last term, and the last version
     (
-        "a node whose disk failed",
-        Case {
-            input: b"nodes a\n\
-            initial a\n\
-            fail a 1\n\
-            boot a\n",
-            ..A
-        },
+        b"nodes a\ninitial a\nboot a\nstartjoin a a 4611686018427387904\n",
+        "a",
         Status::RescueRefused,
-        Written::Whole(b"zen: no rescue: NotUp(a)\n"),
-        0,
+        b"zen: no rescue: Exhausted(4611686018427387904,0)\n",
     ),
     (
-        "a node that was opened again",
-        Case {
-            input: b"nodes a\n\
-            initial a\n\
-            boot a\n\
-            crash a all\n\
-            restart a\n",
-            ..A
-        },
-        Status::Ok,
-        Written::Whole(
-            b"startjoin a a 1\ndeliver a 1\nvalue a 1 rescue a\ndeliver a 2\ndeliver a 3\n",
-        ),
-        0,
-    ),
-    (
-        "a stop that has not come",
-        Case {
-            input: b"nodes a\n\
-            initial a\n\
-            boot a\n\
-            fuse a 9 none\n",
-            ..A
-        },
+        b"nodes a\ninitial a\nboot a\nstartjoin a a 1\ndeliver a 1\nvalue a 4611686018427387904 x a\ndeliver a 2\n",
+        "a",
         Status::RescueRefused,
-        Written::Whole(b"zen: no rescue: Armed(a)\n"),
-        0,
+        b"zen: no rescue: Exhausted(1,4611686018427387904)\n",
     ),
+    // the newest state is not that of the least node
+    (NEWEST_OF_THE_LAST, "a,b", Status::Ok, GOES_ON_WITH_THE_LAST),
+    // no schedule
     (
-        "a fault that has not come",
-        Case {
-            input: b"nodes a\n\
-            initial a\n\
-            fail a 9\n",
-            ..A
-        },
-        Status::RescueRefused,
-        Written::Whole(b"zen: no rescue: Armed(a)\n"),
-        0,
-    ),
-    (
-        "a node that is down comes first",
-        Case {
-            input: b"nodes a,b\n\
-            initial a\n\
-            fuse a 9 none\n\
-            crash b all\n",
-            ..A_AND_B
-        },
-        Status::RescueRefused,
-        Written::Whole(b"zen: no rescue: NotUp(b)\n"),
-        0,
-    ),
-    (
-        "no configuration",
-        Case {
-            input: b"nodes a\n\
-            initial a\n\
-            startjoin a a 4611686018427387904\n",
-            ..A
-        },
-        Status::RescueRefused,
-        Written::Whole(b"zen: no rescue: NoQuorum(0/0,0/0)\n"),
-        0,
-    ),
-    (
-        "a quorum of the committed configuration alone",
-        Case {
-            input: b"nodes a,b\n\
-            initial a\n\
-            boot a\n\
-            startjoin a a 1\n\
-            startjoin b a 1\n\
-            deliver a 1\n\
-            deliver a 2\n\
-            value a 1 x a,b\n\
-            deliver a 3\n",
-            ..A
-        },
-        Status::RescueRefused,
-        Written::Whole(b"zen: no rescue: NoQuorum(1/1,1/2)\n"),
-        0,
-    ),
-    (
-        "the last term",
-        Case {
-            input: b"nodes a\n\
-            initial a\n\
-            boot a\n\
-            startjoin a a 4611686018427387904\n",
-            ..A
-        },
-        Status::RescueRefused,
-        Written::Whole(b"zen: no rescue: Exhausted(4611686018427387904,0)\n"),
-        0,
-    ),
-    (
-        "the last version",
-        Case {
-            input: b"nodes a\n\
-            initial a\n\
-            boot a\n\
-            startjoin a a 1\n\
-            deliver a 1\n\
-            value a 4611686018427387904 x a\n\
-            deliver a 2\n",
-            ..A
-        },
-        Status::RescueRefused,
-        Written::Whole(b"zen: no rescue: Exhausted(1,4611686018427387904)\n"),
-        0,
-    ),
-    (
-        "the newest state is not that of the least node",
-        Case {
-            input: b"nodes a,b\n\
-            initial a,b\n\
-            boot a\n\
-            boot b\n\
-            startjoin a b 1\n\
-            startjoin b b 1\n\
-            deliver b 1\n\
-            deliver b 2\n\
-            value b 1 x a,b\n\
-            deliver b 3\n",
-            ..A_AND_B
-        },
-        Status::Ok,
-        Written::Begins(
-            b"startjoin a b 2\nstartjoin b b 2\ndeliver b 5\ndeliver b 6\nvalue b 2 rescue a,b\n",
-        ),
-        0,
-    ),
-    (
-        "no schedule",
-        Case {
-            input: b"nodes a\n\
-            initial a\n\
-            tick a 0 7\n",
-            ..A
-        },
+        b"nodes a\ninitial a\ntick a 0 7\n",
+        "a",
         Status::BadSchedule,
-        Written::Whole(b"zen: bad schedule at line 3: Verb\n"),
-        0,
+        b"zen: bad schedule at line 3: Verb\n",
     ),
+];
+
+// Whether a rescue of the nodes that are up answers so.
+fn answers(alloc: Global, answer: &Answer) -> Result<bool, AllocError> {
+    let (input, up, status, text) = *answer;
+    let words = ["rescue", "--up", up];
+    let case = Case {
+        words: &words,
+        input,
+        ..REPLAY
+    };
+    ends(alloc, &case, status, Written::Whole(text), 0)
+}
+
+#[test]
+fn a_schedule_is_gone_on_with_or_it_is_said_why_not(rt: HostRuntime) -> Result<(), Fail> {
+    for (place, answer) in ANSWERS.iter().enumerate() {
+        let does = answers(rt.alloc(), answer)?;
+        assert!(rt; does, "row {place}");
+    }
+    Ok(())
+}
+
+// What fails, and what is written of this.
+const FAULTS: [Row<'static>; 3] = [
     (
-        "the first read fails",
-        Case {
-            input: b"nodes a\n\
-            initial a\n",
-            reads: &[1],
-            ..A
-        },
+        "the first read",
+        Case { reads: &[1], ..A },
         Status::ReadFault,
         Written::Whole(b""),
         0,
     ),
     (
-        "the first write of a plan fails",
+        "the first write of a plan",
         Case {
             input: ELECTED,
             writes: &[1],
@@ -304,17 +216,18 @@ pub const RESCUES: [Row<'static>; 20] = [
         0,
     ),
     (
-        "the first write of a refusal fails",
-        Case {
-            input: b"",
-            writes: &[1],
-            ..A
-        },
+        "the first write of a refusal",
+        Case { writes: &[1], ..A },
         Status::WriteFault,
         Written::PartOf(b"zen: no rescue: NotUp(a)\n"),
         0,
     ),
 ];
+
+#[test]
+fn a_rescue_ends_at_a_fault(rt: HostRuntime) -> Result<(), Fail> {
+    all_end(&rt, rt.alloc(), &FAULTS)
+}
 
 // What a rescue writes, where it ends well.
 fn plan_of(alloc: Global, case: &Case<'_>) -> Result<Option<Vec<u8>>, AllocError> {
@@ -375,8 +288,8 @@ const DRAWN_COMMITS: &[u8] =
     b"committed {\"committed\":[\"a\",\"b\",\"c\"],\"config\":[\"a\",\"b\"],\"parent\":{\"term\":1,\"version\":31},\"term\":10,\"value\":{\"exclusions\":[],\"master\":null,\"members\":[],\"settings\":{\"v\":\"rescue\"}},\"version\":32}\n\
     m32 a->* commit 10/32\n";
 
-/// Whether a drawn schedule of 900 lines is gone on with.
-pub fn drawn_lines_go_on(alloc: Global) -> Result<bool, AllocError> {
+// Whether a drawn schedule of 900 lines is gone on with.
+fn drawn_lines_go_on(alloc: Global) -> Result<bool, AllocError> {
     let text = drawn(alloc, 900)?;
     let case = Case {
         input: text.as_bytes(),
@@ -385,8 +298,8 @@ pub fn drawn_lines_go_on(alloc: Global) -> Result<bool, AllocError> {
     goes_on(alloc, &case, DRAWN_COMMITS)
 }
 
-/// Whether one of 1,000 lines is refused for each list, as it should be.
-pub fn drawn_lines_are_refused(alloc: Global) -> Result<bool, AllocError> {
+// Whether one of 1,000 lines is refused for each list, as it should be.
+fn drawn_lines_are_refused(alloc: Global) -> Result<bool, AllocError> {
     let text = drawn(alloc, 1000)?;
     let mut are_refused = true;
     for (words, line) in DRAWN {
@@ -402,11 +315,22 @@ pub fn drawn_lines_are_refused(alloc: Global) -> Result<bool, AllocError> {
     Ok(are_refused)
 }
 
-/// Whether two of three nodes that go on elect a and commit a new state.
-pub fn two_of_three_go_on(alloc: Global) -> Result<bool, AllocError> {
+#[test]
+fn a_drawn_schedule_is_gone_on_with_where_a_quorum_is_up(rt: HostRuntime) -> Result<(), Fail> {
+    let goes_on = drawn_lines_go_on(rt.alloc())?;
+    assert!(rt; goes_on);
+    let are_refused = drawn_lines_are_refused(rt.alloc())?;
+    assert!(rt; are_refused);
+    Ok(())
+}
+
+#[test]
+fn a_schedule_and_its_plan_elect_a_node_and_commit_a_state(rt: HostRuntime) -> Result<(), Fail> {
     let case = Case {
         input: ELECTED,
         ..A_AND_B
     };
-    goes_on(alloc, &case, WINS_AND_COMMITS)
+    let goes_on = goes_on(rt.alloc(), &case, WINS_AND_COMMITS)?;
+    assert!(rt; goes_on);
+    Ok(())
 }

@@ -1,7 +1,8 @@
 //! Runs of the tools over disks in memory. The journals that they are used on, and the digests that they show, were made apart from
 //! the program.
 use super::inspections::{COMMITTED, TERM_ONE};
-use super::runs::{Case, Row, UNREAD, Written, all_end};
+use super::runs::{Case, Row, UNREAD, Written, all_end, ends};
+use std::alloc::{AllocError, Global};
 use std::test::Fail;
 use zen_app::Status;
 
@@ -16,74 +17,81 @@ const LAST: &[u8] =
 const NO_STATE: Written<'static> = Written::Whole(b"zen: refused: NoState\n");
 
 // The node a is to go on alone.
+const GO_ALONE: &[&str] = &["unsafe-bootstrap", "--id", "a", "--dir", "a"];
+
+// The node is to leave its cluster.
+const LEAVE: &[&str] = &["detach-cluster", "--dir", "a"];
+
 const ALONE: Case<'static> = Case {
-    words: &["unsafe-bootstrap", "--id", "a", "--dir", "a"],
+    words: GO_ALONE,
     file: COMMITTED,
     ..UNREAD
 };
 
-// The node is to leave its cluster.
-const LEAVE: Case<'static> = Case {
-    words: &["detach-cluster", "--dir", "a"],
-    ..ALONE
-};
+// The words, the journal, the status, and what is written.
+type Use = (
+    &'static [&'static str],
+    &'static [u8],
+    Status,
+    Written<'static>,
+);
 
-const ROWS: &[Row<'static>] = &[
+const USES: [Use; 6] = [
     (
-        "a node goes on alone",
-        ALONE,
+        GO_ALONE,
+        COMMITTED,
         Status::Ok,
         Written::Begins(
             b"term=1\naccepted=1/2\nconfig=a\ncommitted=a\nrecords=4\nsha256=853ba6494ff963ea",
         ),
-        1,
     ),
     (
-        "a node leaves its cluster",
         LEAVE,
+        COMMITTED,
         Status::Ok,
         Written::Begins(
             b"term=1\naccepted=0/0\nconfig=_\ncommitted=_\nrecords=4\nsha256=9d908ecfb6b256de",
         ),
-        1,
     ),
+    // a node of no cluster neither goes on alone nor leaves one
+    (GO_ALONE, TERM_ONE, Status::ToolRefused, NO_STATE),
+    (LEAVE, b"", Status::ToolRefused, NO_STATE),
+    // no version comes after the last
     (
-        "a node of no cluster does not go on alone",
-        Case {
-            file: TERM_ONE,
-            ..ALONE
-        },
-        Status::ToolRefused,
-        NO_STATE,
-        1,
-    ),
-    (
-        "a node of no cluster leaves none",
-        Case { file: b"", ..LEAVE },
-        Status::ToolRefused,
-        NO_STATE,
-        1,
-    ),
-    (
-        "no version comes after the last",
-        Case {
-            file: LAST,
-            ..ALONE
-        },
+        GO_ALONE,
+        LAST,
         Status::ToolRefused,
         Written::Whole(b"zen: refused: Exhausted(4611686018427387904)\n"),
-        1,
     ),
     (
-        "no journal",
-        Case {
-            file: b"ABCDEFGHIJ",
-            ..LEAVE
-        },
+        LEAVE,
+        b"ABCDEFGHIJ",
         Status::NotAJournal,
         Written::Whole(b"zen: not a journal: Header\n"),
-        1,
     ),
+];
+
+// Whether a tool that is used so ends so.
+fn is_used(alloc: Global, row: &Use) -> Result<bool, AllocError> {
+    let (words, file, status, written) = *row;
+    let case = Case {
+        words,
+        file,
+        ..ALONE
+    };
+    ends(alloc, &case, status, written, 1)
+}
+
+#[test]
+fn a_tool_changes_a_record_or_refuses_it(rt: HostRuntime) -> Result<(), Fail> {
+    for (place, row) in USES.iter().enumerate() {
+        let is_used = is_used(rt.alloc(), row)?;
+        assert!(rt; is_used, "row {place}");
+    }
+    Ok(())
+}
+
+const FAULTS: [Row<'static>; 4] = [
     (
         "a fault of the disk in the first call after the seven that open it",
         Case {
@@ -98,7 +106,7 @@ const ROWS: &[Row<'static>] = &[
         "a fault of the host",
         Case {
             openings: &[1],
-            ..LEAVE
+            ..ALONE
         },
         Status::HostFault,
         Written::Whole(b""),
@@ -127,6 +135,6 @@ const ROWS: &[Row<'static>] = &[
 ];
 
 #[test]
-fn a_tool_changes_a_record_or_refuses_it(rt: HostRuntime) -> Result<(), Fail> {
-    all_end(&rt, rt.alloc(), ROWS)
+fn a_tool_ends_at_a_fault(rt: HostRuntime) -> Result<(), Fail> {
+    all_end(&rt, rt.alloc(), &FAULTS)
 }
