@@ -26,7 +26,7 @@ folder = refl
 no_folder : command_of (codes "inspect" ∷ codes "--dir=" ∷ []) ≡ None
 no_folder = refl
 
-node : command_of (codes "node" ∷ codes "--no-shrink" ∷ codes "--id" ∷ codes "a" ∷ codes "--dir=d" ∷ codes "--listen=h" ∷ codes "--peers" ∷ codes "c=x,b=y" ∷ codes "--initial=c,a" ∷ codes "--turns=07" ∷ [])
+node : command_of (codes "node" ∷ codes "--no-shrink" ∷ codes "--id" ∷ codes "a" ∷ codes "--dir=d" ∷ codes "--listen=h" ∷ codes "--peers" ∷ codes "c=x,b=y" ∷ codes "--initial=c,a" ∷ codes "--turns=7" ∷ [])
     ≡ Some (Node (record {
       link = record { me = codes "a"; listen = codes "h"; peers = record { id = codes "c"; address = codes "x" } ∷ record { id = codes "b"; address = codes "y" } ∷ [] };
       dir = codes "d";
@@ -59,6 +59,9 @@ no_ids = refl
 
 one_peer_twice : peers_of (codes "a=h,a=i") ≡ None
 one_peer_twice = refl
+
+led_by_zero : command_of (codes "generate" ∷ codes "--number=7" ∷ codes "--steps=07" ∷ []) ≡ None
+led_by_zero = refl
 
 too_many_steps : command_of (codes "generate" ∷ codes "--number=7" ∷ codes "--steps=100001" ∷ []) ≡ None
 too_many_steps = refl
