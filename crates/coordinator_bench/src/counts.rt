@@ -1,9 +1,11 @@
 //! How much was sealed so far, by kinds.
-use crate::digest::{Digest, add_frame, add_reply, add_step};
 use client_lines::{Answer, Reply};
 use coordinator::Sealed;
-use policy_model::Step;
+use master_tasks::Outgoing;
+use policy_model::{Mode, Step};
 use std::fmt;
+use std::hash::{DefaultHasher, Hasher};
+use wire_frames::Frame;
 
 /// What was sealed so far.
 #[derive(Clone, Copy)]
@@ -16,7 +18,10 @@ pub struct Counts {
     replies: u64,
     /// How many replies said that a request is done.
     pub acked: u64,
-    digest: Digest,
+    /// The place of the node that became a leader last.
+    pub leader: Option<usize>,
+    // Of the places of nodes, the terms of modes, the kinds of frames and the ids of requests, in their order.
+    digest: DefaultHasher,
 }
 
 impl fmt::Display for Counts {
@@ -31,15 +36,8 @@ impl fmt::Display for Counts {
             self.frames,
             self.replies,
             self.acked,
-            self.digest.value()
+            self.digest.finish()
         )
-    }
-}
-
-fn is_ack(reply: &Reply) -> bool {
-    match reply {
-        Reply::To { answer, .. } => matches!(answer, Answer::Acked(_)),
-        Reply::BadLine(_) => false,
     }
 }
 
@@ -53,51 +51,54 @@ impl Counts {
             frames: 0,
             replies: 0,
             acked: 0,
-            digest: Digest::new(),
+            leader: None,
+            digest: DefaultHasher::new(),
         }
     }
 
-    fn add_steps(&mut self, steps: &[Step]) {
+    fn add_steps(&mut self, place: usize, steps: &[Step]) {
         for step in steps {
             match step {
                 Step::Act(_, _) => self.acts = self.acts.wrapping_add(1),
-                Step::Mode(_, _) => self.modes = self.modes.wrapping_add(1),
+                Step::Mode(mode, term) => {
+                    self.modes = self.modes.wrapping_add(1);
+                    self.digest.write_u64(*term);
+                    if matches!(mode, Mode::Leader) {
+                        self.leader = Some(place);
+                    }
+                }
             }
-            add_step(&mut self.digest, step);
         }
     }
 
-    fn add_frames(&mut self, sealed: &Sealed) {
-        for frame in sealed.sends().as_slice() {
+    fn add_frames(&mut self, frames: &[Frame]) {
+        for frame in frames {
             self.frames = self.frames.wrapping_add(1);
-            add_frame(&mut self.digest, frame);
+            self.digest
+                .write_u64(u64::from(frame.message.kind().code()));
         }
     }
 
-    fn add_replies(&mut self, sealed: &Sealed) {
-        for sent in sealed.replies().as_slice() {
+    fn add_replies(&mut self, replies: &[Outgoing]) {
+        for sent in replies {
             self.replies = self.replies.wrapping_add(1);
-            if is_ack(&sent.reply) {
-                self.acked = self.acked.wrapping_add(1);
+            if let Reply::To { id, answer } = &sent.reply {
+                self.digest.write_u64(*id);
+                if matches!(answer, Answer::Acked(_)) {
+                    self.acked = self.acked.wrapping_add(1);
+                }
             }
-            self.digest.add(sent.conn);
-            add_reply(&mut self.digest, &sent.reply);
         }
     }
 
-    fn add_drops(&mut self, sealed: &Sealed) {
-        for drop in sealed.entries().drops.as_slice() {
-            self.drops = self.drops.wrapping_add(1);
-            self.digest.add_bytes(drop.member.as_bytes());
-        }
-    }
-
-    /// An event more, with what it showed.
-    pub fn add(&mut self, sealed: &Sealed) {
+    /// An event more, of the node at a place, with what it showed.
+    pub fn add(&mut self, place: usize, sealed: &Sealed) {
+        let drops = sealed.entries().drops.as_slice().len();
         self.events = self.events.wrapping_add(1);
-        self.add_steps(sealed.entries().steps.as_slice());
-        self.add_drops(sealed);
-        self.add_frames(sealed);
-        self.add_replies(sealed);
+        self.drops = self.drops.wrapping_add(drops as u64);
+        self.digest.write_u64(place as u64);
+        self.add_steps(place, sealed.entries().steps.as_slice());
+        self.add_frames(sealed.sends().as_slice());
+        self.add_replies(sealed.replies().as_slice());
     }
 }

@@ -3,17 +3,22 @@ use std::alloc::{AllocError, AllocFailed};
 use std::io;
 
 /// Why a run did not come to its end.
-#[derive(Clone, Copy, Debug, PartialEq, Eq, thiserror::Error)]
+#[derive(Clone, Copy)]
 pub enum Fault {
     /// Memory was lacking outside a step and an opening.
-    #[error("no memory outside a step")]
     Memory,
     /// What came is not what was to come.
-    #[error("{0}")]
     Unexpected(&'static str),
 }
 
 impl Fault {
+    pub fn text(self) -> &'static str {
+        match self {
+            Fault::Memory => "no memory outside a step",
+            Fault::Unexpected(text) => text,
+        }
+    }
+
     /// The exit status.
     pub fn status(self) -> u8 {
         match self {

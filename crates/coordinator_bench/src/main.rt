@@ -3,58 +3,34 @@
 #![tactic(auto)]
 
 mod counts;
-mod digest;
 mod fault;
-mod fit;
 mod member;
 mod scenes;
-mod seeds;
 mod world;
 
-use counts::Counts;
 use fault::Fault;
 use scenes::run;
-use std::alloc::Global;
+use std::env;
 use std::process::ExitCode;
-use std::{env, io};
 
-// The words after the program's name.
-fn words(rt: &HostRuntime) -> io::Result<Vec<String>> {
+// Runs what the words after the program's name ask for, and prints what was sealed.
+fn run_words(rt: &HostRuntime) -> Result<(), Fault> {
     let mut words = Vec::new(rt.alloc());
     for word in env::args(rt)?.skip(1) {
         words.push(word)?;
     }
-    Ok(words)
-}
-
-// What the words ask for.
-fn done(alloc: Global, words: io::Result<Vec<String>>) -> Result<Counts, Fault> {
-    let words = words?;
-    run(alloc, words.as_slice())
-}
-
-fn print(rt: &HostRuntime, counts: &Counts) -> Result<(), Fault> {
+    let counts = run(rt.alloc(), words.as_slice())?;
     println!(rt; "{counts}")?;
     Ok(())
 }
 
-// The status, by which running out of memory outside a step differs from all other faults.
-fn ended(rt: &HostRuntime, ended: Result<(), Fault>) -> ExitCode {
-    match ended {
+fn main(rt: HostRuntime) -> ExitCode {
+    match run_words(&rt) {
         Ok(()) => ExitCode::from(0),
         Err(fault) => {
-            // The status says it too.
-            let _ = eprintln!(rt; "{fault}");
+            // The status says it too, and tells want of memory outside a step from all other faults.
+            let _ = eprintln!(rt; "{}", fault.text());
             ExitCode::from(fault.status())
         }
     }
-}
-
-fn main(rt: HostRuntime) -> ExitCode {
-    let counts = done(rt.alloc(), words(&rt));
-    let printed = match counts {
-        Ok(counts) => print(&rt, &counts),
-        Err(fault) => Err(fault),
-    };
-    ended(&rt, printed)
 }

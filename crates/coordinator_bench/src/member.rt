@@ -5,10 +5,10 @@ ghost use Rattle.coordinator.specs.Views.{IsReady};
 ghost use Rattle.coordinator_bench.specs.Ready.{IsReady-prop};
 
 use crate::fault::Fault;
-use crate::fit::is_fit;
 use client_lines::Line;
 use coordinator::{Coordinator, Sealed, StepError};
-use policy_model::{Event, Mode, Settings, Step};
+use node_bytes::is_fit;
+use policy_model::{Event, Settings};
 use state_journal::Keeper;
 use std::alloc::Global;
 use voting_config::NodeId;
@@ -23,10 +23,11 @@ pub enum Given<'a> {
     Line(&'a str),
 }
 
+// A host knows of each frame that it reads from bytes that it is within the limits.
 fn frame_event(frame: &Frame) -> Result<Event, Fault>
     ensures { IfOk result IsFitEvent }
 {
-    if !is_fit(&frame.message) {
+    if !is_fit(frame) {
         return Err(Fault::Unexpected("a frame beyond the limits"));
     }
     let copy = frame.copy()?;
@@ -36,12 +37,8 @@ fn frame_event(frame: &Frame) -> Result<Event, Fault>
 fn line_event(alloc: Global, text: &str) -> Result<Event, Fault>
     ensures { IfOk result IsFitEvent }
 {
-    let mut bytes = Vec::new(alloc);
-    bytes.extend_from_slice(text.as_bytes())?;
-    Ok(Event::Client {
-        conn: 1,
-        line: Line::of(bytes),
-    })
+    let line = Line::of(Vec::from_slice(alloc, text.as_bytes())?);
+    Ok(Event::Client { conn: 1, line })
 }
 
 // The event, anew.
@@ -56,23 +53,12 @@ fn event(alloc: Global, given: Given) -> Result<Event, Fault>
     }
 }
 
-/// A node, with the mode that it showed last.
+/// A node.
 #[derive(Drop)]
 pub struct Member<K> {
     pub me: NodeId,
-    pub mode: Mode,
     node: Coordinator<K>,
     ghost ready: { IsReady node } by { IsReady-prop node },
-}
-
-fn last_mode(mode: Mode, steps: &[Step]) -> Mode {
-    let mut last = mode;
-    for step in steps {
-        if let Step::Mode(mode, _) = step {
-            last = *mode;
-        }
-    }
-    last
 }
 
 impl<K: Keeper> Member<K> {
@@ -82,29 +68,17 @@ impl<K: Keeper> Member<K> {
     {
         Member {
             me: settings.me,
-            mode: Mode::Candidate,
             node: Coordinator::open(alloc, settings, keeper),
         }
-    }
-
-    fn step(&mut self, event: Event, alloc: Global) -> Result<Sealed, StepError>
-        requires { IsFitEvent event }
-    {
-        let stepped = self.node.step(alloc, event);
-        if let Ok(sealed) = &stepped {
-            self.mode = last_mode(self.mode, sealed.entries().steps.as_slice());
-        }
-        stepped
     }
 
     /// Gives it to the node, and once more where a step found no memory, since that changed nothing.
     pub fn give(&mut self, alloc: Global, given: Given) -> Result<Sealed, Fault> {
         for _ in 0..2 {
-            match self.step(event(alloc, given)?, alloc) {
+            match self.node.step(alloc, event(alloc, given)?) {
                 Ok(sealed) => return Ok(sealed),
                 Err(StepError::Memory) => {}
-                Err(StepError::Stopped) => return Err(Fault::Unexpected("a node has stopped")),
-                Err(StepError::Disk(_)) => return Err(Fault::Unexpected("a disk failed")),
+                Err(_) => return Err(Fault::Unexpected("a disk failed")),
             }
         }
         Err(Fault::Unexpected("no memory at the second time"))

@@ -1,19 +1,77 @@
 //! What is run.
+ghost use Rattle.std.specs.Prelude.{◌≡◌, false, IfOk};
 
 use crate::counts::Counts;
 use crate::fault::Fault;
-use crate::seeds::{Plain, cluster, key, new_cluster, text};
+use crate::world::{World, all_ids};
+use state_journal::{Keeper, PlainKeeper, StateJournal};
 use std::alloc::Global;
+use zen_disk::MemDisks;
 
 const USAGE: &str = "usage: ticks ROUNDS | checks ROUNDS | puts SETTINGS ROUNDS | growths";
+
+// In so many moments new nodes find each other and elect a leader.
+const MOMENTS: u32 = 8;
+
+// A client's request with this number as its id, for a key of 16 bytes and a text of 32.
+fn put(alloc: Global, number: u64, key: u64) -> Result<String, Fault> {
+    Ok(format!(in alloc;
+        "{{\"id\":{number},\"put\":{{\"key\":\"{key:016}\",\"value\":\"{number:032}\"}}}}"
+    )?)
+}
+
+// Puts at the leader, each up to its ack and to the commit at each node: so many, of as many keys in turn, and none with a text
+// that was put before.
+fn put_all<K: Keeper + Drop>(
+    world: &mut World<K>,
+    alloc: Global,
+    puts: u64,
+    keys: u64,
+) -> Result<(), Fault> {
+    let leader = world.leader()?;
+    for _ in 0..puts {
+        let number = world.counts.acked;
+        let line = put(alloc, number, number % keys.max(1))?;
+        world.line(leader, line.as_str())?;
+        if world.counts.acked == number {
+            return Err(Fault::Unexpected("a put without its ack"));
+        }
+    }
+    Ok(())
+}
+
+fn journal(alloc: Global) -> Result<StateJournal<MemDisks>, Fault>
+    ensures { IfOk result (λ journal. ⟦<StateJournal<MemDisks> as Keeper>⟧.has_stopped journal ≡ false) }
+{
+    let disk = MemDisks::new(alloc, Vec::new(alloc), Vec::new(alloc), Vec::new(alloc));
+    match StateJournal::open(alloc, disk) {
+        Ok(journal) => Ok(journal),
+        Err(_) => Err(Fault::Unexpected("no journal")),
+    }
+}
+
+// So many nodes over journals, of which one leads and all keep so many settings.
+fn cluster(
+    alloc: Global,
+    nodes: u8,
+    settings: u64,
+) -> Result<World<StateJournal<MemDisks>>, Fault> {
+    let all = all_ids(alloc, nodes)?;
+    let mut world = World::new(alloc);
+    for me in all.as_slice() {
+        world.add(*me, &all, journal(alloc)?)?;
+    }
+    world.tick_all(MOMENTS)?;
+    put_all(&mut world, alloc, settings, settings)?;
+    Ok(world)
+}
 
 // Ticks of a follower of three nodes, one each ms. Each second it asks the leader, which answers.
 fn ticks(alloc: Global, rounds: u64) -> Result<Counts, Fault> {
     let mut world = cluster(alloc, 3, 10)?;
-    world.elect(0)?;
+    let follower = if world.leader()? == 0 { 1 } else { 0 };
     for _ in 0..rounds {
-        world.wait(1);
-        world.tick(1, 0)?;
+        world.tick(follower, 1)?;
     }
     Ok(world.counts)
 }
@@ -21,56 +79,34 @@ fn ticks(alloc: Global, rounds: u64) -> Result<Counts, Fault> {
 // A leader of 31 members asks all others, once a second, and takes their answers.
 fn checks(alloc: Global, rounds: u64) -> Result<Counts, Fault> {
     let mut world = cluster(alloc, 31, 10)?;
-    world.elect(0)?;
-    for _ in 0..rounds {
-        world.wait(1_000);
-        world.tick(0, 0)?;
-    }
-    Ok(world.counts)
-}
-
-fn put(alloc: Global, number: u64) -> Result<String, Fault> {
-    let key = key(alloc, 0)?;
-    let text = text(alloc, number)?;
-    Ok(format!(in alloc; "{{\"id\":{number},\"put\":{{\"key\":\"{key}\",\"value\":\"{text}\"}}}}")?)
-}
-
-// Puts at a leader of three nodes, each up to its ack and to the commit at each node.
-fn puts(alloc: Global, settings: u16, rounds: u64) -> Result<Counts, Fault> {
-    let mut world = cluster(alloc, 3, settings)?;
-    world.elect(0)?;
-    for number in 1..=rounds {
-        let line = put(alloc, number)?;
-        world.line(0, line.as_str())?;
-        if world.counts.acked != number {
-            return Err(Fault::Unexpected("a put without its ack"));
-        }
-    }
-    Ok(world.counts)
-}
-
-// All nodes tick at several moments, 250 ms apart.
-fn tick_all(world: &mut Plain, moments: u32) -> Result<(), Fault> {
-    for _ in 0..moments {
-        world.wait(250);
-        for place in 0..world.len() {
-            world.tick(place, place as u64)?;
-        }
-    }
-    Ok(())
-}
-
-// Three new nodes elect a leader, which takes a put and excludes a node, and which checks and is checked.
-fn growths(alloc: Global) -> Result<Counts, Fault> {
-    let mut world = new_cluster(alloc, 3)?;
-    tick_all(&mut world, 8)?;
     let leader = world.leader()?;
-    let line = put(alloc, 1)?;
-    world.line(leader, line.as_str())?;
-    world.line(leader, "{\"id\":2,\"exclude\":[\"n02\"]}")?;
-    tick_all(&mut world, 10)?;
+    for _ in 0..rounds {
+        world.tick(leader, 1_000)?;
+    }
+    Ok(world.counts)
+}
+
+// Puts at a leader of three nodes.
+fn puts(alloc: Global, settings: u64, rounds: u64) -> Result<Counts, Fault> {
+    let mut world = cluster(alloc, 3, settings)?;
+    put_all(&mut world, alloc, rounds, settings)?;
+    Ok(world.counts)
+}
+
+// Three new nodes over records that take no memory elect a leader, which takes a put and excludes a node, and which checks and
+// is checked.
+fn growths(alloc: Global) -> Result<Counts, Fault> {
+    let all = all_ids(alloc, 3)?;
+    let mut world = World::new(alloc);
+    for me in all.as_slice() {
+        world.add(*me, &all, PlainKeeper::new(alloc)?)?;
+    }
+    world.tick_all(MOMENTS)?;
+    put_all(&mut world, alloc, 1, 1)?;
+    world.line(world.leader()?, "{\"id\":2,\"exclude\":[\"n02\"]}")?;
+    world.tick_all(10)?;
     if world.counts.acked != 2 {
-        return Err(Fault::Unexpected("a request without its ack"));
+        return Err(Fault::Unexpected("an exclusion without its ack"));
     }
     Ok(world.counts)
 }
@@ -82,28 +118,14 @@ fn number(word: &str) -> Result<u64, Fault> {
     }
 }
 
-fn run_puts(alloc: Global, settings: &str, rounds: &str) -> Result<Counts, Fault> {
-    let Ok(settings) = u16::try_from(number(settings)?) else {
-        return Err(Fault::Unexpected(USAGE));
-    };
-    puts(alloc, settings, number(rounds)?)
-}
-
-fn run_rounds(alloc: Global, what: &str, rounds: u64) -> Result<Counts, Fault> {
-    match what {
-        "ticks" => ticks(alloc, rounds),
-        "checks" => checks(alloc, rounds),
-        _ => Err(Fault::Unexpected(USAGE)),
-    }
-}
-
 /// Runs what the words ask for.
 pub fn run(alloc: Global, words: &[String]) -> Result<Counts, Fault> {
     match words {
         [what] if what.as_str() == "growths" => growths(alloc),
-        [what, rounds] => run_rounds(alloc, what.as_str(), number(rounds.as_str())?),
+        [what, rounds] if what.as_str() == "ticks" => ticks(alloc, number(rounds.as_str())?),
+        [what, rounds] if what.as_str() == "checks" => checks(alloc, number(rounds.as_str())?),
         [what, settings, rounds] if what.as_str() == "puts" => {
-            run_puts(alloc, settings.as_str(), rounds.as_str())
+            puts(alloc, number(settings.as_str())?, number(rounds.as_str())?)
         }
         _ => Err(Fault::Unexpected(USAGE)),
     }

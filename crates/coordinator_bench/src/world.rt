@@ -1,17 +1,49 @@
 //! Nodes in memory. What one seals is handed over to the receivers, in the order in which it was sealed.
+ghost use Rattle.std.specs.Prelude.{◌≡◌, false};
 
 use crate::counts::Counts;
 use crate::fault::Fault;
 use crate::member::{Given, Member};
 use coordinator::Sealed;
-use policy_model::Mode;
+use policy_model::{NodeIds, Settings};
 use state_journal::Keeper;
 use std::alloc::Global;
 use std::collections::VecDeque;
-use voting_config::NodeId;
+use voting_config::{NodeId, NodeSet};
 
 // So many events that send may come of one.
 const MOST_HANDED: u32 = 100_000;
+
+// The id of a node by its number.
+fn id(alloc: Global, number: u8) -> Result<NodeId, Fault> {
+    let name = format!(in alloc; "n{number:02}")?;
+    match NodeId::parse(name.as_str()) {
+        Ok(id) => Ok(id),
+        Err(_) => Err(Fault::Unexpected("no id")),
+    }
+}
+
+/// The ids of so many nodes.
+pub fn all_ids(alloc: Global, nodes: u8) -> Result<NodeSet, Fault> {
+    let mut ids = NodeSet::new();
+    for number in 0..nodes {
+        match id(alloc, number) {
+            Ok(added) => drop(ids.insert(added)),
+            Err(fault) => return Err(fault),
+        }
+    }
+    Ok(ids)
+}
+
+// The settings of a node, which lists all nodes as peers and as first voters.
+fn settings(alloc: Global, me: NodeId, all: &NodeSet) -> Result<Settings, Fault> {
+    Ok(Settings {
+        me,
+        peers: NodeIds::of(Vec::from_slice(alloc, all.as_slice())?),
+        initial: all.copy(),
+        shrink: true,
+    })
+}
 
 /// The nodes, the moment in ms, and what was sealed and not handed over yet.
 #[derive(Drop)]
@@ -19,7 +51,7 @@ pub struct World<K> {
     alloc: Global,
     members: Vec<Member<K>>,
     queue: VecDeque<Sealed>,
-    pub now: u64,
+    now: u64,
     pub counts: Counts,
 }
 
@@ -34,45 +66,15 @@ impl<K: Keeper + Drop> World<K> {
         }
     }
 
-    /// One more node, which is started.
-    pub fn add(&mut self, member: Member<K>) -> Result<(), Fault> {
+    /// One more node, one of all, over its keeper. It is started.
+    pub fn add(&mut self, me: NodeId, all: &NodeSet, keeper: K) -> Result<(), Fault>
+        requires { K.has_stopped keeper ≡ false }
+    {
         let place = self.members.len();
-        self.members.push(member)?;
+        let settings = settings(self.alloc, me, all)?;
+        self.members
+            .push(Member::open(self.alloc, settings, keeper))?;
         self.give(place, Given::Start)
-    }
-
-    /// How many nodes there are.
-    pub fn len(&self) -> usize {
-        self.members.len()
-    }
-
-    /// Whether the node at a place leads.
-    pub fn leads(&self, place: usize) -> bool {
-        match self.members.get(place) {
-            None => false,
-            Some(member) => matches!(&member.mode, Mode::Leader),
-        }
-    }
-
-    /// The place of a node that leads.
-    pub fn leader(&self) -> Result<usize, Fault> {
-        for place in 0..self.members.len() {
-            if self.leads(place) {
-                return Ok(place);
-            }
-        }
-        Err(Fault::Unexpected("no node leads"))
-    }
-
-    /// How many nodes follow one.
-    pub fn follower_count(&self) -> u32 {
-        let mut count = 0_u32;
-        for member in &self.members {
-            if matches!(&member.mode, Mode::Follower(_)) {
-                count = count.wrapping_add(1);
-            }
-        }
-        count
     }
 
     fn place_of(&self, id: NodeId) -> Result<usize, Fault> {
@@ -82,13 +84,13 @@ impl<K: Keeper + Drop> World<K> {
         }
     }
 
-    /// Gives it to the node at a place. What it sends waits.
-    pub fn give(&mut self, place: usize, given: Given) -> Result<(), Fault> {
+    // Gives it to the node at a place. What it sends waits.
+    fn give(&mut self, place: usize, given: Given) -> Result<(), Fault> {
         let Some(member) = self.members.get_mut(place) else {
             return Err(Fault::Unexpected("no node at a place"));
         };
         let sealed = member.give(self.alloc, given)?;
-        self.counts.add(&sealed);
+        self.counts.add(place, &sealed);
         if !sealed.sends().as_slice().is_empty() {
             self.queue.push_back(sealed)?;
         }
@@ -103,8 +105,8 @@ impl<K: Keeper + Drop> World<K> {
         Ok(())
     }
 
-    /// Hands over all that waits, and what comes of it.
-    pub fn hand_over(&mut self) -> Result<(), Fault> {
+    // Hands over all that waits, and what comes of it.
+    fn hand_over(&mut self) -> Result<(), Fault> {
         for _ in 0..MOST_HANDED {
             match self.queue.pop_front() {
                 None => return Ok(()),
@@ -114,16 +116,23 @@ impl<K: Keeper + Drop> World<K> {
         Err(Fault::Unexpected("frames without end"))
     }
 
-    /// A tick of the node at a place, and what comes of it.
-    pub fn tick(&mut self, place: usize, word: u64) -> Result<(), Fault> {
-        self.give(
-            place,
-            Given::Tick {
-                now: self.now,
-                word,
-            },
-        )?;
+    /// A tick of the node at a place, so many ms after the last one of any, and what comes of it.
+    pub fn tick(&mut self, place: usize, ms: u64) -> Result<(), Fault> {
+        self.now = self.now.wrapping_add(ms);
+        let (now, word) = (self.now, place as u64);
+        self.give(place, Given::Tick { now, word })?;
         self.hand_over()
+    }
+
+    /// All nodes tick at several moments, 250 ms apart.
+    pub fn tick_all(&mut self, moments: u32) -> Result<(), Fault> {
+        for _ in 0..moments {
+            self.now = self.now.wrapping_add(250);
+            for place in 0..self.members.len() {
+                self.tick(place, 0)?;
+            }
+        }
+        Ok(())
     }
 
     /// A line of a client, and what comes of it.
@@ -132,28 +141,11 @@ impl<K: Keeper + Drop> World<K> {
         self.hand_over()
     }
 
-    /// The moment rises by so many ms.
-    pub fn wait(&mut self, ms: u64) {
-        self.now = self.now.wrapping_add(ms);
-    }
-
-    /// The node at a place ticks until it leads and all others follow.
-    pub fn elect(&mut self, place: usize) -> Result<(), Fault> {
-        for _ in 0..100 {
-            self.wait(100);
-            self.tick(place, 0)?;
-            if self.leads(place) {
-                return self.see_followers();
-            }
+    /// The place of the node that became a leader last.
+    pub fn leader(&self) -> Result<usize, Fault> {
+        match self.counts.leader {
+            Some(place) => Ok(place),
+            None => Err(Fault::Unexpected("no node leads")),
         }
-        Err(Fault::Unexpected("no election in time"))
-    }
-
-    fn see_followers(&self) -> Result<(), Fault> {
-        let all = self.members.len() as u64;
-        if u64::from(self.follower_count()).wrapping_add(1) == all {
-            return Ok(());
-        }
-        Err(Fault::Unexpected("a node does not follow"))
     }
 }
