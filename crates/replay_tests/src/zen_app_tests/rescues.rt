@@ -5,14 +5,19 @@ use schedule_text::{Level, Text};
 use std::alloc::{AllocError, Global};
 use std::test::Fail;
 use zen_app::Status;
+use zen_link::MemSink;
+
+const UP_A: &[&str] = &["rescue", "--up", "a"];
+
+const UP_A_AND_B: &[&str] = &["rescue", "--up", "a,b"];
 
 const A: Case<'static> = Case {
-    words: &["rescue", "--up", "a"],
+    words: UP_A,
     ..REPLAY
 };
 
 const A_AND_B: Case<'static> = Case {
-    words: &["rescue", "--up", "a,b"],
+    words: UP_A_AND_B,
     ..REPLAY
 };
 
@@ -65,121 +70,130 @@ const GOES_ON_WITH_THE_LAST: &[u8] =
     b"startjoin a b 2\nstartjoin b b 2\ndeliver b 5\ndeliver b 6\nvalue b 2 rescue a,b\n\
     deliver a 7\ndeliver b 7\ndeliver b 8\ndeliver b 9\n";
 
-// A schedule, the nodes that are up, the status, and what is written.
-type Answer = (&'static [u8], &'static str, Status, &'static [u8]);
+// A schedule, the words, the status, and what is written.
+type Answer = (
+    &'static [u8],
+    &'static [&'static str],
+    Status,
+    &'static [u8],
+);
 
 const ANSWERS: [Answer; 17] = [
     // two of three go on
-    (ELECTED, "a,b", Status::Ok, GOES_ON),
+    (ELECTED, UP_A_AND_B, Status::Ok, GOES_ON),
     // one of three does not
     (
         ELECTED,
-        "c",
+        &["rescue", "--up", "c"],
         Status::RescueRefused,
         b"zen: no rescue: NoQuorum(1/3,1/3)\n",
     ),
     // a node that is none
     (
         ELECTED,
-        "a,b,d,e",
+        &["rescue", "--up", "a,b,d,e"],
         Status::RescueRefused,
         b"zen: no rescue: NotUp(d)\n",
     ),
     // no node at all
     (
         b"",
-        "a",
+        UP_A,
         Status::RescueRefused,
         b"zen: no rescue: NotUp(a)\n",
     ),
     // a node that crashed, within an act or between two, and one whose disk failed
     (
         b"nodes a\ninitial a\nboot a\ncrash a all\n",
-        "a",
+        UP_A,
         Status::RescueRefused,
         b"zen: no rescue: NotUp(a)\n",
     ),
     (
         b"nodes a\ninitial a\nfuse a 1 none\nboot a\n",
-        "a",
+        UP_A,
         Status::RescueRefused,
         b"zen: no rescue: NotUp(a)\n",
     ),
     (
         b"nodes a\ninitial a\nfail a 1\nboot a\n",
-        "a",
+        UP_A,
         Status::RescueRefused,
         b"zen: no rescue: NotUp(a)\n",
     ),
     // a node that was opened again
     (
         b"nodes a\ninitial a\nboot a\ncrash a all\nrestart a\n",
-        "a",
+        UP_A,
         Status::Ok,
         b"startjoin a a 1\ndeliver a 1\nvalue a 1 rescue a\ndeliver a 2\ndeliver a 3\n",
     ),
     // a stop or a fault that has not come; a node that is down comes first
     (
         b"nodes a\ninitial a\nboot a\nfuse a 9 none\n",
-        "a",
+        UP_A,
         Status::RescueRefused,
         b"zen: no rescue: Armed(a)\n",
     ),
     (
         b"nodes a\ninitial a\nfail a 9\n",
-        "a",
+        UP_A,
         Status::RescueRefused,
         b"zen: no rescue: Armed(a)\n",
     ),
     (
         b"nodes a,b\ninitial a\nfuse a 9 none\ncrash b all\n",
-        "a,b",
+        UP_A_AND_B,
         Status::RescueRefused,
         b"zen: no rescue: NotUp(b)\n",
     ),
     // no configuration, and a quorum of the committed one alone
     (
         b"nodes a\ninitial a\nstartjoin a a 4611686018427387904\n",
-        "a",
+        UP_A,
         Status::RescueRefused,
         b"zen: no rescue: NoQuorum(0/0,0/0)\n",
     ),
     (
         b"nodes a,b\ninitial a\nboot a\nstartjoin a a 1\nstartjoin b a 1\ndeliver a 1\ndeliver a 2\nvalue a 1 x a,b\ndeliver a 3\n",
-        "a",
+        UP_A,
         Status::RescueRefused,
         b"zen: no rescue: NoQuorum(1/1,1/2)\n",
     ),
     // the last term, and the last version
     (
         b"nodes a\ninitial a\nboot a\nstartjoin a a 4611686018427387904\n",
-        "a",
+        UP_A,
         Status::RescueRefused,
         b"zen: no rescue: Exhausted(4611686018427387904,0)\n",
     ),
     (
         b"nodes a\ninitial a\nboot a\nstartjoin a a 1\ndeliver a 1\nvalue a 4611686018427387904 x a\ndeliver a 2\n",
-        "a",
+        UP_A,
         Status::RescueRefused,
         b"zen: no rescue: Exhausted(1,4611686018427387904)\n",
     ),
     // the newest state is not that of the least node
-    (NEWEST_OF_THE_LAST, "a,b", Status::Ok, GOES_ON_WITH_THE_LAST),
+    (
+        NEWEST_OF_THE_LAST,
+        UP_A_AND_B,
+        Status::Ok,
+        GOES_ON_WITH_THE_LAST,
+    ),
     // no schedule
     (
         b"nodes a\ninitial a\ntick a 0 7\n",
-        "a",
+        UP_A,
         Status::BadSchedule,
         b"zen: bad schedule at line 3: Verb\n",
     ),
 ];
 
-// Whether a rescue of the nodes that are up answers so.
+// Whether a rescue answers so.
 fn answers(alloc: Global, answer: &Answer) -> Result<bool, AllocError> {
-    let (input, up, status, text) = *answer;
-    let words = ["rescue", "--up", up];
+    let (input, words, status, text) = *answer;
     let case = Case {
-        words: &words,
+        words,
         input,
         ..REPLAY
     };
@@ -229,24 +243,30 @@ fn a_rescue_ends_at_a_fault(rt: HostRuntime) -> Result<(), Fail> {
     all_end(&rt, rt.alloc(), &FAULTS)
 }
 
-// What a rescue writes, where it ends well.
-fn plan_of(alloc: Global, case: &Case<'_>) -> Result<Option<Vec<u8>>, AllocError> {
-    let mut sink = sink(alloc, case)?;
+fn status_of(alloc: Global, case: &Case<'_>, sink: &mut MemSink) -> Result<Status, AllocError> {
     let mut host = host(alloc, case)?;
-    if ran(alloc, case, &mut sink, &mut host)? != Status::Ok {
-        return Ok(None);
-    }
-    Ok(Some(Vec::from_slice(alloc, sink.as_bytes())?))
+    ran(alloc, case, sink, &mut host)
+}
+
+// How a rescue ends, and what it has written.
+fn rescued(alloc: Global, case: &Case<'_>) -> Result<(Status, MemSink), AllocError> {
+    let mut sink = sink(alloc, case)?;
+    let status = status_of(alloc, case, &mut sink)?;
+    Ok((status, sink))
+}
+
+fn joined(alloc: Global, front: &[u8], rest: &[u8]) -> Result<Vec<u8>, AllocError> {
+    let mut whole = Vec::from_slice(alloc, front)?;
+    whole.extend_from_slice(rest)?;
+    Ok(whole)
 }
 
 // Whether a schedule with the lines by which it goes on has a trace that ends so.
 fn goes_on(alloc: Global, case: &Case<'_>, ending: &[u8]) -> Result<bool, AllocError> {
-    let Some(plan) = plan_of(alloc, case)? else {
-        return Ok(false);
-    };
-    let mut whole = Vec::from_slice(alloc, case.input)?;
-    whole.extend_from_slice(&plan)?;
-    replays(alloc, Level::Core, &whole, Written::Ends(ending))
+    let (status, plan) = rescued(alloc, case)?;
+    let whole = joined(alloc, case.input, plan.as_bytes())?;
+    let goes_on = replays(alloc, Level::Core, &whole, Written::Ends(ending))?;
+    Ok(status == Status::Ok && goes_on)
 }
 
 // The steps of the schedule of number 7, counted from 0, that send a message. With them a generator in another language drew a schedule whose trace has
