@@ -19,36 +19,29 @@ fn told(alloc: Global, line: &[u8]) -> Result<String, AllocError> {
     }
 }
 
-fn told_request(alloc: Global, request: &Request) -> Result<String, AllocError> {
-    let text = format!(in alloc; "{}", request.id)?;
-    match &request.ask {
-        Ask::Put { key, value } => with_words(text, &["put", key.as_str(), value.as_str()]),
-        Ask::Remove { key } => with_words(text, &["remove", key.as_str()]),
-        Ask::Exclude(ids) => with_ids(text, ids),
-        Ask::Clear { wait_for_removal } => with_words(text, &["clear", truth(*wait_for_removal)]),
-        Ask::State => with_words(text, &["state"]),
+fn told_request(alloc: Global, Request { id, ask }: &Request) -> Result<String, AllocError> {
+    match ask {
+        Ask::Put { key, value } => {
+            format!(in alloc; "{id} put {} {}", key.as_str(), value.as_str())
+        }
+        Ask::Remove { key } => format!(in alloc; "{id} remove {}", key.as_str()),
+        Ask::Exclude(ids) => told_exclude(alloc, *id, ids),
+        Ask::Clear { wait_for_removal } => format!(in alloc; "{id} clear {wait_for_removal}"),
+        Ask::State => format!(in alloc; "{id} state"),
     }
 }
 
-fn truth(is_true: bool) -> &'static str {
-    if is_true { "true" } else { "false" }
-}
-
-fn with_words(mut text: String, words: &[&str]) -> Result<String, AllocError> {
-    for word in words {
-        text.push_str(" ")?;
-        text.push_str(word)?;
+fn told_exclude(alloc: Global, id: u64, excluded: &NodeSet) -> Result<String, AllocError> {
+    let mut text = format!(in alloc; "{id} exclude")?;
+    for id in excluded.as_slice() {
+        push_word(&mut text, id.as_str())?;
     }
     Ok(text)
 }
 
-fn with_ids(text: String, ids: &NodeSet) -> Result<String, AllocError> {
-    let mut text = with_words(text, &["exclude"])?;
-    for id in ids.as_slice() {
-        text.push_str(" ")?;
-        text.push_str(id.as_str())?;
-    }
-    Ok(text)
+fn push_word(text: &mut String, word: &str) -> Result<(), AllocError> {
+    text.push_str(" ")?;
+    text.push_str(word)
 }
 
 fn is_read_as(alloc: Global, line: &[u8], want: &str) -> Result<bool, AllocError> {
@@ -76,6 +69,10 @@ const REQUESTS: &[(&str, &str)] = &[
         "3 exclude a b node-1",
     ),
     (r#"{"exclude":["a"],"id":3}"#, "3 exclude a"),
+    (
+        r#"{"id":1,"exclude":["0","1","2","3","4","5","6","7","8","9","a","b","c","d","e","f","g","h","i","j","k","l","m","n","o","p","q","r","s","t","u","v"]}"#,
+        "1 exclude 0 1 2 3 4 5 6 7 8 9 a b c d e f g h i j k l m n o p q r s t u v",
+    ),
     (r#"{"id":4,"clear":{}}"#, "4 clear true"),
     (
         r#"{"clear":{"wait_for_removal":true},"id":4}"#,
@@ -133,8 +130,14 @@ fn a_line_that_is_no_json_is_refused(rt: HostRuntime) -> Result<(), Fail> {
             "of {line}"
         );
     }
-    let no_text = b"{\"id\":1,\"remove\":{\"key\":\"\xff\"}}";
-    assert!(rt; is_read_as(rt.alloc(), no_text.as_slice(), NOT_JSON)?);
+    Ok(())
+}
+
+const NO_TEXT: &[u8] = b"{\"id\":1,\"remove\":{\"key\":\"\xff\"}}";
+
+#[test]
+fn so_is_one_that_is_no_text(rt: HostRuntime) -> Result<(), Fail> {
+    assert!(rt; is_read_as(rt.alloc(), NO_TEXT, NOT_JSON)?);
     Ok(())
 }
 
@@ -183,6 +186,8 @@ const NO_REQUESTS: &[&str] = &[
     r#"{"id":1,"exclude":["a2345678901234567890123456789012x"]}"#,
     r#"{"id":1,"exclude":["a","b","a"]}"#,
     r#"{"id":1,"exclude":["a",null]}"#,
+    // 33 of them.
+    r#"{"id":1,"exclude":["0","1","2","3","4","5","6","7","8","9","a","b","c","d","e","f","g","h","i","j","k","l","m","n","o","p","q","r","s","t","u","v","w"]}"#,
     r#"{"id":1,"clear":[]}"#,
     r#"{"id":1,"clear":true}"#,
     r#"{"id":1,"clear":{"wait":true}}"#,
@@ -202,37 +207,6 @@ fn json_that_is_no_request_is_refused(rt: HostRuntime) -> Result<(), Fail> {
     Ok(())
 }
 
-// A request to exclude so many nodes, of two letters each.
-fn exclude_line(alloc: Global, count: u8) -> Result<String, AllocError> {
-    let mut line = String::from_str(alloc, r#"{"id":1,"exclude":["b""#)?;
-    for number in 1..count {
-        line.push_str(",\"")?;
-        line.push(char::from(b'a' + number % 26))?;
-        line.push(char::from(b'a' + number / 26))?;
-        line.push_str("\"")?;
-    }
-    line.push_str("]}")?;
-    Ok(line)
-}
-
-// How many nodes a line asks to exclude.
-fn exclusions(alloc: Global, line: &str) -> Result<usize, LineError> {
-    let request = read_line(alloc, line.as_bytes())?;
-    match &request.ask {
-        Ask::Exclude(ids) => Ok(ids.len()),
-        _ => Ok(0),
-    }
-}
-
-#[test]
-fn a_33rd_id_to_exclude_is_refused(rt: HostRuntime) -> Result<(), Fail> {
-    let line = exclude_line(rt.alloc(), 32)?;
-    assert!(rt; exclusions(rt.alloc(), line.as_str())? == 32);
-    let line = exclude_line(rt.alloc(), 33)?;
-    assert!(rt; is_read_as(rt.alloc(), line.as_bytes(), BAD_SHAPE)?);
-    Ok(())
-}
-
 // So many arrays in one another.
 fn nested(alloc: Global, depth: usize) -> Result<String, AllocError> {
     let mut line = String::new(alloc);
@@ -245,15 +219,15 @@ fn nested(alloc: Global, depth: usize) -> Result<String, AllocError> {
     Ok(line)
 }
 
+fn is_nested_so(alloc: Global, depth: usize, want: &str) -> Result<bool, AllocError> {
+    let line = nested(alloc, depth)?;
+    is_read_as(alloc, line.as_bytes(), want)
+}
+
 #[test]
 fn json_nested_128_deep_is_refused(rt: HostRuntime) -> Result<(), Fail> {
-    for (depth, want) in [(127, BAD_SHAPE), (128, NOT_JSON)] {
-        let line = nested(rt.alloc(), depth)?;
-        assert!(rt;
-            is_read_as(rt.alloc(), line.as_bytes(), want)?,
-            "{depth} deep"
-        );
-    }
+    assert!(rt; is_nested_so(rt.alloc(), 127, BAD_SHAPE)?);
+    assert!(rt; is_nested_so(rt.alloc(), 128, NOT_JSON)?);
     Ok(())
 }
 
@@ -267,14 +241,24 @@ fn padded(alloc: Global, length: usize) -> Result<Vec<u8>, AllocError> {
     Ok(line)
 }
 
-// Whether a reader keeps so many bytes of a line, which are read so.
-fn is_kept(alloc: Global, line: &[u8], kept: usize, want: &str) -> Result<bool, Fail> {
+// The one line that a reader gives for these bytes and a line feed.
+fn ended(alloc: Global, bytes: &[u8]) -> Result<Lines, Fail> {
     let mut reader = LineReader::new(alloc);
-    let none = reader.feed(line)?;
-    let lines = reader.feed(b"\n")?;
-    let first = lines.as_slice().first().ok_or("the line has ended")?;
-    let is_read = is_read_as(alloc, first.as_bytes(), want)?;
-    Ok(is_read && none.as_slice().is_empty() && first.as_bytes().len() == kept)
+    if reader.feed(bytes)?.as_slice().is_empty() {
+        return Ok(reader.feed(b"\n")?);
+    }
+    Err(Fail::new("a line has ended before its line feed"))
+}
+
+// Whether a reader keeps so many bytes of a padded line, which are read so.
+fn is_kept(alloc: Global, length: usize, kept: usize, want: &str) -> Result<bool, Fail> {
+    let lines = ended(alloc, &padded(alloc, length)?)?;
+    match lines.as_slice().first() {
+        Some(line) => {
+            Ok(line.as_bytes().len() == kept && is_read_as(alloc, line.as_bytes(), want)?)
+        }
+        None => Ok(false),
+    }
 }
 
 // How long a line is, how much of it a reader keeps, and what it is read as.
@@ -285,12 +269,24 @@ const LENGTHS: &[(usize, usize, &str)] = &[
 ];
 
 #[test]
-fn a_line_of_8193_bytes_is_too_long(rt: HostRuntime) -> Result<(), Fail> {
+fn of_a_longer_line_8193_bytes_are_kept(rt: HostRuntime) -> Result<(), Fail> {
     for row in LENGTHS {
         let (length, kept, want) = *row;
-        let line = padded(rt.alloc(), length)?;
-        assert!(rt; is_read_as(rt.alloc(), &line, want)?, "{length} bytes");
-        assert!(rt; is_kept(rt.alloc(), &line, kept, want)?, "{length} bytes");
+        assert!(rt; is_kept(rt.alloc(), length, kept, want)?, "{length} bytes");
+    }
+    Ok(())
+}
+
+fn is_padded_so(alloc: Global, length: usize, want: &str) -> Result<bool, AllocError> {
+    let line = padded(alloc, length)?;
+    is_read_as(alloc, &line, want)
+}
+
+#[test]
+fn a_line_of_8193_bytes_is_too_long(rt: HostRuntime) -> Result<(), Fail> {
+    for row in LENGTHS {
+        let (length, _, want) = *row;
+        assert!(rt; is_padded_so(rt.alloc(), length, want)?, "{length} bytes");
     }
     Ok(())
 }
@@ -303,17 +299,22 @@ fn gives(
     want: &str,
 ) -> Result<bool, AllocError> {
     let lines = reader.feed(bytes.as_bytes())?;
-    let text = joined(alloc, lines)?;
+    let text = joined(alloc, &lines)?;
     Ok(text.as_slice() == want.as_bytes())
 }
 
-fn joined(alloc: Global, lines: Lines) -> Result<Vec<u8>, AllocError> {
+fn joined(alloc: Global, lines: &Lines) -> Result<Vec<u8>, AllocError> {
     let mut text = Vec::new(alloc);
-    for line in lines.into_lines() {
-        text.extend_from_slice(line.as_bytes())?;
-        text.push(b';')?;
+    for line in lines.as_slice() {
+        push_line(&mut text, line.as_bytes())?;
     }
     Ok(text)
+}
+
+fn push_line(text: &mut Vec<u8>, line: &[u8]) -> Result<(), AllocError> {
+    text.extend_from_slice(line)?;
+    text.push(b';')?;
+    Ok(())
 }
 
 // Bytes that come one after the other, with the lines that they end.
@@ -334,9 +335,14 @@ fn lines_are_the_same_however_the_bytes_are_cut(rt: HostRuntime) -> Result<(), F
         let (bytes, want) = *row;
         assert!(rt; gives(rt.alloc(), &mut reader, bytes, want)?, "{want}");
     }
+    Ok(())
+}
+
+// A law is an empty function: its contract says it all, and the call shows that it can be called.
+#[test]
+fn the_laws_can_be_called() {
     law_cuts();
     law_kept();
-    Ok(())
 }
 
 #[test]
@@ -347,10 +353,14 @@ fn a_line_has_the_bytes_that_it_is_made_of(rt: HostRuntime) -> Result<(), Fail> 
     Ok(())
 }
 
+fn copy_of(alloc: Global, line: &str) -> Result<Request, Fail> {
+    let request = read_line(alloc, line.as_bytes())?;
+    Ok(request.copy()?)
+}
+
 // Whether the copy of the request of a line is this one.
 fn is_copied(alloc: Global, line: &str, want: &str) -> Result<bool, Fail> {
-    let copy = read_line(alloc, line.as_bytes())?.copy()?;
-    let text = told_request(alloc, &copy)?;
+    let text = told_request(alloc, &copy_of(alloc, line)?)?;
     Ok(text.as_str() == want)
 }
 
@@ -375,61 +385,63 @@ fn is_written_as(alloc: Global, reply: Reply, want: &str) -> bool {
     }
 }
 
+// The answers of the table, by their places.
+fn answer(place: usize) -> Answer {
+    match place {
+        0 => Answer::Acked(StateId {
+            term: 1,
+            version: 2,
+        }),
+        1 => Answer::NotMaster(Some(id("a"))),
+        2 => Answer::NotMaster(None),
+        3 => Answer::BadSetting(129),
+        4 => Answer::QueueFull(64),
+        5 => Answer::TooManySettings(1_025),
+        6 => Answer::NotMember(id("b")),
+        7 => Answer::TooManyExclusions(11),
+        8 => Answer::StillMember(id("b")),
+        9 => Answer::FailedToCommit(u64::MAX),
+        _ => Answer::ExclusionTimeout(set("b,c")),
+    }
+}
+
+const ANSWERS: [&str; 11] = [
+    r#"{"acked":{"term":1,"version":2},"id":65}"#,
+    r#"{"id":65,"not_master":"a"}"#,
+    r#"{"id":65,"not_master":null}"#,
+    r#"{"bad_setting":129,"id":65}"#,
+    r#"{"id":65,"queue_full":64}"#,
+    r#"{"id":65,"too_many_settings":1025}"#,
+    r#"{"id":65,"not_member":"b"}"#,
+    r#"{"id":65,"too_many_exclusions":11}"#,
+    r#"{"id":65,"still_member":"b"}"#,
+    r#"{"failed_to_commit":18446744073709551615,"id":65}"#,
+    r#"{"exclusion_timeout":["b","c"],"id":65}"#,
+];
+
+fn is_answered_as(alloc: Global, answer: Answer, want: &str) -> bool {
+    is_written_as(alloc, Reply::To { id: 65, answer }, want)
+}
+
 #[test]
 fn each_answer_has_this_text(rt: HostRuntime) {
-    let state = StateId {
-        term: 1,
-        version: 2,
-    };
-    for (answer, want) in [
-        (
-            Answer::Acked(state),
-            r#"{"acked":{"term":1,"version":2},"id":65}"#,
-        ),
-        (
-            Answer::NotMaster(Some(id("a"))),
-            r#"{"id":65,"not_master":"a"}"#,
-        ),
-        (Answer::NotMaster(None), r#"{"id":65,"not_master":null}"#),
-        (Answer::BadSetting(129), r#"{"bad_setting":129,"id":65}"#),
-        (Answer::QueueFull(64), r#"{"id":65,"queue_full":64}"#),
-        (
-            Answer::TooManySettings(1_025),
-            r#"{"id":65,"too_many_settings":1025}"#,
-        ),
-        (Answer::NotMember(id("b")), r#"{"id":65,"not_member":"b"}"#),
-        (
-            Answer::TooManyExclusions(11),
-            r#"{"id":65,"too_many_exclusions":11}"#,
-        ),
-        (
-            Answer::StillMember(id("b")),
-            r#"{"id":65,"still_member":"b"}"#,
-        ),
-        (
-            Answer::FailedToCommit(u64::MAX),
-            r#"{"failed_to_commit":18446744073709551615,"id":65}"#,
-        ),
-        (
-            Answer::ExclusionTimeout(set("b,c")),
-            r#"{"exclusion_timeout":["b","c"],"id":65}"#,
-        ),
-    ] {
-        assert!(rt;
-            is_written_as(rt.alloc(), Reply::To { id: 65, answer }, want),
-            "{want}"
-        );
+    for (place, want) in ANSWERS.iter().enumerate() {
+        assert!(rt; is_answered_as(rt.alloc(), answer(place), want), "{want}");
     }
 }
 
 const STATE: &str =
     r#"{"id":0,"state":{"committed":["a","b"],"config":["a","b"],"parent":null,"term":0,"value":{"exclusions":[],"master":null,"members":[],"settings":{"k":"\n"}},"version":0}}"#;
 
+fn state(alloc: Global) -> Result<SharedState, AllocError> {
+    let mut state = ClusterState::initial(alloc, &set("a,b"));
+    state.value.settings.put("k", "\n")?;
+    SharedState::of(alloc, state)
+}
+
 #[test]
 fn an_answered_state_has_this_text(rt: HostRuntime) -> Result<(), Fail> {
-    let mut state = ClusterState::initial(rt.alloc(), &set("a,b"));
-    state.value.settings.put("k", "\n")?;
-    let answer = Answer::State(SharedState::of(rt.alloc(), state)?);
+    let answer = Answer::State(state(rt.alloc())?);
     assert!(rt; is_written_as(rt.alloc(), Reply::To { id: 0, answer }, STATE));
     Ok(())
 }

@@ -83,11 +83,15 @@ fn one_setting(alloc: Global) -> Result<Settings, AllocError> {
     Ok(settings)
 }
 
+fn put_number(alloc: Global, settings: &mut Settings, number: u64) -> Result<(), AllocError> {
+    let key = format!(in alloc; "{number}")?;
+    settings.put(key.as_str(), "")
+}
+
 fn as_many_settings_as_there_may_be(alloc: Global) -> Result<Settings, AllocError> {
     let mut settings = one_setting(alloc)?;
     for number in 1..1024u64 {
-        let key = format!(in alloc; "{number}")?;
-        settings.put(key.as_str(), "")?;
+        put_number(alloc, &mut settings, number)?;
     }
     Ok(settings)
 }
@@ -121,39 +125,51 @@ fn state(
 
 fn write_replies(alloc: Global, text: &mut Vec<u8>, replies: &Replies) -> Result<(), AllocError> {
     for outgoing in replies.as_slice() {
-        text.push(b' ')?;
-        text.extend_from_slice(&write_reply(alloc, &outgoing.reply)?)?;
+        let line = write_reply(alloc, &outgoing.reply)?;
+        write_word(text, &line)?;
     }
     Ok(())
+}
+
+fn write_word(text: &mut Vec<u8>, word: &[u8]) -> Result<(), AllocError> {
+    text.push(b' ')?;
+    text.extend_from_slice(word)
 }
 
 // The voters and the value of a new state, or 'same', and the replies.
 fn told(alloc: Global, next: &Next) -> Result<Vec<u8>, AllocError> {
     let mut text = Vec::new(alloc);
+    write_next(alloc, &mut text, next)?;
+    Ok(text)
+}
+
+fn write_next(alloc: Global, text: &mut Vec<u8>, next: &Next) -> Result<(), AllocError> {
     match next {
         Next::Same(replies) => {
             text.extend_from_slice(b"same")?;
-            write_replies(alloc, &mut text, replies)?;
+            write_replies(alloc, text, replies)
         }
         Next::New {
             config,
             value,
             replies,
         } => {
-            write_ids(&mut text, config)?;
-            text.extend_from_slice(&value_to_json(alloc, value)?)?;
-            write_replies(alloc, &mut text, replies)?;
+            write_state(alloc, text, config, value)?;
+            write_replies(alloc, text, replies)
         }
     }
-    Ok(text)
 }
 
-fn write_ids(text: &mut Vec<u8>, config: &VotingConfig) -> Result<(), AllocError> {
+fn write_state(
+    alloc: Global,
+    text: &mut Vec<u8>,
+    config: &VotingConfig,
+    value: &ClusterValue,
+) -> Result<(), AllocError> {
     for id in config.members().as_slice() {
         text.extend_from_slice(id.as_bytes())?;
     }
-    text.push(b' ')?;
-    Ok(())
+    write_word(text, &value_to_json(alloc, value)?)
 }
 
 // What comes of the tasks of leader a, of whom a, b, c and d are voters.
@@ -168,6 +184,16 @@ fn next(
     told(alloc, &next)
 }
 
+// Takes requests of ids from 1 on, which come at moment 0.
+fn take_all(alloc: Global, tasks: &mut MasterTasks, wishes: &[Wish]) -> Result<(), Fail> {
+    let mut id: u64 = 0;
+    for wish in wishes {
+        id = id.wrapping_add(1);
+        take(alloc, tasks, 0, id, *wish)?;
+    }
+    Ok(())
+}
+
 // What comes of requests, of ids from 1 on.
 fn came(
     alloc: Global,
@@ -176,11 +202,7 @@ fn came(
     wishes: &[Wish],
 ) -> Result<Vec<u8>, Fail> {
     let mut tasks = MasterTasks::new(alloc);
-    let mut id: u64 = 0;
-    for wish in wishes {
-        id = id.wrapping_add(1);
-        take(alloc, &mut tasks, 0, id, *wish)?;
-    }
+    take_all(alloc, &mut tasks, wishes)?;
     Ok(next(alloc, &mut tasks, term, accepted)?)
 }
 
@@ -231,90 +253,112 @@ fn a_65th_request_is_refused(rt: HostRuntime) -> Result<(), Fail> {
     Ok(())
 }
 
-// Whether this comes of requests at the leader of the accepted state's term.
-fn comes(
+// Whether this comes of requests at the leader of the term.
+fn comes_of(
     alloc: Global,
-    voters: &str,
-    exclusions: &str,
+    term: u64,
+    accepted: &SharedState,
     wishes: &[Wish],
     want: &str,
 ) -> Result<bool, Fail> {
-    let accepted = state(alloc, voters, "a,b,c", exclusions, one_setting(alloc)?)?;
-    let text = came(alloc, 1, &accepted, wishes)?;
+    let text = came(alloc, term, accepted, wishes)?;
     Ok(text.as_slice() == want.as_bytes())
 }
 
-// Voters, exclusions, what clients wish, and what comes of that.
-const OUTCOMES: &[(&str, &str, &[Wish], &str)] = &[
+// State 1/1, with members a, b and c and one setting.
+fn accepted(alloc: Global, voters: &str, exclusions: &str) -> Result<SharedState, AllocError> {
+    state(alloc, voters, "a,b,c", exclusions, one_setting(alloc)?)
+}
+
+fn comes(
+    alloc: Global,
+    term: u64,
+    (voters, exclusions): (&str, &str),
+    wishes: &[Wish],
+    want: &str,
+) -> Result<bool, Fail> {
+    let accepted = accepted(alloc, voters, exclusions)?;
+    comes_of(alloc, term, &accepted, wishes, want)
+}
+
+// The leader's term, voters and exclusions in state 1/1, what clients wish, and what comes of that.
+const OUTCOMES: &[(u64, (&str, &str), &[Wish], &str)] = &[
     (
-        "a,b,c",
-        "_",
+        1,
+        ("a,b,c", "_"),
         &[Wish::State],
         r#"same {"id":1,"state":{"committed":["a","b","c"],"config":["a","b","c"],"parent":{"term":0,"version":0},"term":1,"value":{"exclusions":[],"master":"a","members":["a","b","c"],"settings":{"v":"x"}},"version":1}}"#,
     ),
     (
-        "a,b,c",
-        "_",
+        1,
+        ("a,b,c", "_"),
         &[Wish::Put("v", "x")],
         r#"same {"acked":{"term":1,"version":1},"id":1}"#,
     ),
     (
-        "a,b,c",
-        "_",
+        1,
+        ("a,b,c", "_"),
         &[Wish::Put("w", "1"), Wish::Put("w", "2")],
         r#"abc {"exclusions":[],"master":"a","members":["a","b","c"],"settings":{"v":"x","w":"2"}}"#,
     ),
     (
-        "a,b,c",
-        "_",
+        1,
+        ("a,b,c", "_"),
         &[Wish::Remove("w")],
         r#"same {"acked":{"term":1,"version":1},"id":1}"#,
     ),
     (
-        "a,b,c",
-        "_",
+        1,
+        ("a,b,c", "_"),
         &[Wish::Remove("v")],
         r#"abc {"exclusions":[],"master":"a","members":["a","b","c"],"settings":{}}"#,
     ),
     (
-        "a,b,c",
-        "_",
+        1,
+        ("a,b,c", "_"),
         &[Wish::Exclude("x")],
         r#"same {"id":1,"not_member":"x"}"#,
     ),
     (
-        "a,b,c",
-        "d,e,f,g,h,i,j,k,l,m",
+        1,
+        ("a,b,c", "d,e,f,g,h,i,j,k,l,m"),
         &[Wish::Exclude("c")],
         r#"same {"id":1,"too_many_exclusions":11}"#,
     ),
     (
-        "a,b,c",
-        "_",
+        1,
+        ("a,b,c", "_"),
         &[Wish::Exclude("c")],
         r#"ab {"exclusions":["c"],"master":"a","members":["a","b","c"],"settings":{"v":"x"}}"#,
     ),
     (
-        "a",
-        "c",
+        1,
+        ("a", "c"),
         &[Wish::Exclude("c")],
         r#"same {"acked":{"term":1,"version":1},"id":1}"#,
     ),
     (
-        "a",
-        "c",
+        1,
+        ("a", "c"),
         &[Wish::Clear { wait: true }],
         r#"same {"id":1,"still_member":"c"}"#,
     ),
     (
-        "a",
-        "c",
+        1,
+        ("a", "c"),
         &[Wish::Clear { wait: false }],
         r#"abc {"exclusions":[],"master":"a","members":["a","b","c"],"settings":{"v":"x"}}"#,
     ),
     (
-        "a,b",
-        "_",
+        1,
+        ("a,b", "_"),
+        &[],
+        r#"abc {"exclusions":[],"master":"a","members":["a","b","c"],"settings":{"v":"x"}}"#,
+    ),
+    // A state of an older term is published anew.
+    (
+        2,
+        ("a,b,c", "_"),
         &[],
         r#"abc {"exclusions":[],"master":"a","members":["a","b","c"],"settings":{"v":"x"}}"#,
     ),
@@ -323,57 +367,69 @@ const OUTCOMES: &[(&str, &str, &[Wish], &str)] = &[
 #[test]
 fn requests_make_this_state_or_get_this_answer(rt: HostRuntime) -> Result<(), Fail> {
     for row in OUTCOMES {
-        let (voters, exclusions, wishes, want) = *row;
+        let (term, accepted, wishes, want) = *row;
+        assert!(rt; comes(rt.alloc(), term, accepted, wishes, want)?, "{want}");
+    }
+    Ok(())
+}
+
+// What comes of one request, first and later.
+const TWICE: [&str; 2] = [
+    r#"abc {"exclusions":[],"master":"a","members":["a","b","c"],"settings":{"v":"x","w":"1"}}"#,
+    r#"same {"acked":{"term":1,"version":1},"id":1}"#,
+];
+
+fn one_request(alloc: Global) -> Result<MasterTasks, Fail> {
+    let mut tasks = MasterTasks::new(alloc);
+    take(alloc, &mut tasks, 5, 1, Wish::Put("w", "1"))?;
+    Ok(tasks)
+}
+
+fn comes_next(
+    alloc: Global,
+    tasks: &mut MasterTasks,
+    accepted: &SharedState,
+    want: &str,
+) -> Result<bool, AllocError> {
+    let text = next(alloc, tasks, 1, accepted)?;
+    Ok(text.as_slice() == want.as_bytes())
+}
+
+#[test]
+fn a_request_is_processed_once(rt: HostRuntime) -> Result<(), Fail> {
+    let accepted = accepted(rt.alloc(), "a,b,c", "_")?;
+    let mut tasks = one_request(rt.alloc())?;
+    for want in TWICE {
         assert!(rt;
-            comes(rt.alloc(), voters, exclusions, wishes, want)?,
+            comes_next(rt.alloc(), &mut tasks, &accepted, want)?,
             "{want}"
         );
     }
     Ok(())
 }
 
-#[test]
-fn an_accepted_state_of_an_older_term_is_published_anew(rt: HostRuntime) -> Result<(), Fail> {
-    let settings = one_setting(rt.alloc())?;
-    let accepted = state(rt.alloc(), "a,b,c", "a,b,c", "_", settings)?;
-    let text = came(rt.alloc(), 2, &accepted, [].as_slice())?;
-    let want = r#"abc {"exclusions":[],"master":"a","members":["a","b","c"],"settings":{"v":"x"}}"#;
-    assert!(rt; text.as_slice() == want.as_bytes());
-    Ok(())
-}
-
-#[test]
-fn a_request_is_processed_once(rt: HostRuntime) -> Result<(), Fail> {
-    let settings = one_setting(rt.alloc())?;
-    let accepted = state(rt.alloc(), "a,b,c", "a,b,c", "_", settings)?;
-    let mut tasks = MasterTasks::new(rt.alloc());
-    take(rt.alloc(), &mut tasks, 5, 1, Wish::Put("w", "1"))?;
-    for want in [
-        r#"abc {"exclusions":[],"master":"a","members":["a","b","c"],"settings":{"v":"x","w":"1"}}"#,
+// What a client wishes where there are as many settings as there may be, and what comes of it.
+const FULL: [(&[Wish], &str); 2] = [
+    (
+        &[Wish::Put("w", "")],
+        r#"same {"id":1,"too_many_settings":1025}"#,
+    ),
+    (
+        &[Wish::Put("v", "x")],
         r#"same {"acked":{"term":1,"version":1},"id":1}"#,
-    ] {
-        let text = next(rt.alloc(), &mut tasks, 1, &accepted)?;
-        assert!(rt; text.as_slice() == want.as_bytes(), "{want}");
-    }
-    Ok(())
+    ),
+];
+
+fn full_of_settings(alloc: Global) -> Result<SharedState, AllocError> {
+    let settings = as_many_settings_as_there_may_be(alloc)?;
+    state(alloc, "a,b,c", "a,b,c", "_", settings)
 }
 
 #[test]
 fn a_1025th_setting_is_refused(rt: HostRuntime) -> Result<(), Fail> {
-    let settings = as_many_settings_as_there_may_be(rt.alloc())?;
-    let accepted = state(rt.alloc(), "a,b,c", "a,b,c", "_", settings)?;
-    for (wish, want) in [
-        (
-            Wish::Put("w", ""),
-            r#"same {"id":1,"too_many_settings":1025}"#,
-        ),
-        (
-            Wish::Put("v", "x"),
-            r#"same {"acked":{"term":1,"version":1},"id":1}"#,
-        ),
-    ] {
-        let text = came(rt.alloc(), 1, &accepted, [wish].as_slice())?;
-        assert!(rt; text.as_slice() == want.as_bytes(), "{want}");
+    let accepted = full_of_settings(rt.alloc())?;
+    for (wishes, want) in &FULL {
+        assert!(rt; comes_of(rt.alloc(), 1, &accepted, wishes, want)?, "{want}");
     }
     Ok(())
 }
@@ -381,26 +437,39 @@ fn a_1025th_setting_is_refused(rt: HostRuntime) -> Result<(), Fail> {
 const ALL_BUT_A: &str = "0,1,2,3,4,5,6,b,c,d,e,f,g,h,i,j,k,l,m,n,o,p,q,r,s,t,u,v,w,x,y,z";
 
 // Members that are accepted, those that are to go, sets of those that are to come, and the members after that.
-#[derive(Clone, Copy)]
-struct Change {
-    members: &'static str,
-    removals: &'static str,
-    additions: &'static [&'static str],
-    after: &'static str,
+type Change = (
+    &'static str,
+    &'static str,
+    &'static [&'static str],
+    &'static str,
+);
+
+// What leader a makes of an accepted state where these members are to go and those are to come.
+fn after_changes(
+    alloc: Global,
+    accepted: &SharedState,
+    removals: &str,
+    additions: &[&str],
+) -> Result<Next, AllocError> {
+    let mut tasks = changed(alloc, removals, additions);
+    tasks.next_state(id("a"), 2, accepted, &accepted.config, &set("a,b,c"), true)
+}
+
+fn has(next: &Next, voters: &VotingConfig, members: &str) -> bool {
+    match next {
+        Next::Same(_) => false,
+        Next::New { config, value, .. } => {
+            config.is_same(voters) && value.members.as_slice() == set(members).as_slice()
+        }
+    }
 }
 
 // Whether leader a, who accepted a state with these voters, makes a new one with the same voters and these members.
 fn is_made(alloc: Global, voters: &str, change: Change) -> Result<bool, Fail> {
-    let accepted = state(alloc, voters, change.members, "_", one_setting(alloc)?)?;
-    let mut tasks = changed(alloc, change.removals, change.additions);
-    let votes = set("a,b,c");
-    match tasks.next_state(id("a"), 2, &accepted, &accepted.config, &votes, true)? {
-        Next::Same(_) => Ok(false),
-        Next::New { config, value, .. } => Ok(
-            config.is_same(&accepted.config)
-                && value.members.as_slice() == set(change.after).as_slice(),
-        ),
-    }
+    let (members, removals, additions, after) = change;
+    let accepted = state(alloc, voters, members, "_", one_setting(alloc)?)?;
+    let next = after_changes(alloc, &accepted, removals, additions)?;
+    Ok(has(&next, &accepted.config, after))
 }
 
 // Members that are to go, and sets of members that are to come, one after the other.
@@ -422,42 +491,17 @@ fn add_members(tasks: &mut MasterTasks, ids: &NodeSet) {
 }
 
 const CHANGES: &[Change] = &[
-    Change {
-        members: "a,b,c",
-        removals: "_",
-        additions: &["d"],
-        after: "a,b,c,d",
-    },
-    Change {
-        members: "a,b,c",
-        removals: "b",
-        additions: &[],
-        after: "a,c",
-    },
-    Change {
-        members: "a,b,c",
-        removals: "a",
-        additions: &[],
-        after: "a,b,c",
-    },
-    Change {
-        members: "a,b,c",
-        removals: "b",
-        additions: &["b"],
-        after: "a,b,c",
-    },
-    Change {
-        members: ALL_BUT_A,
-        removals: "_",
-        additions: &["a"],
-        after: ALL_BUT_A,
-    },
-    Change {
-        members: ALL_BUT_A,
-        removals: "b",
-        additions: &["7,a"],
-        after: "0,1,2,3,4,5,6,a,c,d,e,f,g,h,i,j,k,l,m,n,o,p,q,r,s,t,u,v,w,x,y,z",
-    },
+    ("a,b,c", "_", &["d"], "a,b,c,d"),
+    ("a,b,c", "b", &[], "a,c"),
+    ("a,b,c", "a", &[], "a,b,c"),
+    ("a,b,c", "b", &["b"], "a,b,c"),
+    (ALL_BUT_A, "_", &["a"], ALL_BUT_A),
+    (
+        ALL_BUT_A,
+        "b",
+        &["7,a"],
+        "0,1,2,3,4,5,6,a,c,d,e,f,g,h,i,j,k,l,m,n,o,p,q,r,s,t,u,v,w,x,y,z",
+    ),
 ];
 
 #[test]
@@ -468,25 +512,29 @@ fn members_leave_and_join_up_to_32(rt: HostRuntime) -> Result<(), Fail> {
     Ok(())
 }
 
+const ONE_TOO_MANY: Change = ("_", "_", &[ALL_BUT_A, "a"], ALL_BUT_A);
+
 #[test]
 fn a_33rd_member_is_left_out(rt: HostRuntime) -> Result<(), Fail> {
-    let change = Change {
-        members: "_",
-        removals: "_",
-        additions: &[ALL_BUT_A, "a"],
-        after: ALL_BUT_A,
-    };
-    assert!(rt; is_made(rt.alloc(), "c", change)?);
+    assert!(rt; is_made(rt.alloc(), "c", ONE_TOO_MANY)?);
+    Ok(())
+}
+
+fn process(alloc: Global, tasks: &mut MasterTasks) -> Result<(), AllocError> {
+    let accepted = accepted(alloc, "a,b,c", "_")?;
+    let _ = next(alloc, tasks, 1, &accepted)?;
     Ok(())
 }
 
 // Three requests, of which the first two are processed.
 fn three(alloc: Global) -> Result<MasterTasks, Fail> {
     let mut tasks = MasterTasks::new(alloc);
-    take(alloc, &mut tasks, 0, 1, Wish::Put("w", "1"))?;
-    take(alloc, &mut tasks, 0, 2, Wish::Exclude("b"))?;
-    let accepted = state(alloc, "a,b,c", "a,b,c", "_", one_setting(alloc)?)?;
-    let _ = next(alloc, &mut tasks, 1, &accepted)?;
+    take_all(
+        alloc,
+        &mut tasks,
+        &[Wish::Put("w", "1"), Wish::Exclude("b")],
+    )?;
+    process(alloc, &mut tasks)?;
     take(alloc, &mut tasks, 1, 3, Wish::Exclude("x"))?;
     Ok(tasks)
 }
@@ -511,8 +559,6 @@ fn reply_on(tasks: &mut MasterTasks, occasion: Occasion, out: &mut Replies) {
     }
 }
 
-const EARLIER: &str = r#" {"error":"not_json"}"#;
-
 // Room for twelve replies, one of which is there already: others must leave it there and come behind it.
 fn begun(alloc: Global) -> Result<Replies, AllocError> {
     let mut replies = Replies::with_room(alloc, 12)?;
@@ -521,6 +567,31 @@ fn begun(alloc: Global) -> Result<Replies, AllocError> {
         reply: Reply::BadLine(LineFault::NotJson),
     });
     Ok(replies)
+}
+
+// The replies that two begun ones have.
+const EARLIER: &[u8] = br#" {"error":"not_json"} {"error":"not_json"}"#;
+
+// Replies behind another begun one, where it has room for them, as text.
+fn appended(alloc: Global, replies: Replies) -> Result<Vec<u8>, AllocError> {
+    let mut all = begun(alloc)?;
+    if replies.as_slice().len() <= all.room() {
+        all.append(replies);
+    }
+    told_replies(alloc, &all)
+}
+
+fn told_replies(alloc: Global, replies: &Replies) -> Result<Vec<u8>, AllocError> {
+    let mut text = Vec::new(alloc);
+    write_replies(alloc, &mut text, replies)?;
+    Ok(text)
+}
+
+fn is_behind_earlier(text: &[u8], want: &str) -> bool {
+    match text.split_at_checked(EARLIER.len()) {
+        Some((front, rest)) => front == EARLIER && rest == want.as_bytes(),
+        None => false,
+    }
 }
 
 // Whether so many of the three requests wait on after these occasions, and the others got these replies.
@@ -535,15 +606,8 @@ fn are_replied(
     for occasion in occasions {
         reply_on(&mut tasks, *occasion, &mut out);
     }
-    let mut all = begun(alloc)?;
-    if out.as_slice().len() > all.room() {
-        return Ok(false);
-    }
-    all.append(out);
-    let mut text = Vec::new(alloc);
-    write_replies(alloc, &mut text, &all)?;
-    let wanted = format!(in alloc; "{EARLIER}{EARLIER}{want}")?;
-    Ok(tasks.open_count() == left && text.as_slice() == wanted.as_bytes())
+    let text = appended(alloc, out)?;
+    Ok(tasks.open_count() == left && is_behind_earlier(&text, want))
 }
 
 // Occasions one after the other, how many of three requests wait on then, and the replies to the others.
@@ -581,8 +645,13 @@ const ANSWERED: &[(&[Occasion], usize, &str)] = &[
 ];
 
 #[test]
-fn each_occasion_answers_its_requests(rt: HostRuntime) -> Result<(), Fail> {
+fn replies_have_room_for_as_many_as_was_said(rt: HostRuntime) -> Result<(), Fail> {
     assert!(rt; Replies::with_room(rt.alloc(), 12)?.room() == 12);
+    Ok(())
+}
+
+#[test]
+fn each_occasion_answers_its_requests(rt: HostRuntime) -> Result<(), Fail> {
     for row in ANSWERED {
         let (occasions, left, want) = *row;
         assert!(rt; are_replied(rt.alloc(), occasions, left, want)?, "{want}");

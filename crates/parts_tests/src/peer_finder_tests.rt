@@ -76,17 +76,20 @@ fn act(finder: &mut PeerFinder, step: Step) {
     }
 }
 
+fn are_both(ids: &[NodeId]) -> bool {
+    ids == [letter(b'b'), letter(b'c')].as_slice()
+}
+
 fn holds(finder: &PeerFinder, step: Step) -> bool {
-    let both = [letter(b'b'), letter(b'c')];
     match step {
-        Step::AsksBoth(now) => finder.tick(now).as_slice() == both.as_slice(),
+        Step::AsksBoth(now) => are_both(finder.tick(now).as_slice()),
         Step::AsksNobody(now) => finder.tick(now).len() == 0,
         Step::IsDue(now, is_due) => finder.is_due(now) == is_due,
         Step::FoundNoMaster(peer) => has_master(finder.found(letter(peer))) == Some(false),
         Step::FoundAMaster(peer) => has_master(finder.found(letter(peer))) == Some(true),
         Step::HasNotFound(peer) => finder.found(letter(peer)).is_none(),
-        Step::KnowsBoth => finder.known_set().as_slice() == both.as_slice(),
-        Step::BothAnswered => finder.answered_set().as_slice() == both.as_slice(),
+        Step::KnowsBoth => are_both(finder.known_set().as_slice()),
+        Step::BothAnswered => are_both(finder.answered_set().as_slice()),
         Step::IsFree(peer) => finder.free_set().as_slice() == [letter(peer)].as_slice(),
         Step::Add(_)
         | Step::Asked(_)

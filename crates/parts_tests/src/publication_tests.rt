@@ -12,6 +12,10 @@ fn set(text: &str) -> NodeSet {
     NodeSet::parse(text).unwrap_or(NodeSet::new())
 }
 
+fn state(version: u64) -> StateId {
+    StateId { term: 1, version }
+}
+
 // What comes of a publication to a and b, or how it then stands.
 #[derive(Clone, Copy)]
 enum Step {
@@ -19,6 +23,8 @@ enum Step {
     CommitSent,
     Applied(&'static str),
     Finished,
+    IsOfVersion(u64),
+    HasTargets(&'static str),
     IsRunning(u64),
     HasFailed(u64),
     IsDone(u64, &'static str),
@@ -33,7 +39,9 @@ fn act(publication: &mut Publication, step: Step) {
         Step::CommitSent => publication.commit_sent(),
         Step::Applied(node) => publication.applied(id(node)),
         Step::Finished => publication.finished(),
-        Step::IsRunning(_)
+        Step::IsOfVersion(_)
+        | Step::HasTargets(_)
+        | Step::IsRunning(_)
         | Step::HasFailed(_)
         | Step::IsDone(_, _)
         | Step::HaveResponded(_)
@@ -44,6 +52,8 @@ fn act(publication: &mut Publication, step: Step) {
 
 fn holds(publication: &Publication, step: Step) -> bool {
     match step {
+        Step::IsOfVersion(version) => publication.id() == state(version),
+        Step::HasTargets(nodes) => publication.targets().as_slice() == set(nodes).as_slice(),
         Step::IsRunning(now) => matches!(publication.tick(now), Stage::Running),
         Step::HasFailed(now) => matches!(publication.tick(now), Stage::Failed),
         Step::IsDone(now, laggards) => is_done(publication.tick(now), laggards),
@@ -77,19 +87,15 @@ const STEPS: &[Step] = &[
     Step::Finished,
     Step::IsFinished(true),
     Step::IsDone(30_100, "b"),
+    Step::IsOfVersion(2),
+    Step::HasTargets("a,b"),
 ];
 
 #[test]
 fn a_publication_fails_after_30_seconds_or_names_its_laggards(rt: HostRuntime) {
-    let state = StateId {
-        term: 1,
-        version: 2,
-    };
-    let mut publication = Publication::start(state, &set("a,b"), 100);
+    let mut publication = Publication::start(state(2), &set("a,b"), 100);
     for (at, step) in STEPS.iter().enumerate() {
         act(&mut publication, *step);
         assert!(rt; holds(&publication, *step), "step {at}");
     }
-    assert!(rt; publication.id() == state);
-    assert!(rt; publication.targets().as_slice() == set("a,b").as_slice());
 }

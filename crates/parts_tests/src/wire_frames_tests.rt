@@ -1,4 +1,6 @@
 //! Frames byte by byte, streams however they are cut, and first faults.
+ghost use Rattle.std.specs.Prelude.{IfOk};
+ghost use Rattle.wire_frames.specs.Frames.{IsFitFrame};
 ghost use Rattle.wire_frames.specs.Messages.{IsFitMessage};
 
 use cluster_state::{ClusterState, FieldError, SharedState, StateId};
@@ -68,16 +70,20 @@ fn are_fed(alloc: Global, parts: Parts) -> Result<bool, AllocError> {
     Ok(count.saturating_add(fed.frames.len()) == parts.frames && fed.fault == parts.fault)
 }
 
+fn ends_the_join(reader: &mut FrameReader, bytes: &[u8]) -> bool {
+    match reader.feed(bytes) {
+        Ok(fed) => fed.frames.first().is_some_and(is_join),
+        Err(_) => false,
+    }
+}
+
 #[test]
-fn a_join_byte_by_byte(rt: HostRuntime) -> Result<(), Fail> {
+fn a_join_byte_by_byte(rt: HostRuntime) {
     let mut reader = FrameReader::new(rt.alloc());
     for byte in &JOIN[..32] {
         assert!(rt; is_fed(&mut reader, &[*byte], 0, None));
     }
-    let fed = reader.feed(&JOIN[32..])?;
-    let frame = fed.frames.first().ok_or("a frame is whole")?;
-    assert!(rt; is_join(frame));
-    Ok(())
+    assert!(rt; ends_the_join(&mut reader, &JOIN[32..]));
 }
 
 // The join with other bytes at these places.
@@ -188,12 +194,9 @@ fn a_frame_of_more_than_8_388_608_bytes_is_too_long(rt: HostRuntime) -> Result<(
     Ok(())
 }
 
-fn join_and_ask(alloc: Global) -> Result<Vec<u8>, AllocError> {
-    let mut both = Vec::new(alloc);
-    both.extend_from_slice(&JOIN)?;
-    both.extend_from_slice(&ASK)?;
-    Ok(both)
-}
+// The join, and then the ask.
+const BOTH: &[u8; 42] =
+    b"\0\0\0\x1d\x02\x01a\x01b\0\0\0\0\0\0\0\x01\0\0\0\0\0\0\0\0\0\0\0\0\0\0\0\0\0\0\0\x05\x09\x01a\x01b";
 
 // Two whole frames, and no fault after them.
 fn two<'a>(first: &'a [u8], second: &'a [u8]) -> Parts<'a> {
@@ -205,14 +208,24 @@ fn two<'a>(first: &'a [u8], second: &'a [u8]) -> Parts<'a> {
     }
 }
 
+fn are_two_cut_at(alloc: Global, place: usize) -> Result<bool, AllocError> {
+    match BOTH.split_at_checked(place) {
+        Some((first, second)) => are_fed(alloc, two(first, second)),
+        None => Ok(false),
+    }
+}
+
 #[test]
 fn two_frames_cut_at_each_place(rt: HostRuntime) -> Result<(), Fail> {
-    let both = join_and_ask(rt.alloc())?;
-    for place in 0..both.len() {
-        let (first, second) = both.as_slice().split_at(place);
-        assert!(rt; are_fed(rt.alloc(), two(first, second))?, "cut at {place}");
+    for place in 0..42 {
+        assert!(rt; are_two_cut_at(rt.alloc(), place)?, "cut at {place}");
     }
-    assert!(rt; are_fed(rt.alloc(), two(&both, &ASK[..3]))?);
+    Ok(())
+}
+
+#[test]
+fn two_frames_and_what_begins_a_third(rt: HostRuntime) -> Result<(), Fail> {
+    assert!(rt; are_fed(rt.alloc(), two(BOTH, &ASK[..3]))?);
     Ok(())
 }
 
@@ -243,26 +256,11 @@ fn is_frame_of(bytes: &[u8], body: &[u8]) -> bool {
     }
 }
 
-// Whether a message of the kind is read from a body, whose copy is written as these bytes.
+// Whether a message of the kind with this byte is read from a body, whose copy is written as these bytes.
 fn is_read_back(alloc: Global, kind: u8, body: &[u8], bytes: &[u8]) -> Result<bool, Fail> {
     let read = read_frame(alloc, body).ok().ok_or("a frame")?;
     let again = write_frame(alloc, &read.copy()?)?;
     Ok(again.as_slice() == bytes && Kind::of(kind) == Some(read.message.kind()))
-}
-
-// Whether the frame of a message from a to b has these bytes after the kind and the ids, and is read back from them.
-fn is_spelled(alloc: Global, message: WireMessage, kind: u8, fields: &[u8]) -> Result<bool, Fail>
-    requires { IsFitMessage message }
-{
-    let frame = Frame {
-        from: letter(b'a'),
-        to: letter(b'b'),
-        message,
-    };
-    let bytes = write_frame(alloc, &frame)?;
-    let body = body(alloc, kind, fields)?;
-    let is_read = is_read_back(alloc, kind, &body, bytes.as_slice())?;
-    Ok(is_read && is_frame_of(bytes.as_slice(), &body))
 }
 
 const ID: StateId = StateId {
@@ -270,93 +268,111 @@ const ID: StateId = StateId {
     version: 2,
 };
 
-const ID_BYTES: [u8; 16] = [0, 0, 0, 0, 0, 0, 0, 1, 0, 0, 0, 0, 0, 0, 0, 2];
-
-const TERM_AND_ID: [u8; 24] = [
-    0, 0, 0, 0, 0, 0, 0, 1, 0, 0, 0, 0, 0, 0, 0, 1, 0, 0, 0, 0, 0, 0, 0, 2,
-];
-
-const FOLLOWER_ANSWER: [u8; 25] = [
-    1, 0, 0, 0, 0, 0, 0, 0, 1, 0, 0, 0, 0, 0, 0, 0, 1, 0, 0, 0, 0, 0, 0, 0, 2,
-];
-
-// The state 0/0 that node a begins with.
-const INITIAL: [u8; 28] = [
-    0, 0, 0, 0, 0, 0, 0, 0, 0, 0, 0, 0, 0, 0, 0, 0, 0, 1, 1, 97, 1, 1, 97, 0, 0, 0, 0, 0,
-];
-
-#[test]
-fn spelled_elections(rt: HostRuntime) -> Result<(), Fail> {
-    let candidate = letter(b'c');
-    let start = WireMessage::StartJoin { candidate, term: 1 };
-    assert!(rt; is_spelled(rt.alloc(), start, 1, &[1, 99, 0, 0, 0, 0, 0, 0, 0, 1])?);
-    let join = WireMessage::Join { term: 1, last: ID };
-    assert!(rt; is_spelled(rt.alloc(), join, 2, &TERM_AND_ID)?);
-    assert!(rt; is_spelled(rt.alloc(), WireMessage::PreVoteAsk, 9, &[])?);
-    let answer = WireMessage::PreVoteAnswer { term: 1, last: ID };
-    assert!(rt; is_spelled(rt.alloc(), answer, 10, &TERM_AND_ID)?);
-    let refuse = WireMessage::PreVoteRefuse { leader: candidate };
-    assert!(rt; is_spelled(rt.alloc(), refuse, 11, &[1, 99])?);
-    Ok(())
+// A message of the kind.
+fn message(alloc: Global, kind: Kind) -> Result<WireMessage, AllocError>
+    ensures { IfOk result IsFitMessage }
+{
+    match kind {
+        Kind::StartJoin => Ok(WireMessage::StartJoin {
+            candidate: letter(b'c'),
+            term: 1,
+        }),
+        Kind::Join => Ok(WireMessage::Join { term: 1, last: ID }),
+        Kind::Publish => publish(alloc),
+        Kind::Response => Ok(WireMessage::Response(ID)),
+        Kind::Commit => Ok(WireMessage::Commit(ID)),
+        Kind::JoinAsk => Ok(WireMessage::JoinAsk { term: 3 }),
+        Kind::PeersAsk => Ok(WireMessage::PeersAsk { known: set("a,b") }),
+        Kind::PeersAnswer => Ok(WireMessage::PeersAnswer {
+            master: None,
+            term: 3,
+            known: set("a"),
+        }),
+        Kind::PreVoteAsk => Ok(WireMessage::PreVoteAsk),
+        Kind::PreVoteAnswer => Ok(WireMessage::PreVoteAnswer { term: 1, last: ID }),
+        Kind::PreVoteRefuse => Ok(WireMessage::PreVoteRefuse {
+            leader: letter(b'c'),
+        }),
+        Kind::FollowerCheck => Ok(WireMessage::FollowerCheck { term: 3 }),
+        Kind::FollowerAnswer => Ok(WireMessage::FollowerAnswer {
+            good: true,
+            term: 1,
+            applied: ID,
+        }),
+        Kind::LeaderCheck => Ok(WireMessage::LeaderCheck { term: 3 }),
+        Kind::LeaderAnswer => Ok(WireMessage::LeaderAnswer { good: false }),
+    }
 }
 
-#[test]
-fn spelled_publications(rt: HostRuntime) -> Result<(), Fail> {
-    let state = SharedState::of(rt.alloc(), ClusterState::initial(rt.alloc(), &set("a")))?;
-    assert!(rt; is_spelled(rt.alloc(), WireMessage::Publish(state), 17, &INITIAL)?);
-    assert!(rt; is_spelled(rt.alloc(), WireMessage::Response(ID), 4, &ID_BYTES)?);
-    assert!(rt; is_spelled(rt.alloc(), WireMessage::Commit(ID), 5, &ID_BYTES)?);
-    Ok(())
+// The state that node a begins with.
+fn publish(alloc: Global) -> Result<WireMessage, AllocError>
+    ensures { IfOk result IsFitMessage }
+{
+    let state = ClusterState::initial(alloc, &set("a"));
+    Ok(WireMessage::Publish(SharedState::of(alloc, state)?))
 }
 
-#[test]
-fn spelled_peers(rt: HostRuntime) -> Result<(), Fail> {
-    let term = [0, 0, 0, 0, 0, 0, 0, 3];
-    assert!(rt; is_spelled(rt.alloc(), WireMessage::JoinAsk { term: 3 }, 6, &term)?);
-    let ask = WireMessage::PeersAsk { known: set("a,b") };
-    assert!(rt; is_spelled(rt.alloc(), ask, 7, &[2, 1, 97, 1, 98])?);
-    let answer = WireMessage::PeersAnswer {
-        master: None,
-        term: 3,
-        known: set("a"),
-    };
-    assert!(rt;
-        is_spelled(
-            rt.alloc(),
-            answer,
-            8,
-            &[0, 0, 0, 0, 0, 0, 0, 0, 3, 1, 1, 97]
-        )?
-    );
-    Ok(())
+// The message of the kind, from a to b.
+fn frame(alloc: Global, kind: Kind) -> Result<Frame, AllocError>
+    ensures { IfOk result IsFitFrame }
+{
+    Ok(Frame {
+        from: letter(b'a'),
+        to: letter(b'b'),
+        message: message(alloc, kind)?,
+    })
 }
 
+// Whether a frame of the kind has its byte, and these bytes after the ids, and is read back from them.
+fn is_spelled(alloc: Global, kind: Kind, byte: u8, fields: &[u8]) -> Result<bool, Fail> {
+    let bytes = write_frame(alloc, &frame(alloc, kind)?)?;
+    let body = body(alloc, byte, fields)?;
+    let is_read = is_read_back(alloc, byte, &body, bytes.as_slice())?;
+    Ok(is_read && is_frame_of(bytes.as_slice(), &body))
+}
+
+// Kinds, their bytes, and the bytes of the fields behind the ids.
+const KINDS: &[(Kind, u8, &[u8])] = &[
+    (Kind::StartJoin, 1, b"\x01c\0\0\0\0\0\0\0\x01"),
+    (
+        Kind::Join,
+        2,
+        b"\0\0\0\0\0\0\0\x01\0\0\0\0\0\0\0\x01\0\0\0\0\0\0\0\x02",
+    ),
+    (Kind::Response, 4, b"\0\0\0\0\0\0\0\x01\0\0\0\0\0\0\0\x02"),
+    (Kind::Commit, 5, b"\0\0\0\0\0\0\0\x01\0\0\0\0\0\0\0\x02"),
+    (Kind::JoinAsk, 6, b"\0\0\0\0\0\0\0\x03"),
+    (Kind::PeersAsk, 7, b"\x02\x01a\x01b"),
+    (Kind::PeersAnswer, 8, b"\0\0\0\0\0\0\0\0\x03\x01\x01a"),
+    (Kind::PreVoteAsk, 9, b""),
+    (
+        Kind::PreVoteAnswer,
+        10,
+        b"\0\0\0\0\0\0\0\x01\0\0\0\0\0\0\0\x01\0\0\0\0\0\0\0\x02",
+    ),
+    (Kind::PreVoteRefuse, 11, b"\x01c"),
+    (Kind::FollowerCheck, 12, b"\0\0\0\0\0\0\0\x03"),
+    (
+        Kind::FollowerAnswer,
+        13,
+        b"\x01\0\0\0\0\0\0\0\x01\0\0\0\0\0\0\0\x01\0\0\0\0\0\0\0\x02",
+    ),
+    (Kind::LeaderCheck, 14, b"\0\0\0\0\0\0\0\x03"),
+    (Kind::LeaderAnswer, 15, b"\0"),
+    // 0/0 with no parent, the configurations of a, no master, and a value of nothing.
+    (
+        Kind::Publish,
+        17,
+        b"\0\0\0\0\0\0\0\0\0\0\0\0\0\0\0\0\0\x01\x01a\x01\x01a\0\0\0\0\0",
+    ),
+];
+
 #[test]
-fn spelled_checks(rt: HostRuntime) -> Result<(), Fail> {
-    let term = [0, 0, 0, 0, 0, 0, 0, 3];
-    assert!(rt;
-        is_spelled(
-            rt.alloc(),
-            WireMessage::FollowerCheck { term: 3 },
-            12,
-            &term
-        )?
-    );
-    let answer = WireMessage::FollowerAnswer {
-        good: true,
-        term: 1,
-        applied: ID,
-    };
-    assert!(rt; is_spelled(rt.alloc(), answer, 13, &FOLLOWER_ANSWER)?);
-    assert!(rt; is_spelled(rt.alloc(), WireMessage::LeaderCheck { term: 3 }, 14, &term)?);
-    assert!(rt;
-        is_spelled(
-            rt.alloc(),
-            WireMessage::LeaderAnswer { good: false },
-            15,
-            &[0]
-        )?
-    );
+fn each_kind_is_spelled_so(rt: HostRuntime) -> Result<(), Fail> {
+    for row in KINDS {
+        let (kind, byte, fields) = *row;
+        assert!(rt; is_spelled(rt.alloc(), kind, byte, fields)?, "{byte}");
+    }
     Ok(())
 }
 
