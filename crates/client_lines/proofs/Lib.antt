@@ -1,5 +1,6 @@
 pub mod Cuts
 pub mod Distinct
+pub mod Ends
 pub mod Exclusions
 pub mod Kept
 pub mod Texts

@@ -1,16 +1,14 @@
--- The texts of replies.
-use Rattle.std.proofs.Common.{◌≡◌, ◌∙◌, ap, ℕ, List, ◌++◌, append_assoc, codes}
-use Rattle.std.specs.Prelude.{decimal}
-use Rattle.serde_json.specs.Data.{Data}
-use Rattle.serde_json.specs.Written.{compact_text}
-use Rattle.serde_json.proofs.OnLiterals.{serde_json_on_literals}
-use Rattle.client_lines.specs.Replies.{beside_id, number_json, text_of}
+-- The text of an answered state.
+use Rattle.std.proofs.Common.{◌≡◌, refl, ap, ℕ, Bool, false, ◌||◌, codes}
+use Rattle.serde_json.specs.Written.{compact_text, has_float}
+use Rattle.cluster_state.specs.declared.state.ClusterState.{ClusterState}
+use Rattle.cluster_state.specs.Json.{state_json}
+use Rattle.cluster_state.proofs.JsonLaws.{no_float}
+use Rattle.client_lines.specs.Replies.{beside_id, state_reply, text_of}
 
-joined : (a b c d : List ℕ) → ((a ++ b) ++ c) ++ d ≡ a ++ (b ++ (c ++ d))
-joined a b c d = append_assoc (a ++ b) c d ∙ append_assoc a b (c ++ d)
+pub state_reply-no_float : (id : ℕ) (state : ClusterState) → has_float (state_reply id state) ≡ false
+state_reply-no_float id state = ap (λ (b : Bool). b || false) (no_float state)
 
-pub beside_state-text : (id : ℕ) (state : Data) (a b : List ℕ) → a ≡ text_of (number_json id) → b ≡ compact_text state
-    → (((codes "{\"id\":" ++ a) ++ codes ",\"state\":") ++ b) ++ codes "}" ≡ text_of (beside_id id (codes "state") state)
-unfolding serde_json_on_literals beside_id text_of
-beside_state-text id state a b is_id is_state =
-    rw (is_id, is_state) (ap (λ t. codes "{\"id\":" ++ t) (joined (decimal id) (codes ",\"state\":") (compact_text state) (codes "}")))
+pub state_reply-text : (id : ℕ) (state : ClusterState) → compact_text (state_reply id state) ≡ text_of (beside_id id (codes "state") (state_json state))
+unfolding beside_id text_of
+state_reply-text id state = refl

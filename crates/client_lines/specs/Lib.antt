@@ -3,3 +3,4 @@ pub mod Reading
 pub mod Replies
 pub mod Lines
 pub mod Laws
+pub mod Ends

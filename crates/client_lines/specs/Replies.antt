@@ -3,6 +3,7 @@ use Rattle.std.specs.Prelude.{ℕ, List, codes}
 use Rattle.serde_json.specs.Data.{Data, number, unsigned, string, object, no_members, member, put}
 use Rattle.serde_json.specs.Written.{compact_text}
 use Rattle.cluster_state.specs.Json.{ids_json, master_json, state_json}
+use Rattle.cluster_state.specs.declared.state.ClusterState.{ClusterState}
 use Rattle.cluster_state.specs.declared.state.StateId.{StateId}
 use Rattle.cluster_state.specs.declared.reply.LineFault.{LineFault}
 use Rattle.cluster_state.specs.declared.reply.LineFault.TheVariants.{TooLong, NotJson, BadShape}
@@ -20,6 +21,10 @@ state_id_json id = object (member (codes "term") (number_json id.term) (member (
 -- an id with one thing beside it, the keys in the order of their bytes
 unfoldable pub beside_id : ℕ → List ℕ → Data → Data
 beside_id id name d = object (put name d (member (codes "id") (number_json id) no_members))
+
+-- an id with a state beside it, key by key
+abbrev pub state_reply : ℕ → ClusterState → Data
+state_reply id state = object (member (codes "id") (number_json id) (member (codes "state") (state_json state) no_members))
 
 abbrev pub answer_json : ℕ → Answer → Data
 answer_json id (Acked state) = beside_id id (codes "acked") (state_id_json state)

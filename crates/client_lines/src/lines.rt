@@ -1,9 +1,12 @@
 //! Lines out of a stream of bytes, the same however the bytes are cut.
-ghost use Rattle.std.specs.Prelude.{◌≡◌, ℕ, List, [], ◌++◌, IfOk, OnErr};
-ghost use Rattle.client_lines.specs.Lines.{lines_of, rest_of};
+ghost use Rattle.std.specs.Prelude.{◌≡◌, ℕ, ◌≤◌, List, [], ◌++◌, length, IfOk, OnErr};
+ghost use Rattle.client_lines.specs.Lines.{kept as kept_of, lines_of, rest_of};
 ghost use Rattle.client_lines.specs.Laws.{CutsAnywhere, KeepsEnough};
+ghost use Rattle.client_lines.specs.Ends.{IsEnding, IsWhole};
 
 use crate::reading::MAX_LINE;
+use bytes::BytesMut;
+use memchr::memchr;
 use std::alloc::{AllocError, Global};
 use std::marker::Model;
 
@@ -76,11 +79,52 @@ impl Lines {
     }
 }
 
+// The lines that end in bytes, and how many bytes they take with their line feeds.
+#[derive(Drop)]
+struct Ended {
+    lines: Vec<Line>,
+    used: usize,
+}
+
+// Of a line that is too long, one byte more than a line may have.
+fn kept(line: &[u8]) -> &[u8]
+    ensures { result.now ≡ kept_of line.now }
+{
+    if line.len() <= MAX_KEPT {
+        return line;
+    }
+    &line[..MAX_KEPT]
+}
+
+fn copied(alloc: Global, bytes: &[u8]) -> Result<Line, AllocError>
+    ensures { IfOk result (λ line. line ≡ kept_of bytes.now) }
+{
+    Ok(Line::of(Vec::from_slice(alloc, kept(bytes))?))
+}
+
+// The lines that end in bytes, of which the first ones, so many, have no line feed.
+fn lines_in(alloc: Global, bytes: &[u8], clean: usize) -> Result<Ended, AllocError>
+    requires { IsEnding [] 0 clean bytes.now }
+    ensures { IfOk result (λ ended. IsWhole ended.lines.items ended.used bytes.now) }
+{
+    let mut lines = Vec::new(alloc);
+    let mut used = 0;
+    let mut seen = clean;
+    while let Some(more) = memchr(b'\n', &bytes[seen..]) {
+        let end = seen + more;
+        lines.push(copied(alloc, &bytes[used..end])?)?;
+        used = end + 1;
+        seen = used;
+    }
+    Ok(Ended { lines, used })
+}
+
 /// What makes lines of bytes. Contracts see what it holds of the line that has not ended: its first bytes, one more
 /// than a line may have at most.
 #[derive(Drop)]
 pub struct LineReader {
-    held: Vec<u8>,
+    held: BytesMut,
+    alloc: Global,
 }
 
 impl Model for LineReader {
@@ -103,7 +147,8 @@ impl LineReader {
         ensures { result ≡ [] }
     {
         LineReader {
-            held: Vec::new(alloc),
+            held: BytesMut::new(alloc),
+            alloc,
         }
     }
 
@@ -114,19 +159,19 @@ impl LineReader {
         ensures held { IfOk result (λ lines. self.new ≡ rest_of (self.old ++ bytes.now)) }
         ensures err { OnErr result (self.new ≡ self.old) }
     {
-        let alloc = *self.held.allocator();
-        let mut lines = Vec::new(alloc);
-        let mut held = self.held.clone()?;
-        for byte in bytes {
-            if *byte == b'\n' {
-                let line = std::mem::replace(&mut held, Vec::new(alloc));
-                lines.push(Line { bytes: line })?;
-            } else if held.len() < MAX_KEPT {
-                held.push(*byte)?;
+        let held = self.held.len();
+        self.held.extend_from_slice(bytes)?;
+        match lines_in(self.alloc, self.held.as_slice(), held) {
+            Ok(Ended { lines, used }) => {
+                self.held.advance(used);
+                self.held.truncate(MAX_KEPT);
+                Ok(Lines { lines })
+            }
+            Err(error) => {
+                self.held.truncate(held);
+                Err(error)
             }
         }
-        self.held = held;
-        Ok(Lines { lines })
     }
 }
 

@@ -1,12 +1,14 @@
 //! A reply written as a line of JSON.
-ghost use Rattle.std.specs.Prelude.{◌≡◌, ◌++◌, false, IfOk, OnOk, codes, map};
+ghost use Rattle.std.specs.Prelude.{◌≡◌, false, IfOk, codes, map};
 ghost use Rattle.serde_json.specs.Data.{string};
 ghost use Rattle.serde_json.specs.View.{view};
+ghost use Rattle.serde_json.specs.Events.{SendsValue};
 ghost use Rattle.serde_json.specs.Written.{has_float};
 ghost use Rattle.cluster_state.specs.Json.{ids_json, master_json, state_json};
-ghost use Rattle.client_lines.specs.Replies.{beside_id, number_json, state_id_json, answer_json, fault_name as name_of_fault, reply_json, reply_text, text_of};
+ghost use Rattle.client_lines.specs.Replies.{beside_id, number_json, state_id_json, state_reply, answer_json, fault_name as name_of_fault, reply_json, reply_text, text_of};
 
-use cluster_state::{Answer, ClusterState, LineFault, Reply, StateId, to_json};
+use cluster_state::{Answer, ClusterState, LineFault, Reply, StateId};
+use serde::{Described, Serialize, Serializer};
 use serde_json::{Map, Value, json};
 use std::alloc::{AllocError, Global};
 use voting_config::{NodeId, NodeSet};
@@ -79,25 +81,35 @@ fn write_value(alloc: Global, value: &Value) -> Result<Vec<u8>, AllocError>
     value.to_vec(alloc)
 }
 
-// An id with a state beside it. The state's text is put in as `cluster_state` writes it.
+// An id with a state beside it.
+#[derive(Clone, Copy)]
+struct StateReply<'a> {
+    id: u64,
+    state: &'a ClusterState,
+}
+
+impl Described for StateReply<'_> {
+    ghost writes = { λ r. SendsValue (state_reply r.id r.state.now) };
+}
+
+impl Serialize for StateReply<'_> {
+    fn serialize<S: Serializer>(&self, out: &mut S) -> Result<(), S::Error> {
+        out.begin_map(Some(2))?;
+        out.key("id")?;
+        out.u64(self.id)?;
+        out.key("state")?;
+        self.state.serialize(out)?;
+        out.end_map()
+    }
+}
+
 fn write_state(alloc: Global, id: u64, state: &ClusterState) -> Result<Vec<u8>, AllocError>
     ensures { IfOk result (λ text. text.items ≡ text_of (beside_id id (codes "state") (state_json state.now))) }
 {
-    let id = write_value(alloc, &Value::from(id))?;
-    let state = to_json(alloc, state)?;
-    let mut text = Vec::new(alloc);
-    append(&mut text, b"{\"id\":")?;
-    append(&mut text, &id)?;
-    append(&mut text, b",\"state\":")?;
-    append(&mut text, &state)?;
-    append(&mut text, b"}")?;
-    Ok(text)
-}
-
-fn append(text: &mut Vec<u8>, part: &[u8]) -> Result<(), AllocError>
-    ensures { OnOk result (text.new.items ≡ text.old.items ++ part.now) }
-{
-    text.extend_from_slice(part)
+    match serde_json::to_vec(alloc, &StateReply { id, state }) {
+        Ok(text) => Ok(text),
+        Err(_) => Err(AllocError),
+    }
 }
 
 fn write_fault(alloc: Global, fault: LineFault) -> Result<Vec<u8>, AllocError>
