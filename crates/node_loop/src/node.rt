@@ -584,6 +584,13 @@ impl<S: Steps> Node<S> {
         }
     }
 
+    /// What does its events.
+    pub fn steps(&self) -> &S
+        ensures { result.now ≡ self.now.steps }
+    {
+        &self.steps
+    }
+
     /// What does its events, given up by the node.
     pub fn into_steps(self) -> S
         ensures { result ≡ self.steps }

@@ -57,6 +57,13 @@ impl<D: Disks> Node<Reporter<StateJournal<D>>> {
         }
     }
 
+    /// The disk of its journal.
+    pub fn disk(&self) -> &D
+        ensures { result.now ≡ self.now.steps.node.core.keeper.log.disk }
+    {
+        self.steps().keeper().disk()
+    }
+
     /// The disk of its journal, given up by the node.
     pub fn into_disk(self) -> D
         ensures { result ≡ self.steps.node.core.keeper.log.disk }

@@ -48,6 +48,13 @@ impl<K: Keeper> Reporter<K> {
         }
     }
 
+    /// What keeps the node's record.
+    pub fn keeper(&self) -> &K
+        ensures { result.now ≡ self.now.node.core.keeper }
+    {
+        self.node.keeper()
+    }
+
     /// What kept the node's record, given up by the node.
     pub fn into_keeper(self) -> K
         ensures { result ≡ self.node.core.keeper }
