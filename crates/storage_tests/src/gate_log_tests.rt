@@ -1,9 +1,10 @@
 //! Journals byte by byte, and each device call of an append and of a renewal struck in turn.
 use crate::files::{disk_of, is_written, reads};
+use crate::strikes::orders;
 use gate_log::{AppendError, Fault, GateLog, LogError, Opened, Why};
 use std::alloc::Global;
 use std::test::Fail;
-use zen_disk::{Fuse, MemDisks, Order, Side, Struck, Way};
+use zen_disk::{Fuse, MemDisks, Order, Side, Struck};
 
 type Log = GateLog<Fuse<MemDisks>>;
 
@@ -72,60 +73,118 @@ fn is_answered(log: &mut Log, row: &Row) -> bool {
         && log.disk().struck() == struck
 }
 
-fn empty_log(alloc: Global) -> Result<Log, Fail> {
-    match GateLog::open(alloc, Fuse::new(disk_of(alloc, b"", b"")?)) {
+fn log_on(alloc: Global, disk: MemDisks) -> Result<Log, Fail> {
+    match GateLog::open(alloc, Fuse::new(disk)) {
         Ok(opened) => Ok(opened.log),
         Err(_) => Err(Fail::new("not opened")),
     }
 }
 
-// Whether these acts on an empty journal are answered so, and one side then has these bytes.
-fn writes(alloc: Global, rows: &[Row], side: Side, want: &[u8]) -> Result<bool, Fail> {
-    let mut log = empty_log(alloc)?;
-    let mut are_answered = true;
-    for row in rows {
-        are_answered = are_answered && is_answered(&mut log, row);
-    }
-    Ok(are_answered && reads(&mut log.into_disk().into_disk(), side, want))
+fn empty_log(alloc: Global) -> Result<Log, Fail> {
+    log_on(alloc, disk_of(alloc, b"", b"")?)
 }
+
+fn are_answered(log: &mut Log, rows: &[Row]) -> bool {
+    for row in rows {
+        if !is_answered(log, row) {
+            return false;
+        }
+    }
+    true
+}
+
+// Does these acts on an empty journal, after which a side has these bytes.
+fn write_each(alloc: Global, rows: &[Row], side: Side, bytes: &[u8]) -> Result<(), Fail> {
+    let mut log = empty_log(alloc)?;
+    let are_answered = are_answered(&mut log, rows);
+    let mut disk = log.into_disk().into_disk();
+    if are_answered && reads(&mut disk, side, bytes) {
+        Ok(())
+    } else {
+        Err(Fail::new("another answer, or other bytes"))
+    }
+}
+
+const ONE_BODY: &[u8] = b"ZENJRNL1\x01\0\0\0\x09\x01\0\0\0\0\0\0\0\x01\0";
+
+const APPENDS: [Row; 3] = [
+    (Act::Append, Ok(()), (Side::Zero, 0, 14), None),
+    (Act::AppendSmall, Ok(()), (Side::Zero, 0, 14), None),
+    (Act::AppendFramed, Ok(()), (Side::Zero, 0, 14), None),
+];
 
 #[test]
 fn appends_these_bytes(rt: HostRuntime) -> Result<(), Fail> {
-    let want = b"ZENJRNL1\x01\0\0\0\x09\x01\0\0\0\0\0\0\0\x01\0".as_slice();
-    for act in [Act::Append, Act::AppendSmall, Act::AppendFramed] {
-        let row = (act, Ok(()), (Side::Zero, 0, 14), None);
-        assert!(&rt; writes(rt.alloc(), &[row], Side::Zero, want)?);
+    for row in &APPENDS {
+        write_each(rt.alloc(), &[*row], Side::Zero, ONE_BODY)?;
     }
     Ok(())
 }
 
+const TWO_BODIES: &[u8] = b"ZENJRNL1\x01\0\0\0\x09\x04\0\0\0\0\0\0\0\x01\x01\0\0\0\x02de\0";
+
+const RENEWAL: [Row; 3] = [
+    (Act::AppendAbc, Ok(()), (Side::Zero, 0, 8), None),
+    (Act::Renew, Ok(()), (Side::One, 1, 0), None),
+    (Act::AppendDe, Ok(()), (Side::One, 1, 7), None),
+];
+
 #[test]
 fn renews_these_bytes(rt: HostRuntime) -> Result<(), Fail> {
-    let rows = [
-        (Act::AppendAbc, Ok(()), (Side::Zero, 0, 8), None),
-        (Act::Renew, Ok(()), (Side::One, 1, 0), None),
-        (Act::AppendDe, Ok(()), (Side::One, 1, 7), None),
-    ];
-    let want = b"ZENJRNL1\x01\0\0\0\x09\x04\0\0\0\0\0\0\0\x01\x01\0\0\0\x02de\0".as_slice();
-    assert!(&rt; writes(rt.alloc(), &rows, Side::One, want)?);
+    write_each(rt.alloc(), &RENEWAL, Side::One, TWO_BODIES)
+}
+
+// Appends a body of so many zero bytes.
+fn append_zeros(alloc: Global, log: &mut Log, len: usize) -> Result<(), AppendError> {
+    let Ok(body) = vec![in alloc; 0; len] else {
+        return Err(AppendError::Memory);
+    };
+    log.append(&body)
+}
+
+// The length of a body, the answer to it, and the tail after it.
+const LONG_BODIES: [(usize, Result<(), AppendError>, u64); 2] = [
+    (8_388_609, Err(AppendError::TooLong), 0),
+    (8_388_608, Ok(()), 8_388_613),
+];
+
+fn are_long_bodies(alloc: Global, log: &mut Log) -> bool {
+    for (len, want, tail) in &LONG_BODIES {
+        let is_so = append_zeros(alloc, log, *len) == *want && log.tail() == *tail;
+        if !is_so || log.stopped() {
+            return false;
+        }
+    }
+    true
+}
+
+#[test]
+fn a_body_has_at_most_8_388_608_bytes(rt: HostRuntime) -> Result<(), Fail> {
+    let mut log = empty_log(rt.alloc())?;
+    let are_so = are_long_bodies(rt.alloc(), &mut log);
+    assert!(&rt; are_so);
     Ok(())
 }
+
+const AT_FIRST: (Side, u64, u64) = (Side::Zero, 0, 0);
+
+const FAULT: Option<Struck> = Some(Struck::Fault);
+
+const STOPPED: Result<(), AppendError> = Err(AppendError::Stopped);
+
+const AFTER_A_FAULT: [Row; 4] = [
+    (Act::FailNext, Ok(()), AT_FIRST, None),
+    (Act::AppendAbc, STRUCK, AT_FIRST, FAULT),
+    (Act::AppendAbc, STOPPED, AT_FIRST, FAULT),
+    (Act::Renew, STOPPED, AT_FIRST, FAULT),
+];
 
 #[test]
 fn stays_stopped(rt: HostRuntime) -> Result<(), Fail> {
-    let place = (Side::Zero, 0, 0);
-    let struck = Some(Struck::Fault);
-    let rows = [
-        (Act::FailNext, Ok(()), place, None),
-        (Act::AppendAbc, Err(AppendError::Disk), place, struck),
-        (Act::AppendAbc, Err(AppendError::Stopped), place, struck),
-        (Act::Renew, Err(AppendError::Stopped), place, struck),
-    ];
-    assert!(&rt; writes(rt.alloc(), &rows, Side::Zero, EMPTY)?);
-    Ok(())
+    write_each(rt.alloc(), &AFTER_A_FAULT, Side::Zero, EMPTY)
 }
 
-// What is found when two files are opened.
+// The side in use and its epoch, and the bodies of each side.
 #[derive(Clone, Copy)]
 struct Left {
     side: Side,
@@ -181,10 +240,35 @@ fn is_left(found: &Opened<MemDisks>, left: &Left) -> bool {
         && are(&found.one, left.one)
 }
 
-fn finds(alloc: Global, disk: MemDisks, left: &Left) -> bool {
+// What an opening of two files comes to.
+#[derive(Clone, Copy)]
+enum Found<'a> {
+    Left(&'a Left),
+    // The side in use, and its epoch.
+    InUse(Side, u64),
+    // They are no journal, for the reason that is written so.
+    Refused(&'a str),
+}
+
+fn is_journal(found: &Opened<MemDisks>, want: &Found<'_>) -> bool {
+    match want {
+        Found::Left(left) => is_left(found, left),
+        Found::InUse(side, epoch) => found.log.side() == *side && found.log.epoch() == *epoch,
+        Found::Refused(_) => false,
+    }
+}
+
+fn is_refused(alloc: Global, error: &LogError<MemDisks>, want: &Found<'_>) -> bool {
+    match (error, want) {
+        (LogError::NotAJournal(why, _), Found::Refused(text)) => is_written(alloc, why, text),
+        _ => false,
+    }
+}
+
+fn finds(alloc: Global, disk: MemDisks, want: &Found<'_>) -> bool {
     match GateLog::open(alloc, disk) {
-        Ok(found) => is_left(&found, left),
-        Err(_) => false,
+        Ok(found) => is_journal(&found, want),
+        Err(error) => is_refused(alloc, &error, want),
     }
 }
 
@@ -205,25 +289,42 @@ fn answer_last(log: &mut Log, acts: &[Act], order: Order) -> Result<(), AppendEr
     answer(log, *last)
 }
 
-// The answers to the last act while its call of this number is struck, and what is left: where it is stopped and all that
-// is not synced is lost, is kept or becomes 01, and where it fails.
-type Strike = (Result<(), AppendError>, [Left; 4]);
+fn leaves(
+    alloc: Global,
+    acts: &[Act],
+    order: Order,
+    want: Result<(), AppendError>,
+    left: &Left,
+) -> Result<bool, Fail> {
+    let mut log = empty_log(alloc)?;
+    let answer = answer_last(&mut log, acts, order);
+    let disk = log.into_disk().into_disk();
+    Ok(answer == want && finds(alloc, disk, &Found::Left(left)))
+}
 
-fn leaves(alloc: Global, acts: &[Act], call: u64, strike: &Strike) -> Result<bool, Fail> {
-    let orders = [
-        Order::Stop(call, Way::Lost),
-        Order::Stop(call, Way::Kept),
-        Order::Stop(call, Way::Torn(1)),
-        Order::Fault(call),
-    ];
-    let mut are_left = true;
-    for (order, left) in orders.iter().zip(&strike.1) {
-        let mut log = empty_log(alloc)?;
-        let answer = answer_last(&mut log, acts, *order);
-        let is_found = finds(alloc, log.into_disk().into_disk(), left);
-        are_left = are_left && answer == strike.0 && is_found;
+// What a letter of a row stands for.
+fn left_by(letter: u8) -> &'static Left {
+    match letter {
+        b'a' => &APPENDED,
+        b'r' => &RENEWED,
+        b'e' => &EMPTIED,
+        b's' => &RENEWED_AGAIN,
+        _ => &NOTHING,
     }
-    Ok(are_left)
+}
+
+// The answer to the last act while its call of this number is struck, and what is left in each way, a letter for each.
+type Strike = (Result<(), AppendError>, &'static str);
+
+fn are_left(alloc: Global, acts: &[Act], call: u64, strike: Strike) -> Result<bool, Fail> {
+    let (want, letters) = strike;
+    let orders = orders(call);
+    for (order, letter) in orders.iter().zip(letters.as_bytes()) {
+        if !leaves(alloc, acts, *order, want, left_by(*letter))? {
+            return Ok(false);
+        }
+    }
+    Ok(true)
 }
 
 // Strikes each call of the last act, and the call after them, which it does not make.
@@ -231,7 +332,7 @@ fn strike_each(alloc: Global, acts: &[Act], strikes: &[Strike]) -> Result<(), Fa
     let mut call = 0u64;
     for strike in strikes {
         call = call.saturating_add(1);
-        if !leaves(alloc, acts, call, strike)? {
+        if !are_left(alloc, acts, call, *strike)? {
             return Err(Fail::new(format_args!("at call {call}")));
         }
     }
@@ -240,49 +341,47 @@ fn strike_each(alloc: Global, acts: &[Act], strikes: &[Strike]) -> Result<(), Fa
 
 const STRUCK: Result<(), AppendError> = Err(AppendError::Disk);
 
+const STRUCK_APPEND: [Strike; 5] = [
+    (STRUCK, "----"),
+    (STRUCK, "----"),
+    (STRUCK, "-aa-"),
+    (STRUCK, "-aaa"),
+    (Ok(()), "aaaa"),
+];
+
 #[test]
 fn strikes_each_call_of_an_append(rt: HostRuntime) -> Result<(), Fail> {
-    let (old, new) = (NOTHING, APPENDED);
-    let strikes = [
-        (STRUCK, [old, old, old, old]),
-        (STRUCK, [old, old, old, old]),
-        (STRUCK, [old, new, new, old]),
-        (STRUCK, [old, new, new, new]),
-        (Ok(()), [new, new, new, new]),
-    ];
-    strike_each(rt.alloc(), &[Act::AppendAbc], &strikes)
+    strike_each(rt.alloc(), &[Act::AppendAbc], &STRUCK_APPEND)
 }
+
+const STRUCK_RENEWAL: [Strike; 5] = [
+    (STRUCK, "aaaa"),
+    (STRUCK, "aaaa"),
+    (STRUCK, "arra"),
+    (STRUCK, "arrr"),
+    (Ok(()), "rrrr"),
+];
 
 #[test]
 fn strikes_each_call_of_a_first_renewal(rt: HostRuntime) -> Result<(), Fail> {
-    let (old, new) = (APPENDED, RENEWED);
-    let strikes = [
-        (STRUCK, [old, old, old, old]),
-        (STRUCK, [old, old, old, old]),
-        (STRUCK, [old, new, new, old]),
-        (STRUCK, [old, new, new, new]),
-        (Ok(()), [new, new, new, new]),
-    ];
-    strike_each(rt.alloc(), &[Act::AppendAbc, Act::Renew], &strikes)
+    let acts = [Act::AppendAbc, Act::Renew];
+    strike_each(rt.alloc(), &acts, &STRUCK_RENEWAL)
 }
+
+const STRUCK_SECOND_RENEWAL: [Strike; 7] = [
+    (STRUCK, "rerr"),
+    (STRUCK, "rere"),
+    (STRUCK, "eeee"),
+    (STRUCK, "eeee"),
+    (STRUCK, "esse"),
+    (STRUCK, "esss"),
+    (Ok(()), "ssss"),
+];
 
 #[test]
 fn strikes_each_call_of_a_renewal_onto_a_side_with_bodies(rt: HostRuntime) -> Result<(), Fail> {
-    let (old, none, new) = (RENEWED, EMPTIED, RENEWED_AGAIN);
-    let strikes = [
-        (STRUCK, [old, none, old, old]),
-        (STRUCK, [old, none, old, none]),
-        (STRUCK, [none, none, none, none]),
-        (STRUCK, [none, none, none, none]),
-        (STRUCK, [none, new, new, none]),
-        (STRUCK, [none, new, new, new]),
-        (Ok(()), [new, new, new, new]),
-    ];
-    strike_each(
-        rt.alloc(),
-        &[Act::AppendAbc, Act::Renew, Act::Renew],
-        &strikes,
-    )
+    let acts = [Act::AppendAbc, Act::Renew, Act::Renew];
+    strike_each(rt.alloc(), &acts, &STRUCK_SECOND_RENEWAL)
 }
 
 const EMPTY: &[u8] = b"ZENJRNL1\0";
@@ -331,8 +430,13 @@ const CUT_LENGTH: &[u8] = b"ZENJRNL1\x01\0\0";
 
 const LONG: &[u8] = b"ZENJRNL1\x01\xff\0\0\0\0";
 
-// Two files, and their first fault.
-const FAULTS: [(&[u8], &[u8], &str); 23] = [
+// A length of three bytes, and one of more bytes than a body has at most, with nothing behind.
+const CUT_IN_ITS_LENGTH: &[u8] = b"ZENJRNL1\x01\0\0\0";
+
+const ONE_TOO_LONG: &[u8] = b"ZENJRNL1\x01\0\x80\0\x01";
+
+// Two files, and the first fault of both.
+const FAULTS: [(&[u8], &[u8], &str); 25] = [
     (NO_HEADER, b"", "Header"),
     (CUT, b"", "Cut(8)"),
     (CUT_LENGTH, b"", "Cut(8)"),
@@ -356,31 +460,17 @@ const FAULTS: [(&[u8], &[u8], &str); 23] = [
     (GENERATION_ONE, CUT, "1:Cut(8)"),
     (GENERATION_ONE, GENERATION_ONE, "Twin"),
     (GENERATION_ONE, GUARDED_ONE, "Twin"),
+    (CUT_IN_ITS_LENGTH, b"", "Cut(8)"),
+    (ONE_TOO_LONG, b"", "Long(8)"),
 ];
 
-fn why_refused(alloc: Global, zero: &[u8], one: &[u8]) -> Option<Why> {
-    let Ok(disk) = disk_of(alloc, zero, one) else {
-        return None;
-    };
-    match GateLog::open(alloc, disk) {
-        Err(LogError::NotAJournal(why, _)) => Some(why),
-        _ => None,
-    }
-}
-
-// Whether these files are no journal, for the reason that is written so.
-fn is_refused(alloc: Global, zero: &[u8], one: &[u8], want: &str) -> bool {
-    let Some(why) = why_refused(alloc, zero, one) else {
-        return false;
-    };
-    is_written(alloc, &why, want)
-}
-
 #[test]
-fn names_the_first_fault(rt: HostRuntime) {
+fn names_the_first_fault(rt: HostRuntime) -> Result<(), Fail> {
     for (zero, one, want) in &FAULTS {
-        assert!(rt; is_refused(rt.alloc(), zero, one, want), "{want}");
+        let disk = disk_of(rt.alloc(), zero, one)?;
+        assert!(rt; finds(rt.alloc(), disk, &Found::Refused(want)), "{want}");
     }
+    Ok(())
 }
 
 // Two files, the side in use and its epoch.
@@ -405,22 +495,13 @@ const SIDES: [(&[u8], &[u8], Side, u64); 13] = [
     ),
 ];
 
-// The side in use of a journal in these files, and its epoch.
-fn in_use(alloc: Global, zero: &[u8], one: &[u8]) -> Option<(Side, u64)> {
-    let Ok(disk) = disk_of(alloc, zero, one) else {
-        return None;
-    };
-    match GateLog::open(alloc, disk) {
-        Ok(found) => Some((found.log.side(), found.log.epoch())),
-        Err(_) => None,
-    }
-}
-
 #[test]
-fn takes_the_side_of_the_greater_epoch(rt: HostRuntime) {
+fn takes_the_side_of_the_greater_epoch(rt: HostRuntime) -> Result<(), Fail> {
     for (zero, one, side, epoch) in &SIDES {
-        assert!(rt; in_use(rt.alloc(), zero, one) == Some((*side, *epoch)));
+        let disk = disk_of(rt.alloc(), zero, one)?;
+        assert!(rt; finds(rt.alloc(), disk, &Found::InUse(*side, *epoch)));
     }
+    Ok(())
 }
 
 #[test]

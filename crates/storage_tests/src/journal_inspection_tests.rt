@@ -1,14 +1,11 @@
 //! Journals in memory with the lines that show them, and each way in which an inspection ends.
-use crate::files::files_of;
+use crate::hosts::{Failing, host_of, is_used_once, sink_of};
 use crate::journals::{
     CHANGED, NO_DIGEST, OLD_AFTER, OLD_TERM_ONE, SECOND, SECOND_CHANGED, TERM_ONE,
 };
 use journal_inspection::{Inspection, inspect};
 use std::alloc::{AllocError, Global};
 use std::test::Fail;
-use zen_disk::MemDisks;
-use zen_host::MemHost;
-use zen_link::MemSink;
 
 // The lines of a journal of term 1. The digest is that of 24 zero bytes.
 const TERM_ONE_LINES: &str = "term=1\naccepted=0/0\nconfig=_\ncommitted=_\nrecords=1\n\
@@ -37,75 +34,77 @@ const ACCEPTED_LINES: &str = "term=1\naccepted=1/1\nconfig=a,b,c\ncommitted=a\nr
     state={\"committed\":[\"a\"],\"config\":[\"a\",\"b\",\"c\"],\"parent\":null,\"term\":1,\
     \"value\":{\"exclusions\":[],\"master\":null,\"members\":[],\"settings\":{}},\"version\":1}\n";
 
-// The numbers of the calls that fail, of the host, of its disk and of the sink.
-#[derive(Clone, Copy)]
-struct Failing<'a> {
-    host: &'a [u64],
-    disk: &'a [u64],
-    sink: &'a [u64],
-}
+const COMMITTED_LINES: &str = "term=0\naccepted=0/0\nconfig=_\ncommitted=_\nrecords=1\n\
+    sha256=9d908ecfb6b256def8b49a7c504e6c889c4b0e41fe6ce3e01863dd7b61a20aa0\n\
+    state={\"committed\":[],\"config\":[],\"parent\":null,\"term\":0,\
+    \"value\":{\"exclusions\":[],\"master\":null,\"members\":[],\"settings\":{}},\"version\":0}\n";
 
-const NONE: Failing<'static> = Failing {
-    host: &[],
-    disk: &[],
-    sink: &[],
-};
-
-// Whether inspecting files with these bytes ends so and writes this text. Also whether the host is asked once, and the disk
-// is given back where it gave one.
+// Whether inspecting files with these bytes ends so and writes this text.
 fn ends(
     alloc: Global,
     files: (&[u8], &[u8]),
-    failing: Failing<'_>,
+    failing: Failing,
     want: Inspection,
     text: &str,
 ) -> Result<bool, AllocError> {
-    let (zero, one) = files_of(alloc, files.0, files.1)?;
-    let disk = MemDisks::new(alloc, zero, one, Vec::from_slice(alloc, failing.disk)?);
-    let fails = Vec::from_slice(alloc, failing.host)?;
-    let mut host = MemHost::with_children(alloc, disk, Vec::new(alloc), fails);
-    let mut sink = MemSink::new(alloc, 100, Vec::from_slice(alloc, failing.sink)?);
+    let mut sink = sink_of(alloc, failing)?;
+    let mut host = host_of(alloc, files.0, files.1, failing)?;
     let end = inspect(alloc, "a", &mut sink, &mut host);
-    let is_asked_once = host.asked().len() == 1;
-    let is_given_back = host.into_disk_back().is_some();
-    Ok(
-        end == want
-            && *sink.as_bytes() == *text.as_bytes()
-            && is_asked_once
-            && is_given_back == (want != Inspection::HostFault),
-    )
+    let is_used_once = is_used_once(host, want != Inspection::HostFault);
+    Ok(end == want && is_used_once && *sink.as_bytes() == *text.as_bytes())
 }
 
-fn is_done(alloc: Global, zero: &[u8], one: &[u8], text: &str) -> Result<bool, AllocError> {
-    ends(alloc, (zero, one), NONE, Inspection::Done, text)
+// Two files, and what is shown of the journal in them.
+type Shown = (&'static [u8], &'static [u8], &'static str);
+
+fn show_each(alloc: Global, table: &[Shown]) -> Result<(), Fail> {
+    for (place, (zero, one, text)) in table.iter().enumerate() {
+        if !ends(alloc, (zero, one), Failing::Nothing, Inspection::Done, text)? {
+            return Err(Fail::new(format_args!("row {place}")));
+        }
+    }
+    Ok(())
 }
+
+const ONE_SIDE: [Shown; 3] = [
+    (TERM_ONE, b"", TERM_ONE_LINES),
+    (OLD_TERM_ONE, b"", TERM_ONE_LINES),
+    (ACCEPTED, b"", ACCEPTED_LINES),
+];
 
 #[test]
 fn a_journal_is_shown_in_seven_lines(rt: HostRuntime) -> Result<(), Fail> {
-    for (file, lines) in [
-        (TERM_ONE, TERM_ONE_LINES),
-        (OLD_TERM_ONE, TERM_ONE_LINES),
-        (ACCEPTED, ACCEPTED_LINES),
-    ] {
-        assert!(&rt; is_done(rt.alloc(), file, b"", lines)?);
-    }
-    Ok(())
+    show_each(rt.alloc(), &ONE_SIDE)
 }
+
+// Behind a gate that is closed nothing counts.
+const EMPTY_ONES: [Shown; 3] = [
+    (b"", b"", EMPTY_LINES),
+    (b"ABCDEFGHI", b"", EMPTY_LINES),
+    (b"ZENJRNL1\x02\0\0\0\x01\x05", b"", EMPTY_LINES),
+];
 
 #[test]
 fn nine_bytes_are_an_empty_journal(rt: HostRuntime) -> Result<(), Fail> {
-    for file in [b"".as_slice(), b"ABCDEFGHI".as_slice()] {
-        assert!(&rt; is_done(rt.alloc(), file, b"", EMPTY_LINES)?);
-    }
-    Ok(())
+    show_each(rt.alloc(), &EMPTY_ONES)
 }
+
+// A body that commits the empty state.
+const COMMITS: [Shown; 1] = [(b"ZENJRNL1\x01\0\0\0\x01\x03\0", b"", COMMITTED_LINES)];
+
+#[test]
+fn a_commit_alone_is_a_journal_of_one_record(rt: HostRuntime) -> Result<(), Fail> {
+    show_each(rt.alloc(), &COMMITS)
+}
+
+const SECONDS: [Shown; 2] = [
+    (TERM_ONE, SECOND, SECOND_LINES),
+    (OLD_TERM_ONE, SECOND, SECOND_LINES),
+];
 
 #[test]
 fn the_newer_generation_is_shown(rt: HostRuntime) -> Result<(), Fail> {
-    for file in [TERM_ONE, OLD_TERM_ONE] {
-        assert!(&rt; is_done(rt.alloc(), file, SECOND, SECOND_LINES)?);
-    }
-    Ok(())
+    show_each(rt.alloc(), &SECONDS)
 }
 
 const CUT: &[u8] = b"ZENJRNL1\x01\0\0\0\xff\0";
@@ -115,8 +114,10 @@ const TAG: &[u8] = b"ZENJRNL1\x01\0\0\0\x01\x05\0";
 const TERM_ZERO: &[u8] = b"ZENJRNL1\x01\0\0\0\x09\x01\0\0\0\0\0\0\0\0\0";
 
 // The two files, and why they are no journal.
-const FAULTS: [(&[u8], &[u8], &str); 21] = [
+const FAULTS: [(&[u8], &[u8], &str); 23] = [
     (b"ABCDEFGHIJ", b"", "Header"),
+    (b"ZENJRNL1\x01\0\0\0", b"", "Cut(8)"),
+    (b"ZENJRNL1\x01\0\x80\0\x01", b"", "Long(8)"),
     (CUT, b"", "Cut(8)"),
     (b"ZENJRNL1\x01\0\x80\0\x01\0", b"", "Long(8)"),
     (b"ZENJRNL1\x01\0\0\0\x02\x01\0\0", b"", "Body(8,Short)"),
@@ -146,46 +147,60 @@ const FAULTS: [(&[u8], &[u8], &str); 21] = [
 // Whether inspecting these files writes only why they are no journal.
 fn is_refused(alloc: Global, zero: &[u8], one: &[u8], why: &str) -> Result<bool, AllocError> {
     let line = format!(in alloc; "zen: not a journal: {why}\n")?;
-    ends(alloc, (zero, one), NONE, Inspection::NotAJournal, &line)
+    ends(
+        alloc,
+        (zero, one),
+        Failing::Nothing,
+        Inspection::NotAJournal,
+        &line,
+    )
 }
 
-#[test]
-fn files_that_are_no_journal_are_refused_by_their_first_fault(rt: HostRuntime) -> Result<(), Fail> {
-    for (zero, one, why) in &FAULTS {
-        assert!(&rt; is_refused(rt.alloc(), zero, one, why)?, "{why}");
+fn refuse_each(alloc: Global, table: &[(&[u8], &[u8], &str)]) -> Result<(), Fail> {
+    for (zero, one, why) in table {
+        if !is_refused(alloc, zero, one, why)? {
+            return Err(Fail::new(format_args!("{why}")));
+        }
     }
     Ok(())
 }
 
-// A failing call, and how it ends an inspection of the journal of term 1. Its other file is empty and is given a header: seven
-// calls of the disk.
-const ENDS: [(Failing<'_>, Inspection); 8] = [
-    (Failing { host: &[1], ..NONE }, Inspection::HostFault),
-    (Failing { disk: &[1], ..NONE }, Inspection::DiskFault),
-    (Failing { disk: &[2], ..NONE }, Inspection::DiskFault),
-    (Failing { disk: &[3], ..NONE }, Inspection::DiskFault),
-    (Failing { disk: &[4], ..NONE }, Inspection::DiskFault),
-    (Failing { disk: &[5], ..NONE }, Inspection::DiskFault),
-    (Failing { disk: &[6], ..NONE }, Inspection::DiskFault),
-    (Failing { disk: &[7], ..NONE }, Inspection::DiskFault),
+#[test]
+fn files_that_are_no_journal_are_refused_by_their_first_fault(rt: HostRuntime) -> Result<(), Fail> {
+    refuse_each(rt.alloc(), &FAULTS)
+}
+
+// A failing call, how it ends an inspection of the journal of term 1, and how much is written: the sink takes 100 bytes a call. The
+// other file is empty and is given a header: seven calls of the disk.
+const ENDS: [(Failing, Inspection, usize); 9] = [
+    (Failing::Host(1), Inspection::HostFault, 0),
+    (Failing::Disk(1), Inspection::DiskFault, 0),
+    (Failing::Disk(2), Inspection::DiskFault, 0),
+    (Failing::Disk(3), Inspection::DiskFault, 0),
+    (Failing::Disk(4), Inspection::DiskFault, 0),
+    (Failing::Disk(5), Inspection::DiskFault, 0),
+    (Failing::Disk(6), Inspection::DiskFault, 0),
+    (Failing::Disk(7), Inspection::DiskFault, 0),
+    (Failing::Sink(2), Inspection::WriteFault, 100),
 ];
+
+fn is_cut_short(
+    alloc: Global,
+    failing: Failing,
+    end: Inspection,
+    length: usize,
+) -> Result<bool, AllocError> {
+    match TERM_ONE_LINES.get(..length) {
+        Some(begun) => ends(alloc, (TERM_ONE, b""), failing, end, begun),
+        None => Ok(false),
+    }
+}
 
 #[test]
 fn a_fault_of_the_host_its_disk_or_the_sink_ends_it(rt: HostRuntime) -> Result<(), Fail> {
-    for (failing, end) in &ENDS {
-        assert!(&rt; ends(rt.alloc(), (TERM_ONE, b""), *failing, *end, "")?);
+    for (failing, end, length) in &ENDS {
+        let is_cut = is_cut_short(rt.alloc(), *failing, *end, *length)?;
+        assert!(&rt; is_cut);
     }
-    // The sink takes 100 bytes a call.
-    let sink = Failing { sink: &[2], ..NONE };
-    let begun = &TERM_ONE_LINES[..100];
-    assert!(&rt;
-        ends(
-            rt.alloc(),
-            (TERM_ONE, b""),
-            sink,
-            Inspection::WriteFault,
-            begun
-        )?
-    );
     Ok(())
 }

@@ -1,4 +1,24 @@
-//! Files of journals that more than one test opens. Their digests were made apart from the program.
+//! Files of journals that more than one test opens, and their opening. Their digests were made apart from the program.
+use crate::files::disk_of;
+use state_journal::StateJournal;
+use std::alloc::Global;
+use std::test::Fail;
+use zen_disk::{Fuse, MemDisks};
+
+/// A journal of which a device call may be struck.
+pub(crate) type Journal = StateJournal<Fuse<MemDisks>>;
+
+fn journal_on(alloc: Global, disk: MemDisks) -> Result<Journal, Fail> {
+    match StateJournal::open(alloc, Fuse::new(disk)) {
+        Ok(journal) => Ok(journal),
+        Err(_) => Err(Fail::new("no journal")),
+    }
+}
+
+/// The journal in these files.
+pub(crate) fn opened(alloc: Global, zero: &[u8], one: &[u8]) -> Result<Journal, Fail> {
+    journal_on(alloc, disk_of(alloc, zero, one)?)
+}
 
 /// A body that sets term 1.
 pub(crate) const TERM_ONE: &[u8] = b"ZENJRNL1\x01\0\0\0\x29\x81\0\0\0\0\0\0\0\x01\

@@ -7,6 +7,8 @@ mod files;
 #[cfg(test)]
 mod gate_log_tests;
 #[cfg(test)]
+mod hosts;
+#[cfg(test)]
 mod journal_inspection_tests;
 #[cfg(test)]
 mod journals;
@@ -14,5 +16,7 @@ mod journals;
 mod node_tool_tests;
 #[cfg(test)]
 mod state_journal_tests;
+#[cfg(test)]
+mod strikes;
 #[cfg(test)]
 mod zen_disk_tests;

@@ -1,15 +1,14 @@
 //! Journals in memory on which the tools are used, and each device call of both struck in each way. The files, their digests and
 //! those in the lines were made apart from the program.
-use crate::files::{disk_of, files_of};
-use crate::journals::{OLD_TERM_ONE, TERM_ONE};
+use crate::hosts::{Failing, host_of, is_used_once, sink_of};
+use crate::journals::{OLD_TERM_ONE, TERM_ONE, opened};
+use crate::strikes::orders;
 use node_tool::{Tool, ToolEnd, ToolError, detach_cluster, run_tool, unsafe_bootstrap};
 use state_journal::{ArmKeeper, Keeper, PlainKeeper, Ready, StateJournal};
 use std::alloc::{AllocError, Global};
 use std::test::Fail;
 use voting_config::{NodeId, NodeSet};
-use zen_disk::{Fuse, MemDisks, Order, Way};
-use zen_host::MemHost;
-use zen_link::MemSink;
+use zen_disk::{MemDisks, Order};
 
 // Of the voters a, b and c: one that has begun, is in term 1 and has accepted the state 1/1, in which v is x.
 const ACCEPTED: &[u8] =
@@ -91,48 +90,19 @@ fn tool_of(name: &str) -> Tool {
     }
 }
 
-// The numbers of the calls that fail, of the host, of its disk and of the sink.
-#[derive(Clone, Copy)]
-struct Failing<'a> {
-    host: &'a [u64],
-    disk: &'a [u64],
-    sink: &'a [u64],
-}
-
-const NONE: Failing<'static> = Failing {
-    host: &[],
-    disk: &[],
-    sink: &[],
-};
+const NONE: Failing = Failing::Nothing;
 
 // A node that is to go on alone, or none where it is to leave, its first file, what fails, how that ends, and with which text.
-type Row = (
-    &'static str,
-    &'static [u8],
-    Failing<'static>,
-    ToolEnd,
-    &'static str,
-);
+type Row = (&'static str, &'static [u8], Failing, ToolEnd, &'static str);
 
 fn holds(alloc: Global, row: &Row) -> Result<bool, AllocError> {
     let (alone, file, failing, want, text) = *row;
-    let (zero, one) = files_of(alloc, file, b"")?;
-    let disk = MemDisks::new(alloc, zero, one, Vec::from_slice(alloc, failing.disk)?);
-    let fails = Vec::from_slice(alloc, failing.host)?;
-    let mut host = MemHost::with_children(alloc, disk, Vec::new(alloc), fails);
-    let mut sink = MemSink::new(alloc, 100, Vec::from_slice(alloc, failing.sink)?);
+    let mut sink = sink_of(alloc, failing)?;
+    let mut host = host_of(alloc, file, b"", failing)?;
     let end = run_tool(alloc, tool_of(alone), "a", &mut sink, &mut host);
-    let is_asked_once = host.asked().len() == 1;
-    let is_given_back = host.into_disk_back().is_some();
-    Ok(
-        end == want
-            && *sink.as_bytes() == *text.as_bytes()
-            && is_asked_once
-            && is_given_back == (want != ToolEnd::HostFault),
-    )
+    let is_used_once = is_used_once(host, want != ToolEnd::HostFault);
+    Ok(end == want && is_used_once && *sink.as_bytes() == *text.as_bytes())
 }
-
-const HOST: Failing<'static> = Failing { host: &[1], ..NONE };
 
 // Opening takes seven calls, and a write four.
 const ROWS: &[Row] = &[
@@ -148,53 +118,14 @@ const ROWS: &[Row] = &[
     ("_", OLD_TERM_ONE, NONE, ToolEnd::Refused, NO_STATE),
     ("a", LAST, NONE, ToolEnd::Refused, EXHAUSTED),
     ("a", b"ABCDEFGHIJ", NONE, ToolEnd::NotAJournal, HEADER),
-    ("a", FULL, HOST, ToolEnd::HostFault, ""),
-    ("_", FULL, HOST, ToolEnd::HostFault, ""),
-    (
-        "a",
-        FULL,
-        Failing { disk: &[1], ..NONE },
-        ToolEnd::DiskFault,
-        "",
-    ),
-    (
-        "a",
-        FULL,
-        Failing { disk: &[7], ..NONE },
-        ToolEnd::DiskFault,
-        "",
-    ),
-    (
-        "a",
-        FULL,
-        Failing { disk: &[8], ..NONE },
-        ToolEnd::DiskFault,
-        "",
-    ),
-    (
-        "_",
-        FULL,
-        Failing {
-            disk: &[11],
-            ..NONE
-        },
-        ToolEnd::DiskFault,
-        "",
-    ),
-    (
-        "a",
-        FULL,
-        Failing { sink: &[1], ..NONE },
-        ToolEnd::WriteFault,
-        "",
-    ),
-    (
-        "_",
-        b"",
-        Failing { sink: &[1], ..NONE },
-        ToolEnd::WriteFault,
-        "",
-    ),
+    ("a", FULL, Failing::Host(1), ToolEnd::HostFault, ""),
+    ("_", FULL, Failing::Host(1), ToolEnd::HostFault, ""),
+    ("a", FULL, Failing::Disk(1), ToolEnd::DiskFault, ""),
+    ("a", FULL, Failing::Disk(7), ToolEnd::DiskFault, ""),
+    ("a", FULL, Failing::Disk(8), ToolEnd::DiskFault, ""),
+    ("_", FULL, Failing::Disk(11), ToolEnd::DiskFault, ""),
+    ("a", FULL, Failing::Sink(1), ToolEnd::WriteFault, ""),
+    ("_", b"", Failing::Sink(1), ToolEnd::WriteFault, ""),
 ];
 
 #[test]
@@ -212,29 +143,35 @@ fn id(name: &str) -> Result<NodeId, Fail> {
     }
 }
 
-// Over a keeper in memory: the answers in turn, to a node without a state and to one with.
+fn accepts(keeper: &mut PlainKeeper, initial: Ready) -> bool {
+    initial.state().term == 0 && keeper.set_accepted(initial).is_ok()
+}
+
+fn is_alone(alloc: Global, id: NodeId, keeper: &mut PlainKeeper) -> bool {
+    unsafe_bootstrap(alloc, id, keeper) == Ok(()) && keeper.kept().accepted.version == 1
+}
+
+// The answers in turn, to a node without a state and to one with.
+fn answers_in_turn(alloc: Global, id: NodeId, keeper: &mut PlainKeeper, initial: Ready) -> bool {
+    let at_first = unsafe_bootstrap(alloc, id, keeper);
+    let is_set = accepts(keeper, initial);
+    at_first == Err(ToolError::NoState)
+        && is_set
+        && is_alone(alloc, id, keeper)
+        && detach_cluster(alloc, keeper) == Ok(())
+        && detach_cluster(alloc, keeper) == Err(ToolError::NoState)
+}
+
+// Over a keeper in memory.
 #[test]
 fn the_tools_answer(rt: HostRuntime) -> Result<(), Fail> {
     let alloc = rt.alloc();
     let id = id("a")?;
-    let mut keeper = PlainKeeper::new(alloc)?;
-    assert!(&rt; unsafe_bootstrap(alloc, id, &mut keeper) == Err(ToolError::NoState));
     let initial = Ready::initial(alloc, &NodeSet::of(&[id]))?;
-    let is_set = initial.state().term == 0 && keeper.set_accepted(initial).is_ok();
-    assert!(&rt; is_set && unsafe_bootstrap(alloc, id, &mut keeper) == Ok(()));
-    assert!(&rt; keeper.kept().accepted.version == 1);
-    assert!(&rt; detach_cluster(alloc, &mut keeper) == Ok(()));
-    assert!(&rt; detach_cluster(alloc, &mut keeper) == Err(ToolError::NoState));
+    let mut keeper = PlainKeeper::new(alloc)?;
+    let are_answers = answers_in_turn(alloc, id, &mut keeper, initial);
+    assert!(&rt; are_answers);
     Ok(())
-}
-
-type Journal = StateJournal<Fuse<MemDisks>>;
-
-fn opened(alloc: Global, file: &[u8]) -> Result<Journal, Fail> {
-    match StateJournal::open(alloc, Fuse::new(disk_of(alloc, file, b"")?)) {
-        Ok(journal) => Ok(journal),
-        Err(_) => Err(Fail::new("no journal")),
-    }
 }
 
 // What files keep: an old state, one in which a node is alone, or none.
@@ -246,27 +183,33 @@ enum Found {
     Nothing,
 }
 
+fn kept_by(voters: usize) -> Found {
+    match voters {
+        0 => Found::Out,
+        1 => Found::Alone,
+        _ => Found::Old,
+    }
+}
+
 fn opened_again(alloc: Global, disk: MemDisks) -> Found {
     match StateJournal::open(alloc, disk) {
-        Ok(journal) => match journal.kept().committed.members().len() {
-            0 => Found::Out,
-            1 => Found::Alone,
-            _ => Found::Old,
-        },
+        Ok(journal) => kept_by(journal.kept().committed.members().len()),
         Err(_) => Found::Nothing,
     }
 }
 
 // What an opening finds where this order strikes a call of the tool, which answers Disk. A second use answers Stopped.
 fn struck(alloc: Global, alone: &str, file: &[u8], order: Order) -> Result<Found, Fail> {
-    let mut journal = opened(alloc, file)?;
+    let mut journal = opened(alloc, file, b"")?;
     journal.arm(order);
     let first = tool_of(alone).apply(alloc, &mut journal);
     let second = tool_of(alone).apply(alloc, &mut journal);
-    if first != Err(ToolError::Disk) || second != Err(ToolError::Stopped) {
-        return Err(Fail::new("another answer"));
+    let found = opened_again(alloc, journal.into_disk().into_disk());
+    if first == Err(ToolError::Disk) && second == Err(ToolError::Stopped) {
+        Ok(found)
+    } else {
+        Err(Fail::new("another answer"))
     }
-    Ok(opened_again(alloc, journal.into_disk().into_disk()))
 }
 
 // What each call leaves: where it is stopped and all that is not synced is lost, is kept or becomes 01, and where it fails.
@@ -282,12 +225,7 @@ fn strike_each(alloc: Global, alone: &str, file: &[u8], new: Found) -> Result<()
     let mut call = 0u64;
     for leaves in &CALLS {
         call = call.saturating_add(1);
-        let orders = [
-            Order::Stop(call, Way::Lost),
-            Order::Stop(call, Way::Kept),
-            Order::Stop(call, Way::Torn(1)),
-            Order::Fault(call),
-        ];
+        let orders = orders(call);
         for (order, is_new) in orders.iter().zip(leaves) {
             let want = if *is_new { new } else { Found::Old };
             if struck(alloc, alone, file, *order)? != want {

@@ -2,8 +2,9 @@
 //! turn. Bodies are of version 2, with a digest, where nothing else is said.
 use crate::files::{Files, disk_of, files_in, files_of, is_written};
 use crate::journals::{
-    CHANGED, NO_DIGEST, OLD_AFTER, OLD_TERM_ONE, SECOND, SECOND_CHANGED, TERM_ONE,
+    CHANGED, Journal, NO_DIGEST, OLD_AFTER, OLD_TERM_ONE, SECOND, SECOND_CHANGED, TERM_ONE, opened,
 };
+use crate::strikes::orders;
 use cluster_state::ClusterState;
 use state_journal::{
     ArmKeeper, Fault, KeepError, Keeper, Kept, OpenError, PlainKeeper, Ready, StateJournal, Why,
@@ -11,9 +12,7 @@ use state_journal::{
 use std::alloc::{AllocError, Global};
 use std::test::Fail;
 use voting_config::{NodeSet, VotingConfig};
-use zen_disk::{Fuse, MemDisks, Order, Side, Way};
-
-type Journal = StateJournal<Fuse<MemDisks>>;
+use zen_disk::{MemDisks, Order, Side};
 
 // How the state is made ready that is accepted: the initial one of the node b, again as a shared one, or as a copy.
 #[derive(Clone, Copy)]
@@ -95,28 +94,29 @@ fn is_kept<K: Keeper>(keeper: &K, term: u64, members: &str) -> bool {
     kept.term == term && kept.accepted.config.is_same(&config) && kept.committed.is_same(&config)
 }
 
-#[test]
-fn a_plain_keeper_keeps(rt: HostRuntime) -> Result<(), Fail> {
-    let rows = [
-        (Act::Terms(1, 1), "_"),
-        (Act::Accept(How::Initial), "b"),
-        (Act::Accept(How::Shared), "b"),
-        (Act::Accept(How::Copied), "b"),
-        (Act::Commit(1), "b"),
-    ];
-    let mut keeper = PlainKeeper::new(rt.alloc())?;
+// Acts, and the ids of both configurations after each.
+const PLAIN: [(Act, &str); 5] = [
+    (Act::Terms(1, 1), "_"),
+    (Act::Accept(How::Initial), "b"),
+    (Act::Accept(How::Shared), "b"),
+    (Act::Accept(How::Copied), "b"),
+    (Act::Commit(1), "b"),
+];
+
+fn keeps_each(alloc: Global, keeper: &mut PlainKeeper, rows: &[(Act, &str)]) -> bool {
     for (act, members) in rows {
-        assert!(&rt; does(rt.alloc(), &mut keeper, act) && is_kept(&keeper, 1, members));
+        if !does(alloc, keeper, *act) || !is_kept(keeper, 1, members) {
+            return false;
+        }
     }
-    assert!(&rt; !keeper.stopped());
-    Ok(())
+    !keeper.stopped()
 }
 
-fn opened(alloc: Global, files: &Files) -> Result<Journal, Fail> {
-    match StateJournal::open(alloc, Fuse::new(disk_of(alloc, &files.0, &files.1)?)) {
-        Ok(journal) => Ok(journal),
-        Err(_) => Err(Fail::new("no journal")),
-    }
+#[test]
+fn a_plain_keeper_keeps(rt: HostRuntime) -> Result<(), Fail> {
+    let mut keeper = PlainKeeper::new(rt.alloc())?;
+    assert!(&rt; keeps_each(rt.alloc(), &mut keeper, &PLAIN));
+    Ok(())
 }
 
 // An act, and then how many bodies are in use, the term, and the ids of both configurations.
@@ -141,7 +141,7 @@ fn do_each(alloc: Global, journal: &mut Journal, rows: &[Row]) -> Result<(), Fai
 
 // What the files hold after these acts on the journal in them.
 fn after(alloc: Global, files: &Files, rows: &[Row]) -> Result<Files, Fail> {
-    let mut journal = opened(alloc, files)?;
+    let mut journal = opened(alloc, &files.0, &files.1)?;
     do_each(alloc, &mut journal, rows)?;
     files_in(alloc, &mut journal.into_disk().into_disk())
 }
@@ -163,9 +163,9 @@ fn is_file(file: &[u8], before: &[u8], want: File) -> bool {
 }
 
 // Acts on a journal from its opening on, and then its two files. The next acts come after another opening.
-type Run<'a> = (&'a [Row], File, File);
+type Run = (&'static [Row], File, File);
 
-fn run_each(alloc: Global, zero: &[u8], one: &[u8], runs: &[Run<'_>]) -> Result<(), Fail> {
+fn run_each(alloc: Global, zero: &[u8], one: &[u8], runs: &[Run]) -> Result<(), Fail> {
     let mut files = files_of(alloc, zero, one)?;
     for (rows, zero, one) in runs {
         let left = after(alloc, &files, rows)?;
@@ -184,38 +184,55 @@ const TERM_1425: &[u8] =
     b"ZENJRNL1\x01\0\0\0\x4a\x84\0\0\0\0\0\0\0\x01\0\0\0\0\0\0\x05\x91\0\0\0\0\0\0\0\0\0\0\0\0\0\0\0\0\0\0\0\0\0\0\0\0\0\
     \x46\xe8\x82\x23\xe8\x57\xa8\xcd\xf2\x61\xf8\xe2\x7c\xa1\x43\x22\x0d\x48\x5d\xa4\xd4\xa5\x88\xd7\x1f\x5f\x8a\xb4\xac\xb9\x07\x8d\0";
 
+const FIRST_TERM: [Run; 1] = [(
+    &[(Act::Nothing, 0, 0, "_"), (Act::Terms(1, 1), 1, 1, "_")],
+    File::Is(TERM_ONE),
+    File::Is(EMPTY),
+)];
+
 #[test]
 fn keeps_these_bytes(rt: HostRuntime) -> Result<(), Fail> {
-    let rows = [(Act::Nothing, 0, 0, "_"), (Act::Terms(1, 1), 1, 1, "_")];
-    let run = (rows.as_slice(), File::Is(TERM_ONE), File::Is(EMPTY));
-    run_each(rt.alloc(), b"ABCDEFGHI", b"", &[run])
+    run_each(rt.alloc(), b"ABCDEFGHI", b"", &FIRST_TERM)
 }
+
+const LONG_TAIL: [Run; 4] = [
+    (
+        &[(Act::Terms(1, 1424), 1424, 1424, "_")],
+        File::Long(65_513),
+        File::Is(EMPTY),
+    ),
+    (
+        &[(Act::Terms(1425, 1425), 1, 1425, "_")],
+        File::Same,
+        File::Is(TERM_1425),
+    ),
+    (
+        &[(Act::Terms(1426, 1426), 2, 1426, "_")],
+        File::Same,
+        File::Long(134),
+    ),
+    (&[(Act::Nothing, 2, 1426, "_")], File::Same, File::Same),
+];
 
 #[test]
 fn renews_at_a_long_tail(rt: HostRuntime) -> Result<(), Fail> {
-    let full = [(Act::Terms(1, 1424), 1424, 1424, "_")];
-    let renewed = [(Act::Terms(1425, 1425), 1, 1425, "_")];
-    let next = [(Act::Terms(1426, 1426), 2, 1426, "_")];
-    let found = [(Act::Nothing, 2, 1426, "_")];
-    let runs = [
-        (full.as_slice(), File::Long(65_513), File::Is(EMPTY)),
-        (renewed.as_slice(), File::Same, File::Is(TERM_1425)),
-        (next.as_slice(), File::Same, File::Long(134)),
-        (found.as_slice(), File::Same, File::Same),
-    ];
-    run_each(rt.alloc(), b"", b"", &runs)
+    run_each(rt.alloc(), b"", b"", &LONG_TAIL)
 }
 
 // 1,409 bodies of 46 bytes and 19 of 38 take 65,536 bytes, which is not too long yet.
-#[test]
-fn a_tail_may_be_full(rt: HostRuntime) -> Result<(), Fail> {
-    let rows = [
+const FULL_TAIL: [Run; 1] = [(
+    &[
         (Act::Terms(1, 1409), 1409, 1409, "_"),
         (Act::Commit(19), 1428, 1409, "_"),
         (Act::Commit(1), 1, 1409, "_"),
-    ];
-    let run = (rows.as_slice(), File::Long(65_545), File::Long(88));
-    run_each(rt.alloc(), b"", b"", &[run])
+    ],
+    File::Long(65_545),
+    File::Long(88),
+)];
+
+#[test]
+fn a_tail_may_be_full(rt: HostRuntime) -> Result<(), Fail> {
+    run_each(rt.alloc(), b"", b"", &FULL_TAIL)
 }
 
 // The second generation, which keeps term 1,425 and the initial state of b.
@@ -224,40 +241,42 @@ const TERM_1425_OF_B: &[u8] =
     \x01\x62\0\0\0\0\0\x01\x01\x62\
     \xa9\x2a\x44\x8c\x25\x73\xfb\x1c\x61\xa9\xa2\xb4\x33\x3e\x86\xbe\x10\xa2\xf6\x2c\xe1\x64\x6d\xb8\x65\xe9\xa4\xcd\xcb\x86\xfc\xb7\0";
 
+const BACK_ON_SIDE_ZERO: [Run; 2] = [
+    (
+        &[
+            (Act::Nothing, 1, 2, "_"),
+            (Act::Accept(How::Initial), 2, 2, "b"),
+            (Act::Terms(3, 1424), 1424, 1424, "b"),
+            (Act::Commit(1), 1425, 1424, "b"),
+            (Act::Terms(1425, 1425), 1, 1425, "b"),
+        ],
+        File::Is(TERM_1425_OF_B),
+        File::Long(65_604),
+    ),
+    (&[(Act::Nothing, 1, 1425, "b")], File::Same, File::Same),
+];
+
 #[test]
 fn renews_again_on_side_zero(rt: HostRuntime) -> Result<(), Fail> {
-    let rows = [
-        (Act::Nothing, 1, 2, "_"),
-        (Act::Accept(How::Initial), 2, 2, "b"),
-        (Act::Terms(3, 1424), 1424, 1424, "b"),
-        (Act::Commit(1), 1425, 1424, "b"),
-        (Act::Terms(1425, 1425), 1, 1425, "b"),
-    ];
-    let found = [(Act::Nothing, 1, 1425, "b")];
-    let runs = [
-        (
-            rows.as_slice(),
-            File::Is(TERM_1425_OF_B),
-            File::Long(65_604),
-        ),
-        (found.as_slice(), File::Same, File::Same),
-    ];
-    run_each(rt.alloc(), TERM_ONE, SECOND, &runs)
+    run_each(rt.alloc(), TERM_ONE, SECOND, &BACK_ON_SIDE_ZERO)
 }
+
+const KEPT: [Run; 2] = [
+    (
+        &[
+            (Act::Terms(7, 7), 1, 7, "_"),
+            (Act::Accept(How::Initial), 2, 7, "b"),
+            (Act::Commit(1), 3, 7, "b"),
+        ],
+        File::Long(159),
+        File::Is(EMPTY),
+    ),
+    (&[(Act::Nothing, 3, 7, "b")], File::Same, File::Same),
+];
 
 #[test]
 fn finds_what_it_kept(rt: HostRuntime) -> Result<(), Fail> {
-    let rows = [
-        (Act::Terms(7, 7), 1, 7, "_"),
-        (Act::Accept(How::Initial), 2, 7, "b"),
-        (Act::Commit(1), 3, 7, "b"),
-    ];
-    let found = [(Act::Nothing, 3, 7, "b")];
-    let runs = [
-        (rows.as_slice(), File::Long(159), File::Is(EMPTY)),
-        (found.as_slice(), File::Same, File::Same),
-    ];
-    run_each(rt.alloc(), b"", b"", &runs)
+    run_each(rt.alloc(), b"", b"", &KEPT)
 }
 
 // The first generation of version 1, which keeps term 2 and no state.
@@ -280,41 +299,71 @@ const B_AFTER_OLD: &[u8] =
     \x20\x22\x20\x15\xc9\x73\x11\x56\x23\xde\x71\x56\xbe\x70\xf0\xd2\x8f\xa5\x4e\xe1\xa8\x34\xa5\x7e\xa5\xdf\x4e\x13\xc8\x33\x3a\xfc\0";
 
 // Where a body in use is of version 1, the first act begins a generation, in which the next acts go on.
+const AFTER_VERSION_1: [Run; 3] = [
+    (&[(Act::Nothing, 1, 1, "_")], File::Same, File::Is(EMPTY)),
+    (
+        &[(Act::Terms(2, 2), 1, 2, "_")],
+        File::Same,
+        File::Is(SECOND),
+    ),
+    (
+        &[(Act::Terms(3, 3), 2, 3, "_")],
+        File::Same,
+        File::Long(134),
+    ),
+];
+
+const AFTER_TWO_OF_VERSION_1: [Run; 3] = [
+    (&[(Act::Nothing, 1, 2, "_")], File::Same, File::Same),
+    (
+        &[(Act::Terms(3, 3), 1, 3, "_")],
+        File::Is(THIRD),
+        File::Same,
+    ),
+    (
+        &[(Act::Terms(4, 4), 2, 4, "_")],
+        File::Long(134),
+        File::Same,
+    ),
+];
+
 #[test]
 fn renews_after_version_1(rt: HostRuntime) -> Result<(), Fail> {
-    let found = [(Act::Nothing, 1, 1, "_")];
-    let first = [(Act::Terms(2, 2), 1, 2, "_")];
-    let next = [(Act::Terms(3, 3), 2, 3, "_")];
-    let runs = [
-        (found.as_slice(), File::Same, File::Is(EMPTY)),
-        (first.as_slice(), File::Same, File::Is(SECOND)),
-        (next.as_slice(), File::Same, File::Long(134)),
-    ];
-    run_each(rt.alloc(), OLD_TERM_ONE, b"", &runs)?;
-    let found = [(Act::Nothing, 1, 2, "_")];
-    let first = [(Act::Terms(3, 3), 1, 3, "_")];
-    let next = [(Act::Terms(4, 4), 2, 4, "_")];
-    let runs = [
-        (found.as_slice(), File::Same, File::Same),
-        (first.as_slice(), File::Is(THIRD), File::Same),
-        (next.as_slice(), File::Long(134), File::Same),
-    ];
-    run_each(rt.alloc(), OLD_TERM_ONE, OLD_SECOND, &runs)
+    run_each(rt.alloc(), OLD_TERM_ONE, b"", &AFTER_VERSION_1)?;
+    run_each(
+        rt.alloc(),
+        OLD_TERM_ONE,
+        OLD_SECOND,
+        &AFTER_TWO_OF_VERSION_1,
+    )
 }
 
 // The act may be any of the three.
+const STATE_OF_VERSION_1: [Run; 2] = [
+    (
+        &[(Act::Nothing, 2, 7, "b"), (Act::Commit(1), 1, 7, "b")],
+        File::Same,
+        File::Is(B_AFTER_OLD),
+    ),
+    (&[(Act::Nothing, 1, 7, "b")], File::Same, File::Same),
+];
+
+const ACCEPTED_AFTER_VERSION_1: [Run; 2] = [
+    (
+        &[
+            (Act::Nothing, 2, 7, "b"),
+            (Act::Accept(How::Initial), 1, 7, "b"),
+        ],
+        File::Same,
+        File::Is(B_AFTER_OLD),
+    ),
+    (&[(Act::Nothing, 1, 7, "b")], File::Same, File::Same),
+];
+
 #[test]
 fn keeps_the_state_of_version_1(rt: HostRuntime) -> Result<(), Fail> {
-    for act in [Act::Commit(1), Act::Accept(How::Initial)] {
-        let first = [(Act::Nothing, 2, 7, "b"), (act, 1, 7, "b")];
-        let found = [(Act::Nothing, 1, 7, "b")];
-        let runs = [
-            (first.as_slice(), File::Same, File::Is(B_AFTER_OLD)),
-            (found.as_slice(), File::Same, File::Same),
-        ];
-        run_each(rt.alloc(), OLD_B, b"", &runs)?;
-    }
-    Ok(())
+    run_each(rt.alloc(), OLD_B, b"", &STATE_OF_VERSION_1)?;
+    run_each(rt.alloc(), OLD_B, b"", &ACCEPTED_AFTER_VERSION_1)
 }
 
 // The generation of the last epoch, of version 1, which keeps term 2 and no state.
@@ -327,18 +376,29 @@ const LAST: &[u8] =
     \x06\x96\xea\xb3\x8e\x78\xa1\xc4\x9c\x81\x86\x64\xc2\x7d\x3f\xc3\x55\x33\x9f\x02\x46\x76\x7b\x8b\x10\x76\x08\x86\x89\x7c\x3b\x8e\0";
 
 // There is no generation after the last one: neither after version 1 nor at a long tail.
+const LAST_OF_VERSION_1: [Run; 2] = [
+    (
+        &[(Act::Terms(3, 4), 3, 4, "_")],
+        File::Same,
+        File::Long(147),
+    ),
+    (
+        &[(Act::Nothing, 3, 4, "_"), (Act::Terms(5, 5), 4, 5, "_")],
+        File::Same,
+        File::Long(193),
+    ),
+];
+
+const LAST_AT_A_LONG_TAIL: [Run; 1] = [(
+    &[(Act::Terms(3, 1427), 1426, 1427, "_")],
+    File::Same,
+    File::Long(65_638),
+)];
+
 #[test]
 fn goes_on_in_the_last_epoch(rt: HostRuntime) -> Result<(), Fail> {
-    let next = [(Act::Terms(3, 4), 3, 4, "_")];
-    let found = [(Act::Nothing, 3, 4, "_"), (Act::Terms(5, 5), 4, 5, "_")];
-    let runs = [
-        (next.as_slice(), File::Same, File::Long(147)),
-        (found.as_slice(), File::Same, File::Long(193)),
-    ];
-    run_each(rt.alloc(), OLD_TERM_ONE, OLD_LAST, &runs)?;
-    let rows = [(Act::Terms(3, 1427), 1426, 1427, "_")];
-    let run = (rows.as_slice(), File::Same, File::Long(65_638));
-    run_each(rt.alloc(), TERM_ONE, LAST, &[run])
+    run_each(rt.alloc(), OLD_TERM_ONE, OLD_LAST, &LAST_OF_VERSION_1)?;
+    run_each(rt.alloc(), TERM_ONE, LAST, &LAST_AT_A_LONG_TAIL)
 }
 
 // The answer to a term that this order strikes.
@@ -351,44 +411,44 @@ fn answer_struck(journal: &mut Journal, order: Order, term: u32) -> Result<(), K
     journal.set_term(term)
 }
 
-fn found_term(alloc: Global, disk: MemDisks) -> Option<u64> {
+fn finds_term(alloc: Global, disk: MemDisks, term: u64) -> bool {
     match StateJournal::open(alloc, disk) {
-        Ok(found) => Some(found.kept().term),
-        Err(_) => None,
+        Ok(found) => found.kept().term == term,
+        Err(_) => false,
     }
 }
 
-// Whether this call, of those that keep this term in these files, answers Disk where it is struck, and these terms are
-// found after it: where it is stopped and all that is not synced is lost, is kept or becomes 01, and where it fails.
-fn leaves(
+// Whether keeping this term in these files answers Disk where it is struck so, and that term is found after it.
+fn leaves(alloc: Global, files: &Files, term: u32, order: Order, left: u64) -> Result<bool, Fail> {
+    let mut journal = opened(alloc, &files.0, &files.1)?;
+    let answer = answer_struck(&mut journal, order, term);
+    let disk = journal.into_disk().into_disk();
+    Ok(answer == Err(KeepError::Disk) && finds_term(alloc, disk, left))
+}
+
+// The same for each way in which this call is struck.
+fn are_left(
     alloc: Global,
     files: &Files,
     term: u32,
     call: u64,
-    want: &[u64; 4],
+    want: &[u64],
 ) -> Result<bool, Fail> {
-    let orders = [
-        Order::Stop(call, Way::Lost),
-        Order::Stop(call, Way::Kept),
-        Order::Stop(call, Way::Torn(1)),
-        Order::Fault(call),
-    ];
-    let mut are_left = true;
+    let orders = orders(call);
     for (order, left) in orders.iter().zip(want) {
-        let mut journal = opened(alloc, files)?;
-        let answer = answer_struck(&mut journal, *order, term);
-        let found = found_term(alloc, journal.into_disk().into_disk());
-        are_left = are_left && answer == Err(KeepError::Disk) && found == Some(*left);
+        if !leaves(alloc, files, term, *order, *left)? {
+            return Ok(false);
+        }
     }
-    Ok(are_left)
+    Ok(true)
 }
 
 // Strikes each call of those that keep this term.
-fn strike_each(alloc: Global, files: &Files, term: u32, calls: &[[u64; 4]]) -> Result<(), Fail> {
+fn strike_each(alloc: Global, files: &Files, term: u32, calls: &[&[u64]]) -> Result<(), Fail> {
     let mut call = 0u64;
     for want in calls {
         call = call.saturating_add(1);
-        if !leaves(alloc, files, term, call, want)? {
+        if !are_left(alloc, files, term, call, want)? {
             return Err(Fail::new(format_args!("term {term}, call {call}")));
         }
     }
@@ -397,26 +457,26 @@ fn strike_each(alloc: Global, files: &Files, term: u32, calls: &[[u64; 4]]) -> R
 
 // Two files, the next term, which begins a generation, and what each call leaves: where
 // the other side has a generation it is cleared before, with two calls more.
-type Renewal = (&'static [u8], &'static [u8], u32, &'static [[u64; 4]]);
+type Renewal = (&'static [u8], &'static [u8], u32, &'static [&'static [u64]]);
 
 const RENEWALS: [Renewal; 2] = [
     (
         OLD_TERM_ONE,
         EMPTY,
         2,
-        &[[1, 1, 1, 1], [1, 1, 1, 1], [1, 2, 2, 1], [1, 2, 2, 2]],
+        &[&[1, 1, 1, 1], &[1, 1, 1, 1], &[1, 2, 2, 1], &[1, 2, 2, 2]],
     ),
     (
         OLD_TERM_ONE,
         OLD_SECOND,
         3,
         &[
-            [2, 2, 2, 2],
-            [2, 2, 2, 2],
-            [2, 2, 2, 2],
-            [2, 2, 2, 2],
-            [2, 3, 3, 2],
-            [2, 3, 3, 3],
+            &[2, 2, 2, 2],
+            &[2, 2, 2, 2],
+            &[2, 2, 2, 2],
+            &[2, 2, 2, 2],
+            &[2, 3, 3, 2],
+            &[2, 3, 3, 3],
         ],
     ),
 ];
@@ -438,87 +498,107 @@ const OLDER: &[u8] =
     b"ZENJRNL1\x01\0\0\0\x4a\x84\0\0\0\0\0\0\0\x01\0\0\0\0\0\0\0\x02\0\0\0\0\0\0\0\x03\0\0\0\0\0\0\0\0\0\0\0\0\0\0\0\0\0\
     \xbd\x42\x14\x51\x1d\x05\x4f\x1c\xd6\x1c\x15\x82\x8e\x71\xc7\xbe\x03\x1d\xb3\xf1\x7c\xc5\x1f\xaa\x53\xac\xb1\xc0\xd4\xc9\x43\x2b\0";
 
-// A file on side zero of bodies of version 1, and its first fault.
-const OLD_FAULTS: [(&[u8], &str); 15] = [
-    (b"ABCDEFGHIJ", "Header"),
-    (b"ZENJRNL1\x01\0\0\0\xff\0", "Cut(8)"),
-    (b"ZENJRNL1\x01\xff\0\0\0\0", "Long(8)"),
-    (b"ZENJRNL1\x01\0\0\0\0\0", "Body(8,Tag)"),
-    (b"ZENJRNL1\x01\0\0\0\x01\x05\0", "Body(8,Tag)"),
-    (b"ZENJRNL1\x01\0\0\0\x01\x80\0", "Body(8,Tag)"),
-    (b"ZENJRNL1\x01\0\0\0\x01\x04\0", "Order(8)"),
-    (b"ZENJRNL1\x01\0\0\0\x03\x01\0\0\0", "Body(8,Short)"),
+// Two files, and the first fault of both.
+type Refused = (&'static [u8], &'static [u8], &'static str);
+
+// Bodies of version 1 on side zero.
+const OLD_FAULTS: [Refused; 15] = [
+    (b"ABCDEFGHIJ", b"", "Header"),
+    (b"ZENJRNL1\x01\0\0\0\xff\0", b"", "Cut(8)"),
+    (b"ZENJRNL1\x01\xff\0\0\0\0", b"", "Long(8)"),
+    (b"ZENJRNL1\x01\0\0\0\0\0", b"", "Body(8,Tag)"),
+    (b"ZENJRNL1\x01\0\0\0\x01\x05\0", b"", "Body(8,Tag)"),
+    (b"ZENJRNL1\x01\0\0\0\x01\x80\0", b"", "Body(8,Tag)"),
+    (b"ZENJRNL1\x01\0\0\0\x01\x04\0", b"", "Order(8)"),
+    (b"ZENJRNL1\x01\0\0\0\x03\x01\0\0\0", b"", "Body(8,Short)"),
     (
         b"ZENJRNL1\x01\0\0\0\x09\x01\x80\0\0\0\0\0\0\0\0",
+        b"",
         "Body(8,TermTooLarge)",
     ),
     (
         b"ZENJRNL1\x01\0\0\0\x0a\x01\0\0\0\0\0\0\0\x01\xff\0",
+        b"",
         "Body(8,Trailing)",
     ),
-    (b"ZENJRNL1\x01\0\0\0\x02\x03\x03\0", "Body(8,Trailing)"),
-    (b"ZENJRNL1\x01\0\0\0\x02\x02\0\0", "Body(8,Short)"),
-    (b"ZENJRNL1\x01\0\0\0\x09\x01\0\0\0\0\0\0\0\0\0", "Order(8)"),
+    (b"ZENJRNL1\x01\0\0\0\x02\x03\x03\0", b"", "Body(8,Trailing)"),
+    (b"ZENJRNL1\x01\0\0\0\x02\x02\0\0", b"", "Body(8,Short)"),
+    (
+        b"ZENJRNL1\x01\0\0\0\x09\x01\0\0\0\0\0\0\0\0\0",
+        b"",
+        "Order(8)",
+    ),
     (
         b"ZENJRNL1\x01\0\0\0\x09\x01\0\0\0\0\0\0\0\x01\x01\0\0\0\x09\x01\0\0\0\0\0\0\0\x01\0",
+        b"",
         "Order(22)",
     ),
     (
         b"ZENJRNL1\x01\0\0\0\x18\x02\0\0\0\0\0\0\0\x01\0\0\0\0\0\0\0\0\0\0\0\0\0\0\0\0",
+        b"",
         "Order(8)",
     ),
 ];
 
 // The same of bodies of version 2: a digest that is not theirs comes before their fields.
-const FAULTS: [(&[u8], &str); 17] = [
-    (CHANGED, "Damaged(8)"),
-    (OLD_AFTER, "Order(54)"),
+const FAULTS: [Refused; 17] = [
+    (CHANGED, b"", "Damaged(8)"),
+    (OLD_AFTER, b"", "Order(54)"),
     (
         b"ZENJRNL1\x01\0\0\0\x29\x81\0\0\0\0\0\0\0\x01\
         \x92\x01\x39\xd9\x73\x69\x77\xbb\xa9\xf8\x23\xbb\xa2\x04\x6e\xfd\x82\x28\x92\x77\xe0\x6e\xce\x8c\xf7\xd3\x41\xde\x67\x58\0\xc8\
         \x01\0\0\0\x01\x03\0",
+        b"",
         "Order(54)",
     ),
     (
         b"ZENJRNL1\x01\0\0\0\x29\x81\0\0\0\0\0\0\0\x01\
         \x92\x01\x39\xd9\x73\x69\x77\xbb\xa9\xf8\x23\xbb\xa2\x04\x6e\xfd\x82\x28\x92\x77\xe0\x6e\xce\x8c\xf7\xd3\x41\xde\x67\x58\0\xc8\
         \x01\0\0\0\x02\x01\0\0",
+        b"",
         "Body(54,Short)",
     ),
-    (NO_DIGEST, "Body(8,Short)"),
+    (NO_DIGEST, b"", "Body(8,Short)"),
     (
         b"ZENJRNL1\x01\0\0\0\x21\x81\
         \x59\x1b\x7c\xc9\x50\x37\x82\x2d\xec\x5a\x4d\x59\x3a\x2e\x2e\x8b\x19\xc0\x7d\xdd\x25\x70\xe5\x69\x90\x03\xd1\x7f\x14\xc4\x40\xa6\0",
+        b"",
         "Body(8,Short)",
     ),
     (
         b"ZENJRNL1\x01\0\0\0\x29\x81\x80\0\0\0\0\0\0\0\
         \xe7\x19\x78\x2f\xc4\xb4\xe9\xc6\xa0\xe3\x2e\x77\x8e\xa9\xaa\x61\xa7\x9c\x0b\x25\xde\x39\xc6\x90\x95\xd6\x14\xcc\x03\xe2\x82\xfd\0",
+        b"",
         "Body(8,TermTooLarge)",
     ),
     (
         b"ZENJRNL1\x01\0\0\0\x2a\x81\0\0\0\0\0\0\0\x01\xff\
         \xd4\xcf\xc8\x36\x7c\xc7\x83\xf7\xaf\x7f\x22\x84\x9c\x29\x56\xc2\xba\x51\xb8\x56\x01\xe3\xb4\x7a\xbf\xa8\x76\x26\xd5\xca\x13\x30\0",
+        b"",
         "Body(8,Trailing)",
     ),
     (
         b"ZENJRNL1\x01\0\0\0\x22\x83\x03\
         \xad\x49\xd7\x97\x2a\xb6\x52\xbc\x92\x9a\xf7\xdd\x2b\xde\x65\x19\xca\xfc\x0e\xfd\x37\xf5\xde\x86\x93\x3a\xa3\x20\x05\xf5\x20\x23\0",
+        b"",
         "Body(8,Trailing)",
     ),
     (
         b"ZENJRNL1\x01\0\0\0\x22\x82\0\
         \x1c\x53\xd1\xa4\x6b\x33\x30\xcc\x47\x0e\xec\xfb\x6a\x3d\x9b\x8d\x61\xce\xbe\x92\xf8\x1c\x65\x51\xc5\xc6\xaf\xe5\xa3\x50\x71\xd5\0",
+        b"",
         "Body(8,Short)",
     ),
     (
         b"ZENJRNL1\x01\0\0\0\x49\x82\0\0\0\0\0\0\0\0\0\0\0\0\0\0\0\0\x01\0\0\0\0\0\0\0\0\0\0\0\0\0\0\0\0\0\0\0\0\0\0\0\
         \xf9\xfa\xaa\x10\x90\x0e\x98\x8b\x15\x5d\x76\x9a\x43\x23\x49\x86\x8a\xd3\xe8\x2c\xd8\x7d\xd7\xec\xe3\xf8\xae\xc9\xf5\x73\x7b\xac\0",
+        b"",
         "Body(8,BadParent)",
     ),
     (
         b"ZENJRNL1\x01\0\0\0\x29\x81\0\0\0\0\0\0\0\0\
         \x07\xcc\x70\x6b\x79\x51\x03\x10\x88\x73\x10\x12\xc0\xc4\xc8\xdd\xff\x0c\xd4\xd1\xc6\x5f\x8d\x4e\xb1\x9b\xe3\x7a\x4f\xd1\xfd\xba\0",
+        b"",
         "Order(8)",
     ),
     (
@@ -526,20 +606,21 @@ const FAULTS: [(&[u8], &str); 17] = [
         \x92\x01\x39\xd9\x73\x69\x77\xbb\xa9\xf8\x23\xbb\xa2\x04\x6e\xfd\x82\x28\x92\x77\xe0\x6e\xce\x8c\xf7\xd3\x41\xde\x67\x58\0\xc8\
         \x01\0\0\0\x29\x81\0\0\0\0\0\0\0\x01\
         \x92\x01\x39\xd9\x73\x69\x77\xbb\xa9\xf8\x23\xbb\xa2\x04\x6e\xfd\x82\x28\x92\x77\xe0\x6e\xce\x8c\xf7\xd3\x41\xde\x67\x58\0\xc8\0",
+        b"",
         "Order(54)",
     ),
     (
         b"ZENJRNL1\x01\0\0\0\x39\x82\0\0\0\0\0\0\0\x01\0\0\0\0\0\0\0\0\0\0\0\0\0\0\0\0\
         \x68\x4a\x16\xd2\x18\xee\x40\x8c\x76\x2d\0\xf0\x61\x68\x8e\x21\xf4\x10\x34\x6a\x09\x6a\xc1\x9a\xe2\x25\x52\x10\xe6\xf2\x6d\x14\0",
+        b"",
         "Order(8)",
     ),
-    (b"ZENJRNL1\x01\0\0\0\x01\x83\0", "Body(8,Short)"),
-    (b"ZENJRNL1\x01\0\0\0\x01\x84\0", "Order(8)"),
-    (b"ZENJRNL1\x01\0\0\0\x01\x85\0", "Body(8,Tag)"),
+    (b"ZENJRNL1\x01\0\0\0\x01\x83\0", b"", "Body(8,Short)"),
+    (b"ZENJRNL1\x01\0\0\0\x01\x84\0", b"", "Order(8)"),
+    (b"ZENJRNL1\x01\0\0\0\x01\x85\0", b"", "Body(8,Tag)"),
 ];
 
-// Two files, and the first fault of both.
-const FAULTS_OF_BOTH: [(&[u8], &[u8], &str); 18] = [
+const FAULTS_OF_BOTH: [Refused; 18] = [
     (OLD_SECOND, OLD_SECOND, "Twin"),
     (SECOND, SECOND, "Twin"),
     (SECOND, OLD_SECOND, "Twin"),
@@ -576,39 +657,47 @@ const FAULTS_OF_BOTH: [(&[u8], &[u8], &str); 18] = [
     (b"", OLDER, "1:Order(8)"),
 ];
 
-fn why_refused(alloc: Global, zero: &[u8], one: &[u8]) -> Option<Why> {
-    let Ok(disk) = disk_of(alloc, zero, one) else {
-        return None;
-    };
+// Why a journal is refused, as it is written or as it is.
+#[derive(Clone, Copy)]
+enum Wanted<'a> {
+    Text(&'a str),
+    Why(Why),
+}
+
+fn is_why(alloc: Global, error: &OpenError<MemDisks>, want: &Wanted<'_>) -> bool {
+    match (error, want) {
+        (OpenError::NotAJournal(why, _), Wanted::Text(text)) => is_written(alloc, why, text),
+        (OpenError::NotAJournal(why, _), Wanted::Why(wanted)) => *why == *wanted,
+        _ => false,
+    }
+}
+
+// Whether the files of this disk are no journal, for this reason.
+fn is_refused(alloc: Global, disk: MemDisks, want: &Wanted<'_>) -> bool {
     match StateJournal::open(alloc, disk) {
-        Err(OpenError::NotAJournal(why, _)) => Some(why),
-        _ => None,
+        Ok(_) => false,
+        Err(error) => is_why(alloc, &error, want),
     }
 }
 
-// Whether these files are no journal, for the reason that is written so.
-fn is_refused(alloc: Global, zero: &[u8], one: &[u8], want: &str) -> bool {
-    let Some(why) = why_refused(alloc, zero, one) else {
-        return false;
-    };
-    is_written(alloc, &why, want)
-}
-
-#[test]
-fn names_the_first_fault(rt: HostRuntime) {
-    for (zero, want) in &OLD_FAULTS {
-        assert!(rt; is_refused(rt.alloc(), zero, b"", want), "{want}");
+fn refuses_each(alloc: Global, rows: &[Refused]) -> Result<(), Fail> {
+    for (zero, one, want) in rows {
+        if !is_refused(alloc, disk_of(alloc, zero, one)?, &Wanted::Text(want)) {
+            return Err(Fail::new(format_args!("{want}")));
+        }
     }
-    for (zero, want) in &FAULTS {
-        assert!(rt; is_refused(rt.alloc(), zero, b"", want), "{want}");
-    }
+    Ok(())
 }
 
 #[test]
-fn names_the_first_fault_of_both(rt: HostRuntime) {
-    for (zero, one, want) in &FAULTS_OF_BOTH {
-        assert!(rt; is_refused(rt.alloc(), zero, one, want), "{want}");
-    }
+fn names_the_first_fault(rt: HostRuntime) -> Result<(), Fail> {
+    refuses_each(rt.alloc(), &OLD_FAULTS)?;
+    refuses_each(rt.alloc(), &FAULTS)
+}
+
+#[test]
+fn names_the_first_fault_of_both(rt: HostRuntime) -> Result<(), Fail> {
+    refuses_each(rt.alloc(), &FAULTS_OF_BOTH)
 }
 
 // The digests of bodies that set term 1 and term 2.
@@ -622,14 +711,20 @@ const DIGEST_OF_TWO: [u8; 32] = [
     160, 238, 222, 153, 54, 253, 193, 105, 6, 140, 121,
 ];
 
-#[test]
-fn a_damaged_body_is_shown_with_both_digests(rt: HostRuntime) {
-    let fault = Fault::Damaged {
+const DAMAGED: Why = Why::At(
+    Side::Zero,
+    Fault::Damaged {
         at: 8,
         stored: DIGEST_OF_ONE,
         found: DIGEST_OF_TWO,
-    };
-    assert!(rt; why_refused(rt.alloc(), CHANGED, b"") == Some(Why::At(Side::Zero, fault)));
+    },
+);
+
+#[test]
+fn a_damaged_body_is_shown_with_both_digests(rt: HostRuntime) -> Result<(), Fail> {
+    let disk = disk_of(rt.alloc(), CHANGED, b"")?;
+    assert!(&rt; is_refused(rt.alloc(), disk, &Wanted::Why(DAMAGED)));
+    Ok(())
 }
 
 // Bodies that set term 1, accept the state 1/1 of a and b where a was committed, and commit it.
@@ -692,13 +787,21 @@ fn are_same_files(files: &Files, other: &Files) -> bool {
     files.0.as_slice() == other.0.as_slice() && files.1.as_slice() == other.1.as_slice()
 }
 
-// Whether these files stand for this record, or are no journal and stay as they are.
-fn is_kept_or_refused(alloc: Global, files: &Files, kept: &Kept) -> Result<bool, Fail> {
-    match StateJournal::open(alloc, disk_of(alloc, &files.0, &files.1)?) {
+fn has_files(alloc: Global, disk: MemDisks, files: &Files) -> Result<bool, Fail> {
+    let mut disk = disk;
+    Ok(are_same_files(&files_in(alloc, &mut disk)?, files))
+}
+
+// Whether the files of this disk stand for this record, or are no journal and stay as they are.
+fn is_kept_or_refused(
+    alloc: Global,
+    disk: MemDisks,
+    files: &Files,
+    kept: &Kept,
+) -> Result<bool, Fail> {
+    match StateJournal::open(alloc, disk) {
         Ok(journal) => Ok(is_same_record(journal.kept(), kept)),
-        Err(OpenError::NotAJournal(_, mut disk)) => {
-            Ok(are_same_files(&files_in(alloc, &mut disk)?, files))
-        }
+        Err(OpenError::NotAJournal(_, disk)) => has_files(alloc, disk, files),
         Err(_) => Ok(false),
     }
 }
@@ -709,7 +812,7 @@ fn left_by<'a>(gates: &'a [Gate], side: Side, place: usize) -> Option<&'a Gate> 
 }
 
 fn is_left(alloc: Global, files: &Files, gate: &Gate) -> Result<bool, Fail> {
-    let journal = opened(alloc, files)?;
+    let journal = opened(alloc, &files.0, &files.1)?;
     let (term, version, committed, records) = gate.2;
     let kept = journal.kept();
     Ok(
@@ -739,8 +842,21 @@ fn changed(
     Ok(changed)
 }
 
-// Whether the lowest and the highest bit of this byte may be changed: the files are refused, or the record is as before; a gate
-// that is closed by it leaves what was kept before the body after it.
+// Whether these files, of which a byte was changed, are refused or have the record of before; or what was kept before the body
+// of this gate, which is closed by it.
+fn is_as_before(
+    alloc: Global,
+    files: &Files,
+    kept: &Kept,
+    gate: Option<&Gate>,
+) -> Result<bool, Fail> {
+    match gate {
+        Some(gate) => is_left(alloc, files, gate),
+        None => is_kept_or_refused(alloc, disk_of(alloc, &files.0, &files.1)?, files, kept),
+    }
+}
+
+// Whether the lowest and the highest bit of this byte may be changed.
 fn may_change(
     alloc: Global,
     files: &Files,
@@ -749,52 +865,63 @@ fn may_change(
     side: Side,
     place: usize,
 ) -> Result<bool, Fail> {
-    let mut may = true;
     for bit in [1, 128] {
         let changed = changed(alloc, files, side, place, bit)?;
-        may = may
-            && match left_by(gates, side, place) {
-                Some(gate) => is_left(alloc, &changed, gate)?,
-                None => is_kept_or_refused(alloc, &changed, kept)?,
-            };
+        if !is_as_before(alloc, &changed, kept, left_by(gates, side, place))? {
+            return Ok(false);
+        }
     }
-    Ok(may)
+    Ok(true)
 }
 
 fn each_may_change(
     alloc: Global,
     files: &Files,
+    kept: &Kept,
     gates: &[Gate],
     side: Side,
-    len: usize,
 ) -> Result<(), Fail> {
-    let whole = opened(alloc, files)?;
+    let len = match side {
+        Side::Zero => files.0.len(),
+        Side::One => files.1.len(),
+    };
     for place in 0..len {
-        if !may_change(alloc, files, whole.kept(), gates, side, place)? {
+        if !may_change(alloc, files, kept, gates, side, place)? {
             return Err(Fail::new(format_args!("byte {place}")));
         }
     }
     Ok(())
 }
 
+fn each_byte_may_change(alloc: Global, files: &Files, gates: &[Gate]) -> Result<(), Fail> {
+    let whole = opened(alloc, &files.0, &files.1)?;
+    each_may_change(alloc, files, whole.kept(), gates, Side::Zero)?;
+    each_may_change(alloc, files, whole.kept(), gates, Side::One)
+}
+
 #[test]
 fn a_changed_byte_makes_no_other_record(rt: HostRuntime) -> Result<(), Fail> {
     for (zero, one, gates) in &FILES {
-        let files = files_of(rt.alloc(), zero, one)?;
-        each_may_change(rt.alloc(), &files, gates, Side::Zero, zero.len())?;
-        each_may_change(rt.alloc(), &files, gates, Side::One, one.len())?;
+        each_byte_may_change(rt.alloc(), &files_of(rt.alloc(), zero, one)?, gates)?;
     }
     Ok(())
 }
 
+// Whether a commit is answered so by a journal that is stopped, and keeps what it had.
+fn is_stopped(journal: &mut Journal, want: KeepError) -> bool {
+    journal.mark_committed() == Err(want)
+        && journal.stopped()
+        && journal.records() == 1
+        && is_kept(journal, 1, "_")
+}
+
 #[test]
 fn stays_stopped(rt: HostRuntime) -> Result<(), Fail> {
-    let mut journal = opened(rt.alloc(), &files_of(rt.alloc(), b"", b"")?)?;
-    assert!(&rt; keeps_term(&mut journal, 1));
+    let mut journal = opened(rt.alloc(), b"", b"")?;
+    let is_kept = keeps_term(&mut journal, 1);
     journal.arm(Order::Fault(2));
-    for want in [KeepError::Disk, KeepError::Stopped] {
-        assert!(&rt; journal.mark_committed() == Err(want) && journal.stopped());
-        assert!(&rt; journal.records() == 1 && is_kept(&journal, 1, "_"));
-    }
+    let is_struck = is_stopped(&mut journal, KeepError::Disk);
+    let stays_stopped = is_stopped(&mut journal, KeepError::Stopped);
+    assert!(&rt; is_kept && is_struck && stays_stopped);
     Ok(())
 }

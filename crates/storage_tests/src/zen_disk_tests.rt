@@ -44,59 +44,72 @@ fn after(disk: MemDisks, acts: &[Act]) -> MemDisks {
 }
 
 // Acts on a disk with two writes that are not synced, and then its two files.
-type Row<'a> = (&'a [Act], &'a [u8], &'a [u8]);
+type Row = (&'static [Act], &'static [u8], &'static [u8]);
 
-fn is_row(alloc: Global, row: &Row<'_>) -> Result<bool, Fail> {
+fn is_row(alloc: Global, row: &Row) -> Result<bool, Fail> {
     let (acts, zero, one) = *row;
-    let mut disk = after(written(alloc)?, acts);
-    Ok(reads(&mut disk, Side::Zero, zero) && reads(&mut disk, Side::One, one))
+    Ok(both_read(after(written(alloc)?, acts), zero, one))
 }
 
 const LOSE: Act = Act::Crash(Way::Lost);
 
-#[test]
-fn a_crash_loses_keeps_or_tears_what_is_not_synced(rt: HostRuntime) -> Result<(), Fail> {
-    let rows: [Row<'_>; 4] = [
-        (&[], b"abcde", b"vwxyz"),
-        (&[Act::Crash(Way::Kept)], b"abcde", b"vwxyz"),
-        (&[Act::Crash(Way::Kept), LOSE], b"abc", b"vwx"),
-        (
-            &[Act::Crash(Way::Torn(1)), LOSE],
-            b"abc\x01\x01",
-            b"vwx\x01\x01",
-        ),
-    ];
+fn do_each(alloc: Global, rows: &[Row]) -> Result<(), Fail> {
     for (at, row) in rows.iter().enumerate() {
-        assert!(&rt; is_row(rt.alloc(), row)?, "row {at}");
+        if !is_row(alloc, row)? {
+            return Err(Fail::new(format_args!("row {at}")));
+        }
     }
     Ok(())
 }
 
+const CRASHES: [Row; 4] = [
+    (&[], b"abcde", b"vwxyz"),
+    (&[Act::Crash(Way::Kept)], b"abcde", b"vwxyz"),
+    (&[Act::Crash(Way::Kept), LOSE], b"abc", b"vwx"),
+    (
+        &[Act::Crash(Way::Torn(1)), LOSE],
+        b"abc\x01\x01",
+        b"vwx\x01\x01",
+    ),
+];
+
+#[test]
+fn a_crash_loses_keeps_or_tears_what_is_not_synced(rt: HostRuntime) -> Result<(), Fail> {
+    do_each(rt.alloc(), &CRASHES)
+}
+
+const SYNCS: [Row; 2] = [
+    (&[Act::Sync(Side::Zero), LOSE], b"abcde", b"vwx"),
+    (&[Act::Sync(Side::One), LOSE], b"abc", b"vwxyz"),
+];
+
 #[test]
 fn a_sync_keeps_one_side(rt: HostRuntime) -> Result<(), Fail> {
-    let rows: [Row<'_>; 2] = [
-        (&[Act::Sync(Side::Zero), LOSE], b"abcde", b"vwx"),
-        (&[Act::Sync(Side::One), LOSE], b"abc", b"vwxyz"),
-    ];
-    for (at, row) in rows.iter().enumerate() {
-        assert!(&rt; is_row(rt.alloc(), row)?, "row {at}");
+    do_each(rt.alloc(), &SYNCS)
+}
+
+// Syncs, and whether they fail.
+const SOME_FAIL: [(Side, bool); 5] = [
+    (Side::Zero, false),
+    (Side::One, true),
+    (Side::One, false),
+    (Side::Zero, true),
+    (Side::One, false),
+];
+
+fn are_syncs(disk: &mut MemDisks, syncs: &[(Side, bool)]) -> bool {
+    for (side, fails) in syncs {
+        if disk.sync(*side).is_err() != *fails {
+            return false;
+        }
     }
-    Ok(())
+    true
 }
 
 #[test]
 fn fails_where_listed(rt: HostRuntime) -> Result<(), Fail> {
-    let calls = [
-        (Side::Zero, false),
-        (Side::One, true),
-        (Side::One, false),
-        (Side::Zero, true),
-        (Side::One, false),
-    ];
     let mut disk = new_disk(rt.alloc(), &[2, 4])?;
-    for (side, fails) in calls {
-        assert!(&rt; disk.sync(side).is_err() == fails);
-    }
+    assert!(&rt; are_syncs(&mut disk, &SOME_FAIL));
     Ok(())
 }
 
@@ -120,40 +133,58 @@ const FAULT: Option<Struck> = Some(Struck::Fault);
 
 const STOP: Option<Struck> = Some(Struck::Stop);
 
-fn armed(stop: Option<(u64, Way)>, fault: Option<u64>) -> Armed {
+// A device call, whether it is made, and then what has struck the disk and the numbers of the calls at which the stop and the fault
+// are still to come.
+type Strike = (Call, bool, Option<Struck>, Option<u64>, Option<u64>);
+
+// The fault comes at the second call, and the stop at the third.
+const STRIKES: [Strike; 4] = [
+    (Call::Len, true, None, Some(2), Some(1)),
+    (
+        Call::Write(Side::Zero, b"ABCDE"),
+        false,
+        FAULT,
+        Some(1),
+        None,
+    ),
+    (Call::Write(Side::One, b"de"), false, STOP, None, None),
+    (Call::Sync(Side::One), false, STOP, None, None),
+];
+
+fn armed(stop: Option<u64>, fault: Option<u64>) -> Armed {
+    let stop = match stop {
+        Some(call) => Some((call, Way::Torn(7))),
+        None => None,
+    };
     Armed { stop, fault }
 }
 
-// Each row is a device call, whether it is made, and then what has struck the disk and which orders are still to come.
+fn is_struck(fuse: &mut Fuse<MemDisks>, strike: &Strike) -> bool {
+    let (call, is_made, struck, stop, fault) = *strike;
+    is_ok(fuse, call) == is_made && fuse.struck() == struck && fuse.armed() == armed(stop, fault)
+}
+
+fn are_struck(fuse: &mut Fuse<MemDisks>, strikes: &[Strike]) -> bool {
+    for strike in strikes {
+        if !is_struck(fuse, strike) {
+            return false;
+        }
+    }
+    true
+}
+
+fn both_read(disk: MemDisks, zero: &[u8], one: &[u8]) -> bool {
+    let mut disk = disk;
+    reads(&mut disk, Side::Zero, zero) && reads(&mut disk, Side::One, one)
+}
+
 #[test]
 fn strikes_as_ordered(rt: HostRuntime) -> Result<(), Fail> {
-    let tear = Way::Torn(7);
-    let rows = [
-        (Call::Len, true, None, armed(Some((2, tear)), Some(1))),
-        (
-            Call::Write(Side::Zero, b"ABCDE"),
-            false,
-            FAULT,
-            armed(Some((1, tear)), None),
-        ),
-        (
-            Call::Write(Side::One, b"de"),
-            false,
-            STOP,
-            armed(None, None),
-        ),
-        (Call::Sync(Side::One), false, STOP, armed(None, None)),
-    ];
     let mut fuse = Fuse::new(new_disk(rt.alloc(), &[])?);
-    fuse.arm(Order::Stop(3, tear));
+    fuse.arm(Order::Stop(3, Way::Torn(7)));
     fuse.arm(Order::Fault(2));
-    for (call, want, struck, armed) in rows {
-        assert!(&rt;
-            is_ok(&mut fuse, call) == want && fuse.struck() == struck && fuse.armed() == armed
-        );
-    }
-    let mut disk = fuse.into_disk();
-    assert!(&rt; reads(&mut disk, Side::Zero, b"abc") && reads(&mut disk, Side::One, b"\x07\x07x"));
+    let are_struck = are_struck(&mut fuse, &STRIKES);
+    assert!(&rt; are_struck && both_read(fuse.into_disk(), b"abc", b"\x07\x07x"));
     Ok(())
 }
 
@@ -162,8 +193,7 @@ fn stops_between_calls(rt: HostRuntime) -> Result<(), Fail> {
     let mut fuse = Fuse::new(written(rt.alloc())?);
     fuse.stop(Way::Lost);
     let _stopped: &MemDisks = fuse.disk();
-    assert!(&rt; fuse.struck() == STOP);
-    let mut disk = fuse.into_disk();
-    assert!(&rt; reads(&mut disk, Side::Zero, b"abc") && reads(&mut disk, Side::One, b"vwx"));
+    let is_stopped = fuse.struck() == STOP;
+    assert!(&rt; is_stopped && both_read(fuse.into_disk(), b"abc", b"vwx"));
     Ok(())
 }
