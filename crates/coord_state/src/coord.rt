@@ -1,5 +1,5 @@
 //! `CoordState`: what one node answers to each of the seven acts, and what it is after them. An act that writes has written before it answers.
-ghost use Rattle.std.specs.Prelude.{◌≡◌, ℕ, ◌<◌, ◌≤◌, Bool, false, true, ◌&&◌, ◌⊎◌, ◌↔◌, Option, Some, length};
+ghost use Rattle.std.specs.Prelude.{◌≡◌, ℕ, ◌<◌, ◌≤◌, Bool, false, true, ◌&&◌, ◌⊎◌, ◌↔◌, Option, Some, [], length, is_ok, IfOk, OnErr};
 ghost use Rattle.cluster_state.specs.Field.{last_number};
 ghost use Rattle.voting_config.specs.Ids.{Id, has, is_quorum_of, most_ids};
 ghost use Rattle.zen_disk.specs.Moments.{LeavesOnly, Same};
@@ -10,18 +10,22 @@ ghost use Rattle.cluster_state.specs.Initial.{initial_state};
 ghost use Rattle.cluster_state.specs.States.{IsFit};
 ghost use Rattle.cluster_state.specs.declared.state.Kept.{Kept as Record};
 ghost use Rattle.world_model.specs.NodeState.{opened};
-ghost use Rattle.coord_state.specs.Outcomes.{initial_outcome, start_outcome, join_outcome, value_outcome, publish_outcome, response_outcome, commit_outcome, HandsBack};
+ghost use Rattle.coord_state.specs.Outcomes.{outcome, sends_request, initial_outcome, start_outcome, join_outcome, value_outcome, publish_outcome, response_outcome, commit_outcome, HandsBack};
 ghost use Rattle.coord_state.specs.StandsFor.{Acts, StandsFor, fields_of, request_of};
 ghost use Rattle.cluster_state.specs.declared.state.ClusterValue.{ClusterValue};
+ghost use Rattle.world_model.specs.declared.acts.Cause.TheVariants.{Value as ValueRefused};
+ghost use Rattle.world_model.specs.declared.acts.Outcome.TheVariants.{Answered};
 ghost use Rattle.coord_state.specs.Writes.{WritesBy, IsDuring};
 ghost use Rattle.coord_state.specs.Checks.{publish_checked, value_checked, Foretells};
 
 use cluster_state::{
-    ApplyCommit, ClusterState, CommitCause, InitialCause, Join, JoinCause, Kept, LAST_NUMBER,
-    PublishCause, PublishResponse, ResponseCause, StartCause, ValueCause,
+    ApplyCommit, ClusterState, ClusterValue, CommitCause, InitialCause, Join, JoinCause, Kept,
+    LAST_NUMBER, PublishCause, PublishRequest, PublishResponse, ResponseCause, SharedState,
+    StartCause, ValueCause,
 };
 use join_rules::{JoinVotes, join_check};
 use state_journal::{ArmKeeper, Keeper, Ready};
+use std::alloc::{AllocError, Global};
 use voting_config::{NodeId, NodeSet, VotingConfig};
 use zen_disk::Order;
 
@@ -43,7 +47,8 @@ pub struct Joined {
 }
 
 /// The rules of one node, over what keeps its record: those of `ZenWithTerms.tla` of elastic/elasticsearch-formal-models,
-/// under the names of Elasticsearch 7. A refused act changes nothing, in memory and on disk, and no act takes memory.
+/// under the names of Elasticsearch 7. A refused act changes nothing, in memory and on disk, and no act takes memory, but for
+/// `client_value`, which makes the request that it answers.
 #[derive(Drop)]
 pub struct CoordState<K> {
     me: NodeId,
@@ -314,13 +319,79 @@ impl<K: Keeper> CoordState<K> {
         Ok(())
     }
 
+    // The request that publishes a value with a version and a configuration.
+    fn request(
+        &self,
+        alloc: Global,
+        version: u64,
+        config: VotingConfig,
+        value: ClusterValue,
+    ) -> Result<PublishRequest, AllocError>
+        ensures { IfOk result (λ request. request ≡ request_of K.Keeper self.now version config value) }
+    {
+        let kept = self.keeper.kept();
+        let state = ClusterState {
+            term: kept.term,
+            version,
+            parent: Some(kept.accepted.id()),
+            config,
+            committed: VotingConfig::of(kept.committed.members()),
+            value,
+        };
+        Ok(PublishRequest {
+            source: self.me,
+            state: SharedState::of(alloc, state)?,
+        })
+    }
+
+    // Takes a value that nothing refuses.
+    fn begin_value(&mut self, version: u64, config: &VotingConfig)
+        requires runs { K.has_stopped self.old.keeper ≡ false }
+        requires checked { is_ok (value_checked (fields_of K.Keeper self.old) version config.now) ≡ true }
+        ensures act { (value : ClusterValue) → Acts K.Keeper self.old self.new (act.Value version config.now value) (Answered (sends_request (request_of K.Keeper self.old version config.now value))) }
+        ensures rest { self.new ≡ record self.old { published_version = version; published_config = config.now; publish_votes = [] } }
+    {
+        self.published_version = version;
+        self.published_config.copy_from(config.members());
+        self.publish_votes.clear();
+    }
+
     /// Publishes a new value with a version and a configuration, where the node has won and has accepted what it published
-    /// last. Another configuration than the accepted one is taken only once the accepted one is committed, and only if the
-    /// node's votes are a quorum of it.
+    /// last, and answers the request that publishes it: the state in the node's term, of this version, configuration and value, with the
+    /// accepted state's id as its parent and the configuration that the node knows to be committed. Another configuration than the
+    /// accepted one is taken only once the accepted one is committed, and only if the node's votes are a quorum of it.
     ///
-    /// No rule looks at the value, so the caller keeps it, and makes the state that is published where it is to stay: the state in the node's
-    /// term, of this version, configuration and value, with the configuration that the node knows to be committed.
+    /// What is published lies in one place for all who hold it, so it takes memory, where it is taken. Where there is none, nothing is changed.
     pub fn client_value(
+        &mut self,
+        alloc: Global,
+        version: u64,
+        config: VotingConfig,
+        value: ClusterValue,
+    ) -> Result<
+        Result<PublishRequest, ActError<ValueCause, (VotingConfig, ClusterValue)>>,
+        AllocError,
+    >
+        ensures act { IfOk result (λ answer. Acts K.Keeper self.old self.new (act.Value version config value) (outcome sends_request ValueRefused answer)) }
+        ensures wrote { IfOk result (λ answer. WritesBy K.Keeper self.old.keeper (act.Value version config value) self.new.keeper (outcome sends_request ValueRefused answer)) }
+        ensures any_moment { K.told → (g : NodeHistory) → StandsFor K.Keeper self.old g → LeavesOnly K.moment K.left_since self.old.keeper self.new.keeper (IsDuring g (act.Value version config value)) }
+        ensures back { IfOk result (λ answer. HandsBack (config, value) answer) }
+        ensures memory { OnErr result (self.new ≡ self.old) }
+    {
+        if self.keeper.stopped() {
+            return Ok(Err(ActError::Stopped((config, value))));
+        }
+        if let Err(cause) = self.value_check(version, &config) {
+            return Ok(Err(ActError::Refused(cause, (config, value))));
+        }
+        let request = self.request(alloc, version, config, value)?;
+        self.begin_value(version, &request.state.config);
+        Ok(Ok(request))
+    }
+
+    /// [`client_value`](CoordState::client_value) of any value, which no rule looks at, for a caller that makes the request where it is to stay.
+    /// It takes no memory, and has nothing to hand back.
+    pub fn take_value(
         &mut self,
         version: u64,
         config: &VotingConfig,
@@ -336,9 +407,7 @@ impl<K: Keeper> CoordState<K> {
         if let Err(cause) = self.value_check(version, config) {
             return Err(ActError::Refused(cause, ()));
         }
-        self.published_version = version;
-        self.published_config.copy_from(config.members());
-        self.publish_votes.clear();
+        self.begin_value(version, config);
         Ok(())
     }
 

@@ -173,7 +173,7 @@ pub fn outcome_of<A: ActAnswer, C: ActCause, T: Drop>(answer: Result<A, ActError
     }
 }
 
-/// The outcome of `client_value`, by what it answered and the request that its caller has made.
+/// The outcome of `take_value`, by what it answered and the request that its caller has made.
 pub fn outcome_of_value<T: Drop>(
     answer: Result<(), ActError<ValueCause, T>>,
     request: PublishRequest,

@@ -114,7 +114,7 @@ impl<K: Keeper> Coordinator<K> {
         ensures tasks { self.new.tasks ≡ self.old.tasks }
     {
         let id = request.state.id();
-        let answer = self.core.client_value(id.version, &config);
+        let answer = self.core.take_value(id.version, &config);
         let outcome = outcome_of_value(answer, request);
         let taken = was_taken(&outcome);
         begin_publication(

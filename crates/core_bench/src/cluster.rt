@@ -86,7 +86,7 @@ fn commit(node: &mut Node, commit: &ApplyCommit) -> Result<()> {
 fn publish(alloc: Global, candidate: &mut Node, bytes: &[u8]) -> Result<()> {
     let state = decoded(alloc, bytes)?;
     ensure!(
-        candidate.client_value(state.version, &state.config).is_ok(),
+        candidate.take_value(state.version, &state.config).is_ok(),
         "no publication"
     );
     Ok(())

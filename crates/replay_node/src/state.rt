@@ -176,7 +176,7 @@ pub fn client_value(
     ensures does { IfOk result (λ did. StateDoes state.old state.new (act.Value version config.now (record empty_value { settings = settings })) did) }
     ensures text { IfOk result (λ did. (published : Option State) → WritesText (act.Value version config.now (record empty_value { settings = settings })) published did) }
 {
-    match state.client_value(version, config) {
+    match state.take_value(version, config) {
         Err(error) => ended(state, error.not_taken()),
         Ok(()) => {
             let sent = publication(state, alloc, version, config, settings)?;

@@ -136,7 +136,7 @@ fn does(alloc: Global, node: &mut CoordState<PlainKeeper>, act: Act) -> Result<b
         Act::Boot => boots(alloc, node),
         Act::Start => Ok(starts(node)),
         Act::Join => Ok(wins(node)),
-        Act::Value => Ok(node.client_value(1, &VotingConfig::of(&only_a())).is_ok()),
+        Act::Value => Ok(node.take_value(1, &VotingConfig::of(&only_a())).is_ok()),
         Act::Check => Ok(checks(alloc, node)),
         Act::Publish => Ok(accepts(alloc, node)),
         Act::Respond => Ok(responds(node)),
@@ -229,7 +229,7 @@ fn refusal(outcome: &Outcome) -> Option<Cause> {
 fn a_value_is_refused_before_the_election_is_won(rt: HostRuntime) -> Result<(), Fail> {
     let alloc = rt.alloc();
     let mut node = opened(alloc)?;
-    let answer = node.client_value(7, &VotingConfig::of(&only_a()));
+    let answer = node.take_value(7, &VotingConfig::of(&only_a()));
     let request = PublishRequest {
         source: a(),
         state: SharedState::of(alloc, published(alloc, 1))?,

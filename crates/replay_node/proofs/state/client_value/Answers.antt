@@ -66,19 +66,19 @@ pub publication-requires-clause-above : goal.publication-requires-clause-above
 publication-requires-clause-above c =
     let old = c.args.state.now in
     let request = request_of journal_ghosts old c.args.version c.args.config.now (with_settings c.args.settings) in
-    let same : (fields_of journal_ghosts c.client_value.new.self).accepted ≡ (fields_of journal_ghosts old).accepted = ap (λ (s : CoordState Journal). (fields_of journal_ghosts s).accepted) c.in-Ok.ensures.same in
+    let same : (fields_of journal_ghosts c.take_value.new.self).accepted ≡ (fields_of journal_ghosts old).accepted = ap (λ (s : CoordState Journal). (fields_of journal_ghosts s).accepted) c.in-Ok.ensures.same in
     let above = version_above old.me (fields_of journal_ghosts old) c.args.version c.args.config.now (with_settings c.args.settings) request (c.in-Ok.ensures.act (with_settings c.args.settings)).at.answers in
     rw same above
 
 pub returns-in-Err-clause-does : goal.returns-in-Err-clause-does
 returns-in-Err-clause-does c =
-    told_does c.args.state.now c.client_value.new.self (act.Value c.args.version c.args.config.now (with_settings c.args.settings)) c.not_taken.result _ refl c.not_taken.ensures
+    told_does c.args.state.now c.take_value.new.self (act.Value c.args.version c.args.config.now (with_settings c.args.settings)) c.not_taken.result _ refl c.not_taken.ensures
     (record { acts = c.in-Err.ensures.act (with_settings c.args.settings); wrote = c.in-Err.ensures.wrote (with_settings c.args.settings); any_moment = c.in-Err.ensures.any_moment (with_settings c.args.settings) tt }) c.ended.result c.ended.ensures
 
 pub returns-in_ok-sent-in-Ok-clause-does : goal.returns-in_ok-sent-in-Ok-clause-does
 returns-in_ok-sent-in-Ok-clause-does c =
     let old = c.args.state.now in
-    let new = c.client_value.new.self in
+    let new = c.take_value.new.self in
     let published = λ (state : CoordState Journal). PublishMessage (request_of journal_ghosts state c.args.version c.args.config.now (with_settings c.args.settings)) in
     let sent : message_of c.in_ok-sent-in-Ok.sent ≡ published old = c.in_ok-sent-in-Ok.ensures ∙ ap published c.in-Ok.ensures.same in
     taken_does old new (act.Value c.args.version c.args.config.now (with_settings c.args.settings)) (Taken (Some (published old)) false) c.sends.result refl
