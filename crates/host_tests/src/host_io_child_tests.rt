@@ -79,15 +79,16 @@ const LENGTH: usize = 5000004;
 const LAST: &str =
     "head -c 5000000 /dev/zero; while [ ! -e host_io_c1 ] || [ ! -e host_io_c2 ]; do sleep 0.05; done; echo end";
 
+const TEXTS: [&str; 3] = [
+    LAST,
+    "head -c 5000000 /dev/zero; : > host_io_c1; echo end",
+    "head -c 5000000 /dev/zero; : > host_io_c2; echo end",
+];
+
 // The three of them.
 fn started(rt: &HostRuntime, children: &mut Children) -> Result<Vec<SystemChild>, Fail> {
-    let texts = [
-        LAST,
-        "head -c 5000000 /dev/zero; : > host_io_c1; echo end",
-        "head -c 5000000 /dev/zero; : > host_io_c2; echo end",
-    ];
     let mut started = Vec::new(rt.alloc());
-    for text in texts {
+    for text in TEXTS {
         started.push(spawned(rt, children, text)?)?;
     }
     Ok(started)
@@ -134,16 +135,20 @@ fn sleeper(rt: &HostRuntime, children: &mut Children) -> Result<SystemChild, Hos
     Ok(child)
 }
 
+// Whether the system has a child's process until it is killed, and has none then.
+fn is_gone(rt: &HostRuntime, children: &mut Children) -> Result<bool, Fail> {
+    let child = sleeper(rt, children)?;
+    let number = fs::read_to_string(rt, "host_io_pid")?;
+    let was_there = is_there(rt, number.as_str().trim())?;
+    children.kill(child)?;
+    Ok(was_there && !is_there(rt, number.as_str().trim())?)
+}
+
 #[test]
 fn a_child_that_was_killed_is_gone(rt: HostRuntime) -> Result<(), Fail> {
     let _ = fs::remove_file(&rt, "host_io_pid");
     let began = Instant::now(&rt)?;
-    let mut children = Children::new(rt.alloc());
-    let child = sleeper(&rt, &mut children)?;
-    let number = fs::read_to_string(&rt, "host_io_pid")?;
-    assert!(rt; is_there(&rt, number.as_str().trim())?);
-    children.kill(child)?;
-    assert!(rt; !is_there(&rt, number.as_str().trim())?);
+    assert!(rt; is_gone(&rt, &mut Children::new(rt.alloc()))?);
     assert!(rt; began.elapsed(&rt)?.as_secs() < 100);
     fs::remove_file(&rt, "host_io_pid")?;
     Ok(())

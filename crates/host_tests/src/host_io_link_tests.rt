@@ -197,6 +197,18 @@ fn send(alloc: Global, link: &mut RealLink, to: Target, bytes: Bytes) -> bool {
     }
 }
 
+fn send_bytes(alloc: Global, link: &mut RealLink, to: Target, bytes: &'static [u8]) -> bool {
+    send(alloc, link, to, Bytes::from_static(bytes))
+}
+
+// The moment of the next input, where it is a tick.
+fn next_tick(link: &mut RealLink) -> Option<u64> {
+    match link.next() {
+        Ok(Input::Tick { now, .. }) => Some(now),
+        _ => None,
+    }
+}
+
 // The next input that is no tick.
 fn next_input(link: &mut RealLink) -> Option<Input> {
     for _ in 0..100 {
@@ -216,6 +228,22 @@ fn are_bytes(input: Option<Input>, number: u64, wanted: &[u8]) -> bool {
     }
 }
 
+fn gives(link: &mut RealLink, number: u64, wanted: &[u8]) -> bool {
+    are_bytes(next_input(link), number, wanted)
+}
+
+fn gives_at_once(link: &mut RealLink, number: u64, wanted: &[u8]) -> bool {
+    are_bytes(link.next().ok(), number, wanted)
+}
+
+fn stops(link: &mut RealLink) -> bool {
+    matches!(next_input(link), Some(Input::Stop))
+}
+
+fn goes_on(link: &mut RealLink) -> bool {
+    link.next().is_ok()
+}
+
 fn closes(link: &mut RealLink, number: u64) -> bool {
     match next_input(link) {
         Some(Input::Closed { conn }) => conn == number,
@@ -225,7 +253,7 @@ fn closes(link: &mut RealLink, number: u64) -> bool {
 
 fn ticks(link: &mut RealLink, count: u64) -> bool {
     for _ in 0..count {
-        if !matches!(link.next(), Ok(Input::Tick { .. })) {
+        if next_tick(link).is_none() {
             return false;
         }
     }
@@ -246,12 +274,7 @@ fn many(alloc: Global, value: u8, count: usize) -> Result<Bytes, AllocError> {
 
 fn ask(alloc: Global, link: &mut RealLink, count: u64) -> bool {
     for _ in 0..count {
-        if !send(
-            alloc,
-            link,
-            Target::Node(id(b'b')),
-            Bytes::from_static(ASKED),
-        ) {
+        if !send_bytes(alloc, link, Target::Node(id(b'b')), ASKED) {
             return false;
         }
     }
@@ -262,30 +285,20 @@ fn ask(alloc: Global, link: &mut RealLink, count: u64) -> bool {
 fn is_so(rt: &HostRuntime, link: &mut RealLink, row: AtLink) -> bool {
     let alloc = rt.alloc();
     match row {
-        Gives(number, wanted) => are_bytes(next_input(link), number, wanted),
-        GivesAtOnce(number, wanted) => are_bytes(link.next().ok(), number, wanted),
+        Gives(number, wanted) => gives(link, number, wanted),
+        GivesAtOnce(number, wanted) => gives_at_once(link, number, wanted),
         AtLink::Closes(number) => closes(link, number),
         Ticks(count) => ticks(link, count),
-        Stops => matches!(next_input(link), Some(Input::Stop)),
-        GoesOn => link.next().is_ok(),
+        Stops => stops(link),
+        GoesOn => goes_on(link),
         HasNoFault => link.fault_count() == 0,
-        Sends(number, bytes) => send(
-            alloc,
-            link,
-            Target::Connection(number),
-            Bytes::from_static(bytes),
-        ),
+        Sends(number, bytes) => send_bytes(alloc, link, Target::Connection(number), bytes),
         SendsMany(number, value, count) => send_many(alloc, link, number, value, count),
         Drops(number) => {
             link.drop_conn(number);
             true
         }
-        SendsItself(bytes) => send(
-            alloc,
-            link,
-            Target::Node(id(b'a')),
-            Bytes::from_static(bytes),
-        ),
+        SendsItself(bytes) => send_bytes(alloc, link, Target::Node(id(b'a')), bytes),
         Asks(count) => ask(alloc, link, count),
         Rests => {
             thread::sleep(rt, Duration::from_millis(150));
@@ -418,12 +431,7 @@ fn reads_whole_frames(alloc: Global, link: &mut RealLink, client: &TcpStream) ->
 }
 
 fn answer(alloc: Global, peer: &mut RealLink) -> bool {
-    send(
-        alloc,
-        peer,
-        Target::Node(id(b'a')),
-        Bytes::from_static(ANSWERED),
-    )
+    send_bytes(alloc, peer, Target::Node(id(b'a')), ANSWERED)
 }
 
 // Whether the other side, to which nothing is sent, ends the connection within so many looks.
@@ -484,8 +492,7 @@ fn connect_served(
 fn serve(alloc: Global, link: &mut RealLink) -> bool {
     match next_input(link) {
         Some(Input::Bytes { conn, .. }) => {
-            let to = Target::Connection(conn);
-            send(alloc, link, to, Bytes::from_static(b"z\n"))
+            send_bytes(alloc, link, Target::Connection(conn), b"z\n")
         }
         _ => false,
     }
@@ -671,12 +678,12 @@ fn a_client_is_served_until_it_says_stop(rt: HostRuntime) -> Result<(), Fail> {
 #[test]
 fn ticks_come_while_inputs_come(rt: HostRuntime) -> Result<(), Fail> {
     let mut world = World::alone(&rt)?;
-    let Ok(Input::Tick { now: first, .. }) = world.link.next() else {
+    let Some(first) = next_tick(&mut world.link) else {
         panic!(rt; "no tick");
     };
     for _ in 0..10_000_000 {
         assert!(rt; world.is_so(Here(SendsItself(ASKED))));
-        if let Ok(Input::Tick { now, .. }) = world.link.next() {
+        if let Some(now) = next_tick(&mut world.link) {
             assert!(rt; first.saturating_add(100) <= now);
             return Ok(());
         }

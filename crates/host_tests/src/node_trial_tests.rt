@@ -82,9 +82,9 @@ const PASSED: [([u8; 3], [&str; 3], &str); 2] = [
 fn a_trial_passes_where_each_node_stops_or_has_taken_its_turns(
     rt: HostRuntime,
 ) -> Result<(), Fail> {
-    for (statuses, outputs, text) in PASSED {
+    for (statuses, outputs, text) in &PASSED {
         assert!(rt;
-            is_tried(rt.alloc(), statuses, outputs, TrialEnd::Done, text)?,
+            is_tried(rt.alloc(), *statuses, *outputs, TrialEnd::Done, text)?,
             "{text}"
         );
     }
@@ -120,25 +120,26 @@ fn is_start(call: Option<&Asked>, wanted: &[&str]) -> bool {
     }
 }
 
+const WORDS_OF_B: [&str; 13] = [
+    "node",
+    "--id",
+    "b",
+    "--dir",
+    "d/b",
+    "--listen",
+    "127.0.0.1:9301",
+    "--peers",
+    "a=127.0.0.1:9300,c=127.0.0.1:9302",
+    "--initial",
+    "a,b,c",
+    "--turns",
+    "600",
+];
+
 #[test]
 fn a_node_is_told_its_id_its_folder_and_its_peers(rt: HostRuntime) -> Result<(), Fail> {
-    let wanted = [
-        "node",
-        "--id",
-        "b",
-        "--dir",
-        "d/b",
-        "--listen",
-        "127.0.0.1:9301",
-        "--peers",
-        "a=127.0.0.1:9300,c=127.0.0.1:9302",
-        "--initial",
-        "a,b,c",
-        "--turns",
-        "600",
-    ];
     let trial = trial_of(rt.alloc(), [0, 0, 0], WON, &[])?;
-    assert!(rt; is_start(trial.host.asked().get(1), &wanted));
+    assert!(rt; is_start(trial.host.asked().get(1), &WORDS_OF_B));
     Ok(())
 }
 
@@ -193,23 +194,30 @@ const CUT_SHORT: [(&[u64], usize, &[usize], u64); 9] = [
 fn where_a_call_is_refused_the_host_is_asked_to_kill_those_that_still_run(
     rt: HostRuntime,
 ) -> Result<(), Fail> {
-    for (refused, count, children, running) in CUT_SHORT {
+    for (refused, count, children, running) in &CUT_SHORT {
         assert!(rt;
-            is_cut_short(rt.alloc(), refused, count, children, running)?,
+            is_cut_short(rt.alloc(), refused, *count, children, *running)?,
             "{refused:?}"
         );
     }
     Ok(())
 }
 
+const WINS: [&str; 5] = ["won", "won\n", "won a 1\n", "x\nwon \ny\n", "\n\nwon b 2"];
+
+const NO_WINS: [&str; 8] = [
+    "", "\n", " won", "won\t1", "WON\n", "wonder\n", "x won\n", "wo\nn\n",
+];
+
+fn have_all_won(outputs: &[&str]) -> bool {
+    outputs.iter().all(|output| has_won(output.as_bytes()))
+}
+
+fn has_none_won(outputs: &[&str]) -> bool {
+    outputs.iter().all(|output| !has_won(output.as_bytes()))
+}
+
 #[test]
 fn a_win_is_a_line_whose_first_word_is_won(rt: HostRuntime) {
-    for output in ["won", "won\n", "won a 1\n", "x\nwon \ny\n", "\n\nwon b 2"] {
-        assert!(rt; has_won(output.as_bytes()), "{output:?}");
-    }
-    for output in [
-        "", "\n", " won", "won\t1", "WON\n", "wonder\n", "x won\n", "wo\nn\n",
-    ] {
-        assert!(rt; !has_won(output.as_bytes()), "{output:?}");
-    }
+    assert!(rt; have_all_won(&WINS) && has_none_won(&NO_WINS));
 }

@@ -1,4 +1,6 @@
 //! A host in memory: its disk, its link and its children.
+ghost use Rattle.std.specs.Prelude.{◌≡◌, IfOk};
+
 use self::Row::*;
 use std::alloc::{AllocError, Global};
 use std::test::Fail;
@@ -9,7 +11,9 @@ use zen_link::{Input, Link, LinkSettings, MemLink, Peer};
 
 // A letter for a call, the child that it was for or how many words, peers or bytes of a name it was made with, and whether it
 // was refused.
-fn summary(call: &Asked) -> (u8, usize, bool) {
+type Call = (u8, usize, bool);
+
+fn summary(call: &Asked) -> Call {
     match call {
         Asked::OpenDisk { dir, refused } => (b'd', dir.len(), *refused),
         Asked::OpenLink { settings, refused } => (b'l', settings.peers.len(), *refused),
@@ -19,7 +23,7 @@ fn summary(call: &Asked) -> (u8, usize, bool) {
     }
 }
 
-fn are_calls(calls: &[Asked], wanted: &[(u8, usize, bool)]) -> bool {
+fn are_calls(calls: &[Asked], wanted: &[Call]) -> bool {
     let mut left = wanted.iter();
     for call in calls {
         if left.next() != Some(&summary(call)) {
@@ -27,28 +31,6 @@ fn are_calls(calls: &[Asked], wanted: &[(u8, usize, bool)]) -> bool {
         }
     }
     left.next().is_none()
-}
-
-#[test]
-fn a_host_gives_its_disk_and_takes_it_back(rt: HostRuntime) -> Result<(), Fail> {
-    let alloc = rt.alloc();
-    let disk = MemDisks::new(
-        alloc,
-        Vec::from_slice(alloc, b"ab")?,
-        Vec::new(alloc),
-        Vec::new(alloc),
-    );
-    let mut host = MemHost::with_children(alloc, disk, Vec::new(alloc), vec![in alloc; 1u64]?);
-    assert!(rt; matches!(host.open_disk("a"), Err(HostError::Failed)));
-    let Ok(mut disk) = host.open_disk("b") else {
-        panic!(rt; "no disk");
-    };
-    assert!(rt; disk.len(Side::Zero) == Ok(2));
-    host.close_disk(disk);
-    assert!(rt; are_calls(host.asked(), &[(b'd', 1, true), (b'd', 1, false)]));
-    assert!(rt; matches!(host.open_disk("b"), Err(HostError::Failed)));
-    assert!(rt; host.into_disk_back().is_some());
-    Ok(())
 }
 
 // Settings with one peer.
@@ -62,24 +44,6 @@ fn settings(alloc: Global) -> Result<LinkSettings, AllocError> {
         listen: String::from_str(alloc, "l")?,
         peers: vec![in alloc; peer]?,
     })
-}
-
-#[test]
-fn a_host_gives_its_link_and_takes_it_back(rt: HostRuntime) -> Result<(), Fail> {
-    let alloc = rt.alloc();
-    let disk = MemDisks::new(alloc, Vec::new(alloc), Vec::new(alloc), Vec::new(alloc));
-    let link: MemLink<u8> = MemLink::new(alloc, Vec::new(alloc), Vec::new(alloc));
-    let mut host = MemHost::with_link(alloc, disk, link, vec![in alloc; 1u64]?);
-    let settings = settings(alloc)?;
-    assert!(rt; matches!(host.open_link(&settings), Err(HostError::Failed)));
-    let Ok(mut link) = host.open_link(&settings) else {
-        panic!(rt; "no link");
-    };
-    assert!(rt; matches!(link.next(), Ok(Input::Stop)));
-    host.close_link(link);
-    assert!(rt; are_calls(host.asked(), &[(b'l', 1, true), (b'l', 1, false)]));
-    assert!(rt; host.into_given_back().1.is_some());
-    Ok(())
 }
 
 // A child that ends with this status, and writes this.
@@ -106,6 +70,17 @@ fn words(alloc: Global, count: usize) -> Result<Vec<String>, AllocError> {
 // What is asked of a host, and what it answers. A child is named by its place among those that were spawned.
 #[derive(Clone, Copy)]
 enum Row {
+    OpensDisk(&'static str),
+    RefusesDisk(&'static str),
+    // The disk that it gave has so many bytes on side zero.
+    DiskHas(u64),
+    DiskGoesBack,
+    // With one peer.
+    OpensLink,
+    RefusesLink,
+    // The link that it gave has nothing left.
+    LinkStops,
+    LinkGoesBack,
     // With so many words.
     Spawns(usize),
     RefusesToSpawn,
@@ -115,25 +90,57 @@ enum Row {
     RefusesToKill(usize),
 }
 
-// A host with children, and those of them that run.
+fn disk(alloc: Global) -> Result<MemDisks, AllocError>
+    ensures { IfOk result (λ disk. ⟦<MemDisks as Disks>⟧.faults disk ≡ 0) }
+{
+    let bytes = Vec::from_slice(alloc, b"ab")?;
+    Ok(MemDisks::new(alloc, bytes, Vec::new(alloc), Vec::new(alloc)))
+}
+
+// The first child ends with status 3 and writes "x", the second one with 0.
+fn ends(alloc: Global) -> Result<Vec<Ended>, AllocError> {
+    Ok(vec![in alloc; ended(alloc, 3, "x")?, ended(alloc, 0, "")?]?)
+}
+
+// A host, and what it gave: its disk, its link, and those of its children that run.
 #[derive(Drop)]
 struct World {
     alloc: Global,
     host: MemHost<MemDisks>,
+    disk: Option<MemDisks>,
+    link: Option<MemLink<()>>,
     running: Vec<Option<MemChild>>,
 }
 
 impl World {
-    // The first child ends with status 3 and writes "x", the second one with 0. These calls are refused.
-    fn new(alloc: Global, refused: &[u64]) -> Result<World, AllocError> {
-        let disk = MemDisks::new(alloc, Vec::new(alloc), Vec::new(alloc), Vec::new(alloc));
-        let ends = vec![in alloc; ended(alloc, 3, "x")?, ended(alloc, 0, "")?]?;
-        let refused = Vec::from_slice(alloc, refused)?;
-        Ok(World {
+    fn of(alloc: Global, host: MemHost<MemDisks>) -> World {
+        World {
             alloc,
-            host: MemHost::with_children(alloc, disk, ends, refused),
+            host,
+            disk: None,
+            link: None,
             running: Vec::new(alloc),
-        })
+        }
+    }
+
+    // A host with children, of which these calls are refused.
+    fn with_children(alloc: Global, refused: &[u64]) -> Result<World, AllocError> {
+        let refused = Vec::from_slice(alloc, refused)?;
+        let ends = ends(alloc)?;
+        Ok(World::of(
+            alloc,
+            MemHost::with_children(alloc, disk(alloc)?, ends, refused),
+        ))
+    }
+
+    // A host with a link, of which these calls are refused.
+    fn with_link(alloc: Global, refused: &[u64]) -> Result<World, AllocError> {
+        let refused = Vec::from_slice(alloc, refused)?;
+        let link = MemLink::new(alloc, Vec::new(alloc), Vec::new(alloc));
+        Ok(World::of(
+            alloc,
+            MemHost::with_link(alloc, disk(alloc)?, link, refused),
+        ))
     }
 
     // The place of the first row that is not so.
@@ -148,6 +155,14 @@ impl World {
 
     fn is_so(&mut self, row: Row) -> bool {
         match row {
+            OpensDisk(dir) => self.opens_disk(dir),
+            RefusesDisk(dir) => matches!(self.host.open_disk(dir), Err(HostError::Failed)),
+            DiskHas(len) => self.disk_has(len),
+            DiskGoesBack => self.disk_goes_back(),
+            OpensLink => self.opens_link() == Ok(()),
+            RefusesLink => self.opens_link() == Err(HostError::Failed),
+            LinkStops => self.link_stops(),
+            LinkGoesBack => self.link_goes_back(),
             Spawns(count) => match self.spawn(count) {
                 Ok(child) => self.running.push(Some(child)).is_ok(),
                 Err(_) => false,
@@ -157,6 +172,58 @@ impl World {
             RefusesToWait(place) => matches!(self.wait(place), Err(HostError::Failed)),
             Kills(place) => self.kill(place) == Ok(()),
             RefusesToKill(place) => self.kill(place) == Err(HostError::Failed),
+        }
+    }
+
+    fn opens_disk(&mut self, dir: &str) -> bool {
+        self.disk = self.host.open_disk(dir).ok();
+        self.disk.is_some()
+    }
+
+    fn disk_has(&mut self, len: u64) -> bool {
+        match &mut self.disk {
+            Some(disk) => disk.len(Side::Zero) == Ok(len),
+            None => false,
+        }
+    }
+
+    fn disk_goes_back(&mut self) -> bool {
+        match self.disk.take() {
+            Some(disk) => {
+                self.host.close_disk(disk);
+                true
+            }
+            None => false,
+        }
+    }
+
+    fn opens_link(&mut self) -> Result<(), HostError> {
+        let Ok(settings) = settings(self.alloc) else {
+            return Err(HostError::Memory);
+        };
+        match self.host.open_link(&settings) {
+            Ok(link) => {
+                self.link = Some(link);
+                Ok(())
+            }
+            Err(error) => Err(error),
+        }
+    }
+
+    fn link_stops(&mut self) -> bool {
+        match &mut self.link {
+            Some(link) => matches!(link.next(), Ok(Input::Stop)),
+            None => false,
+        }
+    }
+
+    fn link_goes_back(&mut self) -> bool {
+        match self.link.take() {
+            Some(link) => {
+                self.host.close_link(link);
+                true
+            }
+            None => false,
         }
     }
 
@@ -185,6 +252,48 @@ impl World {
     }
 }
 
+// Says which row is not so, the first being row 0, or that the calls were others.
+fn run(world: &mut World, rows: &[Row], calls: &[Call]) -> Result<(), Fail> {
+    if let Some(place) = world.first_untrue(rows) {
+        return Err(Fail::new(format_args!("row {place}")));
+    }
+    if are_calls(world.host.asked(), calls) {
+        Ok(())
+    } else {
+        Err(Fail::new("the calls were others"))
+    }
+}
+
+const DISK: &[Row] = &[
+    RefusesDisk("a"),
+    OpensDisk("b"),
+    DiskHas(2),
+    DiskGoesBack,
+    RefusesDisk("b"),
+];
+
+const DISK_CALLS: &[Call] = &[(b'd', 1, true), (b'd', 1, false), (b'd', 1, true)];
+
+#[test]
+fn a_host_gives_its_disk_and_takes_it_back(rt: HostRuntime) -> Result<(), Fail> {
+    let mut world = World::with_children(rt.alloc(), &[1])?;
+    run(&mut world, DISK, DISK_CALLS)?;
+    assert!(rt; world.host.into_disk_back().is_some());
+    Ok(())
+}
+
+const LINK: &[Row] = &[RefusesLink, OpensLink, LinkStops, LinkGoesBack];
+
+const LINK_CALLS: &[Call] = &[(b'l', 1, true), (b'l', 1, false)];
+
+#[test]
+fn a_host_gives_its_link_and_takes_it_back(rt: HostRuntime) -> Result<(), Fail> {
+    let mut world = World::with_link(rt.alloc(), &[1])?;
+    run(&mut world, LINK, LINK_CALLS)?;
+    assert!(rt; world.host.into_given_back().1.is_some());
+    Ok(())
+}
+
 const THREE_CHILDREN: &[Row] = &[
     Spawns(1),
     RefusesToSpawn,
@@ -195,37 +304,37 @@ const THREE_CHILDREN: &[Row] = &[
     Waits(0, 3, "x"),
 ];
 
+const THREE_CHILDREN_CALLS: &[Call] = &[
+    (b's', 1, false),
+    (b's', 0, true),
+    (b's', 0, false),
+    (b's', 0, true),
+    (b'w', 3, true),
+    (b'w', 1, false),
+];
+
 #[test]
 fn children_end_in_the_order_in_which_they_are_spawned(rt: HostRuntime) -> Result<(), Fail> {
-    let calls = [
-        (b's', 1, false),
-        (b's', 0, true),
-        (b's', 0, false),
-        (b's', 0, true),
-        (b'w', 3, true),
-        (b'w', 1, false),
-    ];
-    let mut world = World::new(rt.alloc(), &[2, 5])?;
-    assert!(rt; world.first_untrue(THREE_CHILDREN) == None);
+    let mut world = World::with_children(rt.alloc(), &[2, 5])?;
+    run(&mut world, THREE_CHILDREN, THREE_CHILDREN_CALLS)?;
     assert!(rt; world.host.running_count() == 0);
-    assert!(rt; are_calls(world.host.asked(), &calls));
     Ok(())
 }
 
 const KILLINGS: &[Row] = &[Spawns(0), Spawns(0), RefusesToKill(1), Kills(0)];
 
+const KILLING_CALLS: &[Call] = &[
+    (b's', 0, false),
+    (b's', 0, false),
+    (b'k', 2, true),
+    (b'k', 1, false),
+];
+
 #[test]
 fn a_killing_is_told(rt: HostRuntime) -> Result<(), Fail> {
-    let calls = [
-        (b's', 0, false),
-        (b's', 0, false),
-        (b'k', 2, true),
-        (b'k', 1, false),
-    ];
-    let mut world = World::new(rt.alloc(), &[3])?;
-    assert!(rt; world.first_untrue(KILLINGS) == None);
+    let mut world = World::with_children(rt.alloc(), &[3])?;
+    run(&mut world, KILLINGS, KILLING_CALLS)?;
     // The child whose killing was refused runs on.
     assert!(rt; world.host.running_count() == 1);
-    assert!(rt; are_calls(world.host.asked(), &calls));
     Ok(())
 }

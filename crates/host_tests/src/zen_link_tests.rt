@@ -25,22 +25,35 @@ fn a_source_gives_its_bytes_and_fails_where_it_is_told(rt: HostRuntime) -> Resul
     Ok(())
 }
 
+// An input of three bytes, of which these reads fail.
+fn abc(alloc: Global, fails: &[u64]) -> Result<MemSource, AllocError> {
+    let bytes = Vec::from_slice(alloc, b"abc")?;
+    Ok(MemSource::new(bytes, Vec::from_slice(alloc, fails)?))
+}
+
+// How many bytes may be read, and those that are.
+const READ: [(usize, &[u8]); 3] = [(4, b"abc"), (2, b"ab"), (0, b"")];
+
+fn is_read(alloc: Global, most: usize, read: &[u8]) -> Result<bool, AllocError> {
+    let mut source = abc(alloc, &[])?;
+    match read_input(alloc, &mut source, most) {
+        Ok(bytes) => Ok(bytes.as_slice() == read),
+        Err(_) => Ok(false),
+    }
+}
+
 #[test]
 fn an_input_is_read_to_its_end_or_as_far_as_it_may_be(rt: HostRuntime) -> Result<(), Fail> {
-    let alloc = rt.alloc();
-    for (most, read) in [
-        (4, b"abc".as_slice()),
-        (2, b"ab".as_slice()),
-        (0, b"".as_slice()),
-    ] {
-        let mut source = MemSource::new(Vec::from_slice(alloc, b"abc")?, Vec::new(alloc));
-        let Ok(bytes) = read_input(alloc, &mut source, most) else {
-            return Err("it was not read".into());
-        };
-        assert!(rt; bytes.as_slice() == read);
+    for (most, read) in &READ {
+        assert!(rt; is_read(rt.alloc(), *most, read)?);
     }
-    let mut source = MemSource::new(Vec::from_slice(alloc, b"abc")?, vec![in alloc; 2u64]?);
-    assert!(rt; matches!(read_input(alloc, &mut source, 4), Err(InputError::Read)));
+    let mut source = abc(rt.alloc(), &[2])?;
+    assert!(rt;
+        matches!(
+            read_input(rt.alloc(), &mut source, 4),
+            Err(InputError::Read)
+        )
+    );
     Ok(())
 }
 
