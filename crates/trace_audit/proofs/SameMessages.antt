@@ -64,7 +64,7 @@ state_self a =
     and_from _ _ (and_from _ _ (and_from _ _ (and_from _ _ (and_from _ _ (number_self a.term) (number_self a.version)) (parent_self a.parent)) (config_self a.config)) (config_self a.committed))
     (same_value-itself a.value)
 
-join_is : (a b : Join) → same_join a b ≡ true → a ≡ b
+pub join_is : (a b : Join) → same_join a b ≡ true → a ≡ b
 join_is a b h =
     let p = and_parts _ _ h in
     let q = and_parts _ _ p.0 in
@@ -77,17 +77,17 @@ join_is a b h =
     let last_version = number_is a.last_version b.last_version p.1 in
     λ i. record { source = source i; target = target i; term = term i; last_term = last_term i; last_version = last_version i }
 
-join_self : (a : Join) → same_join a a ≡ true
+pub join_self : (a : Join) → same_join a a ≡ true
 join_self a = and_from _ _ (and_from _ _ (and_from _ _ (and_from _ _ (same_self a.source) (same_self a.target)) (number_self a.term)) (number_self a.last_term)) (number_self a.last_version)
 
-request_is : (a b : PublishRequest) → same_request a b ≡ true → a ≡ b
+pub request_is : (a b : PublishRequest) → same_request a b ≡ true → a ≡ b
 request_is a b h =
     let p = and_parts _ _ h in
     let source = same_is a.source b.source p.0 in
     let state = state_is a.state b.state p.1 in
     λ i. record { source = source i; state = state i }
 
-response_is : (a b : PublishResponse) → same_response a b ≡ true → a ≡ b
+pub response_is : (a b : PublishResponse) → same_response a b ≡ true → a ≡ b
 response_is a b h =
     let p = and_parts _ _ h in
     let q = and_parts _ _ p.0 in
@@ -98,7 +98,10 @@ response_is a b h =
     let version = number_is a.version b.version p.1 in
     λ i. record { source = source i; target = target i; term = term i; version = version i }
 
-commit_is : (a b : ApplyCommit) → same_commit a b ≡ true → a ≡ b
+pub response_self : (a : PublishResponse) → same_response a a ≡ true
+response_self a = and_from _ _ (and_from _ _ (and_from _ _ (same_self a.source) (same_self a.target)) (number_self a.term)) (number_self a.version)
+
+pub commit_is : (a b : ApplyCommit) → same_commit a b ≡ true → a ≡ b
 commit_is a b h =
     let p = and_parts _ _ h in
     let q = and_parts _ _ p.0 in
@@ -106,6 +109,9 @@ commit_is a b h =
     let term = number_is a.term b.term q.1 in
     let version = number_is a.version b.version p.1 in
     λ i. record { source = source i; term = term i; version = version i }
+
+pub commit_self : (a : ApplyCommit) → same_commit a a ≡ true
+commit_self a = and_from _ _ (and_from _ _ (same_self a.source) (number_self a.term)) (number_self a.version)
 
 pub message_is : (a b : Message) → same_message a b ≡ true → a ≡ b
 message_is (JoinMessage a) (JoinMessage b) h = ap JoinMessage (join_is a b h)
@@ -128,8 +134,8 @@ message_is (CommitMessage a) (ResponseMessage b) h = absurd cc
 pub message_self : (a : Message) → same_message a a ≡ true
 message_self (JoinMessage a) = join_self a
 message_self (PublishMessage a) = and_from _ _ (same_self a.source) (state_self a.state)
-message_self (ResponseMessage a) = and_from _ _ (and_from _ _ (and_from _ _ (same_self a.source) (same_self a.target)) (number_self a.term)) (number_self a.version)
-message_self (CommitMessage a) = and_from _ _ (and_from _ _ (same_self a.source) (number_self a.term)) (number_self a.version)
+message_self (ResponseMessage a) = response_self a
+message_self (CommitMessage a) = commit_self a
 
 -- ---- among messages
 

@@ -5,17 +5,13 @@ use Rattle.std.specs.Cmp.Lexicographic.{slice_cmp}
 use Rattle.std.specs.BTreeMap as tree
 use Rattle.std.specs.BTreeMap.{BTreeMap}
 use Rattle.voting_config.specs.Ids.{Id, same}
-use Rattle.world_model.specs.declared.acts.ActReply.{ActReply}
 use Rattle.world_model.specs.declared.acts.Message.{Message}
 use Rattle.world_model.specs.Acts.{NodeHistory, NoActs}
 use Rattle.world_model.specs.declared.acts.Message.TheVariants.{Join as JoinMessage, Publish as PublishMessage, Response as ResponseMessage, Commit as CommitMessage}
 use Rattle.cluster_state.specs.declared.messages.ApplyCommit.{ApplyCommit}
 use Rattle.world_model.specs.Histories.{History, node_history, sent, IsLegal}
 use Rattle.world_model.specs.Safety.{published}
-use Rattle.trace_text.specs.declared.ending.Ending.{Ending}
-use Rattle.trace_text.specs.declared.ending.Ending.TheVariants as ending
 use Rattle.node_audit.specs.declared.node.Node.{Node}
-use Rattle.node_audit.specs.declared.node.Node.TheVariants as node
 use Rattle.node_audit.specs.Standing.{Stands}
 use Rattle.trace_audit.specs.declared.auditor.Auditor.{Auditor}
 use Rattle.trace_audit.specs.declared.auditing.Broken.{Broken}

@@ -2,9 +2,7 @@
 use Rattle.std.specs.Prelude.{false, None, List, [], ◌∷◌, if◌then◌else◌}
 use Rattle.voting_config.specs.Ids.{Id}
 use Rattle.cluster_state.specs.declared.state.Kept.{Kept}
-use Rattle.world_model.specs.declared.acts.ActReply.{ActReply}
 use Rattle.world_model.specs.declared.acts.ActReply.TheVariants.{Taken}
-use Rattle.world_model.specs.declared.acts.Outcome.{Outcome}
 use Rattle.world_model.specs.declared.acts.Outcome.TheVariants.{Answered}
 use Rattle.world_model.specs.declared.acts.Act.TheVariants.{Open}
 use Rattle.world_model.specs.NodeState.{durable_of}

@@ -7,6 +7,7 @@ pub mod clause;
 pub mod notes;
 pub mod printing;
 pub mod reporting;
+pub mod requests;
 pub mod running;
 pub mod sent;
 pub mod verdict;

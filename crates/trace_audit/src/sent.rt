@@ -1,154 +1,84 @@
 //! The messages that were sent.
 ghost use Rattle.std.specs.Prelude.{◌≡◌, ◌++◌, ◌∷◌, [], OnOk, List};
 ghost use Rattle.world_model.specs.declared.acts.Message.{Message as TheMessage};
-ghost use Rattle.trace_audit.specs.Messages.{same_join as same_join_of, same_parent as same_parent_of, same_state as same_state_of, same_request as same_request_of, same_response as same_response_of, same_commit as same_commit_of, is_join as is_join_of, is_request as is_request_of, is_response as is_response_of, is_commit as is_commit_of, same_message, is_among as is_among_of};
-ghost use Rattle.trace_audit.specs.Places.{place_of as place_of_message, is_held, IsSentOf};
+ghost use Rattle.trace_audit.specs.Places.{join_key as join_key_of, response_key as response_key_of, commit_key as commit_key_of, join_cmp, response_cmp, commit_cmp, WithKey, is_held, IsSentOf};
 
-use cluster_state::{ApplyCommit, ClusterState, Join, PublishRequest, PublishResponse, StateId};
+use crate::requests::Requests;
+use cluster_state::{ApplyCommit, Join, PublishResponse};
 use std::alloc::{AllocError, Global};
-use std::collections::BTreeMap;
+use std::collections::BTreeSet;
 use voting_config::NodeId;
 use world_model::Message;
 
-/// Who sent a message, its term and version, and its kind: in a legal history messages of one place are the same.
-pub type Place = (NodeId, (u64, (u64, u64)));
+// All that a join says: its term, the term and the version of its last accepted state, its source and its target.
+type JoinKey = (u64, u64, u64, NodeId, NodeId);
 
-/// The messages that were sent, each once, found by their places.
+// The term and the version of a response, its source and its target.
+type ResponseKey = (u64, u64, NodeId, NodeId);
+
+// The term and the version of a commit, and its source.
+type CommitKey = (u64, u64, NodeId);
+
+/// The messages that were sent, each once: a join takes 96 bytes and its share of a tree, other messages less.
 #[derive(Drop)]
 pub struct SentMessages {
-    alloc: Global,
-    messages: BTreeMap<Place, Vec<Message>>,
+    joins: BTreeSet<JoinKey>,
+    requests: Requests,
+    responses: BTreeSet<ResponseKey>,
+    commits: BTreeSet<CommitKey>,
 }
 
-fn place_of(message: &Message) -> Place
-    ensures { result ≡ place_of_message message.now }
+fn join_key(join: &Join) -> JoinKey
+    ensures { result ≡ join_key_of join.now }
 {
-    match message {
-        Message::Join(join) => (join.source, (join.term, (0, 0))),
-        Message::Publish(request) => (
-            request.source,
-            (request.state.term, (request.state.version, 1)),
-        ),
-        Message::Response(response) => (response.source, (response.term, (response.version, 2))),
-        Message::Commit(commit) => (commit.source, (commit.term, (commit.version, 3))),
-    }
+    (
+        join.term,
+        join.last_term,
+        join.last_version,
+        join.source,
+        join.target,
+    )
 }
 
-fn same_join(a: &Join, b: &Join) -> bool
-    ensures { result ≡ same_join_of a.now b.now }
+fn response_key(response: &PublishResponse) -> ResponseKey
+    ensures { result ≡ response_key_of response.now }
 {
-    a.source == b.source
-        && a.target == b.target
-        && a.term == b.term
-        && a.last_term == b.last_term
-        && a.last_version == b.last_version
+    (
+        response.term,
+        response.version,
+        response.source,
+        response.target,
+    )
 }
 
-fn same_parent(a: Option<StateId>, b: Option<StateId>) -> bool
-    ensures { result ≡ same_parent_of a b }
+fn commit_key(commit: &ApplyCommit) -> CommitKey
+    ensures { result ≡ commit_key_of commit.now }
 {
-    match a {
-        None => b.is_none(),
-        Some(a) => match b {
-            None => false,
-            Some(b) => a.is_same(b),
-        },
-    }
+    (commit.term, commit.version, commit.source)
 }
 
-fn same_state(a: &ClusterState, b: &ClusterState) -> bool
-    ensures { result ≡ same_state_of a.now b.now }
+fn add_join(joins: &mut BTreeSet<JoinKey>, join: &Join) -> Result<(), AllocError>
+    ensures { OnOk result (WithKey join_cmp joins.old (join_key_of join.now) joins.new) }
 {
-    a.term == b.term
-        && a.version == b.version
-        && same_parent(a.parent, b.parent)
-        && a.config.is_same(&b.config)
-        && a.committed.is_same(&b.committed)
-        && a.value.is_same(&b.value)
+    joins.insert(join_key(join))?;
+    Ok(())
 }
 
-fn same_request(a: &PublishRequest, b: &PublishRequest) -> bool
-    ensures { result ≡ same_request_of a.now b.now }
+fn add_response(
+    responses: &mut BTreeSet<ResponseKey>,
+    response: &PublishResponse,
+) -> Result<(), AllocError>
+    ensures { OnOk result (WithKey response_cmp responses.old (response_key_of response.now) responses.new) }
 {
-    a.source == b.source && same_state(&a.state, &b.state)
+    responses.insert(response_key(response))?;
+    Ok(())
 }
 
-fn same_response(a: &PublishResponse, b: &PublishResponse) -> bool
-    ensures { result ≡ same_response_of a.now b.now }
+fn add_commit(commits: &mut BTreeSet<CommitKey>, commit: &ApplyCommit) -> Result<(), AllocError>
+    ensures { OnOk result (WithKey commit_cmp commits.old (commit_key_of commit.now) commits.new) }
 {
-    a.source == b.source && a.target == b.target && a.term == b.term && a.version == b.version
-}
-
-fn same_commit(a: &ApplyCommit, b: &ApplyCommit) -> bool
-    ensures { result ≡ same_commit_of a.now b.now }
-{
-    a.source == b.source && a.term == b.term && a.version == b.version
-}
-
-fn is_join(message: &Message, join: &Join) -> bool
-    ensures { result ≡ is_join_of message.now join.now }
-{
-    match message {
-        Message::Join(other) => same_join(other, join),
-        Message::Publish(_) => false,
-        Message::Response(_) => false,
-        Message::Commit(_) => false,
-    }
-}
-
-fn is_request(message: &Message, request: &PublishRequest) -> bool
-    ensures { result ≡ is_request_of message.now request.now }
-{
-    match message {
-        Message::Publish(other) => same_request(other, request),
-        Message::Join(_) => false,
-        Message::Response(_) => false,
-        Message::Commit(_) => false,
-    }
-}
-
-fn is_response(message: &Message, response: &PublishResponse) -> bool
-    ensures { result ≡ is_response_of message.now response.now }
-{
-    match message {
-        Message::Response(other) => same_response(other, response),
-        Message::Join(_) => false,
-        Message::Publish(_) => false,
-        Message::Commit(_) => false,
-    }
-}
-
-fn is_commit(message: &Message, commit: &ApplyCommit) -> bool
-    ensures { result ≡ is_commit_of message.now commit.now }
-{
-    match message {
-        Message::Commit(other) => same_commit(other, commit),
-        Message::Join(_) => false,
-        Message::Publish(_) => false,
-        Message::Response(_) => false,
-    }
-}
-
-fn is_same(message: &Message, other: &Message) -> bool
-    ensures { result ≡ same_message message.now other.now }
-{
-    match other {
-        Message::Join(join) => is_join(message, join),
-        Message::Publish(request) => is_request(message, request),
-        Message::Response(response) => is_response(message, response),
-        Message::Commit(commit) => is_commit(message, commit),
-    }
-}
-
-fn is_among(messages: &[Message], message: &Message) -> bool
-    ensures { result ≡ is_among_of messages.now message.now }
-{
-    for other in messages {
-        if is_same(message, other) {
-            return true;
-        }
-    }
-    false
+    commits.insert(commit_key(commit))?;
+    Ok(())
 }
 
 impl SentMessages {
@@ -157,8 +87,10 @@ impl SentMessages {
         ensures { IsSentOf result [] }
     {
         SentMessages {
-            alloc,
-            messages: BTreeMap::new(alloc),
+            joins: BTreeSet::new(alloc),
+            requests: Requests::new(alloc),
+            responses: BTreeSet::new(alloc),
+            commits: BTreeSet::new(alloc),
         }
     }
 
@@ -166,10 +98,11 @@ impl SentMessages {
     pub fn contains(&self, message: &Message) -> bool
         ensures { result ≡ is_held self.now message.now }
     {
-        let place = place_of(message);
-        match self.messages.get(&place) {
-            Some(messages) => is_among(messages, message),
-            None => false,
+        match message {
+            Message::Join(join) => self.joins.contains(&join_key(join)),
+            Message::Publish(request) => self.requests.contains(request),
+            Message::Response(response) => self.responses.contains(&response_key(response)),
+            Message::Commit(commit) => self.commits.contains(&commit_key(commit)),
         }
     }
 
@@ -177,13 +110,11 @@ impl SentMessages {
     pub fn add(&mut self, message: Message) -> Result<(), AllocError>
         ensures { OnOk result ((messages : List TheMessage) → IsSentOf self.old messages → IsSentOf self.new (messages ++ message ∷ [])) }
     {
-        let place = place_of(&message);
-        let mut messages = match self.messages.remove(&place) {
-            Some(messages) => messages,
-            None => Vec::new(self.alloc),
-        };
-        messages.push(message)?;
-        self.messages.insert(place, messages)?;
-        Ok(())
+        match message {
+            Message::Join(join) => add_join(&mut self.joins, &join),
+            Message::Publish(request) => self.requests.add(request),
+            Message::Response(response) => add_response(&mut self.responses, &response),
+            Message::Commit(commit) => add_commit(&mut self.commits, &commit),
+        }
     }
 }
