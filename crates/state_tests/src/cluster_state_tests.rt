@@ -48,13 +48,15 @@ fn is_state(alloc: Global, bytes: &[u8], json: &str) -> Result<bool, AllocError>
     Ok(again.as_slice() == bytes && text.as_slice() == json.as_bytes())
 }
 
+const STATES: [(&[u8], &str); 3] = [
+    (&STATE, JSON),
+    (&EMPTY_STATE, EMPTY_JSON),
+    (&FULL_STATE, FULL_JSON),
+];
+
 #[test]
 fn a_state_has_these_bytes_and_this_json(rt: HostRuntime) -> Result<(), Fail> {
-    for (bytes, json) in [
-        (STATE.as_slice(), JSON),
-        (EMPTY_STATE.as_slice(), EMPTY_JSON),
-        (FULL_STATE.as_slice(), FULL_JSON),
-    ] {
+    for (bytes, json) in &STATES {
         assert!(rt; is_state(rt.alloc(), bytes, json)?);
     }
     Ok(())
@@ -113,7 +115,17 @@ const FRESHER_PARENT: [u8; 38] = [
     1, 2, 1, 98, 1, 97,
 ];
 
-const FAULTS: [(&[u8], StateFault); 12] = [
+// The empty state up to its configuration, which has one id, of the letter A.
+const UPPER_CASE: [u8; 20] = [0, 0, 0, 0, 0, 0, 0, 0, 0, 0, 0, 0, 0, 0, 0, 0, 0, 1, 1, 65];
+
+// The empty state up to its settings, of which the first has a key of the byte 255.
+const KEY_NOT_UTF_8: [u8; 27] = [
+    0, 0, 0, 0, 0, 0, 0, 0, 0, 0, 0, 0, 0, 0, 0, 0, 0, 0, 0, 0, 0, 0, 0, 1, 0, 1, 255,
+];
+
+const FAULTS: [(&[u8], StateFault); 14] = [
+    (&UPPER_CASE, Field(FieldError::BadId)),
+    (&KEY_NOT_UTF_8, Field(FieldError::BadText)),
     (&[0; 25], Trailing),
     (&LONGER, Trailing),
     (&UNORDERED, Field(FieldError::NotOrdered)),
@@ -151,23 +163,35 @@ fn a_state_that_is_cut_is_short(rt: HostRuntime) {
     }
 }
 
-#[test]
-fn ids_of_states_are_ordered_by_term_and_then_by_version(rt: HostRuntime) {
+// Another id's term and version, whether the state 2/2 is fresher than it, and whether it is the same.
+type Order = (u64, u64, bool, bool);
+
+fn is_ordered(row: &Order) -> bool {
+    let (term, version, is_fresher, is_same) = *row;
     let one = StateId {
         term: 2,
         version: 2,
     };
-    for (term, version, is_fresher, is_same) in [
-        (2, 2, false, true),
-        (2, 1, true, false),
-        (2, 3, false, false),
-        (1, 3, true, false),
-        (3, 1, false, false),
-    ] {
-        let other = StateId { term, version };
-        assert!(rt; one.is_fresher(other) == is_fresher);
-        assert!(rt; one.is_reached_by(other) != is_fresher && one.is_same(other) == is_same);
-        assert!(rt; one.is_above_parent(Some(other)) == is_fresher && one.is_above_parent(None));
+    let other = StateId { term, version };
+    one.is_fresher(other) == is_fresher
+        && one.is_reached_by(other) != is_fresher
+        && one.is_same(other) == is_same
+        && one.is_above_parent(Some(other)) == is_fresher
+        && one.is_above_parent(None)
+}
+
+const ORDERED: [Order; 5] = [
+    (2, 2, false, true),
+    (2, 1, true, false),
+    (2, 3, false, false),
+    (1, 3, true, false),
+    (3, 1, false, false),
+];
+
+#[test]
+fn ids_of_states_are_ordered_by_term_and_then_by_version(rt: HostRuntime) {
+    for row in &ORDERED {
+        assert!(rt; is_ordered(row));
     }
 }
 
@@ -229,19 +253,21 @@ fn bad_remove(alloc: Global, key: usize) -> Result<Option<usize>, AllocError> {
     Ok(ask.bad_setting())
 }
 
+const SIZES: [(usize, usize, Option<usize>); 7] = [
+    (0, 0, Some(0)),
+    (1, 0, None),
+    (128, 1_024, None),
+    (129, 0, Some(129)),
+    (128, 1_025, Some(1_025)),
+    (129, 1_025, Some(129)),
+    (0, 1_025, Some(0)),
+];
+
 #[test]
 fn keys_have_1_to_128_bytes_and_values_up_to_1024(rt: HostRuntime) -> Result<(), Fail> {
-    for (key, value, want) in [
-        (0, 0, Some(0)),
-        (1, 0, None),
-        (128, 1_024, None),
-        (129, 0, Some(129)),
-        (128, 1_025, Some(1_025)),
-        (129, 1_025, Some(129)),
-        (0, 1_025, Some(0)),
-    ] {
+    for (key, value, want) in &SIZES {
         assert!(rt;
-            bad_put(rt.alloc(), key, value)? == want,
+            bad_put(rt.alloc(), *key, *value)? == *want,
             "of {key} and {value}"
         );
     }
@@ -274,16 +300,20 @@ fn is_shared(state: &SharedState) -> Result<bool, AllocError> {
     Ok(config.is_same(&state.config) && value.is_same(&state.value))
 }
 
+// Whether a record that accepts this state has its configurations, and the later one once it is committed.
+fn accepts_and_commits(kept: Kept, state: SharedState) -> bool {
+    let mut kept = kept;
+    kept.accept(state);
+    let is_accepted = has(&kept, "b", "a");
+    kept.commit();
+    is_accepted && has(&kept, "b", "b") && kept.accepted.committed.is_same(&config("a"))
+}
+
 #[test]
 fn a_record_accepts_a_state_and_commits_its_configuration(rt: HostRuntime) -> Result<(), Fail> {
-    assert!(rt; !config("a").is_same(&config("b")));
     let state = reconfigured(rt.alloc(), "b", "a")?;
-    assert!(rt; is_shared(&state)?);
-    let mut kept = Kept::empty(rt.alloc())?;
-    kept.accept(state);
-    assert!(rt; has(&kept, "b", "a"));
-    kept.commit();
-    assert!(rt; has(&kept, "b", "b"));
-    assert!(rt; kept.accepted.committed.is_same(&config("a")));
+    let is_shared = is_shared(&state)?;
+    let is_committed = accepts_and_commits(Kept::empty(rt.alloc())?, state);
+    assert!(rt; is_shared && is_committed && !config("a").is_same(&config("b")));
     Ok(())
 }

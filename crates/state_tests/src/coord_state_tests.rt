@@ -195,25 +195,44 @@ const ACCEPTED: Seen = Seen {
     ..PUBLISHED
 };
 
+const LIFE: [Act; 8] = [
+    Act::Boot,
+    Act::Start,
+    Act::Join,
+    Act::Value,
+    Act::Check,
+    Act::Publish,
+    Act::Respond,
+    Act::Commit,
+];
+
+// What the node is after this act of its life.
+fn seen_after(act: Act) -> Seen {
+    match act {
+        Act::Boot => BOOTED,
+        Act::Start => STARTED,
+        Act::Join => WON,
+        Act::Value | Act::Check => PUBLISHED,
+        Act::Publish | Act::Respond | Act::Commit => ACCEPTED,
+    }
+}
+
+// Whether the node is its only vote and its only voter.
+fn has_only_a(node: &CoordState<PlainKeeper>) -> bool {
+    let voters = VotingConfig::of(&only_a());
+    node.votes().as_slice() == only_a().as_slice()
+        && node.committed().is_same(&voters)
+        && node.kept().committed.is_same(&voters)
+}
+
 #[test]
 fn a_node_alone_wins_and_commits(rt: HostRuntime) -> Result<(), Fail> {
     let mut node = opened(rt.alloc())?;
-    for (act, seen) in [
-        (Act::Boot, BOOTED),
-        (Act::Start, STARTED),
-        (Act::Join, WON),
-        (Act::Value, PUBLISHED),
-        (Act::Check, PUBLISHED),
-        (Act::Publish, ACCEPTED),
-        (Act::Respond, ACCEPTED),
-        (Act::Commit, ACCEPTED),
-    ] {
-        assert!(rt; does(rt.alloc(), &mut node, act)?);
-        assert!(rt; is_seen(&node, seen));
+    for act in &LIFE {
+        let is_done = does(rt.alloc(), &mut node, *act)?;
+        assert!(rt; is_done && is_seen(&node, seen_after(*act)));
     }
-    let voters = VotingConfig::of(&only_a());
-    assert!(rt; node.votes().as_slice() == only_a().as_slice());
-    assert!(rt; node.committed().is_same(&voters) && node.kept().committed.is_same(&voters));
+    assert!(rt; has_only_a(&node));
     Ok(())
 }
 

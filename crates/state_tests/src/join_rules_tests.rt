@@ -45,18 +45,20 @@ fn join(target: &str, term: u64, last_term: u64, last_version: u64) -> Join {
     }
 }
 
+const LAST: [(u64, u64, Result<(), JoinCause>); 5] = [
+    (1, 1, Ok(())),
+    (1, 2, Ok(())),
+    (1, 3, Err(JoinCause::FresherVersion(2, 3))),
+    (0, 3, Ok(())),
+    (2, 1, Err(JoinCause::FresherTerm(1, 2))),
+];
+
 #[test]
 fn a_fresher_join_is_refused(rt: HostRuntime) {
     let config = config("a");
-    for (last_term, last_version, wanted) in [
-        (1, 1, Ok(())),
-        (1, 2, Ok(())),
-        (1, 3, Err(JoinCause::FresherVersion(2, 3))),
-        (0, 3, Ok(())),
-        (2, 1, Err(JoinCause::FresherTerm(1, 2))),
-    ] {
-        let join = join("a", 4, last_term, last_version);
-        assert!(rt; check(&config, true, &join) == wanted);
+    for (last_term, last_version, wanted) in &LAST {
+        let join = join("a", 4, *last_term, *last_version);
+        assert!(rt; check(&config, true, &join) == *wanted);
     }
 }
 

@@ -6,7 +6,7 @@ use cluster_state::{
     ApplyCommit, ClusterState, ClusterValue, Join, Kept, LAST_NUMBER, PublishRequest,
     PublishResponse, SharedConfig, SharedState, SharedValue, StateId,
 };
-use coord_state::{CoordState, outcome_of, outcome_of_value};
+use coord_state::{CoordState, outcome_of};
 use reference_model::{Entry, reply};
 use state_journal::{PlainKeeper, Ready};
 use std::alloc::{AllocError, Global};
@@ -157,26 +157,18 @@ fn ready(alloc: Global, state: &ClusterState) -> Result<Ready, AllocError> {
     }
 }
 
-// The request by which the node publishes this version, configuration and value.
-fn request(
+// Publishes a copy of this value with a copy of this configuration.
+fn publishes(
     alloc: Global,
-    node: &CoordState<PlainKeeper>,
+    node: &mut CoordState<PlainKeeper>,
     version: u64,
     config: &VotingConfig,
     value: &ClusterValue,
-) -> Result<PublishRequest, AllocError> {
-    let state = ClusterState {
-        term: node.term(),
-        version,
-        parent: Some(node.accepted().id()),
-        config: VotingConfig::of(config.members()),
-        committed: VotingConfig::of(node.committed().members()),
-        value: value.copy()?,
-    };
-    Ok(PublishRequest {
-        source: node.me(),
-        state: SharedState::of(alloc, state)?,
-    })
+) -> Result<Outcome, AllocError> {
+    let value = value.copy()?;
+    let config = VotingConfig::of(config.members());
+    let answer = node.client_value(alloc, version, config, value)?;
+    Ok(outcome_of(answer))
 }
 
 // Does the act in the core.
@@ -195,11 +187,7 @@ fn core_outcome(
         }
         Act::StartJoin(candidate, term) => Ok(outcome_of(node.start_join(*candidate, *term))),
         Act::TakeJoin(join) => Ok(outcome_of(node.join(join))),
-        Act::Value(version, config, value) => {
-            let answer = node.client_value(*version, config);
-            let request = request(alloc, node, *version, config, value)?;
-            Ok(outcome_of_value(answer, request))
-        }
+        Act::Value(version, config, value) => publishes(alloc, node, *version, config, value),
         Act::Publish(request) => {
             let state = ready(alloc, &request.state)?;
             Ok(outcome_of(node.publish_request(request.source, state)))
@@ -452,20 +440,45 @@ fn both_configurations_have_a_quorum(rt: HostRuntime) -> Result<(), Fail> {
     plays(rt.alloc(), "a", &A_WINS, &ROWS)
 }
 
+const NO_LIST: &[Row] = &[];
+
+const BEFORE: &[Row] = &[
+    (Step::Boot("_"), "Initial(EmptyConfig)"),
+    (Step::Join("b", 0, 0, 0), "Join(NotStarted)"),
+    (Step::Start(0), "Start(TermNotGreater(0, 0))"),
+    (
+        Step::Start(4_611_686_018_427_387_905),
+        "Start(TermTooLarge(4611686018427387905))",
+    ),
+    (Step::Start(1), "join a a 1 0/0"),
+    (Step::Join("b", 1, 0, 0), "Join(NoConfig)"),
+];
+
+const OTHER: &[Row] = &[(Step::Join("b", 1, 0, 0), "Join(NotForMe(a))")];
+
+const FRESHER: &[Row] = &[
+    (Step::Boot("a,b,c"), "won=false"),
+    (Step::Start(1), "join a a 1 0/0"),
+    (Step::Join("b", 1, 0, 1), "Join(FresherVersion(0, 1))"),
+];
+
+const TOO_LARGE: &[Row] = &[(
+    Step::Value(4_611_686_018_427_387_905, "a,b,c"),
+    "Value(VersionTooLarge(4611686018427387905))",
+)];
+
+// A node, and the two lists of its steps.
+const REFUSED: [(&str, &[Row], &[Row]); 4] = [
+    ("a", BEFORE, NO_LIST),
+    ("b", &B_JOINS, OTHER),
+    ("a", FRESHER, NO_LIST),
+    ("a", &A_WINS, TOO_LARGE),
+];
+
 #[test]
 fn acts_are_refused_with_these_causes(rt: HostRuntime) -> Result<(), Fail> {
-    let alloc = rt.alloc();
-    const BEFORE: [Row; 2] = [
-        (Step::Join("b", 0, 0, 0), "Join(NotStarted)"),
-        (Step::Start(0), "Start(TermNotGreater(0, 0))"),
-    ];
-    plays(alloc, "a", &BEFORE, &[])?;
-    const OTHER: [Row; 1] = [(Step::Join("b", 1, 0, 0), "Join(NotForMe(a))")];
-    plays(alloc, "b", &B_JOINS, &OTHER)?;
-    const FRESHER: [Row; 3] = [
-        (Step::Boot("a,b,c"), "won=false"),
-        (Step::Start(1), "join a a 1 0/0"),
-        (Step::Join("b", 1, 0, 1), "Join(FresherVersion(0, 1))"),
-    ];
-    plays(alloc, "a", &FRESHER, &[])
+    for (me, first, then) in &REFUSED {
+        plays(rt.alloc(), me, first, then)?;
+    }
+    Ok(())
 }

@@ -21,35 +21,53 @@ fn is(ids: &NodeSet, text: &str) -> bool {
     }
 }
 
-#[test]
-fn a_list_is_a_set_where_its_ids_ascend(rt: HostRuntime) {
-    for (text, wanted) in [
-        ("_", Some(0)),
-        ("a", Some(1)),
-        ("a,b,node-1", Some(3)),
-        ("", None),
-        ("b,a", None),
-        ("a,a", None),
-        ("a,,b", None),
-        ("a,B", None),
-        (FULL, Some(MAX_IDS)),
-    ] {
-        assert!(rt; NodeSet::parse(text).map(|ids| ids.len()) == wanted);
+fn is_count(ids: Option<NodeSet>, wanted: Option<usize>) -> bool {
+    match ids {
+        Some(ids) => Some(ids.len()) == wanted,
+        None => wanted == None,
     }
 }
 
+const LISTS: [(&str, Option<usize>); 9] = [
+    ("_", Some(0)),
+    ("a", Some(1)),
+    ("a,b,node-1", Some(3)),
+    ("", None),
+    ("b,a", None),
+    ("a,a", None),
+    ("a,,b", None),
+    ("a,B", None),
+    (FULL, Some(MAX_IDS)),
+];
+
+#[test]
+fn a_list_is_a_set_where_its_ids_ascend(rt: HostRuntime) {
+    for (text, wanted) in &LISTS {
+        assert!(rt; is_count(NodeSet::parse(text), *wanted));
+    }
+}
+
+// Whether a text is an id, or is none for this reason.
+fn is_id(text: &str, wanted: Option<IdError>) -> bool {
+    match NodeId::parse(text) {
+        Ok(id) => wanted == None && id.as_str() == text,
+        Err(error) => wanted == Some(error),
+    }
+}
+
+const IDS: [(&str, Option<IdError>); 6] = [
+    ("", Some(IdError::Empty)),
+    ("node-1", None),
+    ("a2345678901234567890123456789012", None),
+    ("a23456789012345678901234567890123", Some(IdError::TooLong)),
+    ("a.b", Some(IdError::BadByte(1))),
+    ("Node", Some(IdError::BadByte(0))),
+];
+
 #[test]
 fn an_id_has_1_to_32_letters_digits_and_hyphens(rt: HostRuntime) {
-    for (text, wanted) in [
-        ("", Some(IdError::Empty)),
-        ("node-1", None),
-        ("a2345678901234567890123456789012", None),
-        ("a23456789012345678901234567890123", Some(IdError::TooLong)),
-        ("a.b", Some(IdError::BadByte(1))),
-        ("Node", Some(IdError::BadByte(0))),
-    ] {
-        assert!(rt; NodeId::parse(text).err() == wanted);
-        assert!(rt; wanted.is_some() || id(text).as_str() == text);
+    for (text, wanted) in &IDS {
+        assert!(rt; is_id(text, *wanted));
     }
     assert!(rt; id("b") > id("a") && id("b") > id("aa"));
 }
@@ -97,38 +115,44 @@ fn wrong_row(rows: &[Row]) -> Option<usize> {
     rows.iter().position(|row| !holds(row))
 }
 
+const FULL_SETS: [Row; 7] = [
+    ("a,b,c", Act::Insert("b"), Some(false), "a,b,c"),
+    ("a,c", Act::Insert("b"), Some(true), "a,b,c"),
+    ("a,b,c", Act::Remove("b"), Some(true), "a,c"),
+    ("a,c", Act::Remove("b"), Some(false), "a,c"),
+    (ALL_BUT_Z, Act::Insert("z"), Some(true), FULL),
+    (FULL, Act::Insert("6"), None, FULL),
+    (FULL, Act::Insert("5"), Some(false), FULL),
+];
+
 #[test]
 fn a_33rd_id_is_refused(rt: HostRuntime) {
-    let wrong = wrong_row(&[
-        ("a,b,c", Act::Insert("b"), Some(false), "a,b,c"),
-        ("a,c", Act::Insert("b"), Some(true), "a,b,c"),
-        ("a,b,c", Act::Remove("b"), Some(true), "a,c"),
-        ("a,c", Act::Remove("b"), Some(false), "a,c"),
-        (ALL_BUT_Z, Act::Insert("z"), Some(true), FULL),
-        (FULL, Act::Insert("6"), None, FULL),
-        (FULL, Act::Insert("5"), Some(false), FULL),
-    ]);
+    let wrong = wrong_row(&FULL_SETS);
     assert!(rt; wrong == None, "row {wrong:?}");
     assert!(rt; set(FULL).copy().contains(id("5")) && !set(FULL).contains(id("6")));
 }
 
+const PUTS: [Row; 4] = [
+    ("b,c", Act::PutIfRoom("a"), None, "a,b,c"),
+    ("a,b,c", Act::PutIfRoom("b"), None, "a,b,c"),
+    (FULL, Act::PutIfRoom("6"), None, FULL),
+    ("b,c", Act::Put("a"), None, "a,b,c"),
+];
+
 #[test]
 fn an_id_is_put_in_if_there_is_room(rt: HostRuntime) {
-    let wrong = wrong_row(&[
-        ("b,c", Act::PutIfRoom("a"), None, "a,b,c"),
-        ("a,b,c", Act::PutIfRoom("b"), None, "a,b,c"),
-        (FULL, Act::PutIfRoom("6"), None, FULL),
-        ("b,c", Act::Put("a"), None, "a,b,c"),
-    ]);
+    let wrong = wrong_row(&PUTS);
     assert!(rt; wrong == None, "row {wrong:?}");
 }
 
+const FILLS: [Row; 2] = [
+    ("b,c", Act::CopyFrom("a,d,e"), None, "a,d,e"),
+    ("a,d,e", Act::Clear, None, "_"),
+];
+
 #[test]
 fn a_set_is_filled_in_its_place(rt: HostRuntime) {
-    let wrong = wrong_row(&[
-        ("b,c", Act::CopyFrom("a,d,e"), None, "a,d,e"),
-        ("a,d,e", Act::Clear, None, "_"),
-    ]);
+    let wrong = wrong_row(&FILLS);
     assert!(rt; wrong == None, "row {wrong:?}");
     let mut config = VotingConfig::of(&set("b,c"));
     config.copy_from(&set("a,d,e"));
@@ -173,23 +197,25 @@ fn is_so(ids: &NodeSet, others: &NodeSet, question: Question) -> bool {
     }
 }
 
+const QUESTIONS: [(&str, &str, Question, bool); 12] = [
+    ("a,b,c", "b,d", Question::IsWithin("b"), true),
+    ("a,b,c", "b,d", Question::IsWithout("a,c"), true),
+    ("a,b,c", "b,d", Question::IsUnion("a,b,c,d"), true),
+    ("a,c", "c,d", Question::Counts(3), true),
+    ("a,b,c", "b,d", Question::Counts(4), true),
+    ("a,b,c", "b,d", Question::Meets, true),
+    ("a,b,c", "d", Question::Meets, false),
+    ("a,b,c", "a,c", Question::HasAll, true),
+    ("a,b,c", "b,d", Question::HasAll, false),
+    (FULL, "5", Question::HasAll, true),
+    (FULL, "5", Question::HasRoom, true),
+    (FULL, "6", Question::HasRoom, false),
+];
+
 #[test]
 fn sets_are_put_together_and_apart(rt: HostRuntime) {
-    for (ids, others, question, wanted) in [
-        ("a,b,c", "b,d", Question::IsWithin("b"), true),
-        ("a,b,c", "b,d", Question::IsWithout("a,c"), true),
-        ("a,b,c", "b,d", Question::IsUnion("a,b,c,d"), true),
-        ("a,c", "c,d", Question::Counts(3), true),
-        ("a,b,c", "b,d", Question::Counts(4), true),
-        ("a,b,c", "b,d", Question::Meets, true),
-        ("a,b,c", "d", Question::Meets, false),
-        ("a,b,c", "a,c", Question::HasAll, true),
-        ("a,b,c", "b,d", Question::HasAll, false),
-        (FULL, "5", Question::HasAll, true),
-        (FULL, "5", Question::HasRoom, true),
-        (FULL, "6", Question::HasRoom, false),
-    ] {
-        assert!(rt; is_so(&set(ids), &set(others), question) == wanted);
+    for (ids, others, question, wanted) in &QUESTIONS {
+        assert!(rt; is_so(&set(ids), &set(others), *question) == *wanted);
     }
 }
 
@@ -201,19 +227,24 @@ fn a_set_is_made_of_ids_in_any_order(rt: HostRuntime) {
     assert!(rt; is(&NodeSet::of(&[]), "_") && is(&made.copy(), "a,b,c"));
 }
 
+fn is_quorum(config: &str, votes: &str) -> bool {
+    VotingConfig::of(&set(config)).is_quorum(&set(votes))
+}
+
+const QUORUMS: [(&str, &str, bool); 7] = [
+    ("_", "a", false),
+    ("a", "a", true),
+    ("a,b,c", "a,b", true),
+    ("a,b,c,d", "a,b", false),
+    ("a,b,c,d", "a,b,c", true),
+    ("a,b,c", "a,x,y,z", false),
+    ("a,b,c", "a,b,x,y", true),
+];
+
 #[test]
 fn a_quorum_is_more_than_half(rt: HostRuntime) {
-    for (config, votes, wanted) in [
-        ("_", "a", false),
-        ("a", "a", true),
-        ("a,b,c", "a,b", true),
-        ("a,b,c,d", "a,b", false),
-        ("a,b,c,d", "a,b,c", true),
-        ("a,b,c", "a,x,y,z", false),
-        ("a,b,c", "a,b,x,y", true),
-    ] {
-        let config = VotingConfig::of(&set(config));
-        assert!(rt; config.is_quorum(&set(votes)) == wanted);
+    for (config, votes, wanted) in &QUORUMS {
+        assert!(rt; is_quorum(config, votes) == *wanted);
     }
     let config = VotingConfig::of(&set("a,b"));
     assert!(rt; config.is_same(&VotingConfig::of(config.members())) && !config.is_empty());
