@@ -1,20 +1,22 @@
 //! What a stop leaves on both sides of a node's disk.
+ghost use Rattle.std.specs.Prelude.{◌≡◌};
+ghost use Rattle.zen_disk.specs.MemDisks.{read_of};
+ghost use Rattle.replay_node.specs.NodeDisk.{bytes_read, no_files};
+
 use replay_node::disk::{crashed, empty_disk, restarted};
 use std::alloc::Global;
-use std::process::Abort;
-use std::test::Fail;
-use zen_disk::{Armable, Armed, Disks, Fuse, MemDisks, Order, Side, Way};
+use zen_disk::{Armable, Armed, Disks, Failed, Fuse, MemDisks, Order, Side, Way};
 
-// A disk with stable bytes on each side, and bytes after them that are not.
-fn half_synced(alloc: Global) -> Result<Fuse<MemDisks>, Fail> {
-    let mut fuse = empty_disk(alloc);
+// Writes bytes on each side of an empty disk that are stable, and then bytes that are not.
+fn half_sync(fuse: &mut Fuse<MemDisks>) -> Result<(), Failed>
+    requires { read_of fuse.old.disk ≡ bytes_read no_files }
+{
     fuse.write_at(Side::Zero, 0, b"ab")?;
     fuse.sync(Side::Zero)?;
     fuse.write_at(Side::One, 0, b"xyz")?;
     fuse.sync(Side::One)?;
     fuse.write_at(Side::Zero, 2, b"cd")?;
-    fuse.write_at(Side::One, 1, b"w")?;
-    Ok(fuse)
+    fuse.write_at(Side::One, 1, b"w")
 }
 
 fn holds(fuse: &mut Fuse<MemDisks>, side: Side, bytes: &[u8]) -> bool {
@@ -32,38 +34,49 @@ fn both_hold(fuse: Fuse<MemDisks>, zero: &[u8], one: &[u8]) -> bool {
     holds(&mut fuse, Side::Zero, zero) && holds(&mut fuse, Side::One, one)
 }
 
-// A disk that was stopped between two calls.
-fn stopped_between(alloc: Global, way: Way) -> Result<Fuse<MemDisks>, Fail> {
-    Ok(crashed(half_synced(alloc)?, way))
+// How a disk is stopped, and what both sides then hold.
+type Row = (Way, &'static [u8], &'static [u8]);
+
+// A disk that is stopped between two calls.
+fn stopped_between(alloc: Global, way: Way) -> Fuse<MemDisks> {
+    let mut fuse = empty_disk(alloc);
+    let _ = half_sync(&mut fuse);
+    crashed(fuse, way)
 }
 
-// A disk that was stopped in a call, and still has to fail in the sixth one to come.
-fn stopped_inside(rt: &impl Abort, alloc: Global, way: Way) -> Result<Fuse<MemDisks>, Fail> {
-    let mut fuse = half_synced(alloc)?;
+// A disk that is stopped in a call, and is still to fail in the seventh call from then on.
+fn stopped_inside(alloc: Global, way: Way) -> Fuse<MemDisks> {
+    let mut fuse = empty_disk(alloc);
+    let _ = half_sync(&mut fuse);
     fuse.arm(Order::Stop(1, way));
     fuse.arm(Order::Fault(7));
-    assert!(rt; fuse.sync(Side::One).is_err());
-    let fuse = restarted(fuse);
-    let to_come = Armed {
-        stop: None,
-        fault: Some(6),
-    };
-    assert!(rt; fuse.armed() == to_come);
-    Ok(fuse)
+    let _ = fuse.sync(Side::One);
+    restarted(fuse)
 }
 
+const TO_COME: Armed = Armed {
+    stop: None,
+    fault: Some(6),
+};
+
+// Whether both disks that are stopped in a way hold that, and the one that is stopped in a call is still to fail.
+fn are_restarted(alloc: Global, row: &Row) -> bool {
+    let (way, zero, one) = *row;
+    let inside = stopped_inside(alloc, way);
+    inside.armed() == TO_COME
+        && both_hold(inside, zero, one)
+        && both_hold(stopped_between(alloc, way), zero, one)
+}
+
+const STOPS: [Row; 3] = [
+    (Way::Lost, b"ab", b"xyz"),
+    (Way::Kept, b"abcd", b"xwz"),
+    (Way::Torn(b'q'), b"abqq", b"xqz"),
+];
+
 #[test]
-fn a_restarted_disk_holds_what_the_stop_left_on_both_sides(rt: HostRuntime) -> Result<(), Fail> {
-    let table = [
-        (Way::Lost, b"ab".as_slice(), b"xyz".as_slice()),
-        (Way::Kept, b"abcd".as_slice(), b"xwz".as_slice()),
-        (Way::Torn(b'q'), b"abqq".as_slice(), b"xqz".as_slice()),
-    ];
-    for (way, zero, one) in table {
-        let between = stopped_between(rt.alloc(), way)?;
-        assert!(rt; both_hold(between, zero, one));
-        let inside = stopped_inside(&rt, rt.alloc(), way)?;
-        assert!(rt; both_hold(inside, zero, one));
+fn a_restarted_disk_holds_what_the_stop_left_on_both_sides(rt: HostRuntime) {
+    for row in &STOPS {
+        assert!(rt; are_restarted(rt.alloc(), row));
     }
-    Ok(())
 }

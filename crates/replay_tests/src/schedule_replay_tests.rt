@@ -1,6 +1,6 @@
 //! A schedule of whole nodes with its trace, and generated schedules with their summaries.
 use schedule_replay::{generate, replay, write_trace};
-use schedule_text::{Level, Text, read_schedule};
+use schedule_text::{Level, Schedule, Text, read_schedule};
 use std::alloc::{AllocError, Global};
 use std::test::*;
 use trace_summary::{Summary, Tally, write_summary};
@@ -72,29 +72,34 @@ const TRACE: &str = "> tick a 0 7\n\
     > client b x\n\
     reply b {\"error\":\"not_json\"}\n";
 
-// Whether the schedule's trace is this one, replayed with a summary and without.
-fn replays(alloc: Global) -> Result<bool, AllocError> {
-    let Ok(schedule) = read_schedule(alloc, SCHEDULE.as_bytes(), Level::Node) else {
-        return Ok(false);
-    };
+// Whether this is the trace of a schedule that is replayed with a summary.
+fn is_summed_up(alloc: Global, schedule: &Schedule, trace: &[u8]) -> bool {
     let mut sink = MemSink::new(alloc, 100, Vec::new(alloc));
-    let mut second = MemSink::new(alloc, 100, Vec::new(alloc));
-    let Ok(summary) = replay(alloc, &schedule, Level::Node, &mut sink) else {
-        return Ok(false);
-    };
-    Ok(
-        summary.trace_bytes == TRACE.len() as u64
-            && write_trace(alloc, &schedule, Level::Node, &mut second).is_ok()
-            && sink.as_bytes() == TRACE.as_bytes()
-            && second.as_bytes() == TRACE.as_bytes(),
-    )
+    match replay(alloc, schedule, Level::Node, &mut sink) {
+        Ok(summary) => { summary.trace_bytes == trace.len() as u64 && *sink.as_bytes() == *trace }
+        Err(_) => false,
+    }
+}
+
+fn is_written(alloc: Global, schedule: &Schedule, trace: &[u8]) -> bool {
+    let mut sink = MemSink::new(alloc, 100, Vec::new(alloc));
+    write_trace(alloc, schedule, Level::Node, &mut sink).is_ok() && *sink.as_bytes() == *trace
+}
+
+// Whether this is the trace of a schedule that is replayed with a summary and without.
+fn replays(alloc: Global, schedule: &str, trace: &str) -> bool {
+    match read_schedule(alloc, schedule.as_bytes(), Level::Node) {
+        Ok(schedule) => {
+            is_summed_up(alloc, &schedule, trace.as_bytes())
+                && is_written(alloc, &schedule, trace.as_bytes())
+        }
+        Err(_) => false,
+    }
 }
 
 #[test]
-fn whole_nodes_have_this_trace(rt: HostRuntime) -> Result<(), Fail> {
-    let replays = replays(rt.alloc())?;
-    assert!(rt; replays);
-    Ok(())
+fn whole_nodes_have_this_trace(rt: HostRuntime) {
+    assert!(rt; replays(rt.alloc(), SCHEDULE, TRACE));
 }
 
 const THREE_BOOTS: &str = "steps=3\n\
@@ -112,15 +117,23 @@ fn is_shown(alloc: Global, summary: &Summary, lines: &str) -> Result<bool, Alloc
     Ok(text.as_bytes() == lines.as_bytes())
 }
 
+// Whether the schedules of no step, one and three come to these summaries.
+fn are_summed_up(alloc: Global) -> Result<bool, AllocError> {
+    let nothing = generate(alloc, 7, 0)?;
+    let one = generate(alloc, 7, 1)?;
+    let three = generate(alloc, 7, 3)?;
+    Ok(
+        nothing == Tally::new().finish()
+            && one.counts.acts == 1
+            && one.trace_bytes == 29
+            && is_shown(alloc, &three, THREE_BOOTS)?,
+    )
+}
+
 #[test]
 fn generated_schedules_come_to_these_summaries(rt: HostRuntime) -> Result<(), Fail> {
-    let nothing = generate(rt.alloc(), 7, 0)?;
-    let one = generate(rt.alloc(), 7, 1)?;
-    let three = generate(rt.alloc(), 7, 3)?;
-    let is_shown = is_shown(rt.alloc(), &three, THREE_BOOTS)?;
-    assert!(rt; is_shown);
-    assert!(rt; nothing == Tally::new().finish());
-    assert!(rt; one.counts.acts == 1 && one.trace_bytes == 29);
+    let are_summed_up = are_summed_up(rt.alloc())?;
+    assert!(rt; are_summed_up);
     Ok(())
 }
 

@@ -1,6 +1,7 @@
 //! Recorded traces and the verdicts on them.
 use schedule_text::{ReadError, Text};
-use std::alloc::Global;
+use std::alloc::{AllocError, Global};
+use std::process::Abort;
 use std::test::Fail;
 use trace_audit::{audit, write_bad_trace, write_verdict};
 
@@ -202,44 +203,50 @@ const CLAUSES: [(&str, &str); 24] = [
     ),
 ];
 
-#[test]
-fn an_election_is_legal(rt: HostRuntime) -> Result<(), Fail> {
-    for (trace, line) in [
-        (ELECTION, "legal=8\nwinners=1\ncommitted=0\nwon a 1\n"),
-        (UNSENT, "zen: line 20: Unsent\n"),
-    ] {
-        let verdict = verdict(rt.alloc(), trace)?;
-        assert_eq!(rt; verdict.as_bytes(), line.as_bytes());
+// Whether this is the verdict on a trace.
+fn is_judged(alloc: Global, trace: &str, line: &str) -> Result<bool, Fail> {
+    let verdict = verdict(alloc, trace)?;
+    Ok(verdict.as_bytes() == line.as_bytes())
+}
+
+fn judges_all(rt: &impl Abort, alloc: Global, rows: &[(&str, &str)]) -> Result<(), Fail> {
+    for (trace, line) in rows {
+        let is_judged = is_judged(alloc, trace, line)?;
+        assert!(rt; is_judged, "{trace}");
     }
     Ok(())
+}
+
+const ELECTIONS: [(&str, &str); 2] = [
+    (ELECTION, "legal=8\nwinners=1\ncommitted=0\nwon a 1\n"),
+    (UNSENT, "zen: line 20: Unsent\n"),
+];
+
+#[test]
+fn an_election_is_legal(rt: HostRuntime) -> Result<(), Fail> {
+    judges_all(&rt, rt.alloc(), &ELECTIONS)
 }
 
 #[test]
 fn bad_texts_are_refused_by_their_first_bad_line(rt: HostRuntime) -> Result<(), Fail> {
-    for (text, line) in BAD {
-        let verdict = verdict(rt.alloc(), text)?;
-        assert_eq!(rt; verdict.as_bytes(), line.as_bytes(), "of {text}");
-    }
-    Ok(())
+    judges_all(&rt, rt.alloc(), &BAD)
 }
 
-// What stands after the election, judged with it.
-fn verdict_after(alloc: Global, more: &str) -> Result<Text, Fail> {
+// Whether this is the verdict on the election and what stands after it.
+fn is_judged_after(alloc: Global, more: &str, line: &str) -> Result<bool, Fail> {
     let mut text = String::from_str(alloc, ELECTION)?;
     text.push_str(more)?;
-    verdict(alloc, text.as_str())
+    is_judged(alloc, text.as_str(), line)
 }
 
 #[test]
 fn the_first_clause_that_breaks_is_named(rt: HostRuntime) -> Result<(), Fail> {
-    for (more, line) in CLAUSES {
-        let verdict = verdict_after(rt.alloc(), more)?;
-        assert_eq!(rt; verdict.as_bytes(), line.as_bytes(), "of {more}");
+    for (more, line) in &CLAUSES {
+        let is_judged = is_judged_after(rt.alloc(), more, line)?;
+        assert!(rt; is_judged, "{more}");
     }
     Ok(())
 }
-
-const VALUE: &str = "{\"exclusions\":[],\"master\":null,\"members\":[],\"settings\":{\"v\":\"x\"}}";
 
 // The state that is published, in two spellings, one with another value, and one with another parent; and the verdict on what comes of it.
 const STATES: [(&str, &str); 4] = [
@@ -261,24 +268,41 @@ const STATES: [(&str, &str); 4] = [
     ),
 ];
 
+// A publication, up to each place where its state stands.
+const PUBLICATION: [&str; 2] = [
+    "> value a 1 x a,b,c\n\
+    act a ok value 1 a,b,c {\"exclusions\":[],\"master\":null,\"members\":[],\"settings\":{\"v\":\"x\"}}\n\
+    m4 a->* publish\n\
+    > deliver a 4\nact a ok publish a ",
+    "\nm5 a->a response 1/1\n> deliver b 4\nact b ok publish a ",
+];
+
+const COMMIT: &str = "\nm6 b->a response 1/1\n\
+    > deliver a 5\nact a ok response a a 1/1\n\
+    > deliver a 6\nact a ok response b a 1/1\ncommitted x\nm7 a->* commit 1/1\n\
+    > deliver c 7\nact c refused:AcceptedTermMismatch(0,1) commit a 1/1\n";
+
 // A publication after the election, and all that comes of it.
-fn published(alloc: Global, state: &str) -> Result<String, Fail> {
-    Ok(format!(in alloc;
-        "> value a 1 x a,b,c\nact a ok value 1 a,b,c {VALUE}\nm4 a->* publish\n\
-        > deliver a 4\nact a ok publish a {state}\nm5 a->a response 1/1\n\
-        > deliver b 4\nact b ok publish a {state}\nm6 b->a response 1/1\n\
-        > deliver a 5\nact a ok response a a 1/1\n\
-        > deliver a 6\nact a ok response b a 1/1\ncommitted x\nm7 a->* commit 1/1\n\
-        > deliver c 7\nact c refused:AcceptedTermMismatch(0,1) commit a 1/1\n"
-    )?)
+fn published(alloc: Global, state: &str) -> Result<String, AllocError> {
+    let mut text = String::new(alloc);
+    for part in &PUBLICATION {
+        text.push_str(part)?;
+        text.push_str(state)?;
+    }
+    text.push_str(COMMIT)?;
+    Ok(text)
+}
+
+fn is_taken(alloc: Global, state: &str, line: &str) -> Result<bool, Fail> {
+    let more = published(alloc, state)?;
+    is_judged_after(alloc, more.as_str(), line)
 }
 
 #[test]
 fn a_state_that_is_taken_is_the_one_that_was_published(rt: HostRuntime) -> Result<(), Fail> {
-    for (state, line) in STATES {
-        let more = published(rt.alloc(), state)?;
-        let verdict = verdict_after(rt.alloc(), more.as_str())?;
-        assert_eq!(rt; verdict.as_bytes(), line.as_bytes(), "of {state}");
+    for (state, line) in &STATES {
+        let is_taken = is_taken(rt.alloc(), state, line)?;
+        assert!(rt; is_taken, "{state}");
     }
     Ok(())
 }

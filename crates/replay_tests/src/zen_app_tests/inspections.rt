@@ -1,5 +1,5 @@
 //! Runs of `inspect` over disks in memory: what is shown of a journal, and how an inspection ends without one.
-use super::runs::{Case, INSPECT, Row, Written, all_end, ends, host_after};
+use super::runs::{Call, Case, Fault, INSPECT, Written, all_end_by, ends, host_after};
 use std::alloc::{AllocError, Global};
 use std::test::Fail;
 use zen_app::Status;
@@ -41,6 +41,9 @@ const CUT: &[u8] = b"ZENJRNL1\x01\0\0\0\xff\0";
 const EMPTY_SHOWN: &[u8] =
     b"term=0\naccepted=0/0\nconfig=_\ncommitted=_\nrecords=0\nsha256=9d908ecfb6b256de";
 
+const COMMIT_SHOWN: &[u8] =
+    b"term=0\naccepted=0/0\nconfig=_\ncommitted=_\nrecords=1\nsha256=9d908ecfb6b256de";
+
 const TERM_ONE_SHOWN: &[u8] =
     b"term=1\naccepted=0/0\nconfig=_\ncommitted=_\nrecords=1\nsha256=9d908ecfb6b256de";
 
@@ -48,9 +51,11 @@ const RENEWED_SHOWN: &[u8] =
     b"term=4682\naccepted=0/0\nconfig=_\ncommitted=_\nrecords=1\nsha256=9d908ecfb6b256de";
 
 // Two files that are a journal, and what is shown of it first.
-const SHOWN: [(&[u8], &[u8], &[u8]); 11] = [
+const SHOWN: [(&[u8], &[u8], &[u8]); 13] = [
     (b"", b"", EMPTY_SHOWN),
     (b"ABCDEFGHI", b"", EMPTY_SHOWN),
+    (b"ZENJRNL1\x02\0\0\0\x01\x05", b"", EMPTY_SHOWN),
+    (b"ZENJRNL1\x01\0\0\0\x01\x03\0", b"", COMMIT_SHOWN),
     (TERM_ONE, b"", TERM_ONE_SHOWN),
     (OLD_TERM_ONE, b"", TERM_ONE_SHOWN),
     (
@@ -70,19 +75,35 @@ const SHOWN: [(&[u8], &[u8], &[u8]); 11] = [
     (OLD_RENEWED, b"", RENEWED_SHOWN),
 ];
 
+// Whether an inspection of these files ends so, and writes this first or alone.
+fn inspects<'a>(
+    alloc: Global,
+    file: &'a [u8],
+    other_file: &'a [u8],
+    status: Status,
+    lines: &[u8],
+) -> Result<bool, AllocError> {
+    let case = Case {
+        file,
+        other_file,
+        ..INSPECT
+    };
+    ends(alloc, &case, status, Written::after(status, lines), 1)
+}
+
+fn inspect_each(alloc: Global, rows: &[(&[u8], &[u8], &[u8])], status: Status) -> Result<(), Fail> {
+    for (place, (file, other_file, lines)) in rows.iter().enumerate() {
+        if !inspects(alloc, file, other_file, status, lines)? {
+            return Err(Fail::new(format_args!("row {place}")));
+        }
+    }
+    Ok(())
+}
+
 // Also that of two generations the newer one is shown.
 #[test]
 fn the_journal_in_a_folder_is_shown(rt: HostRuntime) -> Result<(), Fail> {
-    for (place, (file, other_file, lines)) in SHOWN.iter().enumerate() {
-        let case = Case {
-            file,
-            other_file,
-            ..INSPECT
-        };
-        let is_shown = ends(rt.alloc(), &case, Status::Ok, Written::Begins(lines), 1)?;
-        assert!(rt; is_shown, "row {place}");
-    }
-    Ok(())
+    inspect_each(rt.alloc(), &SHOWN, Status::Ok)
 }
 
 // Whether a side has the nine bytes of a journal with no record.
@@ -108,9 +129,25 @@ fn an_empty_folder_gets_an_empty_journal(rt: HostRuntime) -> Result<(), Fail> {
 }
 
 // Two files that are no journal, and what is written of their first fault.
-const OTHER_FILES: [(&[u8], &[u8], &[u8]); 16] = [
+const OTHER_FILES: [(&[u8], &[u8], &[u8]); 20] = [
     (b"ABCDEFGHIJ", b"", b"zen: not a journal: Header\n"),
     (CUT, b"", b"zen: not a journal: Cut(8)\n"),
+    (b"ZENJRNL1\x01\0\0\0", b"", b"zen: not a journal: Cut(8)\n"),
+    (
+        b"ZENJRNL1\x01\0\x80\0\x01",
+        b"",
+        b"zen: not a journal: Long(8)\n",
+    ),
+    (
+        b"ZENJRNL1\x01\0\0\0\x02\x01\0\0",
+        b"",
+        b"zen: not a journal: Body(8,Short)\n",
+    ),
+    (
+        b"ZENJRNL1\x01\0\0\0\x02\x03\0\0",
+        b"",
+        b"zen: not a journal: Body(8,Trailing)\n",
+    ),
     (
         b"ZENJRNL1\x01\0\x80\0\x01\0",
         b"",
@@ -147,22 +184,7 @@ const OTHER_FILES: [(&[u8], &[u8], &[u8]); 16] = [
 fn files_that_are_no_journal_are_refused_for_their_first_fault(
     rt: HostRuntime,
 ) -> Result<(), Fail> {
-    for (place, (file, other_file, line)) in OTHER_FILES.iter().enumerate() {
-        let case = Case {
-            file,
-            other_file,
-            ..INSPECT
-        };
-        let is_refused = ends(
-            rt.alloc(),
-            &case,
-            Status::NotAJournal,
-            Written::Whole(line),
-            1,
-        )?;
-        assert!(rt; is_refused, "row {place}");
-    }
-    Ok(())
+    inspect_each(rt.alloc(), &OTHER_FILES, Status::NotAJournal)
 }
 
 // Whether an inspection of this file whose device calls of these numbers fail ends with that.
@@ -187,64 +209,16 @@ fn a_fault_of_the_disk_ends_an_inspection(rt: HostRuntime) -> Result<(), Fail> {
     Ok(())
 }
 
-const FAULTS: [Row<'static>; 5] = [
-    (
-        "no call of the disk after the eight that open two empty files",
-        Case {
-            device_calls: &[9],
-            ..INSPECT
-        },
-        Status::Ok,
-        Written::Begins(b"term=0\n"),
-        1,
-    ),
-    (
-        "no call of the disk after the seven that open one journal",
-        Case {
-            file: TERM_ONE,
-            device_calls: &[8],
-            ..INSPECT
-        },
-        Status::Ok,
-        Written::Begins(b"term=1\n"),
-        1,
-    ),
-    (
-        "the host",
-        Case {
-            file: TERM_ONE,
-            openings: &[1],
-            ..INSPECT
-        },
-        Status::HostFault,
-        Written::Whole(b""),
-        1,
-    ),
-    (
-        "the output, which shows a journal",
-        Case {
-            file: TERM_ONE,
-            writes: &[1],
-            ..INSPECT
-        },
-        Status::WriteFault,
-        Written::Whole(b""),
-        1,
-    ),
-    (
-        "the output, which refuses a file",
-        Case {
-            file: b"ABCDEFGHIJ",
-            writes: &[1],
-            ..INSPECT
-        },
-        Status::WriteFault,
-        Written::Whole(b""),
-        1,
-    ),
+// The first two rows: no call of the disk comes after the eight that open two empty files, or the seven that open one journal.
+const FAULTS: [Fault; 5] = [
+    (b"", Call::Device, &[9], Status::Ok, b"term=0\n"),
+    (TERM_ONE, Call::Device, &[8], Status::Ok, b"term=1\n"),
+    (TERM_ONE, Call::Opening, &[1], Status::HostFault, b""),
+    (TERM_ONE, Call::Write, &[1], Status::WriteFault, b""),
+    (b"ABCDEFGHIJ", Call::Write, &[1], Status::WriteFault, b""),
 ];
 
 #[test]
 fn a_fault_of_the_host_or_the_output_ends_an_inspection(rt: HostRuntime) -> Result<(), Fail> {
-    all_end(&rt, rt.alloc(), &FAULTS)
+    all_end_by(&rt, rt.alloc(), INSPECT.words, &FAULTS, 1)
 }

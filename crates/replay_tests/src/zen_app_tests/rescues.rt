@@ -1,5 +1,5 @@
 //! Schedules that are gone on with, and those that can't be.
-use super::runs::{Case, REPLAY, Row, Written, all_end, ends, host, ran, replays, sink};
+use super::runs::{Call, Case, Fault, REPLAY, Written, all_end_by, ends, host, ran, replays, sink};
 use schedule_generator::Generator;
 use schedule_text::{Level, Text};
 use std::alloc::{AllocError, Global};
@@ -10,16 +10,6 @@ use zen_link::MemSink;
 const UP_A: &[&str] = &["rescue", "--up", "a"];
 
 const UP_A_AND_B: &[&str] = &["rescue", "--up", "a,b"];
-
-const A: Case<'static> = Case {
-    words: UP_A,
-    ..REPLAY
-};
-
-const A_AND_B: Case<'static> = Case {
-    words: UP_A_AND_B,
-    ..REPLAY
-};
 
 // Of three nodes a has won term 1.
 const ELECTED: &[u8] = b"nodes a,b,c\n\
@@ -209,38 +199,16 @@ fn a_schedule_is_gone_on_with_or_it_is_said_why_not(rt: HostRuntime) -> Result<(
     Ok(())
 }
 
-// What fails, and what is written of this.
-const FAULTS: [Row<'static>; 3] = [
-    (
-        "the first read",
-        Case { reads: &[1], ..A },
-        Status::ReadFault,
-        Written::Whole(b""),
-        0,
-    ),
-    (
-        "the first write of a plan",
-        Case {
-            input: ELECTED,
-            writes: &[1],
-            ..A_AND_B
-        },
-        Status::WriteFault,
-        Written::PartOf(GOES_ON),
-        0,
-    ),
-    (
-        "the first write of a refusal",
-        Case { writes: &[1], ..A },
-        Status::WriteFault,
-        Written::PartOf(b"zen: no rescue: NotUp(a)\n"),
-        0,
-    ),
+// The last two: the first write of a plan, and that of a refusal.
+const FAULTS: [Fault; 3] = [
+    (ELECTED, Call::Read, &[1], Status::ReadFault, b""),
+    (ELECTED, Call::Write, &[1], Status::WriteFault, b""),
+    (b"", Call::Write, &[1], Status::WriteFault, b""),
 ];
 
 #[test]
 fn a_rescue_ends_at_a_fault(rt: HostRuntime) -> Result<(), Fail> {
-    all_end(&rt, rt.alloc(), &FAULTS)
+    all_end_by(&rt, rt.alloc(), UP_A_AND_B, &FAULTS, 0)
 }
 
 fn status_of(alloc: Global, case: &Case<'_>, sink: &mut MemSink) -> Result<Status, AllocError> {
@@ -313,7 +281,8 @@ fn drawn_lines_go_on(alloc: Global) -> Result<bool, AllocError> {
     let text = drawn(alloc, 900)?;
     let case = Case {
         input: text.as_bytes(),
-        ..A_AND_B
+        words: UP_A_AND_B,
+        ..REPLAY
     };
     goes_on(alloc, &case, DRAWN_COMMITS)
 }
@@ -348,7 +317,8 @@ fn a_drawn_schedule_is_gone_on_with_where_a_quorum_is_up(rt: HostRuntime) -> Res
 fn a_schedule_and_its_plan_elect_a_node_and_commit_a_state(rt: HostRuntime) -> Result<(), Fail> {
     let case = Case {
         input: ELECTED,
-        ..A_AND_B
+        words: UP_A_AND_B,
+        ..REPLAY
     };
     let goes_on = goes_on(rt.alloc(), &case, WINS_AND_COMMITS)?;
     assert!(rt; goes_on);

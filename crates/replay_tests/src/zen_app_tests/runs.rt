@@ -58,9 +58,6 @@ pub const INSPECT: Case<'static> = Case {
     ..UNREAD
 };
 
-/// A run's name, the run, its status, what it writes, and how many calls of the host it makes.
-pub type Row<'a> = (&'a str, Case<'a>, Status, Written<'a>, usize);
-
 /// What a run writes.
 #[derive(Clone, Copy)]
 pub enum Written<'a> {
@@ -74,7 +71,15 @@ pub enum Written<'a> {
     PartOf(&'a [u8]),
 }
 
-impl Written<'_> {
+impl<'a> Written<'a> {
+    /// Of a run with status 0 this first, and of any other run this and nothing else.
+    pub fn after(status: Status, text: &'a [u8]) -> Written<'a> {
+        match status {
+            Status::Ok => Written::Begins(text),
+            _ => Written::Whole(text),
+        }
+    }
+
     fn is(self, bytes: &[u8]) -> bool {
         match self {
             Written::Whole(text) => bytes == text,
@@ -175,11 +180,74 @@ pub fn ends(
     Ok(found == status && written.is(sink.as_bytes()) && host.asked().len() == asked)
 }
 
-/// Each run is to end as its row says.
-pub fn all_end(rt: &impl Abort, alloc: Global, rows: &[Row<'_>]) -> Result<(), Fail> {
-    for (name, case, status, written, asked) in rows {
-        let does = ends(alloc, case, *status, *written, *asked)?;
-        assert!(rt; does, "{name}");
+/// A kind of call that may fail.
+#[derive(Clone, Copy)]
+pub enum Call {
+    Read,
+    Write,
+    Opening,
+    Device,
+    Next,
+}
+
+/// What the input holds, and the first file of the journal too, since a run reads one of them at most; the calls that fail, by
+/// their kind and their numbers; the status, and what is written.
+pub type Fault = (&'static [u8], Call, &'static [u64], Status, &'static [u8]);
+
+// The run in which the calls of this kind with these numbers fail.
+fn failing<'a>(case: Case<'a>, call: Call, numbers: &'a [u64]) -> Case<'a> {
+    match call {
+        Call::Read => Case {
+            reads: numbers,
+            ..case
+        },
+        Call::Write => Case {
+            writes: numbers,
+            ..case
+        },
+        Call::Opening => Case {
+            openings: numbers,
+            ..case
+        },
+        Call::Device => Case {
+            device_calls: numbers,
+            ..case
+        },
+        Call::Next => Case {
+            nexts: numbers,
+            ..case
+        },
+    }
+}
+
+fn ends_by(
+    alloc: Global,
+    words: &'static [&'static str],
+    fault: &Fault,
+    asked: usize,
+) -> Result<bool, AllocError> {
+    let (bytes, call, numbers, status, text) = *fault;
+    let case = Case {
+        words,
+        input: bytes,
+        file: bytes,
+        ..REPLAY
+    };
+    let case = failing(case, call, numbers);
+    ends(alloc, &case, status, Written::after(status, text), asked)
+}
+
+/// Each fault is to end the run of these words so, which makes so many calls of the host.
+pub fn all_end_by(
+    rt: &impl Abort,
+    alloc: Global,
+    words: &'static [&'static str],
+    faults: &[Fault],
+    asked: usize,
+) -> Result<(), Fail> {
+    for (place, fault) in faults.iter().enumerate() {
+        let ends = ends_by(alloc, words, fault, asked)?;
+        assert!(rt; ends, "row {place}");
     }
     Ok(())
 }

@@ -1,7 +1,7 @@
 //! Runs of the tools over disks in memory. The journals that they are used on, and the digests that they show, were made apart from
 //! the program.
 use super::inspections::{COMMITTED, TERM_ONE};
-use super::runs::{Case, Row, UNREAD, Written, all_end, ends};
+use super::runs::{Call, Case, Fault, UNREAD, Written, all_end_by, ends};
 use std::alloc::{AllocError, Global};
 use std::test::Fail;
 use zen_app::Status;
@@ -14,7 +14,7 @@ const LAST: &[u8] =
     \x01\x01a\x00\x00\x00\x00\x00\x5e\x1d\xb5\xbfrX\x9b\x34v\x3d\x21N\xe3\xect\x3b\xe1\x28\xd9\xb0q\xf2n\x7em\xbb\
     \xb0\x7b\x35\xcc\xe5\x9f\x00";
 
-const NO_STATE: Written<'static> = Written::Whole(b"zen: refused: NoState\n");
+const NO_STATE: &[u8] = b"zen: refused: NoState\n";
 
 // The node a is to go on alone.
 const GO_ALONE: &[&str] = &["unsafe-bootstrap", "--id", "a", "--dir", "a"];
@@ -22,18 +22,12 @@ const GO_ALONE: &[&str] = &["unsafe-bootstrap", "--id", "a", "--dir", "a"];
 // The node is to leave its cluster.
 const LEAVE: &[&str] = &["detach-cluster", "--dir", "a"];
 
-const ALONE: Case<'static> = Case {
-    words: GO_ALONE,
-    file: COMMITTED,
-    ..UNREAD
-};
-
 // The words, the journal, the status, and what is written.
 type Use = (
     &'static [&'static str],
     &'static [u8],
     Status,
-    Written<'static>,
+    &'static [u8],
 );
 
 const USES: [Use; 6] = [
@@ -41,17 +35,13 @@ const USES: [Use; 6] = [
         GO_ALONE,
         COMMITTED,
         Status::Ok,
-        Written::Begins(
-            b"term=1\naccepted=1/2\nconfig=a\ncommitted=a\nrecords=4\nsha256=853ba6494ff963ea",
-        ),
+        b"term=1\naccepted=1/2\nconfig=a\ncommitted=a\nrecords=4\nsha256=853ba6494ff963ea",
     ),
     (
         LEAVE,
         COMMITTED,
         Status::Ok,
-        Written::Begins(
-            b"term=1\naccepted=0/0\nconfig=_\ncommitted=_\nrecords=4\nsha256=9d908ecfb6b256de",
-        ),
+        b"term=1\naccepted=0/0\nconfig=_\ncommitted=_\nrecords=4\nsha256=9d908ecfb6b256de",
     ),
     // a node of no cluster neither goes on alone nor leaves one
     (GO_ALONE, TERM_ONE, Status::ToolRefused, NO_STATE),
@@ -61,25 +51,25 @@ const USES: [Use; 6] = [
         GO_ALONE,
         LAST,
         Status::ToolRefused,
-        Written::Whole(b"zen: refused: Exhausted(4611686018427387904)\n"),
+        b"zen: refused: Exhausted(4611686018427387904)\n",
     ),
     (
         LEAVE,
         b"ABCDEFGHIJ",
         Status::NotAJournal,
-        Written::Whole(b"zen: not a journal: Header\n"),
+        b"zen: not a journal: Header\n",
     ),
 ];
 
 // Whether a tool that is used so ends so.
 fn is_used(alloc: Global, row: &Use) -> Result<bool, AllocError> {
-    let (words, file, status, written) = *row;
+    let (words, file, status, text) = *row;
     let case = Case {
         words,
         file,
-        ..ALONE
+        ..UNREAD
     };
-    ends(alloc, &case, status, written, 1)
+    ends(alloc, &case, status, Written::after(status, text), 1)
 }
 
 #[test]
@@ -91,50 +81,14 @@ fn a_tool_changes_a_record_or_refuses_it(rt: HostRuntime) -> Result<(), Fail> {
     Ok(())
 }
 
-const FAULTS: [Row<'static>; 4] = [
-    (
-        "a fault of the disk in the first call after the seven that open it",
-        Case {
-            device_calls: &[8],
-            ..ALONE
-        },
-        Status::DiskFault,
-        Written::Whole(b""),
-        1,
-    ),
-    (
-        "a fault of the host",
-        Case {
-            openings: &[1],
-            ..ALONE
-        },
-        Status::HostFault,
-        Written::Whole(b""),
-        1,
-    ),
-    (
-        "a fault of the output",
-        Case {
-            writes: &[1],
-            ..ALONE
-        },
-        Status::WriteFault,
-        Written::Whole(b""),
-        1,
-    ),
-    (
-        "an id that is none",
-        Case {
-            words: &["unsafe-bootstrap", "--id", "A", "--dir", "a"],
-            ..ALONE
-        },
-        Status::Usage,
-        Written::Whole(b"zen: usage\n"),
-        0,
-    ),
+// The first call of the disk after the seven that open it, the host, and the output.
+const FAULTS: [Fault; 3] = [
+    (COMMITTED, Call::Device, &[8], Status::DiskFault, b""),
+    (COMMITTED, Call::Opening, &[1], Status::HostFault, b""),
+    (COMMITTED, Call::Write, &[1], Status::WriteFault, b""),
 ];
 
 #[test]
 fn a_tool_ends_at_a_fault(rt: HostRuntime) -> Result<(), Fail> {
-    all_end(&rt, rt.alloc(), &FAULTS)
+    all_end_by(&rt, rt.alloc(), GO_ALONE, &FAULTS, 1)
 }
