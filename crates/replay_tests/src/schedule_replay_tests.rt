@@ -1,4 +1,8 @@
 //! A schedule of whole nodes with its trace, and generated schedules with their summaries.
+ghost use Rattle.std.specs.List.{AllByRecursion};
+ghost use Rattle.schedule_text.specs.declared.level.Level.TheVariants.{Node};
+ghost use Rattle.schedule_text.specs.Lines.{FitsLine};
+
 use schedule_replay::{generate, replay, write_trace};
 use schedule_text::{Level, Schedule, Text, read_schedule};
 use std::alloc::{AllocError, Global};
@@ -73,7 +77,9 @@ const TRACE: &str = "> tick a 0 7\n\
     reply b {\"error\":\"not_json\"}\n";
 
 // Whether this is the trace of a schedule that is replayed with a summary.
-fn is_summed_up(alloc: Global, schedule: &Schedule, trace: &[u8]) -> bool {
+fn is_summed_up(alloc: Global, schedule: &Schedule, trace: &[u8]) -> bool
+    requires { AllByRecursion (FitsLine Node schedule.now.nodes) schedule.now.lines }
+{
     let mut sink = MemSink::new(alloc, 100, Vec::new(alloc));
     match replay(alloc, schedule, Level::Node, &mut sink) {
         Ok(summary) => { summary.trace_bytes == trace.len() as u64 && *sink.as_bytes() == *trace }
@@ -81,7 +87,9 @@ fn is_summed_up(alloc: Global, schedule: &Schedule, trace: &[u8]) -> bool {
     }
 }
 
-fn is_written(alloc: Global, schedule: &Schedule, trace: &[u8]) -> bool {
+fn is_written(alloc: Global, schedule: &Schedule, trace: &[u8]) -> bool
+    requires { AllByRecursion (FitsLine Node schedule.now.nodes) schedule.now.lines }
+{
     let mut sink = MemSink::new(alloc, 100, Vec::new(alloc));
     write_trace(alloc, schedule, Level::Node, &mut sink).is_ok() && *sink.as_bytes() == *trace
 }

@@ -13,7 +13,7 @@ use passages::{A_WINS_OF_THREE, Passage, THREE, THREE_BOOT, THREE_JOIN};
 use rows::{
     RULES, SAFE_COMMITS, SAFE_JOINS, SAFE_PUBLICATIONS, SAFE_VALUES, STOPS, Traced, WHOLE_NODES,
 };
-use runs::{Case, REPLAY, UNREAD, Written, ends, host, ran, replay_of, replays, sink};
+use runs::{Case, REPLAY, UNREAD, Written, ends, replay_of, replays, written_by};
 use schedule_text::{Level, Schedule, Text, read_schedule, write_schedule};
 use sha2::{Digest, Sha256};
 use std::alloc::{AllocError, Global};
@@ -460,13 +460,23 @@ fn with_many(
     Ok(bytes)
 }
 
+fn is_too_big(
+    alloc: Global,
+    front: &[u8],
+    part: &[u8],
+    count: usize,
+    line: &[u8],
+) -> Result<bool, AllocError> {
+    let schedule = with_many(alloc, front, part, count)?;
+    is_refused(alloc, Level::Core, &schedule, line)
+}
+
 #[test]
 fn a_schedule_of_16_777_217_bytes_is_refused_at_its_first_bad_line(
     rt: HostRuntime,
 ) -> Result<(), Fail> {
     for (front, part, count, line) in &TOO_BIG {
-        let schedule = with_many(rt.alloc(), front, part, *count)?;
-        let is_refused = is_refused(rt.alloc(), Level::Core, &schedule, line)?;
+        let is_refused = is_too_big(rt.alloc(), front, part, *count, line)?;
         assert!(rt; is_refused, "{count}");
     }
     Ok(())
@@ -595,7 +605,7 @@ fn a_fault_of_the_input_or_output_ends_the_run(rt: HostRuntime) -> Result<(), Fa
     Ok(())
 }
 
-// The digest of the trace was worked out apart from the program.
+// The digests of the traces were worked out apart from the program.
 const THREE_STEPS: &[u8] =
     b"steps=3\nacts=3\nrefused=0\nwon=0\ncommitted=0\ncrashes=0\ntrace_bytes=87\n\
     trace_sha256=faa0ec63a416cf1ac6a917e004bd87d720e8b8471f2893e32546ded3eb4b60b9\n";
@@ -704,9 +714,7 @@ fn replays_as_listed(
     digest: &[u8],
 ) -> Result<bool, AllocError> {
     let case = replay_of(Level::Core, schedule);
-    let mut sink = sink(alloc, &case)?;
-    let mut host = host(alloc, &case)?;
-    let status = ran(alloc, &case, &mut sink, &mut host)?;
+    let (status, sink) = written_by(alloc, &case)?;
     let trace = sink.as_bytes();
     Ok(
         status == Status::Ok
@@ -723,15 +731,19 @@ fn is_read_as_written(alloc: Global, text: &Text) -> Result<bool, AllocError> {
     Ok(again.as_bytes() == text.as_bytes())
 }
 
+// Whether the schedule of this seed is drawn, written and replayed as it should be.
+fn is_replayed(alloc: Global, seed: u64, length: usize, digest: &[u8]) -> Result<bool, AllocError> {
+    let drawn = random::schedule(alloc, seed)?;
+    let text = write_schedule(alloc, &drawn)?;
+    let is_drawn = is_drawn(alloc, &drawn, &text)?;
+    Ok(is_drawn && replays_as_listed(alloc, text.as_bytes(), length, digest)?)
+}
+
 #[test]
 fn random_schedules_replay_as_by_the_second_replay(rt: HostRuntime) -> Result<(), Fail> {
     for (seed, length, digest) in &DRAWN {
-        let drawn = random::schedule(rt.alloc(), *seed)?;
-        let text = write_schedule(rt.alloc(), &drawn)?;
-        let is_drawn = is_drawn(rt.alloc(), &drawn, &text)?;
-        assert!(rt; is_drawn, "{seed}");
-        let replays = replays_as_listed(rt.alloc(), text.as_bytes(), *length, digest)?;
-        assert!(rt; replays, "{seed}");
+        let is_replayed = is_replayed(rt.alloc(), *seed, *length, digest)?;
+        assert!(rt; is_replayed, "{seed}");
     }
     Ok(())
 }

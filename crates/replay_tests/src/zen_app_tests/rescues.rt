@@ -1,11 +1,10 @@
 //! Schedules that are gone on with, and those that can't be.
-use super::runs::{Call, Case, Fault, REPLAY, Written, all_end_by, ends, host, ran, replays, sink};
+use super::runs::{Call, Case, Fault, REPLAY, Written, all_end_by, ends, replays, written_by};
 use schedule_generator::Generator;
 use schedule_text::{Level, Text};
 use std::alloc::{AllocError, Global};
 use std::test::Fail;
 use zen_app::Status;
-use zen_link::MemSink;
 
 const UP_A: &[&str] = &["rescue", "--up", "a"];
 
@@ -211,18 +210,6 @@ fn a_rescue_ends_at_a_fault(rt: HostRuntime) -> Result<(), Fail> {
     all_end_by(&rt, rt.alloc(), UP_A_AND_B, &FAULTS, 0)
 }
 
-fn status_of(alloc: Global, case: &Case<'_>, sink: &mut MemSink) -> Result<Status, AllocError> {
-    let mut host = host(alloc, case)?;
-    ran(alloc, case, sink, &mut host)
-}
-
-// How a rescue ends, and what it has written.
-fn rescued(alloc: Global, case: &Case<'_>) -> Result<(Status, MemSink), AllocError> {
-    let mut sink = sink(alloc, case)?;
-    let status = status_of(alloc, case, &mut sink)?;
-    Ok((status, sink))
-}
-
 fn joined(alloc: Global, front: &[u8], rest: &[u8]) -> Result<Vec<u8>, AllocError> {
     let mut whole = Vec::from_slice(alloc, front)?;
     whole.extend_from_slice(rest)?;
@@ -231,7 +218,7 @@ fn joined(alloc: Global, front: &[u8], rest: &[u8]) -> Result<Vec<u8>, AllocErro
 
 // Whether a schedule with the lines by which it goes on has a trace that ends so.
 fn goes_on(alloc: Global, case: &Case<'_>, ending: &[u8]) -> Result<bool, AllocError> {
-    let (status, plan) = rescued(alloc, case)?;
+    let (status, plan) = written_by(alloc, case)?;
     let whole = joined(alloc, case.input, plan.as_bytes())?;
     let goes_on = replays(alloc, Level::Core, &whole, Written::Ends(ending))?;
     Ok(status == Status::Ok && goes_on)

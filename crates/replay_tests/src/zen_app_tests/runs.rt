@@ -133,21 +133,21 @@ fn link(alloc: Global, case: &Case<'_>) -> Result<MemLink<Sealed>, AllocError>
     Ok(MemLink::new(alloc, ticks, Vec::from_slice(alloc, case.nexts)?))
 }
 
-/// The host of this run, which it has not asked yet.
-pub fn host(alloc: Global, case: &Case<'_>) -> Result<RunHost, AllocError> {
+// The host of this run, which it has not asked yet.
+fn host(alloc: Global, case: &Case<'_>) -> Result<RunHost, AllocError> {
     let openings = Vec::from_slice(alloc, case.openings)?;
     let link = link(alloc, case)?;
     Ok(MemHost::with_link(alloc, disk(alloc, case)?, link, openings))
 }
 
-/// The output of this run, with nothing written.
-pub fn sink(alloc: Global, case: &Case<'_>) -> Result<MemSink, AllocError> {
+// The output of this run, with nothing written.
+fn sink(alloc: Global, case: &Case<'_>) -> Result<MemSink, AllocError> {
     let fails = Vec::from_slice(alloc, case.writes)?;
     Ok(MemSink::new(alloc, 100, fails))
 }
 
-/// Runs the program.
-pub fn ran(
+// Runs the program.
+fn ran(
     alloc: Global,
     case: &Case<'_>,
     sink: &mut MemSink,
@@ -158,12 +158,29 @@ pub fn ran(
     Ok(run(alloc, words.as_slice(), &mut source, sink, host))
 }
 
+// How the run ends that writes to this output, and the host as it has left it.
+fn ended(
+    alloc: Global,
+    case: &Case<'_>,
+    sink: &mut MemSink,
+) -> Result<(Status, RunHost), AllocError> {
+    let mut host = host(alloc, case)?;
+    let status = ran(alloc, case, sink, &mut host)?;
+    Ok((status, host))
+}
+
 /// The host as the run has left it.
 pub fn host_after(alloc: Global, case: &Case<'_>) -> Result<RunHost, AllocError> {
     let mut sink = sink(alloc, case)?;
-    let mut host = host(alloc, case)?;
-    let _ = ran(alloc, case, &mut sink, &mut host)?;
+    let (_, host) = ended(alloc, case, &mut sink)?;
     Ok(host)
+}
+
+/// How the run ends, and what it has written.
+pub fn written_by(alloc: Global, case: &Case<'_>) -> Result<(Status, MemSink), AllocError> {
+    let mut sink = sink(alloc, case)?;
+    let (status, _) = ended(alloc, case, &mut sink)?;
+    Ok((status, sink))
 }
 
 /// Whether the run ends so.
@@ -175,8 +192,7 @@ pub fn ends(
     asked: usize,
 ) -> Result<bool, AllocError> {
     let mut sink = sink(alloc, case)?;
-    let mut host = host(alloc, case)?;
-    let found = ran(alloc, case, &mut sink, &mut host)?;
+    let (found, host) = ended(alloc, case, &mut sink)?;
     Ok(found == status && written.is(sink.as_bytes()) && host.asked().len() == asked)
 }
 
