@@ -141,61 +141,55 @@ fn words_are_the_command_that_they_say(rt: HostRuntime) -> Result<(), Fail> {
     Ok(())
 }
 
-// The lines that are a command, one after another.
-fn commands_among(alloc: Global, lines: &[&str]) -> Result<String, Fail> {
-    let mut found = String::new(alloc);
+fn refuse_each(alloc: Global, lines: &[&str]) -> Result<(), Fail> {
     for line in lines {
         if told(alloc, line)?.as_str() != "usage" {
-            found.push_str(line)?;
-            found.push_str("; ")?;
+            return Err(Fail::new(format_args!("{line}")));
         }
     }
-    Ok(found)
+    Ok(())
 }
+
+const OTHER_WORDS: &[&str] = &[
+    "",
+    "replay",
+    "replay --level",
+    "replay --level=",
+    "replay --level none",
+    "replay --level cores",
+    "replay --level core --",
+    "replay -- --level core",
+    "replay --level core --level core",
+    "replay --level=core --level=core",
+    "replay --level core core",
+    "replay -l core",
+    "replay --leve core",
+    "replay --dir core",
+    "--level core replay",
+    "help replay",
+    "replay --help",
+    "replay --version",
+    "inspect",
+    "inspect --dir -",
+    "inspect --dir=-x",
+    "inspect --dir=",
+    "unsafe-bootstrap",
+    "unsafe-bootstrap --dir d",
+    "unsafe-bootstrap --id a",
+    "unsafe-bootstrap --id A --dir d",
+    "unsafe-bootstrap --id a --dir d --dir d",
+    "detach-cluster",
+    "detach-cluster --dir=",
+    "detach-cluster --id a --dir d",
+    "audit a",
+    "audit --",
+    "audit --dir d",
+    "audits",
+];
 
 #[test]
 fn other_words_are_a_usage(rt: HostRuntime) -> Result<(), Fail> {
-    let found = commands_among(
-        rt.alloc(),
-        &[
-            "",
-            "replay",
-            "replay --level",
-            "replay --level=",
-            "replay --level none",
-            "replay --level cores",
-            "replay --level core --",
-            "replay -- --level core",
-            "replay --level core --level core",
-            "replay --level=core --level=core",
-            "replay --level core core",
-            "replay -l core",
-            "replay --leve core",
-            "replay --dir core",
-            "--level core replay",
-            "help replay",
-            "replay --help",
-            "replay --version",
-            "inspect",
-            "inspect --dir -",
-            "inspect --dir=-x",
-            "inspect --dir=",
-            "unsafe-bootstrap",
-            "unsafe-bootstrap --dir d",
-            "unsafe-bootstrap --id a",
-            "unsafe-bootstrap --id A --dir d",
-            "unsafe-bootstrap --id a --dir d --dir d",
-            "detach-cluster",
-            "detach-cluster --dir=",
-            "detach-cluster --id a --dir d",
-            "audit a",
-            "audit --",
-            "audit --dir d",
-            "audits",
-        ],
-    )?;
-    assert!(rt; found.as_str() == "", "{found}");
-    Ok(())
+    refuse_each(rt.alloc(), OTHER_WORDS)
 }
 
 fn refusal(alloc: Global, words: &[String]) -> Result<Option<ErrorKind>, AllocError> {
@@ -218,141 +212,126 @@ fn clap_knows_no_help(rt: HostRuntime) -> Result<(), Fail> {
     Ok(())
 }
 
+const NODES: &[&str] = &[
+    "node --dir d --listen h --peers _ --initial _ --turns 5",
+    "node --id a --listen h --peers _ --initial _ --turns 5",
+    "node --id a --dir d --peers _ --initial _ --turns 5",
+    "node --id a --dir d --listen h --initial _ --turns 5",
+    "node --id a --dir d --listen h --peers _ --turns 5",
+    "node --id a --dir d --listen h --peers _ --initial _",
+    "node --id a --dir d --listen h --peers _ --initial _ --turns 5 --turns 5",
+    "node --id a --dir d --listen h --peers _ --initial _ --turns 5 --no-shrink --no-shrink",
+    "node --id a --dir d --listen h --peers _ --initial _ --turns 5 --no-shrink=true",
+    "node --id a --dir d --listen h --peers _ --initial _ --turns 5 --level core",
+    "node --id a --dir d --listen h --peers _ --initial _ --turns 5 --",
+    "node --id a --dir d --listen h --peers _ --initial _ --turns 5 a",
+    "node --id a --dir d --listen h --peers --initial _ --turns 5",
+];
+
 #[test]
 fn a_node_needs_each_option_once(rt: HostRuntime) -> Result<(), Fail> {
-    let found = commands_among(
-        rt.alloc(),
-        &[
-            "node --dir d --listen h --peers _ --initial _ --turns 5",
-            "node --id a --listen h --peers _ --initial _ --turns 5",
-            "node --id a --dir d --peers _ --initial _ --turns 5",
-            "node --id a --dir d --listen h --initial _ --turns 5",
-            "node --id a --dir d --listen h --peers _ --turns 5",
-            "node --id a --dir d --listen h --peers _ --initial _",
-            "node --id a --dir d --listen h --peers _ --initial _ --turns 5 --turns 5",
-            "node --id a --dir d --listen h --peers _ --initial _ --turns 5 --no-shrink --no-shrink",
-            "node --id a --dir d --listen h --peers _ --initial _ --turns 5 --no-shrink=true",
-            "node --id a --dir d --listen h --peers _ --initial _ --turns 5 --level core",
-            "node --id a --dir d --listen h --peers _ --initial _ --turns 5 --",
-            "node --id a --dir d --listen h --peers _ --initial _ --turns 5 a",
-            "node --id a --dir d --listen h --peers --initial _ --turns 5",
-        ],
-    )?;
-    assert!(rt; found.as_str() == "", "{found}");
-    Ok(())
+    refuse_each(rt.alloc(), NODES)
 }
+
+const VALUES: &[&str] = &[
+    "node --id A --dir d --listen h --peers _ --initial _ --turns 5",
+    "node --id=-a --dir d --listen h --peers _ --initial _ --turns 5",
+    "node --id= --dir d --listen h --peers _ --initial _ --turns 5",
+    "node --id aaaaaaaaaaaaaaaaaaaaaaaaaaaaaaaaa --dir d --listen h --peers _ --initial _ --turns 5",
+    "node --id a --dir= --listen h --peers _ --initial _ --turns 5",
+    "node --id a --dir d --listen= --peers _ --initial _ --turns 5",
+    "node --id a --dir d --listen h,i --peers _ --initial _ --turns 5",
+    "node --id a --dir d --listen h --peers b --initial _ --turns 5",
+    "node --id a --dir d --listen h --peers b= --initial _ --turns 5",
+    "node --id a --dir d --listen h --peers =h --initial _ --turns 5",
+    "node --id a --dir d --listen h --peers b=h, --initial _ --turns 5",
+    "node --id a --dir d --listen h --peers b=h,b=i --initial _ --turns 5",
+    "node --id a --dir d --listen h --peers _,b=h --initial _ --turns 5",
+    "node --id a --dir d --listen h --peers=-=h --initial _ --turns 5",
+    "node --id a --dir d --listen h --peers _ --initial a,a --turns 5",
+    "node --id a --dir d --listen h --peers _ --initial a,,b --turns 5",
+    "node --id a --dir d --listen h --peers _ --initial a,_ --turns 5",
+    "node --id a --dir d --listen h --peers _ --initial=-a --turns 5",
+    "node --id a --dir d --listen h --peers _ --initial= --turns 5",
+    "node --id a --dir d --listen h --peers _ --initial _ --turns +5",
+    "node --id a --dir d --listen h --peers _ --initial _ --turns=-5",
+    "node --id a --dir d --listen h --peers _ --initial _ --turns 0x5",
+    "node --id a --dir d --listen h --peers _ --initial _ --turns 05",
+    "node --id a --dir d --listen h --peers _ --initial _ --turns 00",
+    "node --id a --dir d --listen h --peers _ --initial _ --turns=",
+    "node --id a --dir d --listen h --peers _ --initial _ --turns 18446744073709551616",
+];
 
 #[test]
 fn a_node_needs_values_of_their_kinds(rt: HostRuntime) -> Result<(), Fail> {
-    let found = commands_among(
-        rt.alloc(),
-        &[
-            "node --id A --dir d --listen h --peers _ --initial _ --turns 5",
-            "node --id=-a --dir d --listen h --peers _ --initial _ --turns 5",
-            "node --id= --dir d --listen h --peers _ --initial _ --turns 5",
-            "node --id aaaaaaaaaaaaaaaaaaaaaaaaaaaaaaaaa --dir d --listen h --peers _ --initial _ --turns 5",
-            "node --id a --dir= --listen h --peers _ --initial _ --turns 5",
-            "node --id a --dir d --listen= --peers _ --initial _ --turns 5",
-            "node --id a --dir d --listen h,i --peers _ --initial _ --turns 5",
-            "node --id a --dir d --listen h --peers b --initial _ --turns 5",
-            "node --id a --dir d --listen h --peers b= --initial _ --turns 5",
-            "node --id a --dir d --listen h --peers =h --initial _ --turns 5",
-            "node --id a --dir d --listen h --peers b=h, --initial _ --turns 5",
-            "node --id a --dir d --listen h --peers b=h,b=i --initial _ --turns 5",
-            "node --id a --dir d --listen h --peers _,b=h --initial _ --turns 5",
-            "node --id a --dir d --listen h --peers=-=h --initial _ --turns 5",
-            "node --id a --dir d --listen h --peers _ --initial a,a --turns 5",
-            "node --id a --dir d --listen h --peers _ --initial a,,b --turns 5",
-            "node --id a --dir d --listen h --peers _ --initial a,_ --turns 5",
-            "node --id a --dir d --listen h --peers _ --initial=-a --turns 5",
-            "node --id a --dir d --listen h --peers _ --initial= --turns 5",
-            "node --id a --dir d --listen h --peers _ --initial _ --turns +5",
-            "node --id a --dir d --listen h --peers _ --initial _ --turns=-5",
-            "node --id a --dir d --listen h --peers _ --initial _ --turns 0x5",
-            "node --id a --dir d --listen h --peers _ --initial _ --turns 05",
-            "node --id a --dir d --listen h --peers _ --initial _ --turns 00",
-            "node --id a --dir d --listen h --peers _ --initial _ --turns=",
-            "node --id a --dir d --listen h --peers _ --initial _ --turns 18446744073709551616",
-        ],
-    )?;
-    assert!(rt; found.as_str() == "", "{found}");
-    Ok(())
+    refuse_each(rt.alloc(), VALUES)
 }
+
+const GENERATIONS: &[&str] = &[
+    "generate",
+    "generate --number 7",
+    "generate --steps 7",
+    "generate --number 7 --steps 100001",
+    "generate --number 18446744073709551616 --steps 7",
+    "generate --number 7 --steps 18446744073709551616",
+    "generate --number +7 --steps 7",
+    "generate --number 007 --steps 7",
+    "generate --number 7 --steps 07",
+    "generate --number 7 --steps=-7",
+    "generate --number= --steps 7",
+    "generate --number 7 --steps 7 --steps 7",
+    "generate --number 7 --steps 7 --level core",
+    "generate 7 7",
+];
 
 #[test]
 fn a_generated_schedule_has_a_number_and_few_steps(rt: HostRuntime) -> Result<(), Fail> {
-    let found = commands_among(
-        rt.alloc(),
-        &[
-            "generate",
-            "generate --number 7",
-            "generate --steps 7",
-            "generate --number 7 --steps 100001",
-            "generate --number 18446744073709551616 --steps 7",
-            "generate --number 7 --steps 18446744073709551616",
-            "generate --number +7 --steps 7",
-            "generate --number 007 --steps 7",
-            "generate --number 7 --steps 07",
-            "generate --number 7 --steps=-7",
-            "generate --number= --steps 7",
-            "generate --number 7 --steps 7 --steps 7",
-            "generate --number 7 --steps 7 --level core",
-            "generate 7 7",
-        ],
-    )?;
-    assert!(rt; found.as_str() == "", "{found}");
-    Ok(())
+    refuse_each(rt.alloc(), GENERATIONS)
 }
+
+const TRIALS: &[&str] = &[
+    "trial",
+    "trial --dir d --port 1 --turns 1",
+    "trial --program p --port 1 --turns 1",
+    "trial --program p --dir d --turns 1",
+    "trial --program p --dir d --port 1",
+    "trial --program p --dir d --port 0 --turns 1",
+    "trial --program p --dir d --port 65534 --turns 1",
+    "trial --program p --dir d --port 18446744073709551616 --turns 1",
+    "trial --program p --dir d --port +1 --turns 1",
+    "trial --program p --dir d --port 07101 --turns 1",
+    "trial --program p --dir d --port 1 --turns=-1",
+    "trial --program p --dir d --port 1 --turns 18446744073709551616",
+    "trial --program= --dir d --port 1 --turns 1",
+    "trial --program=-p --dir d --port 1 --turns 1",
+    "trial --program p --dir=-d --port 1 --turns 1",
+    "trial --program p --dir d --port 1 --port 1 --turns 1",
+    "trial --program p --dir d --port 1 --turns 1 --no-shrink",
+    "trial --program p --dir d --port 1 --turns 1 --",
+];
 
 #[test]
 fn a_trial_needs_two_ports_above_its_first(rt: HostRuntime) -> Result<(), Fail> {
-    let found = commands_among(
-        rt.alloc(),
-        &[
-            "trial",
-            "trial --dir d --port 1 --turns 1",
-            "trial --program p --port 1 --turns 1",
-            "trial --program p --dir d --turns 1",
-            "trial --program p --dir d --port 1",
-            "trial --program p --dir d --port 0 --turns 1",
-            "trial --program p --dir d --port 65534 --turns 1",
-            "trial --program p --dir d --port 18446744073709551616 --turns 1",
-            "trial --program p --dir d --port +1 --turns 1",
-            "trial --program p --dir d --port 07101 --turns 1",
-            "trial --program p --dir d --port 1 --turns=-1",
-            "trial --program p --dir d --port 1 --turns 18446744073709551616",
-            "trial --program= --dir d --port 1 --turns 1",
-            "trial --program=-p --dir d --port 1 --turns 1",
-            "trial --program p --dir=-d --port 1 --turns 1",
-            "trial --program p --dir d --port 1 --port 1 --turns 1",
-            "trial --program p --dir d --port 1 --turns 1 --no-shrink",
-            "trial --program p --dir d --port 1 --turns 1 --",
-        ],
-    )?;
-    assert!(rt; found.as_str() == "", "{found}");
-    Ok(())
+    refuse_each(rt.alloc(), TRIALS)
 }
+
+const RESCUES: &[&str] = &[
+    "rescue",
+    "rescue a",
+    "rescue --up",
+    "rescue --up _",
+    "rescue --up=",
+    "rescue --up a,",
+    "rescue --up a,a",
+    "rescue --up a,B",
+    "rescue --up=-a",
+    "rescue --up a b",
+    "rescue --up a --up b",
+    "rescue --up a --level core",
+    "rescue --up a --",
+];
 
 #[test]
 fn a_rescue_names_a_node_that_is_up(rt: HostRuntime) -> Result<(), Fail> {
-    let found = commands_among(
-        rt.alloc(),
-        &[
-            "rescue",
-            "rescue a",
-            "rescue --up",
-            "rescue --up _",
-            "rescue --up=",
-            "rescue --up a,",
-            "rescue --up a,a",
-            "rescue --up a,B",
-            "rescue --up=-a",
-            "rescue --up a b",
-            "rescue --up a --up b",
-            "rescue --up a --level core",
-            "rescue --up a --",
-        ],
-    )?;
-    assert!(rt; found.as_str() == "", "{found}");
-    Ok(())
+    refuse_each(rt.alloc(), RESCUES)
 }

@@ -51,86 +51,81 @@ fn has_text(alloc: Global, message: &WireMessage, wanted: &str) -> Result<bool, 
     goes_on(alloc, &text, wanted)
 }
 
-fn publication_has_its_text(alloc: Global) -> Result<bool, AllocError> {
-    has_text(
-        alloc,
-        &WireMessage::Publish(state(alloc)?),
-        "publish {\"committed\":[\"a\"],\"config\":[\"a\"],\"parent\":{\"term\":1,\"version\":4},\"term\":2,\"value\":{\"exclusions\":[],\"master\":null,\"members\":[],\"settings\":{}},\"version\":1}",
-    )
+// The messages of the table, by their places.
+fn message(alloc: Global, place: usize) -> Result<WireMessage, AllocError> {
+    match place {
+        0 => Ok(WireMessage::Publish(state(alloc)?)),
+        1 => Ok(WireMessage::StartJoin {
+            candidate: id("a"),
+            term: 1,
+        }),
+        2 => Ok(WireMessage::Join {
+            term: 1,
+            last: state_id(0, 0),
+        }),
+        3 => Ok(WireMessage::Response(state_id(1, 1))),
+        4 => Ok(WireMessage::Commit(state_id(1, 2))),
+        5 => Ok(WireMessage::JoinAsk { term: 7 }),
+        6 => Ok(WireMessage::PeersAsk { known: both() }),
+        7 => Ok(WireMessage::PeersAnswer {
+            master: None,
+            term: 3,
+            known: both(),
+        }),
+        8 => Ok(WireMessage::PeersAnswer {
+            master: Some(id("a")),
+            term: 3,
+            known: NodeSet::new(),
+        }),
+        9 => Ok(WireMessage::PreVoteAsk),
+        10 => Ok(WireMessage::PreVoteAnswer {
+            term: 2,
+            last: state_id(1, 4),
+        }),
+        11 => Ok(WireMessage::PreVoteRefuse { leader: id("a") }),
+        12 => Ok(WireMessage::FollowerCheck { term: 5 }),
+        13 => Ok(WireMessage::FollowerAnswer {
+            good: true,
+            term: 1,
+            applied: state_id(1, 2),
+        }),
+        14 => Ok(WireMessage::FollowerAnswer {
+            good: false,
+            term: 6,
+            applied: state_id(0, 0),
+        }),
+        15 => Ok(WireMessage::LeaderCheck { term: 5 }),
+        16 => Ok(WireMessage::LeaderAnswer { good: true }),
+        _ => Ok(WireMessage::LeaderAnswer { good: false }),
+    }
 }
+
+const MESSAGES: [&str; 18] = [
+    "publish {\"committed\":[\"a\"],\"config\":[\"a\"],\"parent\":{\"term\":1,\"version\":4},\"term\":2,\"value\":{\"exclusions\":[],\"master\":null,\"members\":[],\"settings\":{}},\"version\":1}",
+    "startjoin a 1",
+    "join 1 0/0",
+    "response 1/1",
+    "commit 1/2",
+    "joinask 7",
+    "peersask a,b",
+    "peersanswer _ 3 a,b",
+    "peersanswer a 3 _",
+    "prevoteask",
+    "prevoteanswer 2 1/4",
+    "prevoterefuse a",
+    "followercheck 5",
+    "followeranswer yes 1 1/2",
+    "followeranswer no 6 0/0",
+    "leadercheck 5",
+    "leaderanswer yes",
+    "leaderanswer no",
+];
 
 #[test]
 fn each_message_has_its_word_and_its_fields(rt: HostRuntime) -> Result<(), Fail> {
-    assert!(rt; publication_has_its_text(rt.alloc())?);
-    for (message, wanted) in &[
-        (
-            WireMessage::StartJoin {
-                candidate: id("a"),
-                term: 1,
-            },
-            "startjoin a 1",
-        ),
-        (
-            WireMessage::Join {
-                term: 1,
-                last: state_id(0, 0),
-            },
-            "join 1 0/0",
-        ),
-        (WireMessage::Response(state_id(1, 1)), "response 1/1"),
-        (WireMessage::Commit(state_id(1, 2)), "commit 1/2"),
-        (WireMessage::JoinAsk { term: 7 }, "joinask 7"),
-        (WireMessage::PeersAsk { known: both() }, "peersask a,b"),
-        (
-            WireMessage::PeersAnswer {
-                master: None,
-                term: 3,
-                known: both(),
-            },
-            "peersanswer _ 3 a,b",
-        ),
-        (
-            WireMessage::PeersAnswer {
-                master: Some(id("a")),
-                term: 3,
-                known: NodeSet::new(),
-            },
-            "peersanswer a 3 _",
-        ),
-        (WireMessage::PreVoteAsk, "prevoteask"),
-        (
-            WireMessage::PreVoteAnswer {
-                term: 2,
-                last: state_id(1, 4),
-            },
-            "prevoteanswer 2 1/4",
-        ),
-        (
-            WireMessage::PreVoteRefuse { leader: id("a") },
-            "prevoterefuse a",
-        ),
-        (WireMessage::FollowerCheck { term: 5 }, "followercheck 5"),
-        (
-            WireMessage::FollowerAnswer {
-                good: true,
-                term: 1,
-                applied: state_id(1, 2),
-            },
-            "followeranswer yes 1 1/2",
-        ),
-        (
-            WireMessage::FollowerAnswer {
-                good: false,
-                term: 6,
-                applied: state_id(0, 0),
-            },
-            "followeranswer no 6 0/0",
-        ),
-        (WireMessage::LeaderCheck { term: 5 }, "leadercheck 5"),
-        (WireMessage::LeaderAnswer { good: true }, "leaderanswer yes"),
-        (WireMessage::LeaderAnswer { good: false }, "leaderanswer no"),
-    ] {
-        assert!(rt; has_text(rt.alloc(), message, wanted)?, "{wanted}");
+    for (place, wanted) in MESSAGES.iter().enumerate() {
+        let message = message(rt.alloc(), place)?;
+        assert!(rt; has_text(rt.alloc(), &message, wanted)?, "{wanted}");
     }
     Ok(())
 }

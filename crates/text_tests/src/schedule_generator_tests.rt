@@ -71,19 +71,21 @@ fn is_last(alloc: Global, number: u64, steps: u64, wanted: &str) -> Result<bool,
 
 // What the second generator draws of other forms: each configuration, each way in which a disk is left, a later term,
 // and a message that lies as far back as there are messages.
+const DRAWN: [(u64, u64, &str); 8] = [
+    (7, 31, "value a 31 s30 a,b"),
+    (7, 36, "fuse b 4 none"),
+    (7, 38, "fuse d 3 all"),
+    (7, 40, "value a 40 s39 b,c,d"),
+    (7, 107, "crash a none"),
+    (7, 109, "startjoin c b 2"),
+    (7, 156, "value b 156 s155 a,b,c"),
+    (18, 4, "deliver c 1"),
+];
+
 #[test]
 fn each_form_is_drawn(rt: HostRuntime) -> Result<(), Fail> {
-    for (number, steps, wanted) in [
-        (7, 31, "value a 31 s30 a,b"),
-        (7, 36, "fuse b 4 none"),
-        (7, 38, "fuse d 3 all"),
-        (7, 40, "value a 40 s39 b,c,d"),
-        (7, 107, "crash a none"),
-        (7, 109, "startjoin c b 2"),
-        (7, 156, "value b 156 s155 a,b,c"),
-        (18, 4, "deliver c 1"),
-    ] {
-        assert!(rt; is_last(rt.alloc(), number, steps, wanted)?, "{wanted}");
+    for (number, steps, wanted) in &DRAWN {
+        assert!(rt; is_last(rt.alloc(), *number, *steps, wanted)?, "{wanted}");
     }
     Ok(())
 }

@@ -50,107 +50,118 @@ fn third_line_is_bad(alloc: Global, level: Level, line: &str, why: WhyBad) -> bo
     fault_of_many(alloc, level, 1, line.as_bytes()) == Some((3, why))
 }
 
+const CORE_LINES: [(&str, WhyBad); 38] = [
+    ("tick a 0 0\n", WhyBad::Verb),
+    ("client a x\n", WhyBad::Verb),
+    ("deliver a\n", WhyBad::Arity),
+    ("deliver z x\n", WhyBad::Id),
+    ("deliver a 01\n", WhyBad::Number),
+    ("deliver a 0\n", WhyBad::Number),
+    ("deliver a 4294967296\n", WhyBad::Number),
+    ("startjoin a a 18446744073709551616\n", WhyBad::Number),
+    ("value a 1 X a\n", WhyBad::Text),
+    ("value a 1 x a,a\n", WhyBad::List),
+    ("boot a", WhyBad::NoNewline),
+    ("boot  a\n", WhyBad::Arity),
+    ("boot a \n", WhyBad::Arity),
+    (" boot a\n", WhyBad::Verb),
+    ("boot \n", WhyBad::Id),
+    ("boot\ta\n", WhyBad::Verb),
+    ("\n", WhyBad::Verb),
+    ("crash a\n", WhyBad::Arity),
+    ("crash a all all\n", WhyBad::Arity),
+    ("crash z all\n", WhyBad::Id),
+    ("crash a most\n", WhyBad::Mode),
+    ("crash a \n", WhyBad::Mode),
+    ("crash a torn:\n", WhyBad::Mode),
+    ("crash a torn:1\n", WhyBad::Mode),
+    ("crash a torn:123\n", WhyBad::Mode),
+    ("crash a torn:0G\n", WhyBad::Mode),
+    ("crash a torn:AB\n", WhyBad::Mode),
+    ("crash a torn:A5\n", WhyBad::Mode),
+    ("crash a Torn:ab\n", WhyBad::Mode),
+    ("restart\n", WhyBad::Arity),
+    ("restart \n", WhyBad::Id),
+    ("fuse a 1\n", WhyBad::Arity),
+    ("fuse a 0 all\n", WhyBad::Number),
+    ("fuse a 4294967296 all\n", WhyBad::Number),
+    ("fuse a 0 x\n", WhyBad::Number),
+    ("fuse a 1 x\n", WhyBad::Mode),
+    ("fail a\n", WhyBad::Arity),
+    ("fail a 0\n", WhyBad::Number),
+];
+
 #[test]
 fn names_the_reason_of_a_third_line_at_level_core(rt: HostRuntime) {
     let a = rt.alloc();
-    for (line, why) in [
-        ("tick a 0 0\n", WhyBad::Verb),
-        ("client a x\n", WhyBad::Verb),
-        ("deliver a\n", WhyBad::Arity),
-        ("deliver z x\n", WhyBad::Id),
-        ("deliver a 01\n", WhyBad::Number),
-        ("deliver a 0\n", WhyBad::Number),
-        ("deliver a 4294967296\n", WhyBad::Number),
-        ("startjoin a a 18446744073709551616\n", WhyBad::Number),
-        ("value a 1 X a\n", WhyBad::Text),
-        ("value a 1 x a,a\n", WhyBad::List),
-        ("boot a", WhyBad::NoNewline),
-        ("boot  a\n", WhyBad::Arity),
-        ("boot a \n", WhyBad::Arity),
-        (" boot a\n", WhyBad::Verb),
-        ("boot \n", WhyBad::Id),
-        ("boot\ta\n", WhyBad::Verb),
-        ("\n", WhyBad::Verb),
-        ("crash a\n", WhyBad::Arity),
-        ("crash a all all\n", WhyBad::Arity),
-        ("crash z all\n", WhyBad::Id),
-        ("crash a most\n", WhyBad::Mode),
-        ("crash a \n", WhyBad::Mode),
-        ("crash a torn:\n", WhyBad::Mode),
-        ("crash a torn:1\n", WhyBad::Mode),
-        ("crash a torn:123\n", WhyBad::Mode),
-        ("crash a torn:0G\n", WhyBad::Mode),
-        ("crash a torn:AB\n", WhyBad::Mode),
-        ("crash a Torn:ab\n", WhyBad::Mode),
-        ("restart\n", WhyBad::Arity),
-        ("restart \n", WhyBad::Id),
-        ("fuse a 1\n", WhyBad::Arity),
-        ("fuse a 0 all\n", WhyBad::Number),
-        ("fuse a 4294967296 all\n", WhyBad::Number),
-        ("fuse a 0 x\n", WhyBad::Number),
-        ("fuse a 1 x\n", WhyBad::Mode),
-        ("fail a\n", WhyBad::Arity),
-        ("fail a 0\n", WhyBad::Number),
-    ] {
-        assert!(rt; third_line_is_bad(a, Level::Core, line, why), "at {line}");
+    for (line, why) in &CORE_LINES {
+        assert!(rt; third_line_is_bad(a, Level::Core, line, *why), "at {line}");
     }
 }
+
+const NODE_LINES: [(&str, WhyBad); 23] = [
+    ("boot a\n", WhyBad::Verb),
+    ("startjoin a a 1\n", WhyBad::Verb),
+    ("value a 1 x a\n", WhyBad::Verb),
+    ("clients a x\n", WhyBad::Verb),
+    ("tick a 0\n", WhyBad::Arity),
+    ("tick a 0 0 0\n", WhyBad::Arity),
+    ("tick z x x\n", WhyBad::Id),
+    ("tick a 00 0\n", WhyBad::Number),
+    ("tick a 0 \n", WhyBad::Number),
+    ("tick a 4611686018427387905 0\n", WhyBad::Number),
+    ("tick a 0 18446744073709551616\n", WhyBad::Number),
+    ("client\n", WhyBad::Arity),
+    ("client \n", WhyBad::Arity),
+    ("client a\n", WhyBad::Arity),
+    ("client  a\n", WhyBad::Id),
+    ("client z \n", WhyBad::Id),
+    ("client a x", WhyBad::NoNewline),
+    ("deliver a\n", WhyBad::Arity),
+    ("deliver a 0\n", WhyBad::Number),
+    ("crash a most\n", WhyBad::Mode),
+    ("restart z\n", WhyBad::Id),
+    ("fuse a 1\n", WhyBad::Arity),
+    ("fail a 0\n", WhyBad::Number),
+];
 
 #[test]
 fn names_the_reason_of_a_third_line_at_level_node(rt: HostRuntime) {
     let a = rt.alloc();
-    for (line, why) in [
-        ("boot a\n", WhyBad::Verb),
-        ("startjoin a a 1\n", WhyBad::Verb),
-        ("value a 1 x a\n", WhyBad::Verb),
-        ("clients a x\n", WhyBad::Verb),
-        ("tick a 0\n", WhyBad::Arity),
-        ("tick a 0 0 0\n", WhyBad::Arity),
-        ("tick z x x\n", WhyBad::Id),
-        ("tick a 00 0\n", WhyBad::Number),
-        ("tick a 0 \n", WhyBad::Number),
-        ("tick a 4611686018427387905 0\n", WhyBad::Number),
-        ("tick a 0 18446744073709551616\n", WhyBad::Number),
-        ("client\n", WhyBad::Arity),
-        ("client \n", WhyBad::Arity),
-        ("client a\n", WhyBad::Arity),
-        ("client  a\n", WhyBad::Id),
-        ("client z \n", WhyBad::Id),
-        ("client a x", WhyBad::NoNewline),
-        ("deliver a\n", WhyBad::Arity),
-        ("deliver a 0\n", WhyBad::Number),
-        ("crash a most\n", WhyBad::Mode),
-        ("restart z\n", WhyBad::Id),
-        ("fuse a 1\n", WhyBad::Arity),
-        ("fail a 0\n", WhyBad::Number),
-    ] {
-        assert!(rt; third_line_is_bad(a, Level::Node, line, why), "at {line}");
+    for (line, why) in &NODE_LINES {
+        assert!(rt; third_line_is_bad(a, Level::Node, line, *why), "at {line}");
     }
 }
+
+// Whether a text is bad at both levels.
+fn is_bad_header(alloc: Global, text: &str, line: usize, why: WhyBad) -> bool {
+    let text = text.as_bytes();
+    let want = Some((line, why));
+    fault(alloc, Level::Core, text) == want && fault(alloc, Level::Node, text) == want
+}
+
+fn is_read(alloc: Global, text: &[u8]) -> bool {
+    read_schedule(alloc, text, Level::Core).is_ok()
+        && read_schedule(alloc, text, Level::Node).is_ok()
+}
+
+const HEADERS: [(&str, usize, WhyBad); 7] = [
+    ("nodes a\ninitial _\n", 2, WhyBad::Header),
+    ("nodes a\ninitial b\n", 2, WhyBad::Header),
+    ("nodes a\ninitial a", 2, WhyBad::NoNewline),
+    ("nodes a\n", 2, WhyBad::Header),
+    ("nodes a", 1, WhyBad::NoNewline),
+    ("nodes b,a\n", 1, WhyBad::Header),
+    ("\n", 1, WhyBad::Header),
+];
 
 #[test]
 fn names_the_reason_of_a_header(rt: HostRuntime) {
     let a = rt.alloc();
-    for (text, line, why) in [
-        ("nodes a\ninitial _\n", 2, WhyBad::Header),
-        ("nodes a\ninitial b\n", 2, WhyBad::Header),
-        ("nodes a\ninitial a", 2, WhyBad::NoNewline),
-        ("nodes a\n", 2, WhyBad::Header),
-        ("nodes a", 1, WhyBad::NoNewline),
-        ("nodes b,a\n", 1, WhyBad::Header),
-        ("\n", 1, WhyBad::Header),
-    ] {
-        for level in [Level::Core, Level::Node] {
-            assert!(rt;
-                fault(a, level, text.as_bytes()) == Some((line, why)),
-                "at {text}"
-            );
-        }
+    for (text, line, why) in &HEADERS {
+        assert!(rt; is_bad_header(a, text, *line, *why), "at {text}");
     }
-    for level in [Level::Core, Level::Node] {
-        assert!(rt; read_schedule(a, b"", level).is_ok());
-        assert!(rt; read_schedule(a, HEADER, level).is_ok());
-    }
+    assert!(rt; is_read(a, b"") && is_read(a, HEADER));
 }
 
 #[test]
@@ -209,12 +220,14 @@ fn shows_client(alloc: Global, text: &str, shown: &str) -> bool {
     }
 }
 
+const CLIENTS: [(&str, &str); 2] = [
+    ("nodes a\ninitial a\nclient a put x  1 \n", "put x  1 "),
+    ("nodes a\ninitial a\nclient a \n", ""),
+];
+
 #[test]
 fn shows_a_clients_line_with_its_spaces(rt: HostRuntime) {
-    for (text, shown) in [
-        ("nodes a\ninitial a\nclient a put x  1 \n", "put x  1 "),
-        ("nodes a\ninitial a\nclient a \n", ""),
-    ] {
+    for (text, shown) in &CLIENTS {
         assert!(rt; shows_client(rt.alloc(), text, shown), "{shown}");
     }
 }
@@ -292,11 +305,32 @@ fn takes_a_million_lines(rt: HostRuntime) {
     assert!(rt; reads_a_million(rt.alloc()) == Some(true));
 }
 
+// The fault of a text with so many times this byte after a header.
+fn fault_of_big(
+    alloc: Global,
+    header: &[u8],
+    byte: u8,
+    count: usize,
+) -> Result<Option<(usize, WhyBad)>, AllocError> {
+    let rest = vec![in alloc; byte; count]?;
+    let mut text = Vec::from_slice(alloc, header)?;
+    text.extend_from_slice(&rest)?;
+    Ok(fault(alloc, Level::Core, text.as_slice()))
+}
+
+// Texts of 16,777,217 bytes. Where the first line is bad, that comes first.
+const BIG: [(&[u8], u8, usize, usize, WhyBad); 2] = [
+    (HEADER, b'x', 16_777_199, 3, WhyBad::TooBig),
+    (b"", b'\n', 16_777_217, 1, WhyBad::Header),
+];
+
 #[test]
-fn names_a_text_that_is_too_big(rt: HostRuntime) {
-    // The header has 18 bytes.
-    let too_big = fault_of_many(rt.alloc(), Level::Core, 16777199, b"x");
-    assert!(rt; too_big == Some((3, WhyBad::TooBig)));
+fn names_a_text_that_is_too_big(rt: HostRuntime) -> Result<(), Fail> {
+    for (header, byte, count, line, why) in &BIG {
+        let bad = fault_of_big(rt.alloc(), header, *byte, *count)?;
+        assert!(rt; bad == Some((*line, *why)));
+    }
+    Ok(())
 }
 
 // The fault of a third line with so many bytes.
@@ -306,11 +340,13 @@ fn fault_of_long(alloc: Global, bytes: usize) -> Option<(usize, WhyBad)> {
     fault(alloc, Level::Core, text.as_slice())
 }
 
+const LONG_LINES: [(usize, WhyBad); 2] = [(16384, WhyBad::Verb), (16385, WhyBad::TooLong)];
+
 #[test]
 fn names_a_line_that_is_too_long(rt: HostRuntime) {
-    for (bytes, why) in [(16384, WhyBad::Verb), (16385, WhyBad::TooLong)] {
+    for (bytes, why) in &LONG_LINES {
         assert!(rt;
-            fault_of_long(rt.alloc(), bytes) == Some((3, why)),
+            fault_of_long(rt.alloc(), *bytes) == Some((3, *why)),
             "at {bytes}"
         );
     }

@@ -30,13 +30,15 @@ fn shows(alloc: Global, trace: &str, part: &str) -> bool {
     }
 }
 
+const DRAWN: [&str; 3] = [
+    "<path class='arrow' marker-end='url(#head)' d='M324 72L186 82'><title>m1 b-&gt;a join 1 0/0</title></path>",
+    "<title>act a ok join b a 1 0/0</title>ok join b a 1 0/0</text>",
+    "<use href='#star' class='won t1'",
+];
+
 #[test]
 fn an_election_is_drawn(rt: HostRuntime) {
-    for part in [
-        "<path class='arrow' marker-end='url(#head)' d='M324 72L186 82'><title>m1 b-&gt;a join 1 0/0</title></path>",
-        "<title>act a ok join b a 1 0/0</title>ok join b a 1 0/0</text>",
-        "<use href='#star' class='won t1'",
-    ] {
+    for part in &DRAWN {
         assert!(rt; shows(rt.alloc(), ELECTION, part), "{part}");
     }
 }
@@ -60,26 +62,28 @@ const REFUSED: &str = "> startjoin a a 1\n\
     act a refused:TermNotGreater(1,1) startjoin a 1\n";
 
 // The last row has a line whose characters `<`, `>` and `&` are escaped.
+const ALSO_DRAWN: [(&str, &str); 7] = [
+    (
+        TWO_MESSAGES,
+        "<title>m1 b-&gt;a join 1 0/0</title></path><use href='#end' class='end'",
+    ),
+    (
+        TWO_MESSAGES,
+        "'><title>m2 c-&gt;a join 1 0/0</title></path>\n",
+    ),
+    (STOPS, "<path class='plain' d='M98 40V54'/>"),
+    (STOPS, "<path class='plain' d='M98 68V82'/>"),
+    (STOPS, "<use href='#square' class='fault'"),
+    (REFUSED, "<use href='#cross' class='refused'"),
+    (
+        "> client a <x>&\n",
+        "<title>&gt; client a &lt;x&gt;&amp;</title>",
+    ),
+];
+
 #[test]
 fn messages_stops_and_refusals_are_drawn(rt: HostRuntime) {
-    for (trace, part) in [
-        (
-            TWO_MESSAGES,
-            "<title>m1 b-&gt;a join 1 0/0</title></path><use href='#end' class='end'",
-        ),
-        (
-            TWO_MESSAGES,
-            "'><title>m2 c-&gt;a join 1 0/0</title></path>\n",
-        ),
-        (STOPS, "<path class='plain' d='M98 40V54'/>"),
-        (STOPS, "<path class='plain' d='M98 68V82'/>"),
-        (STOPS, "<use href='#square' class='fault'"),
-        (REFUSED, "<use href='#cross' class='refused'"),
-        (
-            "> client a <x>&\n",
-            "<title>&gt; client a &lt;x&gt;&amp;</title>",
-        ),
-    ] {
+    for (trace, part) in &ALSO_DRAWN {
         assert!(rt; shows(rt.alloc(), trace, part), "{part}");
     }
 }

@@ -2,7 +2,7 @@
 use schedule_text::{ReadError, Text, WhyBad};
 use std::alloc::Global;
 use std::test::Fail;
-use trace_reader::{BadTrace, Ending, Told, Trace, read_trace, write_bad_trace};
+use trace_reader::{BadTrace, Ending, Told, Trace, TraceLine, read_trace, write_bad_trace};
 
 const ELECTION: &str = "> boot a\n\
     act a ok boot a\n\
@@ -20,15 +20,19 @@ fn lines_read(alloc: Global, text: &str) -> Result<Trace, Fail> {
     }
 }
 
+// Whether the lines of the election are told as what they are.
+fn are_told(lines: &[TraceLine]) -> bool {
+    lines.len() == 8
+        && lines[4].text.as_slice() == b"m1 a->a join 1 0/0".as_slice()
+        && matches!(&lines[4].told, Told::Sent(_, Some(_)))
+        && matches!(&lines[5].told, Told::Delivery(_, 1))
+        && matches!(&lines[7].told, Told::Won(_, 1))
+}
+
 #[test]
 fn an_election_is_read(rt: HostRuntime) -> Result<(), Fail> {
     let trace = lines_read(rt.alloc(), ELECTION)?;
-    let lines = trace.as_slice();
-    assert!(rt; lines.len() == 8);
-    assert!(rt; lines[4].text.as_slice() == b"m1 a->a join 1 0/0".as_slice());
-    assert!(rt; matches!(&lines[4].told, Told::Sent(_, Some(_))));
-    assert!(rt; matches!(&lines[5].told, Told::Delivery(_, 1)));
-    assert!(rt; matches!(&lines[7].told, Told::Won(_, 1)));
+    assert!(rt; are_told(trace.as_slice()));
     Ok(())
 }
 
@@ -44,19 +48,21 @@ fn ending_of(alloc: Global, text: &str) -> Result<Option<Ending>, Fail> {
     }
 }
 
+const ENDINGS: [(&str, Ending); 5] = [
+    ("> boot a\nact a ok boot a\n", Ending::Taken),
+    (
+        "> boot a\nact a refused:AlreadySet boot a\n",
+        Ending::Refused,
+    ),
+    ("> boot a\nact a stopped boot a\n", Ending::Stopped),
+    ("> boot a\nact a disk boot a\n", Ending::Disk),
+    ("> boot a\nact a crashed boot a\n", Ending::Crashed),
+];
+
 #[test]
 fn each_ending_is_read(rt: HostRuntime) -> Result<(), Fail> {
-    for (text, ending) in [
-        ("> boot a\nact a ok boot a\n", Ending::Taken),
-        (
-            "> boot a\nact a refused:AlreadySet boot a\n",
-            Ending::Refused,
-        ),
-        ("> boot a\nact a stopped boot a\n", Ending::Stopped),
-        ("> boot a\nact a disk boot a\n", Ending::Disk),
-        ("> boot a\nact a crashed boot a\n", Ending::Crashed),
-    ] {
-        assert!(rt; ending_of(rt.alloc(), text)? == Some(ending), "{text}");
+    for (text, ending) in &ENDINGS {
+        assert!(rt; ending_of(rt.alloc(), text)? == Some(*ending), "{text}");
     }
     Ok(())
 }
@@ -107,8 +113,8 @@ const BAD: [(&str, usize, WhyBad); 14] = [
 
 #[test]
 fn bad_lines_are_named(rt: HostRuntime) -> Result<(), Fail> {
-    for (text, line, why) in BAD {
-        assert!(rt; is_bad(rt.alloc(), text, line, why), "{text}");
+    for (text, line, why) in &BAD {
+        assert!(rt; is_bad(rt.alloc(), text, *line, *why), "{text}");
     }
     Ok(())
 }

@@ -32,83 +32,87 @@ fn is_cause(alloc: Global, cause: Cause, wanted: &str) -> Result<bool, AllocErro
 }
 
 // The values of a cause stand in the order of the clause that refuses, the node's own first.
+const CAUSES: [(Cause, &str); 24] = [
+    (Cause::Initial(InitialCause::AlreadySet), "AlreadySet"),
+    (Cause::Initial(InitialCause::EmptyConfig), "EmptyConfig"),
+    (
+        Cause::Start(StartCause::TermNotGreater(2, 1)),
+        "TermNotGreater(2,1)",
+    ),
+    (Cause::Start(StartCause::TermTooLarge(9)), "TermTooLarge(9)"),
+    (
+        Cause::Join(JoinCause::TermMismatch(2, 1)),
+        "TermMismatch(2,1)",
+    ),
+    (Cause::Join(JoinCause::NotStarted), "NotStarted"),
+    (
+        Cause::Join(JoinCause::FresherTerm(1, 2)),
+        "FresherTerm(1,2)",
+    ),
+    (
+        Cause::Join(JoinCause::FresherVersion(3, 4)),
+        "FresherVersion(3,4)",
+    ),
+    (Cause::Join(JoinCause::NoConfig), "NoConfig"),
+    (Cause::Value(ValueCause::NotWon), "NotWon"),
+    (
+        Cause::Value(ValueCause::NotAccepted(5, 6)),
+        "NotAccepted(5,6)",
+    ),
+    (
+        Cause::Value(ValueCause::VersionNotGreater(7, 6)),
+        "VersionNotGreater(7,6)",
+    ),
+    (
+        Cause::Value(ValueCause::VersionTooLarge(9)),
+        "VersionTooLarge(9)",
+    ),
+    (Cause::Value(ValueCause::Reconfiguring), "Reconfiguring"),
+    (Cause::Value(ValueCause::NoJoinQuorum), "NoJoinQuorum"),
+    (
+        Cause::Publish(PublishCause::TermMismatch(2, 3)),
+        "TermMismatch(2,3)",
+    ),
+    (
+        Cause::Publish(PublishCause::VersionNotGreater(8, 7)),
+        "VersionNotGreater(8,7)",
+    ),
+    (Cause::Response(ResponseCause::NotWon), "NotWon"),
+    (
+        Cause::Response(ResponseCause::TermMismatch(4, 5)),
+        "TermMismatch(4,5)",
+    ),
+    (
+        Cause::Response(ResponseCause::VersionMismatch(6, 7)),
+        "VersionMismatch(6,7)",
+    ),
+    (
+        Cause::Commit(CommitCause::TermMismatch(1, 2)),
+        "TermMismatch(1,2)",
+    ),
+    (
+        Cause::Commit(CommitCause::AcceptedTermMismatch(1, 2)),
+        "AcceptedTermMismatch(1,2)",
+    ),
+    (
+        Cause::Commit(CommitCause::VersionMismatch(3, 2)),
+        "VersionMismatch(3,2)",
+    ),
+    (
+        Cause::Commit(CommitCause::Publishing(4, 3)),
+        "Publishing(4,3)",
+    ),
+];
+
 #[test]
 fn causes_have_their_values(rt: HostRuntime) -> Result<(), Fail> {
-    for (cause, wanted) in [
-        (Cause::Initial(InitialCause::AlreadySet), "AlreadySet"),
-        (Cause::Initial(InitialCause::EmptyConfig), "EmptyConfig"),
-        (
-            Cause::Start(StartCause::TermNotGreater(2, 1)),
-            "TermNotGreater(2,1)",
-        ),
-        (Cause::Start(StartCause::TermTooLarge(9)), "TermTooLarge(9)"),
-        (Cause::Join(JoinCause::NotForMe(a())), "NotForMe(a)"),
-        (
-            Cause::Join(JoinCause::TermMismatch(2, 1)),
-            "TermMismatch(2,1)",
-        ),
-        (Cause::Join(JoinCause::NotStarted), "NotStarted"),
-        (
-            Cause::Join(JoinCause::FresherTerm(1, 2)),
-            "FresherTerm(1,2)",
-        ),
-        (
-            Cause::Join(JoinCause::FresherVersion(3, 4)),
-            "FresherVersion(3,4)",
-        ),
-        (Cause::Join(JoinCause::NoConfig), "NoConfig"),
-        (Cause::Value(ValueCause::NotWon), "NotWon"),
-        (
-            Cause::Value(ValueCause::NotAccepted(5, 6)),
-            "NotAccepted(5,6)",
-        ),
-        (
-            Cause::Value(ValueCause::VersionNotGreater(7, 6)),
-            "VersionNotGreater(7,6)",
-        ),
-        (
-            Cause::Value(ValueCause::VersionTooLarge(9)),
-            "VersionTooLarge(9)",
-        ),
-        (Cause::Value(ValueCause::Reconfiguring), "Reconfiguring"),
-        (Cause::Value(ValueCause::NoJoinQuorum), "NoJoinQuorum"),
-        (
-            Cause::Publish(PublishCause::TermMismatch(2, 3)),
-            "TermMismatch(2,3)",
-        ),
-        (
-            Cause::Publish(PublishCause::VersionNotGreater(8, 7)),
-            "VersionNotGreater(8,7)",
-        ),
-        (Cause::Response(ResponseCause::NotForMe(b())), "NotForMe(b)"),
-        (Cause::Response(ResponseCause::NotWon), "NotWon"),
-        (
-            Cause::Response(ResponseCause::TermMismatch(4, 5)),
-            "TermMismatch(4,5)",
-        ),
-        (
-            Cause::Response(ResponseCause::VersionMismatch(6, 7)),
-            "VersionMismatch(6,7)",
-        ),
-        (
-            Cause::Commit(CommitCause::TermMismatch(1, 2)),
-            "TermMismatch(1,2)",
-        ),
-        (
-            Cause::Commit(CommitCause::AcceptedTermMismatch(1, 2)),
-            "AcceptedTermMismatch(1,2)",
-        ),
-        (
-            Cause::Commit(CommitCause::VersionMismatch(3, 2)),
-            "VersionMismatch(3,2)",
-        ),
-        (
-            Cause::Commit(CommitCause::Publishing(4, 3)),
-            "Publishing(4,3)",
-        ),
-    ] {
-        assert!(rt; is_cause(rt.alloc(), cause, wanted)?, "{wanted}");
+    for (cause, wanted) in &CAUSES {
+        assert!(rt; is_cause(rt.alloc(), *cause, wanted)?, "{wanted}");
     }
+    let join = Cause::Join(JoinCause::NotForMe(a()));
+    let response = Cause::Response(ResponseCause::NotForMe(b()));
+    assert!(rt; is_cause(rt.alloc(), join, "NotForMe(a)")?);
+    assert!(rt; is_cause(rt.alloc(), response, "NotForMe(b)")?);
     Ok(())
 }
 
@@ -150,28 +154,45 @@ fn is_election(alloc: Global, part: Election, wanted: &str) -> Result<bool, Allo
     goes_on(alloc, &text, wanted)
 }
 
+const NOT_GREATER: Cause = Cause::Start(StartCause::TermNotGreater(2, 1));
+
+const ELECTIONS: [(Election, &str); 11] = [
+    (Election::Head(Ending::Taken), "act a ok "),
+    (
+        Election::Head(Ending::Refused(NOT_GREATER)),
+        "act a refused:TermNotGreater(2,1) ",
+    ),
+    (Election::Head(Ending::Stopped), "act a stopped "),
+    (Election::Head(Ending::Disk), "act a disk "),
+    (Election::Head(Ending::Crashed), "act a crashed "),
+    (Election::Boot, "boot _"),
+    (Election::StartJoin, "startjoin a 1"),
+    (Election::Join, "join a a 2 0/3"),
+    (Election::Won(true), "won a 2\n"),
+    (Election::Won(false), ""),
+    (Election::JoinMessage, "m7 a->a join 2 0/3\n"),
+];
+
 #[test]
 fn lines_of_elections(rt: HostRuntime) -> Result<(), Fail> {
-    let cause = Cause::Start(StartCause::TermNotGreater(2, 1));
-    for (part, wanted) in [
-        (Election::Head(Ending::Taken), "act a ok "),
-        (
-            Election::Head(Ending::Refused(cause)),
-            "act a refused:TermNotGreater(2,1) ",
-        ),
-        (Election::Head(Ending::Stopped), "act a stopped "),
-        (Election::Head(Ending::Disk), "act a disk "),
-        (Election::Head(Ending::Crashed), "act a crashed "),
-        (Election::Boot, "boot _"),
-        (Election::StartJoin, "startjoin a 1"),
-        (Election::Join, "join a a 2 0/3"),
-        (Election::Won(true), "won a 2\n"),
-        (Election::Won(false), ""),
-        (Election::JoinMessage, "m7 a->a join 2 0/3\n"),
-    ] {
-        assert!(rt; is_election(rt.alloc(), part, wanted)?, "{wanted}");
+    for (part, wanted) in &ELECTIONS {
+        assert!(rt; is_election(rt.alloc(), *part, wanted)?, "{wanted}");
     }
     Ok(())
+}
+
+// To whom a response goes.
+#[derive(Clone, Copy)]
+enum To {
+    A,
+    B,
+}
+
+fn target(to: To) -> NodeId {
+    match to {
+        To::A => a(),
+        To::B => b(),
+    }
 }
 
 // What a publication writes, a response with its target.
@@ -179,11 +200,11 @@ fn lines_of_elections(rt: HostRuntime) -> Result<(), Fail> {
 enum Publication {
     Value,
     Publish,
-    Response(NodeId),
+    Response(To),
     Commit,
     Committed,
     PublishMessage,
-    ResponseMessage(NodeId),
+    ResponseMessage(To),
     CommitMessage,
 }
 
@@ -191,10 +212,10 @@ fn initial(alloc: Global) -> ClusterState {
     ClusterState::initial(alloc, &NodeSet::new())
 }
 
-fn response(target: NodeId) -> PublishResponse {
+fn response(to: To) -> PublishResponse {
     PublishResponse {
         source: a(),
-        target,
+        target: target(to),
         term: 1,
         version: 2,
     }
@@ -231,11 +252,11 @@ fn write_publication(text: &mut Text, alloc: Global, part: Publication) -> Resul
     match part {
         Publication::Value => write_config_and_value(text, alloc),
         Publication::Publish => write_request(text, alloc),
-        Publication::Response(target) => write_response(text, &response(target)),
+        Publication::Response(to) => write_response(text, &response(to)),
         Publication::Commit => write_commit(text, &commit()),
         Publication::Committed => write_committed(text, alloc, &initial(alloc)),
         Publication::PublishMessage => write_request_message(text, alloc),
-        Publication::ResponseMessage(target) => write_response_message(text, 2, &response(target)),
+        Publication::ResponseMessage(to) => write_response_message(text, 2, &response(to)),
         Publication::CommitMessage => write_commit_message(text, 3, &commit()),
     }
 }
@@ -246,33 +267,41 @@ fn is_publication(alloc: Global, part: Publication, wanted: &str) -> Result<bool
     goes_on(alloc, &text, wanted)
 }
 
+const PUBLICATIONS: [(Publication, &str); 10] = [
+    (
+        Publication::Value,
+        "value 5 _ {\"exclusions\":[],\"master\":null,\"members\":[],\"settings\":{}}",
+    ),
+    (
+        Publication::Publish,
+        "publish a {\"committed\":[],\"config\":[],\"parent\":null,\"term\":0,\"value\":{\"exclusions\":[],\"master\":null,\"members\":[],\"settings\":{}},\"version\":0}",
+    ),
+    (Publication::Response(To::A), "response a a 1/2"),
+    (Publication::Response(To::B), "response a b 1/2"),
+    (Publication::Commit, "commit a 1/2"),
+    (
+        Publication::Committed,
+        "committed {\"committed\":[],\"config\":[],\"parent\":null,\"term\":0,\"value\":{\"exclusions\":[],\"master\":null,\"members\":[],\"settings\":{}},\"version\":0}\n",
+    ),
+    (
+        Publication::PublishMessage,
+        "m1 a->* publish {\"committed\":[],\"config\":[],\"parent\":null,\"term\":0,\"value\":{\"exclusions\":[],\"master\":null,\"members\":[],\"settings\":{}},\"version\":0}\n",
+    ),
+    (
+        Publication::ResponseMessage(To::A),
+        "m2 a->a response 1/2\n",
+    ),
+    (
+        Publication::ResponseMessage(To::B),
+        "m2 a->b response 1/2\n",
+    ),
+    (Publication::CommitMessage, "m3 a->* commit 1/2\n"),
+];
+
 #[test]
 fn lines_of_publications(rt: HostRuntime) -> Result<(), Fail> {
-    for (part, wanted) in [
-        (
-            Publication::Value,
-            "value 5 _ {\"exclusions\":[],\"master\":null,\"members\":[],\"settings\":{}}",
-        ),
-        (
-            Publication::Publish,
-            "publish a {\"committed\":[],\"config\":[],\"parent\":null,\"term\":0,\"value\":{\"exclusions\":[],\"master\":null,\"members\":[],\"settings\":{}},\"version\":0}",
-        ),
-        (Publication::Response(a()), "response a a 1/2"),
-        (Publication::Response(b()), "response a b 1/2"),
-        (Publication::Commit, "commit a 1/2"),
-        (
-            Publication::Committed,
-            "committed {\"committed\":[],\"config\":[],\"parent\":null,\"term\":0,\"value\":{\"exclusions\":[],\"master\":null,\"members\":[],\"settings\":{}},\"version\":0}\n",
-        ),
-        (
-            Publication::PublishMessage,
-            "m1 a->* publish {\"committed\":[],\"config\":[],\"parent\":null,\"term\":0,\"value\":{\"exclusions\":[],\"master\":null,\"members\":[],\"settings\":{}},\"version\":0}\n",
-        ),
-        (Publication::ResponseMessage(a()), "m2 a->a response 1/2\n"),
-        (Publication::ResponseMessage(b()), "m2 a->b response 1/2\n"),
-        (Publication::CommitMessage, "m3 a->* commit 1/2\n"),
-    ] {
-        assert!(rt; is_publication(rt.alloc(), part, wanted)?, "{wanted}");
+    for (part, wanted) in &PUBLICATIONS {
+        assert!(rt; is_publication(rt.alloc(), *part, wanted)?, "{wanted}");
     }
     Ok(())
 }
@@ -318,16 +347,18 @@ fn is_stop(alloc: Global, stop: Stop, wanted: &str) -> Result<bool, AllocError> 
     goes_on(alloc, &text, wanted)
 }
 
+const STOPS: [(Stop, &str); 5] = [
+    (Stop::Crashed, "crashed a\n"),
+    (Stop::Down, "down a\n"),
+    (Stop::Disk, "disk a\n"),
+    (Stop::Record, "record a 3 2/5 a _\n"),
+    (Stop::Up, "up a\n"),
+];
+
 #[test]
 fn lines_of_stops(rt: HostRuntime) -> Result<(), Fail> {
-    for (stop, wanted) in [
-        (Stop::Crashed, "crashed a\n"),
-        (Stop::Down, "down a\n"),
-        (Stop::Disk, "disk a\n"),
-        (Stop::Record, "record a 3 2/5 a _\n"),
-        (Stop::Up, "up a\n"),
-    ] {
-        assert!(rt; is_stop(rt.alloc(), stop, wanted)?, "{wanted}");
+    for (stop, wanted) in &STOPS {
+        assert!(rt; is_stop(rt.alloc(), *stop, wanted)?, "{wanted}");
     }
     Ok(())
 }
