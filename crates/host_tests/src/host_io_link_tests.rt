@@ -158,10 +158,15 @@ fn free_address(rt: &HostRuntime) -> Result<String, Fail> {
     Ok(format!(in rt.alloc(); "{address}")?)
 }
 
-fn settings(me: NodeId, address: &String, peers: Vec<Peer>) -> Result<LinkSettings, AllocError> {
+fn settings(
+    alloc: Global,
+    me: NodeId,
+    address: &str,
+    peers: Vec<Peer>,
+) -> Result<LinkSettings, AllocError> {
     Ok(LinkSettings {
         me,
-        listen: address.clone()?,
+        listen: String::from_str(alloc, address)?,
         peers,
     })
 }
@@ -170,19 +175,19 @@ fn settings(me: NodeId, address: &String, peers: Vec<Peer>) -> Result<LinkSettin
 fn open(
     rt: &HostRuntime,
     me: NodeId,
-    address: &String,
+    address: &str,
     peers: Vec<Peer>,
 ) -> Result<RealLink, HostError> {
-    match settings(me, address, peers) {
+    match settings(rt.alloc(), me, address, peers) {
         Ok(settings) => SystemHost::new(rt, Pieces).open_link(&settings),
         Err(_) => Err(HostError::Memory),
     }
 }
 
-fn only_peer(alloc: Global, id: NodeId, address: &String) -> Result<Vec<Peer>, AllocError> {
+fn only_peer(alloc: Global, id: NodeId, address: &str) -> Result<Vec<Peer>, AllocError> {
     let peer = Peer {
         id,
-        address: address.clone()?,
+        address: String::from_str(alloc, address)?,
     };
     Ok(vec![in alloc; peer]?)
 }
@@ -546,7 +551,7 @@ impl World<'_> {
     // A link with no peer.
     fn alone(rt: &HostRuntime) -> Result<World<'_>, Fail> {
         let address = free_address(rt)?;
-        let link = open(rt, id(b'a'), &address, Vec::new(rt.alloc()))?;
+        let link = open(rt, id(b'a'), address.as_str(), Vec::new(rt.alloc()))?;
         Ok(World::of(rt, link, address, String::new(rt.alloc())))
     }
 
@@ -554,8 +559,8 @@ impl World<'_> {
     fn with_peer(rt: &HostRuntime) -> Result<World<'_>, Fail> {
         let address = free_address(rt)?;
         let peer_address = free_address(rt)?;
-        let peers = only_peer(rt.alloc(), id(b'b'), &peer_address)?;
-        let link = open(rt, id(b'a'), &address, peers)?;
+        let peers = only_peer(rt.alloc(), id(b'b'), peer_address.as_str())?;
+        let link = open(rt, id(b'a'), address.as_str(), peers)?;
         Ok(World::of(rt, link, address, peer_address))
     }
 
@@ -629,7 +634,7 @@ impl World<'_> {
     fn set_peer(&mut self, opens: bool) -> bool {
         self.peer = if opens {
             let peers = Vec::new(self.rt.alloc());
-            open(self.rt, id(b'b'), &self.peer_address, peers).ok()
+            open(self.rt, id(b'b'), self.peer_address.as_str(), peers).ok()
         } else {
             None
         };
@@ -655,6 +660,14 @@ fn run(world: &mut World<'_>, rows: &[Row]) -> Result<(), Fail> {
     }
 }
 
+fn run_alone(rt: &HostRuntime, rows: &[Row]) -> Result<(), Fail> {
+    run(&mut World::alone(rt)?, rows)
+}
+
+fn run_with_peer(rt: &HostRuntime, rows: &[Row]) -> Result<(), Fail> {
+    run(&mut World::with_peer(rt)?, rows)
+}
+
 const SERVED_AND_STOPPED: &[Row] = &[
     Client(FIRST, Connects),
     Client(FIRST, Says(b"{\"id\":1}\n")),
@@ -672,7 +685,7 @@ const SERVED_AND_STOPPED: &[Row] = &[
 
 #[test]
 fn a_client_is_served_until_it_says_stop(rt: HostRuntime) -> Result<(), Fail> {
-    run(&mut World::alone(&rt)?, SERVED_AND_STOPPED)
+    run_alone(&rt, SERVED_AND_STOPPED)
 }
 
 #[test]
@@ -703,11 +716,11 @@ const FRAMES_TO_ITSELF: &[Row] = &[
 
 #[test]
 fn a_nodes_frames_to_itself_come_in_order(rt: HostRuntime) -> Result<(), Fail> {
-    run(&mut World::alone(&rt)?, FRAMES_TO_ITSELF)
+    run_alone(&rt, FRAMES_TO_ITSELF)
 }
 
 // Whether a link opens that listens here, with a peer there where one is named.
-fn opens(rt: &HostRuntime, address: &String, peer: Option<&String>) -> Result<bool, Fail> {
+fn opens(rt: &HostRuntime, address: &str, peer: Option<&str>) -> Result<bool, Fail> {
     let peers = match peer {
         Some(peer) => only_peer(rt.alloc(), id(b'a'), peer)?,
         None => Vec::new(rt.alloc()),
@@ -717,11 +730,10 @@ fn opens(rt: &HostRuntime, address: &String, peer: Option<&String>) -> Result<bo
 
 #[test]
 fn a_hosts_name_is_no_address(rt: HostRuntime) -> Result<(), Fail> {
-    let named = String::from_str(rt.alloc(), "localhost:0")?;
     let numbers = free_address(&rt)?;
-    assert!(rt; !opens(&rt, &named, None)?);
-    assert!(rt; !opens(&rt, &numbers, Some(&named))?);
-    assert!(rt; opens(&rt, &numbers, None)?);
+    assert!(rt; !opens(&rt, "localhost:0", None)?);
+    assert!(rt; !opens(&rt, numbers.as_str(), Some("localhost:0"))?);
+    assert!(rt; opens(&rt, numbers.as_str(), None)?);
     Ok(())
 }
 
@@ -741,7 +753,7 @@ const TWO_LINKS: &[Row] = &[
 
 #[test]
 fn two_links_exchange_frames_once_both_listen(rt: HostRuntime) -> Result<(), Fail> {
-    run(&mut World::with_peer(&rt)?, TWO_LINKS)
+    run_with_peer(&rt, TWO_LINKS)
 }
 
 const SLOW_READER: &[Row] = &[
@@ -757,7 +769,7 @@ const SLOW_READER: &[Row] = &[
 
 #[test]
 fn a_long_frame_comes_whole_to_a_slow_reader(rt: HostRuntime) -> Result<(), Fail> {
-    run(&mut World::alone(&rt)?, SLOW_READER)
+    run_alone(&rt, SLOW_READER)
 }
 
 const NO_ROOM: &[Row] = &[
@@ -775,7 +787,7 @@ const NO_ROOM: &[Row] = &[
 
 #[test]
 fn frames_for_which_there_is_no_room_are_lost_whole(rt: HostRuntime) -> Result<(), Fail> {
-    run(&mut World::alone(&rt)?, NO_ROOM)
+    run_alone(&rt, NO_ROOM)
 }
 
 const READER_GONE: &[Row] = &[
@@ -792,7 +804,7 @@ const READER_GONE: &[Row] = &[
 
 #[test]
 fn a_reader_that_goes_is_forgotten(rt: HostRuntime) -> Result<(), Fail> {
-    run(&mut World::alone(&rt)?, READER_GONE)
+    run_alone(&rt, READER_GONE)
 }
 
 const IDLE: &[Row] = &[
@@ -812,7 +824,7 @@ const IDLE: &[Row] = &[
 
 #[test]
 fn idle_connections_give_way(rt: HostRuntime) -> Result<(), Fail> {
-    run(&mut World::alone(&rt)?, IDLE)
+    run_alone(&rt, IDLE)
 }
 
 const ALL_NUMBERS_TAKEN: &[Row] = &[
@@ -836,7 +848,7 @@ const ALL_NUMBERS_TAKEN: &[Row] = &[
 
 #[test]
 fn clients_lock_no_peer_out(rt: HostRuntime) -> Result<(), Fail> {
-    run(&mut World::with_peer(&rt)?, ALL_NUMBERS_TAKEN)
+    run_with_peer(&rt, ALL_NUMBERS_TAKEN)
 }
 
 const WRITING_ENDED: &[Row] = &[
@@ -856,7 +868,7 @@ const WRITING_ENDED: &[Row] = &[
 
 #[test]
 fn a_client_that_ends_its_writing_gets_its_replies(rt: HostRuntime) -> Result<(), Fail> {
-    run(&mut World::alone(&rt)?, WRITING_ENDED)
+    run_alone(&rt, WRITING_ENDED)
 }
 
 const SLOW_AFTER_ITS_END: &[Row] = &[
@@ -873,7 +885,7 @@ const SLOW_AFTER_ITS_END: &[Row] = &[
 
 #[test]
 fn one_that_ends_its_writing_reads_slowly(rt: HostRuntime) -> Result<(), Fail> {
-    run(&mut World::alone(&rt)?, SLOW_AFTER_ITS_END)
+    run_alone(&rt, SLOW_AFTER_ITS_END)
 }
 
 const LATE_REPLY: &[Row] = &[
@@ -901,7 +913,7 @@ const LATE_REPLY: &[Row] = &[
 
 #[test]
 fn a_late_reply_reaches_no_other_client(rt: HostRuntime) -> Result<(), Fail> {
-    run(&mut World::alone(&rt)?, LATE_REPLY)
+    run_alone(&rt, LATE_REPLY)
 }
 
 const LINES_AMONG_FRAMES: &[Row] = &[
@@ -919,7 +931,7 @@ const LINES_AMONG_FRAMES: &[Row] = &[
 
 #[test]
 fn lines_come_one_by_one_and_each_second_input_is_one(rt: HostRuntime) -> Result<(), Fail> {
-    run(&mut World::alone(&rt)?, LINES_AMONG_FRAMES)
+    run_alone(&rt, LINES_AMONG_FRAMES)
 }
 
 const NUMBERS_KEPT: &[Row] = &[
@@ -938,5 +950,5 @@ const NUMBERS_KEPT: &[Row] = &[
 
 #[test]
 fn clients_keep_their_numbers_from_clients(rt: HostRuntime) -> Result<(), Fail> {
-    run(&mut World::alone(&rt)?, NUMBERS_KEPT)
+    run_alone(&rt, NUMBERS_KEPT)
 }

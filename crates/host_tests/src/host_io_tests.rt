@@ -99,6 +99,18 @@ fn is_so(disk: &mut FileDisks, row: Row) -> bool {
     }
 }
 
+// What is done with the files of the system, or what they then have.
+fn is_file_so(rt: &HostRuntime, row: Row) -> bool {
+    match row {
+        FolderIsMade(path) => fs::create_dir(rt, path).is_ok(),
+        FolderIsRemoved(path) => fs::remove_dir_all(rt, path).is_ok(),
+        FileIsMade(path, bytes) => fs::write(rt, path, bytes).is_ok(),
+        FileHas(path, wanted) => file_has(rt, path, wanted),
+        FileIsNotThere(path) => fs::read(rt, path).is_err(),
+        _ => false,
+    }
+}
+
 #[derive(Drop)]
 struct World<'a> {
     rt: &'a HostRuntime,
@@ -134,15 +146,12 @@ impl<'a> World<'a> {
                 self.host = SystemHost::new(self.rt, NoFrames);
                 true
             }
-            FolderIsMade(path) => fs::create_dir(self.rt, path).is_ok(),
-            FolderIsRemoved(path) => fs::remove_dir_all(self.rt, path).is_ok(),
-            FileIsMade(path, bytes) => fs::write(self.rt, path, bytes).is_ok(),
-            FileHas(path, wanted) => file_has(self.rt, path, wanted),
-            FileIsNotThere(path) => fs::read(self.rt, path).is_err(),
-            _ => match &mut self.disk {
-                Some(disk) => is_so(disk, row),
-                None => false,
-            },
+            Writes(..) | RefusesToWrite(..) | RefusesToRead(..) | Syncs(_) | Has(..) | IsEmpty(_) =>
+                match &mut self.disk {
+                    Some(disk) => is_so(disk, row),
+                    None => false,
+                },
+            _ => is_file_so(self.rt, row),
         }
     }
 
@@ -162,10 +171,14 @@ impl<'a> World<'a> {
     }
 }
 
+fn first_untrue(rt: &HostRuntime, rows: &[Row]) -> Option<usize> {
+    World::new(rt).first_untrue(rows)
+}
+
 // Says which row is not so, the first being row 0. What an earlier run has left in the folder is removed first.
 fn run(rt: &HostRuntime, dir: &str, rows: &[Row]) -> Result<(), Fail> {
     let _ = fs::remove_dir_all(rt, dir);
-    if let Some(place) = World::new(rt).first_untrue(rows) {
+    if let Some(place) = first_untrue(rt, rows) {
         return Err(Fail::new(format_args!("row {place}")));
     }
     let _ = fs::remove_dir_all(rt, dir);

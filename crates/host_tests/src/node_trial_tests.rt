@@ -13,11 +13,11 @@ const TRIAL: Trial<'static> = Trial {
     turns: 600,
 };
 
-// What the nodes write, in which the second one has won.
-const WON: [&str; 3] = ["mode candidate\n", "> x\nwon b 1\n", ""];
+// The status with which each node ends, and what it writes.
+type Nodes = &'static [(u8, &'static str)];
 
-// What they write where none has won: `won` stands in no line as its first word.
-const NOT_WON: [&str; 3] = ["a won\n", "wont b\nwo\n", "> won"];
+// The second node has won.
+const WON: Nodes = &[(0, "mode candidate\n"), (0, "> x\nwon b 1\n"), (0, "")];
 
 #[derive(Drop)]
 struct Tried {
@@ -26,23 +26,34 @@ struct Tried {
     host: MemHost<MemDisks>,
 }
 
-// A trial whose nodes end so, where the calls of the host with these numbers fail.
-fn trial_of(
-    alloc: Global,
-    statuses: [u8; 3],
-    outputs: [&str; 3],
-    fails: &[u64],
-) -> Result<Tried, AllocError> {
+fn ended(alloc: Global, status: u8, output: &str) -> Result<Ended, AllocError> {
+    let output = Vec::from_slice(alloc, output.as_bytes())?;
+    Ok(Ended { status, output })
+}
+
+fn ends(alloc: Global, nodes: &[(u8, &str)]) -> Result<Vec<Ended>, AllocError> {
     let mut ends = Vec::new(alloc);
-    for place in 0..3 {
-        let output = Vec::from_slice(alloc, outputs[place].as_bytes())?;
-        ends.push(Ended {
-            status: statuses[place],
-            output,
-        })?;
+    for (status, output) in nodes {
+        ends.push(ended(alloc, *status, output)?)?;
     }
+    Ok(ends)
+}
+
+// The host of these nodes, whose calls with these numbers fail.
+fn host_of(
+    alloc: Global,
+    nodes: &[(u8, &str)],
+    fails: &[u64],
+) -> Result<MemHost<MemDisks>, AllocError> {
+    let ends = ends(alloc, nodes)?;
+    let fails = Vec::from_slice(alloc, fails)?;
     let disk = MemDisks::new(alloc, Vec::new(alloc), Vec::new(alloc), Vec::new(alloc));
-    let mut host = MemHost::with_children(alloc, disk, ends, Vec::from_slice(alloc, fails)?);
+    Ok(MemHost::with_children(alloc, disk, ends, fails))
+}
+
+// A trial whose nodes end so, where the calls of the host with these numbers fail.
+fn trial_of(alloc: Global, nodes: &[(u8, &str)], fails: &[u64]) -> Result<Tried, AllocError> {
+    let mut host = host_of(alloc, nodes, fails)?;
     let mut sink = MemSink::new(alloc, 100, Vec::new(alloc));
     let end = run_trial(alloc, &TRIAL, &mut sink, &mut host);
     Ok(Tried { end, sink, host })
@@ -55,25 +66,23 @@ fn wrote(tried: &Tried, text: &str) -> bool {
 // Whether a trial whose nodes end so has this end and writes this, where no call fails.
 fn is_tried(
     alloc: Global,
-    statuses: [u8; 3],
-    outputs: [&str; 3],
+    nodes: &[(u8, &str)],
     end: TrialEnd,
     text: &str,
 ) -> Result<bool, AllocError> {
-    let trial = trial_of(alloc, statuses, outputs, &[])?;
+    let trial = trial_of(alloc, nodes, &[])?;
     Ok(trial.end == end && wrote(&trial, text))
 }
 
-// How the nodes end, what they write, and what the trial then writes, which passes.
-const PASSED: [([u8; 3], [&str; 3], &str); 2] = [
+// How the nodes end, and what the trial then writes, which passes.
+const PASSED: &[(Nodes, &str)] = &[
     (
-        [11, 0, 11],
-        WON,
+        &[(11, "mode candidate\n"), (0, "> x\nwon b 1\n"), (11, "")],
         "child a status=11\nchild b status=0\nchild c status=11\nwon=yes\n",
     ),
+    // None has won: `won` stands in no line as its first word.
     (
-        [0, 0, 0],
-        NOT_WON,
+        &[(0, "a won\n"), (0, "wont b\nwo\n"), (0, "> won")],
         "child a status=0\nchild b status=0\nchild c status=0\nwon=no\n",
     ),
 ];
@@ -82,19 +91,22 @@ const PASSED: [([u8; 3], [&str; 3], &str); 2] = [
 fn a_trial_passes_where_each_node_stops_or_has_taken_its_turns(
     rt: HostRuntime,
 ) -> Result<(), Fail> {
-    for (statuses, outputs, text) in &PASSED {
+    for row in PASSED {
+        let (nodes, text) = *row;
         assert!(rt;
-            is_tried(rt.alloc(), *statuses, *outputs, TrialEnd::Done, text)?,
+            is_tried(rt.alloc(), nodes, TrialEnd::Done, text)?,
             "{text}"
         );
     }
     Ok(())
 }
 
+const FAILED: Nodes = &[(0, "mode candidate\n"), (11, "> x\nwon b 1\n"), (6, "")];
+
 #[test]
 fn a_node_with_another_status_makes_a_trial_fail(rt: HostRuntime) -> Result<(), Fail> {
     let text = "child a status=0\nchild b status=11\nchild c status=6\nwon=yes\n";
-    assert!(rt; is_tried(rt.alloc(), [0, 11, 6], WON, TrialEnd::TrialFailed, text)?);
+    assert!(rt; is_tried(rt.alloc(), FAILED, TrialEnd::TrialFailed, text)?);
     Ok(())
 }
 
@@ -120,7 +132,7 @@ fn is_start(call: Option<&Asked>, wanted: &[&str]) -> bool {
     }
 }
 
-const WORDS_OF_B: [&str; 13] = [
+const WORDS_OF_B: &[&str] = &[
     "node",
     "--id",
     "b",
@@ -138,8 +150,8 @@ const WORDS_OF_B: [&str; 13] = [
 
 #[test]
 fn a_node_is_told_its_id_its_folder_and_its_peers(rt: HostRuntime) -> Result<(), Fail> {
-    let trial = trial_of(rt.alloc(), [0, 0, 0], WON, &[])?;
-    assert!(rt; is_start(trial.host.asked().get(1), &WORDS_OF_B));
+    let trial = trial_of(rt.alloc(), WON, &[])?;
+    assert!(rt; is_start(trial.host.asked().get(1), WORDS_OF_B));
     Ok(())
 }
 
@@ -165,7 +177,7 @@ fn is_cut_short(
     children: &[usize],
     running: u64,
 ) -> Result<bool, AllocError> {
-    let trial = trial_of(alloc, [0, 0, 0], WON, refused)?;
+    let trial = trial_of(alloc, WON, refused)?;
     let calls = trial.host.asked();
     Ok(
         trial.end == TrialEnd::HostFault
@@ -178,7 +190,7 @@ fn is_cut_short(
 
 // Which calls are refused, how many calls there are then, the numbers of the children that the host is asked to kill, and how
 // many of these run on, since that was refused too.
-const CUT_SHORT: [(&[u64], usize, &[usize], u64); 9] = [
+const CUT_SHORT: &[(&[u64], usize, &[usize], u64)] = &[
     (&[1], 1, &[], 0),
     (&[2], 3, &[1], 0),
     (&[3], 5, &[1, 2], 0),
@@ -194,7 +206,7 @@ const CUT_SHORT: [(&[u64], usize, &[usize], u64); 9] = [
 fn where_a_call_is_refused_the_host_is_asked_to_kill_those_that_still_run(
     rt: HostRuntime,
 ) -> Result<(), Fail> {
-    for (refused, count, children, running) in &CUT_SHORT {
+    for (refused, count, children, running) in CUT_SHORT {
         assert!(rt;
             is_cut_short(rt.alloc(), refused, *count, children, *running)?,
             "{refused:?}"
@@ -203,9 +215,9 @@ fn where_a_call_is_refused_the_host_is_asked_to_kill_those_that_still_run(
     Ok(())
 }
 
-const WINS: [&str; 5] = ["won", "won\n", "won a 1\n", "x\nwon \ny\n", "\n\nwon b 2"];
+const WINS: &[&str] = &["won", "won\n", "won a 1\n", "x\nwon \ny\n", "\n\nwon b 2"];
 
-const NO_WINS: [&str; 8] = [
+const NO_WINS: &[&str] = &[
     "", "\n", " won", "won\t1", "WON\n", "wonder\n", "x won\n", "wo\nn\n",
 ];
 
@@ -219,5 +231,5 @@ fn has_none_won(outputs: &[&str]) -> bool {
 
 #[test]
 fn a_win_is_a_line_whose_first_word_is_won(rt: HostRuntime) {
-    assert!(rt; have_all_won(&WINS) && has_none_won(&NO_WINS));
+    assert!(rt; have_all_won(WINS) && has_none_won(NO_WINS));
 }

@@ -88,6 +88,8 @@ enum Row {
     RefusesToWait(usize),
     Kills(usize),
     RefusesToKill(usize),
+    // So many run.
+    AreRunning(u64),
 }
 
 fn disk(alloc: Global) -> Result<MemDisks, AllocError>
@@ -172,6 +174,7 @@ impl World {
             RefusesToWait(place) => matches!(self.wait(place), Err(HostError::Failed)),
             Kills(place) => self.kill(place) == Ok(()),
             RefusesToKill(place) => self.kill(place) == Err(HostError::Failed),
+            AreRunning(count) => self.host.running_count() == count,
         }
     }
 
@@ -227,6 +230,14 @@ impl World {
         }
     }
 
+    fn has_disk_back(self) -> bool {
+        self.host.into_disk_back().is_some()
+    }
+
+    fn has_link_back(self) -> bool {
+        self.host.into_given_back().1.is_some()
+    }
+
     fn spawn(&mut self, count: usize) -> Result<MemChild, HostError> {
         match words(self.alloc, count) {
             Ok(words) => self.host.spawn("p", words.as_slice()),
@@ -252,13 +263,13 @@ impl World {
     }
 }
 
-// Says which row is not so, the first being row 0, or that the calls were others.
-fn run(world: &mut World, rows: &[Row], calls: &[Call]) -> Result<(), Fail> {
+// The world after these rows and calls. Says which row is not so, the first being row 0, or that the calls were others.
+fn after(mut world: World, rows: &[Row], calls: &[Call]) -> Result<World, Fail> {
     if let Some(place) = world.first_untrue(rows) {
         return Err(Fail::new(format_args!("row {place}")));
     }
     if are_calls(world.host.asked(), calls) {
-        Ok(())
+        Ok(world)
     } else {
         Err(Fail::new("the calls were others"))
     }
@@ -276,9 +287,8 @@ const DISK_CALLS: &[Call] = &[(b'd', 1, true), (b'd', 1, false), (b'd', 1, true)
 
 #[test]
 fn a_host_gives_its_disk_and_takes_it_back(rt: HostRuntime) -> Result<(), Fail> {
-    let mut world = World::with_children(rt.alloc(), &[1])?;
-    run(&mut world, DISK, DISK_CALLS)?;
-    assert!(rt; world.host.into_disk_back().is_some());
+    let world = after(World::with_children(rt.alloc(), &[1])?, DISK, DISK_CALLS)?;
+    assert!(rt; world.has_disk_back());
     Ok(())
 }
 
@@ -288,9 +298,13 @@ const LINK_CALLS: &[Call] = &[(b'l', 1, true), (b'l', 1, false)];
 
 #[test]
 fn a_host_gives_its_link_and_takes_it_back(rt: HostRuntime) -> Result<(), Fail> {
-    let mut world = World::with_link(rt.alloc(), &[1])?;
-    run(&mut world, LINK, LINK_CALLS)?;
-    assert!(rt; world.host.into_given_back().1.is_some());
+    let world = after(World::with_link(rt.alloc(), &[1])?, LINK, LINK_CALLS)?;
+    assert!(rt; world.has_link_back());
+    Ok(())
+}
+
+fn run_children(alloc: Global, refused: &[u64], rows: &[Row], calls: &[Call]) -> Result<(), Fail> {
+    let _ = after(World::with_children(alloc, refused)?, rows, calls)?;
     Ok(())
 }
 
@@ -302,6 +316,7 @@ const THREE_CHILDREN: &[Row] = &[
     RefusesToSpawn,
     RefusesToWait(1),
     Waits(0, 3, "x"),
+    AreRunning(0),
 ];
 
 const THREE_CHILDREN_CALLS: &[Call] = &[
@@ -315,13 +330,17 @@ const THREE_CHILDREN_CALLS: &[Call] = &[
 
 #[test]
 fn children_end_in_the_order_in_which_they_are_spawned(rt: HostRuntime) -> Result<(), Fail> {
-    let mut world = World::with_children(rt.alloc(), &[2, 5])?;
-    run(&mut world, THREE_CHILDREN, THREE_CHILDREN_CALLS)?;
-    assert!(rt; world.host.running_count() == 0);
-    Ok(())
+    run_children(rt.alloc(), &[2, 5], THREE_CHILDREN, THREE_CHILDREN_CALLS)
 }
 
-const KILLINGS: &[Row] = &[Spawns(0), Spawns(0), RefusesToKill(1), Kills(0)];
+const KILLINGS: &[Row] = &[
+    Spawns(0),
+    Spawns(0),
+    RefusesToKill(1),
+    Kills(0),
+    // The child whose killing was refused runs on.
+    AreRunning(1),
+];
 
 const KILLING_CALLS: &[Call] = &[
     (b's', 0, false),
@@ -332,9 +351,5 @@ const KILLING_CALLS: &[Call] = &[
 
 #[test]
 fn a_killing_is_told(rt: HostRuntime) -> Result<(), Fail> {
-    let mut world = World::with_children(rt.alloc(), &[3])?;
-    run(&mut world, KILLINGS, KILLING_CALLS)?;
-    // The child whose killing was refused runs on.
-    assert!(rt; world.host.running_count() == 1);
-    Ok(())
+    run_children(rt.alloc(), &[3], KILLINGS, KILLING_CALLS)
 }

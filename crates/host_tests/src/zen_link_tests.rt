@@ -11,28 +11,34 @@ use zen_link::{
     write_all,
 };
 
-#[test]
-fn a_source_gives_its_bytes_and_fails_where_it_is_told(rt: HostRuntime) -> Result<(), Fail> {
-    let alloc = rt.alloc();
-    let bytes = Vec::from_slice(alloc, b"abc")?;
-    let mut source = MemSource::new(bytes, vec![in alloc; 2u64]?);
-    let mut buffer = [0; 2];
-    assert!(rt; source.read(&mut buffer) == Ok(2));
-    assert!(rt; buffer == *b"ab");
-    assert!(rt; source.read(&mut buffer).is_err());
-    assert!(rt; source.read(&mut buffer) == Ok(1));
-    assert!(rt; source.read(&mut buffer) == Ok(0));
-    Ok(())
-}
-
 // An input of three bytes, of which these reads fail.
 fn abc(alloc: Global, fails: &[u64]) -> Result<MemSource, AllocError> {
     let bytes = Vec::from_slice(alloc, b"abc")?;
     Ok(MemSource::new(bytes, Vec::from_slice(alloc, fails)?))
 }
 
+// What two bytes of room are given, one read after the other, where it does not fail.
+const GIVEN: &[Option<&[u8]>] = &[Some(b"ab"), None, Some(b"c"), Some(b"")];
+
+fn gives(source: &mut MemSource, wanted: Option<&[u8]>) -> bool {
+    let mut buffer = [0; 2];
+    match source.read(&mut buffer) {
+        Ok(count) => buffer.get(..count) == wanted,
+        Err(_) => wanted.is_none(),
+    }
+}
+
+#[test]
+fn a_source_gives_its_bytes_and_fails_where_it_is_told(rt: HostRuntime) -> Result<(), Fail> {
+    let mut source = abc(rt.alloc(), &[2])?;
+    for wanted in GIVEN {
+        assert!(rt; gives(&mut source, *wanted));
+    }
+    Ok(())
+}
+
 // How many bytes may be read, and those that are.
-const READ: [(usize, &[u8]); 3] = [(4, b"abc"), (2, b"ab"), (0, b"")];
+const READ: &[(usize, &[u8])] = &[(4, b"abc"), (2, b"ab"), (0, b"")];
 
 fn is_read(alloc: Global, most: usize, read: &[u8]) -> Result<bool, AllocError> {
     let mut source = abc(alloc, &[])?;
@@ -42,18 +48,18 @@ fn is_read(alloc: Global, most: usize, read: &[u8]) -> Result<bool, AllocError> 
     }
 }
 
+// The second read fails.
+fn fails(alloc: Global) -> Result<bool, AllocError> {
+    let mut source = abc(alloc, &[2])?;
+    Ok(matches!(read_input(alloc, &mut source, 4), Err(InputError::Read)))
+}
+
 #[test]
 fn an_input_is_read_to_its_end_or_as_far_as_it_may_be(rt: HostRuntime) -> Result<(), Fail> {
-    for (most, read) in &READ {
+    for (most, read) in READ {
         assert!(rt; is_read(rt.alloc(), *most, read)?);
     }
-    let mut source = abc(rt.alloc(), &[2])?;
-    assert!(rt;
-        matches!(
-            read_input(rt.alloc(), &mut source, 4),
-            Err(InputError::Read)
-        )
-    );
+    assert!(rt; fails(rt.alloc())?);
     Ok(())
 }
 
@@ -96,18 +102,34 @@ fn letters(alloc: Global, link: &MemLink<u8>) -> Result<Vec<u8>, AllocError> {
     Ok(letters)
 }
 
-#[test]
-fn a_link_in_memory_tells_what_went_over_it(rt: HostRuntime) -> Result<(), Fail> {
-    let alloc = rt.alloc();
+// A link whose second call fails, which then is sent a value and drops the connection.
+fn used(alloc: Global) -> Result<MemLink<u8>, AllocError> {
     let mut link = MemLink::new(alloc, script(alloc)?, vec![in alloc; 2u64]?);
-    assert!(rt; matches!(link.next(), Ok(Input::Bytes { .. })));
-    assert!(rt; matches!(link.next(), Err(LinkError::Failed)));
+    let _ = link.next();
+    let _ = link.next();
     link.send(b'7');
     link.drop_conn(3);
     let _ = link.next();
     let _ = link.next();
-    assert!(rt; letters(alloc, &link)?.as_slice() == b"b7dcs".as_slice());
+    Ok(link)
+}
+
+#[test]
+fn a_link_in_memory_tells_what_went_over_it(rt: HostRuntime) -> Result<(), Fail> {
+    let link = used(rt.alloc())?;
+    assert!(rt; letters(rt.alloc(), &link)?.as_slice() == b"b7dcs".as_slice());
     assert!(rt; link.fault_count() == 1);
     assert!(rt; link.ask_count() == 4);
+    Ok(())
+}
+
+#[test]
+fn a_link_in_memory_gives_its_script_and_fails_where_it_is_told(
+    rt: HostRuntime,
+) -> Result<(), Fail> {
+    let mut link = MemLink::<u8>::new(rt.alloc(), script(rt.alloc())?, vec![in rt.alloc(); 2u64]?);
+    assert!(rt; matches!(link.next(), Ok(Input::Bytes { .. })));
+    assert!(rt; matches!(link.next(), Err(LinkError::Failed)));
+    assert!(rt; matches!(link.next(), Ok(Input::Closed { .. })));
     Ok(())
 }
