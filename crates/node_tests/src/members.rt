@@ -20,6 +20,15 @@ pub(crate) fn settings_of(
     initial: &[&str],
 ) -> Result<Settings, Fail> {
     let me = NodeId::parse(me)?;
+    Ok(Settings {
+        me,
+        initial: voters_of(initial)?,
+        peers: peers_of(alloc, me, names)?,
+        shrink: true,
+    })
+}
+
+fn peers_of(alloc: Global, me: NodeId, names: &[&str]) -> Result<NodeIds, Fail> {
     let mut peers = Vec::new(alloc);
     for name in names {
         let peer = NodeId::parse(name)?;
@@ -27,16 +36,15 @@ pub(crate) fn settings_of(
             peers.push(peer)?;
         }
     }
+    Ok(NodeIds::of(peers))
+}
+
+fn voters_of(initial: &[&str]) -> Result<NodeSet, Fail> {
     let mut voters = NodeSet::new();
     for name in initial {
         let _ = voters.insert(NodeId::parse(name)?);
     }
-    Ok(Settings {
-        me,
-        peers: NodeIds::of(peers),
-        initial: voters,
-        shrink: true,
-    })
+    Ok(voters)
 }
 
 /// A node within the limits, as `step` requires it.

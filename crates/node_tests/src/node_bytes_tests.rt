@@ -2,6 +2,7 @@
 use crate::members::{Member, settings_of};
 use client_lines::{Line, LineReader};
 use cluster_state::{ClusterState, SharedState};
+use coordinator::Sealed;
 use host_io::{Framing, SocketLink, SystemHost};
 use node_bytes::{SealedFrames, is_fit};
 use policy_model::Event;
@@ -62,44 +63,76 @@ fn line_of(alloc: Global, bytes: &[u8]) -> Result<Line, Fail> {
     }
 }
 
+// What a does about the first line of bytes that came over a connection.
+fn done(alloc: Global, conn: u64, bytes: &[u8]) -> Result<Sealed, Fail> {
+    let line = line_of(alloc, bytes)?;
+    let (_, sealed) = start(alloc)?.step(alloc, Event::Client { conn, line })?;
+    Ok(sealed)
+}
+
+fn serve(alloc: Global, link: &mut RealLink) -> Result<(), Fail> {
+    let (conn, bytes) = next_bytes(alloc, link)?;
+    link.send(done(alloc, conn, bytes.as_slice())?);
+    Ok(())
+}
+
+const REPLY: &[u8; 27] = b"{\"id\":1,\"not_master\":null}\n";
+
+fn gets_reply(mut client: &TcpStream) -> Result<bool, Fail> {
+    let mut reply = [0u8; 27];
+    client.read_exact(&mut reply)?;
+    Ok(reply == *REPLY)
+}
+
 #[test]
 fn a_reply_comes_as_a_line(rt: HostRuntime) -> Result<(), Fail> {
-    let alloc = rt.alloc();
     let address = free_address(&rt)?;
-    let mut link = open_link(&rt, "a", &address, Vec::new(alloc))?;
+    let mut link = open_link(&rt, "a", &address, Vec::new(rt.alloc()))?;
     let client = TcpStream::connect(&rt, address.as_str())?;
     (&client).write_all(b"{\"id\":1,\"state\":{}}\n")?;
-    let (conn, bytes) = next_bytes(alloc, &mut link)?;
-    let line = line_of(alloc, bytes.as_slice())?;
-    let (_, sealed) = start(alloc)?.step(alloc, Event::Client { conn, line })?;
-    link.send(sealed);
-    let mut reply = [0u8; 27];
-    (&client).read_exact(&mut reply)?;
-    assert!(rt; reply == *b"{\"id\":1,\"not_master\":null}\n");
+    serve(rt.alloc(), &mut link)?;
+    assert!(rt; gets_reply(&client)?);
     Ok(())
 }
 
 // The frame by which a asks b for its peers: eight bytes of body, the kind, the sender, the receiver, and a list of one.
 const ASKED: &[u8; 12] = b"\0\0\0\x08\x07\x01a\x01b\x01\x01b";
 
+fn is_asked(bytes: &[u8]) -> Result<bool, Fail> {
+    let sender = NodeId::parse("a")?;
+    Ok(bytes.starts_with(ASKED) && SealedFrames.sender(bytes) == Some(sender))
+}
+
+fn only_b(alloc: Global, address: &String) -> Result<Vec<Peer>, Fail> {
+    let id = NodeId::parse("b")?;
+    let address = address.clone()?;
+    Ok(vec![in alloc; Peer { id, address }]?)
+}
+
+// The link of a, whose peer is b, and that of b.
+fn two_links(rt: &HostRuntime) -> Result<(RealLink, RealLink), Fail> {
+    let (there, here) = (free_address(rt)?, free_address(rt)?);
+    let asked = open_link(rt, "b", &there, Vec::new(rt.alloc()))?;
+    let asking = open_link(rt, "a", &here, only_b(rt.alloc(), &there)?)?;
+    Ok((asking, asked))
+}
+
+// A tick of the node, and what it sends.
+fn tick(alloc: Global, node: Member, now: u64, link: &mut RealLink) -> Result<Member, Fail> {
+    let (next, sealed) = node.step(alloc, Event::Tick { now, word: 7 })?;
+    link.send(sealed);
+    let _ = link.next();
+    Ok(next)
+}
+
 #[test]
 fn a_frame_comes_whole_to_its_receiver(rt: HostRuntime) -> Result<(), Fail> {
-    let alloc = rt.alloc();
-    let (there, here) = (free_address(&rt)?, free_address(&rt)?);
-    let id = NodeId::parse("b")?;
-    let address = there.clone()?;
-    let mut asking = open_link(&rt, "a", &here, vec![in alloc; Peer { id, address }]?)?;
-    let mut asked = open_link(&rt, "b", &there, Vec::new(alloc))?;
-    let mut node = start(alloc)?;
+    let (mut asking, mut asked) = two_links(&rt)?;
+    let mut node = start(rt.alloc())?;
     for second in 1..101 {
-        let now = second * 1000;
-        let (next, sealed) = node.step(alloc, Event::Tick { now, word: 7 })?;
-        node = next;
-        asking.send(sealed);
-        let _ = asking.next();
+        node = tick(rt.alloc(), node, second * 1000, &mut asking)?;
         if let Ok(Input::Bytes { bytes, .. }) = asked.next() {
-            assert!(rt; bytes.as_slice().starts_with(ASKED));
-            assert!(rt; SealedFrames.sender(bytes.as_slice()) == Some(NodeId::parse("a")?));
+            assert!(rt; is_asked(bytes.as_slice())?);
             return Ok(());
         }
     }
@@ -114,30 +147,45 @@ fn blanks(alloc: Global, length: usize) -> Result<String, AllocError> {
     Ok(text)
 }
 
-// A frame that publishes a state with one setting, whose key and text have so many bytes.
-fn published(alloc: Global, key: usize, text: usize) -> Result<Frame, AllocError> {
+// The first state, with one setting, whose key and text have so many bytes.
+fn state(alloc: Global, key: usize, text: usize) -> Result<SharedState, AllocError> {
     let mut state = ClusterState::initial(alloc, &NodeSet::new());
-    state.value.settings.put(blanks(alloc, key)?.as_str(), blanks(alloc, text)?.as_str())?;
+    put(&mut state, &blanks(alloc, key)?, &blanks(alloc, text)?)?;
+    SharedState::of(alloc, state)
+}
+
+fn put(state: &mut ClusterState, key: &String, text: &String) -> Result<(), AllocError> {
+    state.value.settings.put(key.as_str(), text.as_str())
+}
+
+// A frame that publishes it.
+fn published(alloc: Global, key: usize, text: usize) -> Result<Frame, AllocError> {
     Ok(Frame {
         from: NodeId::default(),
         to: NodeId::default(),
-        message: WireMessage::Publish(SharedState::of(alloc, state)?),
+        message: WireMessage::Publish(state(alloc, key, text)?),
     })
+}
+
+// How many bytes a setting's key and text have, and whether the frame is fit.
+const LENGTHS: &[(usize, usize, bool)] = &[
+    (1, 0, true),
+    (128, 1_024, true),
+    (0, 1, false),
+    (129, 1, false),
+    (1, 1_025, false),
+];
+
+fn is_fit_so(alloc: Global, key: usize, text: usize) -> Result<bool, AllocError> {
+    let frame = published(alloc, key, text)?;
+    Ok(is_fit(&frame))
 }
 
 #[test]
 fn a_frame_is_fit_up_to_keys_of_128_bytes_and_texts_of_1024(rt: HostRuntime) -> Result<(), Fail> {
-    for (key, text, wanted) in [
-        (1, 0, true),
-        (128, 1_024, true),
-        (0, 1, false),
-        (129, 1, false),
-        (1, 1_025, false),
-    ] {
-        assert!(rt;
-            is_fit(&published(rt.alloc(), key, text)?) == wanted,
-            "{key}"
-        );
+    for row in LENGTHS {
+        let (key, text, wanted) = *row;
+        assert!(rt; is_fit_so(rt.alloc(), key, text)? == wanted, "{key}");
     }
     Ok(())
 }

@@ -3,8 +3,9 @@ ghost use Rattle.std.specs.Prelude.{◌<◌, IfOk, IsTrue};
 ghost use Rattle.std.specs.List.{list_all};
 ghost use Rattle.zen_link.specs.Told.{has_low_conn, most_connections};
 
+use self::Comes::{Gone, Letters, OnFour, OnThree, Tick};
 use crate::members::settings_of;
-use crate::shown::shows;
+use crate::shown::wrote;
 use bytes::Bytes;
 use coordinator::Sealed;
 use node_loop::{End, JournalNode, Node, law_crash_is_kill, law_end_is_kept, law_moment_is_cut};
@@ -25,21 +26,19 @@ fn the_laws_can_be_called() {
 
 // ---- what comes
 
+// What comes to the node at a turn.
 #[derive(Clone, Copy)]
-enum Script {
-    // Three ticks.
-    Ticks,
-    // What comes over one connection, piece by piece.
-    Pieces(&'static [u8], &'static [u8]),
-    // A node that is a quorum alone stands for election once its wait is over, and hears its own frames. Then a client puts
-    // a setting.
-    Election,
-}
-
-fn tick(now: u64) -> Input
-    ensures { IsTrue (has_low_conn result) }
-{
-    Input::Tick { now, word: 0 }
+enum Comes {
+    // A tick at this time.
+    Tick(u64),
+    // These bytes, over connection 3.
+    OnThree(&'static [u8]),
+    // The same over connection 4.
+    OnFour(&'static [u8]),
+    // So many letters x and a line feed, over connection 3.
+    Letters(usize),
+    // The end of connection 3.
+    Gone,
 }
 
 fn bytes(conn: u64, text: &'static [u8]) -> Input
@@ -52,54 +51,83 @@ fn bytes(conn: u64, text: &'static [u8]) -> Input
     }
 }
 
-// Each frame comes as four bytes of length, the kind, the sender, the receiver and the fields.
-fn election(alloc: Global) -> Result<Vec<Input>, AllocError>
-    ensures { IfOk result (λ inputs. IsTrue (list_all has_low_conn inputs.items)) }
+fn long_line(alloc: Global, count: usize) -> Result<Input, AllocError>
+    ensures { IfOk result (λ input. IsTrue (has_low_conn input)) }
 {
-    Ok(vec![in alloc;
-        tick(1),
-        tick(1_000),
-        bytes(3, b"\0\0\0\x0f\x01\x01a\x01a\x01a\0\0\0\0\0\0\0\x01"),
-        bytes(
-            3,
-            b"\0\0\0\x1d\x02\x01a\x01a\0\0\0\0\0\0\0\x01\0\0\0\0\0\0\0\0\0\0\0\0\0\0\0\0"
-        ),
-        bytes(
-            3,
-            b"\0\0\0\x35\x11\x01a\x01a\0\0\0\0\0\0\0\x01\0\0\0\0\0\0\0\x01\x01\0\0\0\0\0\0\0\0\0\0\0\0\0\0\0\0\x01\x01a\x01\x01a\x01\x01a\x01\x01a\0\0\0"
-        ),
-        bytes(
-            3,
-            b"\0\0\0\x15\x04\x01a\x01a\0\0\0\0\0\0\0\x01\0\0\0\0\0\0\0\x01"
-        ),
-        bytes(
-            3,
-            b"\0\0\0\x15\x05\x01a\x01a\0\0\0\0\0\0\0\x01\0\0\0\0\0\0\0\x01"
-        ),
-        bytes(4, b"{\"id\":1,\"put\":{\"key\":\"k\",\"value\":\"v\"}}\n"),
-        bytes(
-            3,
-            b"\0\0\0\x3b\x11\x01a\x01a\0\0\0\0\0\0\0\x01\0\0\0\0\0\0\0\x02\x01\0\0\0\0\0\0\0\x01\0\0\0\0\0\0\0\x01\x01\x01a\x01\x01a\x01\x01a\x01\x01a\0\0\x01\0\x01k\0\x01v"
-        ),
-        bytes(
-            3,
-            b"\0\0\0\x15\x04\x01a\x01a\0\0\0\0\0\0\0\x01\0\0\0\0\0\0\0\x02"
-        ),
-    ]?)
+    let mut line = vec![in alloc; b'x'; count]?;
+    line.push(b'\n')?;
+    Ok(Input::Bytes {
+        conn: 3,
+        bytes: Bytes::from_vec(line)?,
+    })
 }
 
-fn inputs(alloc: Global, script: Script) -> Result<Vec<Input>, AllocError>
-    ensures { IfOk result (λ inputs. IsTrue (list_all has_low_conn inputs.items)) }
+fn input(alloc: Global, comes: Comes) -> Result<Input, AllocError>
+    ensures { IfOk result (λ input. IsTrue (has_low_conn input)) }
 {
-    match script {
-        Script::Ticks => Ok(vec![in alloc; tick(1), tick(2), tick(3)]?),
-        Script::Pieces(first, second) => Ok(vec![in alloc; bytes(3, first), bytes(3, second)]?),
-        Script::Election => election(alloc),
+    match comes {
+        Tick(now) => Ok(Input::Tick { now, word: 0 }),
+        OnThree(text) => Ok(bytes(3, text)),
+        OnFour(text) => Ok(bytes(4, text)),
+        Letters(count) => long_line(alloc, count),
+        Gone => Ok(Input::Closed { conn: 3 }),
     }
 }
 
+fn inputs(alloc: Global, script: &[Comes]) -> Result<Vec<Input>, AllocError>
+    ensures { IfOk result (λ inputs. IsTrue (list_all has_low_conn inputs.items)) }
+{
+    let mut inputs = Vec::new(alloc);
+    for comes in script {
+        inputs.push(input(alloc, *comes)?)?;
+    }
+    Ok(inputs)
+}
+
+const TICKS: &[Comes] = &[Tick(1), Tick(2), Tick(3)];
+
+// The node is a quorum alone: it stands for election once its wait is over, and hears its own frames. Then a client puts a
+// setting. Each frame comes as four bytes of length, the kind, the sender, the receiver and the fields.
+const ELECTION: &[Comes] = &[
+    Tick(1),
+    Tick(1_000),
+    OnThree(b"\0\0\0\x0f\x01\x01a\x01a\x01a\0\0\0\0\0\0\0\x01"),
+    OnThree(b"\0\0\0\x1d\x02\x01a\x01a\0\0\0\0\0\0\0\x01\0\0\0\0\0\0\0\0\0\0\0\0\0\0\0\0"),
+    OnThree(
+        b"\0\0\0\x35\x11\x01a\x01a\0\0\0\0\0\0\0\x01\0\0\0\0\0\0\0\x01\x01\0\0\0\0\0\0\0\0\0\0\0\0\0\0\0\0\x01\x01a\x01\x01a\x01\x01a\x01\x01a\0\0\0",
+    ),
+    OnThree(b"\0\0\0\x15\x04\x01a\x01a\0\0\0\0\0\0\0\x01\0\0\0\0\0\0\0\x01"),
+    OnThree(b"\0\0\0\x15\x05\x01a\x01a\0\0\0\0\0\0\0\x01\0\0\0\0\0\0\0\x01"),
+    OnFour(b"{\"id\":1,\"put\":{\"key\":\"k\",\"value\":\"v\"}}\n"),
+    OnThree(
+        b"\0\0\0\x3b\x11\x01a\x01a\0\0\0\0\0\0\0\x01\0\0\0\0\0\0\0\x02\x01\0\0\0\0\0\0\0\x01\0\0\0\0\0\0\0\x01\x01\x01a\x01\x01a\x01\x01a\x01\x01a\0\0\x01\0\x01k\0\x01v",
+    ),
+    OnThree(b"\0\0\0\x15\x04\x01a\x01a\0\0\0\0\0\0\0\x01\0\0\0\0\0\0\0\x02"),
+];
+
+// The frame by which a asks itself whether it would vote for it, a byte at a turn and ticks between.
+const SLOWLY: &[Comes] = &[
+    OnThree(b"\0"),
+    Tick(1),
+    OnThree(b"\0"),
+    Tick(1),
+    OnThree(b"\0"),
+    Tick(1),
+    OnThree(b"\x05"),
+    Tick(1),
+    OnThree(b"\x09"),
+    Tick(1),
+    OnThree(b"\x01"),
+    Tick(1),
+    OnThree(b"a"),
+    Tick(1),
+    OnThree(b"\x01"),
+    Tick(1),
+    OnThree(b"a"),
+];
+
 // What is written of the election.
-const ELECTED: [&str; 35] = [
+const ELECTED: &[&str] = &[
     "record a 0 0/0 _ _",
     "> start",
     "> tick 1 0",
@@ -161,190 +189,244 @@ fn went(link: &MemLink<Sealed>, letters: &[u8]) -> bool {
 
 // ---- runs
 
-// The number of a call that fails; 0 is none.
-type Call = u64;
-
-// A run of the node a, which is the only first voter and knows no other node, over an empty disk.
-#[derive(Clone, Copy)]
-struct Run {
-    name: &'static str,
-    script: Script,
-    turns: u64,
-    // Whether a write takes few bytes.
-    has_short_writes: bool,
-    disk_fails: Call,
-    link_fails: Call,
-    sink_fails: Call,
-    end: End,
-    lines: &'static [&'static str],
-    traffic: &'static [u8],
-}
-
-const TICKS: Run = Run {
-    name: "three ticks in three turns end by turns",
-    script: Script::Ticks,
-    turns: 3,
-    has_short_writes: false,
-    disk_fails: 0,
-    link_fails: 0,
-    sink_fails: 0,
-    end: End::Turns,
-    lines: &["..."],
-    traffic: b"gtgtgtg",
-};
-
-// The opening of an empty disk makes eight calls, and the first act that is kept four more.
-const STRUCK: Run = Run {
-    name: "an event that the disk strikes is told and ends the run",
-    end: End::Disk,
-    lines: &[
-        "record a 0 0/0 _ _",
-        "> start",
-        "> tick 1 0",
-        "act a disk boot a",
-    ],
-    traffic: b"gt",
-    ..TICKS
-};
-
-const RUNS: [Run; 11] = [
-    Run {
-        has_short_writes: true,
-        ..TICKS
-    },
-    Run {
-        name: "a link whose script is over ends by stop",
-        turns: 9,
-        end: End::Stop,
-        traffic: b"gtgtgtgt",
-        ..TICKS
-    },
-    Run {
-        name: "a link that fails first ends by link",
-        link_fails: 1,
-        end: End::Link,
-        lines: &["record a 0 0/0 _ _", "> start"],
-        traffic: b"g",
-        ..TICKS
-    },
-    // The first write is the line of the opening, the second that of the start.
-    Run {
-        name: "nothing is sent whose lines are not written",
-        sink_fails: 2,
-        end: End::Write,
-        lines: &["record a 0 0/0 _ _"],
-        traffic: b"",
-        ..TICKS
-    },
-    Run {
-        disk_fails: 9,
-        ..STRUCK
-    },
-    Run {
-        disk_fails: 10,
-        ..STRUCK
-    },
-    Run {
-        disk_fails: 11,
-        ..STRUCK
-    },
-    Run {
-        disk_fails: 12,
-        ..STRUCK
-    },
-    Run {
-        name: "a line in two pieces is answered by a candidate",
-        script: Script::Pieces(b"{\"id\":7,", b"\"state\":{}}\n{\"id\":8"),
-        turns: 2,
-        lines: &[
-            "record a 0 0/0 _ _",
-            "> start",
-            "> client {\"id\":7,\"state\":{}}",
-            "reply a {\"id\":7,\"not_master\":null}",
-        ],
-        traffic: b"gttg",
-        ..TICKS
-    },
-    // A body of one byte, whose kind is 255.
-    Run {
-        name: "behind a fault a connection is dropped and begins anew",
-        script: Script::Pieces(b"\0\0\0\x01\xff", b"{\"id\":7,\"state\":{}}\n"),
-        turns: 2,
-        lines: &[
-            "record a 0 0/0 _ _",
-            "> start",
-            "> bad 3 UnknownKind(255)",
-            "> client {\"id\":7,\"state\":{}}",
-            "reply a {\"id\":7,\"not_master\":null}",
-        ],
-        traffic: b"gtdtg",
-        ..TICKS
-    },
-    Run {
-        name: "a node alone is elected and acknowledges a put",
-        script: Script::Election,
-        turns: 10,
-        has_short_writes: true,
-        lines: &ELECTED,
-        traffic: b"gtgtgtgtgtgtgtgtgtgtg",
-        ..TICKS
-    },
-];
-
-fn calls(alloc: Global, call: Call) -> Result<Vec<u64>, AllocError> {
+fn calls(alloc: Global, call: u64) -> Result<Vec<u64>, AllocError> {
     Ok(vec![in alloc; call]?)
 }
 
-fn open(alloc: Global, disk_fails: Call) -> Result<JournalNode<MemDisks>, Fail> {
-    let disk = MemDisks::new(
-        alloc,
-        Vec::new(alloc),
-        Vec::new(alloc),
-        calls(alloc, disk_fails)?,
-    );
+// The node a, which is the only first voter and knows no other node, over an empty disk whose call of this number fails.
+fn open(alloc: Global, fails: u64) -> Result<JournalNode<MemDisks>, Fail> {
+    let fails = calls(alloc, fails)?;
+    let disk = MemDisks::new(alloc, Vec::new(alloc), Vec::new(alloc), fails);
     match Node::open(alloc, settings_of(alloc, "a", &["a"], &["a"])?, disk) {
         Ok(node) => Ok(node),
         Err(_) => Err(Fail::new("the journal was not opened")),
     }
 }
 
-// How many bytes a write takes at most.
-fn most(has_short_writes: bool) -> usize
-    ensures { 0 < result }
-{
-    if has_short_writes { 7 } else { 1 << 20 }
+// A link that gives this, and whose call of this number fails.
+fn link_of(alloc: Global, script: &[Comes], fails: u64) -> Result<MemLink<Sealed>, AllocError> {
+    let inputs = inputs(alloc, script)?;
+    Ok(MemLink::new(alloc, inputs, calls(alloc, fails)?))
 }
 
-// Whether the run ends so, writes these lines and has this traffic.
-fn runs_so(alloc: Global, run: &Run) -> Result<bool, Fail> {
-    let mut node = open(alloc, run.disk_fails)?;
-    let mut link = MemLink::new(
-        alloc,
-        inputs(alloc, run.script)?,
-        calls(alloc, run.link_fails)?,
-    );
-    let mut out = MemSink::new(
-        alloc,
-        most(run.has_short_writes),
-        calls(alloc, run.sink_fails)?,
-    );
-    let end = node.serve(&mut link, &mut out, run.turns);
-    Ok(
-        end == run.end
-            && shows(str::from_utf8(out.as_bytes())?, run.lines)
-            && went(&link, run.traffic),
-    )
+// What a run is to show: the lines that it writes, and a letter each for what goes over its link.
+type Shown = (&'static [&'static str], &'static [u8]);
+
+fn is_shown(out: &MemSink, link: &MemLink<Sealed>, shown: Shown) -> bool {
+    wrote(out, shown.0) && went(link, shown.1)
 }
+
+// Whether the run of this script, a turn each, shows this. A write takes few bytes.
+fn is_served(alloc: Global, script: &[Comes], shown: Shown) -> Result<bool, Fail> {
+    let mut out = MemSink::new(alloc, 7, Vec::new(alloc));
+    let mut link = link_of(alloc, script, 0)?;
+    let mut node = open(alloc, 0)?;
+    let end = node.serve(&mut link, &mut out, script.len() as u64);
+    Ok(end == End::Turns && is_shown(&out, &link, shown))
+}
+
+// A name, what comes, and what is shown.
+type Run = (&'static str, &'static [Comes], Shown);
+
+const RUNS: &[Run] = &[
+    (
+        "a node takes a turn for each tick",
+        TICKS,
+        (&["..."], b"gtgtgtg"),
+    ),
+    (
+        "a line in two pieces is answered by a candidate",
+        &[OnThree(b"{\"id\":7,"), OnThree(b"\"state\":{}}\n{\"id\":8")],
+        (
+            &[
+                "record a 0 0/0 _ _",
+                "> start",
+                "> client {\"id\":7,\"state\":{}}",
+                "reply a {\"id\":7,\"not_master\":null}",
+            ],
+            b"gttg",
+        ),
+    ),
+    // A body of one byte, whose kind is 255.
+    (
+        "behind a fault a connection is dropped and begins anew",
+        &[
+            OnThree(b"\0\0\0\x01\xff"),
+            OnThree(b"{\"id\":7,\"state\":{}}\n"),
+        ],
+        (
+            &[
+                "record a 0 0/0 _ _",
+                "> start",
+                "> bad 3 UnknownKind(255)",
+                "> client {\"id\":7,\"state\":{}}",
+                "reply a {\"id\":7,\"not_master\":null}",
+            ],
+            b"gtdtg",
+        ),
+    ),
+    (
+        "a frame of an unknown kind drops its connection",
+        &[OnThree(b"\0\0\0\x1d\x10\x01a\x01b\0\0\0\0\0\0\0\x01\0\0\0\0\0\0\0\0\0\0\0\0\0\0\0\0")],
+        (
+            &["record a 0 0/0 _ _", "> start", "> bad 3 UnknownKind(16)"],
+            b"gtd",
+        ),
+    ),
+    (
+        "so does a length above 8 MiB",
+        &[OnThree(b"\0\x80\0\x01")],
+        (
+            &["record a 0 0/0 _ _", "> start", "> bad 3 TooLong"],
+            b"gtd",
+        ),
+    ),
+    (
+        "so does a term above the last one",
+        &[OnThree(b"\0\0\0\x0f\x01\x01a\x01b\x01a\x40\0\0\0\0\0\0\x01")],
+        (
+            &[
+                "record a 0 0/0 _ _",
+                "> start",
+                "> bad 3 Field(TermTooLarge)",
+            ],
+            b"gtd",
+        ),
+    ),
+    (
+        "a connection that ends within a frame is gone",
+        &[OnThree(b"\0\0\0"), Gone],
+        (&["record a 0 0/0 _ _", "> start", "> gone 3"], b"gtt"),
+    ),
+    (
+        "a frame comes with its last byte",
+        SLOWLY,
+        (
+            &[
+                "record a 0 0/0 _ _",
+                "> start",
+                "> tick 1 0",
+                "act a ok boot a",
+                "> tick 1 0",
+                "> tick 1 0",
+                "> tick 1 0",
+                "> tick 1 0",
+                "> tick 1 0",
+                "> tick 1 0",
+                "> tick 1 0",
+                "> frame a prevoteask",
+                "m1 a->a prevoteanswer 0 0/0",
+            ],
+            b"gttgttgttgttgttgttgttgttgtg",
+        ),
+    ),
+    (
+        "a line of 8,192 bytes is read",
+        &[Letters(8_192)],
+        (
+            &[
+                "record a 0 0/0 _ _",
+                "> start",
+                "...",
+                "reply a {\"error\":\"not_json\"}",
+            ],
+            b"gtg",
+        ),
+    ),
+    (
+        "one of 8,193 bytes is too long",
+        &[Letters(8_193)],
+        (
+            &[
+                "record a 0 0/0 _ _",
+                "> start",
+                "...",
+                "reply a {\"error\":\"too_long\"}",
+            ],
+            b"gtg",
+        ),
+    ),
+    (
+        "an empty line and one of two requests are answered",
+        &[
+            OnThree(b"\n"),
+            OnThree(b"{\"id\":1,\"put\":{},\"state\":{}}\n"),
+        ],
+        (
+            &[
+                "record a 0 0/0 _ _",
+                "> start",
+                "> client ",
+                "reply a {\"error\":\"not_json\"}",
+                "> client {\"id\":1,\"put\":{},\"state\":{}}",
+                "reply a {\"error\":\"bad_shape\"}",
+            ],
+            b"gtgtg",
+        ),
+    ),
+    (
+        "a node alone is elected and acknowledges a put",
+        ELECTION,
+        (ELECTED, b"gtgtgtgtgtgtgtgtgtgtg"),
+    ),
+];
 
 #[test]
 fn a_node_serves_its_link(rt: HostRuntime) -> Result<(), Fail> {
-    for run in &RUNS {
-        assert!(rt;
-            runs_so(rt.alloc(), run)?,
-            "{}, disk call {}",
-            run.name,
-            run.disk_fails
-        );
+    for (name, script, shown) in RUNS {
+        assert!(rt; is_served(rt.alloc(), script, *shown)?, "{name}");
+    }
+    Ok(())
+}
+
+// The numbers of the calls of disk, link and sink that fail, the first being 1; 0 is none.
+type Fails = (u64, u64, u64);
+
+// Whether three ticks, of as many turns as one likes, end so and show this.
+fn ends_so(alloc: Global, fails: Fails, end: End, shown: Shown) -> Result<bool, Fail> {
+    let mut out = MemSink::new(alloc, 1 << 20, calls(alloc, fails.2)?);
+    let mut link = link_of(alloc, TICKS, fails.1)?;
+    let mut node = open(alloc, fails.0)?;
+    let ended = node.serve(&mut link, &mut out, 9);
+    Ok(ended == end && is_shown(&out, &link, shown))
+}
+
+// What a run shows that the disk ends within its first tick.
+const STRUCK: Shown = (
+    &[
+        "record a 0 0/0 _ _",
+        "> start",
+        "> tick 1 0",
+        "act a disk boot a",
+    ],
+    b"gt",
+);
+
+const OPENED: &[&str] = &["record a 0 0/0 _ _"];
+
+// What fails, how the run ends, and what it shows.
+const ENDS: &[(Fails, End, Shown)] = &[
+    // The script is over.
+    ((0, 0, 0), End::Stop, (&["..."], b"gtgtgtgt")),
+    (
+        (0, 1, 0),
+        End::Link,
+        (&["record a 0 0/0 _ _", "> start"], b"g"),
+    ),
+    // The first write is the line of the opening, the second that of the start. Nothing is sent whose lines are not written.
+    ((0, 0, 1), End::Write, (&[], b"")),
+    ((0, 0, 2), End::Write, (OPENED, b"")),
+    // The opening of an empty disk makes eight calls, and the first act that is kept four more.
+    ((9, 0, 0), End::Disk, STRUCK),
+    ((10, 0, 0), End::Disk, STRUCK),
+    ((11, 0, 0), End::Disk, STRUCK),
+    ((12, 0, 0), End::Disk, STRUCK),
+];
+
+#[test]
+fn a_run_ends_by_what_fails(rt: HostRuntime) -> Result<(), Fail> {
+    for (fails, end, shown) in ENDS {
+        assert!(rt; ends_so(rt.alloc(), *fails, *end, *shown)?, "{fails:?}");
     }
     Ok(())
 }

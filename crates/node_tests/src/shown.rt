@@ -1,4 +1,5 @@
 //! Lines that are wanted, and the text that shows them.
+use zen_link::MemSink;
 
 // What stands behind the wanted line, which is the first one or, where lines may be skipped, the first that is equal.
 fn behind<'a>(text: &'a str, wanted: &str, skips: bool) -> Option<&'a str> {
@@ -33,4 +34,12 @@ pub(crate) fn shows(text: &str, lines: &[&str]) -> bool {
         skips = false;
     }
     skips || rest.is_empty()
+}
+
+/// Whether a sink was given these lines and no others, but where `...` stands.
+pub(crate) fn wrote(out: &MemSink, lines: &[&str]) -> bool {
+    match str::from_utf8(out.as_bytes()) {
+        Ok(text) => shows(text, lines),
+        Err(_) => false,
+    }
 }
