@@ -26,6 +26,8 @@ fn open_and_run(
 {
     let mut link = MemLink::<Sealed>::new(alloc, script, Vec::new(alloc));
     let node = Node::open(alloc, settings, disk)?;
+    // What it lends here it gives back at the end.
+    let _ = node.disk();
     Ok(node.run(&mut link, out, 1))
 }
 
