@@ -382,10 +382,16 @@ fn a_node_serves_its_link(rt: HostRuntime) -> Result<(), Fail> {
 // The numbers of the calls of disk, link and sink that fail, the first being 1; 0 is none.
 type Fails = (u64, u64, u64);
 
-// Whether three ticks, of as many turns as one likes, end so and show this.
-fn ends_so(alloc: Global, fails: Fails, end: End, shown: Shown) -> Result<bool, Fail> {
+// Whether these inputs, and then Stop, of as many turns as one likes, end so and show this.
+fn ends_so(
+    alloc: Global,
+    script: &[Comes],
+    fails: Fails,
+    end: End,
+    shown: Shown,
+) -> Result<bool, Fail> {
     let mut out = MemSink::new(alloc, 1 << 20, calls(alloc, fails.2)?);
-    let mut link = link_of(alloc, TICKS, fails.1)?;
+    let mut link = link_of(alloc, script, fails.1)?;
     let mut node = open(alloc, fails.0)?;
     let ended = node.serve(&mut link, &mut out, 9);
     Ok(ended == end && is_shown(&out, &link, shown))
@@ -426,7 +432,27 @@ const ENDS: &[(Fails, End, Shown)] = &[
 #[test]
 fn a_run_ends_by_what_fails(rt: HostRuntime) -> Result<(), Fail> {
     for (fails, end, shown) in ENDS {
-        assert!(rt; ends_so(rt.alloc(), *fails, *end, *shown)?, "{fails:?}");
+        assert!(rt;
+            ends_so(rt.alloc(), TICKS, *fails, *end, *shown)?,
+            "{fails:?}"
+        );
     }
+    Ok(())
+}
+
+// Where Stop comes second, one tick is done.
+const STOPPED: Shown = (
+    &[
+        "record a 0 0/0 _ _",
+        "> start",
+        "> tick 1 0",
+        "act a ok boot a",
+    ],
+    b"gtgt",
+);
+
+#[test]
+fn a_run_ends_at_a_stop(rt: HostRuntime) -> Result<(), Fail> {
+    assert!(rt; ends_so(rt.alloc(), &[Tick(1)], (0, 0, 0), End::Stop, STOPPED)?);
     Ok(())
 }

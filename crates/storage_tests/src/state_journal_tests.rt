@@ -192,6 +192,7 @@ const FIRST_TERM: [Run; 1] = [(
 
 #[test]
 fn keeps_these_bytes(rt: HostRuntime) -> Result<(), Fail> {
+    run_each(rt.alloc(), b"", b"", &FIRST_TERM)?;
     run_each(rt.alloc(), b"ABCDEFGHI", b"", &FIRST_TERM)
 }
 
