@@ -29,12 +29,14 @@ class Node:
         # Once it is over it is not started any more, not by another thread either.
         self.lock, self.is_over = threading.Lock(), False
 
-    def settle(self, ports, initial=None):
-        """Says where it and the others listen, and who the first voters are: all of them, if nothing else is said."""
+    def settle(self, ports, initial=None, voting_only=None):
+        """Says where it and the others listen, who the first voters are: all of them, if nothing else is said, and who is voting-only."""
         self.port = ports[self.name]
         peers = ','.join('%s=%s:%d' % (name, HOST, port) for name, port in sorted(ports.items()) if name != self.name)
         self.words = ['node', '--id', self.name, '--dir', self.folder, '--listen', '%s:%d' % (HOST, self.port), '--peers', peers or '_',
                       '--initial', initial or ','.join(sorted(ports)), '--turns', str(TURNS)]
+        if voting_only:
+            self.words += ['--voting-only', voting_only]
 
     def start(self):
         """Starts a run. It is up once it has begun to write. Gives whether it is: where its port was taken meanwhile it has ended."""
@@ -149,7 +151,7 @@ def free_ports(names):
     return ports
 
 
-def started(program, names, top, initial=None):
+def started(program, names, top, initial=None, voting_only=None):
     """New nodes, all of them up. Where one finds its port taken, all begin anew."""
     for attempt in range(10):
         here = os.path.join(top, str(attempt))
@@ -157,7 +159,7 @@ def started(program, names, top, initial=None):
         nodes = {name: Node(program, name, here) for name in names}
         ports = free_ports(names)
         for node in nodes.values():
-            node.settle(ports, initial)
+            node.settle(ports, initial, voting_only)
         try:
             if all(node.start() for node in nodes.values()):
                 return nodes

@@ -126,7 +126,7 @@ module _ (P : ℕ → Request → Type 0) where
     q-takes_join v p t last = search (q-if, q-leads, q-takes_member, Ends, Other)
 
     q-joined : (v : View) (p : Id) (t : ℕ) (last : StateId) → Queues P (joins.is_joined s v p t last)
-    q-joined v p t last = q-then s v _ (λ u. joins.takes_join s u p t last) (q-raises_term v s.me t) (λ u. q-takes_join u p t last)
+    q-joined v p t last = q-if (doing.is_voting_only s s.me) [] _ Ends (q-then s v _ (λ u. joins.takes_join s u p t last) (q-raises_term v s.me t) (λ u. q-takes_join u p t last))
 
     q-asked_to_join : (v : View) (p : Id) (t : ℕ) → Queues P (joins.is_asked_to_join s v p t)
     q-asked_to_join v p t = search (q-if, q-takes_member, q-starts_join, Ends)

@@ -109,7 +109,8 @@ module _ (h : History) (U : IsUnique h) (s : Settings) (P : ℕ → Request → 
 
   keeps-joined : (v : View) (g : List Waiting) (p : Id) (term : ℕ) (last : StateId) → Holds h s P (place v g) → Keeps h s P v g (joins.is_joined s v p term last) (Holds h s P)
   keeps-joined v g p term last i =
-      keeps-then h s P v g _ (λ u. joins.takes_join s u p term last) (Holds h s P) (Holds h s P) (keeps-raises_term h s P v g s.me term i) (λ u g k. keeps-takes_join u g p term last k)
+      keeps-if h s P v g (doing.is_voting_only s s.me) [] _ (Holds h s P) (λ e. nothing v g i)
+      (λ e. keeps-then h s P v g _ (λ u. joins.takes_join s u p term last) (Holds h s P) (Holds h s P) (keeps-raises_term h s P v g s.me term i) (λ u g k. keeps-takes_join u g p term last k))
 
   keeps-asked_to_join : (v : View) (g : List Waiting) (p : Id) (term : ℕ) → Holds h s P (place v g) → Keeps h s P v g (joins.is_asked_to_join s v p term) (Holds h s P)
   keeps-asked_to_join v g p term i =

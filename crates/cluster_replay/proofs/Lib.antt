@@ -5,6 +5,7 @@ pub mod Fits
 pub mod Invariants
 pub mod JsonStrings
 pub mod JsonTexts
+pub mod Naming
 pub mod NextFits
 pub mod Playing
 pub mod Schedules

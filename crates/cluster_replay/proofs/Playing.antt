@@ -38,7 +38,7 @@ use Rattle.replay_node.proofs.WorldSound.{SoundWorld, acted}
 
 fit-act-of : (p : NodeState) (act : Act) → FitAct p act → IsFitAct act
 fit-act-of p (Bootstrap config) f = f
-fit-act-of p (Value version config value) f = f
+fit-act-of p (Value version config value) f = (f.0, f.1)
 fit-act-of p (Publish request) f = f
 fit-act-of p act f = tt
 
@@ -228,14 +228,14 @@ pub plays : (s : Settings) (ms : List Message) (w : World) (l : Log) (v : View) 
     → needs_opening (node_world w s.me) ≡ false → Played s w l is (played s.me w is)
 plays s ms w l v is (Ended ms' v') view same_sent sound acts running =
     record { sound = sound; others = λ m other. refl; acts = acts; covers = λ m k. k; ends = inl (refl, record { items = refl; runs = running; sent_is = refl }) }
-plays s ms w l v is (BySend ms' v' to m rest sent_it a) view same_sent sound acts running =
+plays s ms w l v is (BySend ms' v' to m rest there names sent_it a) view same_sent sound acts running =
     in_front s w w l _ rest (played s.me w rest) refl (λ m other. refl) (λ m k. k) (plays s _ w (And l (Sends _)) v' rest a view same_sent sound acts running)
 plays s ms w l v is (ByReply ms' v' answer rest a) view same_sent sound acts running =
     in_front s w w l (Replies answer) rest (played s.me w rest) refl (λ m other. refl) (λ m k. k) (plays s _ w (And l (Replies answer)) v' rest a view same_sent sound acts running)
-plays s ms w l v is (ByTurn ms' v' mode term rest a) view same_sent sound acts running =
+plays s ms w l v is (ByTurn ms' v' mode term rest n a) view same_sent sound acts running =
     in_front s w w l (Turns mode term) rest (played s.me w rest) refl (λ m other. refl) (λ m k. k)
     (plays s _ w (And l (Turns mode term)) _ rest a (ap (λ (u : View). moved s u (Turns mode term)) view ∙ sym (view_of-And s l (Turns mode term) refl)) same_sent sound acts running)
-plays s ms w l v is (ByDrop ms' v' member cause rest a) view same_sent sound acts running =
+plays s ms w l v is (ByDrop ms' v' member cause rest n a) view same_sent sound acts running =
     in_front s w w l (Drops member cause) rest (played s.me w rest) refl (λ m other. refl) (λ m k. k)
     (plays s _ w (And l (Drops member cause)) _ rest a (ap (λ (u : View). moved s u (Drops member cause)) view ∙ sym (view_of-And s l (Drops member cause) refl)) same_sent sound acts running)
 plays s ms w l v is (ByNote ms' v' note rest n a) view same_sent sound acts running =

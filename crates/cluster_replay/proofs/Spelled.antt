@@ -1,7 +1,7 @@
 -- A schedule of whole nodes that bytes spell is one of which the laws speak.
-use Rattle.std.proofs.Common.{◌≡◌, ℕ, true, List, [], ◌∷◌}
+use Rattle.std.proofs.Common.{◌≡◌, ℕ, true, List, [], ◌∷◌, refl}
 use Rattle.std.specs.List.{AllByRecursion}
-use Rattle.voting_config.specs.Ids.{Id, has}
+use Rattle.voting_config.specs.Ids.{Id, has, are_among}
 use Rattle.schedule_text.specs.declared.level.Level.TheVariants.{Node}
 use Rattle.schedule_text.specs.declared.schedule.Line.{Line}
 use Rattle.schedule_text.specs.declared.schedule.Line.TheVariants as line
@@ -30,3 +30,7 @@ are_listed nodes (l ∷ ls) f = (is_listed nodes l f.0, are_listed nodes ls f.1)
 pub well_formed : (bytes : List ℕ) (s : Schedule) → Spells Node bytes s → IsWellFormed s
 well_formed _ _ Nothing = record { nodes = none_set; initial = none_set; lines = tt }
 well_formed _ _ (Text s is within) = record { nodes = ids_set s.nodes is.nodes; initial = ids_set s.initial is.initial; lines = are_listed s.nodes s.lines is.lines }
+
+pub voting_only_among : (bytes : List ℕ) (s : Schedule) → Spells Node bytes s → are_among s.nodes s.voting_only ≡ true
+voting_only_among _ _ Nothing = refl
+voting_only_among _ _ (Text s is within) = is.voting_only.1

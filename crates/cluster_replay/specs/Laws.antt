@@ -1,8 +1,9 @@
 -- For the contracts inside: what holds of each schedule of whole nodes, as statements. The contract of `run` says the same of its schedule.
-use Rattle.std.specs.Prelude.{◌≡◌, true}
+use Rattle.std.specs.Prelude.{◌≡◌, true, false, Contains}
 use Rattle.std.specs.List.{AllByRecursion}
-use Rattle.voting_config.specs.Ids.{Id, IsIdSet, has}
+use Rattle.voting_config.specs.Ids.{Id, IsIdSet, has, are_among}
 use Rattle.world_model.specs.Histories.{IsLegal}
+use Rattle.world_model.specs.Safety.{Win, winners}
 use Rattle.schedule_text.specs.declared.schedule.Line.{Line}
 use Rattle.schedule_text.specs.declared.schedule.Line.TheVariants as line
 use Rattle.schedule_text.specs.declared.schedule.Schedule.{Schedule}
@@ -32,14 +33,20 @@ pub record IsWellFormed (s : Schedule) : Type 0 where
 abbrev pub LawLivesFollow : Type 0
 LawLivesFollow =
     (s : Schedule) → IsWellFormed s → (n : Id) → has n s.nodes ≡ true
-    → IsLifeIn (replayed_history s) (settings_of s.nodes s.initial n) (replayed_life s n)
+    → IsLifeIn (replayed_history s) (settings_of s.nodes s.initial s.voting_only n) (replayed_life s n)
 
 -- whatever the lines crash, fail and restart, and wherever in a device call
 abbrev pub LawClusterReplayIsLegal : Type 0
 LawClusterReplayIsLegal = (s : Schedule) → IsWellFormed s → IsLegal s.initial (replayed_history s)
 
+-- where the voting-only nodes are some of the nodes, no winner is one of them
+abbrev pub LawVotingOnlyNeverWins : Type 0
+LawVotingOnlyNeverWins =
+    (s : Schedule) → IsWellFormed s → are_among s.nodes s.voting_only ≡ true
+    → (w : Win) → Contains (winners (replayed_history s)) w → has w.node s.voting_only ≡ false
+
 -- Each reply of each node is true of the history. As the schedule may be taken up to the line of its event, it is true by then.
 abbrev pub LawClusterRepliesAreTrue : Type 0
 LawClusterRepliesAreTrue =
     (s : Schedule) → IsWellFormed s → (n : Id) → has n s.nodes ≡ true
-    → RepliesTruly (replayed_history s) (settings_of s.nodes s.initial n) (replayed_life s n)
+    → RepliesTruly (replayed_history s) (settings_of s.nodes s.initial s.voting_only n) (replayed_life s n)

@@ -1,6 +1,6 @@
 //! What holds of each schedule of whole nodes, and of what nodes over a network reply. The calls do nothing: what they
 //! promise is proved.
-ghost use Rattle.cluster_replay.specs.Laws.{LawClusterRepliesAreTrue, LawClusterReplayIsLegal, LawLivesFollow};
+ghost use Rattle.cluster_replay.specs.Laws.{LawClusterRepliesAreTrue, LawClusterReplayIsLegal, LawLivesFollow, LawVotingOnlyNeverWins};
 ghost use Rattle.cluster_replay.specs.SystemReplies.{LawKilledRepliesAreTrue, LawSystemRepliesAreTrue};
 
 /// Wherever its nodes crash and their disks fail, each node of a schedule lives by the policy, and the history has just
@@ -13,6 +13,11 @@ pub fn law_lives_follow()
 /// configuration, and each finds what it kept. So it is safe.
 pub fn law_cluster_replay_is_legal()
     ensures { LawClusterReplayIsLegal }
+{}
+
+/// No winner is one of the nodes that the schedule's header lists as voting-only.
+pub fn law_voting_only_never_wins()
+    ensures { LawVotingOnlyNeverWins }
 {}
 
 /// Each reply of each node is true by the end of its event. An ack names a committed state that has what the request

@@ -5,5 +5,5 @@ pub mod laws;
 
 pub use laws::{
     law_cluster_replay_is_legal, law_cluster_replies_are_true, law_killed_replies_are_true,
-    law_lives_follow, law_system_replies_are_true,
+    law_lives_follow, law_system_replies_are_true, law_voting_only_never_wins,
 };

@@ -12,3 +12,5 @@ pub mod Json
 pub mod Puts
 pub mod StateIds
 pub mod Shared
+pub mod Passing
+pub mod Viewed

@@ -24,7 +24,7 @@ pub const MAX_SETTINGS: u16 = 1024;
 /// Bytes that are read field by field, seen as those that are left.
 #[derive(Drop)]
 pub struct Reader<'a> {
-    rest: &'a [u8],
+    pub(crate) rest: &'a [u8],
 }
 
 impl<'a> Model for Reader<'a> {
@@ -95,7 +95,7 @@ impl<'a> Reader<'a> {
         }
     }
 
-    fn short(&mut self) -> Result<u16, FieldError>
+    pub(crate) fn short(&mut self) -> Result<u16, FieldError>
         ensures { Reads (λ x. x) result self.new (short.at self.old) }
     {
         let bytes = self.rest;
@@ -219,7 +219,7 @@ impl<'a> Reader<'a> {
         }
     }
 
-    fn setting(&mut self) -> Result<(&'a str, &'a str), FieldError>
+    pub(crate) fn setting(&mut self) -> Result<(&'a str, &'a str), FieldError>
         ensures { Reads (λ x. (x.0.now, x.1.now)) result self.new (setting.at self.old) }
     {
         let key = self.text(1, 128)?;

@@ -3,6 +3,7 @@
 #![tactic(auto)]
 
 pub mod causes;
+pub mod checking;
 pub mod decoding;
 pub mod encoding;
 pub mod fault;
@@ -16,11 +17,13 @@ pub mod shared;
 pub mod state;
 pub mod text;
 pub mod uniqueness;
+pub mod view;
 pub mod writing;
 
 pub use causes::{
     CommitCause, InitialCause, JoinCause, PublishCause, ResponseCause, StartCause, ValueCause,
 };
+pub use checking::check_state;
 pub use decoding::decode_state;
 pub use encoding::encode_state;
 pub use fault::{DecodeError, FieldError, ReadError, StateFault};
@@ -33,3 +36,4 @@ pub use settings::Settings;
 pub use shared::{SharedConfig, SharedState, SharedValue};
 pub use state::{ClusterState, ClusterValue, Kept, LAST_NUMBER, StateId};
 pub use text::Text;
+pub use view::StateView;

@@ -26,11 +26,12 @@ folder = refl
 no_folder : command_of (codes "inspect" ∷ codes "--dir=" ∷ []) ≡ None
 no_folder = refl
 
-node : command_of (codes "node" ∷ codes "--no-shrink" ∷ codes "--id" ∷ codes "a" ∷ codes "--dir=d" ∷ codes "--listen=h" ∷ codes "--peers" ∷ codes "c=x,b=y" ∷ codes "--initial=c,a" ∷ codes "--turns=7" ∷ [])
+node : command_of (codes "node" ∷ codes "--no-shrink" ∷ codes "--id" ∷ codes "a" ∷ codes "--dir=d" ∷ codes "--listen=h" ∷ codes "--peers" ∷ codes "c=x,b=y" ∷ codes "--initial=c,a" ∷ codes "--voting-only" ∷ codes "b" ∷ codes "--turns=7" ∷ [])
     ≡ Some (Node (record {
       link = record { me = codes "a"; listen = codes "h"; peers = record { id = codes "c"; address = codes "x" } ∷ record { id = codes "b"; address = codes "y" } ∷ [] };
       dir = codes "d";
       initial = codes "a" ∷ codes "c" ∷ [];
+      voting_only = codes "b" ∷ [];
       shrink = false;
       turns = 7;
     }))

@@ -1,9 +1,10 @@
 -- Part of the statement: which command the words are.
 use Rattle.std.specs.Prelude.{◌≡◌, ℕ, ◌==◌, ◌&&◌, ◌||◌, Bool, not, if◌then◌else◌, List, [], length, slice_index, codes, nat_lt}
-use Rattle.std.specs.Prelude.{Option, Some, None, option_and_then, Result, Ok, Err}
+use Rattle.std.specs.Prelude.{Option, Some, None, is_some, option_and_then, Result, Ok, Err}
 use Rattle.std.specs.Str.{bytes_eq}
 use Rattle.clap.specs.Words.{Row, fault_of, first_of, subcommand_of, subcommand_rows_of}
 use Rattle.clap.specs.declared.parser.matches.ArgMatches.{ArgMatches}
+use Rattle.voting_config.specs.Ids.{Id}
 use Rattle.schedule_text.specs.declared.level.Level.{Level}
 use Rattle.schedule_text.specs.declared.level.Level.TheVariants as level
 use Rattle.zen_host.specs.HostCalls.{ToldSettings}
@@ -36,13 +37,18 @@ link_of look =
     text_at (codes "peers") look >>= peers_of >>= λ peers.
     Some (record { me = id; listen = listen; peers = peers })
 
+-- the voting-only nodes: none where the option is not given
+abbrev pub voting_only_of : Look → Option (List Id)
+voting_only_of look = if is_some (look (codes "voting-only")) then text_at (codes "voting-only") look >>= initial_of else Some []
+
 abbrev pub node_of : Look → Option ProgramCommand
 node_of look =
     link_of look >>= λ link.
     text_at (codes "dir") look >>= λ dir.
     text_at (codes "initial") look >>= initial_of >>= λ initial.
+    voting_only_of look >>= λ voting_only.
     text_at (codes "turns") look >>= number_of >>= λ turns.
-    Some (command.Node (record { link = link; dir = dir; initial = initial; shrink = not (is_set (codes "no-shrink") look); turns = turns }))
+    Some (command.Node (record { link = link; dir = dir; initial = initial; voting_only = voting_only; shrink = not (is_set (codes "no-shrink") look); turns = turns }))
 
 -- how many steps a generated schedule has at most
 abbrev pub most_steps : ℕ

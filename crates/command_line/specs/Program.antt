@@ -1,5 +1,5 @@
 -- Part of the statement: the commands, and the command line as clap is given it.
-use Rattle.std.specs.Prelude.{◌≡◌, true, false, List, [], ◌∷◌, map, Some, codes}
+use Rattle.std.specs.Prelude.{◌≡◌, true, false, List, [], ◌∷◌, ◌++◌, map, Some, codes}
 use Rattle.clap.specs.Words.{App, Rule, Shape, app_of, new_rule, with_rule}
 use Rattle.clap.specs.Simple.{new_shape}
 use Rattle.clap.specs.declared.builder.action.ArgAction.TheVariants.{SetTrue}
@@ -14,10 +14,12 @@ replay_takes = option (codes "level") ∷ []
 abbrev pub inspect_takes : List Named
 inspect_takes = option (codes "dir") ∷ []
 
+-- of a node: who and where it is, and then how it is to run
+abbrev pub node_place_takes : List Named
+node_place_takes = option (codes "id") ∷ option (codes "dir") ∷ option (codes "listen") ∷ option (codes "peers") ∷ []
+
 abbrev pub node_takes : List Named
-node_takes =
-    option (codes "id") ∷ option (codes "dir") ∷ option (codes "listen") ∷ option (codes "peers") ∷ option (codes "initial") ∷ option (codes "turns")
-    ∷ flag (codes "no-shrink") ∷ []
+node_takes = node_place_takes ++ option (codes "initial") ∷ option (codes "voting-only") ∷ option (codes "turns") ∷ flag (codes "no-shrink") ∷ []
 
 abbrev pub generate_takes : List Named
 generate_takes = option (codes "number") ∷ option (codes "steps") ∷ []

@@ -58,6 +58,8 @@ pub struct NodeWords {
     pub dir: Text,
     /// The initial configuration, which may be empty.
     pub initial: NodeSet,
+    /// The nodes that vote and never lead, which may be none.
+    pub voting_only: NodeSet,
     /// Whether configurations may become smaller.
     pub shrink: bool,
     /// After how many inputs the node ends.

@@ -2,7 +2,7 @@
 ghost use Rattle.std.specs.Prelude.{◌≡◌, IfOk, codes};
 ghost use Rattle.clap.specs.Words.{app_of};
 ghost use Rattle.command_line.specs.Given.{option, flag};
-ghost use Rattle.command_line.specs.Program.{raw, HasOneMore, IsLeaf, replay_takes, inspect_takes, node_takes, generate_takes, trial_takes, rescue_takes, unsafe_bootstrap_takes, detach_cluster_takes, audit_takes, program_app};
+ghost use Rattle.command_line.specs.Program.{raw, HasOneMore, IsLeaf, replay_takes, inspect_takes, node_place_takes, node_takes, generate_takes, trial_takes, rescue_takes, unsafe_bootstrap_takes, detach_cluster_takes, audit_takes, program_app};
 
 use clap::{Arg, ArgAction, Command};
 use std::alloc::{AllocError, Global};
@@ -39,14 +39,21 @@ fn inspect<'a>(alloc: Global) -> Result<Command<'a>, AllocError>
     with_option(alloc, Command::new(alloc, "inspect"), "dir")
 }
 
-fn node<'a>(alloc: Global) -> Result<Command<'a>, AllocError>
-    ensures { IfOk result (IsLeaf (codes "node") node_takes) }
+// Who and where a node is.
+fn node_place<'a>(alloc: Global) -> Result<Command<'a>, AllocError>
+    ensures { IfOk result (IsLeaf (codes "node") node_place_takes) }
 {
     let command = with_option(alloc, Command::new(alloc, "node"), "id")?;
     let command = with_option(alloc, command, "dir")?;
     let command = with_option(alloc, command, "listen")?;
-    let command = with_option(alloc, command, "peers")?;
-    let command = with_option(alloc, command, "initial")?;
+    with_option(alloc, command, "peers")
+}
+
+fn node<'a>(alloc: Global) -> Result<Command<'a>, AllocError>
+    ensures { IfOk result (IsLeaf (codes "node") node_takes) }
+{
+    let command = with_option(alloc, node_place(alloc)?, "initial")?;
+    let command = with_option(alloc, command, "voting-only")?;
     let command = with_option(alloc, command, "turns")?;
     with_flag(alloc, command, "no-shrink")
 }

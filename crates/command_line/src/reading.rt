@@ -3,7 +3,7 @@ ghost use Rattle.std.specs.Prelude.{◌≡◌, ◌↔◌, IsTrue, codes, map, st
 ghost use Rattle.std.specs.List.{list_all};
 ghost use Rattle.clap.specs.Words.{first_value, found_of, kind_of, subcommand_rows_of};
 ghost use Rattle.command_line.specs.Answers.{Gives};
-ghost use Rattle.command_line.specs.Commands.{level_of, replay_of, inspect_of, link_of, node_of, steps_of, generate_of, port_of, trial_of, rescue_of, unsafe_bootstrap_of, detach_cluster_of, command_by, command_of, entered_command, Parses, is_fair as fair};
+ghost use Rattle.command_line.specs.Commands.{level_of, replay_of, inspect_of, link_of, voting_only_of, node_of, steps_of, generate_of, port_of, trial_of, rescue_of, unsafe_bootstrap_of, detach_cluster_of, command_by, command_of, entered_command, Parses, is_fair as fair};
 
 use crate::lists::{initial, peers, up};
 use crate::program::program;
@@ -13,6 +13,7 @@ use clap::error::ErrorKind;
 use clap::{ArgMatches, Error};
 use schedule_text::Level;
 use std::alloc::Global;
+use voting_config::NodeSet;
 use zen_link::LinkSettings;
 
 fn level(text: &str) -> Option<Level>
@@ -55,12 +56,26 @@ fn read_link(alloc: Global, matches: &ArgMatches<'_>) -> Result<LinkWords, Words
     Ok(LinkWords::of(LinkSettings { me, listen, peers }))
 }
 
+// The voting-only nodes: none where the option is not given.
+fn read_voting_only(alloc: Global, matches: &ArgMatches<'_>) -> Result<NodeSet, WordsError>
+    ensures { Gives result (voting_only_of (first_value (found_of matches.now))) }
+{
+    if matches.get_str("voting-only").is_none() {
+        return Ok(NodeSet::new());
+    }
+    initial(
+        alloc,
+        value(matches, "voting-only").ok_or(WordsError::Usage)?,
+    )
+}
+
 fn read_node(alloc: Global, matches: &ArgMatches<'_>) -> Result<ProgramCommand, WordsError>
     ensures { Gives result (node_of (first_value (found_of matches.now))) }
 {
     let link = read_link(alloc, matches)?;
     let dir = text(alloc, matches, "dir")?;
     let initial = initial(alloc, value(matches, "initial").ok_or(WordsError::Usage)?)?;
+    let voting_only = read_voting_only(alloc, matches)?;
     let turns = value(matches, "turns")
         .and_then(number)
         .ok_or(WordsError::Usage)?;
@@ -68,6 +83,7 @@ fn read_node(alloc: Global, matches: &ArgMatches<'_>) -> Result<ProgramCommand, 
         link,
         dir,
         initial,
+        voting_only,
         shrink: !is_set(matches, "no-shrink"),
         turns,
     }))

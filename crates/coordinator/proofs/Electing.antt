@@ -1,5 +1,5 @@
 -- How a candidate comes to be elected.
-use Rattle.std.proofs.Common.{◌≡◌, ℕ, ◌+◌, ◌≤◌, ◌<◌, Bool, true, false, ◌&&◌, Option, None, Some, List, [], ◌∷◌, ◌++◌, refl, sym, ap, subst, ◌∙◌}
+use Rattle.std.proofs.Common.{◌≡◌, ℕ, ◌+◌, ◌≤◌, ◌<◌, Bool, true, false, not, ◌&&◌, Option, None, Some, List, [], ◌∷◌, ◌++◌, refl, sym, ap, subst, ◌∙◌}
 use Rattle.std.proofs.lemmas.Bool.{le-leb, lt-leb}
 use Rattle.std.specs.Prelude.{if◌then◌else◌}
 use Rattle.cluster_state.specs.Field.{last_number}
@@ -12,7 +12,7 @@ use Rattle.world_model.specs.declared.acts.Act.TheVariants.{Bootstrap}
 use Rattle.policy_model.specs.declared.settings.Settings.{Settings}
 use Rattle.policy_model.specs.Events.{Item, Notes, RoundBegun, RoundEnded, ElectionOff}
 use Rattle.policy_model.specs.Views.{View}
-use Rattle.policy_model.specs.Doing.{may_win, send_all, act_now}
+use Rattle.policy_model.specs.Doing.{is_voting_only, may_win, send_all, act_now}
 use Rattle.policy_model.specs.Elections.{takes_config, bootstraps, stands_for_election, free_nodes, begins_round, waits_until, waits_for_election}
 use Rattle.coordinator.specs.Bootstraps.{config_in, IsPlannedFirst}
 use Rattle.coordinator.specs.Rounds.{stands_alone}
@@ -102,20 +102,20 @@ module _ {K : Type 0} (k : Ghosts K) where
       ∙ ap (λ (l : List Id). Notes (RoundBegun word) ∷ send_all s l m ++ stands_alone s v) (others_are ∙ ap (λ (l : List Id). without_id s.me l) free_is))
 
   -- the wait for an election
-  pub waits_on : (old new : Coordinator K) (o o1 : Shown) (word : ℕ) (free : List Id) → free ≡ free_nodes old.settings (view old) → (may_win old.settings (view old) && elects (view old).node free) ≡ true
+  pub waits_on : (old new : Coordinator K) (o o1 : Shown) (word : ℕ) (free : List Id) → free ≡ free_nodes old.settings (view old) → (not (is_voting_only old.settings old.settings.me) && (may_win old.settings (view old) && elects (view old).node free)) ≡ true
       → Make old new o o1 (waits_until old.settings (view old) word old.deadline) → Make old new o o1 (waits_for_election old.settings (view old) word)
   waits_on old new o o1 word free free_is may makes =
       let s = old.settings in
       let v = view old in
       makes_as k old new o o1 _ _ makes
       (ap (λ (b : Bool). if b then waits_until s v word v.deadline else Notes ElectionOff ∷ []) (sym may)
-      ∙ ap (λ (l : List Id). if may_win s v && elects v.node l then waits_until s v word v.deadline else Notes ElectionOff ∷ []) free_is)
+      ∙ ap (λ (l : List Id). if not (is_voting_only s s.me) && (may_win s v && elects v.node l) then waits_until s v word v.deadline else Notes ElectionOff ∷ []) free_is)
 
-  pub waits_off : (old : Coordinator K) (o : Shown) (word : ℕ) (free : List Id) → free ≡ free_nodes old.settings (view old) → (may_win old.settings (view old) && elects (view old).node free) ≡ false
+  pub waits_off : (old : Coordinator K) (o : Shown) (word : ℕ) (free : List Id) → free ≡ free_nodes old.settings (view old) → (not (is_voting_only old.settings old.settings.me) && (may_win old.settings (view old) && elects (view old).node free)) ≡ false
       → Make old (record old { deadline = None }) o o (waits_for_election old.settings (view old) word)
   waits_off old o word free free_is may =
       let s = old.settings in
       let v = view old in
       makes_as k old (record old { deadline = None }) o o _ _ (makes_note k old (record old { deadline = None }) o ElectionOff refl refl refl refl)
       (ap (λ (b : Bool). if b then waits_until s v word v.deadline else Notes ElectionOff ∷ []) (sym may)
-      ∙ ap (λ (l : List Id). if may_win s v && elects v.node l then waits_until s v word v.deadline else Notes ElectionOff ∷ []) free_is)
+      ∙ ap (λ (l : List Id). if not (is_voting_only s s.me) && (may_win s v && elects v.node l) then waits_until s v word v.deadline else Notes ElectionOff ∷ []) free_is)

@@ -1,5 +1,5 @@
 -- The next state is made and published, or the node hands over.
-use Rattle.std.proofs.Common.{◌≡◌, ℕ, ◌+◌, ◌≤◌, Bool, true, false, Option, List, [], ◌∷◌, ◌++◌, map, refl, sym, ap, subst, ◌∙◌}
+use Rattle.std.proofs.Common.{◌≡◌, ℕ, ◌+◌, ◌≤◌, Bool, true, false, not, ◌&&◌, Option, List, [], ◌∷◌, ◌++◌, map, refl, sym, ap, subst, ◌∙◌}
 use Rattle.std.proofs.lemmas.Bool.{le-leb}
 use Rattle.state_journal.specs.declared.keeper.Keeper.{Ghosts}
 use Rattle.std.specs.Prelude.{if◌then◌else◌, None, Some, find, nat_le}
@@ -21,7 +21,7 @@ use Rattle.policy_model.specs.Events.{Item, Notes, StateMade}
 use Rattle.policy_model.specs.Views.{View}
 use Rattle.policy_model.specs.Parts.{as_master}
 use Rattle.policy_model.specs.Moves.{moved}
-use Rattle.policy_model.specs.Doing.{send_all, reply_all, act_now, after_act, takes, becomes_candidate}
+use Rattle.policy_model.specs.Doing.{is_voting_only, send_all, reply_all, act_now, after_act, takes, becomes_candidate}
 use Rattle.policy_model.specs.NextState.{targets_of, responders_of, successor_of, asks_successor, value_now, config_now, value_act, state_now, publishes, makes_state}
 use Rattle.coord_state.specs.StandsFor.{request_of}
 use Rattle.coordinator.specs.Plans.{IsPlan, IsNewOr, IsNewState, state_by, frame_to}
@@ -138,7 +138,7 @@ module _ {K : Type 0} (k : Ghosts K) where
 
   -- the successor is asked
   pub asks_found : (c : Coordinator K) (o o1 : Shown) (id : Id) (term : ℕ) (p : Publication) (found : Option Id) (committed responders targets : List Id) → c.publication ≡ Some p
-      → found ≡ find (λ (x : Id). has x committed) responders → committed ≡ (view c).node.committed → responders ≡ p.responders → found ≡ Some id
+      → found ≡ find (λ (x : Id). not (is_voting_only c.settings x) && has x committed) responders → committed ≡ (view c).node.committed → responders ≡ p.responders → found ≡ Some id
       → term ≡ (view c).node.term + 1 → term ≤ last_number → targets ≡ p.targets
       → o1 ≡ record o { frames = o.frames ++ map (λ (to : Id). frame_to c.settings.me (message.StartJoin id term) to) targets }
       → Make c c o o1 (asks_successor c.settings (view c) (successor_of c.settings (view c)))
@@ -150,7 +150,7 @@ module _ {K : Type 0} (k : Ghosts K) where
       let targets_here : targets ≡ targets_of v.publication = targets_is ∙ ap (λ (x : Option Publication). targets_of x) (sym published) in
       let le : nat_le (v.node.term + 1) last_number ≡ true = rw (← term_is) (le-leb term last_number small) in
       let here : Some id ≡ successor_of s v =
-      sym some ∙ found_is ∙ ap (λ (x : List Id). find (λ (y : Id). has y x) responders) committed_is ∙ ap (λ (x : List Id). find (λ (y : Id). has y v.node.committed) x) (responders_is ∙ ap (λ (x : Option Publication). responders_of x) (sym published)) in
+      sym some ∙ found_is ∙ ap (λ (x : List Id). find (λ (y : Id). not (is_voting_only s y) && has y x) responders) committed_is ∙ ap (λ (x : List Id). find (λ (y : Id). not (is_voting_only s y) && has y v.node.committed) x) (responders_is ∙ ap (λ (x : Option Publication). responders_of x) (sym published)) in
       makes_as k c c o o1 _ _ all
       (ap (λ (x : List Id). send_all s x (message.StartJoin id term)) targets_here
       ∙ ap (λ (n : ℕ). send_all s (targets_of v.publication) (message.StartJoin id n)) term_is

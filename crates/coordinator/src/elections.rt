@@ -1,8 +1,8 @@
 //! How a candidate comes to be elected: the first configuration, and the wait for an election.
-ghost use Rattle.std.specs.Prelude.{◌≡◌, ◌≤◌, ◌+◌, ◌&&◌, [], ◌∷◌, true, is_ok, IfOk};
+ghost use Rattle.std.specs.Prelude.{◌≡◌, ◌≤◌, ◌+◌, not, ◌&&◌, [], ◌∷◌, true, is_ok, IfOk};
 ghost use Rattle.voting_config.specs.Ids.{without_id};
 ghost use Rattle.world_model.specs.Replies.{elects as elects_of};
-ghost use Rattle.policy_model.specs.Doing.{may_win as may_win_of, then_rule};
+ghost use Rattle.policy_model.specs.Doing.{is_voting_only as is_voting_only_of, may_win as may_win_of, then_rule};
 ghost use Rattle.policy_model.specs.Discovery.{asks_peers};
 ghost use Rattle.policy_model.specs.Rules.{ticks_candidate};
 ghost use Rattle.policy_model.specs.Events.{Notes, RoundBegun};
@@ -166,10 +166,20 @@ impl<K: Keeper> Coordinator<K> {
         self.core.committed().is_quorum(ids) && self.core.accepted().config.is_quorum(ids)
     }
 
-    // Whether the node votes or is not excluded, and these are an election quorum.
-    fn may_be_elected(&self, ids: &NodeSet) -> bool
-        ensures { result ≡ (may_win_of self.now.settings (view_in K.Keeper self.now) && elects_of (view_in K.Keeper self.now).node ids.now) }
+    // Whether the node itself is voting-only.
+    pub(crate) fn is_voting_only(&self) -> bool
+        ensures { result ≡ is_voting_only_of self.now.settings self.now.settings.me }
     {
+        self.settings.voting_only.contains(self.settings.me)
+    }
+
+    // Whether the node is not voting-only, votes or is not excluded, and these are an election quorum.
+    fn may_be_elected(&self, ids: &NodeSet) -> bool
+        ensures { result ≡ (not (is_voting_only_of self.now.settings self.now.settings.me) && (may_win_of self.now.settings (view_in K.Keeper self.now) && elects_of (view_in K.Keeper self.now).node ids.now)) }
+    {
+        if self.is_voting_only() {
+            return false;
+        }
         let accepted = self.core.accepted();
         may_win(
             self.settings.me,
@@ -237,7 +247,7 @@ impl<K: Keeper> Coordinator<K> {
         }
     }
 
-    // Waits for an election, where the node may win and the free nodes are a quorum.
+    // Waits for an election, where the node may be elected.
     fn wait_for_election(&mut self, out: &mut Output, word: u64)
         requires ready { IsReady self.old }
         requires frames { 64 ≤ out.old.frames.room }

@@ -120,7 +120,7 @@ impl<K: Keeper> Coordinator<K> {
         }
     }
 
-    /// A join from p, by which the node's own term may rise.
+    /// A join from p, by which the node's own term may rise. A voting-only node does nothing with it.
     pub(crate) fn is_joined(
         &mut self,
         out: &mut Output,
@@ -133,6 +133,9 @@ impl<K: Keeper> Coordinator<K> {
         requires frames { 33 ≤ out.old.frames.room }
         ensures does { DoesAll K.Keeper self.old self.new out.old out.new (λ s v. is_joined s v p term last) result }
     {
+        if self.is_voting_only() {
+            return Ok(());
+        }
         let Ok(plan) = self.plan_join(out.alloc, p, term) else {
             return Err(EventError::Memory);
         };

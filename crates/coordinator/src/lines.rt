@@ -10,6 +10,7 @@ ghost use Rattle.policy_model.specs.Doing.{is_leader};
 ghost use Rattle.policy_model.specs.Requests.{replies, takes_line};
 ghost use Rattle.coordinator.specs.Ahead.{HasPlan, queues_one};
 ghost use Rattle.coordinator.specs.Does.{Does, DoesAll};
+ghost use Rattle.coordinator.specs.Plans.{makes_next};
 ghost use Rattle.coordinator.specs.Views.{view_in, IsReady};
 
 use crate::coordinator::{Coordinator, EventError};
@@ -36,8 +37,13 @@ impl<K: Keeper> Coordinator<K> {
         Ok(plan)
     }
 
-    // A leader queues a request, and goes on.
-    fn queue(&mut self, out: &mut Output, conn: u64, request: Request) -> Result<(), EventError>
+    // A free leader queues a request, and makes the next state.
+    fn queue_and_make(
+        &mut self,
+        out: &mut Output,
+        conn: u64,
+        request: Request,
+    ) -> Result<(), EventError>
         requires ready { IsReady self.old }
         requires steps { 2 ≤ out.old.steps.room }
         requires frames { 32 ≤ out.old.frames.room }
@@ -58,6 +64,42 @@ impl<K: Keeper> Coordinator<K> {
         self.tasks = tasks;
         self.go_on(out, plan);
         Ok(())
+    }
+
+    // A leader that makes no state now queues a request: nothing is planned, and no request that waits is copied.
+    fn queue_alone(
+        &mut self,
+        out: &mut Output,
+        conn: u64,
+        request: Request,
+    ) -> Result<(), EventError>
+        requires ready { IsReady self.old }
+        requires waits { makes_next self.old.settings (view_in K.Keeper self.old) ≡ false }
+        requires frames { 32 ≤ out.old.frames.room }
+        requires steps { 2 ≤ out.old.steps.room }
+        ensures does { DoesAll K.Keeper self.old self.new out.old out.new (λ s v. queues_one s v conn request) result }
+    {
+        let Ok(()) = out.make_room(0, &None) else {
+            return Err(EventError::Memory);
+        };
+        let Ok(()) = self.tasks.offer(conn, self.moment, request) else {
+            return Err(EventError::Memory);
+        };
+        self.go_on(out, None);
+        Ok(())
+    }
+
+    // A leader queues a request, and goes on.
+    fn queue(&mut self, out: &mut Output, conn: u64, request: Request) -> Result<(), EventError>
+        requires ready { IsReady self.old }
+        requires steps { 2 ≤ out.old.steps.room }
+        requires frames { 32 ≤ out.old.frames.room }
+        ensures does { DoesAll K.Keeper self.old self.new out.old out.new (λ s v. queues_one s v conn request) result }
+    {
+        if self.makes_next() {
+            return self.queue_and_make(out, conn, request);
+        }
+        self.queue_alone(out, conn, request)
     }
 
     // One reply, and nothing else.

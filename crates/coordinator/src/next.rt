@@ -8,7 +8,7 @@ ghost use Rattle.policy_model.specs.Doing.{is_leader, may_win as may_win_of};
 ghost use Rattle.policy_model.specs.NextState.{goes_on, makes_state, hands_over, publishes, is_in_flight, asks_successor, successor_of};
 ghost use Rattle.coord_state.specs.StandsFor.{request_of};
 ghost use Rattle.coordinator.specs.Does.{Does, Ends};
-ghost use Rattle.coordinator.specs.Plans.{IsPlan, IsNewState, IsPlanned, replies_planned, state_by};
+ghost use Rattle.coordinator.specs.Plans.{IsPlan, IsNewState, IsPlanned, makes_next, replies_planned, state_by};
 ghost use Rattle.coordinator.specs.Rooms.{Uses};
 ghost use Rattle.coordinator.specs.Views.{view_in, IsReady};
 
@@ -26,14 +26,14 @@ use voting_config::{NodeId, NodeSet};
 /// How long after a hand-over the next one may come, in ms.
 pub const HANDOVER_INTERVAL_MS: u64 = 1000;
 
-// The first of these nodes that is among the others.
-fn first_among(ids: &NodeSet, others: &NodeSet) -> Option<NodeId>
-    ensures { result ≡ find (λ id. has id others.now) ids.now }
+// The first of these nodes that is among some others, and not among those that are barred.
+fn first_among(ids: &NodeSet, others: &NodeSet, barred: &NodeSet) -> Option<NodeId>
+    ensures { result ≡ find (λ id. not (has id barred.now) && has id others.now) ids.now }
 {
     ids.as_slice()
         .iter()
         .copied()
-        .find(|id| others.contains(*id))
+        .find(|id| !barred.contains(*id) && others.contains(*id))
 }
 
 impl<K: Keeper> Coordinator<K> {
@@ -62,6 +62,13 @@ impl<K: Keeper> Coordinator<K> {
             &accepted.config,
             &accepted.value.exclusions,
         )
+    }
+
+    // Whether it makes the next state where it goes on.
+    pub(crate) fn makes_next(&self) -> bool
+        ensures { result ≡ makes_next self.now.settings (view_in K.Keeper self.now) }
+    {
+        self.is_free_leader() && self.may_win()
     }
 
     // Publishes a new state, which was made of the tasks of a node that was v, or becomes a candidate where that is refused.
@@ -112,7 +119,7 @@ impl<K: Keeper> Coordinator<K> {
         }
     }
 
-    // The least responder that votes is asked to be elected, unless that was done a short time ago.
+    // The least responder that votes and is not voting-only is asked to be elected, unless that was done a short time ago.
     fn hand_over(&mut self, out: &mut Output)
         requires ready { IsReady self.old }
         requires frames { 32 ≤ out.old.frames.room }
@@ -125,7 +132,7 @@ impl<K: Keeper> Coordinator<K> {
         self.ask_successor(out);
     }
 
-    // The least responder that votes is asked to be elected, where there is one.
+    // The least responder that votes and is not voting-only is asked to be elected, where there is one.
     fn ask_successor(&self, out: &mut Output)
         requires frames { 32 ≤ out.old.frames.room }
         ensures { Does K.Keeper self.now self.now out.old out.new (λ s v. asks_successor s v (successor_of s v)) true }
@@ -133,7 +140,11 @@ impl<K: Keeper> Coordinator<K> {
         let Some(publication) = &self.publication else {
             return;
         };
-        let Some(id) = first_among(publication.responders(), self.core.committed().members()) else {
+        let Some(id) = first_among(
+            publication.responders(),
+            self.core.committed().members(),
+            &self.settings.voting_only,
+        ) else {
             return;
         };
         let term = self.core.term() + 1;

@@ -41,6 +41,7 @@ fn settings(alloc: Global, me: NodeId, all: &NodeSet) -> Result<Settings, Fault>
         me,
         peers: NodeIds::of(Vec::from_slice(alloc, all.as_slice())?),
         initial: all.copy(),
+        voting_only: NodeSet::new(),
         shrink: true,
     })
 }

@@ -1,10 +1,11 @@
 //! One connection over a socket: what its first bytes say that it is, what came over it, and what waits to be written.
-ghost use Rattle.std.specs.Prelude.{◌≡◌, ◌≤◌, ◌<◌, ◌+◌, IsTrue, IfSome, IsSomeAnd, None, Some};
+ghost use Rattle.std.specs.Prelude.{◌≡◌, ◌≤◌, ◌<◌, ◌+◌, IsTrue, IfSome, IsSomeAnd, None, Some, length};
 
 use crate::framing::Framing;
 use crate::queue::FrameQueue;
 use arrayvec::ArrayVec;
 use bytes::{Bytes, BytesMut};
+use memchr::memchr;
 use mio::net::TcpStream;
 use mio::{Interest, Registry, Token};
 use std::alloc::{AllocError, Global};
@@ -12,9 +13,10 @@ use std::io;
 use std::io::{ErrorKind, Read};
 use std::net::Shutdown;
 use voting_config::NodeId;
+use zen_link::CONNECTIONS;
 
-// The most bytes of one read.
-const READ: usize = 4096;
+// The most bytes of one read, and so those that are held of a connection and not given yet, but for a few first ones.
+const READ: usize = 16_384;
 
 // What the first bytes of a connection are that stops the node.
 const STOP: &[u8; 5] = b"stop\n";
@@ -29,8 +31,9 @@ const LENGTH: u64 = 4;
 // publication in flight and the one after it may take, after which each of its lines has been answered.
 const LINGER_MS: u64 = 65_000;
 
-// Under which a socket is registered. Each wait is followed by a look at all sockets, so nothing asks which one woke it.
-pub(crate) const ANY: Token = Token(0);
+// Under which a connection is registered that waits for a number: nothing asks which of them woke a wait, since each look
+// sees what their first bytes show.
+pub(crate) const UNNUMBERED: Token = Token(CONNECTIONS as usize);
 
 // What a look at a connection finds.
 #[derive(Drop)]
@@ -41,6 +44,17 @@ pub(crate) enum Heard {
     // The other side writes no more, and may read on.
     Shut,
     End,
+}
+
+// What is known of the other side's writing.
+#[derive(Clone, Copy, PartialEq, Eq)]
+enum Coming {
+    // More may come.
+    More,
+    // It has ended.
+    Ended,
+    // The connection is broken.
+    Broken,
 }
 
 // What the first bytes of a connection show, none of which was read.
@@ -91,12 +105,17 @@ pub(crate) struct Connection {
     given: u64,
     // Whether a line feed was given.
     has_line: bool,
-    // How many bytes of `stop` came first, and were not given.
-    held: usize,
+    // What was read, and not given yet.
+    incoming: BytesMut,
+    // Whether a read may find something: it was reported, and no read has found nothing since.
+    is_ready: bool,
+    coming: Coming,
     // Whether it is known to be no stop.
     goes_on: bool,
     // What waits to be written.
     outgoing: FrameQueue,
+    // Under which it is registered.
+    token: Token,
     // Whether it is reported when it can be written to.
     is_watched: bool,
     // Once its other side has ended its writing: until when it is kept.
@@ -127,9 +146,12 @@ impl Connection {
             front: ArrayVec::new(),
             given: 0,
             has_line: false,
-            held: 0,
+            incoming: BytesMut::new(alloc),
+            is_ready: true,
+            coming: Coming::More,
             goes_on: false,
             outgoing: FrameQueue::new(alloc),
+            token: UNNUMBERED,
             is_watched: false,
             shut_until: None,
             over: false,
@@ -207,26 +229,89 @@ impl Connection {
         }
     }
 
+    // It has a number, under which what comes over it is reported from now on.
+    pub(crate) fn set_number(&mut self, registry: &Registry, number: u64) {
+        self.token = Token(number as usize);
+        self.is_ready = true;
+        if self.register(registry).is_err() {
+            self.end();
+        }
+    }
+
+    // A read may find something.
+    pub(crate) fn note_ready(&mut self) {
+        self.is_ready = true;
+    }
+
+    // Whether a look may find something: all else is known to bring nothing.
+    pub(crate) fn may_bring(&self) -> bool {
+        self.owes_end
+            || self.over
+            || self.is_ready
+            || !self.incoming.is_empty()
+            || self.coming != Coming::More
+    }
+
     // What has come by now, in the order of this count. Where memory runs out, nothing is taken.
     pub(crate) fn hear<F: Framing>(
         &mut self,
-        alloc: Global,
         framing: &F,
         order: u64,
     ) -> Result<Heard, AllocError> {
         if self.over {
             return Ok(Heard::End);
         }
-        let mut buffer = [0u8; READ];
-        match self.stream.peek(&mut buffer) {
-            Ok(0) if self.held == 0 => Ok(Heard::Shut),
-            Ok(count) => {
-                self.heard = order;
-                self.take(alloc, framing, &buffer[..count])
-            }
-            Err(error) if is_later(&error) => Ok(Heard::Nothing),
-            Err(_) => Ok(Heard::End),
+        if self.is_ready && self.coming == Coming::More && self.is_unclear() {
+            self.read_once()?;
         }
+        if !self.goes_on && self.take_stop() {
+            return Ok(Heard::Stop);
+        }
+        if self.is_unclear() && (self.coming == Coming::More || self.incoming.is_empty()) {
+            return Ok(self.heard_nothing());
+        }
+        self.give(framing, order)
+    }
+
+    // Takes a stop, where what was read begins with one.
+    fn take_stop(&mut self) -> bool {
+        let is_stop = self.incoming.len() >= STOP.len()
+            && self.incoming.as_slice().starts_with(&STOP[..]);
+        if is_stop {
+            self.incoming.advance(STOP.len());
+        }
+        is_stop
+    }
+
+    // What a look finds where nothing is to be given.
+    fn heard_nothing(&self) -> Heard {
+        match self.coming {
+            Coming::More => Heard::Nothing,
+            Coming::Ended => Heard::Shut,
+            Coming::Broken => Heard::End,
+        }
+    }
+
+    // Whether what was read is not enough to give anything: nothing, or what a stop begins with.
+    fn is_unclear(&self) -> bool {
+        let bytes = self.incoming.as_slice();
+        bytes.is_empty() || !self.goes_on && STOP[..].starts_with(bytes)
+    }
+
+    // Reads what has come, once.
+    fn read_once(&mut self) -> Result<(), AllocError> {
+        self.incoming.reserve(READ)?;
+        match self
+            .incoming
+            .read_from(&mut self.stream.by_ref().take(READ as u64))
+        {
+            Ok(0) => self.coming = Coming::Ended,
+            Ok(_) => {}
+            Err(error) if error.kind() == ErrorKind::WouldBlock => self.is_ready = false,
+            Err(error) if is_later(&error) => {}
+            Err(_) => self.coming = Coming::Broken,
+        }
+        Ok(())
     }
 
     // Whether it is kept at this moment though its other side has ended its writing: a client is, for the replies that it is
@@ -244,56 +329,38 @@ impl Connection {
         self.brings_lines() && now < until && (owed > 0 || !self.outgoing.is_empty())
     }
 
-    // Takes the bytes that a look has shown. None is the end.
-    fn take<F: Framing>(
-        &mut self,
-        alloc: Global,
-        framing: &F,
-        bytes: &[u8],
-    ) -> Result<Heard, AllocError> {
-        let held = self.held.min(STOP.len() - 1);
-        let stop = &STOP[..];
-        let rest = &stop[held..];
-        if !self.goes_on && bytes.starts_with(rest) {
-            self.skip(rest.len());
-            return Ok(Heard::Stop);
-        }
-        if !self.goes_on && !bytes.is_empty() && rest.starts_with(bytes) {
-            self.skip(bytes.len());
-            self.held = held.saturating_add(bytes.len());
-            return Ok(Heard::Nothing);
-        }
-        let bytes = self.part(bytes);
-        let mut all = BytesMut::new(alloc);
-        all.extend_from_slice(&stop[..held])?;
-        all.extend_from_slice(bytes)?;
-        let all = all.freeze()?;
-        self.skip(bytes.len());
-        self.held = 0;
+    // Gives what was read, as much as is given at once.
+    fn give<F: Framing>(&mut self, framing: &F, order: u64) -> Result<Heard, AllocError> {
+        let count = self.next_part();
+        let bytes = self.incoming.freeze_to(count)?;
+        self.heard = order;
         self.goes_on = true;
-        self.note(all.as_slice());
+        self.note(bytes.as_slice());
         if self.sender.is_none() {
             self.sender = framing.sender(self.front.as_slice());
         }
-        Ok(Heard::Bytes(all))
+        Ok(Heard::Bytes(bytes))
     }
 
-    // As much as is given at once: of lines up to the first line feed, so that no input is more than one event.
-    fn part<'b>(&self, bytes: &'b [u8]) -> &'b [u8] {
-        if self.carries_frames(bytes) {
-            return bytes;
+    // How many bytes are given at once: of lines those up to the first line feed, so that no input is more than one event.
+    fn next_part(&self) -> usize
+        ensures { result ≤ length self.now.incoming.items }
+    {
+        let bytes = self.incoming.as_slice();
+        if self.carries_frames() {
+            return bytes.len();
         }
-        match bytes.iter().position(|byte| *byte == b'\n') {
-            Some(place) => &bytes[..place + 1],
-            None => bytes,
+        match memchr(b'\n', bytes) {
+            Some(place) => place + 1,
+            None => bytes.len(),
         }
     }
 
-    // Whether its first byte is a frame's, where these bytes come next.
-    fn carries_frames(&self, bytes: &[u8]) -> bool {
+    // Whether its first byte is a frame's.
+    fn carries_frames(&self) -> bool {
         match self.front.as_slice() {
             [first, ..] => *first == 0,
-            [] => self.held == 0 && bytes.starts_with(&[0]),
+            [] => self.incoming.as_slice().starts_with(&[0]),
         }
     }
 
@@ -309,18 +376,11 @@ impl Connection {
         }
     }
 
-    // Takes so many bytes that a look has shown, or ends the connection.
-    fn skip(&mut self, count: usize) {
-        let mut buffer = [0u8; READ];
-        let part = &mut buffer[..count.min(READ)];
-        let taken = self.stream.read(part);
-        if !matches!(taken, Ok(n) if n == count) {
-            self.end();
+    // Has a frame wait to be written, whole or not at all. What waits is written first where there is no room for it.
+    pub(crate) fn put(&mut self, registry: &Registry, frame: Bytes) -> Result<(), AllocError> {
+        if !self.outgoing.has_room(&frame) {
+            self.flush(registry);
         }
-    }
-
-    // Has a frame wait to be written, whole or not at all.
-    pub(crate) fn put(&mut self, frame: Bytes) -> Result<(), AllocError> {
         if !self.over {
             self.outgoing.put(frame)?;
         }
@@ -359,12 +419,17 @@ impl Connection {
         if waits == self.is_watched {
             return Ok(());
         }
+        self.is_watched = waits;
+        self.register(registry)
+    }
+
+    // Has reported under its token that it can be read from, and, where it is watched, that it can be written to.
+    fn register(&mut self, registry: &Registry) -> io::Result<()> {
         let mut interest = Interest::READABLE;
-        if waits {
+        if self.is_watched {
             interest = Interest::READABLE | Interest::WRITABLE;
         }
-        self.is_watched = waits;
-        registry.reregister(&mut self.stream, ANY, interest)
+        registry.reregister(&mut self.stream, self.token, interest)
     }
 
     // What waits is dropped with the connection.

@@ -2,17 +2,18 @@
 ghost use Rattle.std.specs.Prelude.{◌<◌, IsTrue, IfOk, IfSome};
 ghost use Rattle.zen_link.specs.Told.{has_low_conn, most_connections};
 
-use crate::connection::{ANY, Connection, Front, Heard, is_later};
+use crate::connection::{Connection, Front, Heard, UNNUMBERED, is_later};
 use crate::framing::{Framing, Piece, Target};
 use crate::link::passed;
 use crate::queue::FrameQueue;
 use bytes::Bytes;
 use indexmap::IndexMap;
 use mio::net::{TcpListener, TcpStream};
-use mio::{Events, Interest, Poll};
+use mio::{Events, Interest, Poll, Token};
 use std::alloc::{AllocError, Global};
 use std::collections::VecDeque;
 use std::io;
+use std::io::ErrorKind;
 use std::net::{Net, SocketAddr};
 use std::rt::Clock;
 use std::time::{Duration, Instant};
@@ -25,6 +26,12 @@ const DIAL_MS: u64 = 500;
 
 // The number under which a node's frames to itself come.
 const OWN: u64 = 0;
+
+// Under which the listener is registered: no connection has its number.
+const LISTENER: Token = Token(OWN as usize);
+
+// How many looks in a row find something before the system is asked what else has come.
+const LOOKS: u32 = 16;
 
 // How many connections wait for a number at most.
 const LOBBY: usize = 8;
@@ -46,6 +53,17 @@ struct Guest {
     connection: Connection,
     // At this moment it has waited long enough.
     until: u64,
+}
+
+// What is known of the connections that wait to be accepted.
+#[derive(Clone, Copy, PartialEq, Eq)]
+enum Backlog {
+    // There is none, until the listener is reported.
+    Empty,
+    // There may be one.
+    Waits,
+    // One was refused for want of something: it is tried again at the next look.
+    Refused,
 }
 
 // What becomes of a connection that waits for a number.
@@ -78,8 +96,9 @@ pub(crate) struct Sockets {
     last: u64,
     // Counts connections that came and looks that found something, so that what was first has the lower count.
     order: u64,
-    // Whether more may wait to be accepted.
-    has_more: bool,
+    backlog: Backlog,
+    // How many looks have found something since the system was asked last.
+    looks: u32,
     // How often the system has failed and no answer has told it.
     errors: u64,
 }
@@ -129,7 +148,8 @@ impl Sockets {
             own: FrameQueue::new(alloc),
             last: OWN,
             order: 0,
-            has_more: false,
+            backlog: Backlog::Waits,
+            looks: 0,
             errors: 0,
         })
     }
@@ -159,8 +179,14 @@ impl Sockets {
             let Ok(now) = passed(rt, opened) else {
                 return Err(LinkError::Failed);
             };
+            if self.looks >= LOOKS && self.wait(0).is_err() {
+                return Err(LinkError::Failed);
+            }
             match self.look(framing, now) {
-                Ok(Some(input)) => return Ok(Some(input)),
+                Ok(Some(input)) => {
+                    self.looks = self.looks.saturating_add(1);
+                    return Ok(Some(input));
+                }
                 Ok(None) => {}
                 Err(_) => return Err(LinkError::Memory),
             }
@@ -176,13 +202,33 @@ impl Sockets {
 
     // Waits until something may have come, so many milliseconds at most.
     fn wait(&mut self, time: u64) -> io::Result<()> {
-        let time = if self.has_more { 0 } else { time };
+        let time = if self.backlog == Backlog::Waits {
+            0
+        } else {
+            time
+        };
+        self.looks = 0;
         match self
             .poll
             .poll(&mut self.events, Some(Duration::from_millis(time)))
         {
             Err(error) if !is_later(&error) => Err(error),
-            _ => Ok(()),
+            _ => {
+                self.note_events();
+                Ok(())
+            }
+        }
+    }
+
+    // Notes what the system has reported.
+    fn note_events(&mut self) {
+        for event in self.events.iter() {
+            let token = event.token();
+            if token == LISTENER {
+                self.backlog = Backlog::Waits;
+            } else if let Some(Some(connection)) = self.connections.get_mut(token.0) {
+                connection.note_ready();
+            }
         }
     }
 
@@ -190,7 +236,7 @@ impl Sockets {
     fn look<F: Framing>(&mut self, framing: &F, now: u64) -> Result<Option<Input>, AllocError>
         ensures { IfOk result (λ found. IfSome found (λ input. IsTrue (has_low_conn input))) }
     {
-        if let Some(bytes) = self.own.take() {
+        if let Some(bytes) = self.own.take()? {
             return Ok(Some(Input::Bytes { conn: OWN, bytes }));
         }
         self.serve(framing, now);
@@ -218,7 +264,10 @@ impl Sockets {
     // Takes the connections that wait, up to the first that takes the place of another: so each is looked at before it can
     // lose its own.
     fn accept(&mut self, now: u64) {
-        self.has_more = true;
+        if self.backlog == Backlog::Empty {
+            return;
+        }
+        self.backlog = Backlog::Waits;
         for _ in 1..CONNECTIONS {
             match self.listener.accept() {
                 Ok((stream, _)) => {
@@ -227,13 +276,22 @@ impl Sockets {
                     }
                 }
                 Err(error) => {
-                    self.has_more = false;
-                    if !is_later(&error) {
-                        self.note_error();
-                    }
+                    self.note_refused(&error);
                     return;
                 }
             }
+        }
+    }
+
+    // No connection could be accepted.
+    fn note_refused(&mut self, error: &io::Error) {
+        if error.kind() == ErrorKind::WouldBlock {
+            self.backlog = Backlog::Empty;
+            return;
+        }
+        self.backlog = Backlog::Refused;
+        if !is_later(error) {
+            self.note_error();
         }
     }
 
@@ -394,7 +452,7 @@ impl Sockets {
         let _ = stream.set_nodelay(true);
         let registry = self.poll.registry();
         if registry
-            .register(&mut stream, ANY, Interest::READABLE)
+            .register(&mut stream, UNNUMBERED, Interest::READABLE)
             .is_err()
         {
             self.note_error();
@@ -412,6 +470,7 @@ impl Sockets {
     // Puts a connection under a number, in place of the one that has it.
     fn put(&mut self, number: u64, mut connection: Connection) {
         if let Some(slot) = self.connections.get_mut(number as usize) {
+            connection.set_number(self.poll.registry(), number);
             connection.set_owes_end(matches!(slot, Some(old) if old.was_heard()));
             *slot = Some(connection);
         }
@@ -431,12 +490,15 @@ impl Sockets {
         let Some(Some(connection)) = self.connections.get_mut(number as usize) else {
             return Ok(None);
         };
+        if !connection.may_bring() {
+            return Ok(None);
+        }
         if connection.owes_end() {
             connection.set_owes_end(false);
             return Ok(Some(Input::Closed { conn: number }));
         }
         let was_heard = connection.was_heard();
-        match connection.hear(self.alloc, framing, order)? {
+        match connection.hear(framing, order)? {
             Heard::Nothing => return Ok(None),
             Heard::Bytes(bytes) => {
                 if connection.brings_lines() && bytes.as_slice().ends_with(b"\n") {
@@ -516,7 +578,7 @@ impl Sockets {
         connection.flush(self.poll.registry());
     }
 
-    // Sends each piece, or loses it.
+    // Sends each piece, or loses it. What goes over one connection is written together.
     pub(crate) fn send<F: Framing>(&mut self, rt: &impl Net, now: u64, framing: &F, out: &F::Out) {
         for place in 0..framing.count(out) {
             match framing.piece(self.alloc, out, place) {
@@ -525,6 +587,7 @@ impl Sockets {
                 Err(_) => self.note_error(),
             }
         }
+        self.flush_all();
     }
 
     // Sends a piece, or loses it.
@@ -553,15 +616,14 @@ impl Sockets {
         }
     }
 
-    // Has bytes wait at the connection with this number, or loses them, and writes what it can.
+    // Has bytes wait at the connection with this number, or loses them.
     fn send_over(&mut self, number: u64, bytes: Bytes) {
-        self.flush(number);
-        if let Some(Some(connection)) = self.connections.get_mut(number as usize) {
-            if connection.put(bytes).is_err() {
-                self.note_error();
-            }
+        let Some(Some(connection)) = self.connections.get_mut(number as usize) else {
+            return;
+        };
+        if connection.put(self.poll.registry(), bytes).is_err() {
+            self.note_error();
         }
-        self.flush(number);
     }
 
     // Passes bytes to the node itself, or loses them.
@@ -638,6 +700,6 @@ fn listen(rt: &impl Net, address: &str) -> io::Result<(Poll, TcpListener)> {
     let poll = Poll::new(rt)?;
     let mut listener = TcpListener::bind(rt, address)?;
     poll.registry()
-        .register(&mut listener, ANY, Interest::READABLE)?;
+        .register(&mut listener, LISTENER, Interest::READABLE)?;
     Ok((poll, listener))
 }

@@ -707,9 +707,8 @@ fn ticks_come_while_inputs_come(rt: HostRuntime) -> Result<(), Fail> {
 const FRAMES_TO_ITSELF: &[Row] = &[
     Here(SendsItself(b"1")),
     Here(SendsItself(b"2")),
-    Here(Gives(0, b"1")),
+    Here(Gives(0, b"12")),
     Here(SendsItself(b"3")),
-    Here(Gives(0, b"2")),
     Here(Gives(0, b"3")),
     Here(Ticks(1)),
 ];

@@ -17,7 +17,8 @@ use Rattle.state_journal.specs.declared.why.Why.{Why}
 use Rattle.state_journal.specs.Journal.{found_of, record_of_files, records_of}
 use Rattle.state_journal.specs.Opening.{calls_until}
 use Rattle.journal_inspection.specs.Shows.{LeavesRecord, Shows, OnlyOpens, Reports, Refuses}
-use Rattle.journal_inspection.specs.Inspects.{HostView, Opened, EndsWith, IsComplete}
+use Rattle.zen_host.specs.Views.{HostView}
+use Rattle.journal_inspection.specs.Inspects.{Opened, EndsWith, IsComplete}
 use Rattle.journal_inspection.specs.declared.showing.Shown.{Shown}
 use Rattle.journal_inspection.specs.declared.showing.Shown.TheVariants as shown
 use Rattle.journal_inspection.specs.declared.inspecting.Inspection.{Inspection}

@@ -3,6 +3,7 @@ use Rattle.std.specs.Prelude.{◌≡◌, ℕ, ◌⊎◌, true, false, Option, So
 use Rattle.zen_disk.specs.Faults.{Rose}
 use Rattle.zen_disk.specs.declared.disks.Disks.{Ghosts as Disks}
 use Rattle.zen_host.specs.HostCalls.{HostCall, OpensDisk, and_call}
+use Rattle.zen_host.specs.Views.{HostView}
 use Rattle.zen_link.specs.Streams.{Appended, AppendedFront}
 use Rattle.cluster_state.specs.declared.state.Kept.{Kept}
 use Rattle.state_journal.specs.Journal.{found_of}
@@ -11,17 +12,6 @@ use Rattle.journal_inspection.specs.declared.showing.Shown.{Shown}
 use Rattle.journal_inspection.specs.declared.showing.Shown.TheVariants as shown
 use Rattle.journal_inspection.specs.declared.inspecting.Inspection.{Inspection}
 use Rattle.journal_inspection.specs.declared.inspecting.Inspection.TheVariants as end
-
--- What a host tells: the calls made, the disk and the link that it has ready and those that were given back last; how many children are held, which were
--- spawned and given neither to a wait nor to a kill; and how many faults there were.
-pub record HostView (D L : Type 0) : Type 0 where
-  pub calls : Option (List HostCall)
-  pub disk_ready : Option D
-  pub disk_back : Option D
-  pub link_ready : Option L
-  pub link_back : Option L
-  pub held : ℕ
-  pub faults : ℕ
 
 -- the host gave no link, and was given none back
 pub record LeavesLinks {D L : Type 0} (host host_now : HostView D L) : Type 0 where

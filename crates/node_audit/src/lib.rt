@@ -2,9 +2,11 @@
 #![tactic(auto)]
 
 pub mod node;
+pub mod placed;
 pub mod running;
 pub mod sources;
 
 pub use node::{Node, Struck, shows_as};
+pub use placed::Placed;
 pub use running::Running;
 pub use sources::Sources;

@@ -14,6 +14,7 @@ ghost use Rattle.world_model.specs.Settled.{settled, is_kept, shows_as as shows_
 ghost use Rattle.node_audit.specs.Endings.{outcome_shown};
 ghost use Rattle.node_audit.specs.Standing.{Stands, StandsRunning, StandsStruck, MayEnd};
 
+use crate::placed::Placed;
 use crate::running::Running;
 use cluster_state::Kept;
 use std::alloc::{AllocError, Global};
@@ -31,11 +32,11 @@ pub struct Struck {
 /// A node.
 #[derive(Drop)]
 pub enum Node {
-    Running(Running),
+    Running(Placed<Running>),
     /// Its disk failed, and it was not opened since.
-    Halted(Struck),
+    Halted(Placed<Struck>),
     /// It crashed in an act, and was not opened since.
-    Down(Struck),
+    Down(Placed<Struck>),
 }
 
 /// Whether the line `record` of one shows what that of the other does.
@@ -50,24 +51,29 @@ pub fn shows_as(a: &Kept, b: &Kept) -> bool
 }
 
 // Strikes a node in an act.
-fn strike(alloc: Global, running: Running, act: &Act) -> Result<Struck, AllocError>
+fn strike(alloc: Global, running: Placed<Running>, act: &Act) -> Result<Placed<Struck>, AllocError>
     requires { is_opening act.now ≡ false }
     ensures { (g : NodeHistory) → StandsRunning running g → IfOk result (λ s. (kept : Bool) → StandsStruck s (Then g act.now (Disk kept)) × StandsStruck s (Then g act.now (Crashed kept))) }
 {
-    let mut running = running;
+    let mut running = Box::into_inner(running.value);
     let before = running.kept()?;
     running.take(alloc, act, false)?;
     let after = running.kept()?;
-    Ok(Struck { before, after })
+    Placed::of(alloc, Struck { before, after })
 }
 
 // An act that a running node takes.
-fn taken(alloc: Global, running: Running, act: &Act, wins: bool) -> Result<Running, AllocError>
+fn taken(
+    alloc: Global,
+    running: Placed<Running>,
+    act: &Act,
+    wins: bool,
+) -> Result<Placed<Running>, AllocError>
     requires { is_opening act.now ≡ false }
     ensures { (g : NodeHistory) → StandsRunning running g → IfOk result (λ r. (sends : Option TheMessage) → StandsRunning r (Then g act.now (Answered (Taken sends wins)))) }
 {
     let mut running = running;
-    running.take(alloc, act, wins)?;
+    running.value.take(alloc, act, wins)?;
     Ok(running)
 }
 
@@ -90,14 +96,16 @@ impl Node {
         ensures { IfOk result (λ n. Stands n NoActs) }
     {
         let kept = Kept::empty(alloc)?;
-        Ok(Node::Running(Running::opened(alloc, kept)))
+        let running = Placed::of(alloc, Running::opened(alloc, kept))?;
+        Ok(Node::Running(running))
     }
 
     /// A node that was opened and found this record.
-    pub fn opened(alloc: Global, kept: Kept) -> Node
-        ensures { (g : NodeHistory) → kept ≡ durable_of g → Stands result (Then g (Open kept) (Answered (Taken None false))) }
+    pub fn opened(alloc: Global, kept: Kept) -> Result<Node, AllocError>
+        ensures { (g : NodeHistory) → kept ≡ durable_of g → IfOk result (λ n. Stands n (Then g (Open kept) (Answered (Taken None false)))) }
     {
-        Node::Running(Running::opened(alloc, kept))
+        let running = Placed::of(alloc, Running::opened(alloc, kept))?;
+        Ok(Node::Running(running))
     }
 
     /// Whether the node crashed and was not opened since.
@@ -117,7 +125,7 @@ impl Node {
         ensures { (g : NodeHistory) → Stands self.now g → is_down_of g ≡ false → IfOk result (λ r. r ≡ reply_of me g act.now) }
     {
         match self {
-            Node::Running(running) => running.reply(alloc, me, act),
+            Node::Running(running) => running.value.reply(alloc, me, act),
             Node::Halted(_) => Ok(ActReply::Stopped),
             Node::Down(_) => Ok(ActReply::Stopped),
         }
@@ -128,9 +136,9 @@ impl Node {
         ensures { (g : NodeHistory) → Stands self.now g → halted_of g ≡ false → is_down_of g ≡ false → result ≡ term_of g }
     {
         match self {
-            Node::Running(running) => running.term,
-            Node::Halted(struck) => struck.before.term,
-            Node::Down(struck) => struck.before.term,
+            Node::Running(running) => running.value.term,
+            Node::Halted(struck) => struck.value.before.term,
+            Node::Down(struck) => struck.value.before.term,
         }
     }
 
@@ -163,9 +171,9 @@ impl Node {
         ensures { (g : NodeHistory) → Stands self g → IfOk result (λ k. k ≡ durable_of (settled (is_kept g shown.now) g)) }
     {
         match self {
-            Node::Running(running) => running.kept(),
-            Node::Halted(struck) => Ok(struck.found(shown)),
-            Node::Down(struck) => Ok(struck.found(shown)),
+            Node::Running(running) => running.value.kept(),
+            Node::Halted(struck) => Ok(Box::into_inner(struck.value).found(shown)),
+            Node::Down(struck) => Ok(Box::into_inner(struck.value).found(shown)),
         }
     }
 }

@@ -1,6 +1,6 @@
 -- What some inputs make.
 use Rattle.std.proofs.Common.{◌≡◌, [], ◌∷◌, refl}
-use Rattle.wire_frames.specs.declared.fault.FrameFault.TheVariants.{TooLong}
+use Rattle.wire_frames.specs.declared.fault.FrameError.TheVariants.{TooLong}
 use Rattle.wire_frames.specs.Streams.{stream}
 use Rattle.policy_model.specs.declared.events.Event.TheVariants.{Tick as TickCame, Client as LineCame}
 use Rattle.zen_link.specs.declared.link.Input.TheVariants.{Bytes, Closed, Tick, Stop}

@@ -1,5 +1,6 @@
 pub mod Appending
 pub mod Feeding
+pub mod Nexts
 pub mod Telling
 pub mod Doing
 pub mod Turning

@@ -1,5 +1,5 @@
 -- How readers and inputs go together over turns.
-use Rattle.std.proofs.Common.{◌||◌, ◌+◌, append_assoc, length-append, ◌≡◌, ℕ, ◌-◌, ◌^◌, min, ◌≤◌, ◌<◌, ◌==◌, Bool, true, false, Option, None, Some, List, [], ◌∷◌, ◌++◌, map, refl, sym, ap, subst, ◌∙◌, get_or, slice_set, length, eq-eqb, append-nil, arith}
+use Rattle.std.proofs.Common.{◌||◌, ◌+◌, append_assoc, length-append, ◌≡◌, ℕ, zero, suc, ◌-◌, ◌^◌, min, ◌≤◌, ◌<◌, ◌==◌, Bool, true, false, Option, None, Some, List, [], ◌∷◌, ◌++◌, map, refl, sym, ap, subst, ◌∙◌, get_or, slice_set, length, eq-eqb, append-nil, arith}
 use Rattle.std.specs.List.{flat_map}
 use Rattle.std.proofs.lemmas.List.{get_or-set_same, get_or-set_other}
 use Rattle.std.proofs.Math.Bool.{or-false}
@@ -21,7 +21,8 @@ use Rattle.node_loop.specs.Intakes.{Intake, Read, Unread, Refused, Intakes, NoIn
 use Rattle.node_loop.specs.Happenings.{Happening, Comes, Takes, Makes}
 use Rattle.node_loop.specs.Happenings as happening
 use Rattle.node_loop.specs.Connections.{bytes_of, reading_of, made_by, makes, course_by, course_from, last_made}
-use Rattle.node_loop.specs.Feeds.{IsFed, happenings_of}
+use Rattle.node_loop.specs.declared.connection.Came.TheVariants as came
+use Rattle.node_loop.specs.Feeds.{IsFed, happenings_of, kept_frames, kept, kept_at}
 use Rattle.node_loop.specs.Feeding.{FeedsAt}
 use Rattle.node_loop.specs.Reports.{Output, Reported, happened_in, lived}
 use Rattle.policy_model.specs.Entries.{Entry}
@@ -49,13 +50,26 @@ reads_set readings conn next intakes intake all reads at others c low = reads_by
 itself : (conn : ℕ) → (conn == conn) ≡ true
 itself conn = eq-eqb conn conn refl
 
-pub fed_reads : (readings now : List Connection) (conn : ℕ) (more : List ℕ) (came : Came) (intakes : Intakes) → length readings ≡ most_connections → conn < most_connections → Reads readings intakes → FeedsAt readings conn more came now
+set_twice : {A : Type 0} (xs : List A) (i : ℕ) (x y : A) → slice_set (slice_set xs i x) i y ≡ slice_set xs i y
+set_twice [] i x y = refl
+set_twice (z ∷ xs) zero x y = refl
+set_twice (z ∷ xs) (suc i) x y = ap (λ l. z ∷ l) (set_twice xs i x y)
+
+-- what is put back in its place
+keeps_at : (readings : List Connection) (conn : ℕ) (next : Connection) (came : Came) → kept_at (slice_set readings conn next) conn came ≡ slice_set readings conn (kept came next)
+keeps_at readings conn next came.Nothing = refl
+keeps_at readings conn next (came.Frames left) = set_twice readings conn next (kept_frames left.ending)
+keeps_at readings conn next (came.Lines lines) = refl
+
+pub fed_reads : (readings fed now : List Connection) (conn : ℕ) (more : List ℕ) (came : Came) (intakes : Intakes) → length readings ≡ most_connections → conn < most_connections → Reads readings intakes
+    → FeedsAt readings conn more came fed → now ≡ kept_at fed conn came
     → (happenings_of conn came ≡ made_by intakes (Read (Bytes conn more))) × Reads now (Then intakes (Read (Bytes conn more)))
-fed_reads readings now conn more came intakes all low reads fed =
-    let is : IsFed conn (bytes_of conn intakes) more came fed.next = fed.feeds conn (bytes_of conn intakes) (reads conn low) in (
+fed_reads readings fed now conn more came intakes all low reads feeds put =
+    let is : IsFed conn (bytes_of conn intakes) more came feeds.next = feeds.feeds conn (bytes_of conn intakes) (reads conn low) in
+    let set : now ≡ slice_set readings conn (kept came feeds.next) = put ∙ ap (λ r. kept_at r conn came) feeds.set ∙ keeps_at readings conn feeds.next came in (
       is.brings,
-      subst (λ r. Reads r (Then intakes (Read (Bytes conn more)))) (sym fed.set)
-          (reads_set readings conn fed.next intakes (Read (Bytes conn more)) all reads (rw (itself conn) is.reads) (λ c other. rw other refl)),
+      subst (λ r. Reads r (Then intakes (Read (Bytes conn more)))) (sym set)
+          (reads_set readings conn (kept came feeds.next) intakes (Read (Bytes conn more)) all reads (rw (itself conn) is.reads) (λ c other. rw other refl)),
     )
 
 pub unread_reads : (readings now : List Connection) (conn : ℕ) (more : List ℕ) (intakes : Intakes) → length readings ≡ most_connections → Reads readings intakes → now ≡ slice_set readings conn Fresh

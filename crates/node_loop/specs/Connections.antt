@@ -1,8 +1,8 @@
 -- Part of the statement: the bytes of a connection, and what more of them bring.
 use Rattle.std.specs.Prelude.{ℕ, Bool, true, false, ◌==◌, ◌&&◌, if◌then◌else◌, Option, None, Some, List, [], ◌∷◌, ◌++◌, map, length, drop}
-use Rattle.wire_frames.specs.declared.fault.FrameFault.{FrameFault}
+use Rattle.wire_frames.specs.declared.fault.FrameError.{FrameError}
 use Rattle.wire_frames.specs.declared.frame.Frame.{Frame}
-use Rattle.wire_frames.specs.Streams.{Ending, Rest, Fault, stream, fault_in}
+use Rattle.wire_frames.specs.Streams.{Ending, Rest, Fault, stream, fault_in, read_up}
 use Rattle.client_lines.specs.Lines.{lines_of, rest_of}
 use Rattle.policy_model.specs.declared.events.Event.TheVariants.{Tick as TickCame, Frame as FrameCame, Client as LineCame}
 use Rattle.zen_link.specs.declared.link.Input.{Input}
@@ -60,7 +60,7 @@ module _ (conn : ℕ) where
   abbrev pub of_lines : List (List ℕ) → List Happening
   of_lines lines = map (λ l. Comes (LineCame conn l)) lines
 
-  abbrev pub of_fault : Option FrameFault → List Happening
+  abbrev pub of_fault : Option FrameError → List Happening
   of_fault None = []
   of_fault (Some fault) = Faulty conn fault ∷ []
 
@@ -103,4 +103,4 @@ last_made made before (i ∷ is) = last_made (made_by before i) (Then before i) 
 -- what the reader of a connection holds after these bytes: nothing, what stands after the frames so far, or a line that has not ended
 abbrev pub reading_of : List ℕ → Connection
 reading_of [] = Fresh
-reading_of (b ∷ bytes) = if b == 0 then Frames (stream (b ∷ bytes)).ending else Lines (rest_of (b ∷ bytes))
+reading_of (b ∷ bytes) = if b == 0 then Frames (read_up (stream (b ∷ bytes)).ending) else Lines (rest_of (b ∷ bytes))

@@ -3,8 +3,8 @@ use Rattle.std.specs.Prelude.{◌≡◌, ℕ, ◌+◌, min, Option, None, Some, 
 use Rattle.cluster_state.specs.FaultNames.{field_name}
 use Rattle.cluster_state.specs.Field.{last_number}
 use Rattle.cluster_state.specs.declared.state.ClusterState.{ClusterState}
-use Rattle.wire_frames.specs.declared.fault.FrameFault.{FrameFault}
-use Rattle.wire_frames.specs.declared.fault.FrameFault.TheVariants.{TooLong, UnknownKind, Field, Trailing}
+use Rattle.wire_frames.specs.declared.fault.FrameError.{FrameError}
+use Rattle.wire_frames.specs.declared.fault.FrameError.TheVariants.{TooLong, UnknownKind, Field, Trailing}
 use Rattle.wire_frames.specs.declared.frame.Frame.{Frame}
 use Rattle.master_tasks.specs.declared.waiting.Outgoing.{Outgoing}
 use Rattle.voting_config.specs.Ids.{Id}
@@ -64,7 +64,7 @@ event_line (FrameCame frame) = codes "> frame " ++ frame.from ++ codes " " ++ me
 event_line (LineCame conn line) = codes "> client " ++ line ++ codes "\n"
 
 -- what is wrong with the bytes of a frame
-abbrev pub fault_text : FrameFault → List ℕ
+abbrev pub fault_text : FrameError → List ℕ
 fault_text TooLong = codes "TooLong"
 fault_text (UnknownKind kind) = codes "UnknownKind(" ++ decimal kind ++ codes ")"
 fault_text (Field fault) = codes "Field(" ++ field_name fault ++ codes ")"
@@ -75,7 +75,7 @@ abbrev pub gone_line : ℕ → List ℕ
 gone_line conn = codes "> gone " ++ decimal conn ++ codes "\n"
 
 -- the bytes of a connection are faulty
-abbrev pub bad_line : ℕ → FrameFault → List ℕ
+abbrev pub bad_line : ℕ → FrameError → List ℕ
 bad_line conn fault = codes "> bad " ++ decimal conn ++ codes " " ++ fault_text fault ++ codes "\n"
 
 -- what came, and what the node shows of it: acts and changes of mode, then drops, frames and replies. Before it the node had published

@@ -1,12 +1,13 @@
 //! What reads the bytes of a connection: frames where its first byte is 0, else lines.
 ghost use Rattle.std.specs.Prelude.{◌≡◌, ℕ, ◌<◌, List, [], ◌∷◌, IfOk, OnErr, IsTrue, length, slice_set};
+ghost use Rattle.wire_frames.specs.Streams.{fault_in};
 ghost use Rattle.node_loop.specs.Feeding.{FeedsAt};
-ghost use Rattle.node_loop.specs.Feeds.{Feeds, FeedsFrames, FeedsLines, HasFitFrames, kept_frames};
+ghost use Rattle.node_loop.specs.Feeds.{Feeds, FeedsFrames, FeedsLines, kept_frames};
 ghost use Rattle.node_loop.specs.declared.connection.Connection.TheVariants as connection;
 
 use client_lines::{LineReader, Lines, law_cuts};
 use std::alloc::{AllocError, Global};
-use wire_frames::{Fed, FrameFault, FrameReader};
+use wire_frames::{FrameError, FrameReader};
 
 /// What reads the bytes of a connection.
 #[derive(Drop)]
@@ -21,16 +22,15 @@ pub enum Connection {
 #[derive(Drop)]
 pub enum Came {
     Nothing,
-    Frames(Fed),
+    /// A reader with the frames, which is put back once they are done.
+    Frames(FrameReader),
     Lines(Lines),
 }
 
 impl Connection {
-    /// Takes the next bytes of the connection, and gives what they bring. After a fault, and where no memory is found, it
-    /// begins anew.
+    /// Takes the next bytes of the connection, and gives what they bring. Where no memory is found, it begins anew.
     pub fn feed(&mut self, alloc: Global, bytes: &[u8]) -> Result<Came, AllocError>
         ensures ok { IfOk result (λ came. Feeds self.old bytes.now came self.new) }
-        ensures fit { IfOk result (λ came. HasFitFrames came) }
         ensures err { OnErr result (self.new ≡ connection.Fresh) }
     {
         let held = std::mem::replace(self, Connection::Fresh);
@@ -45,8 +45,7 @@ fn feed_held(
     alloc: Global,
     bytes: &[u8],
 ) -> Result<(Connection, Came), AllocError>
-    ensures feeds { IfOk result (λ fed. Feeds held bytes.now fed.1 fed.0) }
-    ensures fit { IfOk result (λ fed. HasFitFrames fed.1) }
+    ensures { IfOk result (λ fed. Feeds held bytes.now fed.1 fed.0) }
 {
     match held {
         Connection::Fresh => begin(alloc, bytes),
@@ -57,8 +56,7 @@ fn feed_held(
 
 // The first byte says what the connection carries.
 fn begin(alloc: Global, bytes: &[u8]) -> Result<(Connection, Came), AllocError>
-    ensures feeds { IfOk result (λ fed. Feeds connection.Fresh bytes.now fed.1 fed.0) }
-    ensures fit { IfOk result (λ fed. HasFitFrames fed.1) }
+    ensures { IfOk result (λ fed. Feeds connection.Fresh bytes.now fed.1 fed.0) }
 {
     if bytes.is_empty() {
         return Ok((Connection::Fresh, Came::Nothing));
@@ -71,26 +69,15 @@ fn begin(alloc: Global, bytes: &[u8]) -> Result<(Connection, Came), AllocError>
 }
 
 fn feed_frames(reader: FrameReader, bytes: &[u8]) -> Result<(Connection, Came), AllocError>
-    ensures feeds { IfOk result (λ fed. FeedsFrames reader bytes.now fed.1 fed.0) }
-    ensures fit { IfOk result (λ fed. HasFitFrames fed.1) }
+    ensures { IfOk result (λ fed. FeedsFrames reader bytes.now fed.1 fed.0) }
 {
     let mut reader = reader;
-    let fed = reader.feed(bytes)?;
-    Ok((keep_frames(reader, fed.fault), Came::Frames(fed)))
-}
-
-fn keep_frames(reader: FrameReader, fault: Option<FrameFault>) -> Connection
-    ensures { result ≡ kept_frames fault reader }
-{
-    match fault {
-        None => Connection::Frames(reader),
-        Some(_) => Connection::Fresh,
-    }
+    reader.push(bytes)?;
+    Ok((Connection::Fresh, Came::Frames(reader)))
 }
 
 fn feed_lines(reader: LineReader, bytes: &[u8]) -> Result<(Connection, Came), AllocError>
-    ensures feeds { IfOk result (λ fed. FeedsLines reader bytes.now fed.1 fed.0) }
-    ensures fit { IfOk result (λ fed. HasFitFrames fed.1) }
+    ensures { IfOk result (λ fed. FeedsLines reader bytes.now fed.1 fed.0) }
 {
     let mut reader = reader;
     let lines = reader.feed(bytes)?;
@@ -108,10 +95,29 @@ pub(crate) fn feed_at(
 ) -> Result<Came, AllocError>
     requires { conn < length connections.old }
     ensures ok { IfOk result (λ came. FeedsAt connections.old conn bytes.now came connections.new) }
-    ensures fit { IfOk result (λ came. HasFitFrames came) }
     ensures err { OnErr result (connections.new ≡ slice_set connections.old conn connection.Fresh) }
 {
     connections[conn as usize].feed(alloc, bytes)
+}
+
+// Puts back the reader of one connection, without the frames that are left. A connection in which a fault stands, which
+// is given, begins anew.
+pub(crate) fn keep_at(
+    connections: &mut [Connection],
+    conn: u64,
+    reader: FrameReader,
+) -> Option<FrameError>
+    requires { conn < length connections.old }
+    ensures kept { connections.new ≡ slice_set connections.old conn (kept_frames reader.ending) }
+    ensures fault { result ≡ fault_in reader.ending }
+{
+    let mut reader = reader;
+    let fault = reader.skip_frames();
+    connections[conn as usize] = match fault {
+        None => Connection::Frames(reader),
+        Some(_) => Connection::Fresh,
+    };
+    fault
 }
 
 // Forgets what came over one connection.

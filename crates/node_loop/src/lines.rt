@@ -1,6 +1,6 @@
 //! The lines that a node writes of what came to it, and of what it did.
 ghost use Rattle.std.specs.Prelude.{◌≡◌, ◌++◌, OnOk};
-ghost use Rattle.wire_frames.specs.declared.fault.FrameFault.TheVariants.{UnknownKind, Field};
+ghost use Rattle.wire_frames.specs.declared.fault.FrameError.TheVariants.{UnknownKind, Field};
 ghost use Rattle.policy_model.specs.declared.events.Event.TheVariants.{Tick as TickCame, Frame as FrameCame, Client as LineCame};
 ghost use Rattle.node_loop.specs.Texts.{event_line, event_lines, fault_text, next_number, numbered, number_after, bad_line, gone_line};
 ghost use Rattle.event_text.specs.Published.{published_after};
@@ -12,7 +12,7 @@ use policy_model::{Event, MemberDrop, Step};
 use schedule_text::Text;
 use std::alloc::{AllocError, Global};
 use voting_config::NodeId;
-use wire_frames::{Frame, FrameFault};
+use wire_frames::{Frame, FrameError};
 
 /// What the lines of an event need of those before it.
 #[derive(Drop)]
@@ -130,19 +130,19 @@ fn write_field(text: &mut Text, fault: FieldError) -> Result<(), AllocError>
     text.word(")")
 }
 
-fn write_fault(text: &mut Text, fault: FrameFault) -> Result<(), AllocError>
+fn write_fault(text: &mut Text, fault: FrameError) -> Result<(), AllocError>
     ensures { OnOk result (text.new ≡ text.old ++ fault_text fault) }
 {
     match fault {
-        FrameFault::TooLong => text.word("TooLong"),
-        FrameFault::UnknownKind(kind) => write_kind(text, kind),
-        FrameFault::Field(fault) => write_field(text, fault),
-        FrameFault::Trailing => text.word("Trailing"),
+        FrameError::TooLong => text.word("TooLong"),
+        FrameError::UnknownKind(kind) => write_kind(text, kind),
+        FrameError::Field(fault) => write_field(text, fault),
+        FrameError::Trailing => text.word("Trailing"),
     }
 }
 
 /// Writes that the bytes of a connection are faulty.
-pub fn write_bad(text: &mut Text, conn: u64, fault: FrameFault) -> Result<(), AllocError>
+pub fn write_bad(text: &mut Text, conn: u64, fault: FrameError) -> Result<(), AllocError>
     ensures { OnOk result (text.new ≡ text.old ++ bad_line conn fault) }
 {
     text.word("> bad ")?;

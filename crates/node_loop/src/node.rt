@@ -4,30 +4,31 @@ ghost use Rattle.node_loop.specs.Limits.{LawHoldsLittle};
 ghost use Rattle.node_loop.specs.Turns.{Reads, TakesIn, Turns, Says, ServesOn, Serves, is_stop, is_stop_input};
 ghost use Rattle.zen_link.specs.Told.{has_low_conn, most_connections};
 ghost use Rattle.zen_link.specs.declared.link.Input.TheVariants.{Bytes as BytesCame, Closed as ConnectionClosed};
-ghost use Rattle.std.specs.Prelude.{All, IfOk, IfErr, length, ◌<◌, ◌≡◌, ℕ, ◌≤◌, IsTrue, false, Option, Some, None, List, [], ◌∷◌, ◌++◌};
+ghost use Rattle.std.specs.Prelude.{IfOk, IfErr, length, slice_set, ◌<◌, ◌≡◌, ℕ, ◌≤◌, IsTrue, false, Option, Some, None, List, [], ◌∷◌, ◌++◌};
 ghost use Rattle.zen_disk.specs.Faults.{Rose};
 ghost use Rattle.zen_link.specs.declared.link.Traffic.{Traffic};
 ghost use Rattle.policy_model.specs.declared.settings.Settings.{Settings};
-ghost use Rattle.policy_model.specs.declared.events.Event.TheVariants.{Start};
+ghost use Rattle.policy_model.specs.declared.events.Event.TheVariants.{Start, Frame as FrameCame};
 ghost use Rattle.policy_model.specs.Entries.{Life};
 ghost use Rattle.policy_model.specs.Follows.{is_start};
 ghost use Rattle.policy_model.specs.Fitting.{IsFitEvent};
-ghost use Rattle.wire_frames.specs.Frames.{IsFitFrame};
+ghost use Rattle.wire_frames.specs.Streams.{fault_in};
+ghost use Rattle.wire_frames.specs.Views.{shown};
 ghost use Rattle.node_loop.specs.Connections.{of_frames, of_lines, of_fault, makes};
-ghost use Rattle.node_loop.specs.Feeds.{HasFitFrames, happenings_of};
+ghost use Rattle.node_loop.specs.Feeds.{happenings_of, kept_frames, kept_at};
 ghost use Rattle.node_loop.specs.Happenings.{Comes, Faulty, Ends, Unread, Refused, Makes};
 ghost use Rattle.policy_model.specs.Entries.{Entry, Did, NoMemory, Unread as UnreadEntry};
 ghost use Rattle.node_loop.specs.Nodes.{HoldsBy};
 ghost use Rattle.node_loop.specs.Steps.{Does, IsHalted, FailsTo, IsDiskError};
 ghost use Rattle.node_loop.specs.Tells.{Tells, HasCauses, IsUp, IsOpened, does_all, goes_on};
 
-use crate::connection::{Came, Connection, close_at, feed_at};
+use crate::connection::{Came, Connection, close_at, feed_at, keep_at};
 use crate::steps::{Done, StepError, Steps};
 use client_lines::Line;
 use policy_model::Event;
 use schedule_text::Text;
 use std::alloc::{AllocError, Global};
-use wire_frames::{Fed, Frame, FrameFault};
+use wire_frames::{FrameError, FrameReader, FrameView};
 use zen_link::{Input, Link, LinkError, Sink, write_all};
 
 /// Why a run of a node ended.
@@ -182,7 +183,7 @@ fn tell_bad<S: Steps, L: Link<Out = S::Sealed>, O: Sink>(
     link: &mut L,
     out: &mut O,
     conn: u64,
-    fault: FrameFault,
+    fault: FrameError,
 ) -> Option<End>
     ensures tells { (s : Settings) (life : Life) → S.stands_for steps.now s life → IsUp life
         → Tells S.output (S.text s) s life (Makes (Faulty conn fault) ∷ []) result (O.written out.old) (O.written out.new) (L.told link.old) (L.told link.new) (HoldsBy S.Steps steps.now steps.now s life) }
@@ -222,28 +223,54 @@ fn tell_unread<S: Steps, L: Link<Out = S::Sealed>, O: Sink>(
     None
 }
 
+// Does a frame that came.
+fn tell_frame<S: Steps, L: Link<Out = S::Sealed>, O: Sink>(
+    steps: &mut S,
+    alloc: Global,
+    link: &mut L,
+    out: &mut O,
+    frame: FrameView<'_>,
+) -> Option<End>
+    ensures tells { (s : Settings) (life : Life) → S.stands_for steps.old s life → IsUp life
+        → Tells S.output (S.text s) s life (Makes (Comes (FrameCame (shown frame.entry))) ∷ []) result (O.written out.old) (O.written out.new) (L.told link.old) (L.told link.new) (HoldsBy S.Steps steps.old steps.new s life) }
+    ensures within { does_all result ≡ goes_on result }
+    ensures stop { is_stop result ≡ false }
+    ensures causes { HasCauses result (S.faults steps.old) (S.faults steps.new) (O.faults out.old) (O.faults out.new) (L.faults link.old) (L.faults link.new) }
+    ensures asked { L.asked link.new ≡ L.asked link.old }
+{
+    match frame.frame(alloc) {
+        Ok(frame) => tell_event(steps, alloc, link, out, Event::Frame(frame)),
+        Err(_) => tell_no_memory(steps, out),
+    }
+}
+
 // Does the frames that came, in order.
 fn tell_frames<S: Steps, L: Link<Out = S::Sealed>, O: Sink>(
     steps: &mut S,
     alloc: Global,
     link: &mut L,
     out: &mut O,
-    frames: Vec<Frame>,
+    reader: &mut FrameReader,
 ) -> Option<End>
-    requires fit { All IsFitFrame frames.items }
     ensures tells { (s : Settings) (life : Life) → S.stands_for steps.old s life → IsUp life
-        → Tells S.output (S.text s) s life (makes (of_frames frames.items)) result (O.written out.old) (O.written out.new) (L.told link.old) (L.told link.new) (HoldsBy S.Steps steps.old steps.new s life) }
+        → Tells S.output (S.text s) s life (makes (of_frames reader.old.frames)) result (O.written out.old) (O.written out.new) (L.told link.old) (L.told link.new) (HoldsBy S.Steps steps.old steps.new s life) }
+    ensures left { reader.new.ending ≡ reader.old.ending }
     ensures within { does_all result ≡ goes_on result }
     ensures stop { is_stop result ≡ false }
     ensures causes { HasCauses result (S.faults steps.old) (S.faults steps.new) (O.faults out.old) (O.faults out.new) (L.faults link.old) (L.faults link.new) }
     ensures asked { L.asked link.new ≡ L.asked link.old }
 {
-    for frame in frames {
-        if let Some(end) = tell_event(steps, alloc, link, out, Event::Frame(frame)) {
-            return Some(end);
+    'frames: loop {
+        match reader.next() {
+            None => return None,
+            Some(Err(_)) => return None,
+            Some(Ok(frame)) => {
+                if let Some(end) = tell_frame(steps, alloc, link, out, frame) {
+                    return Some(end);
+                }
+            }
         }
     }
-    None
 }
 
 // Does the lines that came, in order.
@@ -270,25 +297,29 @@ fn tell_lines<S: Steps, L: Link<Out = S::Sealed>, O: Sink>(
     None
 }
 
-// Does the frames that came, and then reports the fault that stands next.
-fn tell_fed<S: Steps, L: Link<Out = S::Sealed>, O: Sink>(
+// Does the frames that came, puts their reader back, and then reports the fault that stands next.
+fn take_frames<S: Steps, L: Link<Out = S::Sealed>, O: Sink>(
     steps: &mut S,
+    connections: &mut [Connection],
     alloc: Global,
     link: &mut L,
     out: &mut O,
     conn: u64,
-    fed: Fed,
+    reader: FrameReader,
 ) -> Option<End>
-    requires fit { All IsFitFrame fed.frames.items }
+    requires { conn < length connections.old }
     ensures tells { (s : Settings) (life : Life) → S.stands_for steps.old s life → IsUp life
-        → Tells S.output (S.text s) s life (makes (of_frames fed.frames.items ++ of_fault conn fed.fault)) result (O.written out.old) (O.written out.new) (L.told link.old) (L.told link.new) (HoldsBy S.Steps steps.old steps.new s life) }
+        → Tells S.output (S.text s) s life (makes (of_frames reader.frames ++ of_fault conn (fault_in reader.ending))) result (O.written out.old) (O.written out.new) (L.told link.old) (L.told link.new) (HoldsBy S.Steps steps.old steps.new s life) }
+    ensures kept { connections.new ≡ slice_set connections.old conn (kept_frames reader.ending) }
     ensures within { does_all result ≡ goes_on result }
     ensures stop { is_stop result ≡ false }
     ensures causes { HasCauses result (S.faults steps.old) (S.faults steps.new) (O.faults out.old) (O.faults out.new) (L.faults link.old) (L.faults link.new) }
     ensures asked { L.asked link.new ≡ L.asked link.old }
 {
-    let Fed { frames, fault } = fed;
-    if let Some(end) = tell_frames(steps, alloc, link, out, frames) {
+    let mut reader = reader;
+    let end = tell_frames(steps, alloc, link, out, &mut reader);
+    let fault = keep_at(connections, conn, reader);
+    if let Some(end) = end {
         return Some(end);
     }
     tell_fault(steps, alloc, link, out, conn, fault)
@@ -301,7 +332,7 @@ fn tell_fault<S: Steps, L: Link<Out = S::Sealed>, O: Sink>(
     link: &mut L,
     out: &mut O,
     conn: u64,
-    fault: Option<FrameFault>,
+    fault: Option<FrameError>,
 ) -> Option<End>
     ensures tells { (s : Settings) (life : Life) → S.stands_for steps.now s life → IsUp life
         → Tells S.output (S.text s) s life (makes (of_fault conn fault)) result (O.written out.old) (O.written out.new) (L.told link.old) (L.told link.new) (HoldsBy S.Steps steps.now steps.now s life) }
@@ -317,17 +348,19 @@ fn tell_fault<S: Steps, L: Link<Out = S::Sealed>, O: Sink>(
 }
 
 // Does what bytes of a connection brought.
-fn tell_came<S: Steps, L: Link<Out = S::Sealed>, O: Sink>(
+fn take_came<S: Steps, L: Link<Out = S::Sealed>, O: Sink>(
     steps: &mut S,
+    connections: &mut [Connection],
     alloc: Global,
     link: &mut L,
     out: &mut O,
     conn: u64,
     came: Came,
 ) -> Option<End>
-    requires fit { HasFitFrames came }
+    requires { conn < length connections.old }
     ensures tells { (s : Settings) (life : Life) → S.stands_for steps.old s life → IsUp life
         → Tells S.output (S.text s) s life (makes (happenings_of conn came)) result (O.written out.old) (O.written out.new) (L.told link.old) (L.told link.new) (HoldsBy S.Steps steps.old steps.new s life) }
+    ensures kept { connections.new ≡ kept_at connections.old conn came }
     ensures within { does_all result ≡ goes_on result }
     ensures stop { is_stop result ≡ false }
     ensures causes { HasCauses result (S.faults steps.old) (S.faults steps.new) (O.faults out.old) (O.faults out.new) (L.faults link.old) (L.faults link.new) }
@@ -335,7 +368,7 @@ fn tell_came<S: Steps, L: Link<Out = S::Sealed>, O: Sink>(
 {
     match came {
         Came::Nothing => None,
-        Came::Frames(fed) => tell_fed(steps, alloc, link, out, conn, fed),
+        Came::Frames(reader) => take_frames(steps, connections, alloc, link, out, conn, reader),
         Came::Lines(lines) => tell_lines(steps, alloc, link, out, conn, lines.into_lines()),
     }
 }
@@ -360,7 +393,7 @@ fn take_bytes<S: Steps, L: Link<Out = S::Sealed>, O: Sink>(
     ensures stop { is_stop result ≡ false }
 {
     match feed_at(connections, alloc, conn, bytes) {
-        Ok(came) => tell_came(steps, alloc, link, out, conn, came),
+        Ok(came) => take_came(steps, connections, alloc, link, out, conn, came),
         Err(_) => tell_unread(steps, link, out, conn),
     }
 }

@@ -18,7 +18,7 @@ use std::alloc::{AllocError, Global};
 use std::mem;
 use trace_text::write_record;
 use voting_config::NodeId;
-use wire_frames::{Frame, FrameFault};
+use wire_frames::{Frame, FrameError};
 
 /// The coordinator of a node, with what the lines need that say what it does.
 #[derive(Drop)]
@@ -157,7 +157,7 @@ impl<K: Keeper> Steps for Reporter<K> {
         Ok(text)
     }
 
-    fn bad_line(&self, alloc: Global, conn: u64, fault: FrameFault) -> Result<Text, AllocError> {
+    fn bad_line(&self, alloc: Global, conn: u64, fault: FrameError) -> Result<Text, AllocError> {
         let mut text = Text::new(alloc);
         write_bad(&mut text, conn, fault)?;
         Ok(text)

@@ -15,7 +15,7 @@ ghost use Rattle.node_loop.specs.Steps.{StepsTo, IsDisk};
 use policy_model::Event;
 use schedule_text::Text;
 use std::alloc::{AllocError, Global};
-use wire_frames::FrameFault;
+use wire_frames::FrameError;
 
 /// An event that was done: what may leave the node, and its lines, or none where memory was lacking for them.
 #[derive(Drop)]
@@ -78,7 +78,7 @@ pub trait Steps {
         ensures { IfOk result (λ line. (s : Settings) (life : Life) → stands_for self.now s life → IsOpened life → line ≡ opening s life) };
 
     /// The line of a connection whose bytes are faulty.
-    fn bad_line(&self, alloc: Global, conn: u64, fault: FrameFault) -> Result<Text, AllocError>
+    fn bad_line(&self, alloc: Global, conn: u64, fault: FrameError) -> Result<Text, AllocError>
         ensures { IfOk result (λ line. (s : Settings) (life : Life) → line ≡ text s life (Bad conn fault)) };
 
     /// The line of a connection that ended.

@@ -65,6 +65,26 @@ fn read_answer(term: &str) -> Result<Event, Fail>
     }))
 }
 
+// A join of v by itself in this term, as no sound node sends it.
+fn read_join(term: &str) -> Result<Event, Fail>
+    ensures { IfOk result IsFitEvent }
+{
+    let term = term.parse::<u64>()?;
+    if LAST_NUMBER < term {
+        return Err(Fail::new("there is no such term"));
+    }
+    let last = StateId {
+        term: 0,
+        version: 0,
+    };
+    let v = NodeId::parse("v")?;
+    Ok(Event::Frame(Frame {
+        from: v,
+        to: v,
+        message: WireMessage::Join { term, last },
+    }))
+}
+
 fn read_client(alloc: Global, line: &str) -> Result<Event, Fail>
     ensures { IfOk result IsFitEvent }
 {
@@ -99,8 +119,14 @@ impl Sent {
     }
 }
 
-fn started(alloc: Global, name: &str, names: &[&str], voters: &[&str]) -> Result<Member, Fail> {
-    Member::start(alloc, settings_of(alloc, name, names, voters)?)
+fn started(
+    alloc: Global,
+    name: &str,
+    names: &[&str],
+    voters: &[&str],
+    voting_only: &[&str],
+) -> Result<Member, Fail> {
+    Member::start(alloc, settings_of(alloc, name, names, voters, voting_only)?)
 }
 
 // Nodes, and all frames that they sent, in order.
@@ -112,11 +138,16 @@ struct World {
 }
 
 impl World {
-    // The nodes of these names, with these first voters, each started with the others as its listed peers.
-    fn of(alloc: Global, names: &[&str], voters: &[&str]) -> Result<World, Fail> {
+    // The nodes of these names, with these first voters and these voting-only nodes, each started with the others as its listed peers.
+    fn of(
+        alloc: Global,
+        names: &[&str],
+        voters: &[&str],
+        voting_only: &[&str],
+    ) -> Result<World, Fail> {
         let mut members = Vec::new(alloc);
         for name in names {
-            members.push(started(alloc, name, names, voters)?)?;
+            members.push(started(alloc, name, names, voters, voting_only)?)?;
         }
         Ok(World {
             alloc,
@@ -153,7 +184,7 @@ impl World {
         Err(Fail::new(format_args!("frame {number} was not sent")))
     }
 
-    // `tick N NOW WORD`, `deliver N K`, `client N LINE`, `answers a TERM`: the event that comes to the node.
+    // `tick N NOW WORD`, `deliver N K`, `client N LINE`, `answers a TERM`, `joins v TERM`: the event that comes to the node.
     fn read_event(&self, verb: &str, fields: &str) -> Result<Event, Fail>
         ensures { IfOk result IsFitEvent }
     {
@@ -165,6 +196,9 @@ impl World {
         }
         if verb == "answers" {
             return read_answer(fields);
+        }
+        if verb == "joins" {
+            return read_join(fields);
         }
         read_tick(fields)
     }
@@ -299,7 +333,7 @@ const FOLLOWER: Passage = &[
 
 // Nodes of these names, with these first voters, do this.
 fn follow(alloc: Global, names: &[&str], voters: &[&str], passage: Passage) -> Result<(), Fail> {
-    World::of(alloc, names, voters)?.follows(passage)
+    World::of(alloc, names, voters, &[])?.follows(passage)
 }
 
 fn follow_alone(alloc: Global, passage: Passage) -> Result<(), Fail> {
@@ -307,7 +341,7 @@ fn follow_alone(alloc: Global, passage: Passage) -> Result<(), Fail> {
 }
 
 fn leader(alloc: Global) -> Result<World, Fail> {
-    let mut world = World::of(alloc, &["a"], &["a"])?;
+    let mut world = World::of(alloc, &["a"], &["a"], &[])?;
     world.follows(LEADER)?;
     Ok(world)
 }
@@ -317,7 +351,7 @@ fn follow_leader(alloc: Global, passage: Passage) -> Result<(), Fail> {
 }
 
 fn follower(alloc: Global) -> Result<World, Fail> {
-    let mut world = World::of(alloc, &["a", "b"], &["a"])?;
+    let mut world = World::of(alloc, &["a", "b"], &["a"], &[])?;
     world.follows(FOLLOWER)?;
     Ok(world)
 }
@@ -546,6 +580,102 @@ fn a_leader_that_votes_no_more_hands_over_to_the_least_responder_that_votes(
     follow_follower(rt.alloc(), HANDS_OVER)
 }
 
+// A voting-only node takes the first configuration, and never stands for election, though it is a quorum alone. It does nothing
+// with a join: its term does not even rise.
+const VOTING_ONLY: Passage = &[
+    ("tick v 0 7", &["act v ok boot v"]),
+    ("tick v 8 7", &[]),
+    ("tick v 100000 7", &[]),
+    ("joins v 1", &[]),
+];
+
+#[test]
+fn a_voting_only_node_stands_for_no_election_and_counts_no_join(
+    rt: HostRuntime,
+) -> Result<(), Fail> {
+    World::of(rt.alloc(), &["v"], &["v"], &["v"])?.follows(VOTING_ONLY)
+}
+
+// The leader a is excluded, and b and c have responded: the next event commits that they are the voters.
+const EXCLUDED: Passage = &[
+    ("tick a 0 7", &["..."]),
+    ("deliver b 1", &["..."]),
+    ("deliver c 2", &["..."]),
+    ("deliver a 3", &[]),
+    ("deliver a 4", &[]),
+    ("tick a 10 7", &["..."]),
+    ("tick a 20 7", &["..."]),
+    ("deliver b 5", &["..."]),
+    ("deliver c 6", &["..."]),
+    ("deliver a 7", &["..."]),
+    ("deliver a 8", &[]),
+    ("deliver a 9", &["..."]),
+    ("deliver b 10", &["..."]),
+    ("deliver c 11", &["..."]),
+    ("deliver a 12", &["..."]),
+    ("deliver a 13", &["..."]),
+    ("deliver a 14", &["..."]),
+    ("deliver a 15", &["..."]),
+    ("deliver b 16", &["..."]),
+    ("deliver a 17", &["..."]),
+    ("deliver a 18", &["..."]),
+    ("deliver a 19", &["..."]),
+    ("deliver b 20", &["..."]),
+    ("deliver a 21", &["..."]),
+    ("deliver b 22", &["..."]),
+    ("deliver c 23", &["..."]),
+    ("deliver a 24", &["..."]),
+    ("deliver a 25", &["..."]),
+    ("deliver a 26", &["..."]),
+    ("deliver a 27", &["..."]),
+    ("deliver b 28", &["..."]),
+    ("deliver c 29", &["..."]),
+    ("client a {\"id\":1,\"exclude\":[\"a\"]}", &["..."]),
+    ("deliver a 30", &["..."]),
+    ("deliver b 31", &["..."]),
+    ("deliver c 32", &["..."]),
+    ("deliver a 33", &["..."]),
+    ("deliver a 34", &["..."]),
+    ("deliver a 35", &["..."]),
+];
+
+// Who is asked to be elected then: the least that is not voting-only.
+const TO_THE_OTHER: Passage = &[(
+    "deliver a 36",
+    &[
+        "act a ok commit a 1/3",
+        "m39 a->a startjoin c 2",
+        "m40 a->b startjoin c 2",
+        "m41 a->c startjoin c 2",
+        "reply a {\"acked\":{\"term\":1,\"version\":3},\"id\":1}",
+    ],
+)];
+
+// Nobody is asked where there is no such node, and the next look comes a second later all the same.
+const TO_NOBODY: Passage = &[
+    (
+        "deliver a 36",
+        &[
+            "act a ok commit a 1/3",
+            "reply a {\"acked\":{\"term\":1,\"version\":3},\"id\":1}",
+        ],
+    ),
+    ("tick a 21 7", &[]),
+];
+
+fn hands_over_past(alloc: Global, voting_only: &[&str], passage: Passage) -> Result<(), Fail> {
+    let names = ["a", "b", "c"];
+    let mut world = World::of(alloc, names.as_slice(), names.as_slice(), voting_only)?;
+    world.follows(EXCLUDED)?;
+    world.follows(passage)
+}
+
+#[test]
+fn a_leader_hands_over_past_voting_only_nodes(rt: HostRuntime) -> Result<(), Fail> {
+    hands_over_past(rt.alloc(), &["b"], TO_THE_OTHER)?;
+    hands_over_past(rt.alloc(), &["b", "c"], TO_NOBODY)
+}
+
 const DROPS: Passage = &[
     ("tick a 0 7", &["..."]),
     (
@@ -660,7 +790,7 @@ fn over_journal(alloc: Global) -> Result<Coordinator<StateJournal<Fuse<MemDisks>
     let Ok(journal) = StateJournal::open(alloc, Fuse::new(disk)) else {
         return Err(Fail::new("no journal"));
     };
-    let settings = settings_of(alloc, "a", &["a"], &["a"])?;
+    let settings = settings_of(alloc, "a", &["a"], &["a"], &[])?;
     Ok(Coordinator::open(alloc, settings, journal))
 }
 

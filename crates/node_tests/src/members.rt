@@ -12,17 +12,20 @@ use std::marker::Model;
 use std::test::Fail;
 use voting_config::{NodeId, NodeSet};
 
-/// The settings of a node whose listed peers are the others of these names, and whose first voters are the initial ones.
+/// The settings of a node whose listed peers are the others of these names, whose first voters are the initial ones, and which
+/// is told of these voting-only nodes.
 pub(crate) fn settings_of(
     alloc: Global,
     me: &str,
     names: &[&str],
     initial: &[&str],
+    voting_only: &[&str],
 ) -> Result<Settings, Fail> {
     let me = NodeId::parse(me)?;
     Ok(Settings {
         me,
-        initial: voters_of(initial)?,
+        initial: set_of(initial)?,
+        voting_only: set_of(voting_only)?,
         peers: peers_of(alloc, me, names)?,
         shrink: true,
     })
@@ -39,12 +42,12 @@ fn peers_of(alloc: Global, me: NodeId, names: &[&str]) -> Result<NodeIds, Fail> 
     Ok(NodeIds::of(peers))
 }
 
-fn voters_of(initial: &[&str]) -> Result<NodeSet, Fail> {
-    let mut voters = NodeSet::new();
-    for name in initial {
-        let _ = voters.insert(NodeId::parse(name)?);
+fn set_of(names: &[&str]) -> Result<NodeSet, Fail> {
+    let mut ids = NodeSet::new();
+    for name in names {
+        let _ = ids.insert(NodeId::parse(name)?);
     }
-    Ok(voters)
+    Ok(ids)
 }
 
 /// A node within the limits, as `step` requires it.

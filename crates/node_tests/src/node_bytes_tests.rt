@@ -17,7 +17,7 @@ use zen_link::{Input, Link, LinkSettings, Peer};
 
 // The node a, started, whose peer and fellow voter b it has not found.
 fn start(alloc: Global) -> Result<Member, Fail> {
-    let settings = settings_of(alloc, "a", &["a", "b"], &["a", "b"])?;
+    let settings = settings_of(alloc, "a", &["a", "b"], &["a", "b"], &[])?;
     Member::start(alloc, settings)
 }
 

@@ -33,7 +33,7 @@ fn open_and_run(
 
 // A node that is the only first voter and knows no other node.
 fn alone(alloc: Global) -> Result<Settings, Fail> {
-    settings_of(alloc, "a", &["a"], &["a"])
+    settings_of(alloc, "a", &["a"], &["a"], &[])
 }
 
 fn one_tick(alloc: Global) -> Result<Vec<Input>, AllocError>

@@ -197,7 +197,7 @@ fn calls(alloc: Global, call: u64) -> Result<Vec<u64>, AllocError> {
 fn open(alloc: Global, fails: u64) -> Result<JournalNode<MemDisks>, Fail> {
     let fails = calls(alloc, fails)?;
     let disk = MemDisks::new(alloc, Vec::new(alloc), Vec::new(alloc), fails);
-    match Node::open(alloc, settings_of(alloc, "a", &["a"], &["a"])?, disk) {
+    match Node::open(alloc, settings_of(alloc, "a", &["a"], &["a"], &[])?, disk) {
         Ok(node) => Ok(node),
         Err(_) => Err(Fail::new("the journal was not opened")),
     }

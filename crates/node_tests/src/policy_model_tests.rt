@@ -17,6 +17,7 @@ fn listed_peers_keep_their_order(rt: HostRuntime) {
         me: id("c"),
         peers: NodeIds::of(ids),
         initial: NodeSet::new(),
+        voting_only: NodeSet::new(),
         shrink: true,
     };
     assert!(rt; settings.peers.as_slice() == [id("b"), id("a"), id("b")].as_slice());
@@ -28,6 +29,7 @@ fn the_laws_can_be_called() {
     law_life_is_local();
     law_event_moves();
     law_opening_moves();
+    law_no_voting_only();
     law_parts_look_back();
     law_queue();
     law_determined();

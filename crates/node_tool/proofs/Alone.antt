@@ -1,7 +1,6 @@
 -- From a legal history a node goes on alone with what the tool makes of what it keeps.
-use Rattle.std.proofs.Common.{◌≡◌, ℕ, ◌+◌, ◌<◌, ◌≤◌, ◌⊎◌, Bool, true, false, cond, List, refl, sym, subst, arith, inl, inr}
+use Rattle.std.proofs.Common.{◌≡◌, ◌≤◌, false, List, refl, arith}
 use Rattle.std.specs.Prelude.{IsTrue}
-use Rattle.std.proofs.lemmas.Bool.{cases_order}
 use Rattle.voting_config.specs.Ids.{Id, same}
 use Rattle.voting_config.proofs.Sets.{same_self}
 use Rattle.cluster_state.specs.StateIds.{is_fresher}
@@ -9,7 +8,7 @@ use Rattle.cluster_state.specs.States.{id_of}
 use Rattle.cluster_state.specs.declared.state.Kept.{Kept}
 use Rattle.world_model.specs.declared.acts.Act.TheVariants.{Open}
 use Rattle.world_model.specs.Acts.{NoActs}
-use Rattle.world_model.specs.NodeState.{durable_of, initial_state, empty_state}
+use Rattle.world_model.specs.NodeState.{durable_of, initial_state}
 use Rattle.world_model.specs.Histories.{History, node_history, IsLegal}
 use Rattle.world_model.specs.Restarts.{IsAlone, ContinuesFrom}
 use Rattle.world_model.proofs.Durable.{accepted_below}

@@ -1,16 +1,14 @@
 -- How the use of a tool on a folder ends, from how its parts ended.
-use Rattle.std.proofs.Common.{◌≡◌, ◌⊎◌, ℕ, Option, None, Some, Ok, Err, List, refl, sym, ◌∙◌, ap, subst, inl, inr}
+use Rattle.std.proofs.Common.{◌≡◌, ℕ, Option, None, Some, Ok, Err, List, refl, sym, ◌∙◌, ap, subst, inl, inr}
 use Rattle.zen_disk.specs.Faults.{Rose}
 use Rattle.zen_disk.specs.declared.disks.Disks.{Ghosts as Disks}
 use Rattle.cluster_state.specs.declared.state.Kept.{Kept}
 use Rattle.state_journal.specs.Journal.{found_of}
-use Rattle.state_journal.specs.declared.why.Why.{Why}
-use Rattle.journal_inspection.specs.Inspects.{HostView}
+use Rattle.zen_host.specs.Views.{HostView}
 use Rattle.node_tool.specs.Tools.{refusal_of}
 use Rattle.node_tool.specs.Runs.{Used, EndsWith, IsComplete, Says}
 use Rattle.node_tool.specs.Uses.{Uses, IsUnhurt, OnlyUses}
 use Rattle.node_tool.specs.declared.using.Tooled.{Tooled}
-use Rattle.node_tool.specs.declared.error.ToolError.{ToolError}
 use Rattle.node_tool.specs.declared.tool.Tool.{Tool}
 use Rattle.node_tool.specs.declared.using.Tooled.TheVariants as tooled
 use Rattle.node_tool.specs.declared.running.ToolEnd.{ToolEnd}

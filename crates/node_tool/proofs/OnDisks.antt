@@ -1,20 +1,19 @@
 -- What a tool makes of a disk, from what it does on the journal that was opened there.
-use Rattle.std.proofs.Common.{◌≡◌, ◌⊎◌, ℕ, ◌≤◌, Bool, true, false, Option, None, Some, Ok, Err, List, [], refl, sym, ◌∙◌, ap, subst, inl, inr, append-nil, arith}
+use Rattle.std.proofs.Common.{◌≡◌, ◌⊎◌, ℕ, ◌≤◌, Bool, true, false, Option, None, Some, Ok, Err, List, [], sym, ◌∙◌, ap, subst, inl, inr, append-nil, arith}
 use Rattle.std.specs.Result.{result_ok}
-use Rattle.zen_disk.specs.Faults.{Rose}
-use Rattle.zen_disk.specs.Moments.{LeavesOnly, joins, quiet}
+use Rattle.zen_disk.specs.Moments.{LeavesOnly, joins}
 use Rattle.zen_disk.specs.Runs.{CallsMade}
 use Rattle.zen_disk.specs.Sides.{Files}
 use Rattle.zen_disk.specs.declared.disks.Disks.{Ghosts as Disks}
 use Rattle.cluster_state.specs.declared.state.Kept.{Kept}
 use Rattle.gate_log.specs.Calls.{both_opening_calls}
 use Rattle.gate_log.specs.Generations.{generations_of, in_use, standing_in}
-use Rattle.gate_log.specs.Place.{Place, place, place_of}
+use Rattle.gate_log.specs.Place.{place, place_of}
 use Rattle.gate_log.proofs.Places.{place_is}
 use Rattle.state_journal.specs.Bodies.{holds_old}
 use Rattle.state_journal.specs.Changes.{IsEither}
-use Rattle.state_journal.specs.Journal.{found_of, record_of_files, records_of, StoodFor, FoundAsSome}
-use Rattle.state_journal.specs.Keeping.{keeping_calls, keeping_calls_in}
+use Rattle.state_journal.specs.Journal.{found_of, record_of_files, StoodFor, FoundAsSome}
+use Rattle.state_journal.specs.Keeping.{keeping_calls}
 use Rattle.state_journal.specs.Opening.{calls_until, handed_back, IsWhyOf, RanUntil, RoseIfDisk}
 use Rattle.state_journal.specs.declared.error.OpenError.{OpenError}
 use Rattle.state_journal.specs.declared.error.OpenError.TheVariants as refused

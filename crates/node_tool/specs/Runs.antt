@@ -6,7 +6,8 @@ use Rattle.zen_host.specs.HostCalls.{HostCall, OpensDisk, and_call}
 use Rattle.zen_link.specs.Streams.{Appended, AppendedFront}
 use Rattle.cluster_state.specs.declared.state.Kept.{Kept}
 use Rattle.state_journal.specs.Journal.{found_of}
-use Rattle.journal_inspection.specs.Inspects.{HostView, Undisked}
+use Rattle.zen_host.specs.Views.{HostView}
+use Rattle.journal_inspection.specs.Inspects.{Undisked}
 use Rattle.node_tool.specs.Tools.{refusal_of}
 use Rattle.node_tool.specs.Uses.{Uses, IsUnhurt, OnlyUses}
 use Rattle.node_tool.specs.declared.tool.Tool.{Tool}

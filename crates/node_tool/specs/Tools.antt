@@ -1,5 +1,5 @@
 -- Part of the statement: what the tools make of what a node keeps, and what they refuse.
-use Rattle.std.specs.Prelude.{ℕ, ◌+◌, ◌==◌, Option, None, Some, List, [], ◌∷◌, if◌then◌else◌}
+use Rattle.std.specs.Prelude.{◌+◌, ◌==◌, Option, None, Some, [], ◌∷◌, if◌then◌else◌}
 use Rattle.voting_config.specs.Ids.{Id}
 use Rattle.cluster_state.specs.Field.{last_number}
 use Rattle.cluster_state.specs.Initial.{empty_state}

@@ -9,7 +9,6 @@ use Rattle.cluster_state.specs.declared.state.Kept.{Kept}
 use Rattle.gate_log.specs.Calls.{both_opening_calls}
 use Rattle.gate_log.specs.Generations.{standing_in}
 use Rattle.gate_log.specs.Place.{place}
-use Rattle.state_journal.specs.Changes.{IsEither}
 use Rattle.state_journal.specs.Journal.{found_of, record_of_files, records_of, StoodFor}
 use Rattle.state_journal.specs.Keeping.{keeping_calls, keeping_calls_in}
 use Rattle.state_journal.specs.declared.change.Change.TheVariants.{Accepted}

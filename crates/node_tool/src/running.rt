@@ -1,6 +1,7 @@
 //! A tool used on the journal in a folder: the disk is opened, and given back before anything is written.
 ghost use Rattle.std.specs.Prelude.{◌≡◌, ◌≤◌};
-ghost use Rattle.journal_inspection.specs.Inspects.{HostView, LeavesLinks};
+ghost use Rattle.zen_host.specs.Views.{host_view};
+ghost use Rattle.journal_inspection.specs.Inspects.{LeavesLinks};
 ghost use Rattle.node_tool.specs.Runs.{Asked, EndsWith, IsComplete, Says};
 
 use crate::{Tool, Tooled, use_tool};
@@ -52,16 +53,16 @@ pub fn run_tool<H: Host>(
 ) -> ToolEnd
     ensures asked { Asked dir.now (H.calls host.old) (H.calls host.new) result }
     ensures ended { EndsWith H.Disk.Disks tool
-        (record { calls = H.calls host.old; disk_ready = H.disk_ready host.old; disk_back = H.disk_back host.old; link_ready = H.link_ready host.old; link_back = H.link_back host.old; held = H.held host.old; faults = H.faults host.old })
-        (record { calls = H.calls host.new; disk_ready = H.disk_ready host.new; disk_back = H.disk_back host.new; link_ready = H.link_ready host.new; link_back = H.link_back host.new; held = H.held host.new; faults = H.faults host.new })
+        (host_view H.Host host.old)
+        (host_view H.Host host.new)
         (H.Out.written out.old) (H.Out.written out.new) (H.Out.faults out.old) (H.Out.faults out.new) result }
     ensures complete { IsComplete H.Disk.Disks tool
-        (record { calls = H.calls host.old; disk_ready = H.disk_ready host.old; disk_back = H.disk_back host.old; link_ready = H.link_ready host.old; link_back = H.link_back host.old; held = H.held host.old; faults = H.faults host.old })
-        (record { calls = H.calls host.new; disk_ready = H.disk_ready host.new; disk_back = H.disk_back host.new; link_ready = H.link_ready host.new; link_back = H.link_back host.new; held = H.held host.new; faults = H.faults host.new })
+        (host_view H.Host host.old)
+        (host_view H.Host host.new)
         (H.Out.faults out.old) (H.Out.faults out.new) result }
     ensures links { LeavesLinks
-        (record { calls = H.calls host.old; disk_ready = H.disk_ready host.old; disk_back = H.disk_back host.old; link_ready = H.link_ready host.old; link_back = H.link_back host.old; held = H.held host.old; faults = H.faults host.old })
-        (record { calls = H.calls host.new; disk_ready = H.disk_ready host.new; disk_back = H.disk_back host.new; link_ready = H.link_ready host.new; link_back = H.link_back host.new; held = H.held host.new; faults = H.faults host.new }) }
+        (host_view H.Host host.old)
+        (host_view H.Host host.new) }
     ensures held { H.held host.new ≡ H.held host.old }
     ensures wrote_later { H.Out.faults out.old ≤ H.Out.faults out.new }
     ensures later { H.faults host.old ≤ H.faults host.new }

@@ -8,8 +8,8 @@ use std::alloc::{AllocError, Global};
 use std::test::Fail;
 use voting_config::{NodeId, NodeSet};
 use wire_frames::{
-    Frame, FrameFault, FrameReader, Kind, WireMessage, law_cut, law_first_frame, law_one_frame,
-    law_stream, read_frame, write_frame,
+    Frame, FrameError, FrameReader, FrameView, Kind, MessageView, WireMessage, law_cut,
+    law_first_frame, law_one_frame, law_stream, write_frame,
 };
 
 // The frame of a join from a to b in term 1, with 0/0 as the last accepted state.
@@ -32,25 +32,38 @@ fn set(text: &str) -> NodeSet {
     NodeSet::parse(text).unwrap_or(NodeSet::new())
 }
 
-fn is_join(frame: &Frame) -> bool {
-    match frame.message {
-        WireMessage::Join { term, last } => {
-            frame.from == letter(b'a')
-                && frame.to == letter(b'b')
-                && term == 1
-                && last.term == 0
-                && last.version == 0
-        }
+fn says_join(message: &WireMessage) -> bool {
+    match message {
+        WireMessage::Join { term, last } => *term == 1 && last.term == 0 && last.version == 0,
         _ => false,
     }
 }
 
-// Whether a reader gives so many frames for these bytes, with this fault after them.
-fn is_fed(reader: &mut FrameReader, bytes: &[u8], count: usize, fault: Option<FrameFault>) -> bool {
-    match reader.feed(bytes) {
-        Ok(fed) => fed.frames.len() == count && fed.fault == fault,
-        Err(_) => false,
+fn is_join(frame: FrameView) -> bool {
+    match &frame.message() {
+        MessageView::Other(message) => {
+            frame.from() == letter(b'a') && frame.to() == letter(b'b') && says_join(message)
+        }
+        MessageView::Publish(_) => false,
     }
+}
+
+// How many frames a reader gives, and the fault after them.
+fn given(reader: &mut FrameReader) -> (usize, Option<FrameError>) {
+    let mut frames: usize = 0;
+    for _ in 0..100 {
+        match reader.next() {
+            None => return (frames, None),
+            Some(Err(fault)) => return (frames, Some(fault)),
+            Some(Ok(_)) => frames = frames.saturating_add(1),
+        }
+    }
+    (frames, None)
+}
+
+// Whether a reader gives so many frames once these bytes have come, and this fault after them.
+fn gives(reader: &mut FrameReader, bytes: &[u8], count: usize, fault: Option<FrameError>) -> bool {
+    reader.push(bytes).is_ok() && given(reader) == (count, fault)
 }
 
 // Bytes that come in two parts, with the number of their frames and the fault after them.
@@ -59,21 +72,26 @@ struct Parts<'a> {
     first: &'a [u8],
     second: &'a [u8],
     frames: usize,
-    fault: Option<FrameFault>,
+    fault: Option<FrameError>,
 }
 
 // Whether a new reader gives so many frames for the two parts, with this fault after them.
-fn are_fed(alloc: Global, parts: Parts) -> Result<bool, AllocError> {
+fn are_given(alloc: Global, parts: Parts) -> Result<bool, AllocError> {
     let mut reader = FrameReader::new(alloc);
-    let count = reader.feed(parts.first)?.frames.len();
-    let fed = reader.feed(parts.second)?;
-    Ok(count.saturating_add(fed.frames.len()) == parts.frames && fed.fault == parts.fault)
+    reader.push(parts.first)?;
+    let (before, _) = given(&mut reader);
+    reader.push(parts.second)?;
+    let (after, fault) = given(&mut reader);
+    Ok(before.saturating_add(after) == parts.frames && fault == parts.fault)
 }
 
 fn ends_the_join(reader: &mut FrameReader, bytes: &[u8]) -> bool {
-    match reader.feed(bytes) {
-        Ok(fed) => fed.frames.first().is_some_and(is_join),
-        Err(_) => false,
+    if reader.push(bytes).is_err() {
+        return false;
+    }
+    match reader.next() {
+        Some(Ok(frame)) => is_join(frame),
+        _ => false,
     }
 }
 
@@ -81,7 +99,7 @@ fn ends_the_join(reader: &mut FrameReader, bytes: &[u8]) -> bool {
 fn a_join_byte_by_byte(rt: HostRuntime) {
     let mut reader = FrameReader::new(rt.alloc());
     for byte in &JOIN[..32] {
-        assert!(rt; is_fed(&mut reader, &[*byte], 0, None));
+        assert!(rt; gives(&mut reader, &[*byte], 0, None));
     }
     assert!(rt; ends_the_join(&mut reader, &JOIN[32..]));
 }
@@ -98,13 +116,13 @@ fn join_with(changes: &[(usize, u8)]) -> [u8; 33] {
 }
 
 // Changes of the join, bytes after it, how many frames they are, and the fault after those.
-const FAULTS: &[(&str, &[(usize, u8)], &[u8], usize, Option<FrameFault>)] = &[
+const FAULTS: &[(&str, &[(usize, u8)], &[u8], usize, Option<FrameError>)] = &[
     (
         "a byte too many",
         &[(3, 30)],
         &[0],
         0,
-        Some(FrameFault::Trailing),
+        Some(FrameError::Trailing),
     ),
     ("the greatest term", &[(9, 0x40), (16, 0)], &[], 1, None),
     (
@@ -112,28 +130,28 @@ const FAULTS: &[(&str, &[(usize, u8)], &[u8], usize, Option<FrameFault>)] = &[
         &[(9, 0x40)],
         &[],
         0,
-        Some(FrameFault::Field(FieldError::TermTooLarge)),
+        Some(FrameError::Field(FieldError::TermTooLarge)),
     ),
     (
         "a kind between two others",
         &[(4, 3)],
         &[],
         0,
-        Some(FrameFault::UnknownKind(3)),
+        Some(FrameError::UnknownKind(3)),
     ),
     (
         "a kind before the last",
         &[(4, 16)],
         &[],
         0,
-        Some(FrameFault::UnknownKind(16)),
+        Some(FrameError::UnknownKind(16)),
     ),
     (
         "a kind after the last",
         &[(4, 18)],
         &[],
         0,
-        Some(FrameFault::UnknownKind(18)),
+        Some(FrameError::UnknownKind(18)),
     ),
     ("an empty state", &[(4, 17)], &[], 1, None),
     (
@@ -141,7 +159,7 @@ const FAULTS: &[(&str, &[(usize, u8)], &[u8], usize, Option<FrameFault>)] = &[
         &[(3, 45), (4, 17), (16, 0), (25, 1)],
         &[0; 16],
         0,
-        Some(FrameFault::Field(FieldError::BadParent)),
+        Some(FrameError::Field(FieldError::BadParent)),
     ),
 ];
 
@@ -156,26 +174,26 @@ fn the_first_fault_of_a_frame_is_named(rt: HostRuntime) -> Result<(), Fail> {
             frames,
             fault,
         };
-        assert!(rt; are_fed(rt.alloc(), parts)?, "{name}");
+        assert!(rt; are_given(rt.alloc(), parts)?, "{name}");
     }
     Ok(())
 }
 
 // Bytes that come in two parts and are no frame, and their fault.
-const LENGTHS: &[(&str, &[u8], &[u8], Option<FrameFault>)] = &[
+const LENGTHS: &[(&str, &[u8], &[u8], Option<FrameError>)] = &[
     ("three bytes", &[0, 0x80, 0], &[], None),
     ("the greatest length", &[0, 0x80, 0], &[0], None),
     (
         "a greater length",
         &[0, 0x80, 0],
         &[1],
-        Some(FrameFault::TooLong),
+        Some(FrameError::TooLong),
     ),
     (
         "no length",
         &[0; 4],
         &[],
-        Some(FrameFault::Field(FieldError::Short)),
+        Some(FrameError::Field(FieldError::Short)),
     ),
 ];
 
@@ -189,7 +207,7 @@ fn a_frame_of_more_than_8_388_608_bytes_is_too_long(rt: HostRuntime) -> Result<(
             frames: 0,
             fault,
         };
-        assert!(rt; are_fed(rt.alloc(), parts)?, "{name}");
+        assert!(rt; are_given(rt.alloc(), parts)?, "{name}");
     }
     Ok(())
 }
@@ -210,7 +228,7 @@ fn two<'a>(first: &'a [u8], second: &'a [u8]) -> Parts<'a> {
 
 fn are_two_cut_at(alloc: Global, place: usize) -> Result<bool, AllocError> {
     match BOTH.split_at_checked(place) {
-        Some((first, second)) => are_fed(alloc, two(first, second)),
+        Some((first, second)) => are_given(alloc, two(first, second)),
         None => Ok(false),
     }
 }
@@ -223,18 +241,37 @@ fn two_frames_cut_at_each_place(rt: HostRuntime) -> Result<(), Fail> {
     Ok(())
 }
 
+// The same, and the first byte of another ask.
+const BOTH_AND_A_BYTE: &[u8; 43] =
+    b"\0\0\0\x1d\x02\x01a\x01b\0\0\0\0\0\0\0\x01\0\0\0\0\0\0\0\0\0\0\0\0\0\0\0\0\0\0\0\x05\x09\x01a\x01b\0";
+
 #[test]
-fn two_frames_and_what_begins_a_third(rt: HostRuntime) -> Result<(), Fail> {
-    assert!(rt; are_fed(rt.alloc(), two(BOTH, &ASK[..3]))?);
-    Ok(())
+fn two_frames_and_what_begins_a_third(rt: HostRuntime) {
+    let mut reader = FrameReader::new(rt.alloc());
+    assert!(rt; gives(&mut reader, BOTH_AND_A_BYTE, 2, None));
+    assert!(rt; gives(&mut reader, &ASK[1..], 1, None));
 }
 
 #[test]
 fn a_fault_behind_a_frame(rt: HostRuntime) {
     let mut reader = FrameReader::new(rt.alloc());
-    let fault = Some(FrameFault::TooLong);
-    assert!(rt; is_fed(&mut reader, &ASK_AND_TOO_LONG, 1, fault));
-    assert!(rt; is_fed(&mut reader, &ASK, 0, fault));
+    let fault = Some(FrameError::TooLong);
+    assert!(rt; gives(&mut reader, &ASK_AND_TOO_LONG, 1, fault));
+    assert!(rt; gives(&mut reader, &ASK, 0, fault));
+}
+
+// Whether a reader that passes over the frames in these bytes has this fault after them, and gives none of them.
+fn skips(alloc: Global, bytes: &[u8], fault: Option<FrameError>) -> Result<bool, AllocError> {
+    let mut reader = FrameReader::new(alloc);
+    reader.push(bytes)?;
+    Ok(reader.skip_frames() == fault && given(&mut reader) == (0, fault))
+}
+
+#[test]
+fn frames_are_passed_over(rt: HostRuntime) -> Result<(), Fail> {
+    assert!(rt; skips(rt.alloc(), BOTH_AND_A_BYTE, None)?);
+    assert!(rt; skips(rt.alloc(), &ASK_AND_TOO_LONG, Some(FrameError::TooLong))?);
+    Ok(())
 }
 
 // The body of a frame from a to b.
@@ -258,9 +295,9 @@ fn is_frame_of(bytes: &[u8], body: &[u8]) -> bool {
 
 // Whether a message of the kind with this byte is read from a body, whose copy is written as these bytes.
 fn is_read_back(alloc: Global, kind: u8, body: &[u8], bytes: &[u8]) -> Result<bool, Fail> {
-    let read = read_frame(alloc, body).ok().ok_or("a frame")?;
-    let again = write_frame(alloc, &read.copy()?)?;
-    Ok(again.as_slice() == bytes && Kind::of(kind) == Some(read.message.kind()))
+    let read = FrameView::of(body).ok().ok_or("a frame")?;
+    let again = write_frame(alloc, &read.frame(alloc)?.copy()?)?;
+    Ok(again.as_slice() == bytes && Kind::of(kind) == Some(read.kind()))
 }
 
 const ID: StateId = StateId {

@@ -190,7 +190,8 @@ module _ (s : Settings) where
 
   answered-joined : (v : View) (p : Id) (term : ℕ) (last : StateId) → IsAnswered s v (joins.is_joined s v p term last)
   answered-joined v p term last =
-      answered-then v _ (λ u. joins.takes_join s u p term last) (answered-raises_term v s.me term) (λ u. answered-takes_join u p term last)
+      answered-if v (doing.is_voting_only s s.me) _ _ (Ended v)
+      (answered-then v _ (λ u. joins.takes_join s u p term last) (answered-raises_term v s.me term) (λ u. answered-takes_join u p term last))
 
   answered-asked_to_join : (v : View) (p : Id) (term : ℕ) → IsAnswered s v (joins.is_asked_to_join s v p term)
   answered-asked_to_join v p term = search (answered-if, answered-takes_member, answered-starts_join, Ended)

@@ -40,7 +40,7 @@ b = 98 ∷ []
 
 -- a node alone, and with another
 abbrev alone : Settings
-alone = record { me = a; peers = []; initial = a ∷ []; shrink = true }
+alone = record { me = a; peers = []; initial = a ∷ []; voting_only = []; shrink = true }
 
 abbrev started : Log
 started = added (And NoItems (Begins Start)) (items_of alone NoItems Start)
@@ -156,7 +156,7 @@ module _ (s : Settings) (v : View) where
   commit_acknowledges key text id = refl
 
   -- a node that may not win hands over to the least responder that is a voter, and processes no request
-  handover_is_sent : hands_over s (record v {
+  handover_is_sent : hands_over (record s { voting_only = [] }) (record v {
     node = record v.node { term = 4; committed = b ∷ [] };
     moment = 2000;
     handover_due = 2000;

@@ -498,7 +498,9 @@ module _ (s : Settings) where
       fit-if v (has_room v.node.join_votes p) _ _ (λ e. fit-act v act _ f tt (λ g. fit-after_join v (doing.after_act s v act) act p g)) (fit-none v f)
 
   fit-joined : (v : View) (p : Id) (term : ℕ) (last : StateId) → IsFitView v → Fit v (joins.is_joined s v p term last)
-  fit-joined v p term last f = fit-then v _ (λ u. joins.takes_join s u p term last) (fit-raises_term v s.me term f) (λ u g. fit-takes_join u p term last g)
+  fit-joined v p term last f =
+      fit-if v (doing.is_voting_only s s.me) _ _ (λ e. fit-none v f)
+      (fit-then v _ (λ u. joins.takes_join s u p term last) (fit-raises_term v s.me term f) (λ u g. fit-takes_join u p term last g))
 
   fit-asked_to_join : (v : View) (p : Id) (term : ℕ) → IsFitView v → Fit v (joins.is_asked_to_join s v p term)
   fit-asked_to_join v p term f =

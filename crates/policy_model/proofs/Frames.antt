@@ -538,7 +538,9 @@ module _ (s : Settings) where
       few-if 32 v (has_room v.node.join_votes p) _ _ (few-act 32 v act _ f tt (λ g. few-after_join v (doing.after_act s v act) act p g)) (none-within 32 v f)
 
   few-is_joined : (v : View) (p : Id) (term : ℕ) (last : StateId) → IsSmallView v → Few 33 v (joins.is_joined s v p term last)
-  few-is_joined v p term last f = few-then 1 32 v _ (λ u. joins.takes_join s u p term last) (few-raises_term v s.me term f) (λ u g. few-takes_join u p term last g)
+  few-is_joined v p term last f =
+      few-if 33 v (doing.is_voting_only s s.me) _ _ (none-within 33 v f)
+      (few-then 1 32 v _ (λ u. joins.takes_join s u p term last) (few-raises_term v s.me term f) (λ u g. few-takes_join u p term last g))
 
   few-asked_to_join : (v : View) (p : Id) (term : ℕ) → IsSmallView v → Few 32 v (joins.is_asked_to_join s v p term)
   few-asked_to_join v p term f =

@@ -14,3 +14,4 @@ pub mod Settled
 pub mod Served
 pub mod Queuing
 pub mod Cases
+mod VotingOnly

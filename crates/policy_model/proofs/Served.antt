@@ -255,7 +255,9 @@ module _ (s : Settings) where
       served-if v (has_room v.node.join_votes p) _ _ (Aside v _ _ refl (served-after_join v (doing.after_act s v act) act p)) (Ended v)
 
   served-joined : (v : View) (p : Id) (term : ℕ) (last : StateId) → IsServed s v (joins.is_joined s v p term last)
-  served-joined v p term last = served-then v _ (λ u. joins.takes_join s u p term last) (served-raises_term v s.me term) (λ u. served-takes_join u p term last)
+  served-joined v p term last =
+      served-if v (doing.is_voting_only s s.me) _ _ (Ended v)
+      (served-then v _ (λ u. joins.takes_join s u p term last) (served-raises_term v s.me term) (λ u. served-takes_join u p term last))
 
   served-asked_to_join : (v : View) (p : Id) (term : ℕ) → IsServed s v (joins.is_asked_to_join s v p term)
   served-asked_to_join v p term = search (served-if, served-takes_member, served-starts_join, Ended)

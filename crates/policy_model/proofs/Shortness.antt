@@ -254,7 +254,9 @@ module _ (s : Settings) where
       most-if 2 4 (has_room v.node.join_votes p) _ _ (most-act 1 3 act _ _ (most-after_join v (doing.after_act s v act) act p)) (most-none 2 4)
 
   most-joined : (v : View) (p : Id) (term : ℕ) (last : StateId) → AtMost 3 6 (joins.is_joined s v p term last)
-  most-joined v p term last = most-then 1 2 2 4 v _ (λ u. joins.takes_join s u p term last) (most-raises_term v s.me term) (λ u. most-takes_join u p term last)
+  most-joined v p term last =
+      most-if 3 6 (doing.is_voting_only s s.me) _ _ (most-none 3 6)
+      (most-then 1 2 2 4 v _ (λ u. joins.takes_join s u p term last) (most-raises_term v s.me term) (λ u. most-takes_join u p term last))
 
   most-asked_to_join : (v : View) (p : Id) (term : ℕ) → AtMost 1 2 (joins.is_asked_to_join s v p term)
   most-asked_to_join v p term =

@@ -321,7 +321,9 @@ module _ (s : Settings) where
       spends-if v (has_room v.node.join_votes p) _ _ (spends-item v (doing.act_now s v act) _ refl (spends-after_join v (doing.after_act s v act) act p)) (spends-none v)
 
   spends-joined : (v : View) (p : Id) (term : ℕ) (last : StateId) → Spends s v (joins.is_joined s v p term last)
-  spends-joined v p term last = spends-then v _ (λ u. joins.takes_join s u p term last) (spends-raises_term v s.me term) (λ u. spends-takes_join u p term last)
+  spends-joined v p term last =
+      spends-if v (doing.is_voting_only s s.me) _ _ (spends-none v)
+      (spends-then v _ (λ u. joins.takes_join s u p term last) (spends-raises_term v s.me term) (λ u. spends-takes_join u p term last))
 
   spends-asked_to_join : (v : View) (p : Id) (term : ℕ) → Spends s v (joins.is_asked_to_join s v p term)
   spends-asked_to_join v p term =

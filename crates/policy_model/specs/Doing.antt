@@ -1,7 +1,7 @@
 -- Part of the statement: what the rules are made of: acts with their answers, frames and replies, and the changes of mode. Each says which items a
 -- node adds that is v.
 use Rattle.std.specs.Prelude.{ℕ, Bool, true, false, Option, None, Some, List, [], ◌∷◌, ◌++◌, map, nat_lt, if◌then◌else◌}
-use Rattle.voting_config.specs.Ids.{Id, same}
+use Rattle.voting_config.specs.Ids.{Id, same, has}
 use Rattle.wire_frames.specs.declared.frame.WireMessage.{WireMessage}
 use Rattle.wire_frames.specs.declared.frame.WireMessage.TheVariants as message
 use Rattle.master_tasks.specs.declared.waiting.Outgoing.{Outgoing}
@@ -69,6 +69,10 @@ module _ (s : Settings) where
   -- whether the node votes or is not excluded
   abbrev pub may_win : View → Bool
   may_win v = may_win_of s.me v.node.committed v.node.accepted.config v.node.accepted.value.exclusions
+
+  -- whether a node votes and is never to lead, as this one was told
+  abbrev pub is_voting_only : Id → Bool
+  is_voting_only id = has id s.voting_only
 
   -- becoming a candidate: a leader's open requests fail, with the term in which it led
   abbrev pub becomes_candidate : View → List Item

@@ -1,5 +1,5 @@
 -- Part of the statement: how a candidate comes to be elected: the first configuration, the wait for an election, pre-votes.
-use Rattle.std.specs.Prelude.{ℕ, ◌+◌, not, ◌&&◌, Option, None, Some, List, [], ◌∷◌, ◌++◌, nat_le, if◌then◌else◌}
+use Rattle.std.specs.Prelude.{ℕ, ◌+◌, Bool, not, ◌&&◌, Option, None, Some, List, [], ◌∷◌, ◌++◌, nat_le, if◌then◌else◌}
 use Rattle.cluster_state.specs.Field.{last_number}
 use Rattle.voting_config.specs.Ids.{Id, with_id, without_id}
 use Rattle.cluster_state.specs.declared.state.StateId.{StateId}
@@ -20,7 +20,7 @@ use Rattle.world_model.specs.Replies.{elects}
 use Rattle.policy_model.specs.declared.settings.Settings.{Settings}
 use Rattle.policy_model.specs.Events.{Item, Notes, Met, ElectionOff, ElectionSet, RoundBegun, RoundAnswered, RoundEnded}
 use Rattle.policy_model.specs.Views.{View}
-use Rattle.policy_model.specs.Doing.{is_candidate, leader_of, act_now, send, send_all, may_win}
+use Rattle.policy_model.specs.Doing.{is_candidate, leader_of, act_now, send, send_all, may_win, is_voting_only}
 
 module _ (s : Settings) where
   -- without a configuration the node takes the first one, once it knows enough of the first voters
@@ -51,10 +51,14 @@ module _ (s : Settings) where
   waits_until v word None = Notes (ElectionSet word) ∷ []
   waits_until v word (Some deadline) = if is_due deadline v.moment then begins_round v word else []
 
-  -- a node waits for an election where it may win and the free nodes are a quorum
+  -- the node is not voting-only, it may win, and the free nodes are a quorum
+  abbrev pub may_be_elected : View → Bool
+  may_be_elected v = not (is_voting_only s s.me) && (may_win s v && elects v.node (free_nodes v))
+
+  -- a node that may be elected waits for an election
   abbrev pub waits_for_election : View → ℕ → List Item
   waits_for_election v word =
-      if may_win s v && elects v.node (free_nodes v) then waits_until v word v.deadline else Notes ElectionOff ∷ []
+      if may_be_elected v then waits_until v word v.deadline else Notes ElectionOff ∷ []
 
   -- who asks for a pre-vote is answered, or told of another leader
   abbrev pub pre_vote_reply : View → Id → Reply → List Item

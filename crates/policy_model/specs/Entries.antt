@@ -3,7 +3,7 @@ use Rattle.std.specs.Prelude.{ℕ, List, [], ◌∷◌, if◌then◌else◌}
 use Rattle.std.specs.List.{flat_map}
 use Rattle.voting_config.specs.Ids.{before}
 use Rattle.cluster_state.specs.declared.state.Kept.{Kept}
-use Rattle.wire_frames.specs.declared.fault.FrameFault.{FrameFault}
+use Rattle.wire_frames.specs.declared.fault.FrameError.{FrameError}
 use Rattle.wire_frames.specs.declared.frame.Frame.{Frame}
 use Rattle.master_tasks.specs.declared.waiting.Outgoing.{Outgoing}
 use Rattle.policy_model.specs.declared.events.MemberDrop.{MemberDrop}
@@ -16,7 +16,7 @@ pub data Entry : Type 0 where
   Did : (event : Event) → (items : List Item) → Entry
   -- a connection ended, or its bytes have this fault and it is dropped: the node does nothing
   Gone : (conn : ℕ) → Entry
-  Bad : (conn : ℕ) → (fault : FrameFault) → Entry
+  Bad : (conn : ℕ) → (fault : FrameError) → Entry
   -- an event that found no memory; a connection that is dropped, since its bytes found none
   NoMemory : Entry
   Unread : (conn : ℕ) → Entry

@@ -1,13 +1,20 @@
 -- For the contracts inside: the laws of lives that follow the policy, as statements.
-use Rattle.std.specs.Prelude.{◌≡◌}
+use Rattle.std.specs.Prelude.{◌≡◌, ℕ, ◌&&◌, List, [], ◌∷◌, find, if◌then◌else◌}
+use Rattle.voting_config.specs.Ids.{Id, has}
+use Rattle.cluster_state.specs.declared.state.StateId.{StateId}
 use Rattle.cluster_state.specs.declared.state.Kept.{Kept}
 use Rattle.world_model.specs.declared.acts.Act.TheVariants.{Open}
 use Rattle.world_model.specs.Histories.{IsLocal, ContinuesUnlessFirst}
+use Rattle.world_model.specs.Replies.{elects}
 use Rattle.policy_model.specs.declared.settings.Settings.{Settings}
-use Rattle.policy_model.specs.Events.{Event, Begins, acts_of}
+use Rattle.policy_model.specs.Events.{Event, Begins, Notes, ElectionOff, acts_of}
 use Rattle.policy_model.specs.Entries.{Life, Opened, Lived, Did, log_of}
-use Rattle.policy_model.specs.Views.{view_of}
+use Rattle.policy_model.specs.Views.{View, view_of}
 use Rattle.policy_model.specs.Moves.{opened, moved, moved_all}
+use Rattle.policy_model.specs.Doing.{may_win}
+use Rattle.policy_model.specs.Elections.{free_nodes, waits_until, waits_for_election}
+use Rattle.policy_model.specs.Joins.{counts_join, is_joined}
+use Rattle.policy_model.specs.NextState.{responders_of, successor_of}
 use Rattle.policy_model.specs.Follows.{Follows, items_of}
 
 -- the acts of a life that follows the policy follow each other
@@ -26,3 +33,14 @@ abbrev pub LawOpeningMoves : Type 0
 LawOpeningMoves =
     (s : Settings) (life : Life) (found : Kept)
     → ContinuesUnlessFirst (acts_of (log_of life)) (Open found) → view_of s (log_of (Opened life found)) ≡ opened s found
+
+-- the three rules that look at the list of voting-only nodes are what they would be without it
+pub record IsWithoutVotingOnly (s : Settings) : Type 0 where
+  pub waits : (v : View) (word : ℕ)
+      → waits_for_election s v word ≡ (if may_win s v && elects v.node (free_nodes s v) then waits_until s v word v.deadline else Notes ElectionOff ∷ [])
+  pub joined : (v : View) (p : Id) (term : ℕ) (last : StateId) → is_joined s v p term last ≡ counts_join s v p term last
+  pub successor : (v : View) → successor_of s v ≡ find (λ id. has id v.node.committed) (responders_of v.publication)
+
+-- so it is where the list names nobody
+abbrev pub LawNoVotingOnly : Type 0
+LawNoVotingOnly = (s : Settings) → s.voting_only ≡ [] → IsWithoutVotingOnly s

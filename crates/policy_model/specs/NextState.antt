@@ -16,7 +16,7 @@ use Rattle.policy_model.specs.Events.{Item, Notes, StateMade, HandedOver}
 use Rattle.policy_model.specs.Parts.{as_master}
 use Rattle.policy_model.specs.Views.{View}
 use Rattle.policy_model.specs.Moves.{moved}
-use Rattle.policy_model.specs.Doing.{is_leader, act_now, after_act, takes, send_all, reply_all, may_win, becomes_candidate}
+use Rattle.policy_model.specs.Doing.{is_leader, is_voting_only, act_now, after_act, takes, send_all, reply_all, may_win, becomes_candidate}
 
 -- a publication is in flight until the node has taken its commit
 abbrev pub is_in_flight : Option Publication → Bool
@@ -68,9 +68,9 @@ module _ (s : Settings) where
       ++ Notes StateMade
       ∷ (if is_nothing_new (as_master s v.node) v.tasks then [] else publishes v (moved s v (Notes StateMade)))
 
-  -- the least responder that is a voter is asked to be elected
+  -- the least responder that is a voter and not voting-only is asked to be elected
   abbrev pub successor_of : View → Option Id
-  successor_of v = find (λ id. has id v.node.committed) (responders_of v.publication)
+  successor_of v = find (λ id. not (is_voting_only s id) && has id v.node.committed) (responders_of v.publication)
 
   abbrev pub asks_successor : View → Option Id → List Item
   asks_successor v None = []

@@ -1,5 +1,5 @@
 //! What holds of each life that follows the policy. The calls do nothing: what they promise is proved.
-ghost use Rattle.policy_model.specs.Laws.{LawEventMoves, LawLifeIsLocal, LawOpeningMoves};
+ghost use Rattle.policy_model.specs.Laws.{LawEventMoves, LawLifeIsLocal, LawNoVotingOnly, LawOpeningMoves};
 ghost use Rattle.policy_model.specs.Bounds.{EventHoldsSet, LawAnswersFew, LawEventIsShort, LawOpenedIsSmall, LawSendsFew, LawStruckIsShort};
 ghost use Rattle.policy_model.specs.Fitting.{EventHoldsSettings, LawOpenedIsFit, LawStaysFit};
 
@@ -20,6 +20,12 @@ pub fn law_event_moves()
 /// What a node is after an opening is determined by the record that it found.
 pub fn law_opening_moves()
     ensures { LawOpeningMoves }
+{}
+
+/// Where the settings list no voting-only node, the rules of elections, joins and hand-overs are those of a policy that
+/// knows no such nodes.
+pub fn law_no_voting_only()
+    ensures { LawNoVotingOnly }
 {}
 
 /// A node that is within the limits and to which a frame within the limits comes, or anything else, sends frames

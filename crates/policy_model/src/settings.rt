@@ -1,4 +1,4 @@
-//! What a node knows before its start: its id, its peers, and the first voters.
+//! What a node knows before its start: its id, its peers, the first voters, and who votes and never leads.
 use std::marker::Model;
 use voting_config::{NodeId, NodeSet};
 
@@ -47,6 +47,9 @@ pub struct Settings {
     pub peers: NodeIds,
     /// The first voters of a new cluster, or none.
     pub initial: NodeSet,
+    /// The nodes that this one takes for voting-only, as the role `voting_only` has it: it asks none of them to be elected, and
+    /// where it is one itself it never is.
+    pub voting_only: NodeSet,
     /// Whether the voting configuration may shrink (`cluster.auto_shrink_voting_configuration`).
     pub shrink: bool,
 }

@@ -15,7 +15,7 @@ line_at number step sent =
 
 -- the schedule of these lines
 abbrev pub generated_from : List Line → Schedule
-generated_from lines = record { nodes = items_of (codes "a,b,c,d"); initial = items_of (codes "a,b,c"); lines = lines }
+generated_from lines = record { nodes = items_of (codes "a,b,c,d"); initial = items_of (codes "a,b,c"); voting_only = []; lines = lines }
 
 -- So many lines, where this says how many messages some lines send: each line is that of its step, after the messages of all lines before it.
 abbrev pub lines_by : (messages : List Line → ℕ) → (number steps : ℕ) → List Line

@@ -10,6 +10,7 @@ use rand_core::utils::NextWord;
 use rand_pcg::Lcg64Xsh32;
 use schedule_text::{Line, Lines, Schedule};
 use std::alloc::{AllocError, Global};
+use voting_config::NodeSet;
 
 /// How many steps a generated schedule has at most.
 pub const MAX_STEPS: u64 = 100000;
@@ -70,6 +71,7 @@ pub fn empty_schedule(alloc: Global) -> Schedule
     Schedule {
         nodes: nodes(b"a,b,c,d"),
         initial: nodes(b"a,b,c"),
+        voting_only: NodeSet::new(),
         lines: Lines::of(Vec::new(alloc)),
     }
 }

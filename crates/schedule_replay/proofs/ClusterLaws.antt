@@ -18,7 +18,7 @@ use Rattle.schedule_replay.proofs.ClusterReplies.{all_replies}
 use Rattle.schedule_replay.proofs.ClusterTelling.{lines_piece, go_on}
 
 whole : (s : Schedule) → Piece NoEntries [] (replayed_history s) (replayed s).frames (trace s) s.lines (cluster_steps s)
-whole s = lines_piece s.nodes s.initial (fresh_cluster s.nodes s.initial) s.lines
+whole s = lines_piece s.nodes s.initial s.voting_only (fresh_cluster s.nodes s.initial s.voting_only) s.lines
 
 pub tells : LawClusterTraceTells
 tells s =
@@ -29,11 +29,11 @@ tells s =
       history = p.history;
       messages = numbers NoEntries (core_of (cluster_steps s)) p.right ∙ ap (λ (h : History). numbered 0 (sent h)) p.history;
       frames = p.frames;
-      replies = λ n. all_replies n s.nodes s.initial s.lines;
+      replies = λ n. all_replies n s.nodes s.initial s.voting_only s.lines;
     }
 
 pub goes_on : LawClusterStepsGoOn
-goes_on s more = go_on s.nodes s.initial (fresh_cluster s.nodes s.initial) s.lines more
+goes_on s more = go_on s.nodes s.initial s.voting_only (fresh_cluster s.nodes s.initial s.voting_only) s.lines more
 
 pub shows : LawClusterTraceShows
 shows s l =

@@ -14,23 +14,23 @@ use Rattle.schedule_replay.specs.SoFar.{HoldsBack}
 use Rattle.schedule_replay.proofs.Progress.{left_is}
 
 -- what is left begins with the line in hand
-module _ (ids initial : List Id) (nodes more : List ClusterNode) (frames sent : List Frame) (was now later : Option (List ℕ)) (held after_held none text : List ℕ) (lines : List Line) (i : ℕ) (line : Line) (all : List ℕ) (within : i < length lines) (is : line ≡ get_or lines i line) (empty : none ≡ []) (m : ClusterSoFar ids initial nodes frames was now held (drop i lines) all) (writes : WritesLine ids initial nodes more frames sent none text line) where
+module _ (ids initial voting_only : List Id) (nodes more : List ClusterNode) (frames sent : List Frame) (was now later : Option (List ℕ)) (held after_held none text : List ℕ) (lines : List Line) (i : ℕ) (line : Line) (all : List ℕ) (within : i < length lines) (is : line ≡ get_or lines i line) (empty : none ≡ []) (m : ClusterSoFar ids initial voting_only nodes frames was now held (drop i lines) all) (writes : WritesLine ids initial voting_only nodes more frames sent none text line) where
   abbrev tail : List ℕ
-  tail = trace_from ids initial (after ids initial m.cluster line) (drop (i + 1) lines)
+  tail = trace_from ids initial voting_only (after ids initial voting_only m.cluster line) (drop (i + 1) lines)
 
   -- the whole trace, with the text of the line in it
   whole_is : m.front ++ (held ++ (text ++ tail)) ≡ all
   whole_is =
-      let step = (subst (λ (x : List ℕ). WritesLine ids initial nodes more frames sent x text line) empty writes) m.cluster m.stands in
+      let step = (subst (λ (x : List ℕ). WritesLine ids initial voting_only nodes more frames sent x text line) empty writes) m.cluster m.stands in
       ap (λ (t : List ℕ). m.front ++ (held ++ (t ++ tail))) step.written
-      ∙ sym (ap (λ (l : List Line). m.front ++ (held ++ trace_from ids initial m.cluster l)) (left_is lines i line within is))
+      ∙ sym (ap (λ (l : List Line). m.front ++ (held ++ trace_from ids initial voting_only m.cluster l)) (left_is lines i line within is))
       ∙ m.whole
 
-  pub goes_on : HoldsBack now later held after_held text → ClusterSoFar ids initial more sent was later after_held (drop (i + 1) lines) all
+  pub goes_on : HoldsBack now later held after_held text → ClusterSoFar ids initial voting_only more sent was later after_held (drop (i + 1) lines) all
   goes_on h =
       let step = writes m.cluster m.stands in
       record {
-        cluster = after ids initial m.cluster line;
+        cluster = after ids initial voting_only m.cluster line;
         stands = step.stands;
         front = m.front ++ h.front;
         written = appended_more was now later m.front h.front m.written h.written;
@@ -45,18 +45,18 @@ module _ (ids initial : List Id) (nodes more : List ClusterNode) (frames sent : 
       let front = front_within now later (held ++ text) tail (held ++ (text ++ tail)) (append_assoc held text tail) h in
       subst (λ (t : List ℕ). AppendedFront was later t) whole_is (front_after was now later m.front (held ++ (text ++ tail)) m.written front)
 
-module _ (ids initial : List Id) (nodes : List ClusterNode) (frames : List Frame) (was now later : Option (List ℕ)) (held bytes : List ℕ) (left : List Line) (all : List ℕ) where
-  pub stops : bytes ≡ held → ClusterSoFar ids initial nodes frames was now held left all → AppendedFront now later bytes → AppendedFront was later all
+module _ (ids initial voting_only : List Id) (nodes : List ClusterNode) (frames : List Frame) (was now later : Option (List ℕ)) (held bytes : List ℕ) (left : List Line) (all : List ℕ) where
+  pub stops : bytes ≡ held → ClusterSoFar ids initial voting_only nodes frames was now held left all → AppendedFront now later bytes → AppendedFront was later all
   stops e m h =
-      let tail : List ℕ = trace_from ids initial m.cluster left in
+      let tail : List ℕ = trace_from ids initial voting_only m.cluster left in
       let front = front_within now later bytes tail (held ++ tail) (ap (λ (t : List ℕ). t ++ tail) e) h in
       subst (λ (t : List ℕ). AppendedFront was later t) m.whole (front_after was now later m.front (held ++ tail) m.written front)
 
-  pub ends : left ≡ [] → bytes ≡ held → ClusterSoFar ids initial nodes frames was now held left all → Appended now later bytes → Appended was later all
+  pub ends : left ≡ [] → bytes ≡ held → ClusterSoFar ids initial voting_only nodes frames was now held left all → Appended now later bytes → Appended was later all
   ends none e m h =
       let whole : m.front ++ bytes ≡ all =
       ap (λ (t : List ℕ). m.front ++ t) (e ∙ sym (append-nil held))
-      ∙ sym (ap (λ (l : List Line). m.front ++ (held ++ trace_from ids initial m.cluster l)) none)
+      ∙ sym (ap (λ (l : List Line). m.front ++ (held ++ trace_from ids initial voting_only m.cluster l)) none)
       ∙ m.whole
       in
       subst (λ (t : List ℕ). Appended was later t) whole (appended_more was now later m.front bytes m.written h)

@@ -167,28 +167,28 @@ module _ (m : Id) (s : Settings) where
 
 -- ---- the lines
 
-module _ (m : Id) (nodes initial : List Id) where
+module _ (m : Id) (nodes initial voting_only : List Id) where
   crash_goes : (c : Cluster) (n : Id) (b : Bool) → Goes m c c ((if b then Shared (WasDown n) else Shared (WentDown n)) ∷ [])
   crash_goes c n true = append-nil (life_replies (c.lives m))
   crash_goes c n false = append-nil (life_replies (c.lives m))
 
-  line_goes : (c : Cluster) (l : Line) → Goes m c (after nodes initial c l) (line_steps nodes initial c l)
-  line_goes c (line.Tick n now word) = if_up_goes m (settings_of nodes initial n) c (Tick now word)
-  line_goes c (line.Client n bytes) = if_up_goes m (settings_of nodes initial n) c (LineCame 0 bytes)
-  line_goes c (line.Deliver n number) = frame_goes m (settings_of nodes initial n) c (frame_at c number)
+  line_goes : (c : Cluster) (l : Line) → Goes m c (after nodes initial voting_only c l) (line_steps nodes initial voting_only c l)
+  line_goes c (line.Tick n now word) = if_up_goes m (settings_of nodes initial voting_only n) c (Tick now word)
+  line_goes c (line.Client n bytes) = if_up_goes m (settings_of nodes initial voting_only n) c (LineCame 0 bytes)
+  line_goes c (line.Deliver n number) = frame_goes m (settings_of nodes initial voting_only n) c (frame_at c number)
   line_goes c (line.Crash n way) = crash_goes c n (c.world.down n)
-  line_goes c (line.Restart n) = restart_goes m (settings_of nodes initial n) c
+  line_goes c (line.Restart n) = restart_goes m (settings_of nodes initial voting_only n) c
   line_goes c (line.Fuse n count way) = append-nil (life_replies (c.lives m))
   line_goes c (line.Fail n count) = append-nil (life_replies (c.lives m))
   line_goes c (line.Boot n) = append-nil (life_replies (c.lives m))
   line_goes c (line.StartJoin n candidate term) = append-nil (life_replies (c.lives m))
   line_goes c (line.Value n version text config) = append-nil (life_replies (c.lives m))
 
-  lines_go : (c : Cluster) (ls : List Line) → Goes m c (replayed_from nodes initial c ls) (steps_from nodes initial c ls)
+  lines_go : (c : Cluster) (ls : List Line) → Goes m c (replayed_from nodes initial voting_only c ls) (steps_from nodes initial voting_only c ls)
   lines_go c [] = append-nil (life_replies (c.lives m))
   lines_go c (l ∷ ls) =
-      goes m c (after nodes initial c l) (replayed_from nodes initial c (l ∷ ls)) (line_steps nodes initial c l) (steps_from nodes initial (after nodes initial c l) ls) (line_goes c l)
-      (lines_go (after nodes initial c l) ls)
+      goes m c (after nodes initial voting_only c l) (replayed_from nodes initial voting_only c (l ∷ ls)) (line_steps nodes initial voting_only c l) (steps_from nodes initial voting_only (after nodes initial voting_only c l) ls) (line_goes c l)
+      (lines_go (after nodes initial voting_only c l) ls)
 
-  pub all_replies : (ls : List Line) → replies_shown m (steps_from nodes initial (fresh_cluster nodes initial) ls) ≡ life_replies ((replayed_from nodes initial (fresh_cluster nodes initial) ls).lives m)
-  all_replies ls = lines_go (fresh_cluster nodes initial) ls
+  pub all_replies : (ls : List Line) → replies_shown m (steps_from nodes initial voting_only (fresh_cluster nodes initial voting_only) ls) ≡ life_replies ((replayed_from nodes initial voting_only (fresh_cluster nodes initial voting_only) ls).lives m)
+  all_replies ls = lines_go (fresh_cluster nodes initial voting_only) ls

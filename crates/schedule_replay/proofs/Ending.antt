@@ -91,5 +91,5 @@ cluster_steps_end : (xs : List ClusterStep) → EndsLine (cluster_text xs)
 cluster_steps_end [] = Empty
 cluster_steps_end (x ∷ xs) = both_end (cluster_step_text x) (cluster_text xs) (cluster_step_ends x) (cluster_steps_end xs)
 
-pub cluster_trace_ends : (nodes initial : List Id) (c : Cluster) (ls : List Line) → EndsLine (cluster_trace nodes initial c ls)
-cluster_trace_ends nodes initial c ls = subst EndsLine (sym (lines_piece nodes initial c ls).text_is) (cluster_steps_end (cluster_steps nodes initial c ls))
+pub cluster_trace_ends : (nodes initial voting_only : List Id) (c : Cluster) (ls : List Line) → EndsLine (cluster_trace nodes initial voting_only c ls)
+cluster_trace_ends nodes initial voting_only c ls = subst EndsLine (sym (lines_piece nodes initial voting_only c ls).text_is) (cluster_steps_end (cluster_steps nodes initial voting_only c ls))

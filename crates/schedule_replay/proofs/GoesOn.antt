@@ -1,16 +1,13 @@
 -- The lines of a plan, replayed.
-use Rattle.std.proofs.Common.{◌≡◌, ℕ, ◌+◌, ◌-◌, ◌≤◌, arith, Bool, true, false, cond, ◌||◌, Option, None, Some, Result, Ok, Err, List, [], ◌∷◌, ◌++◌, length, map, codes, refl, sym, ◌∙◌, ap, subst, slice_get, if◌then◌else◌}
+use Rattle.std.proofs.Common.{◌≡◌, ◌≤◌, arith, Bool, true, false, cond, Option, None, Some, Ok, List, [], ◌∷◌, ◌++◌, length, refl, sym, ◌∙◌, ap, subst, if◌then◌else◌}
 use Rattle.std.specs.List.{AllByRecursion}
 use Rattle.std.proofs.lemmas.Bool.{or_parts, and_from}
 use Rattle.voting_config.specs.Ids.{Id, IsIdSet, same, has}
-use Rattle.voting_config.proofs.Sets.{same_self}
-use Rattle.cluster_state.specs.declared.state.Kept.{Kept}
 use Rattle.zen_disk.specs.Armed.{nothing_armed}
 use Rattle.zen_disk.specs.DeviceCall.{DeviceCall}
 use Rattle.zen_disk.specs.FileState.{FileState, after as file_after}
 use Rattle.zen_disk.specs.Sides.{Sides}
 use Rattle.zen_disk.specs.declared.orders.Armed.{Armed}
-use Rattle.state_journal.specs.declared.change.Change.{Change}
 use Rattle.world_model.specs.declared.acts.Act.{Act}
 use Rattle.world_model.specs.declared.acts.Act.TheVariants.{StartJoin, Value}
 use Rattle.world_model.specs.declared.acts.Message.{Message}
@@ -25,11 +22,10 @@ use Rattle.schedule_text.specs.declared.level.Level.TheVariants.{Core}
 use Rattle.schedule_text.specs.Limits.{most_lines}
 use Rattle.schedule_text.specs.Lines.{FitsLine}
 use Rattle.schedule_text.specs.Spelled.{IsSchedule}
-use Rattle.replay_node.specs.NodeDisk.{NodeDisk, CallsEnd, Done, Failed, CrashedIn, calls_made}
+use Rattle.replay_node.specs.NodeDisk.{NodeDisk, CallsEnd, Done, calls_made}
 use Rattle.replay_node.specs.NodeWorld.{act_called, outcome_by, ends_in_a_crash}
 use Rattle.replay_node.specs.Sent.{taking}
 use Rattle.replay_node.specs.Worlds.{World, did, did_unless_down, fresh_world, node_world}
-use Rattle.rescue_plan.specs.declared.answer.UpNode.{UpNode}
 use Rattle.rescue_plan.specs.declared.answer.Plan.{Plan}
 use Rattle.rescue_plan.specs.Lines.{answered, act_of, given, line_done, lines_done}
 use Rattle.rescue_plan.specs.Planning.{planned}
@@ -42,7 +38,7 @@ use Rattle.schedule_replay.proofs.PlanFits.{both_fit, plan_fits}
 use Rattle.schedule_replay.proofs.Naming.{config_named}
 use Rattle.schedule_replay.proofs.Sending.{lines_send}
 use Rattle.schedule_replay.proofs.WorldLegal.{world_sound}
-use Rattle.schedule_replay.specs.GoesOn.{IsFree, GoesOn, LawGoesOn, with_lines}
+use Rattle.schedule_replay.specs.GoesOn.{IsFree, LawGoesOn, with_lines}
 
 -- ---- device calls, where no order is left
 
@@ -142,6 +138,7 @@ more_lines s is ls fits = record {
   initial = is.initial;
   some_initial = is.some_initial;
   listed = is.listed;
+  voting_only = is.voting_only;
   lines = both_fit (FitsLine Core s.nodes) s.lines ls is.lines fits;
 }
 

@@ -1,39 +1,35 @@
 -- The configurations that are published in a schedule are of its nodes, so a line may name them again.
-use Rattle.std.proofs.Common.{◌≡◌, ◌≢◌, ℕ, zero, suc, ◌+◌, ◌≤◌, Bool, true, false, ◌&&◌, ◌⊎◌, inl, inr, Option, None, Some, List, [], ◌∷◌, ◌++◌, length, length-append, refl, sym, ◌∙◌, ap, subst, arith, append-nil, slice_get, if◌then◌else◌, IsTrue}
+use Rattle.std.proofs.Common.{◌≡◌, ℕ, zero, suc, Bool, true, false, ◌&&◌, ◌⊎◌, inl, inr, Option, None, Some, List, [], ◌∷◌, ◌++◌, refl, sym, ◌∙◌, ap, subst, append-nil, slice_get, if◌then◌else◌}
 use Rattle.std.specs.List.{AllByRecursion, Contains}
 use Rattle.std.proofs.lemmas.Option.{slice_get-get_or}
 use Rattle.voting_config.specs.Ids.{Id, are_among, is_quorum_of}
 use Rattle.voting_config.specs.Lists.{are_ids_after}
 use Rattle.cluster_state.specs.declared.state.ClusterState.{ClusterState}
-use Rattle.cluster_state.specs.declared.messages.PublishRequest.{PublishRequest}
 use Rattle.cluster_state.specs.declared.state.Kept.{Kept}
-use Rattle.cluster_state.specs.Initial.{empty_state, initial_state}
-use Rattle.zen_disk.specs.declared.orders.Order.TheVariants.{Stop, Fault}
+use Rattle.cluster_state.specs.Initial.{initial_state}
 use Rattle.world_model.specs.declared.acts.Act.{Act}
-use Rattle.world_model.specs.declared.acts.Act.TheVariants.{Bootstrap, StartJoin, TakeJoin, Value, Publish, Response, Commit, Open}
+use Rattle.world_model.specs.declared.acts.Act.TheVariants.{Bootstrap, StartJoin, Value}
 use Rattle.world_model.specs.declared.acts.ActReply.{ActReply}
 use Rattle.world_model.specs.declared.acts.ActReply.TheVariants.{Taken, Refused, Stopped}
 use Rattle.world_model.specs.declared.acts.Message.{Message}
 use Rattle.world_model.specs.declared.acts.Message.TheVariants.{Join as JoinMessage, Publish as PublishMessage, Response as ResponseMessage, Commit as CommitMessage}
-use Rattle.world_model.specs.declared.acts.Outcome.{Outcome}
-use Rattle.world_model.specs.declared.acts.Outcome.TheVariants.{Answered, Disk, Crashed}
+use Rattle.world_model.specs.declared.acts.Outcome.TheVariants.{Answered}
 use Rattle.world_model.specs.Acts.{NodeHistory}
 use Rattle.world_model.specs.NodeState.{accepted_of}
-use Rattle.world_model.specs.Histories.{History, NoEntries, Next, node_history, sent, sent_by, IsLegal}
+use Rattle.world_model.specs.Histories.{History, node_history, sent, sent_by, IsLegal}
 use Rattle.world_model.specs.Replies.{reply_of}
 use Rattle.world_model.proofs.System.{IsSystem, Origin, origin}
 use Rattle.world_model.proofs.Durable.{IsAcceptedIn, accepted_origin, quorum_named}
 use Rattle.world_model.proofs.Legal.{sent_to, system_of_legal}
 use Rattle.schedule_text.specs.declared.schedule.Line.{Line}
 use Rattle.schedule_text.specs.declared.schedule.Line.TheVariants as line
-use Rattle.schedule_text.specs.declared.schedule.Schedule.{Schedule}
 use Rattle.schedule_text.specs.declared.level.Level.TheVariants.{Core}
 use Rattle.schedule_text.specs.Lines.{FitsLine}
 use Rattle.replay_node.specs.NodeDisk.{CallsEnd, Done, Failed, CrashedIn, opening}
-use Rattle.replay_node.specs.NodeWorld.{NodeWorld, act_called, found_at, needs_opening, outcome_at, outcome_by}
+use Rattle.replay_node.specs.NodeWorld.{act_called, found_at, needs_opening, outcome_at, outcome_by}
 use Rattle.replay_node.specs.Sent.{taking}
 use Rattle.world_model.specs.Settled.{is_kept, settled_for}
-use Rattle.replay_node.specs.Worlds.{World, crashed, did, did_unless_down, fresh_world, history_opened, node_world, opened, restarted}
+use Rattle.replay_node.specs.Worlds.{World, did, did_unless_down, fresh_world, history_opened, node_world, opened, restarted}
 use Rattle.world_model.proofs.AllSettled.{settled_sent}
 use Rattle.replay_node.proofs.Moves.{history_if}
 use Rattle.schedule_replay.specs.Replayed.{after, message_at, replayed_from, took_some, value_with}

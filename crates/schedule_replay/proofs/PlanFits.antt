@@ -1,14 +1,12 @@
 -- The lines of a plan are lines of the schedule's nodes.
-use Rattle.std.proofs.Common.{◌≡◌, ℕ, ◌+◌, ◌-◌, ◌^◌, ◌<◌, ◌≤◌, true, ◌&&◌, ◌||◌, Ok, List, [], ◌∷◌, ◌++◌, length, map, codes, refl, sym, ◌∙◌, ap, subst, arith}
+use Rattle.std.proofs.Common.{◌≡◌, ℕ, ◌+◌, ◌-◌, ◌^◌, ◌≤◌, true, ◌||◌, Ok, List, [], ◌∷◌, ◌++◌, length, refl, sym, ◌∙◌, ap, subst, arith}
 use Rattle.std.specs.List.{AllByRecursion}
-use Rattle.voting_config.specs.Ids.{Id, IsIdSet, same, has, ascends, most_ids, is_quorum_of}
+use Rattle.voting_config.specs.Ids.{Id, IsIdSet, same, has, most_ids, is_quorum_of}
 use Rattle.voting_config.proofs.Sets.{same_self}
-use Rattle.cluster_state.specs.Field.{last_number}
 use Rattle.world_model.specs.NodeState.{accepted_of}
 use Rattle.world_model.specs.Histories.{History, node_history}
 use Rattle.schedule_text.specs.declared.level.Level.TheVariants.{Core}
 use Rattle.schedule_text.specs.declared.schedule.Line.{Line}
-use Rattle.schedule_text.specs.declared.schedule.Line.TheVariants as line
 use Rattle.schedule_text.specs.Lines.{FitsLine, most_ordinal}
 use Rattle.rescue_plan.specs.declared.answer.Plan.{Plan}
 use Rattle.rescue_plan.specs.Planning.{ids_of, greatest, start_lines, deliveries, one_for_all, plan_of, plan_for, planned}

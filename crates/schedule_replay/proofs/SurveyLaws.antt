@@ -1,5 +1,5 @@
 -- A survey stands for what the nodes did.
-use Rattle.std.proofs.Common.{◌≡◌, ℕ, ◌+◌, ◌<◌, ◌≤◌, Bool, true, false, ◌||◌, Option, None, Some, List, [], ◌∷◌, ◌++◌, length, map, take, get_or, refl, sym, ◌∙◌, ap, subst, arith, if◌then◌else◌}
+use Rattle.std.proofs.Common.{◌≡◌, ℕ, ◌+◌, ◌<◌, ◌≤◌, Bool, ◌||◌, None, Some, List, [], ◌∷◌, ◌++◌, length, map, take, get_or, refl, sym, ◌∙◌, ap, subst, arith, if◌then◌else◌}
 use Rattle.std.specs.List.{AllByRecursion}
 use Rattle.std.proofs.lemmas.List.{take_all, take_more, length-map}
 use Rattle.voting_config.specs.Ids.{Id}
@@ -10,7 +10,7 @@ use Rattle.world_model.specs.Acts.{NodeHistory}
 use Rattle.world_model.specs.NodeState.{halted_of}
 use Rattle.world_model.specs.Replies.{id_of}
 use Rattle.replay_node.specs.NodeWorld.{NodeWorld, needs_opening}
-use Rattle.replay_node.specs.Stands.{Journal, NodeStands, OpenStands, DownStands, SlotStands, journal_ghosts}
+use Rattle.replay_node.specs.Stands.{Journal, NodeStands, OpenStands, journal_ghosts}
 use Rattle.replay_node.specs.Worlds.{World, fresh_world, node_world}
 use Rattle.replay_node.specs.declared.node.ReplayNode.{ReplayNode}
 use Rattle.rescue_plan.specs.declared.answer.UpNode.{UpNode}
@@ -28,7 +28,7 @@ use Rattle.schedule_replay.specs.WorldStands.{AllStand, Stands, WritesLine}
 use Rattle.schedule_replay.proofs.Tallying.{taken_more, all_taken, replayed_more}
 use Rattle.schedule_replay.proofs.Sending.{lines_send}
 use Rattle.schedule_replay.specs.declared.surveyed.SurveyedNode.{SurveyedNode}
-use Rattle.schedule_replay.specs.Survey.{is_armed, up_if, surveyed, surveyed_at, world_after}
+use Rattle.schedule_replay.specs.Survey.{up_if, surveyed, surveyed_at, world_after}
 
 -- what is known by a record
 abbrev pub up_at_record : Id → Kept → UpNode

@@ -10,9 +10,9 @@ use Rattle.schedule_replay.specs.ClusterTrace.{trace_from}
 use Rattle.schedule_replay.specs.declared.cluster.node.ClusterNode.{ClusterNode}
 
 -- The nodes stand for what they did so far. What was written, what is held back, and the trace of the lines that are left are the whole trace.
-pub record ClusterSoFar (ids initial : List Id) (nodes : List ClusterNode) (frames : List Frame) (was now : Option (List ℕ)) (pending : List ℕ) (left : List Line) (all : List ℕ) : Type 0 where
+pub record ClusterSoFar (ids initial voting_only : List Id) (nodes : List ClusterNode) (frames : List Frame) (was now : Option (List ℕ)) (pending : List ℕ) (left : List Line) (all : List ℕ) : Type 0 where
   pub cluster : Cluster
-  pub stands : ClusterFor ids initial nodes frames cluster
+  pub stands : ClusterFor ids initial voting_only nodes frames cluster
   pub front : List ℕ
   pub written : Appended was now front
-  pub whole : front ++ (pending ++ trace_from ids initial cluster left) ≡ all
+  pub whole : front ++ (pending ++ trace_from ids initial voting_only cluster left) ≡ all

@@ -12,11 +12,11 @@ use Rattle.schedule_replay.specs.ClusterTrace.{trace_line}
 use Rattle.schedule_replay.specs.declared.cluster.node.ClusterNode.{ClusterNode}
 
 -- each of these nodes, of the schedule's, stands for its part of the cluster
-abbrev pub AllFor : (nodes initial ids : List Id) → List ClusterNode → Cluster → Type 0
-AllFor nodes initial [] [] c = Unit {0}
-AllFor nodes initial (i ∷ is) (x ∷ xs) c = NodeFor (settings_of nodes initial i) x (own_in c i) false × AllFor nodes initial is xs c
-AllFor nodes initial [] (x ∷ xs) c = ⊥
-AllFor nodes initial (i ∷ is) [] c = ⊥
+abbrev pub AllFor : (nodes initial voting_only ids : List Id) → List ClusterNode → Cluster → Type 0
+AllFor nodes initial voting_only [] [] c = Unit {0}
+AllFor nodes initial voting_only (i ∷ is) (x ∷ xs) c = NodeFor (settings_of nodes initial voting_only i) x (own_in c i) false × AllFor nodes initial voting_only is xs c
+AllFor nodes initial voting_only [] (x ∷ xs) c = ⊥
+AllFor nodes initial voting_only (i ∷ is) [] c = ⊥
 
 -- one node of a cluster goes on to this, the others stay
 pub record GoesOn (n : Id) (c : Cluster) (own : Own) (after_it : Cluster) : Type 0 where
@@ -24,22 +24,22 @@ pub record GoesOn (n : Id) (c : Cluster) (own : Own) (after_it : Cluster) : Type
   pub others : (m : Id) → same n m ≡ false → own_in after_it m ≡ own_in c m
 
 -- the nodes and the frames are what the schedule makes of them
-pub record ClusterFor (nodes initial : List Id) (all : List ClusterNode) (frames : List Frame) (c : Cluster) : Type 0 where
-  pub stand : AllFor nodes initial nodes all c
+pub record ClusterFor (nodes initial voting_only : List Id) (all : List ClusterNode) (frames : List Frame) (c : Cluster) : Type 0 where
+  pub stand : AllFor nodes initial voting_only nodes all c
   pub frames_sent : frames ≡ c.frames
   pub fit : AllByRecursion IsFitFrame frames
   pub ascending : ascends nodes ≡ true
 
 -- a line, or what of it stands after its echo
-pub record LineDone (nodes initial : List Id) (new : List ClusterNode) (frames : List Frame) (after_it : Cluster) (results was now : List ℕ) : Type 0 where
-  pub stands : ClusterFor nodes initial new frames after_it
+pub record LineDone (nodes initial voting_only : List Id) (new : List ClusterNode) (frames : List Frame) (after_it : Cluster) (results was now : List ℕ) : Type 0 where
+  pub stands : ClusterFor nodes initial voting_only new frames after_it
   pub written : now ≡ was ++ results
 
-abbrev pub DoesLine : (nodes initial : List Id) → (old new : List ClusterNode) → (frames frames_now : List Frame) → (was now : List ℕ) → (Cluster → Cluster) → (Cluster → List ℕ) → Type 0
-DoesLine nodes initial old new frames frames_now was now after_it results =
-    (c : Cluster) → ClusterFor nodes initial old frames c → LineDone nodes initial new frames_now (after_it c) (results c) was now
+abbrev pub DoesLine : (nodes initial voting_only : List Id) → (old new : List ClusterNode) → (frames frames_now : List Frame) → (was now : List ℕ) → (Cluster → Cluster) → (Cluster → List ℕ) → Type 0
+DoesLine nodes initial voting_only old new frames frames_now was now after_it results =
+    (c : Cluster) → ClusterFor nodes initial voting_only old frames c → LineDone nodes initial voting_only new frames_now (after_it c) (results c) was now
 
 -- a line with its echo
-abbrev pub WritesLine : (nodes initial : List Id) → (old new : List ClusterNode) → (frames frames_now : List Frame) → (was now : List ℕ) → Line → Type 0
-WritesLine nodes initial old new frames frames_now was now l =
-    DoesLine nodes initial old new frames frames_now was now (λ c. after nodes initial c l) (λ c. trace_line nodes initial c l)
+abbrev pub WritesLine : (nodes initial voting_only : List Id) → (old new : List ClusterNode) → (frames frames_now : List Frame) → (was now : List ℕ) → Line → Type 0
+WritesLine nodes initial voting_only old new frames frames_now was now l =
+    DoesLine nodes initial voting_only old new frames frames_now was now (λ c. after nodes initial voting_only c l) (λ c. trace_line nodes initial voting_only c l)

@@ -64,13 +64,13 @@ module _ (s : Settings) where
 
 -- ---- lines
 
-module _ (nodes initial : List Id) where
+module _ (nodes initial voting_only : List Id) where
   abbrev pub line_steps : Cluster → Line → List ClusterStep
-  line_steps c (line.Tick n now word) = event_steps_if_up (settings_of nodes initial n) c (Tick now word)
-  line_steps c (line.Client n bytes) = event_steps_if_up (settings_of nodes initial n) c (LineCame 0 bytes)
-  line_steps c (line.Deliver n number) = frame_steps (settings_of nodes initial n) c (frame_at c number)
+  line_steps c (line.Tick n now word) = event_steps_if_up (settings_of nodes initial voting_only n) c (Tick now word)
+  line_steps c (line.Client n bytes) = event_steps_if_up (settings_of nodes initial voting_only n) c (LineCame 0 bytes)
+  line_steps c (line.Deliver n number) = frame_steps (settings_of nodes initial voting_only n) c (frame_at c number)
   line_steps c (line.Crash n way) = (if c.world.down n then Shared (WasDown n) else Shared (WentDown n)) ∷ []
-  line_steps c (line.Restart n) = restart_steps (settings_of nodes initial n) c
+  line_steps c (line.Restart n) = restart_steps (settings_of nodes initial voting_only n) c
   line_steps c (line.Fuse n count way) = []
   line_steps c (line.Fail n count) = []
   line_steps c (line.Boot n) = []
@@ -79,7 +79,7 @@ module _ (nodes initial : List Id) where
 
   abbrev pub steps_from : Cluster → List Line → List ClusterStep
   steps_from c [] = []
-  steps_from c (l ∷ ls) = Shared (Echo l) ∷ (line_steps c l ++ steps_from (after nodes initial c l) ls)
+  steps_from c (l ∷ ls) = Shared (Echo l) ∷ (line_steps c l ++ steps_from (after nodes initial voting_only c l) ls)
 
 abbrev pub cluster_steps : Schedule → List ClusterStep
-cluster_steps s = steps_from s.nodes s.initial (fresh_cluster s.nodes s.initial) s.lines
+cluster_steps s = steps_from s.nodes s.initial s.voting_only (fresh_cluster s.nodes s.initial s.voting_only) s.lines

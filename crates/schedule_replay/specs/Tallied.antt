@@ -20,6 +20,6 @@ pub record Tallied {T : Type 0} (saw : T → List ℕ → Type 0) (ids initial :
   pub tallies : saw observer (trace_from initial fresh_world done)
 
 -- and so of whole nodes
-pub record ClusterTallied {T : Type 0} (saw : T → List ℕ → Type 0) (ids initial : List Id) (nodes : List ClusterNode) (frames : List Frame) (observer : T) (done : List Line) : Type 0 where
-  pub stands : ClusterFor ids initial nodes frames (cluster_from ids initial (fresh_cluster ids initial) done)
-  pub tallies : saw observer (cluster_trace ids initial (fresh_cluster ids initial) done)
+pub record ClusterTallied {T : Type 0} (saw : T → List ℕ → Type 0) (ids initial voting_only : List Id) (nodes : List ClusterNode) (frames : List Frame) (observer : T) (done : List Line) : Type 0 where
+  pub stands : ClusterFor ids initial voting_only nodes frames (cluster_from ids initial voting_only (fresh_cluster ids initial voting_only) done)
+  pub tallies : saw observer (cluster_trace ids initial voting_only (fresh_cluster ids initial voting_only) done)

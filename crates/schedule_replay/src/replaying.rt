@@ -126,7 +126,12 @@ fn replay_nodes<T: Observer, S: Sink>(
     ensures later { S.faults out.old ≤ S.faults out.new }
     ensures fault { result ≡ Err ReplayError.Write → Rose (S.faults out.old) (S.faults out.new) }
 {
-    let Ok(mut cluster) = ClusterReplayer::new(alloc, &schedule.nodes, &schedule.initial) else {
+    let Ok(mut cluster) = ClusterReplayer::new(
+        alloc,
+        &schedule.nodes,
+        &schedule.initial,
+        &schedule.voting_only,
+    ) else {
         return Err(ReplayError::Memory);
     };
     let mut held = Text::new(alloc);

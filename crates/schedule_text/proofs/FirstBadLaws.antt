@@ -1,6 +1,6 @@
 -- A fault names the first bad line.
-use Rattle.std.proofs.Common.{◌≡◌, ℕ, suc, ◌+◌, ◌-◌, ◌<◌, ◌≤◌, ◌≢◌, true, ◌&&◌, List, [], ◌∷◌, ◌++◌, length, Option, Some, Result, Ok, Err, refl, sym, ap, subst, ◌∙◌, append_assoc, arith, inl, inr}
-use Rattle.std.specs.Prelude.{codes, nat_lt, nat_le}
+use Rattle.std.proofs.Common.{◌≡◌, ℕ, suc, ◌+◌, ◌-◌, ◌<◌, ◌≤◌, ◌≢◌, Bool, true, false, ◌&&◌, List, [], ◌∷◌, ◌++◌, length, Option, Some, Result, Ok, Err, refl, sym, ap, subst, ◌∙◌, append_assoc, arith, inl, inr}
+use Rattle.std.specs.Prelude.{codes, nat_lt, nat_le, if◌then◌else◌}
 use Rattle.std.specs.List.{list_all, join_with_byte}
 use Rattle.std.proofs.lemmas.Bool.{and_parts, and_from, cases_lt}
 use Rattle.std.proofs.lemmas.Bool.Decides.{nat_tests}
@@ -14,12 +14,12 @@ use Rattle.schedule_text.specs.declared.place.Place.{Place}
 use Rattle.schedule_text.specs.declared.schedule.Line.{Line}
 use Rattle.schedule_text.specs.declared.schedule.Schedule.{Schedule}
 use Rattle.voting_config.specs.Lists.{list_text, may_follow, are_ids_after}
-use Rattle.schedule_text.specs.Reading.{first_place, after_line, in_line, ◌>>>◌, header_at, initial_line_at, end_at, no_initial, first_line_at, second_line_at, one_line_at, lines_at, pieces, initial_at, nodes_at, schedule_at, fault_in, fault_of}
+use Rattle.schedule_text.specs.Reading.{first_place, after_line, in_line, ◌>>>◌, header_at, header_of_some_at, is_third, end_at, no_initial, first_line_at, second_line_at, third_line_at, one_line_at, lines_at, pieces, with_lines_at, voting_only_at, initial_at, no_schedule, nodes_at, schedule_at, fault_in, fault_of}
 use Rattle.schedule_text.specs.Spelled.{with_feeds}
 use Rattle.schedule_text.specs.FirstBad.{first_lines, BeginsSchedule, IsFirstBad, LawFirstBadLine}
 use Rattle.schedule_text.proofs.WordLaws.{lacks, join_split, parts_lack, parts_not_empty}
 use Rattle.schedule_text.proofs.FirstLines.{first_line, feeds_more, feeds_join, first_feeds, fewer_lines, same_head, same_alone}
-use Rattle.schedule_text.proofs.ScheduleLaws.{read, then_ok, IsSized, sized_takes, sized_again, header_takes, header_lacks, initial_again, more_lines, more_initial, ended, feeds_split, join_more, empty, schedule_takes, schedule_again}
+use Rattle.schedule_text.proofs.ScheduleLaws.{read, then_ok, IsSized, sized_takes, sized_again, header_takes, header_lacks, some_again, more_lines, more_tail, more_initial, ended, feeds_split, join_more, schedule_takes, schedule_again}
 
 -- ---- faults
 
@@ -155,6 +155,77 @@ lines_stop level ids p front (line ∷ rest ∷ more) bad some k e =
           stops_here (lines_at level ids p front) (one_line_at level ids p) next goes p.number line (rest ∷ more) bad [] front (λ x. absurd cc) lack.0 same (in_line_err p _ bad same) refl refl
     ] refl e
 
+-- ---- the third header line, and the lines
+
+-- what stands first after the header's first two lines: its third one, or a line of the schedule
+data Begun : Type 0 where
+  Third : List Id → Begun
+  First : Line → Begun
+
+module _ (level : Level) (ids initial : List Id) where
+  abbrev made : List Id → List Line → Schedule
+  made voting_only lines = record { nodes = ids; initial = initial; voting_only = voting_only; lines = lines }
+
+  abbrev begun_by : Bool → Place → List ℕ → Result Begun BadSchedule
+  begun_by third p line = if third then (third_line_at ids p line >>> λ xs. read (Third xs)) else (one_line_at level ids p line >>> λ l. read (First l))
+
+  abbrev begun_at : Place → List ℕ → Result Begun BadSchedule
+  begun_at p line = begun_by (is_third level line) p line
+
+  abbrev goes_on : Place → List ℕ → Begun → List (List ℕ) → Result Schedule BadSchedule
+  goes_on p line (Third xs) parts = with_lines_at level ids initial xs (after_line p line) parts
+  goes_on p line (First l) parts = lines_at level ids (after_line p line) (l ∷ []) parts >>> λ lines. read (made [] lines)
+
+  lines_go : (p : Place) (line : List ℕ) (rest : List (List ℕ)) (r : Result Line BadSchedule)
+      → ((r >>> λ l. lines_at level ids (after_line p line) ([] ++ l ∷ []) rest) >>> λ lines. read (made [] lines)) ≡ ((r >>> λ l. read (First l)) >>> λ x. goes_on p line x rest)
+  lines_go p line rest (Ok l) = refl
+  lines_go p line rest (Err d) = refl
+
+  third_goes : (p : Place) (line : List ℕ) (rest : List (List ℕ)) (r : Result (List Id) BadSchedule)
+      → (r >>> λ xs. with_lines_at level ids initial xs (after_line p line) rest) ≡ ((r >>> λ xs. read (Third xs)) >>> λ x. goes_on p line x rest)
+  third_goes p line rest (Ok xs) = refl
+  third_goes p line rest (Err d) = refl
+
+  tail_goes_by : (p : Place) (line : List ℕ) (rest : List (List ℕ)) → rest ≢ [] → (third : Bool)
+      → (if third then (third_line_at ids p line >>> λ xs. with_lines_at level ids initial xs (after_line p line) rest) else with_lines_at level ids initial [] p (line ∷ rest))
+      ≡ (begun_by third p line >>> λ x. goes_on p line x rest)
+  tail_goes_by p line rest some true = third_goes p line rest (third_line_at ids p line)
+  tail_goes_by p line rest some false =
+      ap (λ r. r >>> λ lines. read (made [] lines)) (more_lines level ids p [] line rest some) ∙ lines_go p line rest (one_line_at level ids p line)
+
+  tail_goes : (p : Place) (line : List ℕ) (rest : List (List ℕ)) → rest ≢ [] → voting_only_at level ids initial p (line ∷ rest) ≡ (begun_at p line >>> λ x. goes_on p line x rest)
+  tail_goes p line rest some = more_tail level ids initial p line rest some ∙ tail_goes_by p line rest some (is_third level line)
+
+  begun_err : (third : Bool) (p : Place) (line : List ℕ) (bad : BadSchedule) → begun_by third p line ≡ Err bad → bad.line ≡ p.number
+  begun_err true p line bad e = in_line_err p _ bad (map_err (third_line_at ids p line) (λ xs. Third xs) bad e)
+  begun_err false p line bad e = in_line_err p _ bad (map_err (one_line_at level ids p line) (λ l. First l) bad e)
+
+  begun_stop : (p : Place) (line : List ℕ) (parts : List (List ℕ)) (bad : BadSchedule) (x : Begun) → parts ≢ [] → list_all (lacks 10) parts ≡ true → goes_on p line x parts ≡ Err bad → Stops (goes_on p line x) (p.number + 1) parts bad
+  begun_stop p line parts bad (Third xs) some k e =
+      let lines = lines_at level ids (after_line p line) [] in
+      stops_map lines (made xs) (p.number + 1) parts bad (lines_stop level ids (after_line p line) [] parts bad some k (map_err (lines parts) (made xs) bad e))
+  begun_stop p line parts bad (First l) some k e =
+      let lines = lines_at level ids (after_line p line) (l ∷ []) in
+      stops_map lines (made []) (p.number + 1) parts bad (lines_stop level ids (after_line p line) (l ∷ []) parts bad some k (map_err (lines parts) (made []) bad e))
+
+  tail_stop : (p : Place) (parts : List (List ℕ)) (bad : BadSchedule) → parts ≢ [] → list_all (lacks 10) parts ≡ true → voting_only_at level ids initial p parts ≡ Err bad
+      → Stops (voting_only_at level ids initial p) p.number parts bad
+  tail_stop p [] bad some k e = absurd (some refl)
+  tail_stop p (line ∷ []) bad some k e =
+      stops_cut (voting_only_at level ids initial p) p.number line bad [] (made [] []) (and_parts (lacks 10 line) _ k).0 e
+      (end_err {A = List Line} p line [] bad (map_err (lines_at level ids p [] (line ∷ [])) (made []) bad e)) refl refl
+  tail_stop p (line ∷ rest ∷ more) bad some k e =
+      let lack = and_parts (lacks 10 line) _ k in
+      let reads = voting_only_at level ids initial p in
+      let next = λ (t : List ℕ) (x : Begun) (ps : List (List ℕ)). goes_on p t x ps in
+      elim (begun_at p line) as (λ r. begun_at p line ≡ r → (r >>> λ x. goes_on p line x (rest ∷ more)) ≡ Err bad → Stops reads p.number (line ∷ rest ∷ more) bad) [
+        | Ok x ↦ λ is h.
+            stops_later reads (begun_at p) next (tail_goes p) p.number line (rest ∷ more) bad x (λ y. absurd cc) lack.0 is (begun_stop p line (rest ∷ more) bad x (λ y. absurd cc) lack.1 h)
+        | Err d ↦ λ is h.
+            let same = is ∙ ap (λ b. failed {A = Begun} b) (failed_is {A = Schedule} d bad h) in
+            stops_here reads (begun_at p) next (tail_goes p) p.number line (rest ∷ more) bad [] (made [] []) (λ y. absurd cc) lack.0 same (begun_err (is_third level line) p line bad same) refl refl
+      ] refl (sym (tail_goes p line (rest ∷ more) (λ y. absurd cc)) ∙ e)
+
 -- ---- the header
 
 -- a second line that may stand here
@@ -164,14 +235,14 @@ record Second (level : Level) (ids : List Id) (p : Place) : Type 0 where
   value : Schedule
   reads : initial_at level ids p (text ∷ [] ∷ []) ≡ Ok value
 
-second_by : (level : Level) (ids : List Id) (p : Place) (xs : List Id) → initial_line_at ids (codes "initial" ++ 32 ∷ list_text xs) ≡ Ok xs → IsSized p (codes "initial" ++ 32 ∷ list_text xs) → are_ids_after [] xs ≡ true → 0 < length xs → Second level ids p
+second_by : (level : Level) (ids : List Id) (p : Place) (xs : List Id) → header_of_some_at (codes "initial") ids (codes "initial" ++ 32 ∷ list_text xs) ≡ Ok xs → IsSized p (codes "initial" ++ 32 ∷ list_text xs) → are_ids_after [] xs ≡ true → 0 < length xs → Second level ids p
 second_by level ids p xs e sized after some =
     let text = codes "initial" ++ 32 ∷ list_text xs in
     record {
       text = text;
       lack = header_lacks (codes "initial") xs refl after some;
-      value = record { nodes = ids; initial = xs; lines = [] };
-      reads = ap (λ r. r >>> λ initial. lines_at level ids (after_line p text) [] ([] ∷ []) >>> λ lines. read {A = Schedule} (record { nodes = ids; initial = initial; lines = lines })) (sized_again p text (initial_line_at ids) xs sized e);
+      value = record { nodes = ids; initial = xs; voting_only = []; lines = [] };
+      reads = ap (λ r. r >>> λ initial. voting_only_at level ids initial (after_line p text) ([] ∷ [])) (sized_again p text (header_of_some_at (codes "initial") ids) xs sized e);
     }
 
 -- the one with the first node
@@ -185,7 +256,7 @@ second_for level (x ∷ xs) line sized after some =
     let one : are_ids_after [] (x ∷ []) ≡ true = and_from _ _ may refl in
     let among : are_among (x ∷ xs) (x ∷ []) ≡ true = rw ((bytes_eq-Decides x x).1 refl) refl in
     let long = length-append (codes "initial ") x in
-    second_by level (x ∷ xs) (after_line first_place line) (x ∷ []) (initial_again (x ∷ xs) (x ∷ []) one (omega arith) among)
+    second_by level (x ∷ xs) (after_line first_place line) (x ∷ []) (some_again (codes "initial") (x ∷ xs) (x ∷ []) refl refl one (omega arith) among)
     (record { bytes = omega (arith, sized.long, short, long); count = omega arith; long = omega (arith, short, long) }) one (omega arith)
 
 initial_stop : (level : Level) (ids : List Id) (p : Place) (parts : List (List ℕ)) (bad : BadSchedule) → Second level ids p → parts ≢ [] → list_all (lacks 10) parts ≡ true → initial_at level ids p parts ≡ Err bad → Stops (initial_at level ids p) p.number parts bad
@@ -194,13 +265,12 @@ initial_stop level ids p (line ∷ []) bad second some k e =
     stops_cut (initial_at level ids p) p.number line bad (second.text ∷ []) second.value (and_parts (lacks 10 line) _ k).0 e (initial_err {A = Schedule} p line bad e) (and_from _ _ second.lack refl) second.reads
 initial_stop level ids p (line ∷ rest ∷ more) bad second some k e =
     let lack = and_parts (lacks 10 line) _ k in
-    let made : List Id → List Line → Schedule = λ initial lines. record { nodes = ids; initial = initial; lines = lines } in
-    let next = λ (t : List ℕ) (initial : List Id) (ps : List (List ℕ)). lines_at level ids (after_line p t) [] ps >>> λ lines. read (made initial lines) in
+    let next = λ (t : List ℕ) (initial : List Id) (ps : List (List ℕ)). voting_only_at level ids initial (after_line p t) ps in
     let goes = more_initial level ids p in
     elim (second_line_at ids p line) as (λ r. second_line_at ids p line ≡ r → (r >>> λ initial. next line initial (rest ∷ more)) ≡ Err bad → Stops (initial_at level ids p) p.number (line ∷ rest ∷ more) bad) [
       | Ok initial ↦ λ is h.
-          let later = lines_stop level ids (after_line p line) [] (rest ∷ more) bad (λ x. absurd cc) lack.1 (map_err (lines_at level ids (after_line p line) [] (rest ∷ more)) (made initial) bad h) in
-          stops_later (initial_at level ids p) (second_line_at ids p) next goes p.number line (rest ∷ more) bad initial (λ x. absurd cc) lack.0 is (stops_map (lines_at level ids (after_line p line) []) (made initial) (p.number + 1) (rest ∷ more) bad later)
+          let later = tail_stop level ids initial (after_line p line) (rest ∷ more) bad (λ x. absurd cc) lack.1 h in
+          stops_later (initial_at level ids p) (second_line_at ids p) next goes p.number line (rest ∷ more) bad initial (λ x. absurd cc) lack.0 is later
       | Err d ↦ λ is h.
           let same = is ∙ ap (λ b. failed {A = List Id} b) (failed_is {A = Schedule} d bad h) in
           stops_here (initial_at level ids p) (second_line_at ids p) next goes p.number line (rest ∷ more) bad (second.text ∷ []) second.value (λ x. absurd cc) lack.0 same (in_line_err p _ bad same) (and_from _ _ second.lack refl) second.reads
@@ -212,7 +282,7 @@ more_nodes level line (next ∷ more) h = refl
 
 nodes_stop : (level : Level) (parts : List (List ℕ)) (bad : BadSchedule) → parts ≢ [] → list_all (lacks 10) parts ≡ true → nodes_at level first_place parts ≡ Err bad → Stops (nodes_at level first_place) 1 parts bad
 nodes_stop level [] bad some k e = absurd (some refl)
-nodes_stop level (line ∷ []) bad some k e = stops_cut (nodes_at level first_place) 1 line bad [] empty (and_parts (lacks 10 line) _ k).0 e (end_err first_place line empty bad e) refl refl
+nodes_stop level (line ∷ []) bad some k e = stops_cut (nodes_at level first_place) 1 line bad [] no_schedule (and_parts (lacks 10 line) _ k).0 e (end_err first_place line no_schedule bad e) refl refl
 nodes_stop level (line ∷ rest ∷ more) bad some k e =
     let lack = and_parts (lacks 10 line) _ k in
     let next = λ (t : List ℕ) (ids : List Id) (ps : List (List ℕ)). initial_at level ids (after_line first_place t) ps in
@@ -224,7 +294,7 @@ nodes_stop level (line ∷ rest ∷ more) bad some k e =
           stops_later (nodes_at level first_place) (first_line_at first_place) next (more_nodes level) 1 line (rest ∷ more) bad ids (λ x. absurd cc) lack.0 is (initial_stop level ids (after_line first_place line) (rest ∷ more) bad second (λ x. absurd cc) lack.1 h)
       | Err d ↦ λ is h.
           let same = is ∙ ap (λ b. failed {A = List Id} b) (failed_is {A = Schedule} d bad h) in
-          stops_here (nodes_at level first_place) (first_line_at first_place) next (more_nodes level) 1 line (rest ∷ more) bad [] empty (λ x. absurd cc) lack.0 same (in_line_err first_place _ bad same) refl refl
+          stops_here (nodes_at level first_place) (first_line_at first_place) next (more_nodes level) 1 line (rest ∷ more) bad [] no_schedule (λ x. absurd cc) lack.0 same (in_line_err first_place _ bad same) refl refl
     ] refl e
 
 -- ---- the whole

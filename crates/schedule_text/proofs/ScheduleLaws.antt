@@ -14,15 +14,16 @@ use Rattle.schedule_text.specs.declared.fault.BadSchedule.{BadSchedule}
 use Rattle.schedule_text.specs.declared.fault.ReadError.{ReadError}
 use Rattle.schedule_text.specs.Answers.{Answers}
 use Rattle.schedule_text.specs.declared.level.Level.{Level}
+use Rattle.schedule_text.specs.declared.level.Level.TheVariants.{Core, Node}
 use Rattle.schedule_text.specs.declared.place.Place.{Place}
 use Rattle.schedule_text.specs.declared.schedule.Line.{Line}
 use Rattle.schedule_text.specs.declared.schedule.Schedule.{Schedule}
 use Rattle.schedule_text.specs.Limits.{most_bytes, most_lines, most_line_bytes}
 use Rattle.voting_config.specs.Lists.{list_text, are_ids_after, parts_of}
 use Rattle.schedule_text.specs.Words.{◌>>=◌, list, is_some_list}
-use Rattle.schedule_text.specs.Lines.{one_word, words_of, line_text, FitsLine, line_at}
-use Rattle.schedule_text.specs.Reading.{first_place, after_line, sized_at, in_line, ◌>>>◌, as_header, header_words, header_at, initial_line_at, end_at, first_line_at, second_line_at, one_line_at, lines_at, pieces, initial_at, nodes_at, schedule_at, fault_in, fault_of}
-use Rattle.schedule_text.specs.Spelled.{text_lines, with_feeds, schedule_text, IsSchedule, IsWithin, Spells, Nothing, Text}
+use Rattle.schedule_text.specs.Lines.{one_word, words_of, line_text, FitsLine, words_at, line_at}
+use Rattle.schedule_text.specs.Reading.{first_place, after_line, sized_at, in_line, ◌>>>◌, as_header, header_words, header_at, header_of_some_at, names_third, is_third, end_at, first_line_at, second_line_at, third_line_at, one_line_at, lines_at, pieces, with_lines_at, voting_only_at, initial_at, no_schedule, nodes_at, schedule_at, fault_in, fault_of}
+use Rattle.schedule_text.specs.Spelled.{AreVotingOnly, voting_only_lines, text_lines, with_feeds, schedule_text, IsSchedule, IsWithin, Spells, Nothing, Text}
 use Rattle.schedule_text.proofs.WordLaws.{is_plain, bind_ok, want_ok, ok_is, lacks, split_join, join_split, parts_lack, parts_not_empty, ids_each, list_law}
 use Rattle.schedule_text.proofs.LineLaws.{AreIds, one_is, split_words, one_piece, line_takes, line_again, line_lacks}
 
@@ -94,27 +95,35 @@ header_takes name line xs e =
     let got = words_header name (words_of line) xs e in
     record { spelled = sym (join_split 32 line) ∙ ap (join_with_byte 32) got.0; ids = got.1; some = got.2 }
 
+header_words_are : (name : List ℕ) (xs : List Id) → is_plain name ≡ true → are_ids_after [] xs ≡ true → 0 < length xs → words_of (name ++ 32 ∷ list_text xs) ≡ name ∷ list_text xs ∷ []
+header_words_are name xs plain ids some =
+    let fits : (are_ids_after [] xs && is_some_list xs) ≡ true = and_from _ _ ids (lt-ltb 0 (length xs) some) in
+    split_words name (list_text xs ∷ []) (and_from _ _ plain (and_from _ _ ((list_law is_some_list).plain xs fits) refl))
+
 header_again : (name : List ℕ) (xs : List Id) → is_plain name ≡ true → bytes_eq name name ≡ true → are_ids_after [] xs ≡ true → 0 < length xs → header_at name (name ++ 32 ∷ list_text xs) ≡ Ok xs
 header_again name xs plain same ids some =
     let fits : (are_ids_after [] xs && is_some_list xs) ≡ true = and_from _ _ ids (lt-ltb 0 (length xs) some) in
-    let words = split_words name (list_text xs ∷ []) (and_from _ _ plain (and_from _ _ ((list_law is_some_list).plain xs fits) refl)) in
-    ap (header_words name) words ∙ rw (same, (list_law is_some_list).again xs fits) refl
+    ap (header_words name) (header_words_are name xs plain ids some) ∙ rw (same, (list_law is_some_list).again xs fits) refl
+
+third_named : (xs : List Id) → are_ids_after [] xs ≡ true → 0 < length xs → is_third Node (codes "voting-only" ++ 32 ∷ list_text xs) ≡ true
+third_named xs ids some = ap names_third (header_words_are (codes "voting-only") xs refl ids some)
 
 pub header_lacks : (name : List ℕ) (xs : List Id) → is_plain name ≡ true → are_ids_after [] xs ≡ true → 0 < length xs → lacks 10 (name ++ 32 ∷ list_text xs) ≡ true
 header_lacks name xs plain ids some =
     let fits : (are_ids_after [] xs && is_some_list xs) ≡ true = and_from _ _ ids (lt-ltb 0 (length xs) some) in
     one_piece (name ∷ list_text xs ∷ []) (and_from _ _ plain (and_from _ _ ((list_law is_some_list).plain xs fits) refl))
 
-initial_takes : (ids : List Id) (line : List ℕ) (xs : List Id) → initial_line_at ids line ≡ Ok xs → IsHeader (codes "initial") line xs × (are_among ids xs ≡ true)
-initial_takes ids line xs e =
+some_takes : (name : List ℕ) (ids : List Id) (line : List ℕ) (xs : List Id) → header_of_some_at name ids line ≡ Ok xs → IsHeader name line xs × (are_among ids xs ≡ true)
+some_takes name ids line xs e =
     let last = λ (ys : List Id). if are_among ids ys then Ok ys else Err why.Header in
-    let got = bind_ok (header_at (codes "initial") line) last xs e in
+    let got = bind_ok (header_at name line) last xs e in
     let in_all = want_ok (are_among ids got.0) why.Header (Ok got.0) xs got.2 in
-    let P : List Id → Type 0 = λ ys. IsHeader (codes "initial") line ys × (are_among ids ys ≡ true) in
-    subst P (ok_is got.0 xs in_all.1) (header_takes (codes "initial") line got.0 got.1, in_all.0)
+    let P : List Id → Type 0 = λ ys. IsHeader name line ys × (are_among ids ys ≡ true) in
+    subst P (ok_is got.0 xs in_all.1) (header_takes name line got.0 got.1, in_all.0)
 
-pub initial_again : (ids xs : List Id) → are_ids_after [] xs ≡ true → 0 < length xs → are_among ids xs ≡ true → initial_line_at ids (codes "initial" ++ 32 ∷ list_text xs) ≡ Ok xs
-initial_again ids xs after some among = rw (header_again (codes "initial") xs refl refl after some, among) refl
+pub some_again : (name : List ℕ) (ids xs : List Id) → is_plain name ≡ true → bytes_eq name name ≡ true → are_ids_after [] xs ≡ true → 0 < length xs → are_among ids xs ≡ true
+    → header_of_some_at name ids (name ++ 32 ∷ list_text xs) ≡ Ok xs
+some_again name ids xs plain same after some among = rw (header_again name xs plain same after some, among) refl
 
 are_ids : (xs : List Id) → are_ids_after [] xs ≡ true → AreIds xs
 are_ids xs h = record { each = ids_each is_id (λ x k. k) [] xs h }
@@ -216,19 +225,204 @@ length-map_text : (ls : List Line) → length (map line_text ls) ≡ length ls
 length-map_text [] = refl
 length-map_text (l ∷ ls) = ap suc (length-map_text ls)
 
+-- ---- the third header line, and the lines
+
+abbrev tail_lines : List Id → List Line → List (List ℕ)
+tail_lines voting_only ls = voting_only_lines voting_only ++ map line_text ls
+
+abbrev AreShort : List (List ℕ) → Type 0
+AreShort lines = AllByRecursion (λ (l : List ℕ). length l ≤ most_line_bytes) lines
+
+record TailTaken (level : Level) (ids : List Id) (p : Place) (parts : List (List ℕ)) (voting_only : List Id) (ls : List Line) : Type 0 where
+  spelled : parts ≡ tail_lines voting_only ls ++ [] ∷ []
+  allowed : AreVotingOnly level ids voting_only
+  fits : AllByRecursion (FitsLine level ids) ls
+  bytes : p.before ≤ most_bytes → p.before + length (with_feeds (tail_lines voting_only ls)) ≤ most_bytes
+  count : p.number ≤ (most_lines + 1) → p.number + length (tail_lines voting_only ls) ≤ (most_lines + 1)
+  each : AreShort (tail_lines voting_only ls)
+
+nobody : (level : Level) (ids : List Id) → AreVotingOnly level ids []
+nobody Core ids = refl
+nobody Node ids = (refl, refl)
+
+tail_without : (level : Level) (ids : List Id) (p : Place) (parts : List (List ℕ)) (ls : List Line) → LinesTaken level ids p [] parts ls → TailTaken level ids p parts [] ls
+tail_without level ids p parts ls t =
+    subst (λ (l : List Line). TailTaken level ids p parts [] l) (sym t.whole) (record {
+      spelled = t.spelled;
+      allowed = nobody level ids;
+      fits = t.fits;
+      bytes = t.bytes;
+      count = λ h. omega (arith, t.count h, length-map_text t.new);
+      each = t.each;
+    })
+
+tail_with : (ids : List Id) (p : Place) (line : List ℕ) (rest : List (List ℕ)) (voting_only : List Id) (ls : List Line) → IsHeader (codes "voting-only") line voting_only → are_among ids voting_only ≡ true → IsSized p line
+    → LinesTaken Node ids (after_line p line) [] rest ls → TailTaken Node ids p (line ∷ rest) voting_only ls
+tail_with ids p line rest [] ls header among sized t = absurd (omega (arith, header.some))
+tail_with ids p line rest (x ∷ xs) ls header among sized t =
+    let text = codes "voting-only " ++ list_text (x ∷ xs) in
+    let long : length text ≡ length line = ap length (sym header.spelled) in
+    let feeds = feeds_length text (map line_text t.new) in
+    subst (λ (l : List Line). TailTaken Node ids p (line ∷ rest) (x ∷ xs) l) (sym t.whole) (record {
+      spelled = ap (λ l. l ∷ rest) header.spelled ∙ ap (λ ls. text ∷ ls) t.spelled;
+      allowed = (header.ids, among);
+      fits = t.fits;
+      bytes = λ h. omega (arith, t.bytes (omega (arith, sized.bytes)), feeds, long);
+      count = λ h. omega (arith, t.count (omega (arith, sized.count)), length-map_text t.new);
+      each = (omega (arith, long, sized.long), t.each);
+    })
+
+record WithTaken (level : Level) (ids named only : List Id) (p : Place) (parts : List (List ℕ)) (s : Schedule) : Type 0 where
+  nodes : s.nodes ≡ ids
+  initial : s.initial ≡ named
+  voting_only : s.voting_only ≡ only
+  lines : LinesTaken level ids p [] parts s.lines
+
+with_takes : (level : Level) (ids : List Id) → AreIds ids → (initial voting_only : List Id) (p : Place) (parts : List (List ℕ)) (s : Schedule) → parts ≢ [] → list_all (lacks 10) parts ≡ true
+    → with_lines_at level ids initial voting_only p parts ≡ Ok s → WithTaken level ids initial voting_only p parts s
+with_takes level ids good initial voting_only p parts s some k e =
+    let last = λ (lines : List Line). read {A = Schedule} (record { nodes = ids; initial = initial; voting_only = voting_only; lines = lines }) in
+    let got = then_ok (lines_at level ids p [] parts) last s e in
+    let made : Schedule = record { nodes = ids; initial = initial; voting_only = voting_only; lines = got.0 } in
+    let taken : WithTaken level ids initial voting_only p parts made = record {
+      nodes = refl;
+      initial = refl;
+      voting_only = refl;
+      lines = lines_take level ids good p [] parts got.0 some k got.1;
+    } in
+    subst (λ (t : Schedule). WithTaken level ids initial voting_only p parts t) (read_is made s got.2) taken
+
+-- the schedule after the first two lines of a header
+record After (level : Level) (ids named : List Id) (p : Place) (parts : List (List ℕ)) (s : Schedule) : Type 0 where
+  nodes : s.nodes ≡ ids
+  initial : s.initial ≡ named
+  tail : TailTaken level ids p parts s.voting_only s.lines
+
+after_without : (level : Level) (ids initial : List Id) (p : Place) (parts : List (List ℕ)) (s : Schedule) → WithTaken level ids initial [] p parts s → After level ids initial p parts s
+after_without level ids initial p parts s w = record {
+  nodes = w.nodes;
+  initial = w.initial;
+  tail = subst (λ (xs : List Id). TailTaken level ids p parts xs s.lines) (sym w.voting_only) (tail_without level ids p parts s.lines w.lines);
+}
+
+after_third : (ids : List Id) → AreIds ids → (initial : List Id) (p : Place) (line next : List ℕ) (more : List (List ℕ)) (s : Schedule) → list_all (lacks 10) (next ∷ more) ≡ true
+    → (third_line_at ids p line >>> λ xs. with_lines_at Node ids initial xs (after_line p line) (next ∷ more)) ≡ Ok s → After Node ids initial p (line ∷ next ∷ more) s
+after_third ids good initial p line next more s k e =
+    let go = λ (xs : List Id). with_lines_at Node ids initial xs (after_line p line) (next ∷ more) in
+    let got = then_ok (third_line_at ids p line) go s e in
+    let sized = sized_takes p line (header_of_some_at (codes "voting-only") ids) got.0 got.1 in
+    let header = some_takes (codes "voting-only") ids line got.0 sized.1 in
+    let w = with_takes Node ids good initial got.0 (after_line p line) (next ∷ more) s (λ h. absurd cc) k got.2 in
+    record {
+      nodes = w.nodes;
+      initial = w.initial;
+      tail = subst (λ (xs : List Id). TailTaken Node ids p (line ∷ next ∷ more) xs s.lines) (sym w.voting_only) (tail_with ids p line (next ∷ more) got.0 s.lines header.0 header.1 sized.0 w.lines);
+    }
+
+tail_takes : (level : Level) (ids : List Id) → AreIds ids → (initial : List Id) (p : Place) (parts : List (List ℕ)) (s : Schedule) → parts ≢ [] → list_all (lacks 10) parts ≡ true
+    → voting_only_at level ids initial p parts ≡ Ok s → After level ids initial p parts s
+tail_takes level ids good initial p [] s some k e = absurd (some refl)
+tail_takes level ids good initial p (line ∷ []) s some k e = after_without level ids initial p (line ∷ []) s (with_takes level ids good initial [] p (line ∷ []) s some k e)
+tail_takes Core ids good initial p (line ∷ next ∷ more) s some k e =
+    after_without Core ids initial p (line ∷ next ∷ more) s (with_takes Core ids good initial [] p (line ∷ next ∷ more) s some k e)
+tail_takes Node ids good initial p (line ∷ next ∷ more) s some k e =
+    elim (is_third Node line) as (λ b. (if b then (third_line_at ids p line >>> λ xs. with_lines_at Node ids initial xs (after_line p line) (next ∷ more)) else with_lines_at Node ids initial [] p (line ∷ next ∷ more)) ≡ Ok s → After Node ids initial p (line ∷ next ∷ more) s) [
+      | true ↦ λ h. after_third ids good initial p line next more s (and_parts (lacks 10 line) _ k).1 h
+      | false ↦ λ h. after_without Node ids initial p (line ∷ next ∷ more) s (with_takes Node ids good initial [] p (line ∷ next ∷ more) s some k h)
+    ] e
+
+-- a line is no third header line, since that begins with no verb
+not_a_verb : (ids : List Id) (v : List ℕ) (ws : List (List ℕ)) (l : Line) → v ≡ codes "voting-only" → words_at Node ids (v ∷ ws) ≡ Ok l → ⊥
+not_a_verb ids v ws l is e =
+    let there : words_at Node ids (codes "voting-only" ∷ ws) ≡ Ok l = subst (λ (w : List ℕ). words_at Node ids (w ∷ ws) ≡ Ok l) is e in
+    absurd cc
+
+not_named : (ids : List Id) (ws : List (List ℕ)) (l : Line) → words_at Node ids ws ≡ Ok l → names_third ws ≡ false
+not_named ids [] l e = refl
+not_named ids (v ∷ ws) l e =
+    elim (bytes_eq v (codes "voting-only")) as (λ b. bytes_eq v (codes "voting-only") ≡ b → b ≡ false) [
+      | true ↦ λ is. absurd (not_a_verb ids v ws l (same_text v (codes "voting-only") (sym is)) e)
+      | false ↦ λ is. refl
+    ] refl
+
+not_third : (level : Level) (ids : List Id) → AreIds ids → (l : Line) → FitsLine level ids l → is_third level (line_text l) ≡ false
+not_third Core ids good l f = refl
+not_third Node ids good l f = not_named ids (words_of (line_text l)) l (line_again Node good l f)
+
+pub more_tail : (level : Level) (ids initial : List Id) (p : Place) (line : List ℕ) (rest : List (List ℕ)) → rest ≢ []
+    → voting_only_at level ids initial p (line ∷ rest)
+    ≡ (if is_third level line then (third_line_at ids p line >>> λ xs. with_lines_at level ids initial xs (after_line p line) rest) else with_lines_at level ids initial [] p (line ∷ rest))
+more_tail level ids initial p line [] h = absurd (h refl)
+more_tail level ids initial p line (next ∷ more) h = refl
+
+-- the same of what follows a line feed, for the reader
+pub tail_is_last : (level : Level) (ids initial none : List Id) (p : Place) (bytes line : List ℕ) → none ≡ [] → pieces bytes ≡ line ∷ []
+    → with_lines_at level ids initial none p (pieces bytes) ≡ voting_only_at level ids initial p (pieces bytes)
+tail_is_last level ids initial none p bytes line empty e =
+    ap (λ (xs : List Id). with_lines_at level ids initial xs p (pieces bytes)) empty ∙ ap (with_lines_at level ids initial [] p) e ∙ ap (voting_only_at level ids initial p) (sym e)
+
+pub tail_is_plain : (level : Level) (ids initial none : List Id) (p : Place) (bytes line rest : List ℕ) → none ≡ [] → pieces bytes ≡ line ∷ pieces rest → is_third level line ≡ false
+    → with_lines_at level ids initial none p (pieces bytes) ≡ voting_only_at level ids initial p (pieces bytes)
+tail_is_plain level ids initial none p bytes line rest empty e plain =
+    ap (λ (xs : List Id). with_lines_at level ids initial xs p (pieces bytes)) empty
+    ∙ ap (with_lines_at level ids initial [] p) e
+    ∙ sym (ap (λ b. if b then (third_line_at ids p line >>> λ xs. with_lines_at level ids initial xs (after_line p line) (pieces rest)) else with_lines_at level ids initial [] p (line ∷ pieces rest)) plain)
+    ∙ sym (more_tail level ids initial p line (pieces rest) (parts_not_empty 10 rest))
+    ∙ ap (voting_only_at level ids initial p) (sym e)
+
+pub tail_is_third : (level : Level) (ids initial : List Id) (p : Place) (bytes line rest : List ℕ) → pieces bytes ≡ line ∷ pieces rest → is_third level line ≡ true
+    → (third_line_at ids p line >>> λ xs. with_lines_at level ids initial xs (after_line p line) (pieces rest)) ≡ voting_only_at level ids initial p (pieces bytes)
+tail_is_third level ids initial p bytes line rest e third =
+    sym (ap (λ b. if b then (third_line_at ids p line >>> λ xs. with_lines_at level ids initial xs (after_line p line) (pieces rest)) else with_lines_at level ids initial [] p (line ∷ pieces rest)) third)
+    ∙ sym (more_tail level ids initial p line (pieces rest) (parts_not_empty 10 rest))
+    ∙ ap (voting_only_at level ids initial p) (sym e)
+
+with_again : (level : Level) (ids : List Id) → AreIds ids → (initial voting_only : List Id) (p : Place) (ls : List Line) → AllByRecursion (FitsLine level ids) ls
+    → p.before + length (with_feeds (map line_text ls)) ≤ most_bytes → p.number + length (map line_text ls) ≤ (most_lines + 1) → AreShort (map line_text ls)
+    → with_lines_at level ids initial voting_only p (map line_text ls ++ [] ∷ []) ≡ Ok (record { nodes = ids; initial = initial; voting_only = voting_only; lines = ls })
+with_again level ids good initial voting_only p ls fits bytes count each =
+    ap (λ r. r >>> λ lines. read {A = Schedule} (record { nodes = ids; initial = initial; voting_only = voting_only; lines = lines }))
+    (lines_again level ids good p [] ls fits bytes (omega (arith, count, length-map_text ls)) each)
+
+tail_again : (level : Level) (ids : List Id) → AreIds ids → (initial : List Id) (p : Place) (voting_only : List Id) (ls : List Line) → AreVotingOnly level ids voting_only → AllByRecursion (FitsLine level ids) ls
+    → p.before + length (with_feeds (tail_lines voting_only ls)) ≤ most_bytes → p.number + length (tail_lines voting_only ls) ≤ (most_lines + 1) → AreShort (tail_lines voting_only ls)
+    → voting_only_at level ids initial p (tail_lines voting_only ls ++ [] ∷ []) ≡ Ok (record { nodes = ids; initial = initial; voting_only = voting_only; lines = ls })
+tail_again level ids good initial p [] [] allowed fits bytes count each = refl
+tail_again level ids good initial p [] (l ∷ ls) allowed fits bytes count each =
+    let rest = map line_text ls ++ [] ∷ [] in
+    more_tail level ids initial p (line_text l) rest (ended (map line_text ls))
+    ∙ ap (λ b. if b then (third_line_at ids p (line_text l) >>> λ xs. with_lines_at level ids initial xs (after_line p (line_text l)) rest) else with_lines_at level ids initial [] p (line_text l ∷ rest)) (not_third level ids good l fits.0)
+    ∙ with_again level ids good initial [] p (l ∷ ls) fits bytes count each
+tail_again Core ids good initial p (x ∷ xs) ls allowed fits bytes count each = absurd cc
+tail_again Node ids good initial p (x ∷ xs) ls allowed fits bytes count each =
+    let name = codes "voting-only" in
+    let text = codes "voting-only " ++ list_text (x ∷ xs) in
+    let rest = map line_text ls ++ [] ∷ [] in
+    let feeds = feeds_length text (map line_text ls) in
+    let some : 0 < length (x ∷ xs) = omega arith in
+    let named : is_third Node text ≡ true = third_named (x ∷ xs) allowed.0 some in
+    let one : third_line_at ids p text ≡ Ok (x ∷ xs) =
+    sized_again p text (header_of_some_at name ids) (x ∷ xs) (record { bytes = omega (arith, feeds, bytes); count = omega (arith, count); long = each.0 }) (some_again name ids (x ∷ xs) refl refl allowed.0 some allowed.1) in
+    more_tail Node ids initial p text rest (ended (map line_text ls))
+    ∙ ap (λ b. if b then (third_line_at ids p text >>> λ ys. with_lines_at Node ids initial ys (after_line p text) rest) else with_lines_at Node ids initial [] p (text ∷ rest)) named
+    ∙ ap (λ r. r >>> λ ys. with_lines_at Node ids initial ys (after_line p text) rest) one
+    ∙ with_again Node ids good initial (x ∷ xs) (after_line p text) ls fits (omega (arith, feeds, bytes)) (omega (arith, count)) each.1
+
+tail_lacks : (level : Level) (ids : List Id) → AreIds ids → (voting_only : List Id) (ls : List Line) → AreVotingOnly level ids voting_only → AllByRecursion (FitsLine level ids) ls → list_all (lacks 10) (tail_lines voting_only ls) ≡ true
+tail_lacks level ids good [] ls allowed fits = lines_lack level ids good ls fits
+tail_lacks Core ids good (x ∷ xs) ls allowed fits = absurd cc
+tail_lacks Node ids good (x ∷ xs) ls allowed fits = and_from _ _ (header_lacks (codes "voting-only") (x ∷ xs) refl allowed.0 (omega arith)) (lines_lack Node ids good ls fits)
+
 -- ---- the whole
 
 spelled_by : (bytes : List ℕ) (lines : List (List ℕ)) → pieces bytes ≡ lines ++ [] ∷ [] → bytes ≡ with_feeds lines
 spelled_by bytes lines e = sym (join_split 10 bytes) ∙ ap (join_with_byte 10) e ∙ join_feeds lines
 
-abbrev pub empty : Schedule
-empty = record { nodes = []; initial = []; lines = [] }
-
-no_lines : (level : Level) (bytes line : List ℕ) (s : Schedule) → pieces bytes ≡ line ∷ [] → end_at first_place line empty ≡ Ok s → Spells level bytes s
+no_lines : (level : Level) (bytes line : List ℕ) (s : Schedule) → pieces bytes ≡ line ∷ [] → end_at first_place line no_schedule ≡ Ok s → Spells level bytes s
 no_lines level bytes [] s e k =
     let none : bytes ≡ [] = spelled_by bytes [] e in
-    let same : empty ≡ s = read_is empty s k in
-    subst (λ (t : Schedule). Spells level bytes t) same (subst (λ (b : List ℕ). Spells level b empty) (sym none) Nothing)
+    let same : no_schedule ≡ s = read_is no_schedule s k in
+    subst (λ (t : Schedule). Spells level bytes t) same (subst (λ (b : List ℕ). Spells level b no_schedule) (sym none) Nothing)
 no_lines level bytes (b ∷ bs) s e k = absurd cc
 
 sizes_join : (a b : List ℕ) (ts : List (List ℕ)) (x y : ℕ) → length a ≡ x → length b ≡ y → 0 + x + 1 + y + 1 + length (with_feeds ts) ≤ most_bytes → length (with_feeds (a ∷ b ∷ ts)) ≤ most_bytes
@@ -253,57 +447,51 @@ record RestTaken (level : Level) (ids : List Id) (p : Place) (parts : List (List
   sized : IsSized p line
   rest : List (List ℕ)
   parts_are : parts ≡ line ∷ rest
-  lines : LinesTaken level ids (after_line p line) [] rest s.lines
+  tail : TailTaken level ids (after_line p line) rest s.voting_only s.lines
 
 rest_takes : (level : Level) (ids : List Id) → AreIds ids → (p : Place) (parts : List (List ℕ)) (s : Schedule) → list_all (lacks 10) parts ≡ true → initial_at level ids p parts ≡ Ok s → RestTaken level ids p parts s
 rest_takes level ids good p [] s k e = absurd cc
 rest_takes level ids good p ([] ∷ []) s k e = absurd cc
 rest_takes level ids good p ((b ∷ bs) ∷ []) s k e = absurd cc
 rest_takes level ids good p (line ∷ next ∷ more) s k e =
-    let last = λ (initial : List Id) (lines : List Line). read {A = Schedule} (record { nodes = ids; initial = initial; lines = lines }) in
-    let go = λ (initial : List Id). lines_at level ids (after_line p line) [] (next ∷ more) >>> last initial in
+    let go = λ (initial : List Id). voting_only_at level ids initial (after_line p line) (next ∷ more) in
     let first = then_ok (second_line_at ids p line) go s e in
-    let second = then_ok (lines_at level ids (after_line p line) [] (next ∷ more)) (last first.0) s first.2 in
-    let sized = sized_takes p line (initial_line_at ids) first.0 first.1 in
-    let header = initial_takes ids line first.0 sized.1 in
-    let made : Schedule = record { nodes = ids; initial = first.0; lines = second.0 } in
-    let taken : RestTaken level ids p (line ∷ next ∷ more) made = record {
+    let sized = sized_takes p line (header_of_some_at (codes "initial") ids) first.0 first.1 in
+    let header = some_takes (codes "initial") ids line first.0 sized.1 in
+    let after = tail_takes level ids good first.0 (after_line p line) (next ∷ more) s (λ h. absurd cc) (and_parts (lacks 10 line) _ k).1 first.2 in
+    record {
       line = line;
-      nodes = refl;
-      initial = header.0;
-      among = header.1;
+      nodes = after.nodes;
+      initial = subst (λ (xs : List Id). IsHeader (codes "initial") line xs) (sym after.initial) header.0;
+      among = subst (λ (xs : List Id). are_among ids xs ≡ true) (sym after.initial) header.1;
       sized = sized.0;
       rest = next ∷ more;
       parts_are = refl;
-      lines = lines_take level ids good (after_line p line) [] (next ∷ more) second.0 (λ h. absurd cc) (and_parts (lacks 10 line) _ k).1 second.1;
-    } in
-    subst (λ (t : Schedule). RestTaken level ids p (line ∷ next ∷ more) t) (read_is made s second.2) taken
+      tail = after.tail;
+    }
 
 text_taken : (level : Level) (bytes line : List ℕ) (parts : List (List ℕ)) (s : Schedule) → pieces bytes ≡ line ∷ parts → IsHeader (codes "nodes") line s.nodes → IsSized first_place line → RestTaken level s.nodes (after_line first_place line) parts s → Spells level bytes s
 text_taken level bytes line parts s e header sized rest =
-    let new = rest.lines.new in
-    let lines_are : s.lines ≡ new = rest.lines.whole in
+    let tail = tail_lines s.voting_only s.lines in
     let text : pieces bytes ≡ text_lines s ++ [] ∷ [] =
-    e ∙ ap (λ t. line ∷ t) (rest.parts_are ∙ ap (λ t. rest.line ∷ t) rest.lines.spelled)
-    ∙ ap (λ t. t ∷ rest.line ∷ (map line_text new ++ [] ∷ [])) header.spelled
-    ∙ ap (λ t. (codes "nodes " ++ list_text s.nodes) ∷ t ∷ (map line_text new ++ [] ∷ [])) rest.initial.spelled
-    ∙ ap (λ (t : List Line). (codes "nodes " ++ list_text s.nodes) ∷ (codes "initial " ++ list_text s.initial) ∷ (map line_text t ++ [] ∷ [])) (sym lines_are) in
+    e ∙ ap (λ t. line ∷ t) (rest.parts_are ∙ ap (λ t. rest.line ∷ t) rest.tail.spelled)
+    ∙ ap (λ t. t ∷ rest.line ∷ (tail ++ [] ∷ [])) header.spelled
+    ∙ ap (λ t. (codes "nodes " ++ list_text s.nodes) ∷ t ∷ (tail ++ [] ∷ [])) rest.initial.spelled in
     let first_long : length (codes "nodes " ++ list_text s.nodes) ≡ length line = ap length (sym header.spelled) in
     let second_long : length (codes "initial " ++ list_text s.initial) ≡ length rest.line = ap length (sym rest.initial.spelled) in
-    let texts_are : map line_text s.lines ≡ map line_text new = ap (map line_text) lines_are in
     let is : IsSchedule level s = record {
       nodes = header.ids;
       some_node = header.some;
       initial = rest.initial.ids;
       some_initial = rest.initial.some;
       listed = rest.among;
-      lines = subst (λ (t : List Line). AllByRecursion (FitsLine level s.nodes) t) (sym lines_are) rest.lines.fits;
+      voting_only = rest.tail.allowed;
+      lines = rest.tail.fits;
     } in
     let within : IsWithin (text_lines s) = record {
-      bytes = sizes_join (codes "nodes " ++ list_text s.nodes) (codes "initial " ++ list_text s.initial) (map line_text s.lines) (length line) (length rest.line) first_long second_long
-          (subst (λ (ts : List (List ℕ)). 0 + length line + 1 + length rest.line + 1 + length (with_feeds ts) ≤ most_bytes) (sym texts_are) (rest.lines.bytes rest.sized.bytes));
-      count = omega (arith, rest.lines.count (omega arith), length-map_text s.lines, ap (λ (t : List Line). length t) lines_are);
-      each = (omega (arith, first_long, sized.long), (omega (arith, second_long, rest.sized.long), subst (λ (t : List (List ℕ)). AllByRecursion (λ (l : List ℕ). length l ≤ most_line_bytes) t) (sym texts_are) rest.lines.each));
+      bytes = sizes_join (codes "nodes " ++ list_text s.nodes) (codes "initial " ++ list_text s.initial) tail (length line) (length rest.line) first_long second_long (rest.tail.bytes rest.sized.bytes);
+      count = omega (arith, rest.tail.count (omega arith));
+      each = (omega (arith, first_long, sized.long), (omega (arith, second_long, rest.sized.long), rest.tail.each));
     } in
     subst (λ (b : List ℕ). Spells level b s) (sym (spelled_by bytes (text_lines s) text)) (Text s is within)
 
@@ -323,7 +511,7 @@ nodes_take level bytes (line ∷ next ∷ more) s e k =
 pub schedule_takes : (level : Level) (bytes : List ℕ) (s : Schedule) → schedule_at level bytes ≡ Ok s → Spells level bytes s
 schedule_takes level bytes s e = nodes_take level bytes (pieces bytes) s refl e
 
-pub more_initial : (level : Level) (ids : List Id) (p : Place) (line : List ℕ) (rest : List (List ℕ)) → rest ≢ [] → initial_at level ids p (line ∷ rest) ≡ (second_line_at ids p line >>> λ initial. lines_at level ids (after_line p line) [] rest >>> λ lines. read {A = Schedule} (record { nodes = ids; initial = initial; lines = lines }))
+pub more_initial : (level : Level) (ids : List Id) (p : Place) (line : List ℕ) (rest : List (List ℕ)) → rest ≢ [] → initial_at level ids p (line ∷ rest) ≡ (second_line_at ids p line >>> λ initial. voting_only_at level ids initial (after_line p line) rest)
 more_initial level ids p line [] h = absurd (h refl)
 more_initial level ids p line (next ∷ more) h = refl
 
@@ -332,20 +520,19 @@ text_again level s is within =
     let good = are_ids s.nodes is.nodes in
     let first = codes "nodes " ++ list_text s.nodes in
     let second = codes "initial " ++ list_text s.initial in
-    let texts = map line_text s.lines in
+    let tail = tail_lines s.voting_only s.lines in
     let lack : list_all (lacks 10) (text_lines s) ≡ true =
-    and_from _ _ (header_lacks (codes "nodes") s.nodes refl is.nodes is.some_node) (and_from _ _ (header_lacks (codes "initial") s.initial refl is.initial is.some_initial) (lines_lack level s.nodes good s.lines is.lines)) in
-    let sizes = sizes_part first second texts within.bytes in
-    let count = length-map_text s.lines in
+    and_from _ _ (header_lacks (codes "nodes") s.nodes refl is.nodes is.some_node) (and_from _ _ (header_lacks (codes "initial") s.initial refl is.initial is.some_initial) (tail_lacks level s.nodes good s.voting_only s.lines is.voting_only is.lines)) in
+    let sizes = sizes_part first second tail within.bytes in
     let p = after_line first_place first in
     let one : first_line_at first_place first ≡ Ok s.nodes = sized_again first_place first (header_at (codes "nodes")) s.nodes (record { bytes = sizes.first; count = omega arith; long = within.each.0 }) (header_again (codes "nodes") s.nodes refl refl is.nodes is.some_node) in
-    let two : second_line_at s.nodes p second ≡ Ok s.initial = sized_again p second (initial_line_at s.nodes) s.initial (record { bytes = sizes.second; count = omega arith; long = within.each.1.0 }) (initial_again s.nodes s.initial is.initial is.some_initial is.listed) in
-    let three = lines_again level s.nodes good (after_line p second) [] s.lines is.lines sizes.rest (omega (arith, within.count, count)) within.each.1.1 in
+    let two : second_line_at s.nodes p second ≡ Ok s.initial = sized_again p second (header_of_some_at (codes "initial") s.nodes) s.initial (record { bytes = sizes.second; count = omega arith; long = within.each.1.0 }) (some_again (codes "initial") s.nodes s.initial refl refl is.initial is.some_initial is.listed) in
+    let three = tail_again level s.nodes good s.initial (after_line p second) s.voting_only s.lines is.voting_only is.lines sizes.rest (omega (arith, within.count)) within.each.1.1 in
     ap (nodes_at level first_place) (feeds_split (text_lines s) lack)
-    ∙ ap (λ r. r >>> λ ids. initial_at level ids p (second ∷ (texts ++ [] ∷ []))) one
-    ∙ more_initial level s.nodes p second (texts ++ [] ∷ []) (ended texts)
-    ∙ ap (λ r. r >>> λ initial. lines_at level s.nodes (after_line p second) [] (texts ++ [] ∷ []) >>> λ lines. read {A = Schedule} (record { nodes = s.nodes; initial = initial; lines = lines })) two
-    ∙ ap (λ r. r >>> λ lines. read {A = Schedule} (record { nodes = s.nodes; initial = s.initial; lines = lines })) three
+    ∙ ap (λ r. r >>> λ ids. initial_at level ids p (second ∷ (tail ++ [] ∷ []))) one
+    ∙ more_initial level s.nodes p second (tail ++ [] ∷ []) (ended tail)
+    ∙ ap (λ r. r >>> λ initial. voting_only_at level s.nodes initial (after_line p second) (tail ++ [] ∷ [])) two
+    ∙ three
 
 pub schedule_again : (level : Level) (bytes : List ℕ) (s : Schedule) → Spells level bytes s → schedule_at level bytes ≡ Ok s
 schedule_again level _ _ Nothing = refl

@@ -1,9 +1,11 @@
 -- What stands in a text after several writes.
-use Rattle.std.proofs.Common.{◌≡◌, Result, OnOk, subst, List, [], ◌∷◌, ◌++◌, ◌<◌, ◌≤◌, ◌-◌, suc, length, take, drop, get_or, refl, sym, ap, ◌∙◌, ℕ, arith, append_assoc}
+use Rattle.std.proofs.Common.{◌≡◌, false, Result, OnOk, subst, List, [], ◌∷◌, ◌++◌, ◌<◌, ◌≤◌, ◌-◌, suc, length, take, drop, get_or, refl, sym, ap, ◌∙◌, ℕ, arith, append_assoc}
 use Rattle.std.specs.List.{flat_map}
 use Rattle.std.proofs.lemmas.List.{append-nil, drop_all, take_all}
 use Rattle.voting_config.specs.Ids.{Id}
+use Rattle.std.specs.Prelude.{codes, ◌==◌}
 use Rattle.voting_config.specs.Lists.{list_text}
+use Rattle.schedule_text.specs.Spelled.{voting_only_lines, with_feeds}
 
 abbrev pub comma_text : List Id → List ℕ
 comma_text ids = flat_map (λ (i : Id). 44 ∷ i) ids
@@ -30,3 +32,13 @@ three_written r old first second new a b c e f g =
     let same : second ++ c ≡ old ++ (a ++ (b ++ c)) =
     ap (λ (t : List ℕ). t ++ c) (f ∙ ap (λ (t : List ℕ). t ++ b) e) ∙ append_assoc (old ++ a) b c ∙ append_assoc old a (b ++ c) in
     subst (λ (t : List ℕ). OnOk r (new ≡ t)) same g
+
+-- the third header line, with its line feed
+pub voting_only_written : {A E : Type 0} (r : Result A E) (ids : List Id) (old first second new : List ℕ) → (length ids == 0) ≡ false → first ≡ old ++ codes "voting-only " → second ≡ first ++ list_text ids → OnOk r (new ≡ second ++ codes "\n")
+    → OnOk r (new ≡ old ++ with_feeds (voting_only_lines ids))
+voting_only_written r [] old first second new some e f g = absurd (cc)
+voting_only_written r (x ∷ xs) old first second new some e f g =
+    let text = list_text (x ∷ xs) in
+    let same : codes "voting-only " ++ (text ++ codes "\n") ≡ with_feeds (voting_only_lines (x ∷ xs)) =
+    sym (append_assoc (codes "voting-only ") text (codes "\n")) ∙ sym (append-nil ((codes "voting-only " ++ text) ++ codes "\n")) in
+    subst (λ (t : List ℕ). OnOk r (new ≡ old ++ t)) same (three_written r old first second new (codes "voting-only ") text (codes "\n") e f g)

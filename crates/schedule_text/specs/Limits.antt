@@ -5,7 +5,7 @@ use Rattle.std.specs.Prelude.{ℕ}
 abbrev pub most_bytes : ℕ
 most_bytes = 16777216
 
--- its lines, the two of the header counted
+-- its lines, those of the header counted
 abbrev pub most_lines : ℕ
 most_lines = 1000000
 

@@ -1,11 +1,12 @@
 -- Part of the statement: what bytes are read as: the schedule, or the first bad line and why it is bad.
-use Rattle.std.specs.Prelude.{ℕ, ◌+◌, Option, None, Some, Result, Ok, Err, List, [], ◌∷◌, ◌++◌, length, codes, nat_lt, if◌then◌else◌}
+use Rattle.std.specs.Prelude.{ℕ, ◌+◌, Bool, false, Option, None, Some, Result, Ok, Err, List, [], ◌∷◌, ◌++◌, length, codes, nat_lt, if◌then◌else◌}
 use Rattle.std.specs.Str.{bytes_eq}
 use Rattle.voting_config.specs.Ids.{Id, are_among}
 use Rattle.schedule_text.specs.declared.fault.WhyBad.{WhyBad}
 use Rattle.schedule_text.specs.declared.fault.WhyBad.TheVariants as why
 use Rattle.schedule_text.specs.declared.fault.BadSchedule.{BadSchedule}
 use Rattle.schedule_text.specs.declared.level.Level.{Level}
+use Rattle.schedule_text.specs.declared.level.Level.TheVariants.{Core, Node}
 use Rattle.schedule_text.specs.declared.place.Place.{Place}
 use Rattle.schedule_text.specs.declared.schedule.Line.{Line}
 use Rattle.schedule_text.specs.declared.schedule.Schedule.{Schedule}
@@ -61,18 +62,33 @@ header_words name (v ∷ ws) = if bytes_eq v name then as_header (one_word ws >>
 abbrev pub header_at : List ℕ → List ℕ → Result (List Id) WhyBad
 header_at name line = header_words name (words_of line)
 
--- the second one, whose ids are among those of the first
-abbrev pub initial_line_at : List Id → List ℕ → Result (List Id) WhyBad
-initial_line_at ids line = header_at (codes "initial") line >>= λ xs. if are_among ids xs then Ok xs else Err why.Header
+-- one of some of these ids
+abbrev pub header_of_some_at : List ℕ → List Id → List ℕ → Result (List Id) WhyBad
+header_of_some_at name ids line = header_at name line >>= λ xs. if are_among ids xs then Ok xs else Err why.Header
+
+-- the line is to be the third of the header, at level node alone: it begins with the name of that one
+abbrev pub names_third : List (List ℕ) → Bool
+names_third [] = false
+names_third (v ∷ ws) = bytes_eq v (codes "voting-only")
+
+abbrev pub is_third : Level → List ℕ → Bool
+is_third Core line = false
+is_third Node line = names_third (words_of line)
 
 -- ---- the lines
 
--- the first header line, and the second
+-- the first header line, and the second and third, whose ids are among those of the first
 abbrev pub first_line_at : Place → List ℕ → Result (List Id) BadSchedule
 first_line_at p line = in_line p (sized_at p line >>= header_at (codes "nodes"))
 
+abbrev pub later_header_at : List ℕ → List Id → Place → List ℕ → Result (List Id) BadSchedule
+later_header_at name ids p line = in_line p (sized_at p line >>= header_of_some_at name ids)
+
 abbrev pub second_line_at : List Id → Place → List ℕ → Result (List Id) BadSchedule
-second_line_at ids p line = in_line p (sized_at p line >>= initial_line_at ids)
+second_line_at ids p line = later_header_at (codes "initial") ids p line
+
+abbrev pub third_line_at : List Id → Place → List ℕ → Result (List Id) BadSchedule
+third_line_at ids p line = later_header_at (codes "voting-only") ids p line
 
 -- one line that has its line feed
 abbrev pub one_line_at : Level → List Id → Place → List ℕ → Result Line BadSchedule
@@ -97,18 +113,36 @@ abbrev pub no_initial : {A : Type 0} → Place → List ℕ → Result A BadSche
 no_initial p [] = Err (record { line = p.number; why = why.Header })
 no_initial p (b ∷ bs) = Err (record { line = p.number; why = why_cut p (b ∷ bs) })
 
--- the second header line, which must be there, and the lines
+-- the lines after a header
+abbrev pub with_lines_at : Level → (nodes initial voting_only : List Id) → Place → List (List ℕ) → Result Schedule BadSchedule
+with_lines_at level nodes initial voting_only p parts =
+    lines_at level nodes p [] parts >>> λ lines.
+    Ok (record { nodes = nodes; initial = initial; voting_only = voting_only; lines = lines })
+
+-- the third header line, where it is there, and the lines
+abbrev pub voting_only_at : Level → (nodes initial : List Id) → Place → List (List ℕ) → Result Schedule BadSchedule
+voting_only_at level nodes initial p [] = with_lines_at level nodes initial [] p []
+voting_only_at level nodes initial p (line ∷ []) = with_lines_at level nodes initial [] p (line ∷ [])
+voting_only_at level nodes initial p (line ∷ next ∷ more) =
+    if is_third level line
+    then (third_line_at nodes p line >>> λ voting_only. with_lines_at level nodes initial voting_only (after_line p line) (next ∷ more))
+    else with_lines_at level nodes initial [] p (line ∷ next ∷ more)
+
+-- the second header line, which must be there, and what follows it
 abbrev pub initial_at : Level → List Id → Place → List (List ℕ) → Result Schedule BadSchedule
 initial_at level ids p [] = Err (record { line = p.number; why = why.Header })
 initial_at level ids p (line ∷ []) = no_initial p line
 initial_at level ids p (line ∷ next ∷ more) =
     second_line_at ids p line >>> λ initial.
-    lines_at level ids (after_line p line) [] (next ∷ more) >>> λ lines.
-    Ok (record { nodes = ids; initial = initial; lines = lines })
+    voting_only_at level ids initial (after_line p line) (next ∷ more)
+
+-- the schedule of no bytes
+abbrev pub no_schedule : Schedule
+no_schedule = record { nodes = []; initial = []; voting_only = []; lines = [] }
 
 abbrev pub nodes_at : Level → Place → List (List ℕ) → Result Schedule BadSchedule
-nodes_at level p [] = Ok (record { nodes = []; initial = []; lines = [] })
-nodes_at level p (line ∷ []) = end_at p line (record { nodes = []; initial = []; lines = [] })
+nodes_at level p [] = Ok no_schedule
+nodes_at level p (line ∷ []) = end_at p line no_schedule
 nodes_at level p (line ∷ next ∷ more) =
     first_line_at p line >>> λ ids.
     initial_at level ids (after_line p line) (next ∷ more)

@@ -8,7 +8,7 @@ use crate::fault::{BadSchedule, WhyBad};
 /// How many bytes a schedule has at most.
 pub const MAX_BYTES: usize = 16777216;
 
-/// How many lines a schedule has at most, the two of the header counted.
+/// How many lines a schedule has at most, those of the header counted.
 pub const MAX_LINES: usize = 1000000;
 
 /// How many bytes a line has at most, its line feed not counted.

@@ -1,8 +1,8 @@
 //! A text read as a schedule, or refused by its first bad line.
-ghost use Rattle.std.specs.Prelude.{◌≡◌, ◌+◌, ◌<◌, ◌≤◌, ◌^◌, length, OnOk, IfOk, Result, []};
+ghost use Rattle.std.specs.Prelude.{◌≡◌, ◌+◌, ◌<◌, ◌≤◌, ◌^◌, length, codes, OnOk, IfOk, Result, []};
 ghost use Rattle.schedule_text.specs.Limits.{most_lines};
 ghost use Rattle.voting_config.specs.Lists.{parts_of, line_feed};
-ghost use Rattle.schedule_text.specs.Reading.{header_at, initial_line_at, one_line_at, first_line_at, second_line_at, lines_at, initial_at, schedule_at, fault_of, end_at, no_initial};
+ghost use Rattle.schedule_text.specs.Reading.{header_at, header_of_some_at, is_third as is_third_of, one_line_at, first_line_at, later_header_at, lines_at, with_lines_at, voting_only_at, initial_at, schedule_at, fault_of, end_at, no_initial};
 ghost use Rattle.schedule_text.specs.Answers.{Adds, Answers, Faulted};
 ghost use Rattle.schedule_text.specs.Spelled.{Spells};
 ghost use Rattle.schedule_text.specs.declared.schedule.Schedule.{Schedule};
@@ -35,14 +35,25 @@ fn header(name: &[u8], line: &[u8]) -> Result<NodeSet, WhyBad>
     Ok(ids)
 }
 
-fn initial_line(ids: &NodeSet, line: &[u8]) -> Result<NodeSet, WhyBad>
-    ensures { result ≡ initial_line_at ids.now line.now }
+// A header line of some of these ids.
+fn header_of_some(name: &[u8], ids: &NodeSet, line: &[u8]) -> Result<NodeSet, WhyBad>
+    ensures { result ≡ header_of_some_at name.now ids.now line.now }
 {
-    let initial = header(b"initial", line)?;
-    if !ids.has_all(&initial) {
+    let some = header(name, line)?;
+    if !ids.has_all(&some) {
         return Err(WhyBad::Header);
     }
-    Ok(initial)
+    Ok(some)
+}
+
+// Whether the line is to be the third one of the header.
+fn is_third(level: Level, line: &[u8]) -> bool
+    ensures { result ≡ is_third_of level line.now }
+{
+    match level {
+        Level::Core => false,
+        Level::Node => cut(line, b' ').0 == b"voting-only".as_slice(),
+    }
 }
 
 fn first_line(place: Place, line: &[u8]) -> Result<NodeSet, BadSchedule>
@@ -58,14 +69,20 @@ fn first_line(place: Place, line: &[u8]) -> Result<NodeSet, BadSchedule>
     }
 }
 
-fn second_line(ids: &NodeSet, place: Place, line: &[u8]) -> Result<NodeSet, BadSchedule>
+// The second header line, or the third.
+fn later_header(
+    name: &[u8],
+    ids: &NodeSet,
+    place: Place,
+    line: &[u8],
+) -> Result<NodeSet, BadSchedule>
     requires { place.before + length line.now + 1 < 2 ^ 64 }
-    ensures { result ≡ second_line_at ids.now place line.now }
+    ensures { result ≡ later_header_at name.now ids.now place line.now }
 {
     if let Err(why) = place.check_size(line) {
         return Err(place.bad(why));
     }
-    match initial_line(ids, line) {
+    match header_of_some(name, ids, line) {
         Ok(ids) => Ok(ids),
         Err(why) => Err(place.bad(why)),
     }
@@ -134,6 +151,67 @@ fn read_lines(
     Ok(Lines::of(lines))
 }
 
+// The lines after the header.
+fn read_with(
+    alloc: Global,
+    level: Level,
+    nodes: NodeSet,
+    initial: NodeSet,
+    voting_only: NodeSet,
+    place: Place,
+    bytes: &[u8],
+) -> Result<Schedule, ReadError<BadSchedule>>
+    requires bytes { place.before + length bytes.now < 2 ^ 64 }
+    ensures { Answers result (with_lines_at level nodes initial voting_only place (parts_of line_feed bytes.now)) }
+{
+    let lines = match read_lines(alloc, level, &nodes, place, bytes) {
+        Ok(lines) => lines,
+        Err(fault) => return Err(fault),
+    };
+    Ok(Schedule {
+        nodes,
+        initial,
+        voting_only,
+        lines,
+    })
+}
+
+// The third header line, where it is there, and the lines.
+#[tactic(auto, using(crate::proofs::Splitting::lines_are))]
+fn read_voting_only(
+    alloc: Global,
+    level: Level,
+    nodes: NodeSet,
+    initial: NodeSet,
+    place: Place,
+    bytes: &[u8],
+) -> Result<Schedule, ReadError<BadSchedule>>
+    requires bytes { place.before + length bytes.now < 2 ^ 64 }
+    requires number { place.number ≤ most_lines }
+    ensures { Answers result (voting_only_at level nodes initial place (parts_of line_feed bytes.now)) }
+{
+    let (line, rest) = cut_line(bytes);
+    let Some(rest) = rest else {
+        return read_with(alloc, level, nodes, initial, NodeSet::new(), place, bytes);
+    };
+    if !is_third(level, line) {
+        return read_with(alloc, level, nodes, initial, NodeSet::new(), place, bytes);
+    }
+    let voting_only = match later_header(b"voting-only", &nodes, place, line) {
+        Ok(voting_only) => voting_only,
+        Err(bad) => return Err(ReadError::Bad(bad)),
+    };
+    read_with(
+        alloc,
+        level,
+        nodes,
+        initial,
+        voting_only,
+        place.after(line),
+        rest,
+    )
+}
+
 // The lines after the header's first one.
 #[tactic(auto, using(crate::proofs::Splitting::lines_are))]
 fn read_rest(
@@ -144,26 +222,22 @@ fn read_rest(
     bytes: &[u8],
 ) -> Result<Schedule, ReadError<BadSchedule>>
     requires bytes { place.before + length bytes.now < 2 ^ 64 }
-    requires number { place.number ≤ most_lines }
+    requires number { place.number < most_lines }
     ensures { Answers result (initial_at level nodes place (parts_of line_feed bytes.now)) }
 {
     let (line, rest) = cut_line(bytes);
     let Some(rest) = rest else {
         return Err(ReadError::Bad(no_second(place, line)));
     };
-    let initial = match second_line(&nodes, place, line) {
+    let initial = match later_header(b"initial", &nodes, place, line) {
         Ok(initial) => initial,
         Err(bad) => return Err(ReadError::Bad(bad)),
     };
-    let lines = match read_lines(alloc, level, &nodes, place.after(line), rest) {
-        Ok(lines) => lines,
-        Err(fault) => return Err(fault),
-    };
-    Ok(Schedule {
-        nodes,
-        initial,
-        lines,
-    })
+    // The match changes nothing: the proof goes by its two cases.
+    match read_voting_only(alloc, level, nodes, initial, place.after(line), rest) {
+        Ok(schedule) => Ok(schedule),
+        Err(fault) => Err(fault),
+    }
 }
 
 fn no_second(place: Place, line: &[u8]) -> BadSchedule
@@ -190,6 +264,7 @@ fn read_exact(alloc: Global, level: Level, bytes: &[u8]) -> Result<Schedule, Rea
         return Ok(Schedule {
             nodes: NodeSet::new(),
             initial: NodeSet::new(),
+            voting_only: NodeSet::new(),
             lines: Lines::of(Vec::new(alloc)),
         });
     };

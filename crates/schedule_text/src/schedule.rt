@@ -74,5 +74,7 @@ pub struct Schedule {
     pub nodes: NodeSet,
     /// The nodes of the initial configuration.
     pub initial: NodeSet,
+    /// The nodes that vote and never lead, at level node; none at level core.
+    pub voting_only: NodeSet,
     pub lines: Lines,
 }

@@ -1,4 +1,5 @@
 //! States with their bytes and their JSON, and which settings and values a state may have.
+use cluster_state::checking::check_state;
 use cluster_state::decoding::decode_state;
 use cluster_state::encoding::encode_state;
 use cluster_state::fault::StateFault::{Field, Trailing};
@@ -9,6 +10,7 @@ use cluster_state::settings::Settings;
 use cluster_state::shared::{SharedConfig, SharedState, SharedValue};
 use cluster_state::state::{ClusterState, ClusterValue, Kept, StateId};
 use cluster_state::text::Text;
+use cluster_state::view::StateView;
 use std::alloc::{AllocError, Global};
 use std::test::*;
 use voting_config::{NodeSet, VotingConfig};
@@ -37,6 +39,15 @@ const FULL_STATE: [u8; 50] = [
 const FULL_JSON: &str =
     "{\"committed\":[\"b\"],\"config\":[\"a\"],\"parent\":{\"term\":1,\"version\":4},\"term\":2,\"value\":{\"exclusions\":[\"d\"],\"master\":\"a\",\"members\":[\"c\"],\"settings\":{}},\"version\":3}";
 
+// Whether the bytes are found to be those of a state of this id, and one of this id is made of them.
+fn is_seen(alloc: Global, bytes: &[u8], id: StateId) -> Result<bool, AllocError> {
+    let Ok(view) = StateView::of(bytes) else {
+        return Ok(false);
+    };
+    let made = view.decode(alloc)?;
+    Ok(check_state(bytes) == Ok(id) && view.bytes() == bytes && made.id() == id)
+}
+
 // Whether the bytes are those of a state, which has this JSON and whose copy has these bytes.
 fn is_state(alloc: Global, bytes: &[u8], json: &str) -> Result<bool, AllocError> {
     let Ok(state) = decode_state(alloc, bytes) else {
@@ -45,7 +56,8 @@ fn is_state(alloc: Global, bytes: &[u8], json: &str) -> Result<bool, AllocError>
     let copy = state.copy()?;
     let again = encode_state(alloc, &copy)?;
     let text = to_json(alloc, &state)?;
-    Ok(again.as_slice() == bytes && text.as_slice() == json.as_bytes())
+    let is_seen = is_seen(alloc, bytes, state.id())?;
+    Ok(is_seen && again.as_slice() == bytes && text.as_slice() == json.as_bytes())
 }
 
 const STATES: [(&[u8], &str); 3] = [
@@ -62,9 +74,10 @@ fn a_state_has_these_bytes_and_this_json(rt: HostRuntime) -> Result<(), Fail> {
     Ok(())
 }
 
+// The fault that stands first, where a state is made of the bytes and where they are only looked at.
 fn fault_of(alloc: Global, bytes: &[u8]) -> Option<StateFault> {
     match decode_state(alloc, bytes) {
-        Err(DecodeError::Fault(fault)) => Some(fault),
+        Err(DecodeError::Fault(fault)) if check_state(bytes) == Err(fault) => Some(fault),
         _ => None,
     }
 }

@@ -8,4 +8,5 @@ pub mod Assembly
 pub mod Orders
 pub mod Restarting
 pub mod RunsKept
+pub mod VotingOnly
 mod Examples

@@ -4,3 +4,4 @@ pub mod Systems
 pub mod Laws
 pub mod Moments
 pub mod Restarts
+pub mod VotingOnly

@@ -12,6 +12,7 @@ ghost use Rattle.system_laws.specs.Laws.{
   LawLivesAssemble,
   LawSystemIsSafe,
 };
+ghost use Rattle.system_laws.specs.VotingOnly.{LawVotingOnlyNeverLeads, LawVotingOnlyNeverWins};
 ghost use Rattle.system_laws.specs.Restarts.{LawFaultIsSettled, LawKillLeaves, LawLastRunIsKept};
 
 /// What a node sends at an event is from the node itself, and the message of an act in it was sent by an act of this
@@ -51,6 +52,16 @@ pub fn law_system_is_safe()
 /// was sent.
 pub fn law_any_order()
     ensures { LawAnyOrder }
+{}
+
+/// A node that lists itself as voting-only counts no join in all its life, so it wins no election.
+pub fn law_voting_only_never_leads()
+    ensures { LawVotingOnlyNeverLeads }
+{}
+
+/// So no winner of a system is a node each of whose runs lists it so, whatever the lists of the other nodes name.
+pub fn law_voting_only_never_wins()
+    ensures { LawVotingOnlyNeverWins }
 {}
 
 /// What a node keeps of all its runs is what it keeps of the last one. So a run begins with what the run before it left.

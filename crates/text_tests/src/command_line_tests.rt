@@ -37,8 +37,9 @@ fn node_text(alloc: Global, node: &NodeWords) -> Result<String, AllocError> {
     let link = node.link.settings();
     let peers = peer_list(alloc, &link.peers)?;
     let initial = id_list(alloc, node.initial.as_slice())?;
+    let voting_only = id_list(alloc, node.voting_only.as_slice())?;
     format!(in alloc;
-        "node {} at {} in {}, peers{peers}, initial{initial}, turns {}, shrink {}",
+        "node {} at {} in {}, peers{peers}, initial{initial}, voting-only{voting_only}, turns {}, shrink {}",
         link.me,
         link.listen,
         node.dir.as_str(),
@@ -93,7 +94,7 @@ fn told(alloc: Global, line: &str) -> Result<String, Fail> {
     }
 }
 
-const COMMANDS: [(&str, &str); 19] = [
+const COMMANDS: &[(&str, &str)] = &[
     ("replay --level core", "replay core"),
     ("replay --level=node", "replay node"),
     ("inspect --dir a/b", "inspect a/b"),
@@ -101,15 +102,23 @@ const COMMANDS: [(&str, &str); 19] = [
     ("inspect --dir inspect", "inspect inspect"),
     (
         "node --id a --dir d --listen h:1 --peers b=h:2,c=h:3 --initial a,b --turns 5",
-        "node a at h:1 in d, peers b=h:2 c=h:3, initial a b, turns 5, shrink true",
+        "node a at h:1 in d, peers b=h:2 c=h:3, initial a b, voting-only, turns 5, shrink true",
     ),
     (
         "node --no-shrink --turns=0 --initial=_ --peers=_ --listen=h --dir=d/e --id=a-1",
-        "node a-1 at h in d/e, peers, initial, turns 0, shrink false",
+        "node a-1 at h in d/e, peers, initial, voting-only, turns 0, shrink false",
     ),
     (
         "node --initial c,a,b --id 0 --turns 18446744073709551615 --dir _ --peers c=-,b=x=y --listen _",
-        "node 0 at _ in _, peers c=- b=x=y, initial a b c, turns 18446744073709551615, shrink true",
+        "node 0 at _ in _, peers c=- b=x=y, initial a b c, voting-only, turns 18446744073709551615, shrink true",
+    ),
+    (
+        "node --voting-only v,c --id c --turns 5 --dir d --peers _ --initial c --listen h",
+        "node c at h in d, peers, initial c, voting-only c v, turns 5, shrink true",
+    ),
+    (
+        "node --id c --turns 5 --dir d --voting-only=_ --peers _ --initial c --listen h",
+        "node c at h in d, peers, initial c, voting-only, turns 5, shrink true",
     ),
     ("generate --number 7 --steps 0", "generate 7 of 0"),
     (
@@ -133,12 +142,18 @@ const COMMANDS: [(&str, &str); 19] = [
     ("audit", "audit"),
 ];
 
-#[test]
-fn words_are_the_command_that_they_say(rt: HostRuntime) -> Result<(), Fail> {
-    for (line, command) in COMMANDS {
-        assert!(rt; told(rt.alloc(), line)?.as_str() == command, "{line}");
+fn read_each(alloc: Global, rows: &[(&'static str, &'static str)]) -> Result<(), Fail> {
+    for (line, command) in rows {
+        if told(alloc, line)?.as_str() != *command {
+            return Err(Fail::new(format_args!("{line}")));
+        }
     }
     Ok(())
+}
+
+#[test]
+fn words_are_the_command_that_they_say(rt: HostRuntime) -> Result<(), Fail> {
+    read_each(rt.alloc(), COMMANDS)
 }
 
 fn refuse_each(alloc: Global, lines: &[&str]) -> Result<(), Fail> {
@@ -221,6 +236,8 @@ const NODES: &[&str] = &[
     "node --id a --dir d --listen h --peers _ --initial _",
     "node --id a --dir d --listen h --peers _ --initial _ --turns 5 --turns 5",
     "node --id a --dir d --listen h --peers _ --initial _ --turns 5 --no-shrink --no-shrink",
+    "node --id a --dir d --listen h --peers _ --initial _ --turns 5 --voting-only a --voting-only a",
+    "node --id a --dir d --listen h --peers _ --initial _ --turns 5 --voting-only",
     "node --id a --dir d --listen h --peers _ --initial _ --turns 5 --no-shrink=true",
     "node --id a --dir d --listen h --peers _ --initial _ --turns 5 --level core",
     "node --id a --dir d --listen h --peers _ --initial _ --turns 5 --",
@@ -253,6 +270,10 @@ const VALUES: &[&str] = &[
     "node --id a --dir d --listen h --peers _ --initial a,_ --turns 5",
     "node --id a --dir d --listen h --peers _ --initial=-a --turns 5",
     "node --id a --dir d --listen h --peers _ --initial= --turns 5",
+    "node --id a --dir d --listen h --peers _ --initial _ --voting-only= --turns 5",
+    "node --id a --dir d --listen h --peers _ --initial _ --voting-only a,a --turns 5",
+    "node --id a --dir d --listen h --peers _ --initial _ --voting-only A --turns 5",
+    "node --id a --dir d --listen h --peers _ --initial _ --voting-only=-a --turns 5",
     "node --id a --dir d --listen h --peers _ --initial _ --turns +5",
     "node --id a --dir d --listen h --peers _ --initial _ --turns=-5",
     "node --id a --dir d --listen h --peers _ --initial _ --turns 0x5",

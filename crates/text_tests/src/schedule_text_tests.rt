@@ -50,7 +50,8 @@ fn third_line_is_bad(alloc: Global, level: Level, line: &str, why: WhyBad) -> bo
     fault_of_many(alloc, level, 1, line.as_bytes()) == Some((3, why))
 }
 
-const CORE_LINES: [(&str, WhyBad); 38] = [
+const CORE_LINES: [(&str, WhyBad); 39] = [
+    ("voting-only a\n", WhyBad::Verb),
     ("tick a 0 0\n", WhyBad::Verb),
     ("client a x\n", WhyBad::Verb),
     ("deliver a\n", WhyBad::Arity),
@@ -99,7 +100,16 @@ fn names_the_reason_of_a_third_line_at_level_core(rt: HostRuntime) {
     }
 }
 
-const NODE_LINES: [(&str, WhyBad); 23] = [
+const NODE_LINES: [(&str, WhyBad); 32] = [
+    ("voting-only\n", WhyBad::Header),
+    ("voting-only \n", WhyBad::Header),
+    ("voting-only _\n", WhyBad::Header),
+    ("voting-only z\n", WhyBad::Header),
+    ("voting-only a,a\n", WhyBad::Header),
+    ("voting-only a a\n", WhyBad::Header),
+    ("voting-only a", WhyBad::NoNewline),
+    ("voting-onlya a\n", WhyBad::Verb),
+    ("voting\n", WhyBad::Verb),
     ("boot a\n", WhyBad::Verb),
     ("startjoin a a 1\n", WhyBad::Verb),
     ("value a 1 x a\n", WhyBad::Verb),
@@ -164,6 +174,24 @@ fn names_the_reason_of_a_header(rt: HostRuntime) {
     assert!(rt; is_read(a, b"") && is_read(a, HEADER));
 }
 
+// Where a third header line does not stand third.
+const LATER: [(&str, usize); 3] = [
+    ("nodes a\ninitial a\nvoting-only a\nvoting-only a\n", 4),
+    ("nodes a\ninitial a\ntick a 0 0\nvoting-only a\n", 4),
+    ("nodes a\ninitial a\nvoting-only a\ntick a 0 0\nboot a\n", 5),
+];
+
+#[test]
+fn takes_a_third_header_line_at_its_place_alone(rt: HostRuntime) {
+    let a = rt.alloc();
+    for (text, line) in &LATER {
+        assert!(rt;
+            fault(a, Level::Node, text.as_bytes()) == Some((*line, WhyBad::Verb)),
+            "at {text}"
+        );
+    }
+}
+
 #[test]
 fn counts_the_lines_before_a_bad_one(rt: HostRuntime) {
     let text = b"nodes a\ninitial a\nrestart a\nfail a 10\nrestart z\n";
@@ -200,6 +228,14 @@ fn prints_what_it_has_read_at_level_node(rt: HostRuntime) {
     let text =
         b"nodes a,b\ninitial a\ntick a 0 0\ntick b 4611686018427387904 18446744073709551615\nclient a \nclient b  get  x \nclient a \xff\x00\x80\ndeliver a 1\ncrash a torn:09\nrestart a\nfuse b 1 all\nfail b 10\n";
     assert!(rt; prints_itself(rt.alloc(), Level::Node, text));
+}
+
+#[test]
+fn prints_the_voting_only_nodes_that_it_has_read(rt: HostRuntime) {
+    let alone = b"nodes v\ninitial v\nvoting-only v\n";
+    let some = b"nodes a,b,v,w\ninitial a,b,v\nvoting-only b,v\ntick a 0 0\n";
+    assert!(rt; prints_itself(rt.alloc(), Level::Node, alone));
+    assert!(rt; prints_itself(rt.alloc(), Level::Node, some));
 }
 
 // Whether a line is this one of a client.

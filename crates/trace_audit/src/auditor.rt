@@ -253,7 +253,8 @@ impl Auditor {
         if !shows_as(shown, &kept) {
             return Err(Stop::Broken(Clause::Opening));
         }
-        put_back(&mut self.nodes, id, Node::opened(self.alloc, kept))?;
+        let node = Node::opened(self.alloc, kept)?;
+        put_back(&mut self.nodes, id, node)?;
         Ok(())
     }
 

@@ -10,6 +10,7 @@ pub mod reporting;
 pub mod requests;
 pub mod running;
 pub mod sent;
+pub mod sent_by;
 pub mod verdict;
 
 pub use auditing::audit;

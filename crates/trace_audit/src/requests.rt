@@ -1,4 +1,4 @@
-//! The publish requests that were sent.
+//! The publish requests that one node sent.
 ghost use Rattle.std.specs.Prelude.{◌≡◌, OnOk, false};
 ghost use Rattle.cluster_state.specs.declared.messages.PublishRequest.{PublishRequest as TheRequest};
 ghost use Rattle.trace_audit.specs.Messages.{same_parent as same_parent_of, same_state as same_state_of, same_request as same_request_of};
@@ -7,12 +7,11 @@ ghost use Rattle.trace_audit.specs.Places.{place_of as place_of_request, is_requ
 use cluster_state::{ClusterState, PublishRequest, StateId};
 use std::alloc::{AllocError, Global};
 use std::collections::BTreeMap;
-use voting_config::NodeId;
 
-/// Who sent a request, and the term and the version of its state: in a legal history requests of one place are the same.
-pub type Place = (NodeId, (u64, u64));
+/// The term and the version of a request's state: in a legal history a node sends one request of a place.
+pub type Place = (u64, u64);
 
-/// The publish requests that were sent, each once, found by their places.
+/// The publish requests that a node sent, found by their places.
 #[derive(Drop)]
 pub struct Requests {
     alloc: Global,
@@ -22,7 +21,7 @@ pub struct Requests {
 fn place_of(request: &PublishRequest) -> Place
     ensures { result ≡ place_of_request request.now }
 {
-    (request.source, (request.state.term, request.state.version))
+    (request.state.term, request.state.version)
 }
 
 fn same_parent(a: Option<StateId>, b: Option<StateId>) -> bool

@@ -23,8 +23,9 @@ use Rattle.schedule_text.proofs.LineLaws.{line_again, line_lacks}
 use Rattle.trace_reader.specs.Echoes.{echo_at, ids_in, level_of, named_in, told_by, with_word, word_at}
 use Rattle.trace_reader.specs.Reading.{rest_of, words_told}
 use Rattle.trace_laws.specs.Laws.{LawEcho}
-use Rattle.trace_laws.proofs.Plain.{spaceless, number_plain}
-use Rattle.trace_laws.proofs.Lines.{done, read_by, id_lacks}
+use Rattle.line_laws.proofs.Plain.{spaceless, number_plain}
+use Rattle.line_laws.proofs.Cuts.{done, id_lacks}
+use Rattle.trace_laws.proofs.Lines.{read_by}
 use Rattle.trace_laws.proofs.Sets.{all_ids, all_self, has_room}
 use Rattle.trace_text.proofs.IdLists.{ids_set}
 

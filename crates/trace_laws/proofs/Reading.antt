@@ -1,11 +1,10 @@
 -- What each line tells.
-use Rattle.std.proofs.Common.{◌≡◌, ◌≢◌, ℕ, ◌-◌, true, false, Ok, Err, None, Some, List, [], ◌∷◌, ◌++◌, length, not, ◌&&◌, subst, refl, sym, ap, ◌∙◌, codes, decimal, append_assoc, IsTrue, arith}
-use Rattle.std.specs.Prelude.{◌==◌, nat_lt, nat_le}
+use Rattle.std.proofs.Common.{◌≡◌, ◌≢◌, ℕ, ◌-◌, true, false, Ok, None, Some, List, [], ◌∷◌, ◌++◌, length, not, subst, refl, sym, ap, ◌∙◌, codes, decimal, append_assoc, IsTrue, arith}
+use Rattle.std.specs.Prelude.{◌==◌}
 use Rattle.std.specs.Str.{bytes_eq}
 use Rattle.std.specs.Cmp.Lexicographic.{same_text}
 use Rattle.std.proofs.Math.Seq.{drop-append_seam, take-append_seam}
 use Rattle.std.proofs.lemmas.List.{length-append}
-use Rattle.std.proofs.lemmas.Bool.{and_parts}
 use Rattle.std.proofs.lemmas.Bool.Decides.{nat_tests}
 use Rattle.voting_config.specs.Ids.{Id, is_id, is_id_byte}
 use Rattle.serde_json.specs.Written.{compact_text}
@@ -17,10 +16,9 @@ use Rattle.policy_model.specs.declared.events.Mode.{Mode}
 use Rattle.policy_model.specs.declared.events.Mode.TheVariants as mode
 use Rattle.world_model.specs.declared.acts.Act.TheVariants.{Bootstrap, StartJoin, TakeJoin, Value, Publish, Response, Commit, Open}
 use Rattle.world_model.specs.declared.acts.Message.TheVariants.{Join as JoinMessage, Publish as PublishMessage, Response as ResponseMessage, Commit as CommitMessage}
-use Rattle.schedule_text.specs.declared.fault.WhyBad.TheVariants as why
 use Rattle.voting_config.specs.Lists.{list_text, parts_of}
 use Rattle.schedule_text.specs.Lines.{any_number, two, words_of}
-use Rattle.schedule_text.proofs.WordLaws.{lacks, all_append, all_weaker, split_first, split_alone, parts_not_empty}
+use Rattle.schedule_text.proofs.WordLaws.{lacks, all_append, split_first, split_alone, parts_not_empty}
 use Rattle.trace_text.specs.declared.ending.Ending.{Ending}
 use Rattle.trace_text.specs.declared.ending.Ending.TheVariants as ending
 use Rattle.trace_text.specs.Endings.{ending_of}
@@ -34,12 +32,13 @@ use Rattle.trace_reader.specs.declared.told.Told.TheVariants as told
 use Rattle.trace_reader.specs.Reading.{words_told}
 use Rattle.trace_reader.specs.Results.{node, act_at, act_words, ending_at, ends_at, is_act_word, mode_at, node_alone, node_with_rest, receiver_at, result_at, sender_at, some_word}
 use Rattle.trace_laws.specs.Told.{ending_told_by, mode_told_by}
-use Rattle.trace_laws.specs.Fits.{IsSmall, FitsEnding, FitsMode}
+use Rattle.line_laws.specs.Fits.{IsSmall, FitsEnding, FitsMode}
 use Rattle.trace_laws.specs.Laws.{IsRead, IsResult, LawOutcome, LawWon, LawCommitted, LawSent, LawFramed, LawState, LawDelivery, LawNote}
-use Rattle.trace_laws.proofs.Plain.{plain_lacks, spaceless, number_again, number_plain, ending_plain}
-use Rattle.trace_laws.proofs.Json.{both, digits_feedless}
-use Rattle.trace_laws.proofs.Feedless.{glued, id_feedless, list_feedless, pair_feedless, state_feedless, act_feedless, message_feedless, frame_feedless, reply_feedless}
-use Rattle.trace_laws.proofs.Lines.{done, read_by, spaced, spaced_twice, onward, first_and_rest, id_lacks, id_again, result_read}
+use Rattle.line_laws.proofs.Plain.{plain_lacks, spaceless, number_again, number_plain, ending_plain}
+use Rattle.line_laws.proofs.Json.{both, digits_feedless}
+use Rattle.line_laws.proofs.Feedless.{glued, id_feedless, list_feedless, pair_feedless, state_feedless, act_feedless, message_feedless, frame_feedless, reply_feedless}
+use Rattle.line_laws.proofs.Cuts.{spaced, spaced_twice, onward, first_and_rest, id_lacks, id_without, not_word}
+use Rattle.trace_laws.proofs.Lines.{read_by, id_again, result_read}
 
 -- ---- acts
 
@@ -101,8 +100,8 @@ outcome_read p actor n o (Open found) is good fits holds =
     onward _ n _ (list_text found.committed) (onward _ n _ (codes " ") (onward _ n _ (list_text found.accepted.config) (onward _ n _ (codes " ")
     (onward _ n _ (id_text found.accepted.term found.accepted.version) (onward _ n _ (codes " ") (spaced n (decimal found.term))))))) in
     let quiet : lacks 10 rest ≡ true =
-    glued (decimal found.term) (codes " " ∷ id_text found.accepted.term found.accepted.version ∷ codes " " ∷ list_text found.accepted.config ∷ codes " " ∷ list_text found.committed ∷ []) (digits_feedless found.term holds.0)
-    (refl, ((pair_feedless found.accepted.term found.accepted.version holds.1), (refl, ((list_feedless found.accepted.config holds.2), (refl, ((list_feedless found.committed holds.3), tt)))))) in
+    glued (decimal found.term) (codes " " ∷ id_text found.accepted.term found.accepted.version ∷ codes " " ∷ list_text found.accepted.config ∷ codes " " ∷ list_text found.committed ∷ []) (digits_feedless found.term)
+    (refl, ((pair_feedless found.accepted.term found.accepted.version), (refl, ((list_feedless found.accepted.config holds.0), (refl, ((list_feedless found.committed holds.1), tt)))))) in
     subst (λ (t : List ℕ). IsRead p ((codes "record" ++ 32 ∷ t) ++ codes "\n") (told.Opened n)) (sym same) (record_told p actor n rest is good quiet)
 
 -- ---- elections, commits, states
@@ -116,15 +115,15 @@ pair_again n x good small =
 pub won_read : LawWon
 won_read p actor n term is good small =
     subst (λ (t : List ℕ). IsRead p ((codes "won" ++ 32 ∷ t) ++ codes "\n") (told.Won n term)) (sym (spaced n (decimal term)))
-    (verb_told p actor (codes "won") (n ++ 32 ∷ decimal term) (told.Won n term) is refl refl refl (both n (32 ∷ decimal term) (id_feedless n good) (digits_feedless term small)) (rw (pair_again n term good small) refl))
+    (verb_told p actor (codes "won") (n ++ 32 ∷ decimal term) (told.Won n term) is refl refl refl (both n (32 ∷ decimal term) (id_feedless n good) (digits_feedless term)) (rw (pair_again n term good small) refl))
 
 some_by : (parts : List (List ℕ)) → parts ≢ [] → some_word parts ≡ Ok tt
 some_by [] some = absurd (some refl)
 some_by (w ∷ ws) some = refl
 
 pub committed_read : LawCommitted
-committed_read p actor state is fits =
-    verb_told p actor (codes "committed") (state_text state) (told.Committed actor) is refl refl refl (state_feedless state fits)
+committed_read p actor state is =
+    verb_told p actor (codes "committed") (state_text state) (told.Committed actor) is refl refl refl (state_feedless state)
     (rw (some_by (words_of (state_text state)) (parts_not_empty 32 (state_text state))) refl)
 
 alone_again : (n : Id) → IsTrue (is_id n) → node_alone (words_of n) ≡ Ok n
@@ -168,33 +167,22 @@ pub note_read : LawNote
 note_read = record {
   mode = λ p actor n mode term is good fits small.
       subst (λ (t : List ℕ). IsRead p ((codes "mode" ++ 32 ∷ t) ++ codes "\n") (told.Mode n (mode_told_by mode) term)) (sym (spaced_twice n (mode_text mode) (decimal term)))
-      (verb_told p actor (codes "mode") (n ++ 32 ∷ (mode_text mode ++ 32 ∷ decimal term)) (told.Mode n (mode_told_by mode) term) is refl refl refl (both n (32 ∷ (mode_text mode ++ 32 ∷ decimal term)) (id_feedless n good) (both (mode_text mode) (32 ∷ decimal term) (mode_feedless mode fits) (digits_feedless term small))) (mode_again n mode term good fits small));
+      (verb_told p actor (codes "mode") (n ++ 32 ∷ (mode_text mode ++ 32 ∷ decimal term)) (told.Mode n (mode_told_by mode) term) is refl refl refl (both n (32 ∷ (mode_text mode ++ 32 ∷ decimal term)) (id_feedless n good) (both (mode_text mode) (32 ∷ decimal term) (mode_feedless mode fits) (digits_feedless term))) (mode_again n mode term good fits small));
   drop = λ p actor n d is good fine.
       subst (λ (t : List ℕ). IsRead p ((codes "drop" ++ 32 ∷ t) ++ codes "\n") (told.Dropped n)) (sym (onward _ n _ (cause_text d.cause) (onward _ n _ (codes " ") (spaced n d.member))))
       (verb_told p actor (codes "drop") (n ++ 32 ∷ (d.member ++ codes " " ++ cause_text d.cause)) (told.Dropped n) is refl refl refl (both n (32 ∷ (d.member ++ codes " " ++ cause_text d.cause)) (id_feedless n good) (glued d.member (codes " " ∷ cause_text d.cause ∷ []) (id_feedless d.member fine) (refl, ((cause_feedless d.cause), tt)))) (rw (node_again n (d.member ++ codes " " ++ cause_text d.cause) good) refl));
-  reply = λ p actor n answer is good fits.
+  reply = λ p actor n answer is good.
       subst (λ (t : List ℕ). IsRead p ((codes "reply" ++ 32 ∷ t) ++ codes "\n") (told.Replied n)) (sym (spaced n (reply_text answer.reply)))
-      (verb_told p actor (codes "reply") (n ++ 32 ∷ reply_text answer.reply) (told.Replied n) is refl refl refl (both n (32 ∷ reply_text answer.reply) (id_feedless n good) (reply_feedless answer.reply fits)) (rw (node_again n (reply_text answer.reply) good) refl));
+      (verb_told p actor (codes "reply") (n ++ 32 ∷ reply_text answer.reply) (told.Replied n) is refl refl refl (both n (32 ∷ reply_text answer.reply) (id_feedless n good) (reply_feedless answer.reply)) (rw (node_again n (reply_text answer.reply) good) refl));
 }
 
 -- ---- messages
-
-wrong : (k : ℕ) → done k ≡ Err why.Number → ⊥
-wrong k e = cc
-
--- a number is no word of letters
-not_word : (k : ℕ) (w : List ℕ) → IsSmall k → any_number.at w ≡ Err why.Number → bytes_eq (decimal k) w ≡ false
-not_word k w small bad =
-    elim (bytes_eq (decimal k) w) as (λ b. bytes_eq (decimal k) w ≡ b → b ≡ false) [
-      | true ↦ λ e. let other : any_number.at (decimal k) ≡ Err why.Number = ap any_number.at (same_text (decimal k) w (sym e)) ∙ bad in absurd (wrong k (sym (number_again k small) ∙ other))
-      | false ↦ λ e. refl
-    ] refl
 
 no_angle : (b : ℕ) → is_id_byte b ≡ true → not (b == 62) ≡ true
 no_angle b h = grind (arith, nat_tests)
 
 id_angle : (n : Id) → IsTrue (is_id n) → lacks 62 n ≡ true
-id_angle n h = all_weaker is_id_byte (λ b. not (b == 62)) no_angle n (and_parts (nat_lt 0 (length n) && nat_le (length n) 32) _ h).1
+id_angle n h = id_without 62 no_angle n h
 
 -- an id is no star
 no_star : (n : Id) → IsTrue (is_id n) → bytes_eq n (codes "*") ≡ false
@@ -238,7 +226,7 @@ sent_told p actor address text t is small h alone quiet e =
     let read : result_at actor p.next verb (words_of (address ++ 32 ∷ text)) ≡ Ok t =
     rw (ode, routed, number_again p.next small, same_number p.next, first_and_rest address text h) e in
     subst (λ (u : List ℕ). IsRead p (u ++ codes "\n") t) (sym (spaced_twice verb address text))
-    (verb_told p actor verb (address ++ 32 ∷ text) t is plain refl (both (codes "m") (decimal p.next) refl (digits_feedless p.next small)) (both address (32 ∷ text) alone quiet) read)
+    (verb_told p actor verb (address ++ 32 ∷ text) t is plain refl (both (codes "m") (decimal p.next) refl (digits_feedless p.next)) (both address (32 ∷ text) alone quiet) read)
 
 address_lacks : (from : Id) (rest : List ℕ) → IsTrue (is_id from) → lacks 32 rest ≡ true → lacks 32 (from ++ 45 ∷ 62 ∷ rest) ≡ true
 address_lacks from rest good h = all_append (λ b. not (b == 32)) from (45 ∷ 62 ∷ rest) (id_lacks from good) h
@@ -260,10 +248,10 @@ one_end : (p : Progress) (actor from : Id) (text : List ℕ) → IsResult p acto
 one_end p actor from text is small good quiet = sent_told p actor (from ++ codes "->*") text (told.Sent from None) is small (address_lacks from (codes "*") good refl) (both from (codes "->*") (id_feedless from good) refl) quiet (star_again from good)
 
 pub sent_read : LawSent
-sent_read p actor (JoinMessage j) is small fits = two_ends p actor j.source j.target (message_text (JoinMessage j)) is small fits.0 fits.1 (message_feedless (JoinMessage j) fits)
-sent_read p actor (PublishMessage r) is small fits = one_end p actor r.source (message_text (PublishMessage r)) is small fits.0 (message_feedless (PublishMessage r) fits)
-sent_read p actor (ResponseMessage r) is small fits = two_ends p actor r.source r.target (message_text (ResponseMessage r)) is small fits.0 fits.1 (message_feedless (ResponseMessage r) fits)
-sent_read p actor (CommitMessage c) is small fits = one_end p actor c.source (message_text (CommitMessage c)) is small fits.0 (message_feedless (CommitMessage c) fits)
+sent_read p actor (JoinMessage j) is small fits = two_ends p actor j.source j.target (message_text (JoinMessage j)) is small fits.0 fits.1 (message_feedless (JoinMessage j))
+sent_read p actor (PublishMessage r) is small fits = one_end p actor r.source (message_text (PublishMessage r)) is small fits (message_feedless (PublishMessage r))
+sent_read p actor (ResponseMessage r) is small fits = two_ends p actor r.source r.target (message_text (ResponseMessage r)) is small fits.0 fits.1 (message_feedless (ResponseMessage r))
+sent_read p actor (CommitMessage c) is small fits = one_end p actor c.source (message_text (CommitMessage c)) is small fits (message_feedless (CommitMessage c))
 
 pub framed_read : LawFramed
 framed_read p actor frame is small fits =

@@ -11,7 +11,7 @@ use Rattle.trace_reader.specs.declared.told.TraceLine.{TraceLine}
 use Rattle.trace_reader.specs.Reading.{◌>>>◌, after_line, in_line, line_at, lines_at, told_at}
 use Rattle.trace_laws.specs.Laws.{AreRead, LawTrace}
 use Rattle.trace_laws.specs.Laws.AreRead.{Nothing, Read}
-use Rattle.trace_laws.proofs.Lines.{done}
+use Rattle.line_laws.proofs.Cuts.{done}
 
 abbrev whole : {A : Type 0} → A → Result A BadTrace
 whole x = Ok x

@@ -24,7 +24,7 @@ use Rattle.trace_reader.specs.declared.told.TraceLine.{TraceLine}
 use Rattle.trace_reader.specs.Echoes.{told_by}
 use Rattle.trace_reader.specs.Reading.{after_line, first_progress, sized_at, told_at, trace_at}
 use Rattle.trace_laws.specs.Told.{outcome_told, message_told, mode_told_by}
-use Rattle.trace_laws.specs.Fits.{IsSmall, FitsAct, FitsEnding, FitsFrame, FitsMessage, FitsMode, FitsReply, FitsState}
+use Rattle.line_laws.specs.Fits.{IsSmall, FitsAct, FitsEnding, FitsFrame, FitsMessage, FitsMode}
 
 -- A text is one line with its line feed, which tells this where it is within the limits of a trace.
 pub record IsRead (p : Progress) (text : List ℕ) (told : Told) : Type 0 where
@@ -47,7 +47,7 @@ LawWon = (p : Progress) (actor n : Id) (term : ℕ) → IsResult p actor → IsT
 
 -- a state that is committed, by the node of the last line of the schedule
 abbrev pub LawCommitted : Type 0
-LawCommitted = (p : Progress) (actor : Id) (state : ClusterState) → IsResult p actor → FitsState state → IsRead p (committed_text (Some state)) (told.Committed actor)
+LawCommitted = (p : Progress) (actor : Id) (state : ClusterState) → IsResult p actor → IsRead p (committed_text (Some state)) (told.Committed actor)
 
 -- the next message
 abbrev pub LawSent : Type 0
@@ -73,7 +73,7 @@ pub record LawDelivery : Type 0 where
 pub record LawNote : Type 0 where
   pub mode : (p : Progress) (actor n : Id) (mode : Mode) (term : ℕ) → IsResult p actor → IsTrue (is_id n) → FitsMode mode → IsSmall term → IsRead p (mode_line n mode term) (told.Mode n (mode_told_by mode) term)
   pub drop : (p : Progress) (actor n : Id) (dropped : MemberDrop) → IsResult p actor → IsTrue (is_id n) → IsTrue (is_id dropped.member) → IsRead p (drop_line n dropped) (told.Dropped n)
-  pub reply : (p : Progress) (actor n : Id) (answer : Outgoing) → IsResult p actor → IsTrue (is_id n) → FitsReply answer.reply → IsRead p (reply_line n answer) (told.Replied n)
+  pub reply : (p : Progress) (actor n : Id) (answer : Outgoing) → IsResult p actor → IsTrue (is_id n) → IsRead p (reply_line n answer) (told.Replied n)
 
 -- the echo of a line of a schedule of these nodes
 abbrev pub LawEcho : Type 0

@@ -3,45 +3,45 @@ use Rattle.std.proofs.Common.{◌≡◌, ℕ, zero, suc, ◌-◌, ◌<◌, ◌�
 use Rattle.std.proofs.lemmas.Bool.{ltb-false, le-ltb}
 use Rattle.std.proofs.lemmas.List.{take-append-le, drop-append-le}
 use Rattle.std.specs.Int.{w32, from_be_bytes}
-use Rattle.wire_frames.specs.declared.fault.FrameFault.{FrameFault}
-use Rattle.wire_frames.specs.declared.fault.FrameFault.TheVariants.{TooLong}
+use Rattle.wire_frames.specs.declared.fault.FrameError.{FrameError}
+use Rattle.wire_frames.specs.declared.fault.FrameError.TheVariants.{TooLong}
 use Rattle.wire_frames.specs.declared.frame.Frame.{Frame}
 use Rattle.wire_frames.specs.Frames.{frame_of}
-use Rattle.wire_frames.specs.Streams.{Front, Unfinished, Faulty, Whole, said_length, front_with, front_of, Ending, Rest, Stream, prepend, stream_with_front, stream_within, stream, stream_after, IsStream}
+use Rattle.wire_frames.specs.Streams.{Front, Unfinished, Faulty, Whole, said_length, front_with, front_of, Rest, Stream, prepend, stream_with_front, stream_within, stream, stream_after, IsStream}
 
 -- what stands at the start, by its three tests
 abbrev pub front_by : (short too_long unfinished : Bool) → Front → Front
 front_by a b c front = cond a Unfinished (cond b (Faulty TooLong) (cond c Unfinished front))
 
 -- what a whole frame at the start says of the tests
-pub record IsWholeBy (a b c : Bool) (read : Result Frame FrameFault) (rest : List ℕ) (frame : Frame) (after : List ℕ) : Type 0 where
+pub record IsWholeBy (a b c : Bool) (read : Result Frame FrameError) (rest : List ℕ) (frame : Frame) (after : List ℕ) : Type 0 where
   pub four : a ≡ false
   pub fits : b ≡ false
   pub there : c ≡ false
   pub body : read ≡ Ok frame
   pub next : rest ≡ after
 
-pub whole_by : (a b c : Bool) (r : Result Frame FrameFault) (rest : List ℕ) (frame : Frame) (after : List ℕ) → front_by a b c (front_with r rest) ≡ Whole frame after → IsWholeBy a b c r rest frame after
+pub whole_by : (a b c : Bool) (r : Result Frame FrameError) (rest : List ℕ) (frame : Frame) (after : List ℕ) → front_by a b c (front_with r rest) ≡ Whole frame after → IsWholeBy a b c r rest frame after
 whole_by true b c r rest frame after e = absurd cc
 whole_by false true c r rest frame after e = absurd cc
 whole_by false false true r rest frame after e = absurd cc
 whole_by false false false (Err x) rest frame after e = absurd cc
 whole_by false false false (Ok f) rest frame after e = record { four = refl; fits = refl; there = refl; body = cc; next = cc }
 
-by_whole : (a b c : Bool) (r : Result Frame FrameFault) (rest : List ℕ) (frame : Frame) (after : List ℕ) → IsWholeBy a b c r rest frame after → front_by a b c (front_with r rest) ≡ Whole frame after
+by_whole : (a b c : Bool) (r : Result Frame FrameError) (rest : List ℕ) (frame : Frame) (after : List ℕ) → IsWholeBy a b c r rest frame after → front_by a b c (front_with r rest) ≡ Whole frame after
 by_whole a b c r rest frame after h = rw (h.four, h.fits, h.there, h.body, h.next) refl
 
 -- what a fault at the start says of the tests
-pub record IsBadBody (b c : Bool) (read : Result Frame FrameFault) (fault : FrameFault) : Type 0 where
+pub record IsBadBody (b c : Bool) (read : Result Frame FrameError) (fault : FrameError) : Type 0 where
   pub fits : b ≡ false
   pub there : c ≡ false
   pub body : read ≡ Err fault
 
-pub record IsFaultyBy (a b c : Bool) (read : Result Frame FrameFault) (fault : FrameFault) : Type 0 where
+pub record IsFaultyBy (a b c : Bool) (read : Result Frame FrameError) (fault : FrameError) : Type 0 where
   pub four : a ≡ false
   pub cause : ((b ≡ true) × (TooLong ≡ fault)) ⊎ (IsBadBody b c read fault)
 
-pub faulty_by : (a b c : Bool) (r : Result Frame FrameFault) (rest : List ℕ) (fault : FrameFault) → front_by a b c (front_with r rest) ≡ Faulty fault → IsFaultyBy a b c r fault
+pub faulty_by : (a b c : Bool) (r : Result Frame FrameError) (rest : List ℕ) (fault : FrameError) → front_by a b c (front_with r rest) ≡ Faulty fault → IsFaultyBy a b c r fault
 faulty_by true b c r rest fault e = absurd cc
 faulty_by false true c r rest fault e = record { four = refl; cause = inl (refl, cc) }
 faulty_by false false true r rest fault e = absurd cc
@@ -84,7 +84,7 @@ whole-append bytes more frame after e =
     })
 
 -- so does a fault
-pub faulty-append : (bytes more : List ℕ) (fault : FrameFault) → front_of bytes ≡ Faulty fault → front_of (bytes ++ more) ≡ Faulty fault
+pub faulty-append : (bytes more : List ℕ) (fault : FrameError) → front_of bytes ≡ Faulty fault → front_of (bytes ++ more) ≡ Faulty fault
 faulty-append bytes more fault e =
     let h = faulty_by _ _ _ (frame_of (take (said_length bytes) (drop 4 bytes))) (drop (said_length bytes) (drop 4 bytes)) fault e in
     elim h.cause [
@@ -153,11 +153,3 @@ pub stream-append : (bytes more : List ℕ) → stream (bytes ++ more) ≡ prepe
 stream-append bytes more =
     append_within (length bytes) bytes more (front_of bytes) (omega arith) refl
     ∙ ap (λ s. prepend s.frames (stream_after s.ending more)) (sym (stream-with_front bytes))
-
--- further bytes add their frames to those so far
-pub stream-more : (before more : List ℕ) (frames added : List Frame) (old new : Ending) → IsStream before frames old → stream_after old more ≡ record { frames = added; ending = new }
-    → IsStream (before ++ more) (frames ++ added) new
-stream-more before more frames added old new h e =
-    stream-append before more
-    ∙ ap (λ s. prepend s.frames (stream_after s.ending more)) h
-    ∙ ap (prepend frames) e

@@ -1,6 +1,5 @@
 -- What is read of a frame is spelled so, and what is spelled so is read.
 use Rattle.std.proofs.Common.{◌≡◌, ℕ, eqb, Bool, true, false, cond, List, [], ◌∷◌, ◌++◌, Option, Some, None, find, Result, Ok, Err, refl, sym, ap, subst, ◌∙◌, arith, eqb-true}
-use Rattle.std.specs.Prelude.{IfOk}
 use Rattle.std.proofs.lemmas.List.{append-nil}
 use Rattle.cluster_state.specs.declared.fault.FieldError.{FieldError}
 use Rattle.cluster_state.specs.declared.fault.StateFault.{StateFault}
@@ -11,13 +10,11 @@ use Rattle.cluster_state.specs.States.{state, whole, Spells}
 use Rattle.cluster_state.proofs.Laws.{IsBytes, IsBytes-rest, IsField, bind_ok, ok_is, byte_law, flag_law, optional_law, then_law}
 use Rattle.cluster_state.proofs.StateLaws.{term_law, id_law, ids_law, state_id_law, state_law}
 use Rattle.cluster_state.proofs.Whole.{whole_ok, is_fit}
-use Rattle.wire_frames.specs.declared.fault.FrameError.{FrameError}
 use Rattle.wire_frames.specs.declared.frame.Kind.{Kind}
 use Rattle.wire_frames.specs.declared.frame.Kind.TheVariants as kind
 use Rattle.wire_frames.specs.declared.frame.WireMessage.{WireMessage}
 use Rattle.wire_frames.specs.declared.frame.WireMessage.TheVariants as message
 use Rattle.wire_frames.specs.declared.frame.Frame.{Frame}
-use Rattle.wire_frames.specs.Faults.{ReadsFrame}
 use Rattle.wire_frames.specs.Kinds.{code, kinds, kind_of, kind_of_message}
 use Rattle.wire_frames.specs.Messages.{state_id, start_join, term_and_last, known_peers, peers_answer, follower_answer, as_message, message_at, FitsMessage, SpellsFields, IsFitMessage}
 use Rattle.wire_frames.specs.Frames.{SpellsBody, IsFitFrame, frame_at, as_frame, frame_of_kind, frame_from_byte, frame_of}
@@ -189,13 +186,8 @@ frame_again bytes f s =
     let third = message_again f.message s.fields s.spelled in
     ap frame_of s.whole ∙ rw (kind_of_code k, first, second, third) refl
 
-pub is_found : (bytes : List ℕ) (r : Result Frame FrameError) → IsBytes bytes → ReadsFrame r (frame_of bytes) → IfOk r (λ f. SpellsBody f bytes)
-is_found bytes (Ok f) fits exact = frame_takes bytes f fits exact
-is_found bytes (Err e) fits exact = tt
-
-pub found_fits : (bytes : List ℕ) (r : Result Frame FrameError) → IfOk r (λ f. SpellsBody f bytes) → IfOk r IsFitFrame
-found_fits bytes (Ok f) h = fit_message f.message h.spelled.0
-found_fits bytes (Err e) h = tt
+pub frame_fits : (bytes : List ℕ) (f : Frame) → IsBytes bytes → frame_of bytes ≡ Ok f → IsFitFrame f
+frame_fits bytes f fits e = fit_message f.message (frame_takes bytes f fits e).spelled.0
 
 -- bytes are the body of one frame at most
 pub one_body : (f g : Frame) (bytes : List ℕ) → SpellsBody f bytes → SpellsBody g bytes → f ≡ g

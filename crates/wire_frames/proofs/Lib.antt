@@ -1,7 +1,7 @@
 pub mod FrameLaws
 pub mod Sizes
 pub mod Cutting
-pub mod Waiting
-pub mod Scanning
 pub mod Spelled
 pub mod Splitting
+pub mod Carrying
+pub mod Viewing

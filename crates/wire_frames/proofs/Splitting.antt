@@ -5,7 +5,7 @@ use Rattle.std.proofs.lemmas.Bool.{cases_lt, lt-ltb, ltb-true, ltb-false, le-ltb
 use Rattle.std.proofs.lemmas.List.{take-append-drop, length-take-le, get_or_past}
 use Rattle.std.proofs.lemmas.Nat.{be_bytes_4}
 use Rattle.cluster_state.proofs.Laws.{IsBytes, IsBytes-rest, IsBytes-take}
-use Rattle.wire_frames.specs.declared.fault.FrameFault.{FrameFault}
+use Rattle.wire_frames.specs.declared.fault.FrameError.{FrameError}
 use Rattle.wire_frames.specs.declared.frame.Frame.{Frame}
 use Rattle.wire_frames.specs.Frames.{most_body, four_bytes, SpellsFrame, frame_of}
 use Rattle.wire_frames.specs.Streams.{Front, Unfinished, Faulty, Whole, said_length, front_with, front_of, Ending, Rest, Fault, Stream, prepend, stream_with_front, stream, IsStream}
@@ -27,7 +27,7 @@ partial_front bytes (inr h) =
     let rest : drop 4 all ≡ h.part = rest-four h.size h.part in
     ap front_of h.whole ∙ rw (four, said, fits, rest, short) refl
 
-too_long_front : (bytes : List ℕ) (fault : FrameFault) → BeginsTooLong bytes fault → front_of bytes ≡ Faulty fault
+too_long_front : (bytes : List ℕ) (fault : FrameError) → BeginsTooLong bytes fault → front_of bytes ≡ Faulty fault
 too_long_front bytes fault h =
     let all = four_bytes h.size ++ h.more in
     let four : nat_lt (length all) 4 ≡ false = le-ltb _ _ (omega (arith, length-append (four_bytes h.size) h.more, length-four h.size)) in
@@ -35,7 +35,7 @@ too_long_front bytes fault h =
     let long : nat_lt most_body h.size ≡ true = lt-ltb _ _ h.long in
     ap front_of h.whole ∙ rw (four, said, long, h.is) refl
 
-no_frame_front : (bytes : List ℕ) (fault : FrameFault) → BeginsNoFrame bytes fault → front_of bytes ≡ Faulty fault
+no_frame_front : (bytes : List ℕ) (fault : FrameError) → BeginsNoFrame bytes fault → front_of bytes ≡ Faulty fault
 no_frame_front bytes fault h = ap front_of h.whole ∙ front-read h.body h.more h.fits ∙ ap (λ r. front_with r h.more) h.is
 
 ending_front : (ending : Ending) (bytes : List ℕ) → IsEnding ending bytes → IsStream bytes [] ending
@@ -67,7 +67,7 @@ body_in_front bytes fits long there =
     ∙ ap (λ n. four_bytes n ++ drop 4 bytes) (sym (length-take-le (said_length bytes) (drop 4 bytes) there))
     ∙ ap (λ l. four_bytes (length (take (said_length bytes) (drop 4 bytes))) ++ l) (sym (take-append-drop (said_length bytes) (drop 4 bytes)))
 
-unfinished_by : (a b c : Bool) (front : Result Frame FrameFault) (rest : List ℕ) → front_by a b c (front_with front rest) ≡ Unfinished → (a ≡ true) ⊎ ((a ≡ false) × (b ≡ false) × (c ≡ true))
+unfinished_by : (a b c : Bool) (front : Result Frame FrameError) (rest : List ℕ) → front_by a b c (front_with front rest) ≡ Unfinished → (a ≡ true) ⊎ ((a ≡ false) × (b ≡ false) × (c ≡ true))
 unfinished_by true b c front rest e = inl refl
 unfinished_by false true c front rest e = absurd cc
 unfinished_by false false true front rest e = inr (refl, refl, refl)
@@ -87,7 +87,7 @@ front_partial bytes fits e =
       })
     ]
 
-front_fault : (bytes : List ℕ) (fault : FrameFault) → IsBytes bytes → front_of bytes ≡ Faulty fault → IsEnding (Fault fault) bytes
+front_fault : (bytes : List ℕ) (fault : FrameError) → IsBytes bytes → front_of bytes ≡ Faulty fault → IsEnding (Fault fault) bytes
 front_fault bytes fault fits e =
     let h = faulty_by _ _ _ (frame_of (take (said_length bytes) (drop 4 bytes))) (drop (said_length bytes) (drop 4 bytes)) fault e in
     let long = ltb-false (length bytes) 4 h.four in

@@ -7,8 +7,8 @@ use Rattle.cluster_state.specs.declared.fault.StateFault.TheVariants as whole_fa
 use Rattle.cluster_state.specs.Field.{◌>>=◌, byte_at}
 use Rattle.cluster_state.specs.Fields.{id}
 use Rattle.cluster_state.specs.States.{whole}
-use Rattle.wire_frames.specs.declared.fault.FrameFault.{FrameFault}
-use Rattle.wire_frames.specs.declared.fault.FrameFault.TheVariants.{UnknownKind, Field, Trailing}
+use Rattle.wire_frames.specs.declared.fault.FrameError.{FrameError}
+use Rattle.wire_frames.specs.declared.fault.FrameError.TheVariants.{UnknownKind, Field, Trailing}
 use Rattle.wire_frames.specs.declared.frame.Kind.{Kind}
 use Rattle.wire_frames.specs.declared.frame.Frame.{Frame}
 use Rattle.wire_frames.specs.Kinds.{code, kind_of, kind_of_message}
@@ -50,24 +50,24 @@ frame_at kind bytes = id.at bytes >>= λ from. id.at from.1 >>= λ to. message_a
     Ok (record { from = from.0; to = to.0; message = m.0 }, m.1)
 
 -- what a fault of the fields is in a frame
-abbrev pub fault_in_frame : StateFault → FrameFault
+abbrev pub fault_in_frame : StateFault → FrameError
 fault_in_frame (whole_fault.Field f) = Field f
 fault_in_frame whole_fault.Trailing = Trailing
 
-abbrev pub as_frame : Result Frame StateFault → Result Frame FrameFault
+abbrev pub as_frame : Result Frame StateFault → Result Frame FrameError
 as_frame (Ok frame) = Ok frame
 as_frame (Err f) = Err (fault_in_frame f)
 
 -- the frame of the kind, if there is one
-abbrev pub frame_of_kind : ℕ → Option Kind → List ℕ → Result Frame FrameFault
+abbrev pub frame_of_kind : ℕ → Option Kind → List ℕ → Result Frame FrameError
 frame_of_kind byte None bytes = Err (UnknownKind byte)
 frame_of_kind byte (Some kind) bytes = as_frame (whole (frame_at kind bytes))
 
 -- the frame, by what reading its kind byte gave
-abbrev pub frame_from_byte : Result (ℕ × List ℕ) FieldError → Result Frame FrameFault
+abbrev pub frame_from_byte : Result (ℕ × List ℕ) FieldError → Result Frame FrameError
 frame_from_byte (Ok byte) = frame_of_kind byte.0 (kind_of byte.0) byte.1
 frame_from_byte (Err f) = Err (Field f)
 
 -- the frame that the body is, or its first fault
-abbrev pub frame_of : List ℕ → Result Frame FrameFault
+abbrev pub frame_of : List ℕ → Result Frame FrameError
 frame_of body = frame_from_byte (byte_at body)

@@ -1,7 +1,10 @@
-pub mod Faults
 pub mod Kinds
 pub mod Messages
 pub mod Frames
 pub mod Streams
-pub mod Steps
 pub mod Splits
+pub mod Measures
+pub mod Buffers
+pub mod Views
+pub mod Plain
+pub mod Parts

@@ -1,7 +1,7 @@
 -- For the contracts inside: a stream in terms of its bytes: spelled frames, one after the other, and then less than a frame, or a fault.
 use Rattle.std.specs.Prelude.{◌≡◌, ℕ, ◌<◌, ◌≤◌, ◌^◌, ◌⊎◌, List, [], ◌∷◌, ◌++◌, length, Err}
-use Rattle.wire_frames.specs.declared.fault.FrameFault.{FrameFault}
-use Rattle.wire_frames.specs.declared.fault.FrameFault.TheVariants.{TooLong}
+use Rattle.wire_frames.specs.declared.fault.FrameError.{FrameError}
+use Rattle.wire_frames.specs.declared.fault.FrameError.TheVariants.{TooLong}
 use Rattle.wire_frames.specs.declared.frame.Frame.{Frame}
 use Rattle.wire_frames.specs.Frames.{most_body, four_bytes, SpellsFrame, frame_of}
 use Rattle.wire_frames.specs.Streams.{Ending, Rest, Fault}
@@ -19,7 +19,7 @@ abbrev pub IsPartial : List ℕ → Type 0
 IsPartial bytes = (length bytes < 4) ⊎ BeginsBody bytes
 
 -- a length that is too large, whatever follows
-pub record BeginsTooLong (bytes : List ℕ) (fault : FrameFault) : Type 0 where
+pub record BeginsTooLong (bytes : List ℕ) (fault : FrameError) : Type 0 where
   pub size : ℕ
   pub more : List ℕ
   pub whole : bytes ≡ four_bytes size ++ more
@@ -28,7 +28,7 @@ pub record BeginsTooLong (bytes : List ℕ) (fault : FrameFault) : Type 0 where
   pub is : fault ≡ TooLong
 
 -- a length and a body that is no frame, whatever follows
-pub record BeginsNoFrame (bytes : List ℕ) (fault : FrameFault) : Type 0 where
+pub record BeginsNoFrame (bytes : List ℕ) (fault : FrameError) : Type 0 where
   pub body : List ℕ
   pub more : List ℕ
   pub whole : bytes ≡ four_bytes (length body) ++ (body ++ more)

@@ -1,15 +1,15 @@
 -- Part of the statement: a stream of bytes as frames.
-use Rattle.std.specs.Prelude.{◌≡◌, ℕ, zero, suc, ◌<◌, nat_lt, Bool, true, false, IsTrue, if◌then◌else◌, Option, Some, None, Result, Ok, Err, List, [], ◌∷◌, ◌++◌, length, take, drop}
+use Rattle.std.specs.Prelude.{◌≡◌, ℕ, zero, suc, nat_lt, if◌then◌else◌, Option, Some, None, Result, Ok, Err, List, [], ◌∷◌, ◌++◌, length, take, drop}
 use Rattle.std.specs.Int.{w32, from_be_bytes}
-use Rattle.wire_frames.specs.declared.fault.FrameFault.{FrameFault}
-use Rattle.wire_frames.specs.declared.fault.FrameFault.TheVariants.{TooLong}
+use Rattle.wire_frames.specs.declared.fault.FrameError.{FrameError}
+use Rattle.wire_frames.specs.declared.fault.FrameError.TheVariants.{TooLong}
 use Rattle.wire_frames.specs.declared.frame.Frame.{Frame}
 use Rattle.wire_frames.specs.Frames.{most_body, frame_of}
 
 -- what stands at the start of bytes: less than a frame, a fault, or a frame with the bytes after it
 pub data Front : Type 0 where
   Unfinished : Front
-  Faulty : FrameFault → Front
+  Faulty : FrameError → Front
   Whole : Frame → List ℕ → Front
 
 -- the length that the first four bytes say
@@ -17,7 +17,7 @@ abbrev pub said_length : List ℕ → ℕ
 said_length bytes = from_be_bytes w32 (take 4 bytes)
 
 -- a body that is read, before the bytes after it
-abbrev pub front_with : Result Frame FrameFault → List ℕ → Front
+abbrev pub front_with : Result Frame FrameError → List ℕ → Front
 front_with (Ok frame) rest = Whole frame rest
 front_with (Err fault) rest = Faulty fault
 
@@ -30,19 +30,10 @@ front_of bytes =
     else (if nat_lt (length (drop 4 bytes)) (said_length bytes) then Unfinished
     else front_with (frame_of (take (said_length bytes) (drop 4 bytes))) (drop (said_length bytes) (drop 4 bytes))))
 
-abbrev pub is_unfinished : Front → Bool
-is_unfinished Unfinished = true
-is_unfinished (Faulty fault) = false
-is_unfinished (Whole frame rest) = false
-
--- while fewer bytes than wanted are there, less than a frame stands at the start, whatever comes
-abbrev pub Awaits : List ℕ → (wanted : ℕ) → Type 0
-Awaits bytes wanted = (more : List ℕ) → length (bytes ++ more) < wanted → IsTrue (is_unfinished (front_of (bytes ++ more)))
-
 -- what stands after the frames of a stream: less than a frame, or a fault
 pub data Ending : Type 0 where
   Rest : List ℕ → Ending
-  Fault : FrameFault → Ending
+  Fault : FrameError → Ending
 
 -- the frames at the start, and what stands after them
 pub record Stream : Type 0 where
@@ -78,11 +69,39 @@ abbrev pub IsStream : List ℕ → List Frame → Ending → Type 0
 IsStream bytes frames ending = stream bytes ≡ record { frames = frames; ending = ending }
 
 -- the fault that stands after the frames
-abbrev pub fault_in : Ending → Option FrameFault
+abbrev pub fault_in : Ending → Option FrameError
 fault_in (Rest bytes) = None
 fault_in (Fault fault) = Some fault
 
--- the fault, if there is one, else the bytes
-abbrev pub ending_of : Option FrameFault → List ℕ → Ending
-ending_of None bytes = Rest bytes
-ending_of (Some fault) bytes = Fault fault
+-- ---- a reader, seen as the stream of what is left in it
+
+-- all frames were given
+abbrev pub read_up : Ending → Stream
+read_up ending = record { frames = []; ending = ending }
+
+-- what it gives next: a frame, or where none is left the fault that stands there; nothing where less than a frame is left
+abbrev pub next_in : List Frame → Ending → Option (Result Frame FrameError)
+next_in (frame ∷ frames) ending = Some (Ok frame)
+next_in [] (Fault fault) = Some (Err fault)
+next_in [] (Rest bytes) = None
+
+abbrev pub next_of : Stream → Option (Result Frame FrameError)
+next_of left = next_in left.frames left.ending
+
+-- and what is left then
+abbrev pub after_next : Stream → Stream
+after_next left = record { frames = drop 1 left.frames; ending = left.ending }
+
+-- what is left with more bytes
+abbrev pub pushed : Stream → List ℕ → Stream
+pushed left more = prepend left.frames (stream_after left.ending more)
+
+-- the frame that was given, if one was
+abbrev pub frames_in : Option (Result Frame FrameError) → List Frame
+frames_in (Some (Ok frame)) = frame ∷ []
+frames_in (Some (Err fault)) = []
+frames_in None = []
+
+-- the frames that were given and what is left are the stream of all bytes that came
+abbrev pub IsCarried : (came : List ℕ) → (given : List Frame) → (left : Stream) → Type 0
+IsCarried came given left = stream came ≡ prepend given left

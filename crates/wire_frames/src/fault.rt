@@ -1,15 +1,13 @@
 //! Why bytes are no frame.
 
 ghost use Rattle.std.specs.Prelude.{◌≡◌};
-ghost use Rattle.wire_frames.specs.declared.fault.FrameFault.TheVariants as fault;
-ghost use Rattle.wire_frames.specs.declared.fault.FrameError.TheVariants as error;
-ghost use Rattle.wire_frames.specs.Faults.{error_of};
+ghost use Rattle.wire_frames.specs.declared.fault.FrameError.TheVariants as fault;
 
-use cluster_state::{FieldError, ReadError};
+use cluster_state::FieldError;
 
 /// What is wrong with the bytes of a frame: the first fault from left to right.
 #[derive(Clone, Copy, Debug, PartialEq, Eq, thiserror::Error)]
-pub enum FrameFault {
+pub enum FrameError {
     /// The length is over [`MAX_BODY`](crate::MAX_BODY).
     #[error("the length is too large")]
     TooLong,
@@ -23,30 +21,10 @@ pub enum FrameFault {
     Trailing,
 }
 
-/// Why a frame was not read.
-#[derive(Clone, Copy, Debug, PartialEq, Eq, thiserror::Error)]
-pub enum FrameError {
-    #[error("out of memory")]
-    Memory,
-    #[error("{0}")]
-    Fault(FrameFault),
-}
-
 impl From<FieldError> for FrameError {
-    ghost from_gives = { λ f e. e ≡ error.Fault (fault.Field f) };
+    ghost from_gives = { λ f e. e ≡ fault.Field f };
 
-    fn from(fault: FieldError) -> FrameError {
-        FrameError::Fault(FrameFault::Field(fault))
-    }
-}
-
-impl From<ReadError> for FrameError {
-    ghost from_gives = { λ r e. e ≡ error_of r };
-
-    fn from(error: ReadError) -> FrameError {
-        match error {
-            ReadError::Memory => FrameError::Memory,
-            ReadError::Field(fault) => FrameError::Fault(FrameFault::Field(fault)),
-        }
+    fn from(field: FieldError) -> FrameError {
+        FrameError::Field(field)
     }
 }

@@ -16,7 +16,7 @@ use Rattle.schedule_text.proofs.FirstBadLaws.{law_first_bad_line}
 use Rattle.zen_link.specs.Reading.{ReadsAtMost, IsInput}
 use Rattle.zen_app.specs.Reading.{most_read, read_of}
 use Rattle.zen_app.specs.Ran.{MayEndReplay, Replays}
-use Rattle.zen_app.specs.Views.{SourceView, SinkView}
+use Rattle.zen_link.specs.Views.{SourceView, SinkView}
 use Rattle.schedule_replay.specs.Levels.{trace_at}
 use Rattle.zen_app.specs.SafeTrace.{IsSafeTraceAt}
 use Rattle.zen_app.specs.Runs.{ReplayEnded}

@@ -19,10 +19,11 @@ use Rattle.node_loop.specs.declared.node.End.{End}
 use Rattle.node_loop.specs.declared.node.End.TheVariants as ends
 use Rattle.node_loop.specs.Tells.{HasCauses}
 use Rattle.command_line.specs.declared.command.NodeWords.{NodeWords}
-use Rattle.journal_inspection.specs.Inspects.{HostView, LeavesLinks}
+use Rattle.zen_host.specs.Views.{HostView}
+use Rattle.journal_inspection.specs.Inspects.{LeavesLinks}
 use Rattle.zen_app.specs.NodeFaults.{Failed, NodeFaults, status_by}
 use Rattle.zen_app.specs.NodeRuns.{IsGiven, OpensJournal, EndsBy, RefusedBy, SaysLine, Serving, Unopened, Unlinked, Served, NodeRun, turns_line}
-use Rattle.zen_app.specs.Views.{SinkView}
+use Rattle.zen_link.specs.Views.{SinkView}
 use Rattle.zen_app.specs.declared.status.Status.{Status}
 use Rattle.zen_app.specs.declared.status.Status.TheVariants as exit
 

@@ -1,12 +1,12 @@
 -- How a run of `rescue` ends, from how its parts ended.
 use Rattle.std.proofs.Common.{◌≡◌, ℕ, ◌+◌, ◌<◌, ◌≤◌, Option, Some, Result, Ok, Err, List, [], length, refl, sym, subst, arith, inl, inr, ◌⊎◌}
-use Rattle.std.proofs.lemmas.List.{length-map}
+use Rattle.std.specs.List.{AllByRecursion}
 use Rattle.voting_config.specs.Ids.{Id, IsIdSet}
 use Rattle.zen_disk.specs.Faults.{Rose}
 use Rattle.zen_link.specs.Reading.{ReadsAtMost, IsInput}
 use Rattle.zen_link.specs.Streams.{Appended, AppendedFront}
 use Rattle.schedule_text.specs.Limits.{most_lines}
-use Rattle.schedule_text.specs.Lines.{line_text}
+use Rattle.schedule_text.specs.Lines.{FitsLine}
 use Rattle.schedule_text.specs.Printed.{bad_line}
 use Rattle.schedule_text.specs.Reading.{fault_of}
 use Rattle.schedule_text.specs.FirstBad.{IsFirstBad}
@@ -24,19 +24,24 @@ use Rattle.zen_app.specs.RescueRuns.{EndsBy, MayEndRescue, Planned, Rescues, Unp
 use Rattle.zen_app.specs.RescueText.{no_rescue_line}
 use Rattle.zen_app.specs.Rescues.{HasPlan, NoneFor}
 use Rattle.zen_app.specs.Runs.{RescueEnded}
-use Rattle.zen_app.specs.Views.{SourceView, SinkView}
+use Rattle.zen_link.specs.Views.{SourceView, SinkView}
 use Rattle.zen_app.specs.declared.refusals.NoAnswer.TheVariants.{Bad, Refused}
 use Rattle.zen_app.specs.declared.refusals.NoRescue.{NoRescue}
 use Rattle.zen_app.specs.declared.status.Status.{Status}
 use Rattle.zen_app.specs.declared.status.Status.TheVariants as exit
 use Rattle.zen_app.proofs.Endings.{all_read, spells_read}
-use Rattle.zen_app.proofs.Rescued.{is_rescued}
+use Rattle.zen_app.proofs.Rescued.{count_lines, is_rescued}
 use Rattle.zen_app.proofs.Spelled.{spells_short}
 
 -- the header is two lines
 pub spells_few : (bytes : List ℕ) (s : Schedule) → Spells Core bytes s → 2 + length s.lines ≤ most_lines
 spells_few _ _ Nothing = omega arith
-spells_few _ _ (Text s is within) = omega (arith, within.count, length-map s.lines line_text)
+spells_few _ _ (Text s is within) = omega (arith, within.count, count_lines s is.voting_only)
+
+-- its lines are of level core and of its nodes
+pub spells_fit : (bytes : List ℕ) (s : Schedule) → Spells Core bytes s → AllByRecursion (FitsLine Core s.nodes) s.lines
+spells_fit _ _ Nothing = tt
+spells_fit _ _ (Text s is within) = is.lines
 
 -- a plan, or none, by whatever schedule the bytes spell
 by_plan : (r : Result Plan NoRescue) (p : Plan) (status : Status) → r ≡ Ok p → (status ≡ exit.Ok) ⊎ (status ≡ exit.NoMemory) → EndsBy r status

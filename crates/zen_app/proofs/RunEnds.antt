@@ -12,11 +12,11 @@ use Rattle.command_line.specs.Commands.{command_of}
 use Rattle.journal_inspection.specs.declared.inspecting.Inspection.{Inspection}
 use Rattle.journal_inspection.specs.declared.inspecting.Inspection.TheVariants as end
 use Rattle.journal_inspection.specs.declared.showing.Shown.TheVariants as shown
-use Rattle.journal_inspection.specs.Inspects.{HostView, LeavesLinks, Asked, Opened, EndsWith, IsComplete}
+use Rattle.zen_host.specs.Views.{HostView}
+use Rattle.journal_inspection.specs.Inspects.{LeavesLinks, Asked, Opened, EndsWith, IsComplete}
 use Rattle.zen_app.specs.Codes.{status_of}
 use Rattle.zen_link.specs.Reading.{ReadsAtMost}
 use Rattle.zen_link.proofs.Appending.{appended_none}
-use Rattle.zen_app.specs.Reading.{most_read}
 use Rattle.zen_app.specs.NodeFaults.{Failed, NodeFaults}
 use Rattle.command_line.specs.declared.command.TrialWords.{TrialWords}
 use Rattle.schedule_text.specs.declared.level.Level.TheVariants.{Core}
@@ -28,7 +28,6 @@ use Rattle.trace_summary.specs.Printed.{summary_text}
 use Rattle.trace_summary.specs.Summaries.{summary_of}
 use Rattle.zen_host.specs.HostCalls.{HostCall}
 use Rattle.zen_host.specs.declared.host.HostError.TheVariants as host_error
-use Rattle.node_tool.specs.declared.tool.Tool.{Tool}
 use Rattle.node_tool.specs.declared.tool.Tool.TheVariants as tool
 use Rattle.node_trial.specs.declared.node.TrialNode.TheVariants as node
 use Rattle.node_trial.specs.declared.running.TrialEnd.{TrialEnd}
@@ -43,10 +42,9 @@ use Rattle.zen_app.specs.NodeRuns.{NodeRun, Undisked, SaysLine}
 use Rattle.zen_app.specs.Runs.{ReplayEnded, RescueEnded}
 use Rattle.zen_app.specs.RescueRuns.{MayEndRescue, RescueRun}
 use Rattle.zen_app.specs.SafeTrace.{IsSafeTraceAt}
-use Rattle.zen_app.specs.ToolRuns.{ToolRun}
 use Rattle.zen_app.specs.TrialRuns.{TrialRun, trial_by}
 use Rattle.zen_app.specs.Ran.{MayEndReplay, ReplayRun, AuditRun, Does, most_by, Ran}
-use Rattle.zen_app.specs.Views.{SourceView, SinkView}
+use Rattle.zen_link.specs.Views.{SourceView, SinkView}
 use Rattle.voting_config.specs.Ids.{Id}
 use Rattle.zen_app.specs.declared.status.Status.{Status}
 use Rattle.zen_app.specs.declared.status.Status.TheVariants as exit
@@ -54,7 +52,8 @@ use Rattle.zen_app.proofs.Endings.{no_memory}
 use Rattle.zen_app.proofs.NodeStages.{said_line}
 use Rattle.zen_app.proofs.ToolRunning.{nothing_used}
 use Rattle.zen_app.proofs.RescueEndings.{no_memory as no_memory_to_rescue}
-use Rattle.zen_app.proofs.WordBounds.{OfSome, IsWithin, all_within, words_within}
+use Rattle.zen_app.specs.Runs.{IsWithin}
+use Rattle.zen_app.proofs.WordBounds.{OfSome, all_within, words_within}
 use Rattle.schedule_replay.proofs.Sending.{generated_spelled}
 use Rattle.zen_app.proofs.Spelled.{spells_safe_trace}
 

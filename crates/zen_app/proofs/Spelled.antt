@@ -1,7 +1,9 @@
 -- The trace of a schedule that is spelled is safe, at each level.
 use Rattle.std.proofs.Common.{◌≡◌, ℕ, ◌≤◌, ◌<◌, List, [], ◌∷◌, ◌++◌, true, length, refl, ap, subst, arith}
+use Rattle.std.specs.Prelude.{Contains}
 use Rattle.std.specs.List.{AllByRecursion}
 use Rattle.voting_config.specs.Ids.{IsIdSet, has}
+use Rattle.world_model.specs.Safety.{Win}
 use Rattle.agreement.proofs.Laws.{safe_of_legal}
 use Rattle.schedule_text.specs.declared.level.Level.{Level}
 use Rattle.schedule_text.specs.declared.level.Level.TheVariants.{Core, Node}
@@ -17,8 +19,8 @@ use Rattle.trace_text.proofs.IdLists.{none_set, ids_set}
 use Rattle.schedule_replay.proofs.TraceLaws.{tells, shows, agrees}
 use Rattle.schedule_replay.proofs.WorldLegal.{replay_is_legal}
 use Rattle.schedule_replay.proofs.ClusterLaws.{tells as cluster_tells, shows as cluster_shows, agrees as cluster_agrees}
-use Rattle.cluster_replay.proofs.Schedules.{lives_follow, cluster_replay_is_legal, cluster_replies_are_true}
-use Rattle.cluster_replay.proofs.Spelled.{well_formed}
+use Rattle.cluster_replay.proofs.Schedules.{lives_follow, cluster_replay_is_legal, cluster_replies_are_true, voting_only_never_wins}
+use Rattle.cluster_replay.proofs.Spelled.{well_formed, voting_only_among}
 use Rattle.cluster_replay.specs.Laws.{IsWellFormed as IsClusterSchedule, node_of}
 use Rattle.zen_app.specs.SafeTrace.{IsSafeTrace, IsSafeClusterTrace, IsSafeTraceAt, up_to}
 
@@ -77,6 +79,7 @@ spells_safe_cluster bytes s spelled =
       tells = cluster_tells s;
       shows = cluster_shows s legal;
       agrees = cluster_agrees s legal;
+      voting_only = λ w won. voting_only_never_wins s well (voting_only_among bytes s spelled) w (subst (λ (l : List Win). Contains l w) (cluster_shows s legal).wins won);
     }
 
 -- ---- each level

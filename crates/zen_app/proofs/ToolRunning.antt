@@ -3,7 +3,7 @@ use Rattle.std.proofs.Common.{◌≡◌, ℕ, ◌≤◌, Option, List, refl, sym
 use Rattle.zen_disk.specs.Faults.{Rose}
 use Rattle.zen_disk.specs.declared.disks.Disks.{Ghosts as Disks}
 use Rattle.zen_link.proofs.Appending.{appended_none}
-use Rattle.journal_inspection.specs.Inspects.{HostView}
+use Rattle.zen_host.specs.Views.{HostView}
 use Rattle.node_tool.specs.Runs.{Used, EndsWith}
 use Rattle.node_tool.specs.declared.running.ToolEnd.{ToolEnd}
 use Rattle.node_tool.specs.declared.running.ToolEnd.TheVariants as end
@@ -12,7 +12,7 @@ use Rattle.node_tool.specs.declared.using.Tooled.TheVariants as tooled
 use Rattle.zen_app.specs.Codes.{status_of_tool}
 use Rattle.zen_app.specs.NodeFaults.{Failed, NodeFaults}
 use Rattle.zen_app.specs.ToolRuns.{ToolRun}
-use Rattle.zen_app.specs.Views.{SinkView}
+use Rattle.zen_link.specs.Views.{SinkView}
 use Rattle.zen_app.specs.declared.status.Status.{Status}
 use Rattle.zen_app.specs.declared.status.Status.TheVariants as exit
 

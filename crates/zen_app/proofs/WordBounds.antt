@@ -5,8 +5,9 @@ use Rattle.std.specs.Str.{bytes_eq}
 use Rattle.voting_config.specs.Ids.{Id}
 use Rattle.std.proofs.lemmas.Bool.{leb-true, and_parts}
 use Rattle.command_line.specs.declared.command.ProgramCommand.{ProgramCommand}
-use Rattle.command_line.specs.declared.command.ProgramCommand.TheVariants.{Replay, Inspect, Node, Generate, Trial, Rescue, UnsafeBootstrap, DetachCluster, Audit}
-use Rattle.command_line.specs.Commands.{level_of, replay_of, inspect_of, link_of, node_of, generate_of, trial_of, rescue_of, unsafe_bootstrap_of, detach_cluster_of, command_by, command_of, steps_of, port_of, most_steps}
+use Rattle.zen_app.specs.Runs.{IsWithin}
+use Rattle.command_line.specs.declared.command.ProgramCommand.TheVariants.{Audit}
+use Rattle.command_line.specs.Commands.{level_of, replay_of, inspect_of, link_of, node_of, voting_only_of, generate_of, trial_of, rescue_of, unsafe_bootstrap_of, detach_cluster_of, command_by, command_of, steps_of, port_of, most_steps}
 use Rattle.command_line.specs.Given.{Text, look, words_given}
 use Rattle.command_line.specs.Lists.{initial_of, some_of, up_of}
 use Rattle.command_line.specs.Program.{commands}
@@ -36,17 +37,6 @@ of_within least most n false is = tt
 of_number : (least most : ℕ) (t : Text) → OfSome (λ (m : ℕ). (least ≤ m) × (m ≤ most)) (number_within least most t)
 of_number least most t = of_last (λ (m : ℕ). (least ≤ m) × (m ≤ most)) (number_of t) (λ (n : ℕ). if nat_le least n && nat_le n most then Some n else None) (λ n. of_within least most n (nat_le least n && nat_le n most) refl)
 
-abbrev pub IsWithin : ProgramCommand → Type 0
-IsWithin (Replay level) = Unit {0}
-IsWithin (Inspect dir) = Unit {0}
-IsWithin (Node words) = Unit {0}
-IsWithin (Generate number steps) = steps ≤ most_steps
-IsWithin (Trial words) = (1 ≤ words.port) × (words.port ≤ 65533)
-IsWithin (UnsafeBootstrap id dir) = Unit {0}
-IsWithin (DetachCluster dir) = Unit {0}
-IsWithin (Rescue ids) = 0 < length ids
-IsWithin Audit = Unit {0}
-
 of_replay : (look : Look) → OfSome IsWithin (replay_of look)
 of_replay look = of_last IsWithin (text_at (codes "level") look >>= level_of) _ (λ level. tt)
 
@@ -58,7 +48,8 @@ of_node look =
     of_last IsWithin (link_of look) _ (λ link.
     of_last IsWithin (text_at (codes "dir") look) _ (λ dir.
     of_last IsWithin (text_at (codes "initial") look >>= initial_of) _ (λ initial.
-    of_last IsWithin (text_at (codes "turns") look >>= number_of) _ (λ turns. tt))))
+    of_last IsWithin (voting_only_of look) _ (λ voting_only.
+    of_last IsWithin (text_at (codes "turns") look >>= number_of) _ (λ turns. tt)))))
 
 of_steps : (o : Option Text) → OfSome (λ (n : ℕ). n ≤ most_steps) (o >>= steps_of)
 of_steps None = tt

@@ -13,4 +13,3 @@ pub mod Runs
 pub mod SafeTrace
 pub mod ToolRuns
 pub mod TrialRuns
-pub mod Views

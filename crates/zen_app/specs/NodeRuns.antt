@@ -27,9 +27,10 @@ use Rattle.node_loop.specs.Tells.{HasCauses}
 use Rattle.node_loop.specs.Texts.{entry_text, opening_text}
 use Rattle.node_loop.specs.Turns.{Serves}
 use Rattle.command_line.specs.declared.command.NodeWords.{NodeWords}
-use Rattle.journal_inspection.specs.Inspects.{HostView, LeavesLinks}
+use Rattle.zen_host.specs.Views.{HostView}
+use Rattle.journal_inspection.specs.Inspects.{LeavesLinks}
 use Rattle.journal_inspection.specs.Report.{not_a_journal}
-use Rattle.zen_app.specs.Views.{SinkView}
+use Rattle.zen_link.specs.Views.{SinkView}
 use Rattle.zen_app.specs.declared.status.Status.{Status}
 use Rattle.zen_app.specs.declared.status.Status.TheVariants as exit
 
@@ -38,7 +39,7 @@ turns_line = codes "zen: turns\n"
 
 -- what the words give a node
 abbrev pub settings_by : NodeWords → Settings
-settings_by w = record { me = w.link.me; peers = map (λ (p : ToldPeer). p.id) w.link.peers; initial = w.initial; shrink = w.shrink }
+settings_by w = record { me = w.link.me; peers = map (λ (p : ToldPeer). p.id) w.link.peers; initial = w.initial; voting_only = w.voting_only; shrink = w.shrink }
 
 -- the status, by how serving ended
 abbrev pub status_after : End → Status

@@ -16,7 +16,8 @@ use Rattle.command_line.specs.declared.command.ProgramCommand.{ProgramCommand}
 use Rattle.command_line.specs.declared.command.ProgramCommand.TheVariants.{Replay, Inspect, Node, Generate, Trial, Rescue, UnsafeBootstrap, DetachCluster, Audit}
 use Rattle.command_line.specs.Commands.{command_of}
 use Rattle.journal_inspection.specs.declared.inspecting.Inspection.{Inspection}
-use Rattle.journal_inspection.specs.Inspects.{HostView, LeavesLinks, Asked, EndsWith, IsComplete}
+use Rattle.zen_host.specs.Views.{HostView}
+use Rattle.journal_inspection.specs.Inspects.{LeavesLinks, Asked, EndsWith, IsComplete}
 use Rattle.node_tool.specs.declared.tool.Tool.TheVariants as tool
 use Rattle.coordinator.specs.declared.step.Sealed.{Sealed}
 use Rattle.trace_audit.specs.declared.running.AuditEnd.{AuditEnd}
@@ -31,7 +32,7 @@ use Rattle.zen_app.specs.NodeRuns.{NodeRun, SaysLine}
 use Rattle.zen_app.specs.SafeTrace.{IsSafeTraceAt}
 use Rattle.zen_app.specs.ToolRuns.{ToolRun}
 use Rattle.zen_app.specs.TrialRuns.{TrialRun}
-use Rattle.zen_app.specs.Views.{SourceView, SinkView}
+use Rattle.zen_link.specs.Views.{SourceView, SinkView}
 use Rattle.zen_app.specs.declared.status.Status.{Status}
 use Rattle.zen_app.specs.declared.status.Status.TheVariants as exit
 

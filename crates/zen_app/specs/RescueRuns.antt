@@ -12,7 +12,7 @@ use Rattle.zen_app.specs.Misspelled.{Refused, RefusedPrefix}
 use Rattle.zen_app.specs.Reading.{unread_of}
 use Rattle.zen_app.specs.RescueText.{no_rescue_line}
 use Rattle.zen_app.specs.Rescues.{IsRescue}
-use Rattle.zen_app.specs.Views.{SourceView, SinkView}
+use Rattle.zen_link.specs.Views.{SourceView, SinkView}
 use Rattle.zen_app.specs.declared.refusals.NoRescue.{NoRescue}
 use Rattle.zen_app.specs.declared.status.Status.{Status}
 use Rattle.zen_app.specs.declared.status.Status.TheVariants as exit

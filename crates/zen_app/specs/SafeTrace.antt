@@ -1,14 +1,15 @@
 -- Part of the statement: what is said of the trace of a schedule, at each level.
-use Rattle.std.specs.Prelude.{◌≡◌, true, List, ◌++◌}
+use Rattle.std.specs.Prelude.{◌≡◌, true, false, List, ◌++◌, Contains}
 use Rattle.voting_config.specs.Ids.{Id, has}
 use Rattle.world_model.specs.Histories.{IsLegal}
-use Rattle.world_model.specs.Safety.{IsSafe}
+use Rattle.world_model.specs.Safety.{IsSafe, Win}
 use Rattle.schedule_text.specs.declared.level.Level.{Level}
 use Rattle.schedule_text.specs.declared.level.Level.TheVariants.{Core, Node}
 use Rattle.schedule_text.specs.declared.schedule.Line.{Line}
 use Rattle.schedule_text.specs.declared.schedule.Schedule.{Schedule}
 use Rattle.schedule_replay.specs.Replayed.{replayed}
 use Rattle.schedule_replay.specs.Showing.{Shows, Agrees}
+use Rattle.schedule_replay.specs.Told.{wins_of}
 use Rattle.schedule_replay.specs.TraceLaws.{Tells}
 use Rattle.schedule_replay.specs.TraceSteps.{steps}
 use Rattle.schedule_replay.specs.ClusterLaws.{ClusterTells}
@@ -37,10 +38,10 @@ pub record IsSafeTrace (s : Schedule) : Type 0 where
 -- What a node of the schedule does, from its start and from each restart on, as far as its disk lets it.
 pub record LivesByPolicy (s : Schedule) (n : Id) : Type 0 where
   -- at each event it does what the policy says of its life so far, and its acts in the history are just those of its life
-  pub life : IsLifeIn (replayed_history s) (settings_of s.nodes s.initial n) (replayed_life s n)
+  pub life : IsLifeIn (replayed_history s) (settings_of s.nodes s.initial s.voting_only n) (replayed_life s n)
   -- Each of its replies is true at the end of its event. An `acked` names a committed state, which has what the request asked for unless a
   -- request that was processed later may have undone it. A `state` shows a committed state.
-  pub replies : RepliesTruly (replayed_history s) (settings_of s.nodes s.initial n) (replayed_life s n)
+  pub replies : RepliesTruly (replayed_history s) (settings_of s.nodes s.initial s.voting_only n) (replayed_life s n)
 
 -- the schedule as it stands at the end of one of its lines
 abbrev pub up_to : Schedule → List Line → Schedule
@@ -59,6 +60,8 @@ pub record IsSafeClusterTrace (s : Schedule) : Type 0 where
   pub shows : Shows (replayed_history s) (core_of (cluster_steps s))
   -- no two `won` lines of one term name two nodes, and no two `committed` lines of one version differ
   pub agrees : Agrees (core_of (cluster_steps s))
+  -- no `won` line names a node that the header lists as voting-only
+  pub voting_only : (w : Win) → Contains (wins_of (core_of (cluster_steps s))) w → has w.node s.voting_only ≡ false
 
 -- ---- by level
 

@@ -1,12 +1,13 @@
 -- Part of the statement: what a run of `unsafe-bootstrap` or `detach-cluster` does.
 use Rattle.std.specs.Prelude.{◌≡◌, ℕ, List}
 use Rattle.zen_disk.specs.declared.disks.Disks.{Ghosts as Disks}
-use Rattle.journal_inspection.specs.Inspects.{HostView, LeavesLinks}
+use Rattle.zen_host.specs.Views.{HostView}
+use Rattle.journal_inspection.specs.Inspects.{LeavesLinks}
 use Rattle.node_tool.specs.Runs.{Asked, EndsWith, IsComplete}
 use Rattle.node_tool.specs.declared.running.ToolEnd.{ToolEnd}
 use Rattle.node_tool.specs.declared.tool.Tool.{Tool}
 use Rattle.zen_app.specs.Codes.{status_of_tool}
-use Rattle.zen_app.specs.Views.{SinkView}
+use Rattle.zen_link.specs.Views.{SinkView}
 use Rattle.zen_app.specs.declared.status.Status.{Status}
 
 -- What the host was asked, what the tool made of the disk that it gave and what was written of it, and that a record is changed or refused where

@@ -1,12 +1,13 @@
 -- Part of the statement: what a run of `trial` does.
 use Rattle.std.specs.Prelude.{◌≡◌}
 use Rattle.command_line.specs.declared.command.TrialWords.{TrialWords}
-use Rattle.journal_inspection.specs.Inspects.{HostView, LeavesLinks}
+use Rattle.zen_host.specs.Views.{HostView}
+use Rattle.journal_inspection.specs.Inspects.{LeavesLinks}
 use Rattle.node_trial.specs.declared.running.TrialEnd.{TrialEnd}
 use Rattle.node_trial.specs.Nodes.{ToldTrial}
 use Rattle.node_trial.specs.Trials.{Tried}
 use Rattle.zen_app.specs.Codes.{status_of_trial}
-use Rattle.zen_app.specs.Views.{SinkView}
+use Rattle.zen_link.specs.Views.{SinkView}
 use Rattle.zen_app.specs.declared.status.Status.{Status}
 
 -- what is tried by the words

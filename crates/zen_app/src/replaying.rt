@@ -1,5 +1,6 @@
 //! The command `replay`.
 ghost use Rattle.std.specs.Prelude.{◌≡◌};
+ghost use Rattle.zen_link.specs.Views.{source_view, sink_view};
 ghost use Rattle.schedule_text.specs.Printed.{bad_line};
 ghost use Rattle.zen_app.specs.Refusing.{Refusal};
 ghost use Rattle.zen_app.specs.Runs.{ReplayEnded};
@@ -19,10 +20,10 @@ pub fn run_replay<I: Source, S: Sink>(
     out: &mut S,
 ) -> Status
     ensures { ReplayEnded level
-        (record { left = I.left input.old; faults = I.faults input.old })
-        (record { left = I.left input.new; faults = I.faults input.new })
-        (record { written = S.written out.old; faults = S.faults out.old })
-        (record { written = S.written out.new; faults = S.faults out.new })
+        (source_view I.Source input.old)
+        (source_view I.Source input.new)
+        (sink_view S.Sink out.old)
+        (sink_view S.Sink out.new)
         result }
 {
     let bytes = match read_input(alloc, input, MAX_BYTES + 1) {

@@ -1,6 +1,7 @@
 //! The command `rescue`: a schedule of level core read, replayed without output, and gone on with.
 ghost use Rattle.std.specs.Prelude.{◌≡◌, ◌||◌, ◌+◌, ◌<◌, ◌≤◌, length, nat_lt, IfOk};
 ghost use Rattle.std.specs.List.{AllByRecursion, list_any};
+ghost use Rattle.zen_link.specs.Views.{source_view, sink_view};
 ghost use Rattle.schedule_text.specs.Limits.{most_bytes, most_lines};
 ghost use Rattle.schedule_text.specs.Lines.{FitsLine};
 ghost use Rattle.schedule_text.specs.declared.level.Level.TheVariants.{Core};
@@ -124,10 +125,10 @@ pub fn run_rescue<I: Source, S: Sink>(
 ) -> Status
     requires some { 0 < length ids.now }
     ensures { RescueEnded ids.now
-        (record { left = I.left input.old; faults = I.faults input.old })
-        (record { left = I.left input.new; faults = I.faults input.new })
-        (record { written = S.written out.old; faults = S.faults out.old })
-        (record { written = S.written out.new; faults = S.faults out.new })
+        (source_view I.Source input.old)
+        (source_view I.Source input.new)
+        (sink_view S.Sink out.old)
+        (sink_view S.Sink out.new)
         result }
 {
     // For the proof alone: the ids are a set.

@@ -1,9 +1,11 @@
 //! `run`, the one call of the program: its words read, and the command done that they are.
-ghost use Rattle.std.specs.Prelude.{◌≡◌, map, string_bytes};
-ghost use Rattle.journal_inspection.specs.Inspects.{HostView};
+ghost use Rattle.std.specs.Prelude.{◌≡◌, ℕ, Some, List, map, string_bytes};
+ghost use Rattle.command_line.specs.Commands.{command_of};
+ghost use Rattle.zen_link.specs.Views.{source_view, sink_view};
+ghost use Rattle.zen_host.specs.Views.{host_view};
 ghost use Rattle.zen_app.specs.Codes.{status_of, status_of_audit};
 ghost use Rattle.zen_app.specs.Ran.{Ran};
-ghost use Rattle.zen_app.specs.Runs.{UsageRun};
+ghost use Rattle.zen_app.specs.Runs.{IsWithin, UsageRun};
 
 use crate::Status;
 use crate::generating::run_generate;
@@ -56,6 +58,42 @@ fn refuse_words<S: Sink>(out: &mut S) -> Status
     Status::Usage
 }
 
+// Does a command. No value of its own is alive here, which keeps its many ends cheap.
+fn run_command<L: Link<Out = Sealed> + Drop, H: Host<Link = L>>(
+    alloc: Global,
+    command: &ProgramCommand,
+    input: &mut H::In,
+    out: &mut H::Out,
+    host: &mut H,
+) -> Status
+    requires { IsWithin command.now }
+    ensures { (words : List (List ℕ)) → command_of words ≡ Some command.now
+        → Ran H.Disk.Disks L.Link words
+        (source_view H.In.Source input.old)
+        (source_view H.In.Source input.new)
+        (sink_view H.Out.Sink out.old)
+        (sink_view H.Out.Sink out.new)
+        (host_view H.Host host.old)
+        (host_view H.Host host.new)
+        result }
+{
+    match command {
+        ProgramCommand::Replay(level) => run_replay(alloc, *level, input, out),
+        ProgramCommand::Inspect(dir) => status_after(inspect(alloc, dir.as_str(), out, host)),
+        ProgramCommand::Node(words) => run_node(alloc, words, out, host),
+        ProgramCommand::Generate { number, steps } => run_generate(alloc, *number, *steps, out),
+        ProgramCommand::Trial(words) => try_nodes(alloc, words, out, host),
+        ProgramCommand::Rescue(ids) => run_rescue(alloc, ids, input, out),
+        ProgramCommand::UnsafeBootstrap { id, dir } => {
+            use_on(alloc, Tool::UnsafeBootstrap(*id), dir.as_str(), out, host)
+        }
+        ProgramCommand::DetachCluster(dir) => {
+            use_on(alloc, Tool::DetachCluster, dir.as_str(), out, host)
+        }
+        ProgramCommand::Audit => audit_status(run_audit(alloc, input, out)),
+    }
+}
+
 /// Runs the program: `words` are those after its name. `replay --level core` reads a schedule of single acts and writes its
 /// trace, `replay --level node` a schedule of whole nodes. `inspect --dir D` opens the journal in a folder and writes what
 /// it keeps. `node` runs one node over the journal in a folder and a link, and writes its history. `generate` replays the
@@ -72,32 +110,17 @@ pub fn run<L: Link<Out = Sealed> + Drop, H: Host<Link = L>>(
 ) -> Status
     ensures { Ran H.Disk.Disks L.Link
         (map (λ w. string_bytes w) words.now)
-        (record { left = H.In.left input.old; faults = H.In.faults input.old })
-        (record { left = H.In.left input.new; faults = H.In.faults input.new })
-        (record { written = H.Out.written out.old; faults = H.Out.faults out.old })
-        (record { written = H.Out.written out.new; faults = H.Out.faults out.new })
-        (record { calls = H.calls host.old; disk_ready = H.disk_ready host.old; disk_back = H.disk_back host.old; link_ready = H.link_ready host.old; link_back = H.link_back host.old; held = H.held host.old; faults = H.faults host.old })
-        (record { calls = H.calls host.new; disk_ready = H.disk_ready host.new; disk_back = H.disk_back host.new; link_ready = H.link_ready host.new; link_back = H.link_back host.new; held = H.held host.new; faults = H.faults host.new })
+        (source_view H.In.Source input.old)
+        (source_view H.In.Source input.new)
+        (sink_view H.Out.Sink out.old)
+        (sink_view H.Out.Sink out.new)
+        (host_view H.Host host.old)
+        (host_view H.Host host.new)
         result }
 {
-    let command = match read_words(alloc, words) {
-        Ok(command) => command,
-        Err(WordsError::Usage) => return refuse_words(out),
-        Err(WordsError::Memory) => return Status::NoMemory,
-    };
-    match &command {
-        ProgramCommand::Replay(level) => run_replay(alloc, *level, input, out),
-        ProgramCommand::Inspect(dir) => status_after(inspect(alloc, dir.as_str(), out, host)),
-        ProgramCommand::Node(words) => run_node(alloc, words, out, host),
-        ProgramCommand::Generate { number, steps } => run_generate(alloc, *number, *steps, out),
-        ProgramCommand::Trial(words) => try_nodes(alloc, words, out, host),
-        ProgramCommand::Rescue(ids) => run_rescue(alloc, ids, input, out),
-        ProgramCommand::UnsafeBootstrap { id, dir } => {
-            use_on(alloc, Tool::UnsafeBootstrap(*id), dir.as_str(), out, host)
-        }
-        ProgramCommand::DetachCluster(dir) => {
-            use_on(alloc, Tool::DetachCluster, dir.as_str(), out, host)
-        }
-        ProgramCommand::Audit => audit_status(run_audit(alloc, input, out)),
+    match read_words(alloc, words) {
+        Ok(command) => run_command(alloc, &command, input, out, host),
+        Err(WordsError::Usage) => refuse_words(out),
+        Err(WordsError::Memory) => Status::NoMemory,
     }
 }

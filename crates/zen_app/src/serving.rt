@@ -1,8 +1,9 @@
 //! A run of one node: the journal in its folder, its link, and how it ends.
 ghost use Rattle.std.specs.Prelude.{◌≡◌, ◌≤◌, IfOk, Some, map};
 ghost use Rattle.zen_disk.specs.Faults.{Rose};
+ghost use Rattle.zen_link.specs.Views.{sink_view};
+ghost use Rattle.zen_host.specs.Views.{host_view};
 ghost use Rattle.state_journal.specs.Opening.{handed_back};
-ghost use Rattle.journal_inspection.specs.Inspects.{HostView};
 ghost use Rattle.journal_inspection.specs.Report.{not_a_journal};
 ghost use Rattle.zen_app.specs.NodeFaults.{NodeFaults, status_by};
 ghost use Rattle.zen_app.specs.NodeRuns.{EndsBy, NodeRun, RefusedBy, SaysLine, settings_by};
@@ -40,6 +41,7 @@ fn settings(alloc: Global, words: &NodeWords) -> Result<Settings, AllocError>
         me: link.me,
         peers: NodeIds::of(ids(alloc, &link.peers)?),
         initial: words.initial.copy(),
+        voting_only: words.voting_only.copy(),
         shrink: words.shrink,
     })
 }
@@ -138,10 +140,10 @@ pub fn run_node<L: Link<Out = Sealed> + Drop, H: Host<Link = L>>(
     host: &mut H,
 ) -> Status
     ensures run { NodeRun H.Disk.Disks L.Link words.now
-        (record { calls = H.calls host.old; disk_ready = H.disk_ready host.old; disk_back = H.disk_back host.old; link_ready = H.link_ready host.old; link_back = H.link_back host.old; held = H.held host.old; faults = H.faults host.old })
-        (record { calls = H.calls host.new; disk_ready = H.disk_ready host.new; disk_back = H.disk_back host.new; link_ready = H.link_ready host.new; link_back = H.link_back host.new; held = H.held host.new; faults = H.faults host.new })
-        (record { written = H.Out.written out.old; faults = H.Out.faults out.old })
-        (record { written = H.Out.written out.new; faults = H.Out.faults out.new })
+        (host_view H.Host host.old)
+        (host_view H.Host host.new)
+        (sink_view H.Out.Sink out.old)
+        (sink_view H.Out.Sink out.new)
         result }
     ensures held { H.held host.new ≡ H.held host.old }
     ensures faults { NodeFaults H.Disk.faults L.faults (H.disk_back host.new) (H.link_back host.new) (H.faults host.old) (H.faults host.new) (H.Out.faults out.old) (H.Out.faults out.new) result }

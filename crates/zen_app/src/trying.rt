@@ -1,7 +1,8 @@
 //! The command `trial`.
 ghost use Rattle.std.specs.Prelude.{◌≡◌, ◌≤◌};
 ghost use Rattle.zen_disk.specs.Faults.{Rose};
-ghost use Rattle.journal_inspection.specs.Inspects.{HostView};
+ghost use Rattle.zen_link.specs.Views.{sink_view};
+ghost use Rattle.zen_host.specs.Views.{host_view};
 ghost use Rattle.zen_app.specs.Codes.{status_of_trial};
 ghost use Rattle.zen_app.specs.TrialRuns.{TrialRun};
 ghost use Rattle.zen_app.specs.declared.status.Status.TheVariants as exit;
@@ -33,10 +34,10 @@ pub fn try_nodes<H: Host>(
 ) -> Status
     requires { words.now.port ≤ 65533 }
     ensures run { TrialRun words.now
-        (record { calls = H.calls host.old; disk_ready = H.disk_ready host.old; disk_back = H.disk_back host.old; link_ready = H.link_ready host.old; link_back = H.link_back host.old; held = H.held host.old; faults = H.faults host.old })
-        (record { calls = H.calls host.new; disk_ready = H.disk_ready host.new; disk_back = H.disk_back host.new; link_ready = H.link_ready host.new; link_back = H.link_back host.new; held = H.held host.new; faults = H.faults host.new })
-        (record { written = H.Out.written out.old; faults = H.Out.faults out.old })
-        (record { written = H.Out.written out.new; faults = H.Out.faults out.new })
+        (host_view H.Host host.old)
+        (host_view H.Host host.new)
+        (sink_view H.Out.Sink out.old)
+        (sink_view H.Out.Sink out.new)
         result }
     ensures held { H.held host.new ≡ H.held host.old }
     ensures host_fault { result ≡ exit.HostFault → Rose (H.faults host.old) (H.faults host.new) }

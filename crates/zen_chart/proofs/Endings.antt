@@ -11,7 +11,7 @@ use Rattle.zen_chart.specs.Ran.{DrawEnds, MayEndDraw}
 use Rattle.zen_link.specs.Reading.{IsInput, ReadsAtMost}
 use Rattle.zen_chart.specs.Reading.{most_read, unread_of}
 use Rattle.zen_chart.specs.Runs.{DrawEnded, Refusal}
-use Rattle.zen_chart.specs.Views.{SourceView, SinkView}
+use Rattle.zen_link.specs.Views.{SourceView, SinkView}
 use Rattle.zen_chart.specs.declared.status.Status.{Status}
 use Rattle.zen_chart.specs.declared.status.Status.TheVariants as exit
 use Rattle.zen_chart.proofs.Enough.{read_enough, trace_short}

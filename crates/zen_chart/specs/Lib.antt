@@ -2,4 +2,3 @@ pub mod Codes
 pub mod Ran
 pub mod Reading
 pub mod Runs
-pub mod Views

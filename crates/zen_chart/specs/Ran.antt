@@ -9,7 +9,7 @@ use Rattle.trace_reader.specs.Reading.{trace_at}
 use Rattle.sequence_chart.specs.Chart.{Draws}
 use Rattle.zen_link.specs.Reading.{ReadsAtMost}
 use Rattle.zen_chart.specs.Reading.{most_read, unread_of}
-use Rattle.zen_chart.specs.Views.{SourceView, SinkView}
+use Rattle.zen_link.specs.Views.{SourceView, SinkView}
 use Rattle.zen_chart.specs.declared.status.Status.{Status}
 use Rattle.zen_chart.specs.declared.status.Status.TheVariants as exit
 

@@ -5,7 +5,7 @@ use Rattle.zen_link.specs.Streams.{Appended, AppendedFront}
 use Rattle.zen_chart.specs.Ran.{DrawRun, RefusesWords}
 use Rattle.zen_link.specs.Reading.{ReadsAtMost}
 use Rattle.zen_chart.specs.Reading.{most_read}
-use Rattle.zen_chart.specs.Views.{SourceView, SinkView}
+use Rattle.zen_link.specs.Views.{SourceView, SinkView}
 use Rattle.zen_chart.specs.declared.status.Status.{Status}
 use Rattle.zen_chart.specs.declared.status.Status.TheVariants as exit
 

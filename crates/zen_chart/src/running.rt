@@ -1,6 +1,7 @@
 //! A run: the input drawn, or refused.
 
 ghost use Rattle.std.specs.Prelude.{◌≡◌};
+ghost use Rattle.zen_link.specs.Views.{source_view, sink_view};
 ghost use Rattle.trace_reader.specs.Printed.{bad_line};
 ghost use Rattle.zen_chart.specs.Ran.{Ran, RefusesWords};
 ghost use Rattle.zen_chart.specs.Runs.{DrawEnded, Refusal, UsageRun};
@@ -15,10 +16,10 @@ use zen_link::{InputError, Sink, Source, read_input, write_all};
 /// Reads a trace and writes its picture, unless there are words. The clause says what each status tells.
 pub fn run<I: Source, S: Sink>(alloc: Global, has_words: bool, input: &mut I, out: &mut S) -> Status
     ensures { Ran has_words
-        (record { left = I.left input.old; faults = I.faults input.old })
-        (record { left = I.left input.new; faults = I.faults input.new })
-        (record { written = S.written out.old; faults = S.faults out.old })
-        (record { written = S.written out.new; faults = S.faults out.new })
+        (source_view I.Source input.old)
+        (source_view I.Source input.new)
+        (sink_view S.Sink out.old)
+        (sink_view S.Sink out.new)
         result }
 {
     if has_words {
@@ -39,10 +40,10 @@ fn refuse_words<S: Sink>(out: &mut S) -> Status
 // Reads a trace and writes its picture.
 fn draw<I: Source, S: Sink>(alloc: Global, input: &mut I, out: &mut S) -> Status
     ensures { DrawEnded
-        (record { left = I.left input.old; faults = I.faults input.old })
-        (record { left = I.left input.new; faults = I.faults input.new })
-        (record { written = S.written out.old; faults = S.faults out.old })
-        (record { written = S.written out.new; faults = S.faults out.new })
+        (source_view I.Source input.old)
+        (source_view I.Source input.new)
+        (sink_view S.Sink out.old)
+        (sink_view S.Sink out.new)
         result }
 {
     let bytes = match read_input(alloc, input, MAX_TRACE_BYTES + 1) {

@@ -1,5 +1,5 @@
 -- For the contracts inside: what a host in memory tells of a call.
-use Rattle.std.specs.Prelude.{Option, None, Some, option_map, map, string_bytes}
+use Rattle.std.specs.Prelude.{option_map, map, string_bytes}
 use Rattle.zen_host.specs.HostCalls.{HostCall, OpensDisk, OpensLink, Spawns, WaitsFor, Kills, told_settings, told_end}
 use Rattle.zen_host.specs.declared.mem_host.Asked.{Asked}
 use Rattle.zen_host.specs.declared.mem_host.Asked.TheVariants.{OpenDisk, OpenLink, Spawn, Wait, Kill}

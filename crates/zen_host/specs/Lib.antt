@@ -1,3 +1,4 @@
 pub mod AskedCalls
 pub mod HostCalls
 pub mod MemHost
+pub mod Views

@@ -137,6 +137,7 @@ pub fn schedule(alloc: Global, seed: u64) -> Result<Schedule, AllocError> {
     Ok(Schedule {
         nodes,
         initial,
+        voting_only: NodeSet::new(),
         lines: Lines::of(lines),
     })
 }

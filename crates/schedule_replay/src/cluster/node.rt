@@ -159,13 +159,14 @@ impl ClusterNode {
         me: NodeId,
         ids: &NodeSet,
         initial: &NodeSet,
+        voting_only: &NodeSet,
     ) -> Result<ClusterNode, AllocError>
-        ensures { IfOk result (λ c. NodeFor (settings_in ids.now initial.now me) c (fresh_own (settings_in ids.now initial.now me)) false) }
+        ensures { IfOk result (λ c. NodeFor (settings_in ids.now initial.now voting_only.now me) c (fresh_own (settings_in ids.now initial.now voting_only.now me)) false) }
     {
         let Ok(journal) = StateJournal::open(alloc, empty_disk(alloc)) else {
             return Err(AllocError);
         };
-        let settings = settings_of(alloc, me, ids, initial)?;
+        let settings = settings_of(alloc, me, ids, initial, voting_only)?;
         let mut node = node_over(alloc, settings, journal);
         let ended = step(&mut node, alloc, Event::Start)?;
         match ended {
@@ -221,21 +222,22 @@ impl ClusterNode {
         alloc: Global,
         ids: &NodeSet,
         initial: &NodeSet,
+        voting_only: &NodeSet,
         frames: &mut Vec<Frame>,
         text: &mut Text,
     ) -> Result<(), AllocError>
-        requires { (own : Own) × NodeFor (settings_in ids.now initial.now self.old.me) self.old own false }
-        ensures { OnOk result (Reopens ids.now initial.now self.old self.new frames.old.items frames.new.items text.old text.new) }
+        requires { (own : Own) × NodeFor (settings_in ids.now initial.now voting_only.now self.old.me) self.old own false }
+        ensures { OnOk result (Reopens ids.now initial.now voting_only.now self.old self.new frames.old.items frames.new.items text.old text.new) }
     {
         match take_slot(&mut self.slot, alloc) {
-            Slot::Down(fuse) => self.open(alloc, ids, initial, fuse, frames, text),
+            Slot::Down(fuse) => self.open(alloc, ids, initial, voting_only, fuse, frames, text),
             Slot::Open(node) => {
                 if !node.keeper().stopped() {
                     self.slot = Slot::Open(node);
                     return write_up(text, self.me);
                 }
                 let fuse = node.into_keeper().into_disk();
-                self.open(alloc, ids, initial, fuse, frames, text)
+                self.open(alloc, ids, initial, voting_only, fuse, frames, text)
             }
         }
     }
@@ -246,17 +248,18 @@ impl ClusterNode {
         alloc: Global,
         ids: &NodeSet,
         initial: &NodeSet,
+        voting_only: &NodeSet,
         fuse: Fuse<MemDisks>,
         frames: &mut Vec<Frame>,
         text: &mut Text,
     ) -> Result<(), AllocError>
-        requires { (own : Own) × ClosedFor (settings_in ids.now initial.now self.old.me) self.old fuse own }
-        ensures { OnOk result (Restarts ids.now initial.now self.old self.new fuse frames.old.items frames.new.items text.old text.new) }
+        requires { (own : Own) × ClosedFor (settings_in ids.now initial.now voting_only.now self.old.me) self.old fuse own }
+        ensures { OnOk result (Restarts ids.now initial.now voting_only.now self.old self.new fuse frames.old.items frames.new.items text.old text.new) }
     {
         match StateJournal::open(alloc, fuse) {
             Ok(journal) => {
                 write_record(text, self.me, journal.kept())?;
-                let settings = settings_of(alloc, self.me, ids, initial)?;
+                let settings = settings_of(alloc, self.me, ids, initial, voting_only)?;
                 self.slot = Slot::Open(node_over(alloc, settings, journal));
                 self.event(alloc, Event::Start, frames, text)
             }
@@ -276,8 +279,9 @@ fn settings_of(
     me: NodeId,
     ids: &NodeSet,
     initial: &NodeSet,
+    voting_only: &NodeSet,
 ) -> Result<Settings, AllocError>
-    ensures { IfOk result (λ settings. settings ≡ settings_in ids.now initial.now me) }
+    ensures { IfOk result (λ settings. settings ≡ settings_in ids.now initial.now voting_only.now me) }
 {
     let mut others = ids.copy();
     others.remove(me);
@@ -287,6 +291,7 @@ fn settings_of(
         me,
         peers: NodeIds::of(peers),
         initial: initial.copy(),
+        voting_only: voting_only.copy(),
         shrink: true,
     })
 }

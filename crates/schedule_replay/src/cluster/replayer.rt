@@ -37,10 +37,11 @@ impl ClusterReplayer {
         alloc: Global,
         ids: &NodeSet,
         initial: &NodeSet,
+        voting_only: &NodeSet,
     ) -> Result<ClusterReplayer, AllocError>
-        ensures { IfOk result (λ r. ClusterFor ids.now initial.now r.nodes.items r.frames.items (fresh_cluster ids.now initial.now)) }
+        ensures { IfOk result (λ r. ClusterFor ids.now initial.now voting_only.now r.nodes.items r.frames.items (fresh_cluster ids.now initial.now voting_only.now)) }
     {
-        let nodes = fresh_nodes(alloc, ids, initial)?;
+        let nodes = fresh_nodes(alloc, ids, initial, voting_only)?;
         // For the proof alone: a set ascends and has 32 ids at most.
         let _ = ids.as_slice();
         Ok(ClusterReplayer {
@@ -58,8 +59,8 @@ impl ClusterReplayer {
         text: &mut Text,
     ) -> Result<(), AllocError>
         requires fits { FitsLine Node schedule.now.nodes line.now }
-        requires stands { (c : Cluster) × ClusterFor schedule.now.nodes schedule.now.initial self.old.nodes.items self.old.frames.items c }
-        ensures done { OnOk result (WritesLine schedule.now.nodes schedule.now.initial self.old.nodes.items self.new.nodes.items self.old.frames.items self.new.frames.items text.old text.new line.now) }
+        requires stands { (c : Cluster) × ClusterFor schedule.now.nodes schedule.now.initial schedule.now.voting_only self.old.nodes.items self.old.frames.items c }
+        ensures done { OnOk result (WritesLine schedule.now.nodes schedule.now.initial schedule.now.voting_only self.old.nodes.items self.new.nodes.items self.old.frames.items self.new.frames.items text.old text.new line.now) }
     {
         text.echo(line)?;
         match line {
@@ -90,8 +91,8 @@ impl ClusterReplayer {
         text: &mut Text,
     ) -> Result<(), AllocError>
         requires listed { has n schedule.now.nodes ≡ true }
-        requires stands { (c : Cluster) × ClusterFor schedule.now.nodes schedule.now.initial self.old.nodes.items self.old.frames.items c }
-        ensures done { OnOk result (DoesLine schedule.now.nodes schedule.now.initial self.old.nodes.items self.new.nodes.items self.old.frames.items self.new.frames.items text.old text.new (λ c. after_event_if_up (settings_of schedule.now.nodes schedule.now.initial n) c (event.Tick now word)) (λ c. event_shown_if_up (settings_of schedule.now.nodes schedule.now.initial n) c (event.Tick now word))) }
+        requires stands { (c : Cluster) × ClusterFor schedule.now.nodes schedule.now.initial schedule.now.voting_only self.old.nodes.items self.old.frames.items c }
+        ensures done { OnOk result (DoesLine schedule.now.nodes schedule.now.initial schedule.now.voting_only self.old.nodes.items self.new.nodes.items self.old.frames.items self.new.frames.items text.old text.new (λ c. after_event_if_up (settings_of schedule.now.nodes schedule.now.initial schedule.now.voting_only n) c (event.Tick now word)) (λ c. event_shown_if_up (settings_of schedule.now.nodes schedule.now.initial schedule.now.voting_only n) c (event.Tick now word))) }
     {
         self.event(alloc, schedule, n, Event::Tick { now, word }, text)
     }
@@ -106,8 +107,8 @@ impl ClusterReplayer {
         text: &mut Text,
     ) -> Result<(), AllocError>
         requires listed { has n schedule.now.nodes ≡ true }
-        requires stands { (c : Cluster) × ClusterFor schedule.now.nodes schedule.now.initial self.old.nodes.items self.old.frames.items c }
-        ensures done { OnOk result (DoesLine schedule.now.nodes schedule.now.initial self.old.nodes.items self.new.nodes.items self.old.frames.items self.new.frames.items text.old text.new (λ c. after_event_if_up (settings_of schedule.now.nodes schedule.now.initial n) c (event.Client 0 bytes.now)) (λ c. event_shown_if_up (settings_of schedule.now.nodes schedule.now.initial n) c (event.Client 0 bytes.now))) }
+        requires stands { (c : Cluster) × ClusterFor schedule.now.nodes schedule.now.initial schedule.now.voting_only self.old.nodes.items self.old.frames.items c }
+        ensures done { OnOk result (DoesLine schedule.now.nodes schedule.now.initial schedule.now.voting_only self.old.nodes.items self.new.nodes.items self.old.frames.items self.new.frames.items text.old text.new (λ c. after_event_if_up (settings_of schedule.now.nodes schedule.now.initial schedule.now.voting_only n) c (event.Client 0 bytes.now)) (λ c. event_shown_if_up (settings_of schedule.now.nodes schedule.now.initial schedule.now.voting_only n) c (event.Client 0 bytes.now))) }
     {
         let line = ClientLine::of(Vec::from_slice(alloc, bytes.as_slice())?);
         self.event(alloc, schedule, n, Event::Client { conn: 0, line }, text)
@@ -125,8 +126,8 @@ impl ClusterReplayer {
         requires listed { has n schedule.now.nodes ≡ true }
         requires fit { IsFitEvent event }
         requires later { is_start event ≡ false }
-        requires stands { (c : Cluster) × ClusterFor schedule.now.nodes schedule.now.initial self.old.nodes.items self.old.frames.items c }
-        ensures done { OnOk result (DoesLine schedule.now.nodes schedule.now.initial self.old.nodes.items self.new.nodes.items self.old.frames.items self.new.frames.items text.old text.new (λ c. after_event_if_up (settings_of schedule.now.nodes schedule.now.initial n) c event) (λ c. event_shown_if_up (settings_of schedule.now.nodes schedule.now.initial n) c event)) }
+        requires stands { (c : Cluster) × ClusterFor schedule.now.nodes schedule.now.initial schedule.now.voting_only self.old.nodes.items self.old.frames.items c }
+        ensures done { OnOk result (DoesLine schedule.now.nodes schedule.now.initial schedule.now.voting_only self.old.nodes.items self.new.nodes.items self.old.frames.items self.new.frames.items text.old text.new (λ c. after_event_if_up (settings_of schedule.now.nodes schedule.now.initial schedule.now.voting_only n) c event) (λ c. event_shown_if_up (settings_of schedule.now.nodes schedule.now.initial schedule.now.voting_only n) c event)) }
     {
         let place = place_of(schedule.nodes.as_slice(), n);
         let nodes = self.nodes.as_mut_slice();
@@ -142,9 +143,9 @@ impl ClusterReplayer {
         text: &mut Text,
     ) -> Result<(), AllocError>
         requires listed { has n schedule.now.nodes ≡ true }
-        requires stands { (c : Cluster) × ClusterFor schedule.now.nodes schedule.now.initial self.old.nodes.items self.old.frames.items c }
+        requires stands { (c : Cluster) × ClusterFor schedule.now.nodes schedule.now.initial schedule.now.voting_only self.old.nodes.items self.old.frames.items c }
         requires positive { 0 < ordinal }
-        ensures done { OnOk result (DoesLine schedule.now.nodes schedule.now.initial self.old.nodes.items self.new.nodes.items self.old.frames.items self.new.frames.items text.old text.new (λ c. after_frame (settings_of schedule.now.nodes schedule.now.initial n) c (frame_at c ordinal)) (λ c. frame_shown (settings_of schedule.now.nodes schedule.now.initial n) c (frame_at c ordinal))) }
+        ensures done { OnOk result (DoesLine schedule.now.nodes schedule.now.initial schedule.now.voting_only self.old.nodes.items self.new.nodes.items self.old.frames.items self.new.frames.items text.old text.new (λ c. after_frame (settings_of schedule.now.nodes schedule.now.initial schedule.now.voting_only n) c (frame_at c ordinal)) (λ c. frame_shown (settings_of schedule.now.nodes schedule.now.initial schedule.now.voting_only n) c (frame_at c ordinal))) }
     {
         let runs = self.runs(schedule, n);
         match self.frames.as_slice().get((ordinal - 1) as usize) {
@@ -171,8 +172,8 @@ impl ClusterReplayer {
     // Whether the node runs.
     fn runs(&self, schedule: &Schedule, n: NodeId) -> bool
         requires listed { has n schedule.now.nodes ≡ true }
-        requires stands { (c : Cluster) × ClusterFor schedule.now.nodes schedule.now.initial self.now.nodes.items self.now.frames.items c }
-        ensures { (c : Cluster) → AllFor schedule.now.nodes schedule.now.initial schedule.now.nodes self.now.nodes.items c → result ≡ not (needs_opening (node_world c.world n)) }
+        requires stands { (c : Cluster) × ClusterFor schedule.now.nodes schedule.now.initial schedule.now.voting_only self.now.nodes.items self.now.frames.items c }
+        ensures { (c : Cluster) → AllFor schedule.now.nodes schedule.now.initial schedule.now.voting_only schedule.now.nodes self.now.nodes.items c → result ≡ not (needs_opening (node_world c.world n)) }
     {
         let place = place_of(schedule.nodes.as_slice(), n);
         let nodes = self.nodes.as_slice();
@@ -188,8 +189,8 @@ impl ClusterReplayer {
         text: &mut Text,
     ) -> Result<(), AllocError>
         requires listed { has n schedule.now.nodes ≡ true }
-        requires stands { (c : Cluster) × ClusterFor schedule.now.nodes schedule.now.initial self.old.nodes.items self.old.frames.items c }
-        ensures done { OnOk result (DoesLine schedule.now.nodes schedule.now.initial self.old.nodes.items self.new.nodes.items self.old.frames.items self.new.frames.items text.old text.new (λ c. record c { world = crashed c.world n way }) (λ c. stop_text n (node_world c.world n))) }
+        requires stands { (c : Cluster) × ClusterFor schedule.now.nodes schedule.now.initial schedule.now.voting_only self.old.nodes.items self.old.frames.items c }
+        ensures done { OnOk result (DoesLine schedule.now.nodes schedule.now.initial schedule.now.voting_only self.old.nodes.items self.new.nodes.items self.old.frames.items self.new.frames.items text.old text.new (λ c. record c { world = crashed c.world n way }) (λ c. stop_text n (node_world c.world n))) }
     {
         let place = place_of(schedule.nodes.as_slice(), n);
         let nodes = self.nodes.as_mut_slice();
@@ -204,8 +205,8 @@ impl ClusterReplayer {
         text: &mut Text,
     ) -> Result<(), AllocError>
         requires listed { has n schedule.now.nodes ≡ true }
-        requires stands { (c : Cluster) × ClusterFor schedule.now.nodes schedule.now.initial self.old.nodes.items self.old.frames.items c }
-        ensures done { OnOk result (DoesLine schedule.now.nodes schedule.now.initial self.old.nodes.items self.new.nodes.items self.old.frames.items self.new.frames.items text.old text.new (λ c. after_restart (settings_of schedule.now.nodes schedule.now.initial n) c) (λ c. restart_shown (settings_of schedule.now.nodes schedule.now.initial n) c)) }
+        requires stands { (c : Cluster) × ClusterFor schedule.now.nodes schedule.now.initial schedule.now.voting_only self.old.nodes.items self.old.frames.items c }
+        ensures done { OnOk result (DoesLine schedule.now.nodes schedule.now.initial schedule.now.voting_only self.old.nodes.items self.new.nodes.items self.old.frames.items self.new.frames.items text.old text.new (λ c. after_restart (settings_of schedule.now.nodes schedule.now.initial schedule.now.voting_only n) c) (λ c. restart_shown (settings_of schedule.now.nodes schedule.now.initial schedule.now.voting_only n) c)) }
     {
         let place = place_of(schedule.nodes.as_slice(), n);
         let nodes = self.nodes.as_mut_slice();
@@ -213,6 +214,7 @@ impl ClusterReplayer {
             alloc,
             &schedule.nodes,
             &schedule.initial,
+            &schedule.voting_only,
             &mut self.frames,
             text,
         )
@@ -220,8 +222,8 @@ impl ClusterReplayer {
 
     fn arm(&mut self, schedule: &Schedule, n: NodeId, order: Order)
         requires listed { has n schedule.now.nodes ≡ true }
-        requires stands { (c : Cluster) × ClusterFor schedule.now.nodes schedule.now.initial self.old.nodes.items self.old.frames.items c }
-        ensures done { (text : List ℕ) → DoesLine schedule.now.nodes schedule.now.initial self.old.nodes.items self.new.nodes.items self.old.frames.items self.new.frames.items text text (λ c. record c { world = ordered c.world n order }) (λ c. []) }
+        requires stands { (c : Cluster) × ClusterFor schedule.now.nodes schedule.now.initial schedule.now.voting_only self.old.nodes.items self.old.frames.items c }
+        ensures done { (text : List ℕ) → DoesLine schedule.now.nodes schedule.now.initial schedule.now.voting_only self.old.nodes.items self.new.nodes.items self.old.frames.items self.new.frames.items text text (λ c. record c { world = ordered c.world n order }) (λ c. []) }
     {
         let place = place_of(schedule.nodes.as_slice(), n);
         let nodes = self.nodes.as_mut_slice();
@@ -229,18 +231,19 @@ impl ClusterReplayer {
     }
 }
 
-// Nodes that have opened their journals on empty disks, with these names to begin a new cluster.
+// Nodes that have opened their journals on empty disks, with these names to begin a new cluster, and these voting-only.
 fn fresh_nodes(
     alloc: Global,
     ids: &NodeSet,
     names: &NodeSet,
+    voting_only: &NodeSet,
 ) -> Result<Vec<ClusterNode>, AllocError>
-    ensures { IfOk result (λ nodes. AllFor ids.now names.now ids.now nodes.items (fresh_cluster ids.now names.now)) }
+    ensures { IfOk result (λ nodes. AllFor ids.now names.now voting_only.now ids.now nodes.items (fresh_cluster ids.now names.now voting_only.now)) }
 {
     let mut nodes = Vec::new(alloc);
     let listed = ids.as_slice();
     for id in listed {
-        let node = ClusterNode::new(alloc, *id, ids, names)?;
+        let node = ClusterNode::new(alloc, *id, ids, names, voting_only)?;
         nodes.push(node)?;
     }
     Ok(nodes)

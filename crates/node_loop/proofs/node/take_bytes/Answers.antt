@@ -9,13 +9,13 @@ use Rattle.node_loop.proofs.node.take_bytes.Goals as goal
 
 pub returns-in-Ok-clause-takes : goal.returns-in-Ok-clause-takes
 returns-in-Ok-clause-takes g c s life intakes stands up reads =
-    let fed = fed_reads c.args.connections.now c.feed_at.new.connections c.args.conn c.args.bytes.now c.in-Ok.came intakes c.requires.all c.requires.low reads c.in-Ok.ensures.ok in
+    let fed = fed_reads c.args.connections.now c.feed_at.new.connections c.take_came.new.connections c.args.conn c.args.bytes.now c.in-Ok.came intakes c.requires.all c.requires.low reads c.in-Ok.ensures.ok c.take_came.ensures.kept in
     record {
       intake = Read (Bytes c.args.conn c.args.bytes.now);
       is = refl;
       tells = subst
-          (λ h. Tells g.S.Steps.output (g.S.Steps.text s) s life (makes h) c.tell_came.result (g.O.Sink.written c.args.out.now) (g.O.Sink.written c.tell_came.new.out) (g.L.Link.told c.args.link.now) (g.L.Link.told c.tell_came.new.link) (HoldsBy g.S.Steps c.args.steps.now c.tell_came.new.steps s life))
-          fed.0 (c.tell_came.ensures.tells s life stands up);
+          (λ h. Tells g.S.Steps.output (g.S.Steps.text s) s life (makes h) c.take_came.result (g.O.Sink.written c.args.out.now) (g.O.Sink.written c.take_came.new.out) (g.L.Link.told c.args.link.now) (g.L.Link.told c.take_came.new.link) (HoldsBy g.S.Steps c.args.steps.now c.take_came.new.steps s life))
+          fed.0 (c.take_came.ensures.tells s life stands up);
       reads = fed.1;
     }
 

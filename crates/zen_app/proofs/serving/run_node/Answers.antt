@@ -5,7 +5,7 @@ use Rattle.policy_model.proofs.Locals.{life_local}
 use Rattle.node_loop.specs.Reporting.{sent_of}
 use Rattle.node_loop.specs.Texts.{entry_text, opening_text}
 use Rattle.zen_app.specs.NodeRuns.{NodeRun, settings_by}
-use Rattle.zen_app.specs.Views.{SinkView}
+use Rattle.zen_link.specs.Views.{SinkView}
 use Rattle.zen_app.proofs.NodeLives.{serves_on, opened_leaves}
 use Rattle.zen_app.proofs.NodeStages.{view_by, causes_since, rose_within, link_noted, unopened, unlinked, serving_writes, served}
 use Rattle.zen_app.proofs.serving.run_node.Goals as goal

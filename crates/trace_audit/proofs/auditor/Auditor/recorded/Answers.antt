@@ -18,6 +18,6 @@ returns c = λ initial h a.
     let is = c.in_ok-kept.ensures (node_history h n) stands in
     let settled = settled_for n (is_kept (node_history h n) shown) h in
     let others = others_then h n shown kept c.take_out.new.nodes (c.in_ok-node.ensures.others (node_history h) a.nodes) in
-    let own = own_then h n shown kept c.opened.result (c.opened.ensures (node_history settled n) (kept_is h n shown kept is)) in
+    let own = own_then h n shown kept c.in_ok-node-2.node (c.in_ok-node-2.ensures (node_history settled n) (kept_is h n shown kept is)) in
     opened_audit initial c.args.self.now (record { alloc = c.args.self.now.alloc; initial = c.args.self.now.initial; nodes = c.put_back.new.nodes; notes = c.args.self.now.notes }) h n shown kept a is (sym c.if-not-shows_as.ensures)
     refl refl (c.in_ok-put_back.ensures (acts_then h n shown kept) others own)

@@ -1,0 +1,10 @@
+pub mod Acts
+pub mod Causes
+pub mod Cuts
+pub mod Feedless
+pub mod Json
+pub mod JsonBack
+pub mod JsonText
+pub mod Plain
+pub mod Skips
+pub mod Traces
