@@ -782,8 +782,10 @@ fn pre_votes_of_the_last_term_end_a_round_with_no_election(rt: HostRuntime) -> R
 
 // ---- a disk that fails
 
+type OverJournal = Coordinator<StateJournal<Fuse<MemDisks>>>;
+
 // A node alone over a journal on a new disk.
-fn over_journal(alloc: Global) -> Result<Coordinator<StateJournal<Fuse<MemDisks>>>, Fail>
+fn over_journal(alloc: Global) -> Result<OverJournal, Fail>
     ensures { IfOk result IsReady }
 {
     let disk = MemDisks::new(alloc, Vec::new(alloc), Vec::new(alloc), Vec::new(alloc));
@@ -802,18 +804,42 @@ fn shows_only(alloc: Global, entries: &Entries, line: &str) -> Result<bool, Fail
     Ok(shows(str::from_utf8(text.as_bytes())?, &[line]))
 }
 
+// What its start and its first tick bring about.
+fn first_tick(alloc: Global, node: &mut OverJournal) -> Result<Sealed, StepError>
+    requires { IsReady node.old }
+    ensures { IsReady node.new }
+{
+    let _ = node.step(alloc, Event::Start);
+    node.step(alloc, Event::Tick { now: 0, word: 7 })
+}
+
+// The entries of the first tick, which the disk strikes.
+fn struck(alloc: Global, node: &mut OverJournal) -> Result<Entries, Fail>
+    requires { IsReady node.old }
+    ensures { IsReady node.new }
+{
+    match first_tick(alloc, node) {
+        Err(StepError::Disk(entries)) => Ok(entries),
+        _ => Err(Fail::new("the disk did not fail")),
+    }
+}
+
+fn is_stopped(alloc: Global, node: &mut OverJournal) -> bool
+    requires { IsReady node.old }
+{
+    let again = node.step(alloc, Event::Tick { now: 8, word: 7 });
+    matches!(again, Err(StepError::Stopped))
+}
+
 // The disk fails or stops at the first write. Answers the entries of that event, where the node does nothing more.
 fn fails_at_the_bootstrap(alloc: Global, order: Order) -> Result<Entries, Fail> {
     let mut node = over_journal(alloc)?;
-    let _ = node.step(alloc, Event::Start);
     node.arm(order);
-    let Err(StepError::Disk(entries)) = node.step(alloc, Event::Tick { now: 0, word: 7 }) else {
-        return Err(Fail::new("the disk did not fail"));
-    };
-    match node.step(alloc, Event::Tick { now: 8, word: 7 }) {
-        Err(StepError::Stopped) => Ok(entries),
-        _ => Err(Fail::new("the node is not stopped")),
+    let entries = struck(alloc, &mut node)?;
+    if is_stopped(alloc, &mut node) {
+        return Ok(entries);
     }
+    Err(Fail::new("the node is not stopped"))
 }
 
 // Whether the entries of a bootstrap that the disk strikes end with its act.
@@ -831,10 +857,9 @@ fn a_disk_that_fails_or_stops_ends_the_entries_with_its_act_and_stops_the_node(
     Ok(())
 }
 
-fn first_tick(alloc: Global) -> Result<Sealed, Fail> {
+fn sealed(alloc: Global) -> Result<Sealed, Fail> {
     let mut node = over_journal(alloc)?;
-    let _ = node.step(alloc, Event::Start);
-    match node.step(alloc, Event::Tick { now: 0, word: 7 }) {
+    match first_tick(alloc, &mut node) {
         Ok(sealed) => Ok(sealed),
         Err(_) => Err(Fail::new("the tick failed")),
     }
@@ -842,7 +867,7 @@ fn first_tick(alloc: Global) -> Result<Sealed, Fail> {
 
 #[test]
 fn what_is_sealed_is_given_up_as_it_is(rt: HostRuntime) -> Result<(), Fail> {
-    let (entries, sends, replies) = first_tick(rt.alloc())?.into_parts();
+    let (entries, sends, replies) = sealed(rt.alloc())?.into_parts();
     assert!(rt; sends.into_items().is_empty());
     assert!(rt; replies.as_slice().is_empty());
     assert!(rt; shows_only(rt.alloc(), &entries, "act a ok boot a")?);
