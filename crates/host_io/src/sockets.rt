@@ -33,6 +33,9 @@ const LISTENER: Token = Token(OWN as usize);
 // How many looks in a row find something before the system is asked what else has come.
 const LOOKS: u32 = 16;
 
+// How many lines of clients are handed on before the other connections are looked at, at most.
+const LINES: u32 = 64;
+
 // How many connections wait for a number at most.
 const LOBBY: usize = 8;
 
@@ -92,8 +95,12 @@ pub(crate) struct Sockets {
     lobby: VecDeque<Guest>,
     // The node's frames to itself.
     own: FrameQueue,
-    // The number that was looked at last.
-    last: u64,
+    // The number of a client that was looked at last.
+    last_client: u64,
+    // The number of another that was looked at last, or `OWN` where all were looked at since a client was.
+    last_other: u64,
+    // How many lines of clients were handed on since all others were looked at.
+    lines: u32,
     // Counts connections that came and looks that found something, so that what was first has the lower count.
     order: u64,
     backlog: Backlog,
@@ -146,7 +153,9 @@ impl Sockets {
             owed,
             lobby: VecDeque::new(alloc),
             own: FrameQueue::new(alloc),
-            last: OWN,
+            last_client: OWN,
+            last_other: OWN,
+            lines: 0,
             order: 0,
             backlog: Backlog::Waits,
             looks: 0,
@@ -243,15 +252,82 @@ impl Sockets {
         if self.asks_to_stop(framing) {
             return Ok(Some(Input::Stop));
         }
-        for _ in 1..CONNECTIONS {
-            let number = self.last % (CONNECTIONS - 1) + 1;
-            self.last = number;
-            let input = self.hear(framing, number, now)?;
+        for _ in 0..2 {
+            let input = self.look_at_connections(framing, now)?;
             if input.is_some() {
                 return Ok(input);
             }
+            // The clients may have been left out.
+            self.lines = 0;
         }
         Ok(None)
+    }
+
+    // What has come over connections: of clients first, so that a publication carries all that they asked for while the one before it
+    // was going on, which ends by a frame. After so many lines each other connection has its turn.
+    fn look_at_connections<F: Framing>(
+        &mut self,
+        framing: &F,
+        now: u64,
+    ) -> Result<Option<Input>, AllocError>
+        ensures { IfOk result (λ found. IfSome found (λ input. IsTrue (has_low_conn input))) }
+    {
+        if self.lines < LINES {
+            let input = self.look_at_clients(framing, now)?;
+            if input.is_some() {
+                self.lines = self.lines.saturating_add(1);
+                return Ok(input);
+            }
+            self.lines = LINES;
+        }
+        self.look_at_others(framing, now)
+    }
+
+    // What the next client has sent that has sent anything.
+    fn look_at_clients<F: Framing>(
+        &mut self,
+        framing: &F,
+        now: u64,
+    ) -> Result<Option<Input>, AllocError>
+        ensures { IfOk result (λ found. IfSome found (λ input. IsTrue (has_low_conn input))) }
+    {
+        for _ in 1..CONNECTIONS {
+            let number = self.last_client % (CONNECTIONS - 1) + 1;
+            self.last_client = number;
+            if self.brings_lines(number) {
+                let input = self.hear(framing, number, now)?;
+                if input.is_some() {
+                    return Ok(input);
+                }
+            }
+        }
+        Ok(None)
+    }
+
+    // What the next of the other connections brings that brings anything, up to the last of them.
+    fn look_at_others<F: Framing>(
+        &mut self,
+        framing: &F,
+        now: u64,
+    ) -> Result<Option<Input>, AllocError>
+        ensures { IfOk result (λ found. IfSome found (λ input. IsTrue (has_low_conn input))) }
+    {
+        for number in self.last_other.saturating_add(1)..CONNECTIONS {
+            self.last_other = number;
+            if !self.brings_lines(number) {
+                let input = self.hear(framing, number, now)?;
+                if input.is_some() {
+                    return Ok(input);
+                }
+            }
+        }
+        self.last_other = OWN;
+        Ok(None)
+    }
+
+    // Whether the connection with this number was given as lines.
+    fn brings_lines(&self, number: u64) -> bool {
+        matches!(self.connections.get(number as usize), Some(Some(connection)) if connection.brings_lines())
     }
 
     // Takes the connections that wait, and writes what waits.

@@ -96,6 +96,8 @@ enum AtLink {
     Gives(u64, &'static [u8]),
     // The same with no tick before it.
     GivesAtOnce(u64, &'static [u8]),
+    // The next inputs but for ticks: these bytes so many times.
+    GivesTimes(u64, &'static [u8], u64),
     // The next input but for ticks: the end of the connection.
     Closes(u64),
     // The next inputs: so many ticks.
@@ -241,6 +243,15 @@ fn gives_at_once(link: &mut RealLink, number: u64, wanted: &[u8]) -> bool {
     are_bytes(link.next().ok(), number, wanted)
 }
 
+fn gives_times(link: &mut RealLink, number: u64, wanted: &[u8], count: u64) -> bool {
+    for _ in 0..count {
+        if !gives(link, number, wanted) {
+            return false;
+        }
+    }
+    true
+}
+
 fn stops(link: &mut RealLink) -> bool {
     matches!(next_input(link), Some(Input::Stop))
 }
@@ -292,6 +303,7 @@ fn is_so(rt: &HostRuntime, link: &mut RealLink, row: AtLink) -> bool {
     match row {
         Gives(number, wanted) => gives(link, number, wanted),
         GivesAtOnce(number, wanted) => gives_at_once(link, number, wanted),
+        GivesTimes(number, wanted, count) => gives_times(link, number, wanted, count),
         AtLink::Closes(number) => closes(link, number),
         Ticks(count) => ticks(link, count),
         Stops => stops(link),
@@ -931,6 +943,29 @@ const LINES_AMONG_FRAMES: &[Row] = &[
 #[test]
 fn lines_come_one_by_one_and_each_second_input_is_one(rt: HostRuntime) -> Result<(), Fail> {
     run_alone(&rt, LINES_AMONG_FRAMES)
+}
+
+const LINES_BEFORE_A_FRAME: &[Row] = &[
+    There(Opens),
+    Here(Asks(1)),
+    There(IsAsked),
+    There(Answers),
+    Here(Gives(1, ANSWERED)),
+    Client(FIRST, Connects),
+    Client(FIRST, Says(b"x\n")),
+    Here(Gives(2, b"x\n")),
+    // A frame comes, and then more lines than may go before it.
+    There(Answers),
+    Client(FIRST, Says(&[b'\n'; 66])),
+    Here(Rests),
+    Here(GivesTimes(2, b"\n", 64)),
+    Here(Gives(1, ANSWERED)),
+    Here(GivesTimes(2, b"\n", 2)),
+];
+
+#[test]
+fn lines_that_have_come_go_before_a_frame_up_to_64_of_them(rt: HostRuntime) -> Result<(), Fail> {
+    run_with_peer(&rt, LINES_BEFORE_A_FRAME)
 }
 
 const NUMBERS_KEPT: &[Row] = &[
