@@ -76,3 +76,12 @@ program_app = record {
   };
   subs = map raw_of commands;
 }
+
+-- ---- not part of the statement
+
+-- the program before its commands
+abbrev pub bare_app : App
+bare_app = record {
+  top = record (new_shape (codes "zen")) { no_binary_name = true; disable_help_flag = true; disable_help_subcommand = true; disable_version_flag = true };
+  subs = [];
+}

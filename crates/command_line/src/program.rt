@@ -1,8 +1,8 @@
 //! The command line as clap knows it: each command with its options and flags.
 ghost use Rattle.std.specs.Prelude.{◌≡◌, IfOk, codes};
-ghost use Rattle.clap.specs.Words.{app_of};
-ghost use Rattle.command_line.specs.Given.{option, flag};
-ghost use Rattle.command_line.specs.Program.{raw, HasOneMore, IsLeaf, replay_takes, inspect_takes, node_place_takes, node_takes, generate_takes, trial_takes, rescue_takes, unsafe_bootstrap_takes, detach_cluster_takes, audit_takes, program_app};
+ghost use Rattle.clap.specs.Words.{App, app_of, with_subcommand};
+ghost use Rattle.command_line.specs.Given.{CommandForm, option, flag};
+ghost use Rattle.command_line.specs.Program.{raw, raw_of, bare_app, HasOneMore, IsLeaf, replay_takes, inspect_takes, node_place_takes, node_takes, generate_takes, trial_takes, rescue_takes, unsafe_bootstrap_takes, detach_cluster_takes, audit_takes, program_app};
 
 use clap::{Arg, ArgAction, Command};
 use std::alloc::{AllocError, Global};
@@ -99,22 +99,42 @@ fn audit<'a>(alloc: Global) -> Command<'a>
     Command::new(alloc, "audit")
 }
 
-/// The commands and what they take, as clap is given them.
-pub fn program<'a>(alloc: Global) -> Result<Command<'a>, AllocError>
-    ensures { IfOk result (λ c. app_of c ≡ program_app) }
+// The program before its commands.
+fn bare<'a>(alloc: Global) -> Command<'a>
+    ensures { app_of result ≡ bare_app }
 {
     Command::new(alloc, "zen")
         .no_binary_name(true)
         .disable_help_flag(true)
         .disable_help_subcommand(true)
         .disable_version_flag(true)
-        .subcommand(replay(alloc)?)?
-        .subcommand(inspect(alloc)?)?
-        .subcommand(node(alloc)?)?
-        .subcommand(generate(alloc)?)?
-        .subcommand(trial(alloc)?)?
-        .subcommand(rescue(alloc)?)?
-        .subcommand(unsafe_bootstrap(alloc)?)?
-        .subcommand(detach_cluster(alloc)?)?
-        .subcommand(audit(alloc))
+}
+
+// The program with one more command.
+fn with_command<'a>(
+    program: Command<'a>,
+    command: Result<Command<'a>, AllocError>,
+) -> Result<Command<'a>, AllocError>
+    ensures { (app : App) (form : CommandForm) → app_of program.entry ≡ app → IfOk command.entry (IsLeaf form.0 form.1)
+        → IfOk result (λ c. app_of c ≡ with_subcommand app (raw_of form)) }
+{
+    match command {
+        Ok(command) => program.subcommand(command),
+        Err(error) => Err(error),
+    }
+}
+
+/// The commands and what they take, as clap is given them.
+pub fn program<'a>(alloc: Global) -> Result<Command<'a>, AllocError>
+    ensures { IfOk result (λ c. app_of c ≡ program_app) }
+{
+    let program = with_command(bare(alloc), replay(alloc))?;
+    let program = with_command(program, inspect(alloc))?;
+    let program = with_command(program, node(alloc))?;
+    let program = with_command(program, generate(alloc))?;
+    let program = with_command(program, trial(alloc))?;
+    let program = with_command(program, rescue(alloc))?;
+    let program = with_command(program, unsafe_bootstrap(alloc))?;
+    let program = with_command(program, detach_cluster(alloc))?;
+    with_command(program, Ok(audit(alloc)))
 }
