@@ -1,5 +1,5 @@
 -- How an inspection ends, from how its parts ended.
-use Rattle.std.proofs.Common.{◌≡◌, ℕ, true, Option, Some, List, [], ◌++◌, Result, Ok, Err, refl, sym, ◌∙◌, ap, subst, inl, inr, append-nil}
+use Rattle.std.proofs.Common.{◌≡◌, ℕ, true, false, Option, Some, List, [], ◌++◌, Result, Ok, Err, refl, sym, ◌∙◌, ap, subst, inl, inr, append-nil}
 use Rattle.std.specs.Result.{result_ok}
 use Rattle.zen_disk.specs.DeviceCall.{DeviceCall}
 use Rattle.zen_disk.specs.Faults.{Rose}
@@ -17,8 +17,9 @@ use Rattle.state_journal.specs.declared.why.Why.{Why}
 use Rattle.state_journal.specs.Journal.{found_of, record_of_files, records_of}
 use Rattle.state_journal.specs.Opening.{calls_until}
 use Rattle.journal_inspection.specs.Shows.{LeavesRecord, Shows, OnlyOpens, Reports, Refuses}
+use Rattle.zen_host.specs.HostCalls.{HostCall, OpensDisk, and_call}
 use Rattle.zen_host.specs.Views.{HostView}
-use Rattle.journal_inspection.specs.Inspects.{Opened, EndsWith, IsComplete}
+use Rattle.journal_inspection.specs.Inspects.{Asked, Opened, EndsWith, EndsShown, IsComplete, Says}
 use Rattle.journal_inspection.specs.declared.showing.Shown.{Shown}
 use Rattle.journal_inspection.specs.declared.showing.Shown.TheVariants as shown
 use Rattle.journal_inspection.specs.declared.inspecting.Inspection.{Inspection}
@@ -85,3 +86,26 @@ module _ {D L : Type 0} (d : Disks D) (host host_now : HostView D L) where
   completes was now wrote wrote_now end.WriteFault ended disk is t kept found no_host no_write no_disk = absurd (no_write ended.3)
   completes was now wrote wrote_now end.DiskFault ended disk is t kept found no_host no_write no_disk = absurd (disk_rose ended.0 no_disk)
   completes was now wrote wrote_now end.HostFault ended disk is t kept found no_host no_write no_disk = absurd (no_host ended.0)
+
+-- what holds of both ends of a writing
+pub said : {E : Type 0} (P : E → Type 0) (text : List ℕ) (whole cut : E) (was now : Option (List ℕ)) (wrote wrote_now : ℕ) (e : E) → P whole → P cut → Says text whole cut was now wrote wrote_now e → P e
+said P text whole cut was now wrote wrote_now e p q (inl done) = subst P (sym done.0) p
+said P text whole cut was now wrote wrote_now e p q (inr failed) = subst P (sym failed.0) q
+
+-- one that was shown something has asked for the disk
+pub asked_shown : (dir : List ℕ) (calls calls_now : Option (List HostCall)) (s : Shown) (was now : Option (List ℕ)) (wrote wrote_now : ℕ) (e : Inspection)
+    → calls_now ≡ and_call calls (OpensDisk dir false) → EndsShown s was now wrote wrote_now e → Asked dir calls calls_now e
+asked_shown dir calls calls_now (shown.Report text) was now wrote wrote_now e noted ends = said (Asked dir calls calls_now) text end.Done end.WriteFault was now wrote wrote_now e noted noted ends
+asked_shown dir calls calls_now (shown.NotAJournal text) was now wrote wrote_now e noted ends = said (Asked dir calls calls_now) text end.NotAJournal end.WriteFault was now wrote wrote_now e noted noted ends
+asked_shown dir calls calls_now shown.Disk was now wrote wrote_now e noted ends = subst (Asked dir calls calls_now) (sym ends.0) noted
+asked_shown dir calls calls_now shown.Memory was now wrote wrote_now e noted ends = subst (Asked dir calls calls_now) (sym ends.0) (inr noted)
+
+-- what was written of what is shown of the disk that the host gave
+pub ends_shown : {D L : Type 0} (d : Disks D) (host host_now : HostView D L) (s : Shown) (was now : Option (List ℕ)) (wrote wrote_now : ℕ) (e : Inspection)
+    → Opened d host host_now s → EndsShown s was now wrote wrote_now e → EndsWith d host host_now was now wrote wrote_now e
+ends_shown d host host_now (shown.Report text) was now wrote wrote_now e opened (inl whole) = subst (EndsWith d host host_now was now wrote wrote_now) (sym whole.0) (text, opened, whole.1)
+ends_shown d host host_now (shown.Report text) was now wrote wrote_now e opened (inr cut) = subst (EndsWith d host host_now was now wrote wrote_now) (sym cut.0) (text, inl opened, cut.1, cut.2)
+ends_shown d host host_now (shown.NotAJournal text) was now wrote wrote_now e opened (inl whole) = subst (EndsWith d host host_now was now wrote wrote_now) (sym whole.0) (text, opened, whole.1)
+ends_shown d host host_now (shown.NotAJournal text) was now wrote wrote_now e opened (inr cut) = subst (EndsWith d host host_now was now wrote wrote_now) (sym cut.0) (text, inr opened, cut.1, cut.2)
+ends_shown d host host_now shown.Disk was now wrote wrote_now e opened ended = subst (EndsWith d host host_now was now wrote wrote_now) (sym ended.0) (opened, ended.1)
+ends_shown d host host_now shown.Memory was now wrote wrote_now e opened ended = subst (EndsWith d host host_now was now wrote wrote_now) (sym ended.0) (inr opened, ended.1)

@@ -56,3 +56,17 @@ module _ {D L : Type 0} (d : Disks D) (host host_now : HostView D L) where
   IsComplete wrote wrote_now e =
       (disk : D) → host.disk_ready ≡ Some disk → d.told → (kept : Kept) → found_of (d.seen disk) ≡ Ok kept → (Rose host.faults host_now.faults → ⊥) → (Rose wrote wrote_now → ⊥)
       → ((back : D) → host_now.disk_back ≡ Some back → Rose 0 (d.faults back) → ⊥) → (e ≡ end.Done) ⊎ (e ≡ end.NoMemory)
+
+-- ---- not part of the statement
+
+-- the text was written and the end is the first, or the sink failed and it is the second
+abbrev pub Says : {E : Type 0} → (text : List ℕ) → (whole cut : E) → (was now : Option (List ℕ)) → (wrote wrote_now : ℕ) → E → Type 0
+Says text whole cut was now wrote wrote_now e =
+    ((e ≡ whole) × Appended was now text) ⊎ ((e ≡ cut) × AppendedFront was now text × Rose wrote wrote_now)
+
+-- how an inspection ends of which this is shown
+abbrev pub EndsShown : Shown → (was now : Option (List ℕ)) → (wrote wrote_now : ℕ) → Inspection → Type 0
+EndsShown (shown.Report text) was now wrote wrote_now e = Says text end.Done end.WriteFault was now wrote wrote_now e
+EndsShown (shown.NotAJournal text) was now wrote wrote_now e = Says text end.NotAJournal end.WriteFault was now wrote wrote_now e
+EndsShown shown.Disk was now wrote wrote_now e = (e ≡ end.DiskFault) × Appended was now []
+EndsShown shown.Memory was now wrote wrote_now e = (e ≡ end.NoMemory) × Appended was now []

@@ -5,6 +5,6 @@ pub mod inspecting;
 pub mod report;
 pub mod showing;
 
-pub use inspecting::{Inspection, inspect};
+pub use inspecting::{Inspection, inspect, say};
 pub use report::{write_not_a_journal, write_report};
 pub use showing::{Shown, show};

@@ -1,6 +1,7 @@
 //! The seven lines that show a journal, and the line that says why there is none.
-ghost use Rattle.std.specs.Prelude.{◌≡◌, ◌++◌, OnOk, IfOk};
+ghost use Rattle.std.specs.Prelude.{◌≡◌, ◌++◌, OnOk, IfOk, codes, decimal};
 ghost use Rattle.cluster_state.specs.States.{IsFit};
+ghost use Rattle.state_journal.specs.declared.why.Fault.TheVariants as faults;
 ghost use Rattle.journal_inspection.specs.Report.{digest_text, accepted_lines, state_lines, report, body_fault_text, fault_text, why_text, not_a_journal};
 
 use cluster_state::{ClusterState, Kept, encode_state, to_json};
@@ -75,38 +76,35 @@ fn name_of_fault(fault: BodyFault) -> &'static str
     }
 }
 
+// A fault's name up to its bracket, where it is, and the other bracket.
+fn write_at(text: &mut Text, name: &str, at: u64) -> Result<(), AllocError>
+    ensures { OnOk result (text.new ≡ text.old ++ (name.now ++ decimal at ++ codes ")")) }
+{
+    text.word(name)?;
+    text.number(at)?;
+    text.word(")")
+}
+
+fn write_body_fault(text: &mut Text, at: u64, fault: BodyFault) -> Result<(), AllocError>
+    ensures { OnOk result (text.new ≡ text.old ++ fault_text (faults.Body at fault)) }
+{
+    text.word("Body(")?;
+    text.number(at)?;
+    text.word(",")?;
+    text.word(name_of_fault(fault))?;
+    text.word(")")
+}
+
 fn write_fault(text: &mut Text, fault: Fault) -> Result<(), AllocError>
     ensures { OnOk result (text.new ≡ text.old ++ fault_text fault) }
 {
     match fault {
         Fault::Header => text.word("Header"),
-        Fault::Cut(at) => {
-            text.word("Cut(")?;
-            text.number(at)?;
-            text.word(")")
-        }
-        Fault::Long(at) => {
-            text.word("Long(")?;
-            text.number(at)?;
-            text.word(")")
-        }
-        Fault::Body(at, fault) => {
-            text.word("Body(")?;
-            text.number(at)?;
-            text.word(",")?;
-            text.word(name_of_fault(fault))?;
-            text.word(")")
-        }
-        Fault::Damaged { at, .. } => {
-            text.word("Damaged(")?;
-            text.number(at)?;
-            text.word(")")
-        }
-        Fault::Order(at) => {
-            text.word("Order(")?;
-            text.number(at)?;
-            text.word(")")
-        }
+        Fault::Cut(at) => write_at(text, "Cut(", at),
+        Fault::Long(at) => write_at(text, "Long(", at),
+        Fault::Body(at, fault) => write_body_fault(text, at, fault),
+        Fault::Damaged { at, .. } => write_at(text, "Damaged(", at),
+        Fault::Order(at) => write_at(text, "Order(", at),
     }
 }
 
