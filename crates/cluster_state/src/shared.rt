@@ -1,20 +1,24 @@
 //! `SharedState`: a cluster state that all who have it hold in one place, as do those who have its configuration or its value alone.
-ghost use Rattle.std.specs.Prelude.{◌≡◌, IfOk, IfErr, length};
+ghost use Rattle.std.specs.Prelude.{◌≡◌, ◌↔◌, Ok, IfOk, IfErr, IfSome, IsTrue, length};
 ghost use Rattle.cluster_state.specs.Shared.{first_of};
+ghost use Rattle.cluster_state.specs.States.{state as state_field, whole, IsFit};
 
+use crate::spelled::SpelledState;
 use crate::state::{ClusterState, ClusterValue};
+use crate::view::StateView;
 use std::alloc::{AllocError, AllocFailed, Global};
 use std::marker::Model;
 use std::ops::Deref;
 use std::rc::Rc;
 use voting_config::VotingConfig;
 
-/// A cluster state that all who have it hold in one place, so that handing it on copies none of it. Contracts see the state.
+/// A cluster state that all who have it hold in one place, so that handing it on copies none of it. Beside it lie its bytes, where it came as bytes or
+/// was spelled to be published, so that whoever writes them copies them. Contracts see the state.
 #[derive(Drop)]
 pub struct SharedState {
     // A list of one: a state is large, and moves into the room of a list as it is, where a call that may hand it back moves it through places
     // that are cleared first.
-    states: Rc<Vec<ClusterState>>,
+    states: Rc<Vec<SpelledState>>,
     ghost one: { length states.value.items ≡ 1 },
 }
 
@@ -33,8 +37,7 @@ impl Deref for SharedState {
     ghost deref_gives = { λ s state. state ≡ s };
 
     fn deref(&self) -> &ClusterState {
-        let states: &Vec<ClusterState> = &self.states;
-        &states[0]
+        self.spelled().state()
     }
 }
 
@@ -47,7 +50,7 @@ impl SharedState {
         let Ok(mut states) = Vec::with_capacity(alloc, 1) else {
             return Err(AllocFailed { value: state });
         };
-        states.push_reserved(state);
+        states.push_reserved(SpelledState::unknown(state));
         match Rc::new(alloc, states) {
             Ok(states) => Ok(SharedState { states }),
             Err(failed) => Err(handed_back(failed.value)),
@@ -58,10 +61,66 @@ impl SharedState {
     pub fn of(alloc: Global, state: ClusterState) -> Result<SharedState, AllocError>
         ensures { IfOk result (λ s. s ≡ state) }
     {
+        SharedState::place(alloc, SpelledState::unknown(state))
+    }
+
+    /// [`of`](SharedState::of) for a state that is to be written more than once: where it is within the limits it is spelled here, and its bytes are
+    /// kept beside it.
+    pub fn spell(alloc: Global, state: ClusterState) -> Result<SharedState, AllocError>
+        ensures { IfOk result (λ s. s ≡ state) }
+    {
+        let spelled = SpelledState::spell(alloc, state)?;
+        SharedState::place(alloc, spelled)
+    }
+
+    // The same for a state that was made of these bytes, of which a copy is kept beside it.
+    pub(crate) fn of_bytes(
+        alloc: Global,
+        state: ClusterState,
+        bytes: &[u8],
+    ) -> Result<SharedState, AllocError>
+        requires { whole (state_field.at bytes.now) ≡ Ok state }
+        ensures { IfOk result (λ s. s ≡ state) }
+    {
+        let spelled = SpelledState::of_bytes(alloc, state, bytes)?;
+        SharedState::place(alloc, spelled)
+    }
+
+    fn place(alloc: Global, spelled: SpelledState) -> Result<SharedState, AllocError>
+        ensures { IfOk result (λ s. s ≡ spelled) }
+    {
         let mut states = Vec::with_capacity(alloc, 1)?;
-        states.push_reserved(state);
+        states.push_reserved(spelled);
         let states = Rc::new(alloc, states)?;
         Ok(SharedState { states })
+    }
+
+    fn spelled(&self) -> &SpelledState
+        ensures { result.now ≡ self.now }
+    {
+        let states: &Vec<SpelledState> = &self.states;
+        &states[0]
+    }
+
+    /// The state as it lies in its bytes, where they are known.
+    pub fn view(&self) -> Option<StateView<'_>>
+        ensures { IfSome result (λ view. view ≡ self.now) }
+    {
+        self.spelled().view()
+    }
+
+    /// Whether it is within the limits, so that it has a spelling, as [`ClusterState::is_fit`] has it. What has bytes is.
+    pub fn is_fit(&self) -> bool
+        ensures { IsTrue result ↔ IsFit self.now }
+    {
+        match self.view() {
+            None => self.spelled().state().is_fit(),
+            Some(view) => {
+                // For the proof alone: what has bytes is within the limits.
+                view.bytes();
+                true
+            }
+        }
     }
 
     /// The same state, held once more. An error where no more holders of it can be counted.
@@ -144,13 +203,15 @@ impl SharedValue {
 }
 
 // The state of a list of one.
-fn handed_back(states: Vec<ClusterState>) -> AllocFailed<ClusterState>
+fn handed_back(states: Vec<SpelledState>) -> AllocFailed<ClusterState>
     requires { length states.items ≡ 1 }
     ensures { result.value ≡ first_of states.items }
 {
     let mut states = states;
     match states.pop() {
-        Some(value) => AllocFailed { value },
+        Some(spelled) => AllocFailed {
+            value: spelled.into_state(),
+        },
         None => unreachable!(),
     }
 }

@@ -57,12 +57,12 @@ impl<'a> StateView<'a> {
         spelled(self.bytes)
     }
 
-    /// The state, made of its bytes.
+    /// The state, made of its bytes, which are copied beside it.
     pub fn decode(&self, alloc: Global) -> Result<SharedState, AllocError>
         ensures { IfOk result (λ s. s ≡ self.now) }
     {
         match decode_state(alloc, self.bytes) {
-            Ok(state) => SharedState::of(alloc, state),
+            Ok(state) => SharedState::of_bytes(alloc, state, self.bytes),
             Err(DecodeError::Memory) => Err(AllocError),
             Err(DecodeError::Fault(_)) => unreachable!(),
         }

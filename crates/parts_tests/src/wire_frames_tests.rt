@@ -346,7 +346,7 @@ fn publish(alloc: Global) -> Result<WireMessage, AllocError>
     ensures { IfOk result IsFitMessage }
 {
     let state = ClusterState::initial(alloc, &set("a"));
-    Ok(WireMessage::Publish(SharedState::of(alloc, state)?))
+    Ok(WireMessage::Publish(SharedState::spell(alloc, state)?))
 }
 
 // The message of the kind, from a to b.

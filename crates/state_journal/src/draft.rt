@@ -13,8 +13,8 @@ ghost use Rattle.zen_disk.specs.Disk.{part, written};
 
 use crate::body::DIGEST;
 use arrayvec::ArrayVec;
-use cluster_state::ClusterState;
 use cluster_state::encoding::write_state;
+use cluster_state::{ClusterState, SharedState, StateView};
 use sha2::{Digest, Sha256};
 use std::alloc::{AllocError, Global};
 use std::marker::Model;
@@ -155,6 +155,35 @@ impl Draft {
         Ok(Draft {
             bytes,
             size,
+            start: STATE_AT,
+            len: 0,
+        })
+    }
+
+    // The bytes of a state that is shared, which are copied where they are known.
+    pub(crate) fn of(alloc: Global, state: &SharedState) -> Result<Draft, AllocError>
+        requires { IsFit state.now }
+        ensures { IfOk result (λ d. IsDraft state.now d) }
+    {
+        match state.view() {
+            None => Draft::new(alloc, state),
+            Some(view) => Draft::of_view(alloc, &view),
+        }
+    }
+
+    // A copy of the bytes that a state lies in.
+    #[tactic(auto, unfolding(crate::specs::Drafts::HasSpelling))]
+    fn of_view(alloc: Global, view: &StateView) -> Result<Draft, AllocError>
+        ensures { IfOk result (λ d. IsDraft view.now d) }
+    {
+        let state = view.bytes();
+        let mut bytes = Vec::with_capacity(alloc, STATE_AT + state.len() + ROOM)?;
+        bytes.extend_from_slice(&[0; STATE_AT])?;
+        bytes.extend_from_slice(state)?;
+        bytes.extend_from_slice(&[0; ROOM])?;
+        Ok(Draft {
+            bytes,
+            size: state.len(),
             start: STATE_AT,
             len: 0,
         })

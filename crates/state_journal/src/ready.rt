@@ -53,12 +53,12 @@ impl Ready {
         }
     }
 
-    /// This state, which is within the limits and may be held by others too, ready to be kept.
+    /// This state, which is within the limits and may be held by others too, ready to be kept. Its bytes are copied where they are known.
     pub fn of(alloc: Global, state: &SharedState) -> Result<Ready, AllocError>
         requires { IsFit state.now }
         ensures { IfOk result (λ r. r.state ≡ state.now) }
     {
-        let draft = Draft::new(alloc, state)?;
+        let draft = Draft::of(alloc, state)?;
         let state = state.share()?;
         Ok(Ready { state, draft })
     }

@@ -39,16 +39,25 @@ const FULL_STATE: [u8; 50] = [
 const FULL_JSON: &str =
     "{\"committed\":[\"b\"],\"config\":[\"a\"],\"parent\":{\"term\":1,\"version\":4},\"term\":2,\"value\":{\"exclusions\":[\"d\"],\"master\":\"a\",\"members\":[\"c\"],\"settings\":{}},\"version\":3}";
 
-// Whether the bytes are found to be those of a state of this id, and one of this id is made of them.
+// Whether the bytes of the state lie beside it, and are these.
+fn has_bytes(state: &SharedState, bytes: &[u8]) -> bool {
+    match state.view() {
+        None => false,
+        Some(view) => view.bytes() == bytes && state.is_fit(),
+    }
+}
+
+// Whether the bytes are found to be those of a state of this id, and one of this id is made of them, beside which they lie.
 fn is_seen(alloc: Global, bytes: &[u8], id: StateId) -> Result<bool, AllocError> {
     let Ok(view) = StateView::of(bytes) else {
         return Ok(false);
     };
     let made = view.decode(alloc)?;
-    Ok(check_state(bytes) == Ok(id) && view.bytes() == bytes && made.id() == id)
+    let is_same = view.bytes() == bytes && made.id() == id;
+    Ok(check_state(bytes) == Ok(id) && is_same && has_bytes(&made, bytes))
 }
 
-// Whether the bytes are those of a state, which has this JSON and whose copy has these bytes.
+// Whether the bytes are those of a state, which has this JSON and whose copy has these bytes, which lie beside it where it is spelled.
 fn is_state(alloc: Global, bytes: &[u8], json: &str) -> Result<bool, AllocError> {
     let Ok(state) = decode_state(alloc, bytes) else {
         return Ok(false);
@@ -57,7 +66,9 @@ fn is_state(alloc: Global, bytes: &[u8], json: &str) -> Result<bool, AllocError>
     let again = encode_state(alloc, &copy)?;
     let text = to_json(alloc, &state)?;
     let is_seen = is_seen(alloc, bytes, state.id())?;
-    Ok(is_seen && again.as_slice() == bytes && text.as_slice() == json.as_bytes())
+    let is_spelled = has_bytes(&SharedState::spell(alloc, copy)?, bytes);
+    let is_told = again.as_slice() == bytes && text.as_slice() == json.as_bytes();
+    Ok(is_seen && is_spelled && is_told)
 }
 
 const STATES: [(&[u8], &str); 3] = [
@@ -320,6 +331,21 @@ fn accepts_and_commits(kept: Kept, state: SharedState) -> bool {
     let is_accepted = has(&kept, "b", "a");
     kept.commit();
     is_accepted && has(&kept, "b", "b") && kept.accepted.committed.is_same(&config("a"))
+}
+
+// Whether the initial state of this term has its bytes beside it once it is spelled, and whether it is within the limits.
+fn spelled_and_fit(alloc: Global, term: u64) -> Result<(bool, bool), AllocError> {
+    let mut state = ClusterState::initial(alloc, config("a").members());
+    state.term = term;
+    let spelled = SharedState::spell(alloc, state)?;
+    Ok((spelled.view().is_some(), spelled.is_fit()))
+}
+
+#[test]
+fn a_state_within_the_limits_is_spelled(rt: HostRuntime) -> Result<(), Fail> {
+    assert!(rt; spelled_and_fit(rt.alloc(), 1 << 62)? == (true, true));
+    assert!(rt; spelled_and_fit(rt.alloc(), (1 << 62) + 1)? == (false, false));
+    Ok(())
 }
 
 #[test]

@@ -5,7 +5,7 @@ use crate::journals::{
     CHANGED, Journal, NO_DIGEST, OLD_AFTER, OLD_TERM_ONE, SECOND, SECOND_CHANGED, TERM_ONE, opened,
 };
 use crate::strikes::orders;
-use cluster_state::ClusterState;
+use cluster_state::{ClusterState, SharedState};
 use state_journal::{
     ArmKeeper, Fault, KeepError, Keeper, Kept, OpenError, PlainKeeper, Ready, StateJournal, Why,
 };
@@ -14,11 +14,12 @@ use std::test::Fail;
 use voting_config::{NodeSet, VotingConfig};
 use zen_disk::{MemDisks, Order, Side};
 
-// How the state is made ready that is accepted: the initial one of the node b, again as a shared one, or as a copy.
+// How the state is made ready that is accepted: the initial one of the node b, again as a shared one, as one whose bytes lie beside it, or as a copy.
 #[derive(Clone, Copy)]
 enum How {
     Initial,
     Shared,
+    Spelled,
     Copied,
 }
 
@@ -36,11 +37,18 @@ fn ids(text: &str) -> NodeSet {
     NodeSet::parse(text).unwrap_or(NodeSet::new())
 }
 
+// The same state as `Ready::initial` makes, of which the bytes lie beside it.
+fn spelled(alloc: Global) -> Result<Ready, AllocError> {
+    let state = SharedState::spell(alloc, ClusterState::initial(alloc, &ids("b")))?;
+    Ready::of(alloc, &state)
+}
+
 fn ready(alloc: Global, how: How) -> Result<Ready, AllocError> {
     let initial = Ready::initial(alloc, &ids("b"))?;
     match how {
         How::Initial => Ok(initial),
         How::Shared => Ready::of(alloc, initial.state()),
+        How::Spelled => spelled(alloc),
         How::Copied => initial.copy(),
     }
 }
@@ -246,7 +254,7 @@ const BACK_ON_SIDE_ZERO: [Run; 2] = [
     (
         &[
             (Act::Nothing, 1, 2, "_"),
-            (Act::Accept(How::Initial), 2, 2, "b"),
+            (Act::Accept(How::Spelled), 2, 2, "b"),
             (Act::Terms(3, 1424), 1424, 1424, "b"),
             (Act::Commit(1), 1425, 1424, "b"),
             (Act::Terms(1425, 1425), 1, 1425, "b"),
@@ -353,7 +361,7 @@ const ACCEPTED_AFTER_VERSION_1: [Run; 2] = [
     (
         &[
             (Act::Nothing, 2, 7, "b"),
-            (Act::Accept(How::Initial), 1, 7, "b"),
+            (Act::Accept(How::Spelled), 1, 7, "b"),
         ],
         File::Same,
         File::Is(B_AFTER_OLD),

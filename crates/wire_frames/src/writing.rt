@@ -7,7 +7,7 @@ ghost use Rattle.wire_frames.specs.Frames.{SpellsBody, SpellsFrame, IsFitFrame, 
 use crate::frame::{Frame, WireMessage};
 use bytes::{BufMut, Bytes, BytesMut};
 use cluster_state::StateId;
-use cluster_state::encoding::write_state;
+use cluster_state::encoding::write_shared_state;
 use cluster_state::writing::{
     write_flag, write_id, write_ids, write_optional_id, write_state_id, write_term,
 };
@@ -32,7 +32,7 @@ fn write_message(out: &mut Vec<u8>, message: &WireMessage) -> Result<(), AllocEr
             write_term(out, *term)
         }
         WireMessage::Join { term, last } => write_term_and_last(out, *term, *last),
-        WireMessage::Publish(state) => write_state(out, state),
+        WireMessage::Publish(state) => write_shared_state(out, state),
         WireMessage::Response(id) => write_state_id(out, *id),
         WireMessage::Commit(id) => write_state_id(out, *id),
         WireMessage::JoinAsk { term } => write_term(out, *term),

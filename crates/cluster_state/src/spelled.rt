@@ -1,0 +1,90 @@
+//! A state beside its bytes, where they are known.
+ghost use Rattle.std.specs.Prelude.{◌≡◌, Ok, IfOk, IfSome};
+ghost use Rattle.cluster_state.specs.States.{state as state_field, whole};
+
+use crate::encoding::encode_state;
+use crate::state::ClusterState;
+use crate::view::StateView;
+use std::alloc::{AllocError, Global};
+use std::marker::Model;
+
+/// A state beside its bytes, where they are known, so that it is spelled no more than once. Contracts see the state.
+#[derive(Drop)]
+pub(crate) struct SpelledState {
+    state: ClusterState,
+    bytes: Option<Vec<u8>>,
+}
+
+impl Model for SpelledState {
+    ghost use Rattle.std.specs.Prelude.{◌≡◌, Ok, IfSome};
+    ghost use Rattle.cluster_state.specs.States.{state as state_field, whole};
+    ghost use Rattle.cluster_state.specs.declared.state.ClusterState.{ClusterState};
+
+    ghost Value = { ClusterState };
+
+    ghost view = { λ s. s.state };
+
+    ghost invariant = { λ s. IfSome s.bytes (λ b. whole (state_field.at b.items) ≡ Ok s.state) };
+}
+
+impl SpelledState {
+    // This state, whose bytes are not known.
+    pub(crate) fn unknown(state: ClusterState) -> SpelledState
+        ensures { result ≡ state }
+    {
+        SpelledState { state, bytes: None }
+    }
+
+    // This state beside its bytes, where it is within the limits.
+    pub(crate) fn spell(alloc: Global, state: ClusterState) -> Result<SpelledState, AllocError>
+        ensures { IfOk result (λ s. s ≡ state) }
+    {
+        if !state.is_fit() {
+            return Ok(SpelledState::unknown(state));
+        }
+        let bytes = encode_state(alloc, &state)?;
+        Ok(SpelledState {
+            state,
+            bytes: Some(bytes),
+        })
+    }
+
+    // This state beside a copy of the bytes that spell it.
+    pub(crate) fn of_bytes(
+        alloc: Global,
+        state: ClusterState,
+        bytes: &[u8],
+    ) -> Result<SpelledState, AllocError>
+        requires { whole (state_field.at bytes.now) ≡ Ok state }
+        ensures { IfOk result (λ s. s ≡ state) }
+    {
+        let mut copied = Vec::with_capacity(alloc, bytes.len())?;
+        copied.extend_from_slice(bytes)?;
+        Ok(SpelledState {
+            state,
+            bytes: Some(copied),
+        })
+    }
+
+    pub(crate) fn state(&self) -> &ClusterState
+        ensures { result.now ≡ self.now }
+    {
+        &self.state
+    }
+
+    pub(crate) fn into_state(self) -> ClusterState
+        ensures { result ≡ self }
+    {
+        self.state
+    }
+
+    // The state as it lies in its bytes, where they are known.
+    pub(crate) fn view(&self) -> Option<StateView<'_>>
+        ensures { IfSome result (λ view. view ≡ self.now) }
+    {
+        match &self.bytes {
+            None => None,
+            Some(bytes) => Some(StateView::of_checked(bytes)),
+        }
+    }
+}
