@@ -12,4 +12,5 @@ pub mod Judging
 pub mod Acting
 pub mod WasSent
 pub mod Counting
+pub mod Codes
 mod Examples

@@ -87,6 +87,9 @@ request_is a b h =
     let state = state_is a.state b.state p.1 in
     λ i. record { source = source i; state = state i }
 
+pub request_self : (a : PublishRequest) → same_request a a ≡ true
+request_self a = and_from _ _ (same_self a.source) (state_self a.state)
+
 pub response_is : (a b : PublishResponse) → same_response a b ≡ true → a ≡ b
 response_is a b h =
     let p = and_parts _ _ h in
@@ -133,7 +136,7 @@ message_is (CommitMessage a) (ResponseMessage b) h = absurd cc
 
 pub message_self : (a : Message) → same_message a a ≡ true
 message_self (JoinMessage a) = join_self a
-message_self (PublishMessage a) = and_from _ _ (same_self a.source) (state_self a.state)
+message_self (PublishMessage a) = request_self a
 message_self (ResponseMessage a) = response_self a
 message_self (CommitMessage a) = commit_self a
 

@@ -5,5 +5,6 @@ pub mod Traced
 pub mod Clauses
 pub mod Verdicts
 pub mod Messages
+pub mod Contents
 pub mod Places
 pub mod Stands

@@ -84,7 +84,7 @@ fn was_sent(sent: &SentMessages, act: &Act) -> Result<bool, AllocError>
     let Some(message) = message_taken(act)? else {
         return Ok(true);
     };
-    Ok(sent.contains(&message))
+    sent.contains(&message)
 }
 
 // Whether the act writes to the disk.

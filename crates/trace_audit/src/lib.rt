@@ -4,6 +4,7 @@
 pub mod auditing;
 pub mod auditor;
 pub mod clause;
+pub mod contents;
 pub mod notes;
 pub mod printing;
 pub mod reporting;

@@ -130,18 +130,12 @@ impl Notes {
         }
     }
 
-    fn is_sent(&self, commit: &ApplyCommit) -> bool
-        ensures { result ≡ is_held self.now.sent (TheCommits.Commit commit.now) }
-    {
-        self.sent.contains(&Message::Commit(*commit))
-    }
-
     fn count_sent(&self, commits: &[ApplyCommit]) -> usize
         ensures { result ≡ count_by (λ c. is_held self.now.sent (TheCommits.Commit c)) commits.now }
     {
         let mut count = 0;
         for commit in commits {
-            if self.is_sent(commit) {
+            if self.sent.has_commit(commit) {
                 count += 1;
             }
         }

@@ -1,10 +1,12 @@
 //! The messages that were sent.
-ghost use Rattle.std.specs.Prelude.{◌≡◌, ◌++◌, ◌∷◌, [], OnOk, List};
+ghost use Rattle.std.specs.Prelude.{◌≡◌, ◌++◌, ◌∷◌, [], IfOk, OnOk, List};
 ghost use Rattle.world_model.specs.declared.acts.Message.{Message as TheMessage};
+ghost use Rattle.world_model.specs.declared.acts.Message.TheVariants as TheCommits;
 ghost use Rattle.world_model.specs.Acts.{source_of as source_of_message};
 ghost use Rattle.trace_audit.specs.Places.{is_held, IsSentOf};
 
 use crate::sent_by::SentBy;
+use cluster_state::ApplyCommit;
 use std::alloc::{AllocError, Global};
 use std::collections::BTreeMap;
 use voting_config::NodeId;
@@ -40,12 +42,22 @@ impl SentMessages {
     }
 
     /// Whether the message was sent.
-    pub fn contains(&self, message: &Message) -> bool
-        ensures { result ≡ is_held self.now message.now }
+    pub fn contains(&self, message: &Message) -> Result<bool, AllocError>
+        ensures { IfOk result (λ held. held ≡ is_held self.now message.now) }
     {
         let source = source_of(message);
         match self.sources.get(&source) {
             Some(sent) => sent.contains(message),
+            None => Ok(false),
+        }
+    }
+
+    /// Whether the commit was sent.
+    pub fn has_commit(&self, commit: &ApplyCommit) -> bool
+        ensures { result ≡ is_held self.now (TheCommits.Commit commit.now) }
+    {
+        match self.sources.get(&commit.source) {
+            Some(sent) => sent.has_commit(commit),
             None => false,
         }
     }

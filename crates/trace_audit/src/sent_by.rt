@@ -1,6 +1,7 @@
 //! The messages that one node sent.
-ghost use Rattle.std.specs.Prelude.{◌≡◌, OnOk, false};
+ghost use Rattle.std.specs.Prelude.{◌≡◌, IfOk, OnOk, false};
 ghost use Rattle.world_model.specs.declared.acts.Message.{Message as TheMessage};
+ghost use Rattle.world_model.specs.declared.acts.Message.TheVariants as TheCommits;
 ghost use Rattle.trace_audit.specs.Places.{join_key as join_key_of, response_key as response_key_of, commit_key as commit_key_of, join_cmp, response_cmp, number_cmp, WithKey, has_sent, WithMessage};
 
 use crate::requests::Requests;
@@ -19,7 +20,8 @@ type ResponseKey = (u64, u64, NodeId);
 // The term and the version of a commit.
 type CommitKey = (u64, u64);
 
-/// The messages that one node sent, each once: a join takes 64 bytes and its share of a tree, a response 56 and a commit 16.
+/// The messages that one node sent, each once: a join takes 64 bytes and its share of a tree, a response 56, a commit 16, and a publish request
+/// what [`Requests`] says.
 #[derive(Drop)]
 pub struct SentBy {
     joins: BTreeSet<JoinKey>,
@@ -84,15 +86,22 @@ impl SentBy {
     }
 
     /// Whether the node sent a message that names it as its source.
-    pub fn contains(&self, message: &Message) -> bool
-        ensures { result ≡ has_sent self.now message.now }
+    pub fn contains(&self, message: &Message) -> Result<bool, AllocError>
+        ensures { IfOk result (λ sent. sent ≡ has_sent self.now message.now) }
     {
         match message {
-            Message::Join(join) => self.joins.contains(&join_key(join)),
+            Message::Join(join) => Ok(self.joins.contains(&join_key(join))),
             Message::Publish(request) => self.requests.contains(request),
-            Message::Response(response) => self.responses.contains(&response_key(response)),
-            Message::Commit(commit) => self.commits.contains(&commit_key(commit)),
+            Message::Response(response) => Ok(self.responses.contains(&response_key(response))),
+            Message::Commit(commit) => Ok(self.has_commit(commit)),
         }
+    }
+
+    /// Whether the node sent a commit that names it as its source.
+    pub fn has_commit(&self, commit: &ApplyCommit) -> bool
+        ensures { result ≡ has_sent self.now (TheCommits.Commit commit.now) }
+    {
+        self.commits.contains(&commit_key(commit))
     }
 
     /// Takes a message of the node as sent.
@@ -101,7 +110,7 @@ impl SentBy {
     {
         match message {
             Message::Join(join) => add_join(&mut self.joins, &join),
-            Message::Publish(request) => self.requests.add(request),
+            Message::Publish(request) => self.requests.add(&request),
             Message::Response(response) => add_response(&mut self.responses, &response),
             Message::Commit(commit) => add_commit(&mut self.commits, &commit),
         }
