@@ -1,13 +1,14 @@
 -- How the use of a tool on a folder ends, from how its parts ended.
-use Rattle.std.proofs.Common.{◌≡◌, ℕ, Option, None, Some, Ok, Err, List, refl, sym, ◌∙◌, ap, subst, inl, inr}
+use Rattle.std.proofs.Common.{◌≡◌, ℕ, false, Option, None, Some, Ok, Err, List, refl, sym, ◌∙◌, ap, subst, inl, inr}
 use Rattle.zen_disk.specs.Faults.{Rose}
 use Rattle.zen_disk.specs.declared.disks.Disks.{Ghosts as Disks}
 use Rattle.cluster_state.specs.declared.state.Kept.{Kept}
 use Rattle.state_journal.specs.Journal.{found_of}
+use Rattle.zen_host.specs.HostCalls.{HostCall, OpensDisk, and_call}
 use Rattle.zen_host.specs.Views.{HostView}
+use Rattle.journal_inspection.proofs.Ends.{said}
 use Rattle.node_tool.specs.Tools.{refusal_of}
-use Rattle.node_tool.specs.Runs.{Used, EndsWith, IsComplete, Says}
-use Rattle.node_tool.specs.Uses.{Uses, IsUnhurt, OnlyUses}
+use Rattle.node_tool.specs.Runs.{Asked, Used, EndsWith, EndsTooled, IsComplete}
 use Rattle.node_tool.specs.declared.using.Tooled.{Tooled}
 use Rattle.node_tool.specs.declared.tool.Tool.{Tool}
 use Rattle.node_tool.specs.declared.using.Tooled.TheVariants as tooled
@@ -48,29 +49,23 @@ module _ {D L : Type 0} (d : Disks D) (tool : Tool) (host host_now : HostView D 
   completes was now wrote wrote_now end.DiskFault ended disk ready t kept found no_host no_write no_disk = absurd (disk_rose ended.0 no_disk)
   completes was now wrote wrote_now end.HostFault ended disk ready t kept found no_host no_write no_disk = absurd (no_host ended.0)
 
-  -- the disk that the host gave was given back
-  pub used : (given back : D) (t t2 : Tooled) → ((disk : D) → host.disk_ready ≡ Some disk → given ≡ disk) → d.faults given ≡ 0 → host_now.disk_back ≡ Some back
-      → Uses d tool given back t → (d.told → OnlyUses d tool given back t) → (d.told → IsUnhurt d tool given back) → t ≡ t2 → Used d tool host host_now t2
-  used given back t t2 is_given fresh is_back uses calls any_moment same = record {
-    given = given;
-    is_given = is_given;
-    fresh = fresh;
-    back = back;
-    is_back = is_back;
-    uses = subst (Uses d tool given back) same uses;
-    calls = λ told. subst (OnlyUses d tool given back) same (calls told);
-    any_moment = any_moment;
-  }
+-- one that made something has asked for the disk
+pub asked_tooled : (dir : List ℕ) (calls calls_now : Option (List HostCall)) (t : Tooled) (was now : Option (List ℕ)) (wrote wrote_now : ℕ) (e : ToolEnd)
+    → calls_now ≡ and_call calls (OpensDisk dir false) → EndsTooled t was now wrote wrote_now e → Asked dir calls calls_now e
+asked_tooled dir calls calls_now (tooled.Report text) was now wrote wrote_now e noted ends = said (Asked dir calls calls_now) text end.Done end.WriteFault was now wrote wrote_now e noted noted ends
+asked_tooled dir calls calls_now (tooled.Refused text) was now wrote wrote_now e noted ends = said (Asked dir calls calls_now) text end.Refused end.WriteFault was now wrote wrote_now e noted noted ends
+asked_tooled dir calls calls_now (tooled.NotAJournal text) was now wrote wrote_now e noted ends = said (Asked dir calls calls_now) text end.NotAJournal end.WriteFault was now wrote wrote_now e noted noted ends
+asked_tooled dir calls calls_now tooled.Disk was now wrote wrote_now e noted ends = subst (Asked dir calls calls_now) (sym ends.0) noted
+asked_tooled dir calls calls_now tooled.Memory was now wrote wrote_now e noted ends = subst (Asked dir calls calls_now) (sym ends.0) (inr noted)
 
-  module _ (was now : Option (List ℕ)) (wrote wrote_now : ℕ) (text : List ℕ) (e : ToolEnd) where
-    pub says_report : Used d tool host host_now (tooled.Report text) → Says text end.Done was now wrote wrote_now e → EndsWith d tool host host_now was now wrote wrote_now e
-    says_report u (inl whole) = subst (EndsWith d tool host host_now was now wrote wrote_now) (sym whole.0) (text, u, whole.1)
-    says_report u (inr cut) = subst (EndsWith d tool host host_now was now wrote wrote_now) (sym cut.0) (text, inl u, cut.1, cut.2)
-
-    pub says_refused : Used d tool host host_now (tooled.Refused text) → Says text end.Refused was now wrote wrote_now e → EndsWith d tool host host_now was now wrote wrote_now e
-    says_refused u (inl whole) = subst (EndsWith d tool host host_now was now wrote wrote_now) (sym whole.0) (text, u, whole.1)
-    says_refused u (inr cut) = subst (EndsWith d tool host host_now was now wrote wrote_now) (sym cut.0) (text, inr (inl u), cut.1, cut.2)
-
-    pub says_none : Used d tool host host_now (tooled.NotAJournal text) → Says text end.NotAJournal was now wrote wrote_now e → EndsWith d tool host host_now was now wrote wrote_now e
-    says_none u (inl whole) = subst (EndsWith d tool host host_now was now wrote wrote_now) (sym whole.0) (text, u, whole.1)
-    says_none u (inr cut) = subst (EndsWith d tool host host_now was now wrote wrote_now) (sym cut.0) (text, inr (inr u), cut.1, cut.2)
+module _ {D L : Type 0} (d : Disks D) (tool : Tool) (host host_now : HostView D L) where
+  -- what was written of what a tool made of the disk that the host gave
+  pub ends_tooled : (t : Tooled) (was now : Option (List ℕ)) (wrote wrote_now : ℕ) (e : ToolEnd) → Used d tool host host_now t → EndsTooled t was now wrote wrote_now e → EndsWith d tool host host_now was now wrote wrote_now e
+  ends_tooled (tooled.Report text) was now wrote wrote_now e u (inl whole) = subst (EndsWith d tool host host_now was now wrote wrote_now) (sym whole.0) (text, u, whole.1)
+  ends_tooled (tooled.Report text) was now wrote wrote_now e u (inr cut) = subst (EndsWith d tool host host_now was now wrote wrote_now) (sym cut.0) (text, inl u, cut.1, cut.2)
+  ends_tooled (tooled.Refused text) was now wrote wrote_now e u (inl whole) = subst (EndsWith d tool host host_now was now wrote wrote_now) (sym whole.0) (text, u, whole.1)
+  ends_tooled (tooled.Refused text) was now wrote wrote_now e u (inr cut) = subst (EndsWith d tool host host_now was now wrote wrote_now) (sym cut.0) (text, inr (inl u), cut.1, cut.2)
+  ends_tooled (tooled.NotAJournal text) was now wrote wrote_now e u (inl whole) = subst (EndsWith d tool host host_now was now wrote wrote_now) (sym whole.0) (text, u, whole.1)
+  ends_tooled (tooled.NotAJournal text) was now wrote wrote_now e u (inr cut) = subst (EndsWith d tool host host_now was now wrote wrote_now) (sym cut.0) (text, inr (inr u), cut.1, cut.2)
+  ends_tooled tooled.Disk was now wrote wrote_now e u ended = subst (EndsWith d tool host host_now was now wrote wrote_now) (sym ended.0) (u, ended.1)
+  ends_tooled tooled.Memory was now wrote wrote_now e u ended = subst (EndsWith d tool host host_now was now wrote wrote_now) (sym ended.0) (inr u, ended.1)

@@ -7,7 +7,7 @@ use Rattle.zen_link.specs.Streams.{Appended, AppendedFront}
 use Rattle.cluster_state.specs.declared.state.Kept.{Kept}
 use Rattle.state_journal.specs.Journal.{found_of}
 use Rattle.zen_host.specs.Views.{HostView}
-use Rattle.journal_inspection.specs.Inspects.{Undisked}
+use Rattle.journal_inspection.specs.Inspects.{Undisked, Says}
 use Rattle.node_tool.specs.Tools.{refusal_of}
 use Rattle.node_tool.specs.Uses.{Uses, IsUnhurt, OnlyUses}
 use Rattle.node_tool.specs.declared.tool.Tool.{Tool}
@@ -56,7 +56,10 @@ module _ {D L : Type 0} (d : Disks D) (tool : Tool) (host host_now : HostView D 
 
 -- ---- not part of the statement
 
--- the text was written and this is the end, or the sink failed
-abbrev pub Says : (text : List ℕ) → (whole : ToolEnd) → (was now : Option (List ℕ)) → (wrote wrote_now : ℕ) → ToolEnd → Type 0
-Says text whole was now wrote wrote_now e =
-    ((e ≡ whole) × Appended was now text) ⊎ ((e ≡ end.WriteFault) × AppendedFront was now text × Rose wrote wrote_now)
+-- how the use of a tool ends that made this
+abbrev pub EndsTooled : Tooled → (was now : Option (List ℕ)) → (wrote wrote_now : ℕ) → ToolEnd → Type 0
+EndsTooled (tooled.Report text) was now wrote wrote_now e = Says text end.Done end.WriteFault was now wrote wrote_now e
+EndsTooled (tooled.Refused text) was now wrote wrote_now e = Says text end.Refused end.WriteFault was now wrote wrote_now e
+EndsTooled (tooled.NotAJournal text) was now wrote wrote_now e = Says text end.NotAJournal end.WriteFault was now wrote wrote_now e
+EndsTooled tooled.Disk was now wrote wrote_now e = (e ≡ end.DiskFault) × Appended was now []
+EndsTooled tooled.Memory was now wrote wrote_now e = (e ≡ end.NoMemory) × Appended was now []
