@@ -5,6 +5,7 @@ pub mod Crashed
 pub mod FilesLeft
 pub mod Found
 pub mod JournalLeft
+pub mod Kept
 pub mod Lives
 pub mod MayAct
 pub mod Moves

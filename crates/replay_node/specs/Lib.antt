@@ -1,6 +1,7 @@
 pub mod Clusters
 pub mod Course
 pub mod Did
+pub mod Kept
 pub mod NodeDisk
 pub mod NodeLines
 pub mod NodeWorld

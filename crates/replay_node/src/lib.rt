@@ -9,7 +9,7 @@ pub mod state;
 pub mod writing;
 
 pub use did::{Did, Effects};
-pub use message::{FitPublishRequest, SentMessage};
+pub use message::{FitPublishRequest, Publication, SentMessage};
 pub use node::{ReplayNode, Slot};
 pub use state::OpenNode;
 pub use writing::{write_delivery, write_did};

@@ -86,8 +86,8 @@ fn keep_publication(
 {
     match message {
         SentMessage::Publish(publication) => {
-            let publication = publication.clone()?;
-            *published = Some(publication);
+            let request = publication.whole()?;
+            *published = Some(request);
             Ok(())
         }
         _ => Ok(()),

@@ -15,7 +15,7 @@ ghost use Rattle.replay_node.specs.Stands.{HasRoomIn, journal_ghosts};
 ghost use Rattle.replay_node.specs.StateDoes.{IsToldBy, StateDoes, WritesText};
 
 use crate::did::{Did, Effects};
-use crate::message::{FitPublishRequest, SentMessage};
+use crate::message::{FitPublishRequest, Publication, SentMessage};
 use cluster_state::{
     ApplyCommit, ClusterState, ClusterValue, Join, PublishResponse, Settings, SharedState,
 };
@@ -161,7 +161,8 @@ fn publication(
     };
     let published = SharedState::of(alloc, published)?;
     let request = FitPublishRequest::of(alloc, state.me(), &published)?;
-    Ok(SentMessage::Publish(request))
+    let publication = Publication::of(alloc, request)?;
+    Ok(SentMessage::Publish(publication))
 }
 
 /// The node publishes a client's value that has these settings and nothing else. Answers the publication too, where there is one.
@@ -245,7 +246,10 @@ pub fn deliver(
 {
     match message {
         SentMessage::Join(sent) => join(state, sent),
-        SentMessage::Publish(publication) => publish_request(state, publication),
+        SentMessage::Publish(publication) => {
+            let request = publication.whole()?;
+            publish_request(state, &request)
+        }
         SentMessage::Response(response) => publish_response(state, response, published),
         SentMessage::Commit(sent) => commit(state, sent),
     }

@@ -23,8 +23,9 @@ fn write_message(text: &mut Text, ordinal: u64, message: &SentMessage) -> Result
     match message {
         SentMessage::Join(join) => write_join_message(text, ordinal, join),
         SentMessage::Publish(publication) => {
-            let (source, state) = (publication.source(), publication.state());
-            write_publish_message(text, ordinal, source, state, publication.json())
+            let request = publication.whole()?;
+            let (source, state) = (request.source(), request.state());
+            write_publish_message(text, ordinal, source, state, request.json())
         }
         SentMessage::Response(response) => write_response_message(text, ordinal, response),
         SentMessage::Commit(commit) => write_commit_message(text, ordinal, commit),
@@ -138,8 +139,9 @@ fn write_taking(text: &mut Text, message: &SentMessage) -> Result<(), AllocError
     match message {
         SentMessage::Join(join) => write_join(text, join),
         SentMessage::Publish(publication) => {
-            let (source, state) = (publication.source(), publication.state());
-            write_publish_shown(text, source, state, publication.json())
+            let request = publication.whole()?;
+            let (source, state) = (request.source(), request.state());
+            write_publish_shown(text, source, state, request.json())
         }
         SentMessage::Response(response) => write_response(text, response),
         SentMessage::Commit(commit) => write_commit(text, commit),

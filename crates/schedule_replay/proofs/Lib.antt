@@ -1,6 +1,7 @@
 pub mod ActShown
 pub mod Along
 pub mod Bridge
+pub mod Closing
 pub mod ClusterExamples
 pub mod ClusterLaws
 pub mod ClusterLines

@@ -34,10 +34,9 @@ use Rattle.policy_model.specs.declared.events.Event.TheVariants.{Start}
 use Rattle.policy_model.specs.Entries.{NotBegun, Opened, log_of, frames_of}
 use Rattle.policy_model.specs.Events.{acts_of}
 use Rattle.coordinator.specs.Lives.{StandsForLife}
+use Rattle.replay_node.specs.Clusters.{first_life}
 use Rattle.replay_node.specs.Course.{settled_life}
 use Rattle.schedule_replay.specs.OwnStands.{NodeFor, OwnDone, SlotFor}
-use Rattle.coordinator.specs.declared.step.Sealed.{Sealed}
-use Rattle.schedule_replay.specs.EventEnds.{WholeEvent}
 use Rattle.schedule_replay.specs.Openings.{ClosedFor, OverJournal, fresh_own}
 use Rattle.schedule_replay.specs.Own.{Own, own_crash, own_event, own_event_if_up, own_frames_if_up, own_items, own_opened, own_opened_by, own_restart, own_restart_frames, own_restart_results, own_results, own_results_if_up, own_started_frames, own_started_results}
 use Rattle.schedule_replay.specs.OpenNodes.{Node, OpenFor, keeper}
@@ -263,10 +262,10 @@ first_open s fuse empty j is node over = record {
   fit = λ still. over.fit;
 }
 
-pub first_stands : (s : Settings) (me : Id) → me ≡ s.me → (node : Node) (sealed : Sealed) → WholeEvent s NotBegun fresh_node Start node sealed → NodeFor s (record { me = me; slot = Open node; published = None }) (fresh_own s) false
-first_stands s me same node sealed whole = record {
+pub first_stands : (s : Settings) (me : Id) → me ≡ s.me → (node : Node) → OpenFor s node (first_life s) fresh_node → NodeFor s (record { me = me; slot = Open node; published = None }) (fresh_own s) false
+first_stands s me same node stands = record {
   me_is = same;
-  slot = whole.stands;
+  slot = stands;
   published = refl;
   life = record {
     follows = (tt, record { up = refl; start = refl; does = inl refl });

@@ -8,6 +8,7 @@ pub mod Legal
 pub mod LineByLine
 pub mod Replayed
 pub mod Showing
+pub mod SentFrames
 pub mod SoFar
 pub mod Steps
 pub mod Told

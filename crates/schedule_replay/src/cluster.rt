@@ -2,4 +2,5 @@
 
 pub mod node;
 pub mod replayer;
+pub mod sent_frame;
 pub mod stepping;

@@ -30,6 +30,8 @@ use zen_disk::{Order, Way};
 pub struct Replayer {
     pub nodes: Vec<ReplayNode>,
     pub sent: Vec<SentMessage>,
+    // The place of the publication that was sent last, which is at hand whole. Those before it are closed.
+    last: usize,
     // The act in hand, as the trace shows it.
     act: Text,
     // The configuration and the value of the line in hand. Both are large, so that these stay in their place for all lines.
@@ -48,6 +50,7 @@ impl Replayer {
         Ok(Replayer {
             nodes,
             sent: Vec::new(alloc),
+            last: 0,
             act: Text::new(alloc),
             config: VotingConfig::of(&NodeSet::new()),
             value: ClusterValue::empty(alloc),
@@ -265,7 +268,7 @@ impl Replayer {
         let nodes = self.nodes.as_mut_slice();
         let did = nodes[place].deliver(alloc, message)?;
         write_delivery(text, sent.len(), &n, message, &did)?;
-        keep(&mut self.sent, did)
+        keep(&mut self.sent, &mut self.last, did)
     }
 
     // Writes what an act did, and keeps the message that it sends.
@@ -276,7 +279,7 @@ impl Replayer {
     {
         let count = self.sent.as_slice().len();
         write_did(text, count, n, &self.act, &did)?;
-        keep(&mut self.sent, did)
+        keep(&mut self.sent, &mut self.last, did)
     }
 }
 
@@ -292,26 +295,54 @@ fn unsent(node: &ReplayNode, n: &NodeId, text: &mut Text) -> Result<(), AllocErr
 }
 
 // Keeps the message that an act has sent.
-fn keep(sent: &mut Vec<SentMessage>, did: Did) -> Result<(), AllocError>
+fn keep(sent: &mut Vec<SentMessage>, last: &mut usize, did: Did) -> Result<(), AllocError>
     ensures { OnOk result (map message_of sent.new.items ≡ map message_of sent.old.items ++ sent_some (outcome_of did)) }
 {
     if let Did::Taken(effects) = did {
-        return keep_some(sent, effects.sends);
+        return keep_some(sent, last, effects.sends);
     }
     Ok(())
 }
 
-fn keep_some(sent: &mut Vec<SentMessage>, message: Option<SentMessage>) -> Result<(), AllocError>
+fn keep_some(
+    sent: &mut Vec<SentMessage>,
+    last: &mut usize,
+    message: Option<SentMessage>,
+) -> Result<(), AllocError>
     ensures { OnOk result (map message_of sent.new.items ≡ map message_of sent.old.items ++ some_message message) }
 {
     match message {
         None => Ok(()),
         Some(message) => {
+            if let SentMessage::Publish(_) = &message {
+                close_at(sent, *last);
+                *last = sent.as_slice().len();
+            }
             let Ok(()) = sent.push(message) else {
                 return Err(AllocError);
             };
             Ok(())
         }
+    }
+}
+
+// Closes the publication at this place, where one stands there.
+fn close_at(sent: &mut Vec<SentMessage>, place: usize)
+    ensures { map message_of sent.new.items ≡ map message_of sent.old.items }
+{
+    if place >= sent.as_slice().len() {
+        return;
+    }
+    let messages = sent.as_mut_slice();
+    close(&mut messages[place]);
+}
+
+fn close(message: &mut SentMessage)
+    ensures { message_of message.new ≡ message_of message.old }
+{
+    match message {
+        SentMessage::Publish(publication) => publication.close(),
+        _ => (),
     }
 }
 

@@ -36,6 +36,8 @@ pub fn run_replay<I: Source, S: Sink>(
         Err(ReadError::Memory) => return Status::NoMemory,
         Err(ReadError::Bad(bad)) => return refuse_schedule(alloc, out, bad),
     };
+    // They are as long as the schedule, and read no more.
+    drop(bytes);
     match write_trace(alloc, &schedule, level, out) {
         Ok(()) => Status::Ok,
         Err(ReplayError::Write) => Status::WriteFault,

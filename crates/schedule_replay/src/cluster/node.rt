@@ -5,15 +5,18 @@ ghost use Rattle.policy_model.specs.Fitting.{IsFitEvent};
 ghost use Rattle.policy_model.specs.Follows.{is_start};
 ghost use Rattle.wire_frames.specs.declared.frame.Frame.{Frame as FrameOf};
 ghost use Rattle.replay_node.specs.NodeLines.{stop_text};
-ghost use Rattle.replay_node.specs.NodeWorld.{needs_opening};
+ghost use Rattle.replay_node.specs.NodeWorld.{fresh_node, needs_opening};
+ghost use Rattle.policy_model.specs.Entries.{NotBegun};
 ghost use Rattle.event_text.specs.Events.{event_results};
 ghost use Rattle.event_text.specs.Published.{published_after};
 ghost use Rattle.event_text.specs.Steps.{told_as};
 ghost use Rattle.schedule_replay.specs.OwnStands.{ClosesTo, NodeFor, OwnDoes};
 ghost use Rattle.schedule_replay.specs.Own.{Own, own_crash, own_event_if_up, own_frames_if_up, own_order, own_results_if_up};
-ghost use Rattle.replay_node.specs.Clusters.{settings_of as settings_in};
+ghost use Rattle.replay_node.specs.Clusters.{first_life, settings_of as settings_in};
+ghost use Rattle.schedule_replay.specs.OpenNodes.{OpenFor};
 ghost use Rattle.schedule_replay.specs.Openings.{ClosedFor, OverJournal, Reopens, Restarts, fresh_own};
 
+use crate::cluster::sent_frame::SentFrame;
 use crate::cluster::stepping::{Ended, OpenNode, step};
 use cluster_state::SharedState;
 use coordinator::{Coordinator, Entries, Sealed};
@@ -52,20 +55,37 @@ fn take_slot(slot: &mut Slot, alloc: Global) -> Slot
     mem::replace(slot, Slot::Down(empty_disk(alloc)))
 }
 
+// Adds frames to those that were sent.
+fn keep_frames(
+    alloc: Global,
+    frames: &mut Vec<SentFrame>,
+    sends: &[Frame],
+) -> Result<(), AllocError>
+    ensures { OnOk result (frames.new.items ≡ frames.old.items ++ sends.now) }
+{
+    for frame in sends {
+        let Ok(()) = frames.push(SentFrame::of(alloc, frame)?) else {
+            return Err(AllocError);
+        };
+    }
+    Ok(())
+}
+
 // Writes an event that came to its end, and adds its frames to those that were sent.
 fn show_whole(
     alloc: Global,
     me: NodeId,
     published: &mut Option<SharedState>,
-    sealed: Sealed,
-    frames: &mut Vec<Frame>,
+    sealed: &Sealed,
+    frames: &mut Vec<SentFrame>,
     text: &mut Text,
 ) -> Result<(), AllocError>
-    ensures text { OnOk result (text.new ≡ text.old ++ event_results (length frames.old.items) me published.old sealed.entries.steps.list sealed.entries.drops.list sealed.sends.list sealed.replies.sent) }
-    ensures published { OnOk result (published.new ≡ published_after published.old sealed.entries.steps.list) }
-    ensures frames { OnOk result (frames.new.items ≡ frames.old.items ++ sealed.sends.list) }
+    ensures text { OnOk result (text.new ≡ text.old ++ event_results (length frames.old.items) me published.old sealed.now.entries.steps.list sealed.now.entries.drops.list sealed.now.sends.list sealed.now.replies.sent) }
+    ensures published { OnOk result (published.new ≡ published_after published.old sealed.now.entries.steps.list) }
+    ensures frames { OnOk result (frames.new.items ≡ frames.old.items ++ sealed.now.sends.list) }
 {
-    let (entries, sends, replies) = sealed.into_parts();
+    let entries = sealed.entries();
+    let sends = sealed.sends().as_slice();
     write_event(
         text,
         alloc,
@@ -74,12 +94,10 @@ fn show_whole(
         published,
         entries.steps.as_slice(),
         entries.drops.as_slice(),
-        sends.as_slice(),
-        replies.as_slice(),
+        sends,
+        sealed.replies().as_slice(),
     )?;
-    let mut sends = sends.into_items();
-    frames.append(&mut sends)?;
-    Ok(())
+    keep_frames(alloc, frames, sends)
 }
 
 // Writes an event up to the act that the disk struck.
@@ -112,7 +130,7 @@ impl ClusterNode {
         &mut self,
         alloc: Global,
         event: Event,
-        frames: &mut Vec<Frame>,
+        frames: &mut Vec<SentFrame>,
         text: &mut Text,
     ) -> Result<(), AllocError>
         requires fit { IsFitEvent event }
@@ -125,7 +143,7 @@ impl ClusterNode {
         match step(node, alloc, event)? {
             Ended::Stopped => write_down(text, self.me),
             Ended::Whole(sealed) => {
-                show_whole(alloc, self.me, &mut self.published, sealed, frames, text)
+                show_whole(alloc, self.me, &mut self.published, &sealed, frames, text)
             }
             Ended::Failed(entries) => {
                 show_struck(alloc, self.me, &mut self.published, &entries, false, text)
@@ -163,20 +181,13 @@ impl ClusterNode {
     ) -> Result<ClusterNode, AllocError>
         ensures { IfOk result (λ c. NodeFor (settings_in ids.now initial.now voting_only.now me) c (fresh_own (settings_in ids.now initial.now voting_only.now me)) false) }
     {
-        let Ok(journal) = StateJournal::open(alloc, empty_disk(alloc)) else {
-            return Err(AllocError);
-        };
-        let settings = settings_of(alloc, me, ids, initial, voting_only)?;
-        let mut node = node_over(alloc, settings, journal);
-        let ended = step(&mut node, alloc, Event::Start)?;
-        match ended {
-            Ended::Whole(_) => Ok(ClusterNode {
-                me,
-                slot: Slot::Open(node),
-                published: None,
-            }),
-            Ended::Failed(_) | Ended::Crashed(_) | Ended::Stopped => Err(AllocError),
-        }
+        let mut node = first_node(alloc, me, ids, initial, voting_only)?;
+        start(&mut node, alloc)?;
+        Ok(ClusterNode {
+            me,
+            slot: Slot::Open(node),
+            published: None,
+        })
     }
 
     /// Whether the node runs: it is not down, and its disk has not failed since it was opened.
@@ -223,7 +234,7 @@ impl ClusterNode {
         ids: &NodeSet,
         initial: &NodeSet,
         voting_only: &NodeSet,
-        frames: &mut Vec<Frame>,
+        frames: &mut Vec<SentFrame>,
         text: &mut Text,
     ) -> Result<(), AllocError>
         requires { (own : Own) × NodeFor (settings_in ids.now initial.now voting_only.now self.old.me) self.old own false }
@@ -250,7 +261,7 @@ impl ClusterNode {
         initial: &NodeSet,
         voting_only: &NodeSet,
         fuse: Fuse<MemDisks>,
-        frames: &mut Vec<Frame>,
+        frames: &mut Vec<SentFrame>,
         text: &mut Text,
     ) -> Result<(), AllocError>
         requires { (own : Own) × ClosedFor (settings_in ids.now initial.now voting_only.now self.old.me) self.old fuse own }
@@ -294,6 +305,35 @@ fn settings_of(
         voting_only: voting_only.copy(),
         shrink: true,
     })
+}
+
+// A node over the journal of an empty disk, to which nothing has come.
+fn first_node(
+    alloc: Global,
+    me: NodeId,
+    ids: &NodeSet,
+    initial: &NodeSet,
+    voting_only: &NodeSet,
+) -> Result<OpenNode, AllocError>
+    ensures { IfOk result (λ node. OpenFor (settings_in ids.now initial.now voting_only.now me) node NotBegun fresh_node) }
+{
+    let settings = settings_of(alloc, me, ids, initial, voting_only)?;
+    let Ok(journal) = StateJournal::open(alloc, empty_disk(alloc)) else {
+        return Err(AllocError);
+    };
+    Ok(node_over(alloc, settings, journal))
+}
+
+// The start comes to a node, whose disk has no orders.
+fn start(node: &mut OpenNode, alloc: Global) -> Result<(), AllocError>
+    requires { (s : SettingsOf) × OpenFor s node.old NotBegun fresh_node }
+    ensures { OnOk result ((s : SettingsOf) → OpenFor s node.old NotBegun fresh_node → OpenFor s node.new (first_life s) fresh_node) }
+{
+    let ended = step(node, alloc, Event::Start)?;
+    match ended {
+        Ended::Whole(_) => Ok(()),
+        Ended::Failed(_) | Ended::Crashed(_) | Ended::Stopped => Err(AllocError),
+    }
 }
 
 // A node over a journal that was just opened.

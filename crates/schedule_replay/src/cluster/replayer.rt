@@ -14,6 +14,7 @@ ghost use Rattle.schedule_replay.specs.ClusterStands.{AllFor, ClusterFor, DoesLi
 ghost use Rattle.schedule_replay.specs.ClusterTrace.{event_shown_if_up, frame_shown, restart_shown};
 
 use crate::cluster::node::ClusterNode;
+use crate::cluster::sent_frame::SentFrame;
 use crate::places::place_of;
 use client_lines::Line as ClientLine;
 use policy_model::Event;
@@ -21,14 +22,13 @@ use schedule_text::{Line, LineBytes, Schedule, Text};
 use std::alloc::{AllocError, Global};
 use trace_text::write_down;
 use voting_config::{NodeId, NodeSet};
-use wire_frames::Frame;
 use zen_disk::{Order, Way};
 
 /// The nodes of a schedule of level node, and the frames that they have sent.
 #[derive(Drop)]
 pub struct ClusterReplayer {
     pub nodes: Vec<ClusterNode>,
-    pub frames: Vec<Frame>,
+    pub frames: Vec<SentFrame>,
 }
 
 impl ClusterReplayer {
@@ -160,10 +160,10 @@ impl ClusterReplayer {
                 if !runs {
                     return write_down(text, n);
                 }
-                if frame.to != n {
+                if frame.to() != n {
                     return text.word("misrouted\n");
                 }
-                let frame = frame.copy()?;
+                let frame = frame.frame()?;
                 self.event(alloc, schedule, n, Event::Frame(frame), text)
             }
         }
