@@ -8,7 +8,7 @@ set -u
 top=$(cd "$(dirname "$0")/.." && pwd)
 work=$(mktemp -d) || exit 1
 trap 'rm -rf "$work"' EXIT
-[ $# -gt 0 ] || set -- sizes instructions replay values journal coordinator node
+[ $# -gt 0 ] || set -- sizes instructions replay values frames journal coordinator node
 
 # The processors, and how much ran on them besides, as the script begins.
 machine() {

@@ -1,14 +1,17 @@
 //! What the core costs: rounds of large values over five nodes, each of which keeps its journal on a disk in memory, where each
-//! value is published, delivered to every node as bytes, acknowledged and committed; or terms, over the journal of a folder.
+//! value is published, delivered to every node as bytes, acknowledged and committed; or terms, over the journal of a folder; or
+//! what reading frames costs.
 #![tactic(auto)]
 
 mod cluster;
+mod frames;
 mod states;
 mod terms;
 
 use anyhow::{Result, bail};
 use cluster::Cluster;
 use cluster_state::ClusterState;
+use frames::run_frames;
 use host_io::FileDisks;
 use state_journal::{Keeper, StateJournal};
 use std::env;
@@ -52,6 +55,13 @@ fn run_terms(rt: &HostRuntime, dir: &str, count: u64) -> Result<()> {
     }
 }
 
+// Reads or writes so many frames of a kind, and says how many they were.
+fn say_frames(rt: &HostRuntime, what: &str, kind: &str, rounds: u64) -> Result<()> {
+    let count = run_frames(rt.alloc(), what, kind, rounds)?;
+    println!(rt; "{count} frames")?;
+    Ok(())
+}
+
 fn number(word: &str) -> Result<u64> {
     match word.parse::<u64>() {
         Ok(number) => Ok(number),
@@ -71,12 +81,18 @@ fn run(rt: &HostRuntime, words: &[String]) -> Result<()> {
         [what, dir, count] if what.as_str() == "terms" => {
             run_terms(rt, dir.as_str(), number(count.as_str())?)
         }
+        [word, what, kind, rounds] if word.as_str() == "frames" => say_frames(
+            rt,
+            what.as_str(),
+            kind.as_str(),
+            number(rounds.as_str())?,
+        ),
         [settings, rounds] => run_rounds(
             rt,
             settings_of(settings.as_str())?,
             number(rounds.as_str())?,
         ),
-        _ => bail!("usage: SETTINGS ROUNDS | terms FOLDER COUNT"),
+        _ => bail!("usage: SETTINGS ROUNDS | terms FOLDER COUNT | frames WHAT KIND ROUNDS"),
     }
 }
 
