@@ -8,7 +8,7 @@ use Rattle.std.proofs.lemmas.Bool.Decides.{nat_tests}
 use Rattle.std.proofs.lemmas.List.{append_assoc, append-nil}
 use Rattle.voting_config.specs.Ids.{Id, has, same, among, some_among}
 use Rattle.exclusions.specs.declared.AddError.{AddError}
-use Rattle.exclusions.specs.declared.AddError.TheVariants.{NotMember, TooMany}
+use Rattle.exclusions.specs.declared.AddError.TheVariants.{TooMany}
 use Rattle.exclusions.specs.declared.StillMember.{StillMember}
 use Rattle.exclusions.specs.Exclusions.{added_of, cleared_of}
 use Rattle.cluster_state.specs.Fields.{most_settings}
@@ -204,7 +204,6 @@ module _ (h : History) (P : ℕ → Request → Type 0) (g : List Waiting) where
 
   true-excluding : (w : Waiting) (value : ClusterValue) (r : Result (List Id) AddError) → IsTrueProcessing w (excluding value r)
   true-excluding w value (Ok ids) = tt
-  true-excluding w value (Err (NotMember id)) = tt
   true-excluding w value (Err (TooMany count)) = tt
 
   true-clearing : (w : Waiting) (value : ClusterValue) (r : Result (Unit {0}) StillMember) → IsTrueProcessing w (clearing value r)
@@ -216,7 +215,7 @@ module _ (h : History) (P : ℕ → Request → Type 0) (g : List Waiting) where
       either w (not (has key (map (λ t. t.0) value.settings)) && nat_le most_settings (length value.settings))
       (AnsweredAtOnce (answer.TooManySettings (most_settings + 1))) (Makes (record value { settings = put_setting (key, text) value.settings })) tt tt
   true-processing w accepted value (ask.Remove key) e c = tt
-  true-processing w accepted value (ask.Exclude ids) e c = true-excluding w value (added_of value.exclusions value.members ids)
+  true-processing w accepted value (ask.Exclude ids) e c = true-excluding w value (added_of value.exclusions ids)
   true-processing w accepted value (ask.Clear wait) e c = true-clearing w value (cleared_of value.exclusions value.members wait)
   true-processing w accepted value ask.State e c = record { request = w.request; has_number = refl; is_asked = e; came = c.1; committed = c.0 }
 

@@ -1,7 +1,7 @@
 -- What a request makes of a value: it has what is asked for, and all else that it may not undo.
 use Rattle.std.proofs.Common.{◌≡◌, ℕ, Bool, true, false, true≢false, not, ◌&&◌, ◌||◌, cond, Option, None, Some, Result, Ok, Err, List, [], ◌∷◌, length, map, refl, sym, ap, ◌∙◌, subst}
 use Rattle.std.proofs.lemmas.Bool.{or_right}
-use Rattle.std.specs.Prelude.{◌+◌, nat_le, if◌then◌else◌, find}
+use Rattle.std.specs.Prelude.{◌+◌, nat_le, if◌then◌else◌}
 use Rattle.std.specs.declared.cmp.Ordering.TheVariants.{Less, Equal, Greater}
 use Rattle.std.specs.Ordering.{is_eq, nat_cmp, match_ordering}
 use Rattle.std.specs.Cmp.Lexicographic.{slice_cmp}
@@ -10,7 +10,7 @@ use Rattle.voting_config.specs.Ids.{Id, has, same, with_id, union}
 use Rattle.voting_config.proofs.Sorted.{has-with_id}
 use Rattle.exclusions.specs.declared.AddError.{AddError}
 use Rattle.exclusions.specs.declared.StillMember.{StillMember}
-use Rattle.exclusions.specs.Exclusions.{unless_missing, added_of, cleared_of}
+use Rattle.exclusions.specs.Exclusions.{added_of, cleared_of}
 use Rattle.cluster_state.specs.Fields.{most_settings}
 use Rattle.cluster_state.specs.Settings.{Setting, put_setting, without_key}
 use Rattle.cluster_state.specs.declared.state.ClusterState.{ClusterState}
@@ -138,10 +138,9 @@ clear_grants value wait = record { own = refl; others = others }
     others (ask.Clear w) n h = refl
     others ask.State n h = tt
 
-exclude_makes : (value : ClusterValue) (ids : List Id) (o : Option Id) (b : Bool) (error : AddError) → MakesGranted value (ask.Exclude ids) (excluding value (unless_missing o (if b then Err error else Ok (union value.exclusions ids))))
-exclude_makes value ids None true error = tt
-exclude_makes value ids None false error = exclude_grants value ids
-exclude_makes value ids (Some id) b error = tt
+exclude_makes : (value : ClusterValue) (ids : List Id) (b : Bool) (error : AddError) → MakesGranted value (ask.Exclude ids) (excluding value (if b then Err error else Ok (union value.exclusions ids)))
+exclude_makes value ids true error = tt
+exclude_makes value ids false error = exclude_grants value ids
 
 clear_makes : (value : ClusterValue) (wait : Bool) (r : Result (Unit {0}) StillMember) → MakesGranted value (ask.Clear wait) (clearing value r)
 clear_makes value wait (Ok u) = clear_grants value wait
@@ -152,7 +151,7 @@ makes_granted accepted value (ask.Put key text) =
     either value (ask.Put key text) (not (has key (map (λ t. t.0) value.settings)) && nat_le most_settings (length value.settings))
     (AnsweredAtOnce (answer.TooManySettings (most_settings + 1))) (Makes (record value { settings = put_setting (key, text) value.settings })) tt (put_grants value key text)
 makes_granted accepted value (ask.Remove key) = remove_grants value key
-makes_granted accepted value (ask.Exclude ids) = exclude_makes value ids (find (λ id. not (has id value.members)) ids) _ _
+makes_granted accepted value (ask.Exclude ids) = exclude_makes value ids _ _
 makes_granted accepted value (ask.Clear wait) = clear_makes value wait (cleared_of value.exclusions value.members wait)
 makes_granted accepted value ask.State = tt
 
@@ -189,6 +188,6 @@ makes_said key accepted value (ask.Put k text) =
     (AnsweredAtOnce (answer.TooManySettings (most_settings + 1))) (Makes (record value { settings = put_setting (k, text) value.settings })) tt
     (put_says key k text value.settings (bytes_eq k key) refl)
 makes_said key accepted value (ask.Remove k) = remove_says key k value.settings (bytes_eq k key) refl
-makes_said key accepted value (ask.Exclude ids) = excluding_says key value ids (added_of value.exclusions value.members ids)
+makes_said key accepted value (ask.Exclude ids) = excluding_says key value ids (added_of value.exclusions ids)
 makes_said key accepted value (ask.Clear wait) = clearing_says key value wait (cleared_of value.exclusions value.members wait)
 makes_said key accepted value ask.State = tt

@@ -90,11 +90,11 @@ module _ (P : ℕ → Request → Type 0) where
     q-becomes_candidate_once : (v : View) → Queues P (doing.becomes_candidate_once s v)
     q-becomes_candidate_once v = search (q-if, q-becomes_candidate, Ends)
 
-    q-starts_join : (v : View) (c : Id) (t : ℕ) → Queues P (doing.starts_join s v c t)
-    q-starts_join v c t = search (q-if, q-becomes_candidate_once, Ends, Other)
+    q-on_start_join : (v : View) (c : Id) (t : ℕ) → Queues P (doing.on_start_join s v c t)
+    q-on_start_join v c t = search (q-if, q-becomes_candidate_once, Ends, Other)
 
     q-raises_term : (v : View) (c : Id) (t : ℕ) → Queues P (doing.raises_term s v c t)
-    q-raises_term v c t = search (q-if, q-starts_join, Ends)
+    q-raises_term v c t = search (q-if, q-on_start_join, Ends)
 
     q-becomes_follower : (v : View) (p : Id) → Queues P (doing.becomes_follower s v p)
     q-becomes_follower v p = search (q-append, q-if, q-becomes_candidate, Ends, Other)
@@ -125,17 +125,17 @@ module _ (P : ℕ → Request → Type 0) where
     q-takes_join : (v : View) (p : Id) (t : ℕ) (last : StateId) → Queues P (joins.takes_join s v p t last)
     q-takes_join v p t last = search (q-if, q-leads, q-takes_member, Ends, Other)
 
-    q-joined : (v : View) (p : Id) (t : ℕ) (last : StateId) → Queues P (joins.is_joined s v p t last)
+    q-joined : (v : View) (p : Id) (t : ℕ) (last : StateId) → Queues P (joins.on_join s v p t last)
     q-joined v p t last = q-if (doing.is_voting_only s s.me) [] _ Ends (q-then s v _ (λ u. joins.takes_join s u p t last) (q-raises_term v s.me t) (λ u. q-takes_join u p t last))
 
-    q-asked_to_join : (v : View) (p : Id) (t : ℕ) → Queues P (joins.is_asked_to_join s v p t)
-    q-asked_to_join v p t = search (q-if, q-takes_member, q-starts_join, Ends)
+    q-asked_to_join : (v : View) (p : Id) (t : ℕ) → Queues P (joins.on_join_ask s v p t)
+    q-asked_to_join v p t = search (q-if, q-takes_member, q-on_start_join, Ends)
 
     -- publications
     q-accepts : (v : View) (p : Id) (state : ClusterState) → Queues P (publications.accepts s v p state)
     q-accepts v p state = search (q-if, q-becomes_follower, Ends, Other)
 
-    q-published_to : (v : View) (p : Id) (state : ClusterState) → Queues P (publications.is_published_to s v p state)
+    q-published_to : (v : View) (p : Id) (state : ClusterState) → Queues P (publications.on_publish s v p state)
     q-published_to v p state = q-then s v _ (λ u. publications.accepts s u p state) (q-raises_term v p state.term) (λ u. q-accepts u p state)
 
     q-first_commit : (v : View) (id : StateId) → Queues P (publications.sends_first_commit s v id)
@@ -144,18 +144,18 @@ module _ (P : ℕ → Request → Type 0) where
     q-sends_commit : (v : View) (sent : Bool) (p : Id) (id : StateId) → Queues P (publications.sends_commit s v sent p id)
     q-sends_commit v sent p id = search (q-if, q-first_commit, Ends, Other)
 
-    q-counts_response : (v : View) (p : Id) (id : StateId) → Queues P (publications.counts_response s v p id)
-    q-counts_response v p id = search (q-if, q-sends_commit, Ends, Other)
+    q-on_response : (v : View) (p : Id) (id : StateId) → Queues P (publications.on_response s v p id)
+    q-on_response v p id = search (q-if, q-sends_commit, Ends, Other)
 
     q-acks_exclusions : (v : View) → Queues P (publications.acks_exclusions s v)
     q-acks_exclusions v = q-append _ _ (q-replies s _) (Other _ _ refl Ends)
 
-    q-told_commit : (v : View) (p : Id) (id : StateId) → Queues P (publications.is_told_commit s v p id)
+    q-told_commit : (v : View) (p : Id) (id : StateId) → Queues P (publications.on_commit s v p id)
     q-told_commit v p id = search (q-append, q-if, q-acks_exclusions, q-goes_on, Ends, Other)
 
     -- discovery
     q-seeks_master : (v : View) (p : Id) (master : Option Id) (t : ℕ) → Queues P (discovery.seeks_master s v p master t)
-    q-seeks_master v p master t = search (q-if, q-starts_join, Ends, Other)
+    q-seeks_master v p master t = search (q-if, q-on_start_join, Ends, Other)
 
     q-hears_peer : (v : View) (p : Id) (master : Option Id) (t : ℕ) → Queues P (discovery.hears_peer s v p master t)
     q-hears_peer v p master t = search (q-if, q-seeks_master, Ends, Other)
@@ -179,7 +179,7 @@ module _ (P : ℕ → Request → Type 0) where
     q-follows_checker : (v : View) (p : Id) → Queues P (checks.follows_checker s v p)
     q-follows_checker v p = search (q-append, q-if, q-becomes_follower, Ends, Other)
 
-    q-checked_by_leader : (v : View) (p : Id) (t : ℕ) → Queues P (checks.is_checked_by_leader s v p t)
+    q-checked_by_leader : (v : View) (p : Id) (t : ℕ) → Queues P (checks.on_follower_check s v p t)
     q-checked_by_leader v p t = search (q-append, q-if, q-raises_term, q-follows_checker, Ends, Other)
 
     -- elections
@@ -205,9 +205,9 @@ module _ (P : ℕ → Request → Type 0) where
     q-goes_to_election v Fresher = Ends
     q-goes_to_election v (Quorum t) = q-stands_for_election v t
 
-    q-counts_pre_vote : (v : View) (round : Option Round) (p : Id) (t : ℕ) (last : StateId) → Queues P (elections.counts_pre_vote s v round p t last)
-    q-counts_pre_vote v None p t last = Ends
-    q-counts_pre_vote v (Some r) p t last = search (q-if, q-goes_to_election, Ends, Other)
+    q-on_pre_vote_answer : (v : View) (round : Option Round) (p : Id) (t : ℕ) (last : StateId) → Queues P (elections.on_pre_vote_answer s v round p t last)
+    q-on_pre_vote_answer v None p t last = Ends
+    q-on_pre_vote_answer v (Some r) p t last = search (q-if, q-goes_to_election, Ends, Other)
 
     q-takes_config : (v : View) (o : Option (List Id)) → Queues P (elections.takes_config s v o)
     q-takes_config v None = Ends
@@ -232,16 +232,16 @@ module _ (P : ℕ → Request → Type 0) where
     q-ticks v word (Follower leader) = q-checks_leader v leader v.leader_check
 
     q-message : (v : View) (p : Id) (m : WireMessage) → Queues P (rules.takes_message s v p m)
-    q-message v p (message.StartJoin candidate t) = q-starts_join v candidate t
+    q-message v p (message.StartJoin candidate t) = q-on_start_join v candidate t
     q-message v p (message.Join t last) = q-joined v p t last
     q-message v p (message.Publish state) = q-published_to v p state
-    q-message v p (message.Response id) = q-counts_response v p id
+    q-message v p (message.Response id) = q-on_response v p id
     q-message v p (message.Commit id) = q-told_commit v p id
     q-message v p (message.JoinAsk t) = q-asked_to_join v p t
     q-message v p (message.PeersAsk known) = Other _ _ refl (Other _ _ refl Ends)
     q-message v p (message.PeersAnswer master t known) = q-then s v _ (λ u. discovery.hears_peer s u p master t) (Other _ _ refl Ends) (λ u. q-hears_peer u p master t)
     q-message v p message.PreVoteAsk = q-pre_vote_reply v p (reply_to p (doing.leader_of s.me v.mode))
-    q-message v p (message.PreVoteAnswer t last) = q-counts_pre_vote v v.round p t last
+    q-message v p (message.PreVoteAnswer t last) = q-on_pre_vote_answer v v.round p t last
     q-message v p (message.PreVoteRefuse leader) = Other _ _ refl Ends
     q-message v p (message.FollowerCheck t) = q-checked_by_leader v p t
     q-message v p (message.FollowerAnswer good t applied) = q-if (doing.is_leader v.mode) _ [] (Other _ _ refl Ends) Ends

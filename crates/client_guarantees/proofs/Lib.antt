@@ -14,4 +14,5 @@ pub mod Coming
 pub mod Running
 pub mod Lives
 pub mod Laws
+pub mod StayingOut
 mod Examples

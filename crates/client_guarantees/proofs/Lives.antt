@@ -124,7 +124,6 @@ true_at h s life f conn (reply.To number (answer.NotMaster leader)) t = tt
 true_at h s life f conn (reply.To number (answer.BadSetting length)) t = tt
 true_at h s life f conn (reply.To number (answer.QueueFull count)) t = tt
 true_at h s life f conn (reply.To number (answer.TooManySettings count)) t = tt
-true_at h s life f conn (reply.To number (answer.NotMember id)) t = tt
 true_at h s life f conn (reply.To number (answer.TooManyExclusions count)) t = tt
 true_at h s life f conn (reply.To number (answer.StillMember id)) t = tt
 true_at h s life f conn (reply.To number (answer.FailedToCommit term)) t = tt

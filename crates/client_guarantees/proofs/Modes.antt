@@ -61,8 +61,8 @@ module _ (h : History) (s : Settings) (P : ℕ → Request → Type 0) where
       (λ l. keeps-none h s P v g IsBare (i.stands.leads.idle l)))
       (λ k. keeps-item h s P _ _ (Turns (Follower p) v.node.term) [] (Holds h s P) refl (λ b. keeps-none h s P _ _ (Holds h s P) (holds-idle h s P _ refl k.0 k.1))))
 
-  pub keeps-starts_join : (v : View) (g : List Waiting) (c : Id) (t : ℕ) → Holds h s P (place v g) → Keeps h s P v g (doing.starts_join s v c t) (Holds h s P)
-  keeps-starts_join v g c t i =
+  pub keeps-on_start_join : (v : View) (g : List Waiting) (c : Id) (t : ℕ) → Holds h s P (place v g) → Keeps h s P v g (doing.on_start_join s v c t) (Holds h s P)
+  keeps-on_start_join v g c t i =
       let act : Act = StartJoin c t in
       keeps-item h s P v g (doing.act_now s v act) _ (Holds h s P) refl
       (λ b. keeps-if h s P (doing.after_act s v act) g (doing.takes s v act) _ [] (Holds h s P)
@@ -71,4 +71,4 @@ module _ (h : History) (s : Settings) (P : ℕ → Request → Type 0) where
 
   pub keeps-raises_term : (v : View) (g : List Waiting) (c : Id) (t : ℕ) → Holds h s P (place v g) → Keeps h s P v g (doing.raises_term s v c t) (Holds h s P)
   keeps-raises_term v g c t i =
-      keeps-if h s P v g (nat_lt v.node.term t) (doing.starts_join s v c t) [] (Holds h s P) (λ e. keeps-starts_join v g c t i) (λ e. keeps-none h s P v g (Holds h s P) i)
+      keeps-if h s P v g (nat_lt v.node.term t) (doing.on_start_join s v c t) [] (Holds h s P) (λ e. keeps-on_start_join v g c t i) (λ e. keeps-none h s P v g (Holds h s P) i)

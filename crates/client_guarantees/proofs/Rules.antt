@@ -56,9 +56,9 @@ use Rattle.client_guarantees.proofs.Telling.{place, true-later, grown, keeps-all
 use Rattle.client_guarantees.proofs.Leading.{IsDone, won-join}
 use Rattle.client_guarantees.proofs.Folding.{Each, each-last, IsAmong, Of}
 use Rattle.client_guarantees.proofs.Holding.{IsMade, Holds, IsReadyToGo, ready-holds, idle-holds, holds-waiting, holds-publish, holds-commit, holds-response, holds-join, each-left}
-use Rattle.client_guarantees.proofs.Steady.{Calm, Still, steady-if, steady-sends, steady-waits_for_election, steady-pre_vote_reply, steady-counts_pre_vote, steady-asks_peers, steady-checks_followers}
+use Rattle.client_guarantees.proofs.Steady.{Calm, Still, steady-if, steady-sends, steady-waits_for_election, steady-pre_vote_reply, steady-on_pre_vote_answer, steady-asks_peers, steady-checks_followers}
 use Rattle.client_guarantees.proofs.Answers.{left_none, HasDone, true-committed_in, true-exclusion_done, true-timed_out}
-use Rattle.client_guarantees.proofs.Modes.{keeps-becomes_candidate, keeps-becomes_follower, keeps-starts_join, keeps-raises_term}
+use Rattle.client_guarantees.proofs.Modes.{keeps-becomes_candidate, keeps-becomes_follower, keeps-on_start_join, keeps-raises_term}
 use Rattle.client_guarantees.proofs.Backing.{HasCommittedId, TakesCommit, IsUnique}
 use Rattle.client_guarantees.proofs.GoingOn.{accepted_made, keeps-goes_on, keeps-leads, keeps-takes_member}
 
@@ -107,15 +107,15 @@ module _ (h : History) (U : IsUnique h) (s : Settings) (P : ℕ → Request → 
       (λ t. nothing after g (holds-join h s P v g join (doing.reply_now s v act) w i)))))
       (λ f. nothing v g i)
 
-  keeps-joined : (v : View) (g : List Waiting) (p : Id) (term : ℕ) (last : StateId) → Holds h s P (place v g) → Keeps h s P v g (joins.is_joined s v p term last) (Holds h s P)
+  keeps-joined : (v : View) (g : List Waiting) (p : Id) (term : ℕ) (last : StateId) → Holds h s P (place v g) → Keeps h s P v g (joins.on_join s v p term last) (Holds h s P)
   keeps-joined v g p term last i =
       keeps-if h s P v g (doing.is_voting_only s s.me) [] _ (Holds h s P) (λ e. nothing v g i)
       (λ e. keeps-then h s P v g _ (λ u. joins.takes_join s u p term last) (Holds h s P) (Holds h s P) (keeps-raises_term h s P v g s.me term i) (λ u g k. keeps-takes_join u g p term last k))
 
-  keeps-asked_to_join : (v : View) (g : List Waiting) (p : Id) (term : ℕ) → Holds h s P (place v g) → Keeps h s P v g (joins.is_asked_to_join s v p term) (Holds h s P)
+  keeps-asked_to_join : (v : View) (g : List Waiting) (p : Id) (term : ℕ) → Holds h s P (place v g) → Keeps h s P v g (joins.on_join_ask s v p term) (Holds h s P)
   keeps-asked_to_join v g p term i =
       keeps-if h s P v g (not (doing.is_leader v.mode)) [] _ (Holds h s P) (λ e. nothing v g i)
-      (λ e. keeps-if h s P v g (nat_le term v.node.term) _ _ (Holds h s P) (λ k. keeps-takes_member h U s P v g p i) (λ k. keeps-starts_join h s P v g s.me term i))
+      (λ e. keeps-if h s P v g (nat_le term v.node.term) _ _ (Holds h s P) (λ k. keeps-takes_member h U s P v g p i) (λ k. keeps-on_start_join h s P v g s.me term i))
 
   -- publications
   keeps-accepts : (v : View) (g : List Waiting) (p : Id) (state : ClusterState) → Holds h s P (place v g) → Keeps h s P v g (publications.accepts s v p state) (Holds h s P)
@@ -130,7 +130,7 @@ module _ (h : History) (U : IsUnique h) (s : Settings) (P : ℕ → Request → 
       (λ c. keeps-if h s P after g (same p s.me) [] _ (Holds h s P) (λ e. nothing after g k) (λ e. keeps-becomes_follower h s P after g p k)))
       (λ t. nothing after g k))
 
-  keeps-published_to : (v : View) (g : List Waiting) (p : Id) (state : ClusterState) → Holds h s P (place v g) → Keeps h s P v g (publications.is_published_to s v p state) (Holds h s P)
+  keeps-published_to : (v : View) (g : List Waiting) (p : Id) (state : ClusterState) → Holds h s P (place v g) → Keeps h s P v g (publications.on_publish s v p state) (Holds h s P)
   keeps-published_to v g p state i =
       keeps-then h s P v g _ (λ u. publications.accepts s u p state) (Holds h s P) (Holds h s P) (keeps-raises_term h s P v g p state.term i) (λ u g k. keeps-accepts u g p state k)
 
@@ -168,8 +168,8 @@ module _ (h : History) (U : IsUnique h) (s : Settings) (P : ℕ → Request → 
       (λ k. keeps-all h s P _ _ answers (Holds h s P) (true-later h P g _ answers (grown s v g sends) (true-committed_in h P g done (published_id v.node) d v.tasks.waiting w)) k))
       (λ k. keeps-item h s P _ _ (Notes CommitAcked) [] (Holds h s P) refl (λ b. nothing _ _ (holds-waiting h s P _ _ (left_none _ _) (λ P e. each-left P _ _ e) k)))
 
-  keeps-counts_response : (v : View) (g : List Waiting) (p : Id) (id : StateId) → Holds h s P (place v g) → Keeps h s P v g (publications.counts_response s v p id) (Holds h s P)
-  keeps-counts_response v g p id i =
+  keeps-on_response : (v : View) (g : List Waiting) (p : Id) (id : StateId) → Holds h s P (place v g) → Keeps h s P v g (publications.on_response s v p id) (Holds h s P)
+  keeps-on_response v g p id i =
       let act : Act = Response (record { source = p; target = s.me; term = id.term; version = id.version }) in
       let after = doing.after_act s v act in
       let k = holds-response h s P v g (record { source = p; target = s.me; term = id.term; version = id.version }) (doing.reply_now s v act) i in
@@ -196,7 +196,7 @@ module _ (h : History) (U : IsUnique h) (s : Settings) (P : ℕ → Request → 
           (true-exclusion_done h P g m.done v.node.committed (id_of v.node.accepted) (accepted_done v g m d) (settled ∙ sym (ap (λ (x : ClusterState). x.config) d.committed.is_state)) v.tasks.waiting m.among)
           (keeps-item h s P v g (Notes ExclusionsAcked) [] (Holds h s P) refl (λ b. nothing _ g (holds-waiting h s P (place v g) _ (left_none _ _) (λ P e. each-left P _ _ e) i)))
 
-  keeps-told_commit : (v : View) (g : List Waiting) (p : Id) (id : StateId) → Holds h s P (place v g) → Keeps h s P v g (publications.is_told_commit s v p id) (Holds h s P)
+  keeps-told_commit : (v : View) (g : List Waiting) (p : Id) (id : StateId) → Holds h s P (place v g) → Keeps h s P v g (publications.on_commit s v p id) (Holds h s P)
   keeps-told_commit v g p id i =
       let act : Act = Commit (record { source = p; term = id.term; version = id.version }) in
       let after = doing.after_act s v act in
@@ -215,7 +215,7 @@ module _ (h : History) (U : IsUnique h) (s : Settings) (P : ℕ → Request → 
   keeps-seeks_master : (v : View) (g : List Waiting) (p : Id) (master : Option Id) (term : ℕ) → Holds h s P (place v g) → Keeps h s P v g (discovery.seeks_master s v p master term) (Holds h s P)
   keeps-seeks_master v g p master term i =
       keeps-if h s P v g (discovery.is_node master p) _ [] (Holds h s P)
-      (λ e. keeps-if h s P v g (nat_lt v.node.term term) _ _ (Holds h s P) (λ k. keeps-starts_join h s P v g p term i) (λ k. keeps-steady h s P v g _ (Holds h s P) (Still _ _ refl Calm) i))
+      (λ e. keeps-if h s P v g (nat_lt v.node.term term) _ _ (Holds h s P) (λ k. keeps-on_start_join h s P v g p term i) (λ k. keeps-steady h s P v g _ (Holds h s P) (Still _ _ refl Calm) i))
       (λ e. nothing v g i)
 
   keeps-hears_peer : (v : View) (g : List Waiting) (p : Id) (master : Option Id) (term : ℕ) → Holds h s P (place v g) → Keeps h s P v g (discovery.hears_peer s v p master term) (Holds h s P)
@@ -224,11 +224,11 @@ module _ (h : History) (U : IsUnique h) (s : Settings) (P : ℕ → Request → 
       (λ e. keeps-then h s P v g _ (λ u. discovery.seeks_master s u p master term) (Holds h s P) (Holds h s P) (keeps-steady h s P v g _ (Holds h s P) (Still (Notes (Heard p master)) [] refl Calm) i) (λ u g k. keeps-seeks_master u g p master term k))
       (λ e. nothing v g i)
 
-  keeps-told_peers : (v : View) (g : List Waiting) (p : Id) (master : Option Id) (term : ℕ) (ids : List Id) → Holds h s P (place v g) → Keeps h s P v g (discovery.is_told_peers s v p master term ids) (Holds h s P)
+  keeps-told_peers : (v : View) (g : List Waiting) (p : Id) (master : Option Id) (term : ℕ) (ids : List Id) → Holds h s P (place v g) → Keeps h s P v g (discovery.on_peers_answer s v p master term ids) (Holds h s P)
   keeps-told_peers v g p master term ids i =
       keeps-then h s P v g _ (λ u. discovery.hears_peer s u p master term) (Holds h s P) (Holds h s P) (keeps-steady h s P v g _ (Holds h s P) (Still (Notes (Met (p ∷ ids))) [] refl Calm) i) (λ u g k. keeps-hears_peer u g p master term k)
 
-  keeps-asked_for_peers : (v : View) (g : List Waiting) (p : Id) (ids : List Id) → Holds h s P (place v g) → Keeps h s P v g (discovery.is_asked_for_peers s v p ids) (Holds h s P)
+  keeps-asked_for_peers : (v : View) (g : List Waiting) (p : Id) (ids : List Id) → Holds h s P (place v g) → Keeps h s P v g (discovery.on_peers_ask s v p ids) (Holds h s P)
   keeps-asked_for_peers v g p ids i = keeps-steady h s P v g _ (Holds h s P) (Still _ _ refl (Still _ _ refl Calm)) i
 
   -- checks
@@ -251,7 +251,7 @@ module _ (h : History) (U : IsUnique h) (s : Settings) (P : ℕ → Request → 
       keeps-if h s P v g (doing.is_leader v.mode) _ _ (Holds h s P) (λ e. keeps-answers_leader v g p false i)
       (λ e. keeps-then h s P v g _ (λ u. checks.answers_leader s u p true) (Holds h s P) (Holds h s P) (keeps-becomes_follower h s P v g p i) (λ u g k. keeps-answers_leader u g p true k))
 
-  keeps-checked_by_leader : (v : View) (g : List Waiting) (p : Id) (term : ℕ) → Holds h s P (place v g) → Keeps h s P v g (checks.is_checked_by_leader s v p term) (Holds h s P)
+  keeps-checked_by_leader : (v : View) (g : List Waiting) (p : Id) (term : ℕ) → Holds h s P (place v g) → Keeps h s P v g (checks.on_follower_check s v p term) (Holds h s P)
   keeps-checked_by_leader v g p term i =
       keeps-if h s P v g (nat_lt term v.node.term) _ _ (Holds h s P) (λ e. keeps-answers_leader v g p false i)
       (λ e. keeps-then h s P v g _ (λ u. checks.follows_checker s u p) (Holds h s P) (Holds h s P) (keeps-raises_term h s P v g p term i) (λ u g k. keeps-follows_checker u g p k))
@@ -312,16 +312,16 @@ module _ (h : History) (U : IsUnique h) (s : Settings) (P : ℕ → Request → 
 
   -- a frame, by its message
   keeps-message : (v : View) (g : List Waiting) (p : Id) (m : WireMessage) → Holds h s P (place v g) → Keeps h s P v g (rules.takes_message s v p m) (Holds h s P)
-  keeps-message v g p (message.StartJoin candidate term) i = keeps-starts_join h s P v g candidate term i
+  keeps-message v g p (message.StartJoin candidate term) i = keeps-on_start_join h s P v g candidate term i
   keeps-message v g p (message.Join term last) i = keeps-joined v g p term last i
   keeps-message v g p (message.Publish state) i = keeps-published_to v g p state i
-  keeps-message v g p (message.Response id) i = keeps-counts_response v g p id i
+  keeps-message v g p (message.Response id) i = keeps-on_response v g p id i
   keeps-message v g p (message.Commit id) i = keeps-told_commit v g p id i
   keeps-message v g p (message.JoinAsk term) i = keeps-asked_to_join v g p term i
   keeps-message v g p (message.PeersAsk known) i = keeps-asked_for_peers v g p known i
   keeps-message v g p (message.PeersAnswer master term known) i = keeps-told_peers v g p master term known i
   keeps-message v g p message.PreVoteAsk i = keeps-steady h s P v g _ (Holds h s P) (steady-pre_vote_reply s v p _) i
-  keeps-message v g p (message.PreVoteAnswer term last) i = keeps-steady h s P v g _ (Holds h s P) (steady-counts_pre_vote s v v.round p term last) i
+  keeps-message v g p (message.PreVoteAnswer term last) i = keeps-steady h s P v g _ (Holds h s P) (steady-on_pre_vote_answer s v v.round p term last) i
   keeps-message v g p (message.PreVoteRefuse leader) i = keeps-steady h s P v g _ (Holds h s P) (Still _ _ refl Calm) i
   keeps-message v g p (message.FollowerCheck term) i = keeps-checked_by_leader v g p term i
   keeps-message v g p (message.FollowerAnswer good term applied) i = keeps-steady h s P v g _ (Holds h s P) (steady-if (doing.is_leader v.mode) _ [] (Still _ _ refl Calm) Calm) i

@@ -152,9 +152,9 @@ module _ (s : Settings) where
   steady-goes_to_election v Fresher = Calm
   steady-goes_to_election v (Quorum term) = steady-stands_for_election v term
 
-  pub steady-counts_pre_vote : (v : View) (round : Option Round) (p : Id) (term : ℕ) (last : StateId) → IsSteady (elections.counts_pre_vote s v round p term last)
-  steady-counts_pre_vote v None p term last = Calm
-  steady-counts_pre_vote v (Some r) p term last = search (steady-if, steady-goes_to_election, Calm, Still)
+  pub steady-on_pre_vote_answer : (v : View) (round : Option Round) (p : Id) (term : ℕ) (last : StateId) → IsSteady (elections.on_pre_vote_answer s v round p term last)
+  steady-on_pre_vote_answer v None p term last = Calm
+  steady-on_pre_vote_answer v (Some r) p term last = search (steady-if, steady-goes_to_election, Calm, Still)
 
   pub steady-asks_peers : (v : View) → IsSteady (discovery.asks_peers s v)
   steady-asks_peers v = search (steady-if, steady-sends, Calm, Still)

@@ -239,7 +239,6 @@ answer_later h P g k conn number (answer.NotMaster leader) m t = tt
 answer_later h P g k conn number (answer.BadSetting length) m t = tt
 answer_later h P g k conn number (answer.QueueFull count) m t = tt
 answer_later h P g k conn number (answer.TooManySettings count) m t = tt
-answer_later h P g k conn number (answer.NotMember id) m t = tt
 answer_later h P g k conn number (answer.TooManyExclusions count) m t = tt
 answer_later h P g k conn number (answer.StillMember id) m t = tt
 answer_later h P g k conn number (answer.FailedToCommit term) m t = tt

@@ -1,12 +1,12 @@
 -- Part of the statement: what a client may rely on, as statements. The other files here give their words.
-use Rattle.std.specs.Prelude.{◌≡◌, ◌≢◌, ℕ, List}
+use Rattle.std.specs.Prelude.{◌≡◌, ◌≢◌, ℕ, true, false, List}
 use Rattle.std.specs.List.{Contains}
-use Rattle.voting_config.specs.Ids.{Id}
+use Rattle.voting_config.specs.Ids.{Id, has}
 use Rattle.cluster_state.specs.declared.state.Kept.{Kept}
 use Rattle.master_tasks.specs.declared.waiting.Waiting.{Waiting}
 use Rattle.master_tasks.specs.declared.waiting.Outgoing.{Outgoing}
 use Rattle.master_tasks.specs.Queue.{Tasks}
-use Rattle.master_tasks.specs.NextState.{Leader as NextMaster, next_value}
+use Rattle.master_tasks.specs.NextState.{Leader as NextMaster, next_value, next_config}
 use Rattle.world_model.specs.Acts.{NodeHistory, NoActs}
 use Rattle.world_model.specs.NodeState.{durable_of}
 use Rattle.world_model.specs.Histories.{History, node_history, IsLegal}
@@ -68,4 +68,11 @@ LawNextMeetsEach = (l : NextMaster) (t : Tasks) → MeetsEach (next_value l t) (
 abbrev pub LawLastSettingStands : Type 0
 LawLastSettingStands =
     (l : NextMaster) (t : Tasks) (key : List ℕ)
-    → setting_under key (next_value l t).settings ≡ setting_after_all key (setting_under key l.accepted.value.settings) (processed_into_next l t)
+    → setting_under key (next_value l t).settings
+    ≡ setting_after_all key (setting_under key l.accepted.value.settings) (processed_into_next l t)
+
+-- a node that the next value excludes becomes no voter: so one that was excluded before it was a member does not vote as it joins
+abbrev pub LawExcludedStayOut : Type 0
+LawExcludedStayOut =
+    (l : NextMaster) (t : Tasks) (id : Id) → has id (next_value l t).exclusions ≡ true → has id l.accepted.config ≡ false
+    → has id (next_config l t) ≡ false

@@ -25,7 +25,8 @@ processed_by_this w (Makes value) = if w.processed then [] else record w { proce
 abbrev pub processed_from : ClusterState → ClusterValue → List Waiting → List Waiting
 processed_from accepted value [] = []
 processed_from accepted value (w ∷ ws) =
-    processed_by_this w (processing_once accepted value w) ++ processed_from accepted (value_after value (processing_once accepted value w)) ws
+    processed_by_this w (processing_once accepted value w)
+    ++ processed_from accepted (value_after value (processing_once accepted value w)) ws
 
 -- those that are processed into the next state
 unfoldable pub processed_into_next : NextMaster → Tasks → List Waiting

@@ -2,6 +2,7 @@
 #![tactic(auto)]
 
 ghost use Rattle.client_guarantees.specs.Laws.{
+  LawExcludedStayOut,
   LawLastRepliesAreTrue,
   LawLastSettingStands,
   LawNextMeetsEach,
@@ -43,4 +44,10 @@ pub fn law_next_meets_each()
 /// Under each key it has what the last of these requests says that sets or removes it.
 pub fn law_last_setting_stands()
     ensures { LawLastSettingStands }
+{}
+
+/// A node that is excluded from voting and is no voter of the state that the leader has accepted is no voter of the next
+/// one, member or not: so a node that was excluded before it joins stays out as it joins.
+pub fn law_excluded_stay_out()
+    ensures { LawExcludedStayOut }
 {}

@@ -7,7 +7,8 @@ use Rattle.client_lines.specs.Lines.{kept, lines_of, rest_of, IsHeld}
 abbrev pub has_no_feed : List ℕ → Type 0
 has_no_feed bytes = IsTrue (list_all (λ b. not (b == line_feed)) bytes)
 
--- the lines so far and those behind the first bytes, so many, are all of them; of what is behind them the bytes up to a place have no line feed
+-- the lines so far and those behind the first bytes, so many, are all of them; of what is behind them the bytes up to a place have no line
+-- feed
 pub record IsEnding (lines : List (List ℕ)) (used seen : ℕ) (bytes : List ℕ) : Type 0 where
   pub all : lines ++ lines_of (drop used bytes) ≡ lines_of bytes
   pub rest : rest_of (drop used bytes) ≡ rest_of bytes

@@ -8,7 +8,7 @@ use Rattle.cluster_state.specs.declared.state.StateId.{StateId}
 use Rattle.cluster_state.specs.declared.reply.LineFault.{LineFault}
 use Rattle.cluster_state.specs.declared.reply.LineFault.TheVariants.{TooLong, NotJson, BadShape}
 use Rattle.cluster_state.specs.declared.reply.Answer.{Answer}
-use Rattle.cluster_state.specs.declared.reply.Answer.TheVariants.{Acked, State, NotMaster, BadSetting, QueueFull, TooManySettings, NotMember, TooManyExclusions, StillMember, FailedToCommit, ExclusionTimeout}
+use Rattle.cluster_state.specs.declared.reply.Answer.TheVariants.{Acked, State, NotMaster, BadSetting, QueueFull, TooManySettings, TooManyExclusions, StillMember, FailedToCommit, ExclusionTimeout}
 use Rattle.cluster_state.specs.declared.reply.Reply.{Reply}
 use Rattle.cluster_state.specs.declared.reply.Reply.TheVariants.{To, BadLine}
 
@@ -33,7 +33,6 @@ answer_json id (NotMaster master) = beside_id id (codes "not_master") (master_js
 answer_json id (BadSetting length) = beside_id id (codes "bad_setting") (number_json length)
 answer_json id (QueueFull count) = beside_id id (codes "queue_full") (number_json count)
 answer_json id (TooManySettings count) = beside_id id (codes "too_many_settings") (number_json count)
-answer_json id (NotMember node) = beside_id id (codes "not_member") (string node)
 answer_json id (TooManyExclusions count) = beside_id id (codes "too_many_exclusions") (number_json count)
 answer_json id (StillMember node) = beside_id id (codes "still_member") (string node)
 answer_json id (FailedToCommit term) = beside_id id (codes "failed_to_commit") (number_json term)

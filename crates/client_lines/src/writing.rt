@@ -35,9 +35,6 @@ fn write_answer(alloc: Global, id: u64, answer: &Answer) -> Result<Vec<u8>, Allo
         Answer::BadSetting(length) => write_number(alloc, id, "bad_setting", *length),
         Answer::QueueFull(count) => write_number(alloc, id, "queue_full", *count),
         Answer::TooManySettings(count) => write_number(alloc, id, "too_many_settings", *count),
-        Answer::NotMember(node) => {
-            write_beside(alloc, id, "not_member", node_value(alloc, *node)?)
-        }
         Answer::TooManyExclusions(count) => {
             write_number(alloc, id, "too_many_exclusions", *count)
         }

@@ -230,9 +230,9 @@ module _ (s : Settings) where
     calm-goes_to_election v Fresher n = Silent
     calm-goes_to_election v (Quorum term) n = calm-stands_for_election v term n
 
-    calm-counts_pre_vote : (v : View) (round : Option Round) (p : Id) (term : ℕ) (last : StateId) → NamedView v → IsCalm s (elections.counts_pre_vote s v round p term last)
-    calm-counts_pre_vote v None p term last n = Silent
-    calm-counts_pre_vote v (Some r) p term last n = calm-if s _ _ [] (Noting (RoundAnswered p term last) _ refl (calm-goes_to_election v _ n)) Silent
+    calm-on_pre_vote_answer : (v : View) (round : Option Round) (p : Id) (term : ℕ) (last : StateId) → NamedView v → IsCalm s (elections.on_pre_vote_answer s v round p term last)
+    calm-on_pre_vote_answer v None p term last n = Silent
+    calm-on_pre_vote_answer v (Some r) p term last n = calm-if s _ _ [] (Noting (RoundAnswered p term last) _ refl (calm-goes_to_election v _ n)) Silent
 
     -- discovery
     calm-asks_peers : (v : View) → NamedView v → IsCalm s (discovery.asks_peers s v)
@@ -240,7 +240,7 @@ module _ (s : Settings) where
         let known = all-known v.finder n.peers in
         calm-if s (is_due v.finder.due v.moment) _ [] (Noting PeersAsked _ refl (calm-sends (known_set v.finder) (message.PeersAsk (known_set v.finder)) refl known known)) Silent
 
-    calm-asked_for_peers : (v : View) (p : Id) (ids : List Id) → NamedView v → is_id p ≡ true → AllIds ids → IsCalm s (discovery.is_asked_for_peers s v p ids)
+    calm-asked_for_peers : (v : View) (p : Id) (ids : List Id) → NamedView v → is_id p ≡ true → AllIds ids → IsCalm s (discovery.on_peers_ask s v p ids)
     calm-asked_for_peers v p ids n h all =
         let met : AllIds (p ∷ ids) = and_from (is_id p) (list_all is_id ids) h all in
         let u : View = noted s v (Met (p ∷ ids)) in
@@ -306,15 +306,15 @@ module _ (s : Settings) (mine : is_id s.me ≡ true) (initial : IsIdSet s.initia
   allowed-sends ms v [] m h n k = Ended ms v
   allowed-sends ms v (x ∷ xs) m h n k = let parts = and_parts (is_id x) (list_all is_id xs) h in BySend ms v x m _ parts.0 n (k x) (allowed-sends ms v xs m parts.1 n k)
 
-  allowed-starts_join : (ms : List Message) (v : View) (c : Id) (t : ℕ) → is_id c ≡ true → t ≤ last_number → IsAllowed s ms v (doing.starts_join s v c t)
-  allowed-starts_join ms v c t h few =
+  allowed-on_start_join : (ms : List Message) (v : View) (c : Id) (t : ℕ) → is_id c ≡ true → t ≤ last_number → IsAllowed s ms v (doing.on_start_join s v c t)
+  allowed-on_start_join ms v c t h few =
       ByAct ms v (StartJoin c t) _ refl tt (h, few)
       (allowed-when _ _ (doing.takes s v (StartJoin c t)) _ []
       (λ e. BySend _ _ c (message.Join t (id_of v.node.accepted)) _ h few (known ms _ _ (start-sends s.me v.node c t e)) (allowed-calm s _ _ _ (calm-becomes_candidate_once s (doing.after_act s v (StartJoin c t)))))
       (Ended _ _))
 
   allowed-raises_term : (ms : List Message) (v : View) (c : Id) (t : ℕ) → is_id c ≡ true → t ≤ last_number → IsAllowed s ms v (doing.raises_term s v c t)
-  allowed-raises_term ms v c t h few = allowed-when ms v (nat_lt v.node.term t) _ [] (λ e. allowed-starts_join ms v c t h few) (Ended ms v)
+  allowed-raises_term ms v c t h few = allowed-when ms v (nat_lt v.node.term t) _ [] (λ e. allowed-on_start_join ms v c t h few) (Ended ms v)
 
   -- the next state
   allowed-publishes : (ms : List Message) (v : View) → FitView v → IsAllowed s ms (moved s v (Notes StateMade)) (next.publishes s v (moved s v (Notes StateMade)))
@@ -355,13 +355,13 @@ module _ (s : Settings) (mine : is_id s.me ≡ true) (initial : IsIdSet s.initia
   allowed-seeks_master : (ms : List Message) (v : View) (p : Id) (master : Option Id) (term : ℕ) → FitView v → is_id p ≡ true → term ≤ last_number → IsAllowed s ms v (discovery.seeks_master s v p master term)
   allowed-seeks_master ms v p master term f h few =
       allowed-when ms v (discovery.is_node master p) _ []
-      (λ e. allowed-when ms v (nat_lt v.node.term term) _ _ (λ d. allowed-starts_join ms v p term h few) (BySend ms v p _ _ h f.names.term tt (Ended ms v))) (Ended ms v)
+      (λ e. allowed-when ms v (nat_lt v.node.term term) _ _ (λ d. allowed-on_start_join ms v p term h few) (BySend ms v p _ _ h f.names.term tt (Ended ms v))) (Ended ms v)
 
   allowed-hears_peer : (ms : List Message) (v : View) (p : Id) (master : Option Id) (term : ℕ) → FitView v → is_id p ≡ true → term ≤ last_number → IsAllowed s ms v (discovery.hears_peer s v p master term)
   allowed-hears_peer ms v p master term f h few =
       allowed-when ms v (doing.is_candidate v.mode) _ [] (λ e. ByNote ms v (Heard p master) _ tt (allowed-seeks_master ms _ p master term (fit-noted s v (Heard p master) f tt) h few)) (Ended ms v)
 
-  allowed-told_peers : (ms : List Message) (v : View) (p : Id) (master : Option Id) (term : ℕ) (ids : List Id) → FitView v → is_id p ≡ true → term ≤ last_number → AllIds ids → IsAllowed s ms v (discovery.is_told_peers s v p master term ids)
+  allowed-told_peers : (ms : List Message) (v : View) (p : Id) (master : Option Id) (term : ℕ) (ids : List Id) → FitView v → is_id p ≡ true → term ≤ last_number → AllIds ids → IsAllowed s ms v (discovery.on_peers_answer s v p master term ids)
   allowed-told_peers ms v p master term ids f h few all =
       let met : AllIds (p ∷ ids) = and_from (is_id p) (list_all is_id ids) h all in
       ByNote ms v (Met (p ∷ ids)) _ met (allowed-hears_peer ms _ p master term (fit-noted s v (Met (p ∷ ids)) f met) h few)
@@ -388,14 +388,14 @@ module _ (s : Settings) (mine : is_id s.me ≡ true) (initial : IsIdSet s.initia
       allowed-when ms v (has_room v.node.join_votes p) _ []
       (λ e. ByAct ms v act _ refl sent (h, e) (allowed-after_join _ v (doing.after_act s v act) act p (fit-acted s v act (Answered (doing.reply_now s v act)) f (h, e)) h)) (Ended ms v)
 
-  allowed-joined : (ms : List Message) (v : View) (p : Id) (term : ℕ) (last : StateId) → FitView v → is_id p ≡ true → term ≤ last_number → Contains ms (JoinMessage (joins.join_from p s.me term last)) → IsAllowed s ms v (joins.is_joined s v p term last)
+  allowed-joined : (ms : List Message) (v : View) (p : Id) (term : ℕ) (last : StateId) → FitView v → is_id p ≡ true → term ≤ last_number → Contains ms (JoinMessage (joins.join_from p s.me term last)) → IsAllowed s ms v (joins.on_join s v p term last)
   allowed-joined ms v p term last f h few sent =
       allowed-when ms v (doing.is_voting_only s s.me) [] _ (λ e. Ended ms v)
       (allowed-then ms v _ (λ u. joins.takes_join s u p term last) f (allowed-raises_term ms v s.me term mine few) (λ u ns g c. allowed-takes_join ns u p term last g h (c _ sent)))
 
-  allowed-asked_to_join : (ms : List Message) (v : View) (p : Id) (term : ℕ) → FitView v → is_id p ≡ true → term ≤ last_number → IsAllowed s ms v (joins.is_asked_to_join s v p term)
+  allowed-asked_to_join : (ms : List Message) (v : View) (p : Id) (term : ℕ) → FitView v → is_id p ≡ true → term ≤ last_number → IsAllowed s ms v (joins.on_join_ask s v p term)
   allowed-asked_to_join ms v p term f h few =
-      allowed-when ms v _ [] _ (λ e. Ended ms v) (allowed-when ms v _ _ _ (λ e. allowed-takes_member ms v p f h) (allowed-starts_join ms v s.me term mine few))
+      allowed-when ms v _ [] _ (λ e. Ended ms v) (allowed-when ms v _ _ _ (λ e. allowed-takes_member ms v p f h) (allowed-on_start_join ms v s.me term mine few))
 
   -- publications
   allowed-accepts : (ms : List Message) (v : View) (p : Id) (state : ClusterState) → FitView v → is_id p ≡ true → state_field.Fits state → Contains ms (PublishMessage (record { source = p; state = state })) → IsAllowed s ms v (publications.accepts s v p state)
@@ -407,7 +407,7 @@ module _ (s : Settings) (mine : is_id s.me ≡ true) (initial : IsIdSet s.initia
       (allowed-calm s _ _ _ (calm-if s (same p s.me) [] _ Silent (calm-becomes_follower s (doing.after_act s v act) p h))))
       (Ended _ _))
 
-  allowed-published_to : (ms : List Message) (v : View) (p : Id) (state : ClusterState) → FitView v → is_id p ≡ true → state_field.Fits state → Contains ms (PublishMessage (record { source = p; state = state })) → IsAllowed s ms v (publications.is_published_to s v p state)
+  allowed-published_to : (ms : List Message) (v : View) (p : Id) (state : ClusterState) → FitView v → is_id p ≡ true → state_field.Fits state → Contains ms (PublishMessage (record { source = p; state = state })) → IsAllowed s ms v (publications.on_publish s v p state)
   allowed-published_to ms v p state f h fit sent =
       allowed-then ms v _ (λ u. publications.accepts s u p state) f (allowed-raises_term ms v p state.term h fit.0.0.0.0) (λ u ns g c. allowed-accepts ns u p state g h fit (c _ sent))
 
@@ -420,8 +420,8 @@ module _ (s : Settings) (mine : is_id s.me ≡ true) (initial : IsIdSet s.initia
   allowed-sends_commit : (ms : List Message) (v : View) (before : Bool) (p : Id) (id : StateId) → FitView v → is_id p ≡ true → Contains ms (CommitMessage (record { source = s.me; term = id.term; version = id.version })) → IsAllowed s ms v (publications.sends_commit s v before p id)
   allowed-sends_commit ms v before p id f h sent = allowed-when ms v before _ _ (λ e. BySend ms v p (message.Commit id) _ h tt sent (Ended ms v)) (allowed-first_commit ms v id f sent)
 
-  allowed-counts_response : (ms : List Message) (v : View) (p : Id) (id : StateId) → FitView v → is_id p ≡ true → Contains ms (ResponseMessage (record { source = p; target = s.me; term = id.term; version = id.version })) → IsAllowed s ms v (publications.counts_response s v p id)
-  allowed-counts_response ms v p id f there sent =
+  allowed-on_response : (ms : List Message) (v : View) (p : Id) (id : StateId) → FitView v → is_id p ≡ true → Contains ms (ResponseMessage (record { source = p; target = s.me; term = id.term; version = id.version })) → IsAllowed s ms v (publications.on_response s v p id)
+  allowed-on_response ms v p id f there sent =
       let act : Act = Response (record { source = p; target = s.me; term = id.term; version = id.version }) in
       allowed-when ms v (doing.is_leader v.mode && is_some v.publication && has_room v.node.publish_votes p) _ []
       (λ h. ByAct ms v act _ refl sent there
@@ -430,7 +430,7 @@ module _ (s : Settings) (mine : is_id s.me ≡ true) (initial : IsIdSet s.initia
       (Ended _ _)))
       (Ended ms v)
 
-  allowed-told_commit : (ms : List Message) (v : View) (p : Id) (id : StateId) → FitView v → Contains ms (CommitMessage (record { source = p; term = id.term; version = id.version })) → IsAllowed s ms v (publications.is_told_commit s v p id)
+  allowed-told_commit : (ms : List Message) (v : View) (p : Id) (id : StateId) → FitView v → Contains ms (CommitMessage (record { source = p; term = id.term; version = id.version })) → IsAllowed s ms v (publications.on_commit s v p id)
   allowed-told_commit ms v p id f sent =
       let act : Act = Commit (record { source = p; term = id.term; version = id.version }) in
       let after = doing.after_act s v act in
@@ -440,7 +440,7 @@ module _ (s : Settings) (mine : is_id s.me ≡ true) (initial : IsIdSet s.initia
       (Ended _ _))
 
   -- checks
-  allowed-checked_by_leader : (ms : List Message) (v : View) (p : Id) (term : ℕ) → FitView v → is_id p ≡ true → term ≤ last_number → IsAllowed s ms v (checks.is_checked_by_leader s v p term)
+  allowed-checked_by_leader : (ms : List Message) (v : View) (p : Id) (term : ℕ) → FitView v → is_id p ≡ true → term ≤ last_number → IsAllowed s ms v (checks.on_follower_check s v p term)
   allowed-checked_by_leader ms v p term f h few =
       allowed-when ms v (nat_lt term v.node.term) _ _ (λ e. allowed-calm s ms v _ (calm-answers_leader s v p false h))
       (allowed-then ms v _ (λ u. checks.follows_checker s u p) f (allowed-raises_term ms v p term h few) (λ u ns g c. allowed-calm s ns u _ (calm-follows_checker s u p h)))
@@ -485,16 +485,16 @@ module _ (s : Settings) (mine : is_id s.me ≡ true) (initial : IsIdSet s.initia
     pub fit : (state : ClusterState) → m ≡ message.Publish state → state_field.Fits state
 
   allowed-message : (ms : List Message) (v : View) (p : Id) (m : FrameMessage) → FitView v → MayTake ms p m → IsAllowed s ms v (rules.takes_message s v p m)
-  allowed-message ms v p (message.StartJoin candidate term) f t = allowed-starts_join ms v candidate term t.names.0 t.names.1
+  allowed-message ms v p (message.StartJoin candidate term) f t = allowed-on_start_join ms v candidate term t.names.0 t.names.1
   allowed-message ms v p (message.Join term last) f t = allowed-joined ms v p term last f t.from t.names t.sent
   allowed-message ms v p (message.Publish state) f t = allowed-published_to ms v p state f t.from (t.fit state refl) t.sent
-  allowed-message ms v p (message.Response id) f t = allowed-counts_response ms v p id f t.from t.sent
+  allowed-message ms v p (message.Response id) f t = allowed-on_response ms v p id f t.from t.sent
   allowed-message ms v p (message.Commit id) f t = allowed-told_commit ms v p id f t.sent
   allowed-message ms v p (message.JoinAsk term) f t = allowed-asked_to_join ms v p term f t.from t.names
   allowed-message ms v p (message.PeersAsk known) f t = allowed-calm s ms v _ (calm-asked_for_peers s mine v p known f.names t.from t.names)
   allowed-message ms v p (message.PeersAnswer master term known) f t = allowed-told_peers ms v p master term known f t.from t.names.1 t.names.2
   allowed-message ms v p message.PreVoteAsk f t = allowed-calm s ms v _ (calm-pre_vote_reply s mine v p _ t.from (reply-named s mine p (doing.leader_of s.me v.mode) (leader-named s mine v.mode f.names.mode)))
-  allowed-message ms v p (message.PreVoteAnswer term last) f t = allowed-calm s ms v _ (calm-counts_pre_vote s mine v v.round p term last f.names)
+  allowed-message ms v p (message.PreVoteAnswer term last) f t = allowed-calm s ms v _ (calm-on_pre_vote_answer s mine v v.round p term last f.names)
   allowed-message ms v p (message.PreVoteRefuse leader) f t = ByNote ms v (Met (leader ∷ [])) _ (and_from (is_id leader) true t.names refl) (Ended ms _)
   allowed-message ms v p (message.FollowerCheck term) f t = allowed-checked_by_leader ms v p term f t.from t.names
   allowed-message ms v p (message.FollowerAnswer good term applied) f t = allowed-when ms v (doing.is_leader v.mode) _ [] (λ e. ByNote ms v _ _ tt (Ended ms _)) (Ended ms v)

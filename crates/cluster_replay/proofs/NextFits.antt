@@ -1,5 +1,5 @@
 -- The next state that a leader makes fits into a body, where its accepted value does and what waits is well formed.
-use Rattle.std.proofs.Common.{◌≡◌, ℕ, ◌+◌, ◌-◌, ◌%◌, ◌≤◌, Bool, true, false, not, cond, ◌&&◌, ◌||◌, Option, None, Some, Result, Ok, Err, List, [], ◌∷◌, ◌++◌, length, take, filter, fold, find, refl, subst, nat_le, nat_lt, nat_eq, arith}
+use Rattle.std.proofs.Common.{◌≡◌, ℕ, ◌+◌, ◌-◌, ◌%◌, ◌≤◌, Bool, true, false, not, cond, ◌&&◌, ◌||◌, None, Result, Ok, Err, List, [], ◌∷◌, ◌++◌, length, take, filter, fold, refl, subst, nat_le, nat_lt, nat_eq, arith}
 use Rattle.std.specs.Prelude.{IfSome, if◌then◌else◌}
 use Rattle.std.specs.List.{list_all, AllByRecursion}
 use Rattle.std.proofs.lemmas.Bool.{and_parts, and_from}
@@ -10,7 +10,7 @@ use Rattle.voting_config.proofs.Kept.{list_all-filter}
 use Rattle.master_tasks.proofs.Limits.{each_filter, each_append, fewer, value_then}
 use Rattle.exclusions.specs.declared.AddError.TheVariants.{TooMany}
 use Rattle.exclusions.specs.declared.StillMember.{StillMember}
-use Rattle.exclusions.specs.Exclusions.{most_exclusions, cleared_of, together, unless_missing}
+use Rattle.exclusions.specs.Exclusions.{most_exclusions, added_of, cleared_of}
 use Rattle.cluster_state.specs.declared.state.ClusterState.{ClusterState}
 use Rattle.cluster_state.specs.declared.state.ClusterValue.{ClusterValue}
 use Rattle.cluster_state.specs.Fields.{id, ids, setting, most_settings}
@@ -91,16 +91,12 @@ formed-put v s f texts =
       | false ↦ record { master = f.master; members = f.members; exclusions = f.exclusions; settings = IsSettings-put s v.settings f.settings texts }
     ]
 
-formed-together : (v : ClusterValue) (asked : List Id) → IsWellFormed v → list_all is_id asked ≡ true → IsWellFormed (value_after v (excluding v (together v.exclusions asked)))
-formed-together v asked f h =
+formed-exclude : (v : ClusterValue) (asked : List Id) → IsWellFormed v → list_all is_id asked ≡ true → IsWellFormed (value_after v (excluding v (added_of v.exclusions asked)))
+formed-exclude v asked f h =
     elim (nat_lt most_exclusions (union_count_of asked v.exclusions)) as (λ b. IsWellFormed (value_after v (excluding v (if b then Err (TooMany (union_count_of asked v.exclusions)) else Ok (union v.exclusions asked))))) [
       | true ↦ f
       | false ↦ record { master = f.master; members = f.members; exclusions = ids-fold v.exclusions asked f.exclusions h; settings = f.settings }
     ]
-
-formed-exclude : (v : ClusterValue) (missing : Option Id) (asked : List Id) → IsWellFormed v → list_all is_id asked ≡ true → IsWellFormed (value_after v (excluding v (unless_missing missing (together v.exclusions asked))))
-formed-exclude v None asked f h = formed-together v asked f h
-formed-exclude v (Some x) asked f h = f
 
 formed-clear : (v : ClusterValue) (r : Result (Unit {0}) StillMember) → IsWellFormed v → IsWellFormed (value_after v (clearing v r))
 formed-clear v (Ok u) f = record { master = f.master; members = f.members; exclusions = no_ids; settings = f.settings }
@@ -109,7 +105,7 @@ formed-clear v (Err e) f = f
 formed-ask : (accepted : ClusterState) (v : ClusterValue) (a : Ask) → IsWellFormed v → IsGoodAsk a → IsWellFormed (value_after v (processing accepted v a))
 formed-ask accepted v (ask.Put key text) f good = formed-put v (key, text) f good
 formed-ask accepted v (ask.Remove key) f good = record { master = f.master; members = f.members; exclusions = f.exclusions; settings = IsSettings-without key v.settings f.settings }
-formed-ask accepted v (ask.Exclude asked) f good = formed-exclude v (find (λ id. not (has id v.members)) asked) asked f good.each
+formed-ask accepted v (ask.Exclude asked) f good = formed-exclude v asked f good.each
 formed-ask accepted v (ask.Clear wait) f good = formed-clear v (cleared_of v.exclusions v.members wait) f
 formed-ask accepted v ask.State f good = f
 

@@ -10,14 +10,15 @@ use Rattle.client_guarantees.specs.Replies.{RepliesTruly, AreTrue}
 use Rattle.system_laws.specs.Systems.{System, IsSystem, history_of}
 use Rattle.system_laws.specs.Moments.{HadLived, WasKilled}
 
--- Each reply of each run of each node is true of what all nodes did. As the system may be taken up to the end of the event, it is true by then.
+-- Each reply of each run of each node is true of what all nodes did. As the system may be taken up to the end of the event, it is true by
+-- then.
 abbrev pub LawSystemRepliesAreTrue : Type 0
 LawSystemRepliesAreTrue =
     (initial : List Id) (h : System) → IsSystem initial h
     → (n : Id) (s : Settings) (life : Life) → HadLived h n s life → RepliesTruly (history_of h) s life
 
--- Where a node was killed within an event, each reply of it that was sent is true of what all nodes did, and of what came and was processed by the end
--- that the event would have had.
+-- Where a node was killed within an event, each reply of it that was sent is true of what all nodes did, and of what came and was processed
+-- by the end that the event would have had.
 abbrev pub LawKilledRepliesAreTrue : Type 0
 LawKilledRepliesAreTrue =
     (initial : List Id) (h : System) → IsSystem initial h

@@ -17,6 +17,7 @@ join_checked me term accepted config started j =
     (cond (not (nat_eq term j.term)) (Err (join_cause.TermMismatch term j.term))
     (cond (not started) (Err join_cause.NotStarted)
     (cond (nat_lt accepted.term j.last_term) (Err (join_cause.FresherTerm accepted.term j.last_term))
-    (cond (nat_eq accepted.term j.last_term && nat_lt accepted.version j.last_version) (Err (join_cause.FresherVersion accepted.version j.last_version))
+    (cond (nat_eq accepted.term j.last_term && nat_lt accepted.version j.last_version)
+    (Err (join_cause.FresherVersion accepted.version j.last_version))
     (cond (is_empty config) (Err join_cause.NoConfig)
     (Ok tt))))))

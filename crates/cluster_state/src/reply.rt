@@ -18,8 +18,6 @@ pub enum Answer {
     QueueFull(u64),
     /// So many settings there would be, which are too many.
     TooManySettings(u64),
-    /// The least id to be excluded that is no member.
-    NotMember(NodeId),
     /// So many nodes would be excluded, which are too many.
     TooManyExclusions(u64),
     /// The least excluded id that is still a member.

@@ -48,7 +48,14 @@ node_of look =
     text_at (codes "initial") look >>= initial_of >>= λ initial.
     voting_only_of look >>= λ voting_only.
     text_at (codes "turns") look >>= number_of >>= λ turns.
-    Some (command.Node (record { link = link; dir = dir; initial = initial; voting_only = voting_only; shrink = not (is_set (codes "no-shrink") look); turns = turns }))
+    Some (command.Node (record {
+      link = link;
+      dir = dir;
+      initial = initial;
+      voting_only = voting_only;
+      shrink = not (is_set (codes "no-shrink") look);
+      turns = turns;
+    }))
 
 -- how many steps a generated schedule has at most
 abbrev pub most_steps : ℕ

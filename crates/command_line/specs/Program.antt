@@ -19,7 +19,8 @@ abbrev pub node_place_takes : List Named
 node_place_takes = option (codes "id") ∷ option (codes "dir") ∷ option (codes "listen") ∷ option (codes "peers") ∷ []
 
 abbrev pub node_takes : List Named
-node_takes = node_place_takes ++ option (codes "initial") ∷ option (codes "voting-only") ∷ option (codes "turns") ∷ flag (codes "no-shrink") ∷ []
+node_takes = node_place_takes
+    ++ option (codes "initial") ∷ option (codes "voting-only") ∷ option (codes "turns") ∷ flag (codes "no-shrink") ∷ []
 
 abbrev pub generate_takes : List Named
 generate_takes = option (codes "number") ∷ option (codes "steps") ∷ []
@@ -43,7 +44,8 @@ abbrev pub commands : List CommandForm
 commands =
     (codes "replay", replay_takes) ∷ (codes "inspect", inspect_takes) ∷ (codes "node", node_takes)
     ∷ (codes "generate", generate_takes) ∷ (codes "trial", trial_takes) ∷ (codes "rescue", rescue_takes)
-    ∷ (codes "unsafe-bootstrap", unsafe_bootstrap_takes) ∷ (codes "detach-cluster", detach_cluster_takes) ∷ (codes "audit", audit_takes) ∷ []
+    ∷ (codes "unsafe-bootstrap", unsafe_bootstrap_takes) ∷ (codes "detach-cluster", detach_cluster_takes) ∷ (codes "audit", audit_takes)
+    ∷ []
 
 -- ---- as clap is given it
 
@@ -82,6 +84,7 @@ program_app = record {
 -- the program before its commands
 abbrev pub bare_app : App
 bare_app = record {
-  top = record (new_shape (codes "zen")) { no_binary_name = true; disable_help_flag = true; disable_help_subcommand = true; disable_version_flag = true };
+  top = record (new_shape (codes "zen"))
+      { no_binary_name = true; disable_help_flag = true; disable_help_subcommand = true; disable_version_flag = true };
   subs = [];
 }

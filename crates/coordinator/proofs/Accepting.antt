@@ -12,7 +12,7 @@ use Rattle.policy_model.specs.declared.settings.Settings.{Settings}
 use Rattle.policy_model.specs.Events.{Item}
 use Rattle.policy_model.specs.Views.{View}
 use Rattle.policy_model.specs.Doing.{act_now, after_act, takes, raises_term}
-use Rattle.policy_model.specs.Publications.{accepts, is_published_to}
+use Rattle.policy_model.specs.Publications.{accepts, on_publish}
 use Rattle.coordinator.specs.Accepts.{responds}
 use Rattle.coordinator.specs.Showing.{Shown}
 use Rattle.coordinator.specs.Views.{view_in}
@@ -60,13 +60,13 @@ module _ {K : Type 0} (k : Ghosts K) where
 
   -- the whole of a published state
   pub published_whole : (old mid new : Coordinator K) (o o1 o2 : Shown) (p : Id) (state : ClusterState) (term : ℕ) (fine : Bool) → term ≡ state.term → Make old mid o o1 (raises_term old.settings (view old) p term)
-      → Ends k fine mid new o1 o2 (accepts mid.settings (view mid) p state) → Ends k fine old new o o2 (is_published_to old.settings (view old) p state)
+      → Ends k fine mid new o1 o2 (accepts mid.settings (view mid) p state) → Ends k fine old new o o2 (on_publish old.settings (view old) p state)
   published_whole old mid new o o1 o2 p state term fine term_is raised next =
       ends_rule k old mid new o o1 o2 (raises_term old.settings (view old) p state.term) (λ s v. accepts s v p state) fine
       (makes_as k old mid o o1 _ _ raised (ap (λ (n : ℕ). raises_term old.settings (view old) p n) term_is)) next
 
   pub published_struck : (old new : Coordinator K) (o o1 : Shown) (p : Id) (state : ClusterState) (term : ℕ) → term ≡ state.term → Fails k old new o o1 (raises_term old.settings (view old) p term)
-      → Fails k old new o o1 (is_published_to old.settings (view old) p state)
+      → Fails k old new o o1 (on_publish old.settings (view old) p state)
   published_struck old new o o1 p state term term_is raised =
       fails_before k old new o o1 (raises_term old.settings (view old) p state.term) _
       (subst (λ (n : ℕ). Fails k old new o o1 (raises_term old.settings (view old) p n)) term_is raised)

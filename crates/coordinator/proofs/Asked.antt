@@ -33,12 +33,11 @@ planned_member s v p plan term votes copy tasks term_is votes_is copy_is tasks_i
 pub planned_with : (s : Settings) (v : View) (plan : Option Plan) (tasks : Tasks) → HasPlan (leader_of s.me v.node.term v.node.accepted v.node.committed v.node.join_votes s.shrink) tasks plan → IsPlanned s (record v { tasks = tasks }) plan
 planned_with s v plan tasks has = has_planned s (record v { tasks = tasks }) (leader_of s.me v.node.term v.node.accepted v.node.committed v.node.join_votes s.shrink) tasks plan has refl refl
 
-pub same_plan : (s : Settings) (v : View) (plan : Option Plan) (term : ℕ) (votes : List Id) (copy tasks : Tasks) → term ≡ v.node.term → votes ≡ v.node.join_votes → copy ≡ tasks
-    → HasPlan (leader_of s.me term v.node.accepted v.node.committed votes s.shrink) copy plan → HasPlan (leader_of s.me v.node.term v.node.accepted v.node.committed v.node.join_votes s.shrink) tasks plan
-same_plan s v plan term votes copy tasks term_is votes_is copy_is has =
+pub same_plan : (s : Settings) (v : View) (plan : Option Plan) (term : ℕ) (votes : List Id) (tasks : Tasks) → term ≡ v.node.term → votes ≡ v.node.join_votes
+    → HasPlan (leader_of s.me term v.node.accepted v.node.committed votes s.shrink) tasks plan → HasPlan (leader_of s.me v.node.term v.node.accepted v.node.committed v.node.join_votes s.shrink) tasks plan
+same_plan s v plan term votes tasks term_is votes_is has =
     subst (λ (x : ℕ). HasPlan (leader_of s.me x v.node.accepted v.node.committed v.node.join_votes s.shrink) tasks plan) term_is
-    (subst (λ (x : List Id). HasPlan (leader_of s.me term v.node.accepted v.node.committed x s.shrink) tasks plan) votes_is
-    (subst (λ (t : Tasks). HasPlan (leader_of s.me term v.node.accepted v.node.committed votes s.shrink) t plan) copy_is has))
+    (subst (λ (x : List Id). HasPlan (leader_of s.me term v.node.accepted v.node.committed x s.shrink) tasks plan) votes_is has)
 
 module _ {K : Type 0} (k : Ghosts K) where
   abbrev view : Coordinator K → View

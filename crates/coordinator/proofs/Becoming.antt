@@ -14,7 +14,7 @@ use Rattle.policy_model.specs.Events.{Item, Turns}
 use Rattle.policy_model.specs.declared.events.Mode.TheVariants.{Candidate}
 use Rattle.policy_model.specs.Views.{View}
 use Rattle.policy_model.specs.Moves.{turned}
-use Rattle.policy_model.specs.Doing.{is_leader, reply_all, send, act_now, after_act, takes, becomes_candidate, becomes_candidate_once, starts_join}
+use Rattle.policy_model.specs.Doing.{is_leader, reply_all, send, act_now, after_act, takes, becomes_candidate, becomes_candidate_once, on_start_join}
 use Rattle.coordinator.specs.Showing.{Shown, showing}
 use Rattle.coordinator.specs.Views.{view_in}
 use Rattle.coordinator.specs.Does.{Makes, Fails, Ends}
@@ -60,7 +60,7 @@ module _ {K : Type 0} (k : Ghosts K) where
       → takes old.settings (view old) (StartJoin candidate term) ≡ true
       → o2 ≡ showing o1 (send mid.settings candidate (message.Join term (id_of (view mid).node.accepted)))
       → Make mid new o2 o3 (becomes_candidate_once mid.settings (view mid))
-      → Make old new o o3 (starts_join old.settings (view old) candidate term)
+      → Make old new o o3 (on_start_join old.settings (view old) candidate term)
   starts_taken old mid new o o1 o2 o3 candidate term act taken sent leaves =
       let s = old.settings in
       let v = view old in
@@ -73,11 +73,11 @@ module _ {K : Type 0} (k : Ghosts K) where
       ap (λ (x : Settings). act_now s v (StartJoin candidate term) ∷ send x candidate (message.Join term (id_of (view mid).node.accepted)) ∷ becomes_candidate_once x (view mid)) act.goes.settings in
       let view_is : (act_now s v (StartJoin candidate term) ∷ send s candidate (message.Join term (id_of (view mid).node.accepted)) ∷ becomes_candidate_once s (view mid)) ≡ (act_now s v (StartJoin candidate term) ∷ send s candidate (message.Join term (id_of v.node.accepted)) ∷ becomes_candidate_once s after) =
       ap (λ (u : View). act_now s v (StartJoin candidate term) ∷ send s candidate (message.Join term (id_of u.node.accepted)) ∷ becomes_candidate_once s u) act.goes.view in
-      let whole : (act_now s v (StartJoin candidate term) ∷ send s candidate (message.Join term (id_of v.node.accepted)) ∷ becomes_candidate_once s after) ≡ starts_join s v candidate term =
+      let whole : (act_now s v (StartJoin candidate term) ∷ send s candidate (message.Join term (id_of v.node.accepted)) ∷ becomes_candidate_once s after) ≡ on_start_join s v candidate term =
       ap (λ (b : Bool). act_now s v (StartJoin candidate term) ∷ (if b then send s candidate (message.Join term (id_of v.node.accepted)) ∷ becomes_candidate_once s after else [])) (sym taken) in
       makes_as old new o o3 _ _ all (settings_are ∙ view_is ∙ whole)
 
   pub starts_struck : (old new : Coordinator K) (o o1 : Shown) (candidate : Id) (term : ℕ) → Fail old new o o1 (act_now old.settings (view old) (StartJoin candidate term) ∷ [])
-      → Fail old new o o1 (starts_join old.settings (view old) candidate term)
+      → Fail old new o o1 (on_start_join old.settings (view old) candidate term)
   starts_struck old new o o1 candidate term fails =
       fails_before k old new o o1 (act_now old.settings (view old) (StartJoin candidate term) ∷ []) _ fails

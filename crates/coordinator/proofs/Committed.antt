@@ -14,7 +14,7 @@ use Rattle.policy_model.specs.Views.{View}
 use Rattle.policy_model.specs.Parts.{published_id}
 use Rattle.policy_model.specs.NextState.{responders_of, targets_of}
 use Rattle.policy_model.specs.Doing.{is_leader, reply_all, send_all, reply_now, act_now, after_act}
-use Rattle.policy_model.specs.Publications.{is_commit_sent, commits_now, sends_commit, sends_first_commit, counts_response}
+use Rattle.policy_model.specs.Publications.{is_commit_sent, commits_now, sends_commit, sends_first_commit, on_response}
 use Rattle.coordinator.specs.Commits.{responding, takes_response, acks_commit}
 use Rattle.coordinator.specs.Plans.{frame_to}
 use Rattle.coordinator.specs.Showing.{Shown}
@@ -92,11 +92,11 @@ module _ {K : Type 0} (k : Ghosts K) where
   counts c p = is_leader c.mode && is_some c.publication && has_room c.core.publish_votes p
 
   pub counted_whole : (old new : Coordinator K) (o o0 o1 : Shown) (p : Id) (id : StateId) → o0 ≡ o → counts old p ≡ true → Make old new o0 o1 (takes_response old.settings (view old) p id)
-      → Make old new o o1 (counts_response old.settings (view old) p id)
+      → Make old new o o1 (on_response old.settings (view old) p id)
   counted_whole old new o o0 o1 p id same test takes =
-      subst (λ (x : Shown). Make old new x o1 (counts_response old.settings (view old) p id)) same
+      subst (λ (x : Shown). Make old new x o1 (on_response old.settings (view old) p id)) same
       (makes_as k old new o0 o1 _ _ takes (ap (λ (b : Bool). if b then takes_response old.settings (view old) p id else []) (sym test)))
 
-  pub counted_none : (c : Coordinator K) (o : Shown) (p : Id) (id : StateId) → counts c p ≡ false → Make c c o o (counts_response c.settings (view c) p id)
+  pub counted_none : (c : Coordinator K) (o : Shown) (p : Id) (id : StateId) → counts c p ≡ false → Make c c o o (on_response c.settings (view c) p id)
   counted_none c o p id no_count =
       makes_as k c c o o _ _ (makes_nothing k c o) (ap (λ (b : Bool). if b then takes_response c.settings (view c) p id else []) (sym no_count))

@@ -11,7 +11,7 @@ use Rattle.policy_model.specs.Events.{Item, Notes, Joined}
 use Rattle.policy_model.specs.Views.{View}
 use Rattle.policy_model.specs.Moves.{moved_all}
 use Rattle.policy_model.specs.Doing.{is_leader, is_voting_only, act_now, after_act, takes, reply_now, raises_term}
-use Rattle.policy_model.specs.Joins.{wins_now, join_from, leads, takes_member, takes_join, counts_join, is_joined}
+use Rattle.policy_model.specs.Joins.{wins_now, join_from, leads, takes_member, takes_join, counts_join, on_join}
 use Rattle.coordinator.specs.Plans.{IsPlanned}
 use Rattle.coordinator.specs.Ahead.{ahead_of, winning, IsPlannedAhead, IsPlannedJoin}
 use Rattle.coordinator.specs.Showing.{Shown}
@@ -116,21 +116,21 @@ module _ {K : Type 0} (k : Ghosts K) where
 
   -- a voting-only node passes a join by
   pub joined_not : (old : Coordinator K) (o : Shown) (p : Id) (term : ℕ) (last : StateId) → is_voting_only old.settings old.settings.me ≡ true
-      → Make old old o o (is_joined old.settings (view old) p term last)
+      → Make old old o o (on_join old.settings (view old) p term last)
   joined_not old o p term last listed =
       makes_as k old old o o _ _ (makes_nothing k old o)
       (ap (λ (b : Bool). if b then [] else counts_join old.settings (view old) p term last) (sym listed))
 
   -- the whole of a join
   pub joined_whole : (old mid new : Coordinator K) (o o0 o1 o2 : Shown) (p : Id) (term : ℕ) (last : StateId) → is_voting_only old.settings old.settings.me ≡ false → o0 ≡ o → Make old mid o0 o1 (raises_term old.settings (view old) old.settings.me term)
-      → Make mid new o1 o2 (takes_join mid.settings (view mid) p term last) → Make old new o o2 (is_joined old.settings (view old) p term last)
+      → Make mid new o1 o2 (takes_join mid.settings (view mid) p term last) → Make old new o o2 (on_join old.settings (view old) p term last)
   joined_whole old mid new o o0 o1 o2 p term last unlisted same raised next =
       subst (λ (b : Bool). Make old new o o2 (if b then [] else counts_join old.settings (view old) p term last)) (sym unlisted)
       (subst (λ (x : Shown). Make old new x o2 (counts_join old.settings (view old) p term last)) same
       (ends_rule k old mid new o0 o1 o2 (raises_term old.settings (view old) old.settings.me term) (λ s v. takes_join s v p term last) true raised next))
 
   pub joined_struck : (old new : Coordinator K) (o o0 o1 : Shown) (p : Id) (term : ℕ) (last : StateId) → is_voting_only old.settings old.settings.me ≡ false → o0 ≡ o → Fails k old new o0 o1 (raises_term old.settings (view old) old.settings.me term)
-      → Fails k old new o o1 (is_joined old.settings (view old) p term last)
+      → Fails k old new o o1 (on_join old.settings (view old) p term last)
   joined_struck old new o o0 o1 p term last unlisted same raised =
       subst (λ (b : Bool). Fails k old new o o1 (if b then [] else counts_join old.settings (view old) p term last)) (sym unlisted)
       (subst (λ (x : Shown). Fails k old new x o1 (counts_join old.settings (view old) p term last)) same

@@ -23,7 +23,7 @@ use Rattle.policy_model.specs.Events.{Item, Notes, ExclusionsAcked}
 use Rattle.policy_model.specs.Views.{View}
 use Rattle.policy_model.specs.Moves.{moved, moved_all}
 use Rattle.policy_model.specs.Doing.{is_leader, reply_all, reply_now, act_now, after_act, takes}
-use Rattle.policy_model.specs.Publications.{acks_exclusions, is_told_commit}
+use Rattle.policy_model.specs.Publications.{acks_exclusions, on_commit}
 use Rattle.policy_model.proofs.Sweeps.{moved_all-append, moved_all-replies}
 use Rattle.coordinator.specs.Plans.{IsPlan, IsPlanned}
 use Rattle.coordinator.specs.Ahead.{IsPlannedCommit, finishes}
@@ -103,7 +103,7 @@ module _ {K : Type 0} (k : Ghosts K) where
 
   pub told_finish : (old mid new : Coordinator K) (o o1 o2 : Shown) (p : Id) (id : StateId) → (takes old.settings (view old) (committing p id) && is_leader mid.mode) ≡ true
       → Make old mid o o1 (act_now old.settings (view old) (committing p id) ∷ []) → Make mid new o1 o2 (finishes mid.settings (view mid))
-      → Make old new o o2 (is_told_commit old.settings (view old) p id)
+      → Make old new o o2 (on_commit old.settings (view old) p id)
   told_finish old mid new o o1 o2 p id m did next =
       let s = old.settings in
       let v = view old in
@@ -115,7 +115,7 @@ module _ {K : Type 0} (k : Ghosts K) where
       ∙ ap (λ (b : Bool). items_by old p id b) (sym m'))
 
   pub told_none : (old mid : Coordinator K) (o o1 : Shown) (p : Id) (id : StateId) → (takes old.settings (view old) (committing p id) && is_leader mid.mode) ≡ false
-      → Make old mid o o1 (act_now old.settings (view old) (committing p id) ∷ []) → Make old mid o o1 (is_told_commit old.settings (view old) p id)
+      → Make old mid o o1 (act_now old.settings (view old) (committing p id) ∷ []) → Make old mid o o1 (on_commit old.settings (view old) p id)
   told_none old mid o o1 p id m did =
       let s = old.settings in
       let v = view old in
@@ -124,7 +124,7 @@ module _ {K : Type 0} (k : Ghosts K) where
       makes_as k old mid o o1 _ _ did (ap (λ (b : Bool). items_by old p id b) (sym m'))
 
   pub told_struck : (old new : Coordinator K) (o o1 : Shown) (p : Id) (id : StateId) → Fails k old new o o1 (act_now old.settings (view old) (committing p id) ∷ [])
-      → Fails k old new o o1 (is_told_commit old.settings (view old) p id)
+      → Fails k old new o o1 (on_commit old.settings (view old) p id)
   told_struck old new o o1 p id fails = fails_before k old new o o1 (act_now old.settings (view old) (committing p id) ∷ []) _ fails
 
   pub plan_for_finish : (old mid : Coordinator K) (o o1 : Shown) (p : Id) (id : StateId) (plan : Option Plan) → IsPlannedCommit old.settings (view old) plan

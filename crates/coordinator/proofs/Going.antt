@@ -10,8 +10,9 @@ use Rattle.cluster_state.specs.declared.state.ClusterValue.{ClusterValue}
 use Rattle.voting_config.specs.Ids.{Id, has}
 use Rattle.publication.specs.Publications.{Publication}
 use Rattle.master_tasks.specs.declared.waiting.Outgoing.{Outgoing}
-use Rattle.master_tasks.specs.Queue.{Tasks}
-use Rattle.master_tasks.specs.NextState.{Leader as Master, next_answers, is_nothing_new}
+use Rattle.master_tasks.specs.declared.waiting.Waiting.{Waiting}
+use Rattle.master_tasks.specs.Queue.{Tasks, only}
+use Rattle.master_tasks.specs.NextState.{Leader as Master, next_answers, tasks_after, is_nothing_new}
 use Rattle.wire_frames.specs.declared.frame.Frame.{Frame}
 use Rattle.wire_frames.specs.declared.frame.WireMessage.TheVariants as message
 use Rattle.world_model.specs.declared.acts.Act.{Act}
@@ -41,6 +42,11 @@ act_is s v new is =
     ap (λ (r : PublishRequest). Value r.state.version new.config new.value) is.request
     ∙ ap (λ (c : List Id). Value (v.node.accepted.version + 1) c new.value) is.config
     ∙ ap (λ (x : ClusterValue). Value (v.node.accepted.version + 1) (config_now s v) x) is.value
+
+-- who waits by a plan is what is left to do
+pub planned_left : (m : Master) (t : Tasks) (plan : Plan) → IsPlan m t plan → only plan.waiting.items ≡ tasks_after m t
+unfolding tasks_after
+planned_left m t plan is = ap (λ (ws : List Waiting). only ws) is.waiting
 
 -- the new state of a plan
 pub planned_new : (m : Master) (t : Tasks) (plan : Plan) (new : NewState) → IsPlan m t plan → plan.new ≡ Some new → IsNewState m.me (state_by m t) new
@@ -101,39 +107,39 @@ module _ {K : Type 0} (k : Ghosts K) where
       ∙ ap (λ (a : Act). act_now s u a ∷ (if takes s u a then send_all s members m else becomes_candidate s (after_act s u a))) act_eq)
 
   -- the answers are sent, and the state is made
-  state_made : (old : Coordinator K) (o o1 : Shown) (plan : Plan) → IsPlan (as_master old.settings (view old).node) old.tasks plan → o1 ≡ record o { replies = o.replies ++ plan.replies.sent }
-      → Make old (record old { tasks = plan.tasks }) o o1 (reply_all old.settings (next_answers (as_master old.settings (view old).node) old.tasks) ++ Notes StateMade ∷ [])
-  state_made old o o1 plan is shown =
+  state_made : (old : Coordinator K) (tasks : Tasks) (o o1 : Shown) (plan : Plan) → IsPlan (as_master old.settings (view old).node) old.tasks plan → tasks ≡ tasks_after (as_master old.settings (view old).node) old.tasks → o1 ≡ record o { replies = o.replies ++ plan.replies.sent }
+      → Make old (record old { tasks = tasks }) o o1 (reply_all old.settings (next_answers (as_master old.settings (view old).node) old.tasks) ++ Notes StateMade ∷ [])
+  state_made old tasks o o1 plan is left shown =
       let s = old.settings in
       let answers = next_answers (as_master s (view old).node) old.tasks in
       let shown' : record o { replies = o.replies ++ answers } ≡ o1 = ap (λ (l : List Outgoing). record o { replies = o.replies ++ l }) (sym is.replies) ∙ sym shown in
       let replies : Make old old o o1 (reply_all s answers) =
       subst (λ (x : Shown). Make old old o x (reply_all s answers)) shown' (makes_replies k old o answers) in
-      makes_then k old old (record old { tasks = plan.tasks }) o o1 o1 (reply_all s answers) (Notes StateMade ∷ []) replies
-      (makes_note k old (record old { tasks = plan.tasks }) o1 StateMade refl refl refl (ap (λ (t : Tasks). record (view old) { tasks = t }) is.tasks))
+      makes_then k old old (record old { tasks = tasks }) o o1 o1 (reply_all s answers) (Notes StateMade ∷ []) replies
+      (makes_note k old (record old { tasks = tasks }) o1 StateMade refl refl refl (ap (λ (t : Tasks). record (view old) { tasks = t }) left))
 
-  pub makes_same : (old : Coordinator K) (o o1 : Shown) (plan : Plan) → IsPlan (as_master old.settings (view old).node) old.tasks plan → o1 ≡ record o { replies = o.replies ++ plan.replies.sent } → plan.new ≡ None
-      → Make old (record old { tasks = plan.tasks }) o o1 (makes_state old.settings (view old))
-  makes_same old o o1 plan is shown none =
+  pub makes_same : (old : Coordinator K) (tasks : Tasks) (o o1 : Shown) (plan : Plan) → IsPlan (as_master old.settings (view old).node) old.tasks plan → tasks ≡ tasks_after (as_master old.settings (view old).node) old.tasks → o1 ≡ record o { replies = o.replies ++ plan.replies.sent } → plan.new ≡ None
+      → Make old (record old { tasks = tasks }) o o1 (makes_state old.settings (view old))
+  makes_same old tasks o o1 plan is left shown none =
       let s = old.settings in
       let v = view old in
       let nothing : is_nothing_new (as_master s v.node) v.tasks ≡ true = subst (λ (n : Option NewState). IsNewOr (as_master s v.node) v.tasks n) none is.new in
-      makes_as k old (record old { tasks = plan.tasks }) o o1 _ _ (state_made old o o1 plan is shown)
+      makes_as k old (record old { tasks = tasks }) o o1 _ _ (state_made old tasks o o1 plan is left shown)
       (ap (λ (b : Bool). reply_all s (next_answers (as_master s v.node) v.tasks) ++ Notes StateMade ∷ (if b then [] else publishes s v (moved s v (Notes StateMade)))) (sym nothing))
 
-  pub makes_new : (old new : Coordinator K) (o o1 o2 : Shown) (plan : Plan) (state : NewState) → IsPlan (as_master old.settings (view old).node) old.tasks plan → o1 ≡ record o { replies = o.replies ++ plan.replies.sent } → plan.new ≡ Some state
-      → Make (record old { tasks = plan.tasks }) new o1 o2 (publishes old.settings (view old) (view (record old { tasks = plan.tasks })))
+  pub makes_new : (old new : Coordinator K) (tasks : Tasks) (o o1 o2 : Shown) (plan : Plan) (state : NewState) → IsPlan (as_master old.settings (view old).node) old.tasks plan → tasks ≡ tasks_after (as_master old.settings (view old).node) old.tasks → o1 ≡ record o { replies = o.replies ++ plan.replies.sent } → plan.new ≡ Some state
+      → Make (record old { tasks = tasks }) new o1 o2 (publishes old.settings (view old) (view (record old { tasks = tasks })))
       → Make old new o o2 (makes_state old.settings (view old))
-  makes_new old new o o1 o2 plan state is shown some publishing =
+  makes_new old new tasks o o1 o2 plan state is left shown some publishing =
       let s = old.settings in
       let v = view old in
-      let mid = record old { tasks = plan.tasks } in
+      let mid = record old { tasks = tasks } in
       let parts : IsNewOr (as_master s v.node) v.tasks (Some state) = subst (λ (n : Option NewState). IsNewOr (as_master s v.node) v.tasks n) some is.new in
       let answers = reply_all s (next_answers (as_master s v.node) v.tasks) in
-      let all = makes_then k old mid new o o1 o2 (answers ++ Notes StateMade ∷ []) (publishes s v (view mid)) (state_made old o o1 plan is shown) publishing in
+      let all = makes_then k old mid new o o1 o2 (answers ++ Notes StateMade ∷ []) (publishes s v (view mid)) (state_made old tasks o o1 plan is left shown) publishing in
       makes_as k old new o o2 _ _ all
       (append_assoc answers (Notes StateMade ∷ []) (publishes s v (view mid))
-      ∙ ap (λ (t : Tasks). answers ++ Notes StateMade ∷ publishes s v (record v { tasks = t })) is.tasks
+      ∙ ap (λ (t : Tasks). answers ++ Notes StateMade ∷ publishes s v (record v { tasks = t })) left
       ∙ ap (λ (b : Bool). answers ++ Notes StateMade ∷ (if b then [] else publishes s v (moved s v (Notes StateMade)))) (sym parts.0))
 
   -- the successor is asked

@@ -13,7 +13,7 @@ use Rattle.policy_model.specs.Events.{Item, Notes, RoundAnswered}
 use Rattle.policy_model.specs.Parts.{round_answered}
 use Rattle.policy_model.specs.Views.{View}
 use Rattle.policy_model.specs.Doing.{is_candidate}
-use Rattle.policy_model.specs.Elections.{goes_to_election, counts_pre_vote}
+use Rattle.policy_model.specs.Elections.{goes_to_election, on_pre_vote_answer}
 use Rattle.coordinator.specs.Rounds.{counted_of, round_after}
 use Rattle.coordinator.specs.Showing.{Shown}
 use Rattle.coordinator.specs.Views.{view_in}
@@ -34,7 +34,7 @@ round_apart s v r Fresher = refl
 round_apart s v r (Quorum term) = refl
 
 -- nobody counts but a candidate
-counts_none : (s : Settings) (v : View) (r : Option Round) (p : Id) (term : ℕ) (last : StateId) → is_candidate v.mode ≡ false → counts_pre_vote s v r p term last ≡ []
+counts_none : (s : Settings) (v : View) (r : Option Round) (p : Id) (term : ℕ) (last : StateId) → is_candidate v.mode ≡ false → on_pre_vote_answer s v r p term last ≡ []
 counts_none s v None p term last h = refl
 counts_none s v (Some round) p term last h = rw h refl
 
@@ -49,7 +49,7 @@ none_by false a is = refl
 -- what an answer brings about that was counted
 counted_added : (s : Settings) (v : View) (r : Option Round) (p : Id) (term : ℕ) (last : StateId) (added : Added) → is_candidate v.mode ≡ true
     → counted_of r p term last v.node.committed v.node.accepted.config ≡ Some added
-    → (Notes (RoundAnswered p term last) ∷ goes_to_election s v added ≡ counts_pre_vote s v r p term last) × (round_after r p term last ≡ round_answered r p term last)
+    → (Notes (RoundAnswered p term last) ∷ goes_to_election s v added ≡ on_pre_vote_answer s v r p term last) × (round_after r p term last ≡ round_answered r p term last)
 counted_added s v None p term last added candidate is = cc
 counted_added s v (Some round) p term last added candidate is =
     let a = added_of (answered round p term last) last v.node.committed v.node.accepted.config in
@@ -61,7 +61,7 @@ counted_added s v (Some round) p term last added candidate is =
 
 -- one that was not
 counted_none : (s : Settings) (v : View) (r : Option Round) (p : Id) (term : ℕ) (last : StateId) → counted_of r p term last v.node.committed v.node.accepted.config ≡ None
-    → ([] ≡ counts_pre_vote s v r p term last) × (round_after r p term last ≡ r)
+    → ([] ≡ on_pre_vote_answer s v r p term last) × (round_after r p term last ≡ r)
 counted_none s v None p term last is = (refl, refl)
 counted_none s v (Some round) p term last is =
     let a = added_of (answered round p term last) last v.node.committed v.node.accepted.config in
@@ -89,7 +89,7 @@ module _ {K : Type 0} (k : Ghosts K) where
       → is_candidate old.mode ≡ true → committed ≡ (view old).node.committed → accepted ≡ (view old).node.accepted.config
       → counted_of old.round p term last committed accepted ≡ Some added → r ≡ round_after old.round p term last
       → Make (record old { round = r }) new o o1 (goes_to_election old.settings (record (view old) { round = r }) added)
-      → Make old new o o1 (counts_pre_vote old.settings (view old) old.round p term last)
+      → Make old new o o1 (on_pre_vote_answer old.settings (view old) old.round p term last)
   counts_added old new r o o1 p term last added committed accepted candidate committed_is accepted_is is round_is goes =
       let s = old.settings in
       let v = view old in
@@ -102,7 +102,7 @@ module _ {K : Type 0} (k : Ghosts K) where
   pub counts_nothing : (old : Coordinator K) (r : Option Round) (o : Shown) (p : Id) (term : ℕ) (last : StateId) (committed accepted : List Id)
       → committed ≡ (view old).node.committed → accepted ≡ (view old).node.accepted.config
       → counted_of old.round p term last committed accepted ≡ None → r ≡ round_after old.round p term last
-      → Make old (record old { round = r }) o o (counts_pre_vote old.settings (view old) old.round p term last)
+      → Make old (record old { round = r }) o o (on_pre_vote_answer old.settings (view old) old.round p term last)
   counts_nothing old r o p term last committed accepted committed_is accepted_is is round_is =
       let s = old.settings in
       let v = view old in
@@ -111,6 +111,6 @@ module _ {K : Type 0} (k : Ghosts K) where
       record { goes = record { settings = refl; clock = refl; view = ap (λ (x : Option Round). record v { round = x }) (round_is ∙ both.1); core = refl }; shown = refl } in
       makes_as k old (record old { round = r }) o o _ _ nothing both.0
 
-  pub counts_no_candidate : (old : Coordinator K) (o : Shown) (p : Id) (term : ℕ) (last : StateId) → is_candidate old.mode ≡ false → Make old old o o (counts_pre_vote old.settings (view old) old.round p term last)
+  pub counts_no_candidate : (old : Coordinator K) (o : Shown) (p : Id) (term : ℕ) (last : StateId) → is_candidate old.mode ≡ false → Make old old o o (on_pre_vote_answer old.settings (view old) old.round p term last)
   counts_no_candidate old o p term last candidate =
       makes_as k old old o o _ _ (makes_nothing k old o) (sym (counts_none old.settings (view old) old.round p term last candidate))

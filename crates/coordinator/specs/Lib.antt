@@ -14,7 +14,6 @@ pub mod Steps
 pub mod Accepts
 pub mod Lives
 pub mod Orders
-pub mod Kinds
 pub mod Bootstraps
 pub mod Rounds
 pub mod Limits

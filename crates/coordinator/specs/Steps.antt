@@ -8,6 +8,7 @@ use Rattle.policy_model.specs.Events.{Item}
 use Rattle.policy_model.specs.Entries.{steps_of, drops_of, frames_of, replies_of, by_member, by_receiver}
 use Rattle.policy_model.specs.Follows.{IsStruck}
 use Rattle.coordinator.specs.Lives.{Enters}
+use Rattle.coordinator.specs.Rooms.{event_steps, tick_drops, to_set_and_one, to_three_sets}
 use Rattle.coordinator.specs.Showing.{Shown}
 use Rattle.coordinator.specs.declared.coordinator.Coordinator.{Coordinator}
 use Rattle.coordinator.specs.declared.coordinator.EventError.{EventError}
@@ -20,23 +21,23 @@ use Rattle.coordinator.specs.declared.step.StepError.TheVariants as step_error
 -- how many steps, drops and frames an event comes to at most
 abbrev pub steps_for : Event → ℕ
 steps_for Start = 0
-steps_for (Tick now word) = 6
-steps_for (FrameCame frame) = 6
-steps_for (LineCame conn line) = 6
+steps_for (Tick now word) = event_steps
+steps_for (FrameCame frame) = event_steps
+steps_for (LineCame conn line) = event_steps
 
 abbrev pub drops_for : Event → ℕ
 drops_for Start = 0
-drops_for (Tick now word) = 64
+drops_for (Tick now word) = tick_drops
 drops_for (FrameCame frame) = 0
 drops_for (LineCame conn line) = 0
 
--- room for three sets of 32 at a tick, of which one asks for peers, one for pre-votes and one starts joins; no node sends more than 94
+-- room for three sets of ids at a tick, of which one asks for peers, one for pre-votes and one starts joins; no node sends more than 94
 -- (most_frames of policy_model)
 abbrev pub frames_for : Event → ℕ
 frames_for Start = 0
-frames_for (Tick now word) = 96
-frames_for (FrameCame frame) = 33
-frames_for (LineCame conn line) = 33
+frames_for (Tick now word) = to_three_sets
+frames_for (FrameCame frame) = to_set_and_one
+frames_for (LineCame conn line) = to_set_and_one
 
 -- the entries are the steps and the drops of these items
 pub record AreEntries (e : Event) (items : List Item) (entries : Entries) : Type 0 where

@@ -92,10 +92,10 @@ impl<K: Keeper> Coordinator<K> {
         &self,
         alloc: Global,
         term: u64,
-        tasks: MasterTasks,
+        tasks: &MasterTasks,
         votes: &NodeSet,
     ) -> Result<Option<Plan>, AllocError>
-        ensures { IfOk result (λ plan. HasPlan (leader_of self.now.settings.me term (K.record_of self.now.core.keeper).accepted (K.record_of self.now.core.keeper).committed votes.now self.now.settings.shrink) tasks plan) }
+        ensures { IfOk result (λ plan. HasPlan (leader_of self.now.settings.me term (K.record_of self.now.core.keeper).accepted (K.record_of self.now.core.keeper).committed votes.now self.now.settings.shrink) tasks.now plan) }
     {
         let plan = plan_state(
             alloc,
@@ -129,12 +129,12 @@ impl<K: Keeper> Coordinator<K> {
         if self.wins_with(won, &votes) {
             tasks.add_member(self.settings.me);
             add_members(&mut tasks, votes.as_slice());
-            let plan = self.plan_with(alloc, term, tasks, &votes)?;
+            let plan = self.plan_with(alloc, term, &tasks, &votes)?;
             return Ok(plan);
         }
         if leads {
             tasks.add_member(p);
-            let plan = self.plan_with(alloc, term, tasks, &votes)?;
+            let plan = self.plan_with(alloc, term, &tasks, &votes)?;
             return Ok(plan);
         }
         Ok(None)

@@ -1,10 +1,11 @@
 //! What comes of being asked for a join.
 ghost use Rattle.std.specs.Prelude.{◌≡◌, ◌≤◌, ◌+◌, [], ◌∷◌, IfOk};
 ghost use Rattle.policy_model.specs.Events.{Notes, Joined};
-ghost use Rattle.policy_model.specs.Joins.{is_asked_to_join};
+ghost use Rattle.policy_model.specs.Joins.{on_join_ask};
 ghost use Rattle.policy_model.specs.Moves.{moved_all};
 ghost use Rattle.coordinator.specs.Does.{DoesAll};
 ghost use Rattle.coordinator.specs.Plans.{IsPlanned};
+ghost use Rattle.coordinator.specs.Rooms.{to_set};
 ghost use Rattle.coordinator.specs.Views.{view_in, IsReady};
 
 use crate::coordinator::{Coordinator, EventError};
@@ -21,11 +22,11 @@ impl<K: Keeper> Coordinator<K> {
     {
         let mut tasks = self.tasks.copy()?;
         tasks.add_member(p);
-        let plan = self.plan_with(alloc, self.core.term(), tasks, &self.core.votes())?;
+        let plan = self.plan_with(alloc, self.core.term(), &tasks, &self.core.votes())?;
         Ok(plan)
     }
 
-    pub(crate) fn is_asked_to_join(
+    pub(crate) fn on_join_ask(
         &mut self,
         out: &mut Output,
         p: NodeId,
@@ -33,8 +34,8 @@ impl<K: Keeper> Coordinator<K> {
     ) -> Result<(), EventError>
         requires ready { IsReady self.old }
         requires steps { 2 ≤ out.old.steps.room }
-        requires frames { 32 ≤ out.old.frames.room }
-        ensures does { DoesAll K.Keeper self.old self.new out.old out.new (λ s v. is_asked_to_join s v p term) result }
+        requires frames { to_set ≤ out.old.frames.room }
+        ensures does { DoesAll K.Keeper self.old self.new out.old out.new (λ s v. on_join_ask s v p term) result }
     {
         if !self.is_leader() {
             return Ok(());
@@ -49,13 +50,6 @@ impl<K: Keeper> Coordinator<K> {
             self.take_member(out, p, plan);
             return Ok(());
         }
-        let Ok(()) = out.make_room(self.tasks.open_count(), &None) else {
-            return Err(EventError::Memory);
-        };
-        let me = self.settings.me;
-        match self.start_join(out, me, term) {
-            Ok(()) => Ok(()),
-            Err(_) => Err(EventError::Struck),
-        }
+        self.on_start_join(out, self.settings.me, term)
     }
 }

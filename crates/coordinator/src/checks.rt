@@ -5,13 +5,13 @@ ghost use Rattle.voting_config.specs.Ids.{has};
 ghost use Rattle.fault_checks.specs.Leaders.{leader_tick};
 ghost use Rattle.policy_model.specs.NextState.{targets_of};
 ghost use Rattle.policy_model.specs.Parts.{leader_ticked, leader_answered};
-ghost use Rattle.policy_model.specs.Checks.{does_check, checks_leader, answers_leader, follows_checker, is_checked_by_leader, is_checked_by_follower, is_answered_by_follower, is_answered_by_leader};
+ghost use Rattle.policy_model.specs.Checks.{does_check, checks_leader, answers_leader, follows_checker, on_follower_check, on_leader_check, on_follower_answer, on_leader_answer};
 ghost use Rattle.policy_model.specs.Doing.{then_rule, raises_term};
-ghost use Rattle.coordinator.specs.Does.{Does};
+ghost use Rattle.coordinator.specs.Does.{Does, DoesAll};
 ghost use Rattle.coordinator.specs.Rooms.{Uses};
 ghost use Rattle.coordinator.specs.Views.{IsReady};
 
-use crate::coordinator::{Acted, Coordinator, DiskFailed};
+use crate::coordinator::{Acted, Coordinator, DiskFailed, EventError};
 use crate::following::follows;
 use crate::output::Output;
 use cluster_state::StateId;
@@ -115,23 +115,39 @@ impl<K: Keeper> Coordinator<K> {
     }
 
     // A check of an earlier term is answered no; one of a later term raises the node's own first.
-    pub(crate) fn is_checked_by_leader(
-        &mut self,
-        out: &mut Output,
-        leader: NodeId,
-        term: u64,
-    ) -> Acted
+    fn take_follower_check(&mut self, out: &mut Output, leader: NodeId, term: u64) -> Acted
         requires ready { IsReady self.old }
         requires steps { 4 ≤ out.old.steps.room }
         requires frames { 2 ≤ out.old.frames.room }
         requires replies { length self.old.tasks.waiting ≤ out.old.replies.room }
-        ensures does { Does K.Keeper self.old self.new out.old out.new (λ s v. is_checked_by_leader s v leader term) (is_ok result) }
+        ensures does { Does K.Keeper self.old self.new out.old out.new (λ s v. on_follower_check s v leader term) (is_ok result) }
     {
         if term < self.core.term() {
             self.answer_leader(out, leader, false);
             return Ok(());
         }
         self.follow_later(out, leader, term)
+    }
+
+    /// A leader checks this node.
+    pub(crate) fn on_follower_check(
+        &mut self,
+        out: &mut Output,
+        leader: NodeId,
+        term: u64,
+    ) -> Result<(), EventError>
+        requires ready { IsReady self.old }
+        requires steps { 4 ≤ out.old.steps.room }
+        requires frames { 2 ≤ out.old.frames.room }
+        ensures does { DoesAll K.Keeper self.old self.new out.old out.new (λ s v. on_follower_check s v leader term) result }
+    {
+        let Ok(()) = out.make_room(self.tasks.open_count(), &None) else {
+            return Err(EventError::Memory);
+        };
+        match self.take_follower_check(out, leader, term) {
+            Ok(()) => Ok(()),
+            Err(_) => Err(EventError::Struck),
+        }
     }
 
     // A leader of the node's term or a later one is followed.
@@ -152,9 +168,9 @@ impl<K: Keeper> Coordinator<K> {
     }
 
     // A member is answered whether the node leads it.
-    pub(crate) fn is_checked_by_follower(&self, out: &mut Output, from: NodeId, term: u64)
+    pub(crate) fn on_leader_check(&self, out: &mut Output, from: NodeId, term: u64)
         requires frames { 1 ≤ out.old.frames.room }
-        ensures does { Does K.Keeper self.now self.now out.old out.new (λ s v. is_checked_by_follower s v from term) true }
+        ensures does { Does K.Keeper self.now self.now out.old out.new (λ s v. on_leader_check s v from term) true }
         ensures uses { Uses out.old out.new 0 1 0 }
     {
         let good = self.is_leader()
@@ -164,8 +180,8 @@ impl<K: Keeper> Coordinator<K> {
     }
 
     // A follower answers a check.
-    pub(crate) fn is_answered_by_follower(&mut self, from: NodeId, good: bool, applied: StateId)
-        ensures { (out : _) → Does K.Keeper self.old self.new out out (λ s v. is_answered_by_follower s v from good applied) true }
+    pub(crate) fn on_follower_answer(&mut self, from: NodeId, good: bool, applied: StateId)
+        ensures { (out : _) → Does K.Keeper self.old self.new out out (λ s v. on_follower_answer s v from good applied) true }
     {
         if self.is_leader() {
             self.followers.answer(from, good, applied, self.moment);
@@ -173,8 +189,8 @@ impl<K: Keeper> Coordinator<K> {
     }
 
     // The leader answers a check.
-    pub(crate) fn is_answered_by_leader(&mut self, from: NodeId, good: bool)
-        ensures { (out : _) → Does K.Keeper self.old self.new out out (λ s v. is_answered_by_leader s v from good) true }
+    pub(crate) fn on_leader_answer(&mut self, from: NodeId, good: bool)
+        ensures { (out : _) → Does K.Keeper self.old self.new out out (λ s v. on_leader_answer s v from good) true }
     {
         if follows(self.mode, from) {
             answer_of(&mut self.leader_check, good, self.moment);

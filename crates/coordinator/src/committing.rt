@@ -1,11 +1,11 @@
 //! Commits, by which a publication is finished.
 ghost use Rattle.std.specs.Prelude.{◌≡◌, ◌≤◌, ◌+◌, [], ◌∷◌, true, length, is_ok, IfOk};
-ghost use Rattle.policy_model.specs.Publications.{acks_exclusions, is_told_commit};
+ghost use Rattle.policy_model.specs.Publications.{acks_exclusions, on_commit};
 ghost use Rattle.policy_model.specs.Moves.{moved_all};
 ghost use Rattle.coordinator.specs.Ahead.{IsPlannedCommit, finishes};
 ghost use Rattle.coordinator.specs.Does.{Does, DoesAll};
 ghost use Rattle.coordinator.specs.Plans.{IsPlanned, replies_planned};
-ghost use Rattle.coordinator.specs.Rooms.{Uses};
+ghost use Rattle.coordinator.specs.Rooms.{Uses, to_set};
 ghost use Rattle.coordinator.specs.Views.{view_in, IsReady};
 
 use crate::coordinator::{Acted, Coordinator, DiskFailed, EventError};
@@ -22,9 +22,16 @@ impl<K: Keeper> Coordinator<K> {
     fn plan_commit(&self, alloc: Global) -> Result<Option<Plan>, AllocError>
         ensures { IfOk result (λ plan. IsPlannedCommit self.now.settings (view_in K.Keeper self.now) plan) }
     {
-        if !self.is_leader() {
-            return Ok(None);
+        if self.is_leader() {
+            return self.plan_finish(alloc);
         }
+        Ok(None)
+    }
+
+    // The same, of a leader.
+    fn plan_finish(&self, alloc: Global) -> Result<Option<Plan>, AllocError>
+        ensures { IfOk result (λ plan. IsPlannedCommit self.now.settings (view_in K.Keeper self.now) plan) }
+    {
         let accepted = self.core.accepted();
         let mut tasks = self.tasks.copy()?;
         let mut answers = Replies::with_room(alloc, tasks.open_count())?;
@@ -33,7 +40,7 @@ impl<K: Keeper> Coordinator<K> {
             alloc,
             self.settings.me,
             self.settings.shrink,
-            tasks,
+            &tasks,
             self.core.term(),
             &self.core.kept().accepted,
             &accepted.config,
@@ -58,7 +65,7 @@ impl<K: Keeper> Coordinator<K> {
         requires ready { IsReady self.old }
         requires plan { IsPlanned self.old.settings (moved_all self.old.settings (view_in K.Keeper self.old) (acks_exclusions self.old.settings (view_in K.Keeper self.old))) plan }
         requires steps { 2 ≤ out.old.steps.room }
-        requires frames { 32 ≤ out.old.frames.room }
+        requires frames { to_set ≤ out.old.frames.room }
         requires replies { length self.old.tasks.waiting + replies_planned plan ≤ out.old.replies.room }
         ensures does { Does K.Keeper self.old self.new out.old out.new finishes true }
     {
@@ -71,9 +78,9 @@ impl<K: Keeper> Coordinator<K> {
         requires ready { IsReady self.old }
         requires plan { IsPlannedCommit self.old.settings (view_in K.Keeper self.old) plan }
         requires steps { 3 ≤ out.old.steps.room }
-        requires frames { 32 ≤ out.old.frames.room }
+        requires frames { to_set ≤ out.old.frames.room }
         requires replies { length self.old.tasks.waiting + replies_planned plan ≤ out.old.replies.room }
-        ensures does { Does K.Keeper self.old self.new out.old out.new (λ s v. is_told_commit s v p id) (is_ok result) }
+        ensures does { Does K.Keeper self.old self.new out.old out.new (λ s v. on_commit s v p id) (is_ok result) }
     {
         let commit = ApplyCommit {
             source: p,
@@ -96,7 +103,7 @@ impl<K: Keeper> Coordinator<K> {
     }
 
     // A commit from p.
-    pub(crate) fn is_told_commit(
+    pub(crate) fn on_commit(
         &mut self,
         out: &mut Output,
         p: NodeId,
@@ -104,8 +111,8 @@ impl<K: Keeper> Coordinator<K> {
     ) -> Result<(), EventError>
         requires ready { IsReady self.old }
         requires steps { 3 ≤ out.old.steps.room }
-        requires frames { 32 ≤ out.old.frames.room }
-        ensures does { DoesAll K.Keeper self.old self.new out.old out.new (λ s v. is_told_commit s v p id) result }
+        requires frames { to_set ≤ out.old.frames.room }
+        ensures does { DoesAll K.Keeper self.old self.new out.old out.new (λ s v. on_commit s v p id) result }
     {
         let Ok(plan) = self.plan_commit(out.alloc) else {
             return Err(EventError::Memory);

@@ -1,15 +1,15 @@
 //! How nodes find each other, and a master to join.
 ghost use Rattle.std.specs.Prelude.{◌≡◌, ◌≤◌, ◌<◌, [], ◌∷◌, true, length, is_ok};
-ghost use Rattle.voting_config.specs.Ids.{with_id};
+ghost use Rattle.voting_config.specs.Ids.{most_ids, with_id};
 ghost use Rattle.policy_model.specs.Events.{Notes, Met, Heard};
 ghost use Rattle.policy_model.specs.Doing.{is_candidate as is_candidate_of, leader_of as leader_of_mode, then_rule};
-ghost use Rattle.policy_model.specs.Discovery.{is_node as is_node_of, meets_first, asks_peers, tells_peers, is_asked_for_peers, seeks_master, hears_peer, is_told_peers};
+ghost use Rattle.policy_model.specs.Discovery.{is_node as is_node_of, meets_first, asks_peers, tells_peers, on_peers_ask, seeks_master, hears_peer, on_peers_answer};
 ghost use Rattle.policy_model.specs.Parts.{met};
-ghost use Rattle.coordinator.specs.Does.{Does};
-ghost use Rattle.coordinator.specs.Rooms.{Uses};
+ghost use Rattle.coordinator.specs.Does.{Does, DoesAll};
+ghost use Rattle.coordinator.specs.Rooms.{Uses, to_set};
 ghost use Rattle.coordinator.specs.Views.{IsReady};
 
-use crate::coordinator::{Acted, Coordinator};
+use crate::coordinator::{Acted, Coordinator, EventError};
 use crate::output::Output;
 use crate::sending::Broadcast;
 use peer_finder::PeerFinder;
@@ -41,7 +41,7 @@ pub(crate) fn leader_of(me: NodeId, mode: Mode) -> Option<NodeId>
 
 /// The set with one more id, for which there is room.
 pub(crate) fn with(ids: NodeSet, id: NodeId) -> NodeSet
-    requires { length ids < 32 }
+    requires { length ids < most_ids }
     ensures { result ≡ with_id id ids }
 {
     let mut more = ids;
@@ -91,9 +91,9 @@ impl<K: Keeper> Coordinator<K> {
 
     // Asks all peers, where discovery is due.
     pub(crate) fn ask_peers(&mut self, out: &mut Output)
-        requires frames { 32 ≤ out.old.frames.room }
+        requires frames { to_set ≤ out.old.frames.room }
         ensures does { Does K.Keeper self.old self.new out.old out.new asks_peers true }
-        ensures uses { Uses out.old out.new 0 32 0 }
+        ensures uses { Uses out.old out.new 0 to_set 0 }
     {
         if !self.finder.is_due(self.moment) {
             return;
@@ -105,9 +105,9 @@ impl<K: Keeper> Coordinator<K> {
     }
 
     // Who asks for peers is met, with those that it knows, and is answered with the leader, the term and all peers.
-    pub(crate) fn is_asked_for_peers(&mut self, out: &mut Output, from: NodeId, known: &NodeSet)
+    pub(crate) fn on_peers_ask(&mut self, out: &mut Output, from: NodeId, known: &NodeSet)
         requires frames { 1 ≤ out.old.frames.room }
-        ensures does { Does K.Keeper self.old self.new out.old out.new (λ s v. is_asked_for_peers s v from known.now) true }
+        ensures does { Does K.Keeper self.old self.new out.old out.new (λ s v. on_peers_ask s v from known.now) true }
         ensures uses { Uses out.old out.new 0 1 0 }
     {
         self.meet(from, known);
@@ -137,29 +137,45 @@ impl<K: Keeper> Coordinator<K> {
         self.send(out, to, answer);
     }
 
-    // A candidate that hears of a master from that master joins it.
-    pub(crate) fn is_told_peers(
+    // A peer is met, and a candidate keeps its answer.
+    fn take_peers_answer(&mut self, out: &mut Output, answer: &PeerAnswer, known: &NodeSet) -> Acted
+        requires ready { IsReady self.old }
+        requires steps { 2 ≤ out.old.steps.room }
+        requires frames { 1 ≤ out.old.frames.room }
+        requires replies { length self.old.tasks.waiting ≤ out.old.replies.room }
+        ensures does { Does K.Keeper self.old self.new out.old out.new (λ s v. on_peers_answer s v answer.now.from answer.now.master answer.now.term known.now) (is_ok result) }
+    {
+        self.meet(answer.from, known);
+        self.hear_peer(out, answer)
+    }
+
+    /// A peer answers with the master that it knows, its term and its peers. A candidate that hears of a master from that
+    /// master joins it.
+    pub(crate) fn on_peers_answer(
         &mut self,
         out: &mut Output,
         from: NodeId,
         master: &Option<NodeId>,
         term: u64,
         known: &NodeSet,
-    ) -> Acted
+    ) -> Result<(), EventError>
         requires ready { IsReady self.old }
         requires steps { 2 ≤ out.old.steps.room }
         requires frames { 1 ≤ out.old.frames.room }
-        requires replies { length self.old.tasks.waiting ≤ out.old.replies.room }
-        ensures does { Does K.Keeper self.old self.new out.old out.new (λ s v. is_told_peers s v from master.now term known.now) (is_ok result) }
-        ensures uses { Uses out.old out.new 2 1 (length self.old.tasks.waiting) }
+        ensures does { DoesAll K.Keeper self.old self.new out.old out.new (λ s v. on_peers_answer s v from master.now term known.now) result }
     {
-        self.meet(from, known);
+        let Ok(()) = out.make_room(self.tasks.open_count(), &None) else {
+            return Err(EventError::Memory);
+        };
         let answer = PeerAnswer {
             from,
             master: *master,
             term,
         };
-        self.hear_peer(out, &answer)
+        match self.take_peers_answer(out, &answer, known) {
+            Ok(()) => Ok(()),
+            Err(_) => Err(EventError::Struck),
+        }
     }
 
     // A candidate keeps a peer's answer.

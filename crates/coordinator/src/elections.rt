@@ -10,7 +10,7 @@ ghost use Rattle.policy_model.specs.Elections.{bootstraps, stands_for_election, 
 ghost use Rattle.policy_model.specs.Parts.{next_attempt as next_attempt_of, round_begun};
 ghost use Rattle.coordinator.specs.Bootstraps.{IsPlannedFirst};
 ghost use Rattle.coordinator.specs.Does.{Does};
-ghost use Rattle.coordinator.specs.Rooms.{Uses};
+ghost use Rattle.coordinator.specs.Rooms.{Uses, to_set, to_two_sets, to_three_sets};
 ghost use Rattle.coordinator.specs.Rounds.{stands_alone};
 ghost use Rattle.coordinator.specs.Views.{view_in, IsReady};
 
@@ -87,9 +87,9 @@ impl<K: Keeper> Coordinator<K> {
         requires ready { IsReady self.old }
         requires first { IsPlannedFirst self.old.settings (view_in K.Keeper self.old) first }
         requires steps { 1 ≤ out.old.steps.room }
-        requires frames { 32 ≤ out.old.frames.room }
+        requires frames { to_set ≤ out.old.frames.room }
         ensures does { Does K.Keeper self.old self.new out.old out.new (λ s v. then_rule s v (bootstraps s v) (asks_peers s)) (is_ok result) }
-        ensures uses { Uses out.old out.new 1 32 0 }
+        ensures uses { Uses out.old out.new 1 to_set 0 }
     {
         match self.bootstrap(out, first) {
             Err(_) => Err(DiskFailed),
@@ -110,9 +110,9 @@ impl<K: Keeper> Coordinator<K> {
         requires ready { IsReady self.old }
         requires first { IsPlannedFirst self.old.settings (view_in K.Keeper self.old) first }
         requires steps { 1 ≤ out.old.steps.room }
-        requires frames { 96 ≤ out.old.frames.room }
+        requires frames { to_three_sets ≤ out.old.frames.room }
         ensures does { Does K.Keeper self.old self.new out.old out.new (λ s v. ticks_candidate s v word) (is_ok result) }
-        ensures uses { Uses out.old out.new 1 96 0 }
+        ensures uses { Uses out.old out.new 1 to_three_sets 0 }
     {
         match self.find_peers(out, first) {
             Err(_) => Err(DiskFailed),
@@ -125,9 +125,9 @@ impl<K: Keeper> Coordinator<K> {
 
     // The round ends, and all peers and the node itself are asked to join.
     pub(crate) fn stand_for_election(&mut self, out: &mut Output, term: u64)
-        requires frames { 32 ≤ out.old.frames.room }
+        requires frames { to_set ≤ out.old.frames.room }
         ensures does { Does K.Keeper self.old self.new out.old out.new (λ s v. stands_for_election s v term) true }
-        ensures uses { Uses out.old out.new 0 32 0 }
+        ensures uses { Uses out.old out.new 0 to_set 0 }
     {
         self.round = None;
         if LAST_NUMBER < term {
@@ -140,9 +140,9 @@ impl<K: Keeper> Coordinator<K> {
 
     // A node that is a quorum alone stands for election.
     fn stand_alone(&mut self, out: &mut Output)
-        requires frames { 32 ≤ out.old.frames.room }
+        requires frames { to_set ≤ out.old.frames.room }
         ensures does { Does K.Keeper self.old self.new out.old out.new stands_alone true }
-        ensures uses { Uses out.old out.new 0 32 0 }
+        ensures uses { Uses out.old out.new 0 to_set 0 }
     {
         let alone = with(NodeSet::new(), self.settings.me);
         if !self.elects(&alone) {
@@ -216,9 +216,9 @@ impl<K: Keeper> Coordinator<K> {
     fn begin_round(&mut self, out: &mut Output, free: &NodeSet, word: u64)
         requires ready { IsReady self.old }
         requires free { free.now ≡ free_nodes_of self.old.settings (view_in K.Keeper self.old) }
-        requires frames { 64 ≤ out.old.frames.room }
+        requires frames { to_two_sets ≤ out.old.frames.room }
         ensures does { Does K.Keeper self.old self.new out.old out.new (λ s v. begins_round s v word) true }
-        ensures uses { Uses out.old out.new 0 64 0 }
+        ensures uses { Uses out.old out.new 0 to_two_sets 0 }
     {
         let others = without(free, self.settings.me);
         self.open_round(word);
@@ -230,9 +230,9 @@ impl<K: Keeper> Coordinator<K> {
     fn wait_until(&mut self, out: &mut Output, free: &NodeSet, word: u64, deadline: Option<u64>)
         requires ready { IsReady self.old }
         requires free { free.now ≡ free_nodes_of self.old.settings (view_in K.Keeper self.old) }
-        requires frames { 64 ≤ out.old.frames.room }
+        requires frames { to_two_sets ≤ out.old.frames.room }
         ensures does { Does K.Keeper self.old self.new out.old out.new (λ s v. waits_until s v word deadline) true }
-        ensures uses { Uses out.old out.new 0 64 0 }
+        ensures uses { Uses out.old out.new 0 to_two_sets 0 }
     {
         match deadline {
             None => {
@@ -250,9 +250,9 @@ impl<K: Keeper> Coordinator<K> {
     // Waits for an election, where the node may be elected.
     fn wait_for_election(&mut self, out: &mut Output, word: u64)
         requires ready { IsReady self.old }
-        requires frames { 64 ≤ out.old.frames.room }
+        requires frames { to_two_sets ≤ out.old.frames.room }
         ensures does { Does K.Keeper self.old self.new out.old out.new (λ s v. waits_for_election s v word) true }
-        ensures uses { Uses out.old out.new 0 64 0 }
+        ensures uses { Uses out.old out.new 0 to_two_sets 0 }
     {
         let free = self.free_nodes();
         if !self.may_be_elected(&free) {

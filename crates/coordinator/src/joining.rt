@@ -2,14 +2,14 @@
 ghost use Rattle.std.specs.Prelude.{◌≡◌, ◌≤◌, [], ◌∷◌, true, false, Err};
 ghost use Rattle.world_model.specs.declared.acts.Act.TheVariants as act;
 ghost use Rattle.policy_model.specs.Doing.{is_leader};
-ghost use Rattle.policy_model.specs.Joins.{is_joined, takes_join, leads, takes_member, join_from};
+ghost use Rattle.policy_model.specs.Joins.{on_join, takes_join, leads, takes_member, join_from};
 ghost use Rattle.policy_model.specs.Events.{Notes, Joined};
 ghost use Rattle.policy_model.specs.declared.events.Mode.TheVariants.{Leader};
 ghost use Rattle.policy_model.specs.Moves.{moved_all};
 ghost use Rattle.coordinator.specs.Ahead.{winning, IsPlannedJoin};
 ghost use Rattle.coordinator.specs.Does.{Does, DoesAll};
 ghost use Rattle.coordinator.specs.Plans.{IsPlanned, replies_planned};
-ghost use Rattle.coordinator.specs.Rooms.{Uses};
+ghost use Rattle.coordinator.specs.Rooms.{Uses, event_steps, to_set, to_set_and_one};
 ghost use Rattle.coordinator.specs.Views.{view_in, IsReady};
 
 use crate::ahead::add_members;
@@ -50,7 +50,7 @@ impl<K: Keeper> Coordinator<K> {
         requires ready { IsReady self.old }
         requires plan { IsPlanned self.old.settings (moved_all self.old.settings (view_in K.Keeper self.old) (winning self.old.settings (view_in K.Keeper self.old))) plan }
         requires steps { 3 ≤ out.old.steps.room }
-        requires frames { 32 ≤ out.old.frames.room }
+        requires frames { to_set ≤ out.old.frames.room }
         requires replies { replies_planned plan ≤ out.old.replies.room }
         ensures does { Does K.Keeper self.old self.new out.old out.new leads true }
     {
@@ -63,7 +63,7 @@ impl<K: Keeper> Coordinator<K> {
         requires ready { IsReady self.old }
         requires plan { IsPlanned self.old.settings (moved_all self.old.settings (view_in K.Keeper self.old) (Notes (Joined (p ∷ [])) ∷ [])) plan }
         requires steps { 2 ≤ out.old.steps.room }
-        requires frames { 32 ≤ out.old.frames.room }
+        requires frames { to_set ≤ out.old.frames.room }
         requires replies { replies_planned plan ≤ out.old.replies.room }
         ensures does { Does K.Keeper self.old self.new out.old out.new (λ s v. takes_member s v p) true }
     {
@@ -83,7 +83,7 @@ impl<K: Keeper> Coordinator<K> {
         requires ready { IsReady self.old }
         requires plan { IsPlannedJoin self.old.settings (view_in K.Keeper self.old) p (act.TakeJoin (join_from p self.old.settings.me term last)) plan }
         requires steps { 4 ≤ out.old.steps.room }
-        requires frames { 32 ≤ out.old.frames.room }
+        requires frames { to_set ≤ out.old.frames.room }
         requires replies { replies_planned plan ≤ out.old.replies.room }
         ensures does { Does K.Keeper self.old self.new out.old out.new (λ s v. takes_join s v p term last) true }
     {
@@ -121,7 +121,7 @@ impl<K: Keeper> Coordinator<K> {
     }
 
     /// A join from p, by which the node's own term may rise. A voting-only node does nothing with it.
-    pub(crate) fn is_joined(
+    pub(crate) fn on_join(
         &mut self,
         out: &mut Output,
         p: NodeId,
@@ -129,9 +129,9 @@ impl<K: Keeper> Coordinator<K> {
         last: StateId,
     ) -> Result<(), EventError>
         requires ready { IsReady self.old }
-        requires steps { 6 ≤ out.old.steps.room }
-        requires frames { 33 ≤ out.old.frames.room }
-        ensures does { DoesAll K.Keeper self.old self.new out.old out.new (λ s v. is_joined s v p term last) result }
+        requires steps { event_steps ≤ out.old.steps.room }
+        requires frames { to_set_and_one ≤ out.old.frames.room }
+        ensures does { DoesAll K.Keeper self.old self.new out.old out.new (λ s v. on_join s v p term last) result }
     {
         if self.is_voting_only() {
             return Ok(());

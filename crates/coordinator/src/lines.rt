@@ -11,6 +11,7 @@ ghost use Rattle.policy_model.specs.Requests.{replies, takes_line};
 ghost use Rattle.coordinator.specs.Ahead.{HasPlan, queues_one};
 ghost use Rattle.coordinator.specs.Does.{Does, DoesAll};
 ghost use Rattle.coordinator.specs.Plans.{makes_next};
+ghost use Rattle.coordinator.specs.Rooms.{to_set};
 ghost use Rattle.coordinator.specs.Views.{view_in, IsReady};
 
 use crate::coordinator::{Coordinator, EventError};
@@ -32,7 +33,6 @@ impl<K: Keeper> Coordinator<K> {
     ) -> Result<Option<Plan>, AllocError>
         ensures { IfOk result (λ plan. HasPlan (master_of self.now.settings.me (K.record_of self.now.core.keeper).term (K.record_of self.now.core.keeper).accepted (K.record_of self.now.core.keeper).committed self.now.core.join_votes self.now.settings.shrink) tasks.now plan) }
     {
-        let tasks = tasks.copy()?;
         let plan = self.plan_with(alloc, self.core.term(), tasks, &self.core.votes())?;
         Ok(plan)
     }
@@ -46,7 +46,7 @@ impl<K: Keeper> Coordinator<K> {
     ) -> Result<(), EventError>
         requires ready { IsReady self.old }
         requires steps { 2 ≤ out.old.steps.room }
-        requires frames { 32 ≤ out.old.frames.room }
+        requires frames { to_set ≤ out.old.frames.room }
         ensures does { DoesAll K.Keeper self.old self.new out.old out.new (λ s v. queues_one s v conn request) result }
     {
         let Ok(mut tasks) = self.tasks.copy() else {
@@ -75,7 +75,7 @@ impl<K: Keeper> Coordinator<K> {
     ) -> Result<(), EventError>
         requires ready { IsReady self.old }
         requires waits { makes_next self.old.settings (view_in K.Keeper self.old) ≡ false }
-        requires frames { 32 ≤ out.old.frames.room }
+        requires frames { to_set ≤ out.old.frames.room }
         requires steps { 2 ≤ out.old.steps.room }
         ensures does { DoesAll K.Keeper self.old self.new out.old out.new (λ s v. queues_one s v conn request) result }
     {
@@ -93,7 +93,7 @@ impl<K: Keeper> Coordinator<K> {
     fn queue(&mut self, out: &mut Output, conn: u64, request: Request) -> Result<(), EventError>
         requires ready { IsReady self.old }
         requires steps { 2 ≤ out.old.steps.room }
-        requires frames { 32 ≤ out.old.frames.room }
+        requires frames { to_set ≤ out.old.frames.room }
         ensures does { DoesAll K.Keeper self.old self.new out.old out.new (λ s v. queues_one s v conn request) result }
     {
         if self.makes_next() {
@@ -122,7 +122,7 @@ impl<K: Keeper> Coordinator<K> {
     ) -> Result<(), EventError>
         requires ready { IsReady self.old }
         requires steps { 2 ≤ out.old.steps.room }
-        requires frames { 32 ≤ out.old.frames.room }
+        requires frames { to_set ≤ out.old.frames.room }
         ensures does { DoesAll K.Keeper self.old self.new out.old out.new (λ s v. takes_line s v conn (Ok request)) result }
     {
         let id = request.id;
@@ -150,7 +150,7 @@ impl<K: Keeper> Coordinator<K> {
     ) -> Result<(), EventError>
         requires ready { IsReady self.old }
         requires steps { 2 ≤ out.old.steps.room }
-        requires frames { 32 ≤ out.old.frames.room }
+        requires frames { to_set ≤ out.old.frames.room }
         ensures does { DoesAll K.Keeper self.old self.new out.old out.new (λ s v. takes_line s v conn (line_request line.now)) result }
     {
         match read_line(out.alloc, line.as_bytes()) {

@@ -4,13 +4,13 @@ ghost use Rattle.cluster_state.specs.States.{id_of};
 ghost use Rattle.master_tasks.specs.Answering.{answers_by, failed};
 ghost use Rattle.master_tasks.specs.Queue.{no_tasks};
 ghost use Rattle.wire_frames.specs.declared.frame.WireMessage.TheVariants as message;
-ghost use Rattle.policy_model.specs.Doing.{becomes_candidate, becomes_candidate_once, starts_join, raises_term, is_leader, send};
-ghost use Rattle.coordinator.specs.Does.{Does};
+ghost use Rattle.policy_model.specs.Doing.{becomes_candidate, becomes_candidate_once, on_start_join, raises_term, is_leader, send};
+ghost use Rattle.coordinator.specs.Does.{Does, DoesAll};
 ghost use Rattle.coordinator.specs.Views.{IsReady};
 ghost use Rattle.coordinator.specs.Rooms.{Uses};
 ghost use Rattle.coordinator.specs.Showing.{shown_in, showing};
 
-use crate::coordinator::{Acted, Coordinator};
+use crate::coordinator::{Acted, Coordinator, EventError};
 use crate::output::Output;
 use fault_checks::FollowerChecks;
 use master_tasks::MasterTasks;
@@ -75,7 +75,7 @@ impl<K: Keeper> Coordinator<K> {
         requires steps { 2 ≤ out.old.steps.room }
         requires frames { 1 ≤ out.old.frames.room }
         requires replies { length self.old.tasks.waiting ≤ out.old.replies.room }
-        ensures does { Does K.Keeper self.old self.new out.old out.new (λ s v. starts_join s v candidate term) (is_ok result) }
+        ensures does { Does K.Keeper self.old self.new out.old out.new (λ s v. on_start_join s v candidate term) (is_ok result) }
         ensures uses { Uses out.old out.new 2 1 (length self.old.tasks.waiting) }
         ensures waiting { length self.new.tasks.waiting ≤ out.new.replies.room }
     {
@@ -114,6 +114,27 @@ impl<K: Keeper> Coordinator<K> {
             self.start_join(out, candidate, term)
         } else {
             Ok(())
+        }
+    }
+
+    /// A start join came: a join for its candidate is started in its term.
+    pub(crate) fn on_start_join(
+        &mut self,
+        out: &mut Output,
+        candidate: NodeId,
+        term: u64,
+    ) -> Result<(), EventError>
+        requires ready { IsReady self.old }
+        requires steps { 2 ≤ out.old.steps.room }
+        requires frames { 1 ≤ out.old.frames.room }
+        ensures does { DoesAll K.Keeper self.old self.new out.old out.new (λ s v. on_start_join s v candidate term) result }
+    {
+        let Ok(()) = out.make_room(self.tasks.open_count(), &None) else {
+            return Err(EventError::Memory);
+        };
+        match self.start_join(out, candidate, term) {
+            Ok(()) => Ok(()),
+            Err(_) => Err(EventError::Struck),
         }
     }
 }

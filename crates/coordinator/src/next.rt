@@ -9,7 +9,7 @@ ghost use Rattle.policy_model.specs.NextState.{goes_on, makes_state, hands_over,
 ghost use Rattle.coord_state.specs.StandsFor.{request_of};
 ghost use Rattle.coordinator.specs.Does.{Does, Ends};
 ghost use Rattle.coordinator.specs.Plans.{IsPlan, IsNewState, IsPlanned, makes_next, replies_planned, state_by};
-ghost use Rattle.coordinator.specs.Rooms.{Uses};
+ghost use Rattle.coordinator.specs.Rooms.{to_set};
 ghost use Rattle.coordinator.specs.Views.{view_in, IsReady};
 
 use crate::coordinator::Coordinator;
@@ -77,7 +77,7 @@ impl<K: Keeper> Coordinator<K> {
         requires request { new.request ≡ request_of K.Keeper self.old.core new.request.state.version new.config new.value }
         requires all { length new.frames.list ≡ length new.value.members }
         requires steps { 2 ≤ out.old.steps.room }
-        requires frames { 32 ≤ out.old.frames.room }
+        requires frames { to_set ≤ out.old.frames.room }
         requires replies { length self.old.tasks.waiting ≤ out.old.replies.room }
         ensures does { (v : View) → v.node ≡ (view_in K.Keeper self.old).node → IsNewState self.old.settings.me (state_by (as_master self.old.settings v.node) v.tasks) new → Does K.Keeper self.old self.new out.old out.new (λ s u. publishes s v u) true }
     {
@@ -87,7 +87,7 @@ impl<K: Keeper> Coordinator<K> {
             value,
             frames,
         } = new;
-        // For the proof alone: a set has 32 ids at most.
+        // For the proof alone: a set has at most `MAX_IDS` ids.
         let _ = value.members.len();
         let taken = self.act_value(out, request, config, value);
         if taken {
@@ -102,17 +102,17 @@ impl<K: Keeper> Coordinator<K> {
         requires ready { IsReady self.old }
         requires plan { IsPlan (as_master self.old.settings (view_in K.Keeper self.old).node) self.old.tasks plan }
         requires steps { 2 ≤ out.old.steps.room }
-        requires frames { 32 ≤ out.old.frames.room }
-        requires replies { length plan.replies.sent + length plan.tasks.waiting ≤ out.old.replies.room }
+        requires frames { to_set ≤ out.old.frames.room }
+        requires replies { length plan.replies.sent + length plan.waiting.items ≤ out.old.replies.room }
         ensures does { Does K.Keeper self.old self.new out.old out.new makes_state true }
     {
         let Plan {
-            tasks,
+            waiting,
             replies,
             new,
         } = plan;
         out.replies.append(replies);
-        self.tasks = tasks;
+        self.tasks.leave_only(waiting);
         match new {
             None => {}
             Some(new) => self.publish(out, new),
@@ -122,7 +122,7 @@ impl<K: Keeper> Coordinator<K> {
     // The least responder that votes and is not voting-only is asked to be elected, unless that was done a short time ago.
     fn hand_over(&mut self, out: &mut Output)
         requires ready { IsReady self.old }
-        requires frames { 32 ≤ out.old.frames.room }
+        requires frames { to_set ≤ out.old.frames.room }
         ensures does { Does K.Keeper self.old self.new out.old out.new hands_over true }
     {
         if !due(self.handover_due, self.moment) {
@@ -134,7 +134,7 @@ impl<K: Keeper> Coordinator<K> {
 
     // The least responder that votes and is not voting-only is asked to be elected, where there is one.
     fn ask_successor(&self, out: &mut Output)
-        requires frames { 32 ≤ out.old.frames.room }
+        requires frames { to_set ≤ out.old.frames.room }
         ensures { Does K.Keeper self.now self.now out.old out.new (λ s v. asks_successor s v (successor_of s v)) true }
     {
         let Some(publication) = &self.publication else {
@@ -150,7 +150,7 @@ impl<K: Keeper> Coordinator<K> {
         let term = self.core.term() + 1;
         if term <= LAST_NUMBER {
             let targets = publication.targets();
-            // For the proof alone: a set has 32 ids at most.
+            // For the proof alone: a set has at most `MAX_IDS` ids.
             let _ = targets.len();
             let join = Broadcast::StartJoin(id, term);
             out.send_all(self.settings.me, targets.as_slice(), &join);
@@ -162,7 +162,7 @@ impl<K: Keeper> Coordinator<K> {
         requires ready { IsReady self.old }
         requires plan { IsPlanned self.old.settings (view_in K.Keeper self.old) plan }
         requires steps { 2 ≤ out.old.steps.room }
-        requires frames { 32 ≤ out.old.frames.room }
+        requires frames { to_set ≤ out.old.frames.room }
         requires replies { replies_planned plan ≤ out.old.replies.room }
         ensures does { Does K.Keeper self.old self.new out.old out.new goes_on true }
     {

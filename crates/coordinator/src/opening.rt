@@ -41,7 +41,7 @@ impl<K: Keeper> Coordinator<K> {
         ensures stands { (life : Life) → ContinuesUnlessFirst (acts_of (log_of life)) (Open (K.record_of keeper)) → StandsForLife K.Keeper result (Opened life (K.record_of keeper)) }
     {
         let value = &keeper.kept().accepted.value;
-        // For the proof alone: settings ascend by key, and a set has 32 ids at most.
+        // For the proof alone: settings ascend by key, and a set has at most `MAX_IDS` ids.
         let _ = value.settings.texts();
         let _ = value.members.len();
         let me = settings.me;

@@ -1,9 +1,9 @@
 //! Pre-votes, asked and answered.
 ghost use Rattle.std.specs.Prelude.{◌≡◌, ◌≤◌, true};
 ghost use Rattle.cluster_state.specs.Field.{last_number};
-ghost use Rattle.policy_model.specs.Elections.{is_asked_pre_vote, goes_to_election, counts_pre_vote, is_refused_pre_vote};
+ghost use Rattle.policy_model.specs.Elections.{on_pre_vote_ask, goes_to_election, on_pre_vote_answer, on_pre_vote_refuse};
 ghost use Rattle.coordinator.specs.Does.{Does};
-ghost use Rattle.coordinator.specs.Rooms.{Uses};
+ghost use Rattle.coordinator.specs.Rooms.{Uses, to_set};
 ghost use Rattle.coordinator.specs.Rounds.{counted_of, round_after};
 
 use crate::coordinator::Coordinator;
@@ -42,9 +42,9 @@ fn count(
 
 impl<K: Keeper> Coordinator<K> {
     // Who asks for a pre-vote is answered, or told of another leader.
-    pub(crate) fn is_asked_pre_vote(&self, out: &mut Output, from: NodeId)
+    pub(crate) fn on_pre_vote_ask(&self, out: &mut Output, from: NodeId)
         requires frames { 1 ≤ out.old.frames.room }
-        ensures does { Does K.Keeper self.now self.now out.old out.new (λ s v. is_asked_pre_vote s v from) true }
+        ensures does { Does K.Keeper self.now self.now out.old out.new (λ s v. on_pre_vote_ask s v from) true }
         ensures uses { Uses out.old out.new 0 1 0 }
     {
         let message = match answer(from, leader_of(self.settings.me, self.mode)) {
@@ -58,7 +58,7 @@ impl<K: Keeper> Coordinator<K> {
     }
 
     // An answer to a candidate with an open round.
-    pub(crate) fn count_pre_vote(
+    pub(crate) fn on_pre_vote_answer(
         &mut self,
         out: &mut Output,
         from: NodeId,
@@ -66,9 +66,9 @@ impl<K: Keeper> Coordinator<K> {
         last: StateId,
     )
         requires term { term ≤ last_number }
-        requires frames { 32 ≤ out.old.frames.room }
-        ensures does { Does K.Keeper self.old self.new out.old out.new (λ s v. counts_pre_vote s v v.round from term last) true }
-        ensures uses { Uses out.old out.new 0 32 0 }
+        requires frames { to_set ≤ out.old.frames.room }
+        ensures does { Does K.Keeper self.old self.new out.old out.new (λ s v. on_pre_vote_answer s v v.round from term last) true }
+        ensures uses { Uses out.old out.new 0 to_set 0 }
     {
         if !is_candidate(self.mode) {
             return;
@@ -88,9 +88,9 @@ impl<K: Keeper> Coordinator<K> {
     }
 
     fn go_to_election(&mut self, out: &mut Output, added: Added)
-        requires frames { 32 ≤ out.old.frames.room }
+        requires frames { to_set ≤ out.old.frames.room }
         ensures does { Does K.Keeper self.old self.new out.old out.new (λ s v. goes_to_election s v added) true }
-        ensures uses { Uses out.old out.new 0 32 0 }
+        ensures uses { Uses out.old out.new 0 to_set 0 }
     {
         match added {
             Added::Counted | Added::Fresher => {}
@@ -99,8 +99,8 @@ impl<K: Keeper> Coordinator<K> {
     }
 
     // Who refuses a pre-vote names the leader.
-    pub(crate) fn is_refused_pre_vote(&mut self, leader: NodeId)
-        ensures { (out : _) → Does K.Keeper self.old self.new out out (λ s v. is_refused_pre_vote s v leader) true }
+    pub(crate) fn on_pre_vote_refuse(&mut self, leader: NodeId)
+        ensures { (out : _) → Does K.Keeper self.old self.new out out (λ s v. on_pre_vote_refuse s v leader) true }
     {
         self.finder.add(leader);
     }

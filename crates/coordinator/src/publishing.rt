@@ -1,7 +1,7 @@
 //! Accepting the states that a leader publishes.
 ghost use Rattle.std.specs.Prelude.{◌≡◌, ◌≤◌, ◌+◌, true, length, is_ok};
 ghost use Rattle.cluster_state.specs.States.{IsFit};
-ghost use Rattle.policy_model.specs.Publications.{accepts, is_published_to};
+ghost use Rattle.policy_model.specs.Publications.{accepts, on_publish};
 ghost use Rattle.coordinator.specs.Accepts.{follows_other, responds};
 ghost use Rattle.coordinator.specs.Does.{Does, DoesAll};
 ghost use Rattle.coordinator.specs.Rooms.{Uses};
@@ -59,19 +59,13 @@ impl<K: Keeper> Coordinator<K> {
     }
 
     // A state of p, which may raise the node's term.
-    fn is_published_to(
-        &mut self,
-        out: &mut Output,
-        p: NodeId,
-        state: Ready,
-        entry: SharedState,
-    ) -> Acted
+    fn take_state(&mut self, out: &mut Output, p: NodeId, state: Ready, entry: SharedState) -> Acted
         requires ready { IsReady self.old }
         requires entry { entry ≡ state.state }
         requires steps { 5 ≤ out.old.steps.room }
         requires frames { 2 ≤ out.old.frames.room }
         requires replies { length self.old.tasks.waiting ≤ out.old.replies.room }
-        ensures does { Does K.Keeper self.old self.new out.old out.new (λ s v. is_published_to s v p state.state) (is_ok result) }
+        ensures does { Does K.Keeper self.old self.new out.old out.new (λ s v. on_publish s v p state.state) (is_ok result) }
     {
         match self.raise_term(out, p, entry.term) {
             Err(_) => Err(DiskFailed),
@@ -80,7 +74,7 @@ impl<K: Keeper> Coordinator<K> {
     }
 
     // A state of p came.
-    pub(crate) fn take_publication(
+    pub(crate) fn on_publish(
         &mut self,
         out: &mut Output,
         p: NodeId,
@@ -90,7 +84,7 @@ impl<K: Keeper> Coordinator<K> {
         requires fit { IsFit state.now }
         requires steps { 5 ≤ out.old.steps.room }
         requires frames { 2 ≤ out.old.frames.room }
-        ensures does { DoesAll K.Keeper self.old self.new out.old out.new (λ s v. is_published_to s v p state.now) result }
+        ensures does { DoesAll K.Keeper self.old self.new out.old out.new (λ s v. on_publish s v p state.now) result }
     {
         let Ok(entry) = state.share() else {
             return Err(EventError::Memory);
@@ -101,7 +95,7 @@ impl<K: Keeper> Coordinator<K> {
         let Ok(()) = out.make_room(self.tasks.open_count(), &None) else {
             return Err(EventError::Memory);
         };
-        match self.is_published_to(out, p, ready, entry) {
+        match self.take_state(out, p, ready, entry) {
             Ok(()) => Ok(()),
             Err(_) => Err(EventError::Struck),
         }

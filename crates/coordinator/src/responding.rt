@@ -4,11 +4,11 @@ ghost use Rattle.voting_config.specs.Ids.{Id, among, has_room as has_room_of};
 ghost use Rattle.wire_frames.specs.declared.frame.WireMessage.TheVariants as message;
 ghost use Rattle.policy_model.specs.Doing.{is_leader as is_leader_of};
 ghost use Rattle.policy_model.specs.NextState.{responders_of, targets_of};
-ghost use Rattle.policy_model.specs.Publications.{is_commit_sent as is_commit_sent_of, counts_response, sends_commit, sends_first_commit};
+ghost use Rattle.policy_model.specs.Publications.{is_commit_sent as is_commit_sent_of, on_response, sends_commit, sends_first_commit};
 ghost use Rattle.coordinator.specs.Commits.{takes_response, acks_commit};
 ghost use Rattle.coordinator.specs.Does.{Does, DoesAll};
 ghost use Rattle.coordinator.specs.Plans.{frame_to};
-ghost use Rattle.coordinator.specs.Rooms.{Uses};
+ghost use Rattle.coordinator.specs.Rooms.{Uses, to_set};
 ghost use Rattle.coordinator.specs.Showing.{shown_in};
 ghost use Rattle.coordinator.specs.Views.{IsReady};
 
@@ -53,15 +53,15 @@ impl<K: Keeper> Coordinator<K> {
 
     // The commit goes to each target that has responded.
     fn broadcast_commit(&self, out: &mut Output, id: StateId)
-        requires frames { 32 ≤ out.old.frames.room }
+        requires frames { to_set ≤ out.old.frames.room }
         ensures shown { shown_in out.new ≡ record (shown_in out.old) { frames = (shown_in out.old).frames ++ map (λ (to : Id). frame_to self.now.settings.me (message.Commit id) to) (among (responders_of self.now.publication) (targets_of self.now.publication)) } }
-        ensures uses { Uses out.old out.new 0 32 0 }
+        ensures uses { Uses out.old out.new 0 to_set 0 }
     {
         let Some(publication) = &self.publication else {
             return;
         };
         let responders = publication.responders();
-        // For the proof alone: a set has 32 ids at most.
+        // For the proof alone: a set has at most `MAX_IDS` ids.
         let _ = responders.len();
         send_commits(
             out,
@@ -88,7 +88,7 @@ impl<K: Keeper> Coordinator<K> {
 
     // The first commit goes to each target that has responded, and the requests in the state are acknowledged.
     fn send_first_commit(&mut self, out: &mut Output, id: StateId)
-        requires frames { 32 ≤ out.old.frames.room }
+        requires frames { to_set ≤ out.old.frames.room }
         requires replies { length self.old.tasks.waiting ≤ out.old.replies.room }
         ensures does { Does K.Keeper self.old self.new out.old out.new (λ s v. sends_first_commit s v id) true }
     {
@@ -98,7 +98,7 @@ impl<K: Keeper> Coordinator<K> {
 
     // The commit goes to the one that responded, where it was sent before.
     fn send_commit(&mut self, out: &mut Output, sent: bool, p: NodeId, id: StateId)
-        requires frames { 32 ≤ out.old.frames.room }
+        requires frames { to_set ≤ out.old.frames.room }
         requires replies { length self.old.tasks.waiting ≤ out.old.replies.room }
         ensures does { Does K.Keeper self.old self.new out.old out.new (λ s v. sends_commit s v sent p id) true }
     {
@@ -114,7 +114,7 @@ impl<K: Keeper> Coordinator<K> {
         requires ready { IsReady self.old }
         requires room { has_room_of self.old.core.publish_votes p ≡ true }
         requires steps { 1 ≤ out.old.steps.room }
-        requires frames { 32 ≤ out.old.frames.room }
+        requires frames { to_set ≤ out.old.frames.room }
         requires replies { length self.old.tasks.waiting ≤ out.old.replies.room }
         ensures does { Does K.Keeper self.old self.new out.old out.new (λ s v. takes_response s v p id) true }
     {
@@ -131,7 +131,7 @@ impl<K: Keeper> Coordinator<K> {
     }
 
     // A response of p came.
-    pub(crate) fn count_response(
+    pub(crate) fn on_response(
         &mut self,
         out: &mut Output,
         p: NodeId,
@@ -139,8 +139,8 @@ impl<K: Keeper> Coordinator<K> {
     ) -> Result<(), EventError>
         requires ready { IsReady self.old }
         requires steps { 1 ≤ out.old.steps.room }
-        requires frames { 32 ≤ out.old.frames.room }
-        ensures does { DoesAll K.Keeper self.old self.new out.old out.new (λ s v. counts_response s v p id) result }
+        requires frames { to_set ≤ out.old.frames.room }
+        ensures does { DoesAll K.Keeper self.old self.new out.old out.new (λ s v. on_response s v p id) result }
     {
         if !self.counts_responses_of(p) {
             return Ok(());

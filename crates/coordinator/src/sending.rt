@@ -5,7 +5,7 @@ ghost use Rattle.policy_model.specs.Doing.{send, send_all};
 ghost use Rattle.coordinator.specs.Broadcasts.{message_of};
 ghost use Rattle.coordinator.specs.Does.{Does};
 ghost use Rattle.coordinator.specs.Plans.{frame_to};
-ghost use Rattle.coordinator.specs.Rooms.{Uses};
+ghost use Rattle.coordinator.specs.Rooms.{Uses, to_set};
 ghost use Rattle.coordinator.specs.Showing.{shown_in};
 
 use crate::coordinator::Coordinator;
@@ -70,11 +70,11 @@ impl<K: Keeper> Coordinator<K> {
 
     // Sends a message to each of the nodes.
     pub(crate) fn send_all(&self, out: &mut Output, ids: &NodeSet, what: &Broadcast)
-        requires { 32 ≤ out.old.frames.room }
+        requires { to_set ≤ out.old.frames.room }
         ensures does { Does K.Keeper self.now self.now out.old out.new (λ s v. send_all s ids.now (message_of what.now)) true }
-        ensures uses { Uses out.old out.new 0 32 0 }
+        ensures uses { Uses out.old out.new 0 to_set 0 }
     {
-        // For the proof alone: a set has 32 ids at most.
+        // For the proof alone: a set has at most `MAX_IDS` ids.
         let _ = ids.len();
         out.send_all(self.settings.me, ids.as_slice(), what);
     }

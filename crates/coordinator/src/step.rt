@@ -1,19 +1,37 @@
 //! A whole event: what it shows is given out only sealed, once its last write was synced.
-ghost use Rattle.std.specs.Prelude.{◌≡◌, ◌≤◌, IfOk, is_ok, true};
+ghost use Rattle.std.specs.Prelude.{◌≡◌, ◌≤◌, ◌↔◌, false, true, is_ok, Err, IfOk};
 ghost use Rattle.policy_model.specs.declared.events.Event.TheVariants.{Start};
+ghost use Rattle.policy_model.specs.Entries.{Life, log_of};
+ghost use Rattle.policy_model.specs.Fitting.{IsFitEvent};
+ghost use Rattle.policy_model.specs.Follows.{items_of};
+ghost use Rattle.coordinator.specs.Limits.{IsFew, IsWithin};
+ghost use Rattle.coordinator.specs.Lives.{Lasts, StandsForLife, Survives};
 ghost use Rattle.coordinator.specs.Showing.{shown_in, nothing_shown};
-ghost use Rattle.coordinator.specs.Steps.{Seals, drops_for, frames_for, steps_for};
+ghost use Rattle.coordinator.specs.Steps.{Seals, Stays, Steps, drops_for, frames_for, steps_for};
+ghost use Rattle.coordinator.specs.declared.step.StepError.TheVariants as step_error;
+ghost use Rattle.coordinator.specs.Views.{IsReady};
 
-use crate::coordinator::EventError;
+use crate::coordinator::{Coordinator, EventError};
 use crate::output::{Listed, Output};
 use crate::sorting::{sort_drops, sort_frames};
 use master_tasks::Replies;
-use policy_model::{Event, MemberDrop, Step};
+use policy_model::{Event, MemberDrop, Step, law_event_holds_set, law_event_holds_settings};
+use state_journal::Keeper;
 use std::alloc::{AllocError, Global};
+use voting_config::MAX_IDS;
 use wire_frames::Frame;
 
 /// How many steps an event has at most: three acts and as many modes.
 const MOST_STEPS: usize = 6;
+
+/// How many members a tick drops at most: those that fail their checks, and those that lag.
+const TICK_DROPS: usize = 2 * MAX_IDS;
+
+/// How many frames a tick has room for: to peers that are asked for peers, for pre-votes, and to start joins.
+const TICK_FRAMES: usize = 3 * MAX_IDS;
+
+/// How many frames another event has room for: to all members, and one more.
+const EVENT_FRAMES: usize = MAX_IDS + 1;
 
 /// What an event comes to beside frames and replies.
 #[derive(Drop)]
@@ -104,8 +122,8 @@ pub(crate) fn new_output(alloc: Global, event: &Event) -> Result<Output, AllocEr
 {
     let (steps, drops, frames) = match event {
         Event::Start => return Ok(no_output(alloc)),
-        Event::Tick { .. } => (MOST_STEPS, 64, 96),
-        Event::Frame(_) | Event::Client { .. } => (MOST_STEPS, 0, 33),
+        Event::Tick { .. } => (MOST_STEPS, TICK_DROPS, TICK_FRAMES),
+        Event::Frame(_) | Event::Client { .. } => (MOST_STEPS, 0, EVENT_FRAMES),
     };
     Ok(Output {
         alloc,
@@ -150,5 +168,58 @@ pub(crate) fn seal(
         }
         Err(EventError::Struck) => Err(StepError::Disk(entries)),
         Err(EventError::Memory) => Err(StepError::Memory),
+    }
+}
+
+impl<K: Keeper> Coordinator<K> {
+    /// What the node does at an event, by its policy. All memory is taken before the first act, at the start none. What is
+    /// sealed may be sent: all that was written for it is synced.
+    ///
+    /// `Memory`: nothing was done. `Disk`: the disk failed, and its entries go up to the act that met the fault. `Stopped`
+    /// exactly after a `Disk`: only a new opening goes on.
+    pub fn step(&mut self, alloc: Global, event: Event) -> Result<Sealed, StepError>
+        requires ready { IsReady self.old }
+        requires fit { IsFitEvent event }
+
+        // The steps, drops, frames and replies are those of the policy, for each life that the node stood for; and it stands
+        // for the life with this entry.
+        ensures steps { (life : Life) → StandsForLife K.Keeper self.old life → Steps K.Keeper self.old self.new event (items_of self.old.settings (log_of life) event) result }
+
+        // Whatever it stood for: its settings stay, and the disk's count of faults never falls. At Disk that count rose, and
+        // the node is halted; at Memory and Stopped nothing changed.
+        ensures stays { Stays K.Keeper self.old self.new result }
+
+        // A crash at any moment of it leaves the record of the acts so far, without the act in hand or with it.
+        ensures crash { Survives K.Keeper self.old self.new event }
+
+        // Few steps and replies; and where the node was within the limits, so are its frames, and the node after it.
+        ensures within { IfOk result (λ sealed. IsWithin K.Keeper self.old self.new sealed) }
+
+        // At most 94 frames, and fewer but at a tick, where the node's sets were as small as sets in memory are; so they stay.
+        ensures few { IfOk result (λ sealed. IsFew K.Keeper self.old self.new event sealed) }
+
+        // After Ok, where the keeper tells, a crash leaves the record of the acts with this event and nothing else.
+        ensures durable { IfOk result (λ sealed. Lasts K.Keeper self.old self.new event) }
+
+        // The start never lacks memory: it is done, unless the node met a fault before.
+        ensures start { event ≡ Start → K.has_stopped self.old.core.keeper ≡ false → is_ok result ≡ true }
+        ensures start_memory { event ≡ Start → result ≡ Err step_error.Memory → ⊥ }
+
+        // A node that met a fault does nothing.
+        ensures stopped { (result ≡ Err step_error.Stopped) ↔ (K.has_stopped self.old.core.keeper ≡ true) }
+        ensures ready { IsReady self.new }
+    {
+        if self.core.keeper().stopped() {
+            return Err(StepError::Stopped);
+        }
+        let Ok(mut output) = new_output(alloc, &event) else {
+            return Err(StepError::Memory);
+        };
+        // For the proof alone: what the event, the settings in it and the queue are, by their types.
+        law_event_holds_settings(&event);
+        law_event_holds_set(&event);
+        let _ = self.tasks.open_count();
+        let ended = self.take_event(&mut output, &event);
+        seal(ended, event, output)
     }
 }

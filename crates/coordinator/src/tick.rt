@@ -3,6 +3,7 @@ ghost use Rattle.std.specs.Prelude.{◌≤◌};
 ghost use Rattle.policy_model.specs.Checks.{checks_leader};
 ghost use Rattle.policy_model.specs.Rules.{ticks, ticks_candidate};
 ghost use Rattle.coordinator.specs.Does.{DoesAll};
+ghost use Rattle.coordinator.specs.Rooms.{tick_drops, to_three_sets};
 ghost use Rattle.coordinator.specs.Views.{IsReady};
 
 use crate::coordinator::{Coordinator, EventError};
@@ -16,7 +17,7 @@ impl<K: Keeper> Coordinator<K> {
     fn ticks_candidate(&mut self, out: &mut Output, word: u64) -> Result<(), EventError>
         requires ready { IsReady self.old }
         requires steps { 1 ≤ out.old.steps.room }
-        requires frames { 96 ≤ out.old.frames.room }
+        requires frames { to_three_sets ≤ out.old.frames.room }
         ensures does { DoesAll K.Keeper self.old self.new out.old out.new (λ s v. ticks_candidate s v word) result }
     {
         let Ok(first) = self.plan_bootstrap(out.alloc) else {
@@ -45,8 +46,8 @@ impl<K: Keeper> Coordinator<K> {
     pub(crate) fn tick_by_mode(&mut self, out: &mut Output, word: u64) -> Result<(), EventError>
         requires ready { IsReady self.old }
         requires steps { 2 ≤ out.old.steps.room }
-        requires frames { 96 ≤ out.old.frames.room }
-        requires drops { 64 ≤ out.old.drops.room }
+        requires frames { to_three_sets ≤ out.old.frames.room }
+        requires drops { tick_drops ≤ out.old.drops.room }
         ensures does { DoesAll K.Keeper self.old self.new out.old out.new (λ s v. ticks s v word v.mode) result }
     {
         let mode = self.mode;

@@ -6,7 +6,7 @@ ghost use Rattle.policy_model.specs.Checks.{checks_followers};
 ghost use Rattle.policy_model.specs.Requests.{times_out_exclusions};
 ghost use Rattle.policy_model.specs.Rules.{has_timed_out, is_failed, ticks_leader};
 ghost use Rattle.coordinator.specs.Does.{Does, DoesAll};
-ghost use Rattle.coordinator.specs.Rooms.{Uses};
+ghost use Rattle.coordinator.specs.Rooms.{Uses, tick_drops, to_set, to_two_sets};
 ghost use Rattle.coordinator.specs.Showing.{shown_in};
 ghost use Rattle.coordinator.specs.Ticks.{all_removed, dropped, ticks_members, IsPlannedTick};
 ghost use Rattle.coordinator.specs.Views.{view_in, IsReady};
@@ -58,13 +58,13 @@ impl<K: Keeper> Coordinator<K> {
 
     // Followers that fail or lag are dropped, and those that are due are asked.
     fn check_followers(&mut self, out: &mut Output)
-        requires frames { 32 ≤ out.old.frames.room }
-        requires drops { 64 ≤ out.old.drops.room }
+        requires frames { to_set ≤ out.old.frames.room }
+        requires drops { tick_drops ≤ out.old.drops.room }
         ensures does { Does K.Keeper self.old self.new out.old out.new checks_followers true }
-        ensures uses { Uses out.old out.new 0 32 0 }
+        ensures uses { Uses out.old out.new 0 to_set 0 }
     {
         let Checked { ask, checks, lag } = self.followers.tick(self.moment);
-        // For the proof alone: each of the sets has 32 ids at most.
+        // For the proof alone: each of the sets has at most `MAX_IDS` ids.
         let _ = ask.len();
         let _ = checks.len();
         let _ = lag.len();
@@ -103,11 +103,11 @@ impl<K: Keeper> Coordinator<K> {
 
     // What a leader does at a tick before it goes on.
     fn tick_members(&mut self, out: &mut Output)
-        requires frames { 32 ≤ out.old.frames.room }
-        requires drops { 64 ≤ out.old.drops.room }
+        requires frames { to_set ≤ out.old.frames.room }
+        requires drops { tick_drops ≤ out.old.drops.room }
         requires replies { length self.old.tasks.waiting ≤ out.old.replies.room }
         ensures does { Does K.Keeper self.old self.new out.old out.new ticks_members true }
-        ensures uses { Uses out.old out.new 0 32 (length self.old.tasks.waiting) }
+        ensures uses { Uses out.old out.new 0 to_set (length self.old.tasks.waiting) }
     {
         self.time_out_exclusions(out);
         self.check_followers(out);
@@ -117,8 +117,8 @@ impl<K: Keeper> Coordinator<K> {
     pub(crate) fn ticks_leader(&mut self, out: &mut Output) -> Result<(), EventError>
         requires ready { IsReady self.old }
         requires steps { 2 ≤ out.old.steps.room }
-        requires frames { 64 ≤ out.old.frames.room }
-        requires drops { 64 ≤ out.old.drops.room }
+        requires frames { to_two_sets ≤ out.old.frames.room }
+        requires drops { tick_drops ≤ out.old.drops.room }
         ensures does { DoesAll K.Keeper self.old self.new out.old out.new ticks_leader result }
     {
         if self.has_timed_out() {

@@ -28,18 +28,21 @@ message_text (message.Response id) = codes "response " ++ state_id_text id
 message_text (message.Commit id) = codes "commit " ++ state_id_text id
 message_text (message.JoinAsk term) = codes "joinask " ++ decimal term
 message_text (message.PeersAsk known) = codes "peersask " ++ list_text known
-message_text (message.PeersAnswer master term known) = codes "peersanswer " ++ master_text master ++ codes " " ++ decimal term ++ codes " " ++ list_text known
+message_text (message.PeersAnswer master term known) = codes "peersanswer " ++ master_text master ++ codes " " ++ decimal term ++ codes " "
+    ++ list_text known
 message_text message.PreVoteAsk = codes "prevoteask"
 message_text (message.PreVoteAnswer term last) = codes "prevoteanswer " ++ decimal term ++ codes " " ++ state_id_text last
 message_text (message.PreVoteRefuse leader) = codes "prevoterefuse " ++ leader
 message_text (message.FollowerCheck term) = codes "followercheck " ++ decimal term
-message_text (message.FollowerAnswer good term applied) = codes "followeranswer " ++ answer_text good ++ codes " " ++ decimal term ++ codes " " ++ state_id_text applied
+message_text (message.FollowerAnswer good term applied) = codes "followeranswer " ++ answer_text good ++ codes " " ++ decimal term
+    ++ codes " " ++ state_id_text applied
 message_text (message.LeaderCheck term) = codes "leadercheck " ++ decimal term
 message_text (message.LeaderAnswer good) = codes "leaderanswer " ++ answer_text good
 
 -- the frame of this number
 abbrev pub frame_line : (number : ℕ) → Frame → List ℕ
-frame_line number f = codes "m" ++ decimal number ++ codes " " ++ f.from ++ codes "->" ++ f.to ++ codes " " ++ message_text f.message ++ codes "\n"
+frame_line number f = codes "m" ++ decimal number ++ codes " " ++ f.from ++ codes "->" ++ f.to ++ codes " " ++ message_text f.message
+    ++ codes "\n"
 
 -- frames, numbered from the one after so many on
 abbrev pub frames_text : (count : ℕ) → List Frame → List ℕ

@@ -35,7 +35,8 @@ steps_text n published (s ∷ ss) = step_text n published s ++ steps_text n (pub
 
 -- ---- where the node has crashed
 
--- How an act is shown to have ended: where the disk failed since the node crashed, the act is shown as crashed. No further act follows it in an event.
+-- How an act is shown to have ended: where the disk failed since the node crashed, the act is shown as crashed. No further act follows it
+-- in an event.
 abbrev pub outcome_told : (crashed : Bool) → Outcome → Outcome
 outcome_told crashed (Answered reply) = Answered reply
 outcome_told crashed (Disk kept) = if crashed then Crashed kept else Disk kept

@@ -5,8 +5,8 @@ ghost use Rattle.world_model.specs.declared.acts.Outcome.TheVariants as outcome;
 ghost use Rattle.trace_text.specs.Endings.{ending_of, reply_ending};
 ghost use Rattle.trace_text.specs.Trace.{act_line, act_text, outcome_line, won_line};
 
-use schedule_text::Text;
 use std::alloc::{AllocError, Global};
+use text::Text;
 use trace_text::{
     Ending, write_act_head, write_boot, write_commit, write_join, write_publish, write_record,
     write_response, write_start_join, write_value, write_won,

@@ -5,8 +5,8 @@ ghost use Rattle.world_model.specs.declared.acts.ActReply.TheVariants as reply;
 ghost use Rattle.trace_text.specs.Trace.{committed_line, committed_text};
 
 use cluster_state::SharedState;
-use schedule_text::Text;
 use std::alloc::{AllocError, Global};
+use text::Text;
 use trace_text::write_committed;
 use world_model::{ActReply, Message, Outcome};
 
@@ -29,7 +29,8 @@ fn write_by_message(
     published: &Option<SharedState>,
     message: &Message,
 ) -> Result<(), AllocError>
-    ensures { OnOk result ((wins : Bool) → text.new ≡ text.old ++ committed_line (outcome.Answered (reply.Taken (Some message.now) wins)) published.now) }
+    ensures { OnOk result
+        ((wins : Bool) → text.new ≡ text.old ++ committed_line (outcome.Answered (reply.Taken (Some message.now) wins)) published.now) }
 {
     match message {
         Message::Commit(_) => write_last(text, alloc, published),
@@ -43,7 +44,8 @@ fn write_by_sends(
     published: &Option<SharedState>,
     sends: &Option<Message>,
 ) -> Result<(), AllocError>
-    ensures { OnOk result ((wins : Bool) → text.new ≡ text.old ++ committed_line (outcome.Answered (reply.Taken sends.now wins)) published.now) }
+    ensures { OnOk result
+        ((wins : Bool) → text.new ≡ text.old ++ committed_line (outcome.Answered (reply.Taken sends.now wins)) published.now) }
 {
     match sends {
         None => Ok(()),

@@ -10,8 +10,8 @@ use client_lines::write_reply;
 use cluster_state::SharedState;
 use master_tasks::Outgoing;
 use policy_model::{DropCause, MemberDrop, Step};
-use schedule_text::Text;
 use std::alloc::{AllocError, Global};
+use text::Text;
 use voting_config::NodeId;
 use wire_frames::Frame;
 
@@ -112,7 +112,8 @@ pub fn write_struck_event(
     drops: &[MemberDrop],
     crashed: bool,
 ) -> Result<(), AllocError>
-    ensures text { OnOk result ((count : ℕ) → text.new ≡ text.old ++ event_results count node published.old (told_as crashed steps.now) drops.now [] []) }
+    ensures text { OnOk result
+        ((count : ℕ) → text.new ≡ text.old ++ event_results count node published.old (told_as crashed steps.now) drops.now [] []) }
     ensures published { OnOk result (published.new ≡ published_after published.old steps.now) }
 {
     write_struck_steps(text, alloc, node, published, steps, crashed)?;

@@ -5,8 +5,8 @@ ghost use Rattle.wire_frames.specs.declared.frame.WireMessage.TheVariants as mes
 ghost use Rattle.event_text.specs.Frames.{answer_text, frame_line, frames_text, master_text, message_text, state_id_text};
 
 use cluster_state::StateId;
-use schedule_text::Text;
 use std::alloc::{AllocError, Global};
+use text::Text;
 use trace_text::acts::{write_state_id, write_state_json};
 use voting_config::{NodeId, NodeSet};
 use wire_frames::{Frame, WireMessage};

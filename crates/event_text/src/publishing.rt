@@ -11,7 +11,8 @@ use std::alloc::AllocError;
 use world_model::{Act, ActReply, Message, Outcome};
 
 fn keep_message(published: &mut Option<SharedState>, message: &Message) -> Result<(), AllocError>
-    ensures { OnOk result ((wins : Bool) → published.new ≡ published_by (outcome.Answered (reply.Taken (Some message.now) wins)) published.old) }
+    ensures { OnOk result
+        ((wins : Bool) → published.new ≡ published_by (outcome.Answered (reply.Taken (Some message.now) wins)) published.old) }
 {
     match message {
         Message::Publish(request) => {

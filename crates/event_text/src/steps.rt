@@ -8,8 +8,8 @@ use crate::committing::write_committed_by;
 use crate::publishing::keep_published;
 use cluster_state::SharedState;
 use policy_model::{Mode, Step};
-use schedule_text::Text;
 use std::alloc::{AllocError, Global};
+use text::Text;
 use voting_config::NodeId;
 use world_model::{Act, Outcome};
 

@@ -2,27 +2,19 @@
 use Rattle.std.specs.Prelude.{ℕ, Bool, not, ◌||◌, Option, None, Some, Result, Ok, Err, List, find, nat_lt, if◌then◌else◌}
 use Rattle.voting_config.specs.Ids.{Id, has, union_count_of, union}
 use Rattle.exclusions.specs.declared.AddError.{AddError}
-use Rattle.exclusions.specs.declared.AddError.TheVariants.{NotMember, TooMany}
+use Rattle.exclusions.specs.declared.AddError.TheVariants.{TooMany}
 use Rattle.exclusions.specs.declared.StillMember.{StillMember}
 
 -- how many nodes may be excluded at most
 abbrev pub most_exclusions : ℕ
 most_exclusions = 10
 
--- the exclusions with those asked for, all of which are members
-abbrev pub together : List Id → List Id → Result (List Id) AddError
-together excluded asked =
+-- the exclusions with those asked for, whether these are members or not
+abbrev pub added_of : List Id → List Id → Result (List Id) AddError
+added_of excluded asked =
     if nat_lt most_exclusions (union_count_of asked excluded)
     then Err (TooMany (union_count_of asked excluded))
     else Ok (union excluded asked)
-
-abbrev pub unless_missing : Option Id → Result (List Id) AddError → Result (List Id) AddError
-unless_missing None added = added
-unless_missing (Some id) added = Err (NotMember id)
-
--- the exclusions with those asked for, unless one of these is no member: then the least such
-abbrev pub added_of : List Id → List Id → List Id → Result (List Id) AddError
-added_of excluded members asked = unless_missing (find (λ id. not (has id members)) asked) (together excluded asked)
 
 abbrev pub unless_member : Option Id → Result (Unit {0}) StillMember
 unless_member None = Ok tt

@@ -2,7 +2,7 @@
 //! reference 7.x, Voting configuration exclusions API).
 #![tactic(auto)]
 
-ghost use Rattle.std.specs.Prelude.{◌≡◌, find, not};
+ghost use Rattle.std.specs.Prelude.{◌≡◌, find};
 ghost use Rattle.voting_config.specs.Ids.{has};
 ghost use Rattle.exclusions.specs.Exclusions.{added_of, cleared_of, may_win_of};
 
@@ -13,12 +13,9 @@ use voting_config::{NodeId, NodeSet, VotingConfig};
 /// 7.x, Voting configuration exclusion settings, 10.
 pub const MAX_EXCLUSIONS: usize = 10;
 
-/// Why ids are not excluded, in the order in which it is tested.
+/// Why ids are not excluded.
 #[derive(Clone, Copy, Debug, PartialEq, Eq, Error)]
 pub enum AddError {
-    /// The least of the ids that is no member.
-    #[error("{0} is no member")]
-    NotMember(NodeId),
     /// How many would be excluded.
     #[error("{0} nodes would be excluded, and {MAX_EXCLUSIONS} may be")]
     TooMany(usize),
@@ -29,14 +26,12 @@ pub enum AddError {
 #[error("{0} is excluded and still a member")]
 pub struct StillMember(pub NodeId);
 
-/// The exclusions with those asked for. `NotMember` exactly where one of the asked is no member, with the least
-/// such; else `TooMany` exactly where more than [`MAX_EXCLUSIONS`] would be excluded, with their number.
-pub fn add(now_excluded: &NodeSet, members: &NodeSet, asked: &NodeSet) -> Result<NodeSet, AddError>
-    ensures { result ≡ added_of now_excluded.now members.now asked.now }
+/// The exclusions with those asked for. `TooMany` exactly where more than [`MAX_EXCLUSIONS`] would be excluded, with
+/// their number. An id is its node's name, so it may be excluded whoever the members are: one that is no member yet is
+/// excluded from the moment it joins.
+pub fn add(now_excluded: &NodeSet, _members: &NodeSet, asked: &NodeSet) -> Result<NodeSet, AddError>
+    ensures { result ≡ added_of now_excluded.now asked.now }
 {
-    if let Some(id) = first_outside(asked, members) {
-        return Err(AddError::NotMember(id));
-    }
     let count = asked.union_count(now_excluded);
     if count > MAX_EXCLUSIONS {
         return Err(AddError::TooMany(count));
@@ -69,13 +64,6 @@ pub fn may_win(
     ensures { result ≡ may_win_of me committed.now accepted.now excluded.now }
 {
     committed.members().contains(me) || accepted.members().contains(me) || !excluded.contains(me)
-}
-
-// The least of the ids that the set does not have.
-fn first_outside(ids: &NodeSet, set: &NodeSet) -> Option<NodeId>
-    ensures { result ≡ find (λ id. not (has id set.now)) ids.now }
-{
-    ids.as_slice().iter().copied().find(|id| !set.contains(*id))
 }
 
 // The least of the ids that the set has.

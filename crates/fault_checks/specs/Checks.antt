@@ -12,7 +12,8 @@ unchecked now = record { since = now; asked = None; failures = 0 }
 abbrev pub failed_at : Check → ℕ → Check
 failed_at c now = record { since = now; asked = None; failures = min (c.failures + 1) check_retry_count }
 
--- an answer ends the check that is outstanding: a good one ends the failures in a row, another is one failure more. With no check outstanding it does nothing
+-- an answer ends the check that is outstanding: a good one ends the failures in a row, another is one failure more. With no check
+-- outstanding it does nothing
 abbrev pub answered_at : Check → Bool → ℕ → Check
 answered_at c good now =
     if is_none c.asked then c

@@ -47,7 +47,8 @@ fallen_behind None applied state now = if is_reached state applied then None els
 abbrev pub behind_finished : Option Behind → StateId → StateId → StateId → ℕ → Option Behind
 behind_finished behind applied last state now = if is_same_state state last then behind else fallen_behind behind applied state now
 
--- an answer that reaches the state that a follower is behind ends that; where it is still under the last finished state, it falls behind that one, now
+-- an answer that reaches the state that a follower is behind ends that; where it is still under the last finished state, it falls behind
+-- that one, now
 abbrev pub behind_after : Option Behind → StateId → StateId → ℕ → Option Behind
 behind_after None applied finished now = None
 behind_after (Some behind) applied finished now =
@@ -108,7 +109,8 @@ abbrev mutual
   pub check_of : Calls → Id → Check
   check_of Started id = unchecked 0
   check_of (Then calls (Watched members now)) id = if has id (members_of calls) then check_of calls id else unchecked now
-  check_of (Then calls (Answered from good applied now)) id = if same id from then answered_at (check_of calls id) good now else check_of calls id
+  check_of (Then calls (Answered from good applied now)) id = if same id from then answered_at (check_of calls id) good now
+      else check_of calls id
   check_of (Then calls (Ticked now)) id = ticked_at (check_of calls id) now
   check_of (Then calls call) id = check_of calls id
 
@@ -116,7 +118,8 @@ abbrev mutual
   pub applied_of : Calls → Id → StateId
   applied_of Started id = no_state
   applied_of (Then calls (Watched members now)) id = if has id (members_of calls) then applied_of calls id else no_state
-  applied_of (Then calls (Answered from good applied now)) id = if same id from && not (is_none (check_of calls id).asked) then applied else applied_of calls id
+  applied_of (Then calls (Answered from good applied now)) id = if same id from
+      && not (is_none (check_of calls id).asked) then applied else applied_of calls id
   applied_of (Then calls call) id = applied_of calls id
 
   -- the finished state that it is behind, and since when
@@ -124,7 +127,9 @@ abbrev mutual
   behind_of Started id = None
   behind_of (Then calls (Watched members now)) id = if has id (members_of calls) then behind_of calls id else None
   behind_of (Then calls (Finished state now)) id = behind_finished (behind_of calls id) (applied_of calls id) (finished_of calls) state now
-  behind_of (Then calls (Answered from good applied now)) id = if same id from && not (is_none (check_of calls id).asked) then behind_after (behind_of calls id) applied (finished_of calls) now else behind_of calls id
+  behind_of (Then calls (Answered from good applied now)) id = if same id from
+      && not (is_none (check_of calls id).asked) then behind_after (behind_of calls id) applied (finished_of calls) now
+      else behind_of calls id
   behind_of (Then calls call) id = behind_of calls id
 
 abbrev pub follower_of : Calls → Id → Follower
@@ -146,7 +151,10 @@ StandsFor fs calls = fs ≡ followers_of calls
 abbrev pub after : Followers → Call → Followers
 after fs (Watched members now) = record fs { watched = map (λ id. watched_or_new fs.watched id now) members }
 after fs (Finished state now) =
-    record { finished = state; watched = map (λ (f : Follower). record f { behind = behind_finished f.behind f.applied fs.finished state now }) fs.watched }
+    record {
+      finished = state;
+      watched = map (λ (f : Follower). record f { behind = behind_finished f.behind f.applied fs.finished state now }) fs.watched;
+    }
 after fs (Answered from good applied now) =
     record fs { watched = map (λ (f : Follower). answered_from f from fs.finished good applied now) fs.watched }
 after fs (Ticked now) = record fs { watched = stayed fs.watched now }

@@ -21,7 +21,8 @@ happened_to_leader (LeaderStarted leader now) = Began now ∷ []
 happened_to_leader (LeaderThen calls (LeaderAnswered good now)) = with_answer (happened_to_leader calls) good now
 happened_to_leader (LeaderThen calls (LeaderTicked now)) = with_tick (happened_to_leader calls) now
 
--- a tick drops a follower for its checks exactly where it is watched and the last three outcomes of its checks, with this tick's own, are failures
+-- a tick drops a follower for its checks exactly where it is watched and the last three outcomes of its checks, with this tick's own, are
+-- failures
 abbrev pub LawDropped : Type 0
 LawDropped =
     (calls : Calls) (now : ℕ) (id : Id)
@@ -35,7 +36,8 @@ LawAsked =
     → has id (to_ask (followers_of calls).watched now)
     ≡ (has id (members_of calls) && not (is_late (behind_of calls id) now) && sends (happened_to calls id) now)
 
--- a tick finds the leader lost exactly where the last three outcomes of its checks, with this tick's own, are failures, and else asks it where a check is due
+-- a tick finds the leader lost exactly where the last three outcomes of its checks, with this tick's own, are failures, and else asks it
+-- where a check is due
 abbrev pub LawLeaderLost : Type 0
 LawLeaderLost =
     (calls : LeaderCalls) (now : ℕ)

@@ -270,7 +270,8 @@ fn finished_at(follower: Follower, last: StateId, state: StateId, now: u64) -> F
 }
 
 fn finish_all(watched: &mut [Follower], last: StateId, state: StateId, now: u64)
-    ensures { watched.new ≡ map (λ (f : FollowerOf). record f { behind = behind_finished_of f.behind f.applied last state now }) watched.old }
+    ensures { watched.new
+        ≡ map (λ (f : FollowerOf). record f { behind = behind_finished_of f.behind f.applied last state now }) watched.old }
 {
     for follower in watched {
         *follower = finished_at(*follower, last, state, now);

@@ -56,7 +56,8 @@ impl LeaderCheck {
     /// The leader answers now, in ms, yes where `good` and else no. With no check outstanding it does nothing.
     pub fn answer(&mut self, good: bool, now: u64)
         ensures now { self.new ≡ after_leader self.old (LeaderAnswered good now) }
-        ensures calls { (calls : LeaderCalls) → StandsForLeader self.old calls → StandsForLeader self.new (LeaderThen calls (LeaderAnswered good now)) }
+        ensures calls { (calls : LeaderCalls) → StandsForLeader self.old calls
+            → StandsForLeader self.new (LeaderThen calls (LeaderAnswered good now)) }
     {
         self.check = checking::answered_at(self.check, good, now);
     }
@@ -68,7 +69,8 @@ impl LeaderCheck {
     pub fn tick(&mut self, now: u64) -> LeaderTick
         ensures tick { result ≡ leader_tick self.old now }
         ensures now { self.new ≡ after_leader self.old (LeaderTicked now) }
-        ensures calls { (calls : LeaderCalls) → StandsForLeader self.old calls → StandsForLeader self.new (LeaderThen calls (LeaderTicked now)) }
+        ensures calls { (calls : LeaderCalls) → StandsForLeader self.old calls
+            → StandsForLeader self.new (LeaderThen calls (LeaderTicked now)) }
     {
         let check = self.check;
         self.check = checking::ticked_at(check, now);

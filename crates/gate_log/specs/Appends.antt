@@ -22,7 +22,8 @@ pub record Answers {D T : Type 0} (disks : Ghosts D) (old new : GateLog D disks)
   pub refused : IsErr result → (IsErrOf result Disk → ⊥) → new ≡ old
 
 -- A body is added to those in use. A crash at any moment of the call leaves them, with the new one or without.
-pub record Appends {D T : Type 0} (disks : Ghosts D) (body : List ℕ) (old new : GateLog D disks) (result : Result T AppendError) : Type 0 where
+pub record Appends {D T : Type 0} (disks : Ghosts D) (body : List ℕ) (old new : GateLog D disks)
+    (result : Result T AppendError) : Type 0 where
   pub answers : Answers disks old new result
   pub ok : disks.told → OnOk result (standing_in (disks.seen new.disk) ≡ appended (standing_in (disks.seen old.disk)) body)
   pub any_moment : disks.told → old.stopped ≡ false

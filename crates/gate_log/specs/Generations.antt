@@ -115,7 +115,8 @@ abbrev pub standing_in : Files → Generations
 standing_in files = result_unwrap_or (generations_of files) no_generations
 
 -- The files are laid out, each up to its gate, all of it on the disk.
-pub record IsSettledAs (g : Generations) (files : Files) (outcomes : Files → Type 0) (side : Side) (gate other_gate epoch : ℕ) : Type 0 where
+pub record IsSettledAs (g : Generations) (files : Files) (outcomes : Files → Type 0) (side : Side)
+    (gate other_gate epoch : ℕ) : Type 0 where
   pub here : IsLaid (on side g.bodies) (on side files) gate
   pub there : IsLaid (on (other side) g.bodies) (on (other side) files) other_gate
   pub ordered : disorder side (on side g.bodies) ≡ None
@@ -153,7 +154,8 @@ renewed g body = record { bodies = put (other g.side) (body ∷ []) g.bodies; si
 -- the body alone in use.
 abbrev pub IsRenewed : Generations → List ℕ → Files → Type 0
 IsRenewed g body files =
-    (generations_of files ≡ Ok g) ⊎ ((generations_of files ≡ Ok (with_bodies (other g.side) [] g)) ⊎ (generations_of files ≡ Ok (renewed g body)))
+    (generations_of files ≡ Ok g)
+    ⊎ ((generations_of files ≡ Ok (with_bodies (other g.side) [] g)) ⊎ (generations_of files ≡ Ok (renewed g body)))
 
 -- a crash leaves the one list in use or the other
 abbrev pub IsEitherList : List (List ℕ) → List (List ℕ) → Files → Type 0

@@ -21,7 +21,8 @@ pub(crate) fn add_record<D: Disks>(
 ) -> Result<(), Failed>
     requires within { D.told → gate < length (on side (D.seen disk.old)) }
     requires limit { gate < 2 ^ 63 }
-    ensures added { D.told → (bodies : List (List ℕ)) → (body : List ℕ) → IsFrame body frame.now → IsLaid bodies (on side (D.seen disk.old)) gate
+    ensures added { D.told → (bodies : List (List ℕ)) → (body : List ℕ) → IsFrame body frame.now
+        → IsLaid bodies (on side (D.seen disk.old)) gate
         → OnOk result (IsLaid (bodies ++ body ∷ []) (on side (D.seen disk.new)) (gate + length frame.now)) }
     ensures elsewhere { on (other side) (D.seen disk.new) ≡ on (other side) (D.seen disk.old) }
     ensures durable { OnOk result (OnlyOn side (on side (D.seen disk.new)) (D.may_leave disk.new)) }
@@ -29,7 +30,8 @@ pub(crate) fn add_record<D: Disks>(
     ensures limit { OnOk result (gate + 1 + length frame.now ≤ most_file_bytes) }
 
     // A crash at any moment of the call leaves the bodies from before it, with the new one or without.
-    ensures any_moment { D.told → (bodies : List (List ℕ)) → (body : List ℕ) → IsFrame body frame.now → IsLaid bodies (on side (D.seen disk.old)) gate
+    ensures any_moment { D.told → (bodies : List (List ℕ)) → (body : List ℕ) → IsFrame body frame.now
+        → IsLaid bodies (on side (D.seen disk.old)) gate
         → Only (D.seen disk.old) (D.may_leave disk.old)
         → LeavesOnly D.moment D.left_since disk.old disk.new (LeavesOn side (IsBeforeOrAfter bodies body) (D.seen disk.old)) }
     ensures ran { CallsMade D.steps (append_calls side gate frame.now) disk.old disk.new (is_ok result) }

@@ -65,8 +65,10 @@ impl<D: Disks> GateLog<D> {
     /// zero come first. `NotAJournal` names the first fault of the files, `Disk` comes where a call fails, and `Memory` where
     /// there is none for a file and its bodies. Each hands the disk back.
     pub fn open(alloc: Global, disk: D) -> Result<Opened<D>, LogError<D>>
-        ensures bodies { D.told → IfOk result (λ o. generations_of (D.seen disk) ≡ Ok (generations_in o.log.side o.zero.items o.one.items)) }
-        ensures keeps { D.told → IfOk result (λ o. generations_of (D.seen o.log.disk) ≡ Ok (generations_in o.log.side o.zero.items o.one.items)) }
+        ensures bodies { D.told
+            → IfOk result (λ o. generations_of (D.seen disk) ≡ Ok (generations_in o.log.side o.zero.items o.one.items)) }
+        ensures keeps { D.told
+            → IfOk result (λ o. generations_of (D.seen o.log.disk) ≡ Ok (generations_in o.log.side o.zero.items o.one.items)) }
         ensures runs { IfOk result (λ o. o.log.stopped ≡ false) }
         ensures why { D.told → IfErr result (IsWhyOf (D.seen disk)) }
         ensures cause { IfErr result (RoseIfDisk D.faults (D.faults disk)) }
@@ -74,7 +76,8 @@ impl<D: Disks> GateLog<D> {
         ensures later_err { IfErr result (λ e. D.faults disk ≤ D.faults (handed_back e)) }
 
         // A crash at any moment leaves what stands for what it might have stood for before.
-        ensures any_moment { D.told → IfOk result (λ o. LeavesOnly D.moment D.left_since disk o.log.disk (StandsAsSome (D.may_leave disk))) }
+        ensures any_moment { D.told
+            → IfOk result (λ o. LeavesOnly D.moment D.left_since disk o.log.disk (StandsAsSome (D.may_leave disk))) }
         ensures any_moment_err { D.told → IfErr result (λ e. LeavesOnly D.moment D.left_since disk (handed_back e) (StandsAsSome (D.may_leave disk))) }
 
         // These device calls and no others.
@@ -170,7 +173,8 @@ impl<D: Disks> GateLog<D> {
     /// The same for a body given as its length in 4 bytes, the body and a closed gate. It takes no memory.
     pub fn append_framed(&mut self, frame: &[u8]) -> Result<(), AppendError>
         requires { (body : List ℕ) × (frame.now ≡ framed body) × (is_generation body ≡ false) }
-        ensures appends { (body : List ℕ) → frame.now ≡ framed body → is_generation body ≡ false → Appends D.Disks body self.old self.new result }
+        ensures appends { (body : List ℕ) → frame.now ≡ framed body → is_generation body ≡ false
+            → Appends D.Disks body self.old self.new result }
         ensures too_long { IsErrOf result AppendError.TooLong ↔ ((self.old.stopped ≡ false) × (most_body + 5 < length frame.now)) }
         ensures only { IsErrOf result AppendError.Memory → ⊥ }
     {
@@ -187,7 +191,8 @@ impl<D: Disks> GateLog<D> {
     fn keep(&mut self, frame: &[u8]) -> Result<(), AppendError>
         requires runs { self.old.stopped ≡ false }
         requires frame { (body : List ℕ) × IsFrame body frame.now × (is_generation body ≡ false) }
-        ensures appends { (body : List ℕ) → IsFrame body frame.now → is_generation body ≡ false → Appends D.Disks body self.old self.new result }
+        ensures appends { (body : List ℕ) → IsFrame body frame.now → is_generation body ≡ false
+            → Appends D.Disks body self.old self.new result }
         ensures only { IsErr result → IsErrOf result AppendError.Disk }
     {
         let Ok(()) = add_record(&mut self.disk, self.side, self.gate, frame) else {
@@ -223,7 +228,8 @@ impl<D: Disks> GateLog<D> {
 
         // These device calls and no others.
         ensures ran { CalledDisk result
-            → CallsMade D.steps (renewal_calls (other self.old.side) self.old.other_gate frame.now) self.old.disk self.new.disk (is_ok result) }
+            → CallsMade D.steps (renewal_calls (other self.old.side) self.old.other_gate frame.now) self.old.disk self.new.disk
+            (is_ok result) }
     {
         if self.stopped {
             return Err(AppendError::Stopped);

@@ -51,7 +51,8 @@ pub(crate) fn write_generation<D: Disks>(
     ensures limit { OnOk result (9 + length frame.now ≤ most_file_bytes) }
 
     // A crash at any moment of the call leaves the bodies that were there, or none, or this one alone.
-    ensures any_moment { D.told → (bodies : List (List ℕ)) → (body : List ℕ) → IsFrame body frame.now → IsLaid bodies (on side (D.seen disk.old)) gate
+    ensures any_moment { D.told → (bodies : List (List ℕ)) → (body : List ℕ) → IsFrame body frame.now
+        → IsLaid bodies (on side (D.seen disk.old)) gate
         → Only (D.seen disk.old) (D.may_leave disk.old)
         → LeavesOnly D.moment D.left_since disk.old disk.new (LeavesOn side (IsReplaced bodies body) (D.seen disk.old)) }
     ensures ran { CallsMade D.steps (renewal_calls side gate frame.now) disk.old disk.new (is_ok result) }

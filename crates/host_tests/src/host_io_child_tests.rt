@@ -1,4 +1,5 @@
-//! Real children: what they write, how they end, and that none is left.
+//! Real children: what they write, how they end, and that none is left. What is expected is what the shell writes and how it
+//! ends.
 use host_io::{Children, SystemChild};
 use std::alloc::{AllocError, Global};
 use std::fs;

@@ -1,5 +1,6 @@
 //! Links over real sockets on this machine, with peers, with clients, and with clients that mean harm: rows of what the other
-//! sides do and of what the link gives, which a world runs.
+//! sides do and of what the link gives, which a world runs. What is expected follows from the bounds of docs/limits.md and from
+//! what the other side did.
 use self::AtLink::*;
 use self::ByClient::*;
 use self::ByCrowd::*;

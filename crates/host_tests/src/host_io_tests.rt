@@ -1,4 +1,5 @@
-//! Real files and folders, as rows of what is done with them and of what they then have, and the standard output.
+//! Real files and folders, as rows of what is done with them and of what they then have, and the standard output. What is
+//! expected follows from what was done: the bytes that were written, at their places.
 use self::Row::*;
 use host_io::{FileDisks, Framing, Piece, StandardOutput, SystemHost};
 use std::alloc::{AllocError, Global};

@@ -1,4 +1,4 @@
-//! Trials over a host in memory, and each way in which one ends.
+//! Trials over a host in memory, and each way in which one ends. What is expected follows from docs/formats.md, A trial.
 use node_trial::{Trial, TrialEnd, has_won, run_trial};
 use std::alloc::{AllocError, Global};
 use std::test::Fail;

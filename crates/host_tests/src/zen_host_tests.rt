@@ -1,4 +1,4 @@
-//! A host in memory: its disk, its link and its children.
+//! A host in memory: its disk, its link and its children. What is expected follows from what the host was told to refuse.
 ghost use Rattle.std.specs.Prelude.{◌≡◌, IfOk};
 
 use self::Row::*;

@@ -1,4 +1,4 @@
-//! Sources, sinks and a link in memory.
+//! Sources, sinks and a link in memory. What is expected is what was put in, in its order.
 ghost use Rattle.std.specs.Prelude.{IfOk, IsTrue};
 ghost use Rattle.std.specs.List.{list_all};
 ghost use Rattle.zen_link.specs.Told.{has_low_conn};

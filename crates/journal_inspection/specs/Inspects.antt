@@ -30,7 +30,8 @@ module _ {D L : Type 0} (d : Disks D) (host host_now : HostView D L) where
     pub calls : host_now.calls ≡ host.calls
     pub back : host_now.disk_back ≡ host.disk_back
 
-  -- The host gave a disk, the one that it had ready where it tells, and was given it back. This is shown of it, and its journal is as safe as before.
+  -- The host gave a disk, the one that it had ready where it tells, and was given it back. This is shown of it, and its journal is as safe
+  -- as before.
   pub record Opened (s : Shown) : Type 0 where
     pub given : D
     pub is_given : (disk : D) → host.disk_ready ≡ Some disk → given ≡ disk
@@ -54,7 +55,8 @@ module _ {D L : Type 0} (d : Disks D) (host host_now : HostView D L) where
   -- a disk that stands for a record is shown, unless memory runs out, where nothing fails
   abbrev pub IsComplete : (wrote wrote_now : ℕ) → Inspection → Type 0
   IsComplete wrote wrote_now e =
-      (disk : D) → host.disk_ready ≡ Some disk → d.told → (kept : Kept) → found_of (d.seen disk) ≡ Ok kept → (Rose host.faults host_now.faults → ⊥) → (Rose wrote wrote_now → ⊥)
+      (disk : D) → host.disk_ready ≡ Some disk → d.told → (kept : Kept) → found_of (d.seen disk) ≡ Ok kept
+      → (Rose host.faults host_now.faults → ⊥) → (Rose wrote wrote_now → ⊥)
       → ((back : D) → host_now.disk_back ≡ Some back → Rose 0 (d.faults back) → ⊥) → (e ≡ end.Done) ⊎ (e ≡ end.NoMemory)
 
 -- ---- not part of the statement

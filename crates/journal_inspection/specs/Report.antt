@@ -32,7 +32,8 @@ state_lines s = codes "\nsha256=" ++ digest_text s ++ codes "\nstate=" ++ compac
 -- the seven lines, where so many bodies are in use
 abbrev pub report : Kept → ℕ → List ℕ
 report kept records =
-    codes "term=" ++ decimal kept.term ++ codes "\n" ++ accepted_lines kept.accepted ++ codes "\ncommitted=" ++ list_text kept.committed ++ codes "\nrecords=" ++ decimal records ++ state_lines kept.accepted
+    codes "term=" ++ decimal kept.term ++ codes "\n" ++ accepted_lines kept.accepted ++ codes "\ncommitted=" ++ list_text kept.committed
+    ++ codes "\nrecords=" ++ decimal records ++ state_lines kept.accepted
 
 -- ---- why the files are no journal
 

@@ -43,8 +43,8 @@ module _ {D : Type 0} (d : Disks D) (given back : D) where
   Shows shown.Disk = Rose (d.faults given) (d.faults back)
   Shows shown.Memory = Unit {0}
 
-  -- The device calls of an opening were made, and no others: as far as the files are laid out as a journal is, or to the call that failed, or as far as
-  -- there was memory. Of these calls a write comes only where a file has at most nine bytes, and makes its header.
+  -- The device calls of an opening were made, and no others: as far as the files are laid out as a journal is, or to the call that failed,
+  -- or as far as there was memory. Of these calls a write comes only where a file has at most nine bytes, and makes its header.
   abbrev pub OnlyOpens : Shown → Type 0
   OnlyOpens (shown.Report text) = CallsMade d.steps (both_opening_calls (d.seen given)) given back true
   OnlyOpens (shown.NotAJournal text) = CallsMade d.steps (calls_until (generations_of (d.seen given)) (d.seen given)) given back true

@@ -6,8 +6,8 @@ ghost use Rattle.zen_host.specs.Views.{host_view};
 ghost use Rattle.journal_inspection.specs.Inspects.{LeavesLinks, Asked, EndsWith, IsComplete, Opened, Says, EndsShown};
 
 use crate::showing::{Shown, show};
-use schedule_text::Text;
 use std::alloc::Global;
+use text::Text;
 use zen_host::{Host, HostError};
 use zen_link::{Sink, write_all};
 

@@ -5,10 +5,10 @@ ghost use Rattle.state_journal.specs.declared.why.Fault.TheVariants as faults;
 ghost use Rattle.journal_inspection.specs.Report.{digest_text, accepted_lines, state_lines, report, body_fault_text, fault_text, why_text, not_a_journal};
 
 use cluster_state::{ClusterState, Kept, encode_state, to_json};
-use schedule_text::Text;
 use sha2::{Digest, Sha256};
 use state_journal::{BodyFault, Fault, Why};
 use std::alloc::{AllocError, Global};
+use text::Text;
 use zen_disk::Side;
 
 #[tactic(auto, unfolding(crate::specs::Report::digest_text))]

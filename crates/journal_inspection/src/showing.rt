@@ -5,9 +5,9 @@ ghost use Rattle.journal_inspection.specs.Shows.{Shows, OnlyOpens, IsUnhurt, Rep
 
 use crate::report::{write_not_a_journal, write_report};
 use cluster_state::Kept;
-use schedule_text::Text;
 use state_journal::{Keeper, OpenError, StateJournal, Why};
 use std::alloc::Global;
+use text::Text;
 use zen_disk::Disks;
 
 /// What is shown of the journal on a disk.

@@ -42,24 +42,30 @@ IsSkipped verb text = IsRead text (verb ∷ []) None
 
 -- an act with its ending
 abbrev pub LawAct : Type 0
-LawAct = (n : Id) (e : Ending) (act : Act) → IsTrue (is_id n) → is_opening act ≡ false → EndsAs act e → IsReadable act → IsRead (act_line n e act) (codes "act" ∷ n ∷ ending_text e ∷ []) (Some (Acted n e act))
+LawAct = (n : Id) (e : Ending) (act : Act) → IsTrue (is_id n) → is_opening act ≡ false → EndsAs act e → IsReadable act
+    → IsRead (act_line n e act) (codes "act" ∷ n ∷ ending_text e ∷ []) (Some (Acted n e act))
 
 -- a record, as far as its line shows it
 abbrev pub recorded : Id → Kept → Entry
-recorded n found = Recorded n (shown_record found.term (record { term = found.accepted.term; version = found.accepted.version }) found.accepted.config found.committed)
+recorded n found = Recorded n
+    (shown_record found.term (record { term = found.accepted.term; version = found.accepted.version }) found.accepted.config
+    found.committed)
 
 abbrev pub LawRecord : Type 0
-LawRecord = (n : Id) (found : Kept) → IsTrue (is_id n) → IsReadableRecord found → IsRead (record_line n found.term found.accepted found.committed) (codes "record" ∷ []) (Some (recorded n found))
+LawRecord = (n : Id) (found : Kept) → IsTrue (is_id n) → IsReadableRecord found
+    → IsRead (record_line n found.term found.accepted found.committed) (codes "record" ∷ []) (Some (recorded n found))
 
 -- the echo of a line of a schedule
 abbrev pub LawEcho : Type 0
-LawEcho = (level : Level) (nodes : List Id) (l : Line) → IsIdSet nodes → FitsLine level nodes l → IsSkipped (codes ">") (codes "> " ++ line_text l ++ codes "\n")
+LawEcho = (level : Level) (nodes : List Id) (l : Line) → IsIdSet nodes → FitsLine level nodes l
+    → IsSkipped (codes ">") (codes "> " ++ line_text l ++ codes "\n")
 
 -- an election that was won, a state that is committed, a message
 pub record LawShown : Type 0 where
   pub won : (n : Id) (term : ℕ) → IsTrue (is_id n) → IsSkipped (codes "won") (won_text true n term)
   pub committed : (state : ClusterState) → IsSkipped (codes "committed") (committed_text (Some state))
-  pub sent : (number : ℕ) (message : Message) → IsSmall number → FitsMessage message → IsSkipped (codes "m" ++ decimal number) (message_line number message)
+  pub sent : (number : ℕ) (message : Message) → IsSmall number → FitsMessage message
+      → IsSkipped (codes "m" ++ decimal number) (message_line number message)
 
 -- a node that is down, that is up, that stops, or whose disk fails; a message that was not sent, or is for another node
 pub record LawNode : Type 0 where
@@ -73,15 +79,19 @@ pub record LawNode : Type 0 where
 -- what a whole node shows beside its acts
 pub record LawEvent : Type 0 where
   pub mode : (n : Id) (mode : Mode) (term : ℕ) → IsTrue (is_id n) → FitsMode mode → IsSkipped (codes "mode") (mode_line n mode term)
-  pub drop : (n : Id) (dropped : MemberDrop) → IsTrue (is_id n) → IsTrue (is_id dropped.member) → IsSkipped (codes "drop") (drop_line n dropped)
-  pub frame : (number : ℕ) (frame : Frame) → IsSmall number → FitsFrame frame → IsSkipped (codes "m" ++ decimal number) (frame_line number frame)
+  pub drop : (n : Id) (dropped : MemberDrop) → IsTrue (is_id n) → IsTrue (is_id dropped.member)
+      → IsSkipped (codes "drop") (drop_line n dropped)
+  pub frame : (number : ℕ) (frame : Frame) → IsSmall number → FitsFrame frame
+      → IsSkipped (codes "m" ++ decimal number) (frame_line number frame)
   pub reply : (n : Id) (answer : Outgoing) → IsTrue (is_id n) → IsSkipped (codes "reply") (reply_line n answer)
 
 -- Lines one after another, which show these entries.
 pub data Shows : List ℕ → List Entry → Type 0 where
   Nothing : Shows [] []
-  Skip : (line more : List ℕ) (entries : List Entry) → IsTrue (is_one_line line) → told_at line ≡ Ok None → Shows more entries → Shows (line ++ 10 ∷ more) entries
-  Show : (line more : List ℕ) (entry : Entry) (entries : List Entry) → IsTrue (is_one_line line) → told_at line ≡ Ok (Some entry) → Shows more entries → Shows (line ++ 10 ∷ more) (entry ∷ entries)
+  Skip : (line more : List ℕ) (entries : List Entry) → IsTrue (is_one_line line) → told_at line ≡ Ok None → Shows more entries
+      → Shows (line ++ 10 ∷ more) entries
+  Show : (line more : List ℕ) (entry : Entry) (entries : List Entry) → IsTrue (is_one_line line) → told_at line ≡ Ok (Some entry)
+      → Shows more entries → Shows (line ++ 10 ∷ more) (entry ∷ entries)
 
 -- the first line of a recorded trace
 abbrev pub header : List Id → List ℕ
@@ -96,4 +106,5 @@ pub record Records (bytes : List ℕ) (initial : List Id) (entries : List Entry)
 
 -- such lines after a first line are a recorded trace, unless they are too long
 abbrev pub LawTrace : Type 0
-LawTrace = (initial : List Id) (bytes : List ℕ) (entries : List Entry) → IsIdSet initial → initial ≢ [] → Shows bytes entries → length (header initial ++ bytes) ≤ most_bytes → Records (header initial ++ bytes) initial entries
+LawTrace = (initial : List Id) (bytes : List ℕ) (entries : List Entry) → IsIdSet initial → initial ≢ [] → Shows bytes entries
+    → length (header initial ++ bytes) ≤ most_bytes → Records (header initial ++ bytes) initial entries

@@ -1,5 +1,5 @@
--- For the contracts inside: which acts and records a line shows as they are: their ids are ids, their lists sets, their numbers of 64 bits, and their values
--- within the limits of a value.
+-- For the contracts inside: which acts and records a line shows as they are: their ids are ids, their lists sets, their numbers of 64 bits,
+-- and their values within the limits of a value.
 use Rattle.std.specs.Prelude.{◌≡◌, List, IsTrue}
 use Rattle.voting_config.specs.Ids.{Id, is_id, most_ids}
 use Rattle.cluster_state.specs.Fields.{ids}

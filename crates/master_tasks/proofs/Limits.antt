@@ -1,5 +1,5 @@
 -- A value within the limits stays so, if no request is to put a bad setting.
-use Rattle.std.proofs.Common.{◌≡◌, ℕ, zero, suc, ◌+◌, ◌<◌, ◌≤◌, ◌⊎◌, inl, inr, Bool, true, false, not, ◌&&◌, cond, Option, None, Some, Result, Ok, Err, List, [], ◌∷◌, ◌++◌, length, filter, fold, find, slice_get, refl, subst, nat_le, nat_lt, arith}
+use Rattle.std.proofs.Common.{◌≡◌, ℕ, zero, suc, ◌+◌, ◌<◌, ◌≤◌, ◌⊎◌, inl, inr, Bool, true, false, not, ◌&&◌, cond, Option, None, Some, Result, Ok, Err, List, [], ◌∷◌, ◌++◌, length, filter, fold, slice_get, refl, subst, nat_le, nat_lt, arith}
 use Rattle.std.specs.Prelude.{if◌then◌else◌}
 use Rattle.std.specs.List.{AllByRecursion}
 use Rattle.std.proofs.lemmas.Bool.Decides.{nat_tests}
@@ -7,7 +7,7 @@ use Rattle.voting_config.specs.Ids.{Id, ascends, has, union_count_of, union}
 use Rattle.exclusions.specs.declared.AddError.{AddError}
 use Rattle.exclusions.specs.declared.AddError.TheVariants.{TooMany}
 use Rattle.exclusions.specs.declared.StillMember.{StillMember}
-use Rattle.exclusions.specs.Exclusions.{most_exclusions, added_of, cleared_of, together, unless_missing}
+use Rattle.exclusions.specs.Exclusions.{most_exclusions, added_of, cleared_of}
 use Rattle.voting_config.proofs.Sets.{length-union}
 use Rattle.cluster_state.specs.declared.state.ClusterState.{ClusterState}
 use Rattle.cluster_state.specs.declared.state.ClusterValue.{ClusterValue}
@@ -27,7 +27,7 @@ use Rattle.master_tasks.specs.declared.waiting.Waiting.{Waiting}
 use Rattle.master_tasks.specs.Queue.{Tasks, offered}
 use Rattle.master_tasks.specs.Answering.{left_by}
 use Rattle.master_tasks.specs.Processing.{Processing, AnsweredAtOnce, Makes, Processed, and_then, before_all, clearing, excluding, processing, processing_once, putting, value_after, with_next}
-use Rattle.master_tasks.specs.NextState.{Leader, is_nothing_new, next_value, processed_by, tasks_after, unacked, value_before}
+use Rattle.master_tasks.specs.NextState.{Leader, is_nothing_new, next_value, processed_by, tasks_after, waiting_after, unacked, value_before}
 use Rattle.master_tasks.specs.Fitting.{HaveGoodSettings}
 
 -- within the limits, with keys that ascend
@@ -88,8 +88,8 @@ fits_remove v key f = record {
 }
 
 -- nodes are excluded
-few_together : (excluded asked ids : List Id) → together excluded asked ≡ Ok ids → length ids ≤ most_exclusions
-few_together excluded asked ids =
+few_added : (excluded asked ids : List Id) → added_of excluded asked ≡ Ok ids → length ids ≤ most_exclusions
+few_added excluded asked ids =
     elim (nat_lt most_exclusions (union_count_of asked excluded)) as (λ b. nat_lt most_exclusions (union_count_of asked excluded) ≡ b → (if b then Err (TooMany (union_count_of asked excluded)) else Ok (union excluded asked)) ≡ Ok ids → length ids ≤ most_exclusions) [
       | true ↦ λ many h. absurd cc
       | false ↦ λ few h. within few (let same : union excluded asked ≡ ids = cc in same)
@@ -97,10 +97,6 @@ few_together excluded asked ids =
   where
     within : nat_lt most_exclusions (union_count_of asked excluded) ≡ false → union excluded asked ≡ ids → length ids ≤ most_exclusions
     within few same = rw (← same) (let all = length-union excluded asked in grind (arith, nat_tests, all))
-
-few_added : (missing : Option Id) (r : Result (List Id) AddError) (ids : List Id) → ((k : List Id) → r ≡ Ok k → length k ≤ most_exclusions) → unless_missing missing r ≡ Ok ids → length ids ≤ most_exclusions
-few_added None r ids few h = few ids h
-few_added (Some id) r ids few h = absurd cc
 
 fits_exclude : (v : ClusterValue) (r : Result (List Id) AddError) → Fits v → ((k : List Id) → r ≡ Ok k → length k ≤ most_exclusions) → Fits (value_after v (excluding v r))
 fits_exclude v (Ok ids) f few = record { fit = record { exclusions = few ids refl; settings = f.fit.settings }; ascending = f.ascending }
@@ -113,8 +109,7 @@ fits_clear v (Err e) f = f
 fits_ask : (accepted : ClusterState) (v : ClusterValue) (a : Ask) → Fits v → bad_setting_of a ≡ None → Fits (value_after v (processing accepted v a))
 fits_ask accepted v (ask.Put key text) f good = fits_put v (key, text) f (IsFitSetting-bad_length key text good)
 fits_ask accepted v (ask.Remove key) f good = fits_remove v key f
-fits_ask accepted v (ask.Exclude ids) f good =
-    fits_exclude v (added_of v.exclusions v.members ids) f (λ k h. few_added (find (λ id. not (has id v.members)) ids) (together v.exclusions ids) k (few_together v.exclusions ids) h)
+fits_ask accepted v (ask.Exclude ids) f good = fits_exclude v (added_of v.exclusions ids) f (few_added v.exclusions ids)
 fits_ask accepted v (ask.Clear wait) f good = fits_clear v (cleared_of v.exclusions v.members wait) f
 fits_ask accepted v ask.State f good = f
 
@@ -159,14 +154,18 @@ pub good_all : (accepted : ClusterState) (p : Processed) (ws : List Waiting) →
 good_all accepted p [] h good = h
 good_all accepted p (w ∷ ws) h good = good_all accepted (with_next accepted p w) ws (good_then p w (processing_once accepted p.value w) h good.0) good.1
 
-pub good_after : (l : Leader) (t : Tasks) → HaveGoodSettings t.waiting → HaveGoodSettings (tasks_after l t).waiting
-unfolding tasks_after processed_by
-good_after l t good =
+pub good_waiting : (l : Leader) (t : Tasks) → HaveGoodSettings t.waiting → HaveGoodSettings (waiting_after l t)
+unfolding processed_by
+good_waiting l t good =
     let all = good_all l.accepted (before_all (value_before l.me t l.accepted.value)) t.waiting tt good in
     elim (is_nothing_new l t) as (λ b. HaveGoodSettings (if b then unacked l (processed_by l t).waiting else (processed_by l t).waiting)) [
       | true ↦ each_filter _ _ (processed_by l t).waiting all
       | false ↦ all
     ]
+
+pub good_after : (l : Leader) (t : Tasks) → HaveGoodSettings t.waiting → HaveGoodSettings (tasks_after l t).waiting
+unfolding tasks_after
+good_after l t good = good_waiting l t good
 
 -- so have those who wait on when others are answered, and those who wait when one more comes
 pub good_left : (decide : Waiting → Option Answer) (ws : List Waiting) → HaveGoodSettings ws → HaveGoodSettings (left_by decide ws)

@@ -11,7 +11,7 @@ use Rattle.master_tasks.specs.declared.next.Next.TheVariants.{Same, New}
 use Rattle.master_tasks.specs.Replying.{Replies, room_for, with_sent}
 use Rattle.master_tasks.specs.Queue.{Tasks}
 use Rattle.master_tasks.specs.Processing.{Processed, processed_all}
-use Rattle.master_tasks.specs.NextState.{Leader, value_before, processed_by, next_value, config_for, next_config, is_accepted, is_nothing_new, acks, unacked, next_answers, tasks_after, next_replies, next_of}
+use Rattle.master_tasks.specs.NextState.{Leader, value_before, processed_by, next_value, config_for, next_config, is_accepted, is_nothing_new, acks, unacked, next_answers, waiting_after, next_replies, next_of}
 
 -- what was made
 pub record Made (l : Leader) (t : Tasks) (value : ClusterValue) (waiting : List Waiting) (replies : Replies) (config : List Id) : Type 0 where
@@ -43,9 +43,6 @@ unfolding is_nothing_new
 nothing_new_is l t value waiting replies config b m is =
     sym (is ∙ ap (λ (c : List Id). is_accepted l.term l.accepted c value) m.config_is ∙ ap (is_accepted l.term l.accepted (next_config l t)) m.value_is)
 
-abbrev pub the_tasks : List Waiting → List Id → List Id → Tasks
-the_tasks waiting removals additions = record { waiting = waiting; removals = removals; additions = additions }
-
 abbrev the_replies : List Outgoing → ℕ → Replies
 the_replies sent room = record { sent = sent; room = room }
 
@@ -59,9 +56,9 @@ sent_twice out xs ys =
     replies_same : (a b : List Outgoing) (m n : ℕ) → a ≡ b → m ≡ n → the_replies a m ≡ the_replies b n
     replies_same a b m n e f = cc
 
--- what is left, the replies and the outcome, by whether nothing is new
-abbrev tasks_if : Leader → List Waiting → Bool → Tasks
-tasks_if l waiting b = record { waiting = (if b then unacked l waiting else waiting); removals = []; additions = [] }
+-- who waits on, the replies and the outcome, by whether nothing is new
+abbrev waiting_if : Leader → List Waiting → Bool → List Waiting
+waiting_if l waiting b = if b then unacked l waiting else waiting
 
 abbrev replies_if : Leader → Tasks → Processed → Bool → Replies
 replies_if l t p b = with_sent (room_for (length t.waiting)) (p.answers ++ (if b then acks l p.waiting else []))
@@ -69,19 +66,18 @@ replies_if l t p b = with_sent (room_for (length t.waiting)) (p.answers ++ (if b
 abbrev next_if : Leader → Tasks → Bool → Next
 next_if l t b = if b then Same (replies_if l t (processed_by l t) b) else New (next_config l t) (next_value l t) (replies_if l t (processed_by l t) b)
 
-tasks_are : (l : Leader) (t : Tasks) (b : Bool) → is_nothing_new l t ≡ b → tasks_after l t ≡ tasks_if l (processed_by l t).waiting b
-unfolding tasks_after
-tasks_are l t b h = ap (tasks_if l (processed_by l t).waiting) h
+waiting_are : (l : Leader) (t : Tasks) (b : Bool) → is_nothing_new l t ≡ b → waiting_after l t ≡ waiting_if l (processed_by l t).waiting b
+waiting_are l t b h = ap (waiting_if l (processed_by l t).waiting) h
 
 next_is : (l : Leader) (t : Tasks) (b : Bool) → is_nothing_new l t ≡ b → next_of l t ≡ next_if l t b
 unfolding next_of next_replies next_answers
 next_is l t b h = ap (next_if l t) h
 
 -- there is a new state
-pub tasks_new : (l : Leader) (t : Tasks) (value : ClusterValue) (waiting : List Waiting) (replies : Replies) (config : List Id) → Made l t value waiting replies config → false ≡ is_accepted l.term l.accepted config value
-    → tasks_if l waiting false ≡ tasks_after l t
-tasks_new l t value waiting replies config m is =
-    ap (λ (ws : List Waiting). tasks_if l ws false) m.waiting_is ∙ sym (tasks_are l t false (nothing_new_is l t value waiting replies config false m is))
+pub waiting_new : (l : Leader) (t : Tasks) (value : ClusterValue) (waiting : List Waiting) (replies : Replies) (config : List Id) → Made l t value waiting replies config → false ≡ is_accepted l.term l.accepted config value
+    → waiting ≡ waiting_after l t
+waiting_new l t value waiting replies config m is =
+    m.waiting_is ∙ sym (waiting_are l t false (nothing_new_is l t value waiting replies config false m is))
 
 pub next_new : (l : Leader) (t : Tasks) (value : ClusterValue) (waiting : List Waiting) (replies : Replies) (config : List Id) → Made l t value waiting replies config → false ≡ is_accepted l.term l.accepted config value
     → New config value replies ≡ next_of l t
@@ -92,10 +88,10 @@ next_new l t value waiting replies config m is =
     ∙ sym (next_is l t false (nothing_new_is l t value waiting replies config false m is))
 
 -- nothing is new
-pub tasks_same : (l : Leader) (t : Tasks) (value : ClusterValue) (waiting : List Waiting) (replies : Replies) (config : List Id) → Made l t value waiting replies config → true ≡ is_accepted l.term l.accepted config value
-    → tasks_if l waiting true ≡ tasks_after l t
-tasks_same l t value waiting replies config m is =
-    ap (λ (ws : List Waiting). tasks_if l ws true) m.waiting_is ∙ sym (tasks_are l t true (nothing_new_is l t value waiting replies config true m is))
+pub waiting_same : (l : Leader) (t : Tasks) (value : ClusterValue) (waiting : List Waiting) (replies : Replies) (config : List Id) → Made l t value waiting replies config → true ≡ is_accepted l.term l.accepted config value
+    → unacked l waiting ≡ waiting_after l t
+waiting_same l t value waiting replies config m is =
+    ap (λ (ws : List Waiting). unacked l ws) m.waiting_is ∙ sym (waiting_are l t true (nothing_new_is l t value waiting replies config true m is))
 
 pub next_same : (l : Leader) (t : Tasks) (value : ClusterValue) (waiting : List Waiting) (replies : Replies) (config : List Id) → Made l t value waiting replies config → true ≡ is_accepted l.term l.accepted config value
     → Same (with_sent replies (acks l waiting)) ≡ next_of l t
@@ -105,7 +101,3 @@ next_same l t value waiting replies config m is =
     ∙ ap (λ (ws : List Waiting). with_sent (with_sent (room_for (length t.waiting)) (processed_by l t).answers) (acks l ws)) m.waiting_is
     ∙ sent_twice (room_for (length t.waiting)) (processed_by l t).answers (acks l (processed_by l t).waiting))
     ∙ sym (next_is l t true (nothing_new_is l t value waiting replies config true m is))
-
--- nobody is to go or to come
-pub emptied : (waiting : List Waiting) (removals additions : List Id) → removals ≡ [] → additions ≡ [] → the_tasks waiting removals additions ≡ the_tasks waiting [] []
-emptied waiting removals additions none nobody = cc

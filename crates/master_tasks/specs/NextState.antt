@@ -11,7 +11,7 @@ use Rattle.master_tasks.specs.declared.waiting.Outgoing.{Outgoing}
 use Rattle.master_tasks.specs.declared.next.Next.{Next}
 use Rattle.master_tasks.specs.declared.next.Next.TheVariants.{Same, New}
 use Rattle.master_tasks.specs.Replying.{Replies, room_for, with_sent}
-use Rattle.master_tasks.specs.Queue.{Tasks}
+use Rattle.master_tasks.specs.Queue.{Tasks, only}
 use Rattle.master_tasks.specs.Answering.{answers_by, left_by, nothing_new}
 use Rattle.master_tasks.specs.Members.{members_after}
 use Rattle.master_tasks.specs.Processing.{Processed, processed_all}
@@ -75,14 +75,13 @@ unfoldable pub next_answers : Leader → Tasks → List Outgoing
 next_answers l t =
     (processed_by l t).answers ++ (if is_nothing_new l t then acks l (processed_by l t).waiting else [])
 
+-- who waits on
+abbrev pub waiting_after : Leader → Tasks → List Waiting
+waiting_after l t = if is_nothing_new l t then unacked l (processed_by l t).waiting else (processed_by l t).waiting
+
 -- what is left to do; nobody is to come or to go any more
 unfoldable pub tasks_after : Leader → Tasks → Tasks
-tasks_after l t =
-    record {
-      waiting = (if is_nothing_new l t then unacked l (processed_by l t).waiting else (processed_by l t).waiting);
-      removals = [];
-      additions = [];
-    }
+tasks_after l t = only (waiting_after l t)
 
 -- the replies, in room for as many as there were requests
 unfoldable pub next_replies : Leader → Tasks → Replies

@@ -6,7 +6,7 @@ use Rattle.cluster_state.specs.declared.state.ClusterValue.{ClusterValue}
 use Rattle.cluster_state.specs.Fields.{most_settings}
 use Rattle.cluster_state.specs.Settings.{Setting, put_setting, without_key}
 use Rattle.exclusions.specs.declared.AddError.{AddError}
-use Rattle.exclusions.specs.declared.AddError.TheVariants.{NotMember, TooMany}
+use Rattle.exclusions.specs.declared.AddError.TheVariants.{TooMany}
 use Rattle.exclusions.specs.declared.StillMember.{StillMember}
 use Rattle.exclusions.specs.Exclusions.{added_of, cleared_of}
 use Rattle.cluster_state.specs.declared.request.Ask.{Ask}
@@ -29,7 +29,6 @@ putting value s =
     else Makes (record value { settings = put_setting s value.settings })
 
 abbrev pub refused : AddError → Answer
-refused (NotMember id) = answer.NotMember id
 refused (TooMany count) = answer.TooManyExclusions count
 
 abbrev pub excluding : ClusterValue → Result (List Id) AddError → Processing
@@ -44,7 +43,7 @@ clearing value (Err still) = AnsweredAtOnce (answer.StillMember still.0)
 abbrev pub processing : ClusterState → ClusterValue → Ask → Processing
 processing accepted value (ask.Put key text) = putting value (key, text)
 processing accepted value (ask.Remove key) = Makes (record value { settings = without_key key value.settings })
-processing accepted value (ask.Exclude ids) = excluding value (added_of value.exclusions value.members ids)
+processing accepted value (ask.Exclude ids) = excluding value (added_of value.exclusions ids)
 processing accepted value (ask.Clear wait) = clearing value (cleared_of value.exclusions value.members wait)
 processing accepted value ask.State = AnsweredAtOnce (answer.State accepted)
 

@@ -10,8 +10,12 @@ pub record Tasks : Type 0 where
   pub removals : List Id
   pub additions : List Id
 
+-- only these requests wait, and nobody is to come or to go
+abbrev pub only : List Waiting → Tasks
+only waiting = record { waiting = waiting; removals = []; additions = [] }
+
 abbrev pub no_tasks : Tasks
-no_tasks = record { waiting = []; removals = []; additions = [] }
+no_tasks = only []
 
 -- how many requests wait at most
 abbrev pub most_open : ℕ

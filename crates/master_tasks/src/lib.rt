@@ -16,7 +16,7 @@ pub use laws::{
     law_answered_or_left, law_left_are_good, law_next_answered_or_left, law_nothing_new,
     law_offered_are_good,
 };
-pub use next::Next;
+pub use next::{Next, Prepared};
 pub use replies::Replies;
 pub use tasks::{MAX_OPEN, MasterTasks, OfferError};
 pub use waiting::{Outgoing, Waiting};

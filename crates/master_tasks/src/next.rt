@@ -1,5 +1,6 @@
 //! What comes of a leader's tasks: nothing, or a next state.
 use crate::replies::Replies;
+use crate::waiting::Waiting;
 use cluster_state::ClusterValue;
 use voting_config::VotingConfig;
 
@@ -14,4 +15,11 @@ pub enum Next {
         value: ClusterValue,
         replies: Replies,
     },
+}
+
+/// What comes of a leader's tasks, and the requests that wait on after it.
+#[derive(Drop)]
+pub struct Prepared {
+    pub next: Next,
+    pub waiting: Vec<Waiting>,
 }

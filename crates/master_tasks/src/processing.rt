@@ -59,10 +59,10 @@ fn put(value: &mut ClusterValue, key: &Text, text: &Text) -> Result<Option<Answe
     Ok(None)
 }
 
-// Members are excluded.
+// Nodes are excluded.
 fn exclude(value: &mut ClusterValue, ids: &NodeSet) -> Option<Answer>
-    ensures value { value.new ≡ value_after value.old (excluding value.old (added_of value.old.exclusions value.old.members ids.now)) }
-    ensures answer { result ≡ answer_after (excluding value.old (added_of value.old.exclusions value.old.members ids.now)) }
+    ensures value { value.new ≡ value_after value.old (excluding value.old (added_of value.old.exclusions ids.now)) }
+    ensures answer { result ≡ answer_after (excluding value.old (added_of value.old.exclusions ids.now)) }
 {
     match exclusions::add(&value.exclusions, &value.members, ids) {
         Ok(together) => {
@@ -77,7 +77,6 @@ fn refused(error: &AddError) -> Answer
     ensures { result ≡ refused_of error.now }
 {
     match error {
-        AddError::NotMember(id) => Answer::NotMember(*id),
         AddError::TooMany(count) => Answer::TooManyExclusions(*count as u64),
     }
 }

@@ -1,7 +1,7 @@
 //! `MasterTasks`: the requests that are not answered yet, the members that are to come and to go, and the next state that is made of them.
 ghost use Rattle.std.specs.Prelude.{◌≡◌, ◌↔◌, ◌<◌, ◌≤◌, length, slice_get, Some, Err, IsTrue, IfOk, IfErr, OnOk, OnErr};
 ghost use Rattle.master_tasks.specs.declared.tasks.OfferError.TheVariants as offer_error;
-ghost use Rattle.master_tasks.specs.Answering.{answers_by, committed_in, exclusion_done, failed, timed_out, without_answered};
+ghost use Rattle.master_tasks.specs.Answering.{answers_by, committed_in, exclusion_done, failed, left_by, timed_out, without_answered};
 ghost use Rattle.master_tasks.specs.Deciding.{decided};
 ghost use Rattle.cluster_state.specs.States.{IsFitValue};
 ghost use Rattle.master_tasks.specs.Fitting.{HaveGoodSettings, IsFitNext};
@@ -11,15 +11,16 @@ ghost use Rattle.master_tasks.specs.NextState.{
   is_accepted as is_accepted_of,
   leader_of,
   next_of,
-  tasks_after,
   value_before as value_before_of,
+  tasks_after,
+  waiting_after,
 };
 ghost use Rattle.master_tasks.specs.Processing.{processed_all};
 ghost use Rattle.master_tasks.specs.Replying.{room_for, with_sent};
 
 use crate::answering::Decision;
 use crate::members::join;
-use crate::next::Next;
+use crate::next::{Next, Prepared};
 use crate::processing::process_once;
 use crate::replies::Replies;
 use crate::waiting::Waiting;
@@ -63,10 +64,9 @@ pub enum OfferError {
     Memory(Request),
 }
 
-// Requests that were processed, and the value after them.
+// Requests that were processed: those that wait on, and the replies to the others.
 #[derive(Drop)]
 struct Processed {
-    value: ClusterValue,
     waiting: Vec<Waiting>,
     replies: Replies,
 }
@@ -77,6 +77,7 @@ impl MasterTasks {
       is_full_of,
       no_tasks,
       offered,
+      only,
       settled,
       to_be_added,
       to_be_removed,
@@ -100,6 +101,16 @@ impl MasterTasks {
         ensures { self.new ≡ no_tasks }
     {
         self.waiting.clear();
+        self.removals = NodeSet::new();
+        self.additions = NodeSet::new();
+    }
+
+    /// Only these requests wait, and nobody is to come or to go.
+    pub fn leave_only(&mut self, waiting: Vec<Waiting>)
+        requires { length waiting.items ≤ MAX_OPEN }
+        ensures { self.new ≡ only waiting.items }
+    {
+        self.waiting = waiting;
         self.removals = NodeSet::new();
         self.additions = NodeSet::new();
     }
@@ -191,7 +202,7 @@ impl MasterTasks {
         ensures left { self.new ≡ without_answered (failed term) self.old }
         ensures sent { out.new ≡ with_sent out.old (answers_by (failed term) self.old.waiting) }
     {
-        self.answer_by(&Decision::Failed(term), out);
+        self.answer(&Decision::Failed(term), out);
     }
 
     /// The state of this id is committed: the requests that were processed are acknowledged, but for exclusions.
@@ -200,7 +211,7 @@ impl MasterTasks {
         ensures left { self.new ≡ without_answered (committed_in id) self.old }
         ensures sent { out.new ≡ with_sent out.old (answers_by (committed_in id) self.old.waiting) }
     {
-        self.answer_by(&Decision::Committed(id), out);
+        self.answer(&Decision::Committed(id), out);
     }
 
     /// The node has applied the state of this id, which has committed this configuration: the exclusions that were
@@ -210,7 +221,7 @@ impl MasterTasks {
         ensures left { self.new ≡ without_answered (exclusion_done committed.now id) self.old }
         ensures sent { out.new ≡ with_sent out.old (answers_by (exclusion_done committed.now id) self.old.waiting) }
     {
-        self.answer_by(&Decision::Applied(committed, id), out);
+        self.answer(&Decision::Applied(committed, id), out);
     }
 
     /// It is this late, in ms: the exclusions that have waited 30,000 ms or more are answered with those of their ids
@@ -220,52 +231,40 @@ impl MasterTasks {
         ensures left { self.new ≡ without_answered (timed_out committed.now now) self.old }
         ensures sent { out.new ≡ with_sent out.old (answers_by (timed_out committed.now now) self.old.waiting) }
     {
-        self.answer_by(&Decision::Late(committed, now), out);
+        self.answer(&Decision::Late(committed, now), out);
     }
 
     // Answers the requests that get an answer.
-    fn answer_by(&mut self, decision: &Decision, out: &mut Replies)
+    fn answer(&mut self, decision: &Decision, out: &mut Replies)
         requires { length self.old.waiting ≤ out.old.room }
         ensures left { self.new ≡ without_answered (decided decision.now) self.old }
         ensures sent { out.new ≡ with_sent out.old (answers_by (decided decision.now) self.old.waiting) }
     {
-        let mut place = 0;
-        while place < self.waiting.len() {
-            match decision.answer(&self.waiting[place]) {
-                Some(answer) => {
-                    let w = self.waiting.remove(place);
-                    out.push(w.answer(answer));
-                }
-                None => place += 1,
-            }
-        }
+        answer_by(&mut self.waiting, decision, out);
     }
 
-    // Processes the requests from the first on, each on the value so far.
+    // Processes the requests from the first on, each on the value so far. Where there is no memory, the value may be
+    // anything.
     fn process(
         &self,
         accepted: &SharedState,
-        mut value: ClusterValue,
+        value: &mut ClusterValue,
     ) -> Result<Processed, AllocError>
-        ensures value { IfOk result (λ p. p.value ≡ (processed_all accepted.now value self.now.waiting).value) }
-        ensures waiting { IfOk result (λ p. p.waiting.items ≡ (processed_all accepted.now value self.now.waiting).waiting) }
-        ensures replies { IfOk result (λ p. p.replies ≡ with_sent (room_for (length self.now.waiting)) (processed_all accepted.now value self.now.waiting).answers) }
+        ensures value { OnOk result (value.new ≡ (processed_all accepted.now value.old self.now.waiting).value) }
+        ensures waiting { IfOk result (λ p. p.waiting.items ≡ (processed_all accepted.now value.old self.now.waiting).waiting) }
+        ensures replies { IfOk result (λ p. p.replies ≡ with_sent (room_for (length self.now.waiting)) (processed_all accepted.now value.old self.now.waiting).answers) }
         ensures fits { IfOk result (λ p. length p.waiting.items ≤ p.replies.room) }
-        ensures few { IfOk result (λ p. length p.waiting.items ≤ length self.now.waiting) }
+        ensures few { IfOk result (λ p. length p.waiting.items ≤ MAX_OPEN) }
     {
         let mut waiting = Vec::new(self.alloc);
         let mut replies = Replies::with_room(self.alloc, self.waiting.len())?;
         for w in &self.waiting {
-            match process_once(accepted, &mut value, w)? {
+            match process_once(accepted, value, w)? {
                 Some(answer) => replies.push(w.answer(answer)),
                 None => waiting.push(w.processed()?)?,
             }
         }
-        Ok(Processed {
-            value,
-            waiting,
-            replies,
-        })
+        Ok(Processed { waiting, replies })
     }
 
     /// What comes of the tasks, made by a leader in its `term` of its accepted state, the committed configuration and
@@ -273,7 +272,55 @@ impl MasterTasks {
     /// members that are to go leave it, but never the node itself; members that are to come join it as far as there
     /// is room, the node itself first; and the requests that were not processed yet are processed from the first on, each
     /// on the value so far. Where that is the accepted value and configuration, in the current term, it is `Same`, and
-    /// what waits is acknowledged. At an error nothing changed.
+    /// what waits is acknowledged. The tasks stay as they are: [`MasterTasks::leave_only`] takes over who waits on.
+    pub fn prepare(
+        &self,
+        me: NodeId,
+        term: u64,
+        accepted: &SharedState,
+        committed: &VotingConfig,
+        votes: &NodeSet,
+        shrink: bool,
+    ) -> Result<Prepared, AllocError>
+        ensures waiting { IfOk result (λ p. p.waiting.items ≡ waiting_after (leader_of me term accepted.now committed.now votes.now shrink) self.now) }
+        ensures next { IfOk result (λ p. p.next ≡ next_of (leader_of me term accepted.now committed.now votes.now shrink) self.now) }
+        ensures few { IfOk result (λ p. length p.waiting.items ≤ MAX_OPEN) }
+        // What is published is within the limits, if the accepted value is and no request is to put a bad setting.
+        ensures fits { IsFitValue accepted.now.value → HaveGoodSettings self.now.waiting → IfOk result (λ p. IsFitNext p.next) }
+        ensures good { HaveGoodSettings self.now.waiting → IfOk result (λ p. HaveGoodSettings p.waiting.items) }
+    {
+        let state: &ClusterState = accepted;
+        // For the proof alone: settings ascend by key.
+        let _ = state.value.settings.texts();
+        let mut value = self.value_before(me, &state.value)?;
+        let Processed {
+            mut waiting,
+            mut replies,
+        } = self.process(accepted, &mut value)?;
+        let config = config_for(me, state, committed, votes, shrink, &value);
+        if is_accepted(term, state, &config, &value) {
+            answer_by(
+                &mut waiting,
+                &Decision::NothingNew(committed, state.id()),
+                &mut replies,
+            );
+            return Ok(Prepared {
+                next: Next::Same(replies),
+                waiting,
+            });
+        }
+        Ok(Prepared {
+            next: Next::New {
+                config,
+                value,
+                replies,
+            },
+            waiting,
+        })
+    }
+
+    /// [`prepare`](MasterTasks::prepare), with the tasks as they are after it: who waits on, and nobody to come or to go. At an
+    /// error nothing changed.
     pub fn next_state(
         &mut self,
         me: NodeId,
@@ -286,32 +333,14 @@ impl MasterTasks {
         ensures tasks { OnOk result (self.new ≡ tasks_after (leader_of me term accepted.now committed.now votes.now shrink) self.old) }
         ensures next { IfOk result (λ n. n ≡ next_of (leader_of me term accepted.now committed.now votes.now shrink) self.old) }
         ensures err { OnErr result (self.new ≡ self.old) }
-        // What is published is within the limits, if the accepted value is and no request is to put a bad setting.
         ensures fits { IsFitValue accepted.now.value → HaveGoodSettings self.old.waiting → IfOk result IsFitNext }
         ensures good { HaveGoodSettings self.old.waiting → OnOk result (HaveGoodSettings self.new.waiting) }
     {
-        let state: &ClusterState = accepted;
-        // For the proof alone: settings ascend by key.
-        let _ = state.value.settings.texts();
-        let value = self.value_before(me, &state.value)?;
-        let Processed {
-            value,
-            waiting,
-            mut replies,
-        } = self.process(accepted, value)?;
-        let config = config_for(me, state, committed, votes, shrink, &value);
-        self.waiting = waiting;
-        self.removals = NodeSet::new();
-        self.additions = NodeSet::new();
-        if is_accepted(term, state, &config, &value) {
-            self.answer_by(&Decision::NothingNew(committed, state.id()), &mut replies);
-            return Ok(Next::Same(replies));
-        }
-        Ok(Next::New {
-            config,
-            value,
-            replies,
-        })
+        let Prepared { next, waiting } = self.prepare(
+            me, term, accepted, committed, votes, shrink,
+        )?;
+        self.leave_only(waiting);
+        Ok(next)
     }
 
     // The value with the node as master, with the members that are to come and without those that are to go.
@@ -333,6 +362,25 @@ impl MasterTasks {
         let mut members = members.without(&gone);
         join(me, &self.additions, &mut members);
         members
+    }
+}
+
+// Answers the requests that get an answer, and takes them out.
+fn answer_by(waiting: &mut Vec<Waiting>, decision: &Decision, out: &mut Replies)
+    requires { length waiting.old.items ≤ out.old.room }
+    ensures left { waiting.new.items ≡ left_by (decided decision.now) waiting.old.items }
+    ensures sent { out.new ≡ with_sent out.old (answers_by (decided decision.now) waiting.old.items) }
+    ensures few { length waiting.new.items ≤ length waiting.old.items }
+{
+    let mut place = 0;
+    while place < waiting.len() {
+        match decision.answer(&waiting[place]) {
+            Some(answer) => {
+                let w = waiting.remove(place);
+                out.push(w.answer(answer));
+            }
+            None => place += 1,
+        }
     }
 }
 

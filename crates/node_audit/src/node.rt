@@ -53,7 +53,8 @@ pub fn shows_as(a: &Kept, b: &Kept) -> bool
 // Strikes a node in an act.
 fn strike(alloc: Global, running: Placed<Running>, act: &Act) -> Result<Placed<Struck>, AllocError>
     requires { is_opening act.now ≡ false }
-    ensures { (g : NodeHistory) → StandsRunning running g → IfOk result (λ s. (kept : Bool) → StandsStruck s (Then g act.now (Disk kept)) × StandsStruck s (Then g act.now (Crashed kept))) }
+    ensures { (g : NodeHistory) → StandsRunning running g
+        → IfOk result (λ s. (kept : Bool) → StandsStruck s (Then g act.now (Disk kept)) × StandsStruck s (Then g act.now (Crashed kept))) }
 {
     let mut running = Box::into_inner(running.value);
     let before = running.kept()?;
@@ -70,7 +71,8 @@ fn taken(
     wins: bool,
 ) -> Result<Placed<Running>, AllocError>
     requires { is_opening act.now ≡ false }
-    ensures { (g : NodeHistory) → StandsRunning running g → IfOk result (λ r. (sends : Option TheMessage) → StandsRunning r (Then g act.now (Answered (Taken sends wins)))) }
+    ensures { (g : NodeHistory) → StandsRunning running g
+        → IfOk result (λ r. (sends : Option TheMessage) → StandsRunning r (Then g act.now (Answered (Taken sends wins)))) }
 {
     let mut running = running;
     running.value.take(alloc, act, wins)?;
@@ -151,7 +153,9 @@ impl Node {
         ending: Ending,
     ) -> Result<Node, AllocError>
         requires { is_opening act.now ≡ false }
-        ensures { (g : NodeHistory) (reply : TheReply) → Stands self g → is_down_of g ≡ false → wins ≡ wins_by (Answered reply) → MayEnd reply act.now ending → (me : Id) → reply ≡ reply_of me g act.now → IfOk result (λ n. Stands n (Then g act.now (outcome_shown reply ending))) }
+        ensures { (g : NodeHistory) (reply : TheReply) → Stands self g → is_down_of g ≡ false → wins ≡ wins_by (Answered reply)
+            → MayEnd reply act.now ending → (me : Id) → reply ≡ reply_of me g act.now
+            → IfOk result (λ n. Stands n (Then g act.now (outcome_shown reply ending))) }
     {
         match self {
             Node::Running(running) => match ending {

@@ -324,7 +324,8 @@ impl Running {
     }
 
     fn start_join(&mut self, term: u64)
-        ensures { (candidate : Id) (sends : Option TheMessage) (wins : Bool) → seen self.new ≡ node_state_after (seen self.old) (act.StartJoin candidate term) (Answered (Taken sends wins)) }
+        ensures { (candidate : Id) (sends : Option TheMessage) (wins : Bool)
+            → seen self.new ≡ node_state_after (seen self.old) (act.StartJoin candidate term) (Answered (Taken sends wins)) }
     {
         self.term = term.max(self.term);
         self.started = true;
@@ -336,7 +337,9 @@ impl Running {
     }
 
     fn count_join(&mut self, join: &Join, wins: bool) -> Result<(), AllocError>
-        ensures { OnOk result ((sends : Option TheMessage) → seen self.new ≡ node_state_after (seen self.old) (act.TakeJoin join.now) (Answered (Taken sends wins))) }
+        ensures { OnOk result
+            ((sends : Option TheMessage)
+            → seen self.new ≡ node_state_after (seen self.old) (act.TakeJoin join.now) (Answered (Taken sends wins))) }
     {
         self.votes.add(join.source)?;
         if wins {
@@ -347,7 +350,8 @@ impl Running {
     }
 
     fn publish(&mut self, version: u64, config: &VotingConfig)
-        ensures { (value : TheValue) (sends : Option TheMessage) (wins : Bool) → seen self.new ≡ node_state_after (seen self.old) (act.Value version config.now value) (Answered (Taken sends wins)) }
+        ensures { (value : TheValue) (sends : Option TheMessage) (wins : Bool)
+            → seen self.new ≡ node_state_after (seen self.old) (act.Value version config.now value) (Answered (Taken sends wins)) }
     {
         self.version = version;
         self.config.copy_from(config.members());
@@ -387,7 +391,8 @@ impl Running {
     /// Does an act that the node takes.
     pub fn take(&mut self, alloc: Global, act: &Act, wins: bool) -> Result<(), AllocError>
         requires { is_opening act.now ≡ false }
-        ensures { OnOk result ((sends : Option TheMessage) → seen self.new ≡ node_state_after (seen self.old) act.now (Answered (Taken sends wins))) }
+        ensures { OnOk result
+            ((sends : Option TheMessage) → seen self.new ≡ node_state_after (seen self.old) act.now (Answered (Taken sends wins))) }
     {
         match act {
             Act::Bootstrap(config) => self.bootstrap(alloc, config),

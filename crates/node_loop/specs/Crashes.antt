@@ -24,9 +24,10 @@ abbrev pub has_crashed : NodeHistory → Bool
 has_crashed NoActs = false
 has_crashed (Then g act outcome) = is_crashed outcome || has_crashed g
 
-module _ {C : Type 0} (stands_for : C → Settings → Life → Type 0) (told : Type 0) (moment : C → ℕ) (left_since : C → ℕ → Option Kept → Type 0) (s : Settings) where
-  -- A node that stood for a life became one that stands for it with one more entry. A crash at any moment between leaves the record of what was done by
-  -- then: of the acts before this entry and those of it so far, without the act in hand or with it.
+module _ {C : Type 0} (stands_for : C → Settings → Life → Type 0) (told : Type 0) (moment : C → ℕ)
+    (left_since : C → ℕ → Option Kept → Type 0) (s : Settings) where
+  -- A node that stood for a life became one that stands for it with one more entry. A crash at any moment between leaves the record of what
+  -- was done by then: of the acts before this entry and those of it so far, without the act in hand or with it.
   pub record Passes (old now : C) (life : Life) (e : Entry) : Type 0 where
     pub stands : stands_for now s (Lived life e)
     pub any_moment : told → LeavesOnly moment left_since old now (IsLeftBy life e)
@@ -36,9 +37,10 @@ module _ {C : Type 0} (stands_for : C → Settings → Life → Type 0) (told : 
   Along old now life [] = told → LeavesOnly moment left_since old now (λ found. ⊥)
   Along old now life (e ∷ es) = (mid : C) × Passes old mid life e × Along mid now (Lived life e) es
 
--- A node that stood for one life stands for another, to which some entries lead, and came there by one entry after the other. An entry is struck only where
--- the disk failed meanwhile, and at no act the node is said to have crashed.
-pub record Holds {C : Type 0} (stands_for : C → Settings → Life → Type 0) (told : Type 0) (moment : C → ℕ) (left_since : C → ℕ → Option Kept → Type 0) (faults : C → ℕ)
+-- A node that stood for one life stands for another, to which some entries lead, and came there by one entry after the other. An entry is
+-- struck only where the disk failed meanwhile, and at no act the node is said to have crashed.
+pub record Holds {C : Type 0} (stands_for : C → Settings → Life → Type 0) (told : Type 0) (moment : C → ℕ)
+    (left_since : C → ℕ → Option Kept → Type 0) (faults : C → ℕ)
     (old now : C) (s : Settings) (life new : Life) : Type 0 where
   pub stands : stands_for now s new
   pub entries : List Entry

@@ -47,7 +47,9 @@ carries_lines (b ∷ bytes) = not (b == 0)
 
 -- as a connection that carries frames, and as one that carries lines
 abbrev pub FeedsFrames : Stream → (more : List ℕ) → Came → Connection → Type 0
-FeedsFrames old more came now = (conn : ℕ) (before : List ℕ) → carries_frames (before ++ more) ≡ true → old ≡ read_up (stream before).ending → IsFed conn before more came now
+FeedsFrames old more came now = (conn : ℕ) (before : List ℕ) → carries_frames (before ++ more) ≡ true → old ≡ read_up (stream before).ending
+    → IsFed conn before more came now
 
 abbrev pub FeedsLines : List ℕ → (more : List ℕ) → Came → Connection → Type 0
-FeedsLines old more came now = (conn : ℕ) (before : List ℕ) → carries_lines (before ++ more) ≡ true → old ≡ rest_of before → IsFed conn before more came now
+FeedsLines old more came now = (conn : ℕ) (before : List ℕ) → carries_lines (before ++ more) ≡ true → old ≡ rest_of before
+    → IsFed conn before more came now

@@ -25,8 +25,8 @@ LawCrashIsKill =
     → (event : Event) (items : List Item) → Follows s (Lived life (Did event items))
     → (found : Kept) → IsLeftBy life (Did event items) (Some found) → IsKilled h n event found
 
--- From one life to another some entries were lived, and within the next one, an event, the node was killed: this was done of it, with no frame and
--- no reply sent, and the record is what the node then kept.
+-- From one life to another some entries were lived, and within the next one, an event, the node was killed: this was done of it, with no
+-- frame and no reply sent, and the record is what the node then kept.
 pub record IsCutBetween (s : Settings) (life new : Life) (found : Option Kept) : Type 0 where
   pub front : List Entry
   pub event : Event
@@ -43,7 +43,8 @@ pub record IsCutBetween (s : Settings) (life new : Life) (found : Option Kept) :
 abbrev pub LawMomentIsCut : {D : Type 0} → Disks D → Type 0
 LawMomentIsCut d =
     (opened back : _) (s : Settings) (life new : Life) → Follows s new → HoldsOn d opened back s life new → d.told
-    → (t : ℕ) (found : Option Kept) → t ≤ d.moment opened → StoodOn d back t found → StoodOn d opened t found ⊎ IsCutBetween s life new found
+    → (t : ℕ) (found : Option Kept) → t ≤ d.moment opened → StoodOn d back t found
+    → StoodOn d opened t found ⊎ IsCutBetween s life new found
 
 -- the last event met a fault: it counts as kept or as not kept, and the record is that of all acts then
 pub record IsSettledAs (s : Settings) (life : Life) (event : Event) (items : List Item) (found : Kept) : Type 0 where

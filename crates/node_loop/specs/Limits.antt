@@ -22,4 +22,5 @@ HoldsLittle (Lines bytes) = length bytes ≤ most_line + 1
 
 -- whatever came, of each connection
 abbrev pub LawHoldsLittle : Type 0
-LawHoldsLittle = (readings : List Connection) (intakes : Intakes) → Reads readings intakes → (conn : ℕ) → conn < most_connections → HoldsLittle (get_or readings conn Fresh)
+LawHoldsLittle = (readings : List Connection) (intakes : Intakes) → Reads readings intakes → (conn : ℕ) → conn < most_connections
+    → HoldsLittle (get_or readings conn Fresh)

@@ -37,7 +37,8 @@ sent_of sealed = record { frames = sealed.sends.list; replies = sealed.replies.s
 -- what is kept then is right for the life with it; or there are no lines, and nothing is kept.
 abbrev pub AreLined : Id → Option LastSent → Entries → List Frame → List Outgoing → Option (List ℕ) → Option LastSent → Type 0
 AreLined node told entries frames replies lines kept =
-    (s : Settings) (life : Life) (event : Event) (items : List Item) → node ≡ s.me → IsTold told life → AreEntries event items entries → frames ≡ frames_of items → replies ≡ replies_of items
+    (s : Settings) (life : Life) (event : Event) (items : List Item) → node ≡ s.me → IsTold told life → AreEntries event items entries
+    → frames ≡ frames_of items → replies ≡ replies_of items
     → AreLines lines (entry_text s life (Did event items)) × IsTold kept (Lived life (Did event items))
 
 -- ---- an entry of no event changes nothing that a node stands for

@@ -15,7 +15,8 @@ abbrev pub AreLines : Option (List ℕ) → List ℕ → Type 0
 AreLines None text = Unit {0}
 AreLines (Some lines) text = lines ≡ text
 
-module _ {C : Type 0} (stands_for : C → Settings → Life → Type 0) (text : Life → Entry → List ℕ) (s : Settings) (life : Life) (event : Event) (now : C) where
+module _ {C : Type 0} (stands_for : C → Settings → Life → Type 0) (text : Life → Entry → List ℕ) (s : Settings) (life : Life)
+    (event : Event) (now : C) where
   -- the event was done as the policy says, and this is what may leave the node
   pub record Does {S : Type 0} (output : S → Output) (done : Done S) : Type 0 where
     pub items : List Item

@@ -55,7 +55,8 @@ seen output (Gave x) = Gave (output x)
 seen output (Dropped conn) = Dropped conn
 
 -- what was told has grown by these
-pub record GrownBy {X : Type 0} (output : X → Output) (was : Option (List (Traffic X))) (all : List (Traffic X)) (moves : List (Traffic Output)) : Type 0 where
+pub record GrownBy {X : Type 0} (output : X → Output) (was : Option (List (Traffic X))) (all : List (Traffic X))
+    (moves : List (Traffic Output)) : Type 0 where
   pub before : List (Traffic X)
   pub told : was ≡ Some before
   pub grown : map (seen output) all ≡ map (seen output) before ++ moves

@@ -86,7 +86,8 @@ event_lines node published number event steps drops frames replies =
 
 -- the lines of an entry; where memory was lacking, they say that alone
 abbrev pub entry_text : Settings → Life → Entry → List ℕ
-entry_text s life (Did event items) = event_lines s.me (published_of life) (last_frame_number life) event (steps_of items) (drops_of items) (frames_of items) (replies_of items)
+entry_text s life (Did event items) = event_lines s.me (published_of life) (last_frame_number life) event (steps_of items) (drops_of items)
+    (frames_of items) (replies_of items)
 entry_text s life (Gone conn) = gone_line conn
 entry_text s life (Bad conn fault) = bad_line conn fault
 entry_text s life NoMemory = codes "> nomemory\n"
@@ -94,4 +95,5 @@ entry_text s life (Unread conn) = codes "> nomemory\n"
 
 -- the record that a node's journal gave
 abbrev pub opening_text : Settings → Life → List ℕ
-opening_text s life = record_line s.me (term_of (acts_of (log_of life))) (accepted_of (acts_of (log_of life))) (committed_of (acts_of (log_of life)))
+opening_text s life = record_line s.me (term_of (acts_of (log_of life))) (accepted_of (acts_of (log_of life)))
+    (committed_of (acts_of (log_of life)))

@@ -57,7 +57,8 @@ abbrev pub IsRestOf : List Happening → List Happening → Type 0
 IsRestOf rest whole = (front : List Happening) × (front ++ rest ≡ whole)
 
 module _ {X : Type 0} (output : X → Output) (text : Life → Entry → List ℕ) (s : Settings) (life : Life) (intakes : Intakes)
-    (end : Option End) (out_was out_now : Option (List ℕ)) (was now : Option (List (Traffic X))) (stands : Life → Type 0) (readings : List Connection) where
+    (end : Option End) (out_was out_now : Option (List ℕ)) (was now : Option (List (Traffic X))) (stands : Life → Type 0)
+    (readings : List Connection) where
   -- what a node that stood for a life and for inputs did at one more input, that was taken before
   pub record TakesIn (input : Input) : Type 0 where
     pub intake : Intake
@@ -65,8 +66,8 @@ module _ {X : Type 0} (output : X → Output) (text : Life → Entry → List �
     pub tells : Tells output text s life (makes (made_by intakes intake)) end out_was out_now was now stands
     pub reads : Reads readings (Then intakes intake)
 
-  -- What it did at further ones, that it took, with so many calls of the link at most. Where it ended within an input, what is left is a rest of what the
-  -- last one made.
+  -- What it did at further ones, that it took, with so many calls of the link at most. Where it ended within an input, what is left is a
+  -- rest of what the last one made.
   pub record Turns (asked_was asked_now turns : ℕ) : Type 0 where
     pub taken : List Intake
     pub tells : Tells output text s life (course_from intakes taken) end out_was out_now was now stands
@@ -83,8 +84,10 @@ Says None out_was out_now text = Appended out_was out_now text
 Says (Some end) out_was out_now text = (is_unsaid end ≡ true) × CutShort end out_was out_now text
 
 module _ {X : Type 0} (output : X → Output) (text : Life → Entry → List ℕ) (s : Settings) (life : Life) (end : End) where
-  -- What a node did after the line of its opening: Start and what the inputs bring. What is left is a rest of what the last input made, or of Start.
-  pub record ServesOn (out_was out_now : Option (List ℕ)) (was now : Option (List (Traffic X))) (stands : Life → Type 0) (asked_was asked_now turns : ℕ) : Type 0 where
+  -- What a node did after the line of its opening: Start and what the inputs bring. What is left is a rest of what the last input made, or
+  -- of Start.
+  pub record ServesOn (out_was out_now : Option (List ℕ)) (was now : Option (List (Traffic X))) (stands : Life → Type 0)
+      (asked_was asked_now turns : ℕ) : Type 0 where
     pub taken : List Intake
     pub tells : Tells output text s life (Makes (Comes Start) ∷ course_from NoIntakes taken) (Some end) out_was out_now was now stands
     pub last : IsRestOf tells.left (last_made (Comes Start ∷ []) NoIntakes taken)
@@ -94,6 +97,10 @@ module _ {X : Type 0} (output : X → Output) (text : Life → Entry → List �
     pub stop : is_stop (Some end) ≡ has_stop taken
 
   -- What a node did that was just opened: it writes the line of its opening, and goes on where that is written whole.
-  pub data Serves (out_was out_now : Option (List ℕ)) (was now : Option (List (Traffic X))) (stands : Life → Type 0) (asked_was asked_now turns : ℕ) (opening : List ℕ) : Type 0 where
-    Unopened : is_unsaid end ≡ true → CutShort end out_was out_now opening → now ≡ was → asked_now ≡ asked_was → stands life → Serves out_was out_now was now stands asked_was asked_now turns opening
-    Served : (out_mid : Option (List ℕ)) → Appended out_was out_mid opening → ServesOn out_mid out_now was now stands asked_was asked_now turns → Serves out_was out_now was now stands asked_was asked_now turns opening
+  pub data Serves (out_was out_now : Option (List ℕ)) (was now : Option (List (Traffic X))) (stands : Life → Type 0)
+      (asked_was asked_now turns : ℕ) (opening : List ℕ) : Type 0 where
+    Unopened : is_unsaid end ≡ true → CutShort end out_was out_now opening → now ≡ was → asked_now ≡ asked_was → stands life
+        → Serves out_was out_now was now stands asked_was asked_now turns opening
+    Served : (out_mid : Option (List ℕ)) → Appended out_was out_mid opening
+        → ServesOn out_mid out_now was now stands asked_was asked_now turns
+        → Serves out_was out_now was now stands asked_was asked_now turns opening

@@ -9,8 +9,8 @@ use cluster_state::{FieldError, LAST_NUMBER, SharedState};
 use event_text::{write_drops, write_frame_line, write_message, write_replies, write_steps};
 use master_tasks::Outgoing;
 use policy_model::{Event, MemberDrop, Step};
-use schedule_text::Text;
 use std::alloc::{AllocError, Global};
+use text::Text;
 use voting_config::NodeId;
 use wire_frames::{Frame, FrameError};
 
@@ -103,7 +103,8 @@ pub fn write_entry(
     frames: &[Frame],
     replies: &[Outgoing],
 ) -> Result<(), AllocError>
-    ensures text { OnOk result (text.new ≡ text.old ++ event_lines node told.old.published told.old.number event.now steps.now drops.now frames.now replies.now) }
+    ensures text { OnOk result
+        (text.new ≡ text.old ++ event_lines node told.old.published told.old.number event.now steps.now drops.now frames.now replies.now) }
     ensures published { OnOk result (told.new.published ≡ published_after told.old.published steps.now) }
     ensures number { OnOk result (told.new.number ≡ number_after told.old.number frames.now) }
 {

@@ -26,8 +26,8 @@ use crate::connection::{Came, Connection, close_at, feed_at, keep_at};
 use crate::steps::{Done, StepError, Steps};
 use client_lines::Line;
 use policy_model::Event;
-use schedule_text::Text;
 use std::alloc::{AllocError, Global};
+use text::Text;
 use wire_frames::{FrameError, FrameReader, FrameView};
 use zen_link::{Input, Link, LinkError, Sink, write_all};
 
@@ -49,17 +49,20 @@ pub enum End {
 }
 
 // Writes the lines of an event that was done, and then sends what it has to.
-fn tell_done<S: Steps, L: Link<Out = S::Sealed>, O: Sink>(
+fn report_done<S: Steps, L: Link<Out = S::Sealed>, O: Sink>(
     steps: &S,
     link: &mut L,
     out: &mut O,
     done: Done<S::Sealed>,
 ) -> Option<End>
-    ensures tells { (old : S) (s : Settings) (life : Life) (event : _) → Does (λ now s2 new. HoldsBy S.Steps old now s2 life new) (S.text s) s life event steps.now S.output done
-        → Tells S.output (S.text s) s life (Makes (Comes event) ∷ []) result (O.written out.old) (O.written out.new) (L.told link.old) (L.told link.new) (HoldsBy S.Steps old steps.now s life) }
+    ensures tells { (old : S) (s : Settings) (life : Life) (event : _)
+        → Does (λ now s2 new. HoldsBy S.Steps old now s2 life new) (S.text s) s life event steps.now S.output done
+        → Tells S.output (S.text s) s life (Makes (Comes event) ∷ []) result (O.written out.old) (O.written out.new) (L.told link.old)
+        (L.told link.new) (HoldsBy S.Steps old steps.now s life) }
     ensures within { does_all result ≡ goes_on result }
     ensures stop { is_stop result ≡ false }
-    ensures causes { HasCauses result (S.faults steps.now) (S.faults steps.now) (O.faults out.old) (O.faults out.new) (L.faults link.old) (L.faults link.new) }
+    ensures causes { HasCauses result (S.faults steps.now) (S.faults steps.now) (O.faults out.old) (O.faults out.new) (L.faults link.old)
+        (L.faults link.new) }
     ensures asked { L.asked link.new ≡ L.asked link.old }
 {
     let Done { sealed, lines } = done;
@@ -74,9 +77,11 @@ fn tell_done<S: Steps, L: Link<Out = S::Sealed>, O: Sink>(
 }
 
 // Writes the lines of an event in which the disk failed.
-fn tell_struck<S: Steps, O: Sink>(steps: &S, out: &mut O, lines: Option<Text>) -> Option<End>
-    ensures tells { (old : S) (s : Settings) (life : Life) (event : _) (told : Option (List (Traffic S.Sealed))) → IsHalted (λ now s2 new. HoldsBy S.Steps old now s2 life new) (S.text s) s life event steps.now lines
-        → Tells S.output (S.text s) s life (Makes (Comes event) ∷ []) result (O.written out.old) (O.written out.new) told told (HoldsBy S.Steps old steps.now s life) }
+fn report_struck<S: Steps, O: Sink>(steps: &S, out: &mut O, lines: Option<Text>) -> Option<End>
+    ensures tells { (old : S) (s : Settings) (life : Life) (event : _) (told : Option (List (Traffic S.Sealed)))
+        → IsHalted (λ now s2 new. HoldsBy S.Steps old now s2 life new) (S.text s) s life event steps.now lines
+        → Tells S.output (S.text s) s life (Makes (Comes event) ∷ []) result (O.written out.old) (O.written out.new) told told
+        (HoldsBy S.Steps old steps.now s life) }
     ensures within { does_all result ≡ goes_on result }
     ensures stop { is_stop result ≡ false }
     ensures write { result ≡ Some End.Write → Rose (O.faults out.old) (O.faults out.new) }
@@ -93,11 +98,14 @@ fn tell_struck<S: Steps, O: Sink>(steps: &S, out: &mut O, lines: Option<Text>) -
 }
 
 // Writes that no memory was found.
-fn tell_no_memory<S: Steps, O: Sink>(steps: &S, out: &mut O) -> Option<End>
-    ensures tells { (s : Settings) (life : Life) (event : _) (told : Option (List (Traffic S.Sealed))) → IsUp life → S.stands_for steps.now s life
-        → Tells S.output (S.text s) s life (Makes (Comes event) ∷ []) result (O.written out.old) (O.written out.new) told told (HoldsBy S.Steps steps.now steps.now s life) }
+fn report_no_memory<S: Steps, O: Sink>(steps: &S, out: &mut O) -> Option<End>
+    ensures tells { (s : Settings) (life : Life) (event : _) (told : Option (List (Traffic S.Sealed))) → IsUp life
+        → S.stands_for steps.now s life
+        → Tells S.output (S.text s) s life (Makes (Comes event) ∷ []) result (O.written out.old) (O.written out.new) told told
+        (HoldsBy S.Steps steps.now steps.now s life) }
     ensures refused { (s : Settings) (life : Life) (told : Option (List (Traffic S.Sealed))) → IsUp life → S.stands_for steps.now s life
-        → Tells S.output (S.text s) s life (Makes Refused ∷ []) result (O.written out.old) (O.written out.new) told told (HoldsBy S.Steps steps.now steps.now s life) }
+        → Tells S.output (S.text s) s life (Makes Refused ∷ []) result (O.written out.old) (O.written out.new) told told
+        (HoldsBy S.Steps steps.now steps.now s life) }
     ensures within { does_all result ≡ goes_on result }
     ensures stop { is_stop result ≡ false }
     ensures write { result ≡ Some End.Write → Rose (O.faults out.old) (O.faults out.new) }
@@ -111,7 +119,7 @@ fn tell_no_memory<S: Steps, O: Sink>(steps: &S, out: &mut O) -> Option<End>
 }
 
 // Does an event, and reports it.
-fn tell_event<S: Steps, L: Link<Out = S::Sealed>, O: Sink>(
+fn do_event<S: Steps, L: Link<Out = S::Sealed>, O: Sink>(
     steps: &mut S,
     alloc: Global,
     link: &mut L,
@@ -120,23 +128,26 @@ fn tell_event<S: Steps, L: Link<Out = S::Sealed>, O: Sink>(
 ) -> Option<End>
     requires fit { IsFitEvent event }
     ensures tells { is_start event ≡ false → (s : Settings) (life : Life) → S.stands_for steps.old s life → IsUp life
-        → Tells S.output (S.text s) s life (Makes (Comes event) ∷ []) result (O.written out.old) (O.written out.new) (L.told link.old) (L.told link.new) (HoldsBy S.Steps steps.old steps.new s life) }
+        → Tells S.output (S.text s) s life (Makes (Comes event) ∷ []) result (O.written out.old) (O.written out.new) (L.told link.old)
+        (L.told link.new) (HoldsBy S.Steps steps.old steps.new s life) }
     ensures within { does_all result ≡ goes_on result }
     ensures stop { is_stop result ≡ false }
-    ensures causes { HasCauses result (S.faults steps.old) (S.faults steps.new) (O.faults out.old) (O.faults out.new) (L.faults link.old) (L.faults link.new) }
+    ensures causes { HasCauses result (S.faults steps.old) (S.faults steps.new) (O.faults out.old) (O.faults out.new) (L.faults link.old)
+        (L.faults link.new) }
     ensures asked { L.asked link.new ≡ L.asked link.old }
 {
     match steps.step(alloc, event) {
-        Ok(done) => tell_done(steps, link, out, done),
-        Err(error) => tell_error(steps, out, error),
+        Ok(done) => report_done(steps, link, out, done),
+        Err(error) => report_error(steps, out, error),
     }
 }
 
 // Writes what there is to say of an event that was not done to its end.
-fn tell_error<S: Steps, O: Sink>(steps: &S, out: &mut O, error: StepError) -> Option<End>
+fn report_error<S: Steps, O: Sink>(steps: &S, out: &mut O, error: StepError) -> Option<End>
     ensures tells { (old : S) (s : Settings) (life : Life) (event : _) (told : Option (List (Traffic S.Sealed))) → IsUp life
         → FailsTo (λ now s2 new. HoldsBy S.Steps old now s2 life new) (S.text s) s life event steps.now error
-        → Tells S.output (S.text s) s life (Makes (Comes event) ∷ []) result (O.written out.old) (O.written out.new) told told (HoldsBy S.Steps old steps.now s life) }
+        → Tells S.output (S.text s) s life (Makes (Comes event) ∷ []) result (O.written out.old) (O.written out.new) told told
+        (HoldsBy S.Steps old steps.now s life) }
     ensures within { does_all result ≡ goes_on result }
     ensures stop { is_stop result ≡ false }
     ensures write { result ≡ Some End.Write → Rose (O.faults out.old) (O.faults out.new) }
@@ -145,15 +156,15 @@ fn tell_error<S: Steps, O: Sink>(steps: &S, out: &mut O, error: StepError) -> Op
     ensures later { O.faults out.old ≤ O.faults out.new }
 {
     match error {
-        StepError::Disk(lines) => tell_struck(steps, out, lines),
-        StepError::Memory => tell_no_memory(steps, out),
+        StepError::Disk(lines) => report_struck(steps, out, lines),
+        StepError::Memory => report_no_memory(steps, out),
         // A node that met a fault of its disk takes no more turns.
         StepError::Stopped => Some(End::Memory),
     }
 }
 
 // Writes that a connection ended.
-fn tell_gone<S: Steps, L: Link<Out = S::Sealed>, O: Sink>(
+fn report_gone<S: Steps, L: Link<Out = S::Sealed>, O: Sink>(
     steps: &S,
     alloc: Global,
     link: &mut L,
@@ -161,10 +172,12 @@ fn tell_gone<S: Steps, L: Link<Out = S::Sealed>, O: Sink>(
     conn: u64,
 ) -> Option<End>
     ensures tells { (s : Settings) (life : Life) → S.stands_for steps.now s life → IsUp life
-        → Tells S.output (S.text s) s life (Makes (Ends conn) ∷ []) result (O.written out.old) (O.written out.new) (L.told link.old) (L.told link.new) (HoldsBy S.Steps steps.now steps.now s life) }
+        → Tells S.output (S.text s) s life (Makes (Ends conn) ∷ []) result (O.written out.old) (O.written out.new) (L.told link.old)
+        (L.told link.new) (HoldsBy S.Steps steps.now steps.now s life) }
     ensures within { does_all result ≡ goes_on result }
     ensures stop { is_stop result ≡ false }
-    ensures causes { HasCauses result (S.faults steps.now) (S.faults steps.now) (O.faults out.old) (O.faults out.new) (L.faults link.old) (L.faults link.new) }
+    ensures causes { HasCauses result (S.faults steps.now) (S.faults steps.now) (O.faults out.old) (O.faults out.new) (L.faults link.old)
+        (L.faults link.new) }
     ensures asked { L.asked link.new ≡ L.asked link.old }
 {
     let Ok(line) = steps.gone_line(alloc, conn) else {
@@ -177,7 +190,7 @@ fn tell_gone<S: Steps, L: Link<Out = S::Sealed>, O: Sink>(
 }
 
 // Writes that the bytes of a connection are faulty, and drops it.
-fn tell_bad<S: Steps, L: Link<Out = S::Sealed>, O: Sink>(
+fn report_bad<S: Steps, L: Link<Out = S::Sealed>, O: Sink>(
     steps: &S,
     alloc: Global,
     link: &mut L,
@@ -186,10 +199,12 @@ fn tell_bad<S: Steps, L: Link<Out = S::Sealed>, O: Sink>(
     fault: FrameError,
 ) -> Option<End>
     ensures tells { (s : Settings) (life : Life) → S.stands_for steps.now s life → IsUp life
-        → Tells S.output (S.text s) s life (Makes (Faulty conn fault) ∷ []) result (O.written out.old) (O.written out.new) (L.told link.old) (L.told link.new) (HoldsBy S.Steps steps.now steps.now s life) }
+        → Tells S.output (S.text s) s life (Makes (Faulty conn fault) ∷ []) result (O.written out.old) (O.written out.new) (L.told link.old)
+        (L.told link.new) (HoldsBy S.Steps steps.now steps.now s life) }
     ensures within { does_all result ≡ goes_on result }
     ensures stop { is_stop result ≡ false }
-    ensures causes { HasCauses result (S.faults steps.now) (S.faults steps.now) (O.faults out.old) (O.faults out.new) (L.faults link.old) (L.faults link.new) }
+    ensures causes { HasCauses result (S.faults steps.now) (S.faults steps.now) (O.faults out.old) (O.faults out.new) (L.faults link.old)
+        (L.faults link.new) }
     ensures asked { L.asked link.new ≡ L.asked link.old }
 {
     let Ok(line) = steps.bad_line(alloc, conn, fault) else {
@@ -203,17 +218,19 @@ fn tell_bad<S: Steps, L: Link<Out = S::Sealed>, O: Sink>(
 }
 
 // Writes that no memory was found for the bytes of a connection, and drops it.
-fn tell_unread<S: Steps, L: Link<Out = S::Sealed>, O: Sink>(
+fn report_unread<S: Steps, L: Link<Out = S::Sealed>, O: Sink>(
     steps: &S,
     link: &mut L,
     out: &mut O,
     conn: u64,
 ) -> Option<End>
     ensures tells { (s : Settings) (life : Life) → S.stands_for steps.now s life → IsUp life
-        → Tells S.output (S.text s) s life (Makes (Unread conn) ∷ []) result (O.written out.old) (O.written out.new) (L.told link.old) (L.told link.new) (HoldsBy S.Steps steps.now steps.now s life) }
+        → Tells S.output (S.text s) s life (Makes (Unread conn) ∷ []) result (O.written out.old) (O.written out.new) (L.told link.old)
+        (L.told link.new) (HoldsBy S.Steps steps.now steps.now s life) }
     ensures within { does_all result ≡ goes_on result }
     ensures stop { is_stop result ≡ false }
-    ensures causes { HasCauses result (S.faults steps.now) (S.faults steps.now) (O.faults out.old) (O.faults out.new) (L.faults link.old) (L.faults link.new) }
+    ensures causes { HasCauses result (S.faults steps.now) (S.faults steps.now) (O.faults out.old) (O.faults out.new) (L.faults link.old)
+        (L.faults link.new) }
     ensures asked { L.asked link.new ≡ L.asked link.old }
 {
     let Ok(()) = write_all(out, steps.no_memory_line()) else {
@@ -224,7 +241,7 @@ fn tell_unread<S: Steps, L: Link<Out = S::Sealed>, O: Sink>(
 }
 
 // Does a frame that came.
-fn tell_frame<S: Steps, L: Link<Out = S::Sealed>, O: Sink>(
+fn do_frame<S: Steps, L: Link<Out = S::Sealed>, O: Sink>(
     steps: &mut S,
     alloc: Global,
     link: &mut L,
@@ -232,20 +249,22 @@ fn tell_frame<S: Steps, L: Link<Out = S::Sealed>, O: Sink>(
     frame: FrameView<'_>,
 ) -> Option<End>
     ensures tells { (s : Settings) (life : Life) → S.stands_for steps.old s life → IsUp life
-        → Tells S.output (S.text s) s life (Makes (Comes (FrameCame (shown frame.entry))) ∷ []) result (O.written out.old) (O.written out.new) (L.told link.old) (L.told link.new) (HoldsBy S.Steps steps.old steps.new s life) }
+        → Tells S.output (S.text s) s life (Makes (Comes (FrameCame (shown frame.entry))) ∷ []) result (O.written out.old)
+        (O.written out.new) (L.told link.old) (L.told link.new) (HoldsBy S.Steps steps.old steps.new s life) }
     ensures within { does_all result ≡ goes_on result }
     ensures stop { is_stop result ≡ false }
-    ensures causes { HasCauses result (S.faults steps.old) (S.faults steps.new) (O.faults out.old) (O.faults out.new) (L.faults link.old) (L.faults link.new) }
+    ensures causes { HasCauses result (S.faults steps.old) (S.faults steps.new) (O.faults out.old) (O.faults out.new) (L.faults link.old)
+        (L.faults link.new) }
     ensures asked { L.asked link.new ≡ L.asked link.old }
 {
     match frame.frame(alloc) {
-        Ok(frame) => tell_event(steps, alloc, link, out, Event::Frame(frame)),
-        Err(_) => tell_no_memory(steps, out),
+        Ok(frame) => do_event(steps, alloc, link, out, Event::Frame(frame)),
+        Err(_) => report_no_memory(steps, out),
     }
 }
 
 // Does the frames that came, in order.
-fn tell_frames<S: Steps, L: Link<Out = S::Sealed>, O: Sink>(
+fn do_frames<S: Steps, L: Link<Out = S::Sealed>, O: Sink>(
     steps: &mut S,
     alloc: Global,
     link: &mut L,
@@ -253,11 +272,13 @@ fn tell_frames<S: Steps, L: Link<Out = S::Sealed>, O: Sink>(
     reader: &mut FrameReader,
 ) -> Option<End>
     ensures tells { (s : Settings) (life : Life) → S.stands_for steps.old s life → IsUp life
-        → Tells S.output (S.text s) s life (makes (of_frames reader.old.frames)) result (O.written out.old) (O.written out.new) (L.told link.old) (L.told link.new) (HoldsBy S.Steps steps.old steps.new s life) }
+        → Tells S.output (S.text s) s life (makes (of_frames reader.old.frames)) result (O.written out.old) (O.written out.new)
+        (L.told link.old) (L.told link.new) (HoldsBy S.Steps steps.old steps.new s life) }
     ensures left { reader.new.ending ≡ reader.old.ending }
     ensures within { does_all result ≡ goes_on result }
     ensures stop { is_stop result ≡ false }
-    ensures causes { HasCauses result (S.faults steps.old) (S.faults steps.new) (O.faults out.old) (O.faults out.new) (L.faults link.old) (L.faults link.new) }
+    ensures causes { HasCauses result (S.faults steps.old) (S.faults steps.new) (O.faults out.old) (O.faults out.new) (L.faults link.old)
+        (L.faults link.new) }
     ensures asked { L.asked link.new ≡ L.asked link.old }
 {
     'frames: loop {
@@ -265,7 +286,7 @@ fn tell_frames<S: Steps, L: Link<Out = S::Sealed>, O: Sink>(
             None => return None,
             Some(Err(_)) => return None,
             Some(Ok(frame)) => {
-                if let Some(end) = tell_frame(steps, alloc, link, out, frame) {
+                if let Some(end) = do_frame(steps, alloc, link, out, frame) {
                     return Some(end);
                 }
             }
@@ -274,7 +295,7 @@ fn tell_frames<S: Steps, L: Link<Out = S::Sealed>, O: Sink>(
 }
 
 // Does the lines that came, in order.
-fn tell_lines<S: Steps, L: Link<Out = S::Sealed>, O: Sink>(
+fn do_lines<S: Steps, L: Link<Out = S::Sealed>, O: Sink>(
     steps: &mut S,
     alloc: Global,
     link: &mut L,
@@ -283,14 +304,16 @@ fn tell_lines<S: Steps, L: Link<Out = S::Sealed>, O: Sink>(
     lines: Vec<Line>,
 ) -> Option<End>
     ensures tells { (s : Settings) (life : Life) → S.stands_for steps.old s life → IsUp life
-        → Tells S.output (S.text s) s life (makes (of_lines conn lines.items)) result (O.written out.old) (O.written out.new) (L.told link.old) (L.told link.new) (HoldsBy S.Steps steps.old steps.new s life) }
+        → Tells S.output (S.text s) s life (makes (of_lines conn lines.items)) result (O.written out.old) (O.written out.new)
+        (L.told link.old) (L.told link.new) (HoldsBy S.Steps steps.old steps.new s life) }
     ensures within { does_all result ≡ goes_on result }
     ensures stop { is_stop result ≡ false }
-    ensures causes { HasCauses result (S.faults steps.old) (S.faults steps.new) (O.faults out.old) (O.faults out.new) (L.faults link.old) (L.faults link.new) }
+    ensures causes { HasCauses result (S.faults steps.old) (S.faults steps.new) (O.faults out.old) (O.faults out.new) (L.faults link.old)
+        (L.faults link.new) }
     ensures asked { L.asked link.new ≡ L.asked link.old }
 {
     for line in lines {
-        if let Some(end) = tell_event(steps, alloc, link, out, Event::Client { conn, line }) {
+        if let Some(end) = do_event(steps, alloc, link, out, Event::Client { conn, line }) {
             return Some(end);
         }
     }
@@ -309,24 +332,26 @@ fn take_frames<S: Steps, L: Link<Out = S::Sealed>, O: Sink>(
 ) -> Option<End>
     requires { conn < length connections.old }
     ensures tells { (s : Settings) (life : Life) → S.stands_for steps.old s life → IsUp life
-        → Tells S.output (S.text s) s life (makes (of_frames reader.frames ++ of_fault conn (fault_in reader.ending))) result (O.written out.old) (O.written out.new) (L.told link.old) (L.told link.new) (HoldsBy S.Steps steps.old steps.new s life) }
+        → Tells S.output (S.text s) s life (makes (of_frames reader.frames ++ of_fault conn (fault_in reader.ending))) result
+        (O.written out.old) (O.written out.new) (L.told link.old) (L.told link.new) (HoldsBy S.Steps steps.old steps.new s life) }
     ensures kept { connections.new ≡ slice_set connections.old conn (kept_frames reader.ending) }
     ensures within { does_all result ≡ goes_on result }
     ensures stop { is_stop result ≡ false }
-    ensures causes { HasCauses result (S.faults steps.old) (S.faults steps.new) (O.faults out.old) (O.faults out.new) (L.faults link.old) (L.faults link.new) }
+    ensures causes { HasCauses result (S.faults steps.old) (S.faults steps.new) (O.faults out.old) (O.faults out.new) (L.faults link.old)
+        (L.faults link.new) }
     ensures asked { L.asked link.new ≡ L.asked link.old }
 {
     let mut reader = reader;
-    let end = tell_frames(steps, alloc, link, out, &mut reader);
+    let end = do_frames(steps, alloc, link, out, &mut reader);
     let fault = keep_at(connections, conn, reader);
     if let Some(end) = end {
         return Some(end);
     }
-    tell_fault(steps, alloc, link, out, conn, fault)
+    report_fault(steps, alloc, link, out, conn, fault)
 }
 
 // Reports the fault, if there is one.
-fn tell_fault<S: Steps, L: Link<Out = S::Sealed>, O: Sink>(
+fn report_fault<S: Steps, L: Link<Out = S::Sealed>, O: Sink>(
     steps: &S,
     alloc: Global,
     link: &mut L,
@@ -335,14 +360,16 @@ fn tell_fault<S: Steps, L: Link<Out = S::Sealed>, O: Sink>(
     fault: Option<FrameError>,
 ) -> Option<End>
     ensures tells { (s : Settings) (life : Life) → S.stands_for steps.now s life → IsUp life
-        → Tells S.output (S.text s) s life (makes (of_fault conn fault)) result (O.written out.old) (O.written out.new) (L.told link.old) (L.told link.new) (HoldsBy S.Steps steps.now steps.now s life) }
+        → Tells S.output (S.text s) s life (makes (of_fault conn fault)) result (O.written out.old) (O.written out.new) (L.told link.old)
+        (L.told link.new) (HoldsBy S.Steps steps.now steps.now s life) }
     ensures within { does_all result ≡ goes_on result }
     ensures stop { is_stop result ≡ false }
-    ensures causes { HasCauses result (S.faults steps.now) (S.faults steps.now) (O.faults out.old) (O.faults out.new) (L.faults link.old) (L.faults link.new) }
+    ensures causes { HasCauses result (S.faults steps.now) (S.faults steps.now) (O.faults out.old) (O.faults out.new) (L.faults link.old)
+        (L.faults link.new) }
     ensures asked { L.asked link.new ≡ L.asked link.old }
 {
     match fault {
-        Some(fault) => tell_bad(steps, alloc, link, out, conn, fault),
+        Some(fault) => report_bad(steps, alloc, link, out, conn, fault),
         None => None,
     }
 }
@@ -359,17 +386,19 @@ fn take_came<S: Steps, L: Link<Out = S::Sealed>, O: Sink>(
 ) -> Option<End>
     requires { conn < length connections.old }
     ensures tells { (s : Settings) (life : Life) → S.stands_for steps.old s life → IsUp life
-        → Tells S.output (S.text s) s life (makes (happenings_of conn came)) result (O.written out.old) (O.written out.new) (L.told link.old) (L.told link.new) (HoldsBy S.Steps steps.old steps.new s life) }
+        → Tells S.output (S.text s) s life (makes (happenings_of conn came)) result (O.written out.old) (O.written out.new)
+        (L.told link.old) (L.told link.new) (HoldsBy S.Steps steps.old steps.new s life) }
     ensures kept { connections.new ≡ kept_at connections.old conn came }
     ensures within { does_all result ≡ goes_on result }
     ensures stop { is_stop result ≡ false }
-    ensures causes { HasCauses result (S.faults steps.old) (S.faults steps.new) (O.faults out.old) (O.faults out.new) (L.faults link.old) (L.faults link.new) }
+    ensures causes { HasCauses result (S.faults steps.old) (S.faults steps.new) (O.faults out.old) (O.faults out.new) (L.faults link.old)
+        (L.faults link.new) }
     ensures asked { L.asked link.new ≡ L.asked link.old }
 {
     match came {
         Came::Nothing => None,
         Came::Frames(reader) => take_frames(steps, connections, alloc, link, out, conn, reader),
-        Came::Lines(lines) => tell_lines(steps, alloc, link, out, conn, lines.into_lines()),
+        Came::Lines(lines) => do_lines(steps, alloc, link, out, conn, lines.into_lines()),
     }
 }
 
@@ -385,16 +414,19 @@ fn take_bytes<S: Steps, L: Link<Out = S::Sealed>, O: Sink>(
 ) -> Option<End>
     requires all { length connections.old ≡ most_connections }
     requires low { conn < most_connections }
-    ensures takes { (s : Settings) (life : Life) (intakes : Intakes) → S.stands_for steps.old s life → IsUp life → Reads connections.old intakes
-        → TakesIn S.output (S.text s) s life intakes result (O.written out.old) (O.written out.new) (L.told link.old) (L.told link.new) (HoldsBy S.Steps steps.old steps.new s life) connections.new (BytesCame conn bytes.now) }
-    ensures causes { HasCauses result (S.faults steps.old) (S.faults steps.new) (O.faults out.old) (O.faults out.new) (L.faults link.old) (L.faults link.new) }
+    ensures takes { (s : Settings) (life : Life) (intakes : Intakes) → S.stands_for steps.old s life → IsUp life
+        → Reads connections.old intakes
+        → TakesIn S.output (S.text s) s life intakes result (O.written out.old) (O.written out.new) (L.told link.old) (L.told link.new)
+        (HoldsBy S.Steps steps.old steps.new s life) connections.new (BytesCame conn bytes.now) }
+    ensures causes { HasCauses result (S.faults steps.old) (S.faults steps.new) (O.faults out.old) (O.faults out.new) (L.faults link.old)
+        (L.faults link.new) }
     ensures asked { L.asked link.new ≡ L.asked link.old }
     ensures within { does_all result ≡ goes_on result }
     ensures stop { is_stop result ≡ false }
 {
     match feed_at(connections, alloc, conn, bytes) {
         Ok(came) => take_came(steps, connections, alloc, link, out, conn, came),
-        Err(_) => tell_unread(steps, link, out, conn),
+        Err(_) => report_unread(steps, link, out, conn),
     }
 }
 
@@ -409,15 +441,18 @@ fn take_closed<S: Steps, L: Link<Out = S::Sealed>, O: Sink>(
 ) -> Option<End>
     requires all { length connections.old ≡ most_connections }
     requires low { conn < most_connections }
-    ensures takes { (s : Settings) (life : Life) (intakes : Intakes) → S.stands_for steps.old s life → IsUp life → Reads connections.old intakes
-        → TakesIn S.output (S.text s) s life intakes result (O.written out.old) (O.written out.new) (L.told link.old) (L.told link.new) (HoldsBy S.Steps steps.old steps.new s life) connections.new (ConnectionClosed conn) }
-    ensures causes { HasCauses result (S.faults steps.old) (S.faults steps.new) (O.faults out.old) (O.faults out.new) (L.faults link.old) (L.faults link.new) }
+    ensures takes { (s : Settings) (life : Life) (intakes : Intakes) → S.stands_for steps.old s life → IsUp life
+        → Reads connections.old intakes
+        → TakesIn S.output (S.text s) s life intakes result (O.written out.old) (O.written out.new) (L.told link.old) (L.told link.new)
+        (HoldsBy S.Steps steps.old steps.new s life) connections.new (ConnectionClosed conn) }
+    ensures causes { HasCauses result (S.faults steps.old) (S.faults steps.new) (O.faults out.old) (O.faults out.new) (L.faults link.old)
+        (L.faults link.new) }
     ensures asked { L.asked link.new ≡ L.asked link.old }
     ensures within { does_all result ≡ goes_on result }
     ensures stop { is_stop result ≡ false }
 {
     close_at(connections, conn);
-    tell_gone(steps, alloc, link, out, conn)
+    report_gone(steps, alloc, link, out, conn)
 }
 
 // Does what an input brings.
@@ -431,12 +466,15 @@ fn take_input<S: Steps, L: Link<Out = S::Sealed>, O: Sink>(
 ) -> Option<End>
     requires all { length connections.old ≡ most_connections }
     requires low { IsTrue (has_low_conn input) }
-    ensures takes { (s : Settings) (life : Life) (intakes : Intakes) → S.stands_for steps.old s life → IsUp life → Reads connections.old intakes
-        → TakesIn S.output (S.text s) s life intakes result (O.written out.old) (O.written out.new) (L.told link.old) (L.told link.new) (HoldsBy S.Steps steps.old steps.new s life) connections.new (input) }
+    ensures takes { (s : Settings) (life : Life) (intakes : Intakes) → S.stands_for steps.old s life → IsUp life
+        → Reads connections.old intakes
+        → TakesIn S.output (S.text s) s life intakes result (O.written out.old) (O.written out.new) (L.told link.old) (L.told link.new)
+        (HoldsBy S.Steps steps.old steps.new s life) connections.new (input) }
     ensures stop { is_stop result ≡ is_stop_input input }
     ensures never { ¬ (result ≡ Some End.Turns) }
     ensures unlinked { ¬ (result ≡ Some End.Link) }
-    ensures causes { HasCauses result (S.faults steps.old) (S.faults steps.new) (O.faults out.old) (O.faults out.new) (L.faults link.old) (L.faults link.new) }
+    ensures causes { HasCauses result (S.faults steps.old) (S.faults steps.new) (O.faults out.old) (O.faults out.new) (L.faults link.old)
+        (L.faults link.new) }
     ensures asked { L.asked link.new ≡ L.asked link.old }
 {
     match input {
@@ -450,7 +488,7 @@ fn take_input<S: Steps, L: Link<Out = S::Sealed>, O: Sink>(
             &bytes,
         ),
         Input::Closed { conn } => take_closed(steps, connections, alloc, link, out, conn),
-        Input::Tick { now, word } => tell_event(steps, alloc, link, out, Event::Tick { now, word }),
+        Input::Tick { now, word } => do_event(steps, alloc, link, out, Event::Tick { now, word }),
         Input::Stop => Some(End::Stop),
     }
 }
@@ -464,15 +502,18 @@ fn take_turn<S: Steps, L: Link<Out = S::Sealed>, O: Sink>(
     out: &mut O,
 ) -> Option<End>
     requires all { length connections.old ≡ most_connections }
-    ensures turns { (s : Settings) (life : Life) (intakes : Intakes) → S.stands_for steps.old s life → IsUp life → Reads connections.old intakes
-        → Turns S.output (S.text s) s life intakes result (O.written out.old) (O.written out.new) (L.told link.old) (L.told link.new) (HoldsBy S.Steps steps.old steps.new s life) connections.new (L.asked link.old) (L.asked link.new) 1 }
+    ensures turns { (s : Settings) (life : Life) (intakes : Intakes) → S.stands_for steps.old s life → IsUp life
+        → Reads connections.old intakes
+        → Turns S.output (S.text s) s life intakes result (O.written out.old) (O.written out.new) (L.told link.old) (L.told link.new)
+        (HoldsBy S.Steps steps.old steps.new s life) connections.new (L.asked link.old) (L.asked link.new) 1 }
     ensures never { ¬ (result ≡ Some End.Turns) }
-    ensures causes { HasCauses result (S.faults steps.old) (S.faults steps.new) (O.faults out.old) (O.faults out.new) (L.faults link.old) (L.faults link.new) }
+    ensures causes { HasCauses result (S.faults steps.old) (S.faults steps.new) (O.faults out.old) (O.faults out.new) (L.faults link.old)
+        (L.faults link.new) }
 {
     match link.next() {
         Ok(input) => take_input(steps, connections, alloc, link, out, input),
         Err(LinkError::Failed) => Some(End::Link),
-        Err(LinkError::Memory) => tell_no_memory(steps, out),
+        Err(LinkError::Memory) => report_no_memory(steps, out),
     }
 }
 
@@ -486,10 +527,13 @@ fn take_turns<S: Steps, L: Link<Out = S::Sealed>, O: Sink>(
     turns: u64,
 ) -> Option<End>
     requires all { length connections.old ≡ most_connections }
-    ensures turns { (s : Settings) (life : Life) (intakes : Intakes) → S.stands_for steps.old s life → IsUp life → Reads connections.old intakes
-        → Turns S.output (S.text s) s life intakes result (O.written out.old) (O.written out.new) (L.told link.old) (L.told link.new) (HoldsBy S.Steps steps.old steps.new s life) connections.new (L.asked link.old) (L.asked link.new) turns }
+    ensures turns { (s : Settings) (life : Life) (intakes : Intakes) → S.stands_for steps.old s life → IsUp life
+        → Reads connections.old intakes
+        → Turns S.output (S.text s) s life intakes result (O.written out.old) (O.written out.new) (L.told link.old) (L.told link.new)
+        (HoldsBy S.Steps steps.old steps.new s life) connections.new (L.asked link.old) (L.asked link.new) turns }
     ensures never { ¬ (result ≡ Some End.Turns) }
-    ensures causes { HasCauses result (S.faults steps.old) (S.faults steps.new) (O.faults out.old) (O.faults out.new) (L.faults link.old) (L.faults link.new) }
+    ensures causes { HasCauses result (S.faults steps.old) (S.faults steps.new) (O.faults out.old) (O.faults out.new) (L.faults link.old)
+        (L.faults link.new) }
 {
     for turn in 0..turns {
         if let Some(end) = take_turn(steps, connections, alloc, link, out) {
@@ -507,23 +551,26 @@ fn start<S: Steps, L: Link<Out = S::Sealed>, O: Sink>(
     out: &mut O,
 ) -> Option<End>
     ensures tells { (s : Settings) (life : Life) → S.stands_for steps.old s life → IsOpened life
-        → Tells S.output (S.text s) s life (Makes (Comes Start) ∷ []) result (O.written out.old) (O.written out.new) (L.told link.old) (L.told link.new) (HoldsBy S.Steps steps.old steps.new s life) }
+        → Tells S.output (S.text s) s life (Makes (Comes Start) ∷ []) result (O.written out.old) (O.written out.new) (L.told link.old)
+        (L.told link.new) (HoldsBy S.Steps steps.old steps.new s life) }
     ensures within { does_all result ≡ goes_on result }
     ensures stop { is_stop result ≡ false }
-    ensures causes { HasCauses result (S.faults steps.old) (S.faults steps.new) (O.faults out.old) (O.faults out.new) (L.faults link.old) (L.faults link.new) }
+    ensures causes { HasCauses result (S.faults steps.old) (S.faults steps.new) (O.faults out.old) (O.faults out.new) (L.faults link.old)
+        (L.faults link.new) }
     ensures asked { L.asked link.new ≡ L.asked link.old }
 {
     match steps.step(alloc, Event::Start) {
-        Ok(done) => tell_done(steps, link, out, done),
-        Err(error) => tell_unstarted(steps, out, error),
+        Ok(done) => report_done(steps, link, out, done),
+        Err(error) => report_unstarted(steps, out, error),
     }
 }
 
 // Writes what there is to say of a start that was not done to its end.
-fn tell_unstarted<S: Steps, O: Sink>(steps: &S, out: &mut O, error: StepError) -> Option<End>
+fn report_unstarted<S: Steps, O: Sink>(steps: &S, out: &mut O, error: StepError) -> Option<End>
     ensures tells { (old : S) (s : Settings) (life : Life) (told : Option (List (Traffic S.Sealed))) → IsOpened life
         → FailsTo (λ now s2 new. HoldsBy S.Steps old now s2 life new) (S.text s) s life Start steps.now error
-        → Tells S.output (S.text s) s life (Makes (Comes Start) ∷ []) result (O.written out.old) (O.written out.new) told told (HoldsBy S.Steps old steps.now s life) }
+        → Tells S.output (S.text s) s life (Makes (Comes Start) ∷ []) result (O.written out.old) (O.written out.new) told told
+        (HoldsBy S.Steps old steps.now s life) }
     ensures within { does_all result ≡ goes_on result }
     ensures stop { is_stop result ≡ false }
     ensures write { result ≡ Some End.Write → Rose (O.faults out.old) (O.faults out.new) }
@@ -534,13 +581,14 @@ fn tell_unstarted<S: Steps, O: Sink>(steps: &S, out: &mut O, error: StepError) -
     match error {
         StepError::Memory => Some(End::Memory),
         StepError::Stopped => Some(End::Memory),
-        StepError::Disk(lines) => tell_struck(steps, out, lines),
+        StepError::Disk(lines) => report_struck(steps, out, lines),
     }
 }
 
 // Writes the line of the opening.
-fn tell_opening<S: Steps, O: Sink>(steps: &S, alloc: Global, out: &mut O) -> Option<End>
-    ensures says { (s : Settings) (life : Life) → S.stands_for steps.now s life → IsOpened life → Says result (O.written out.old) (O.written out.new) (S.opening s life) }
+fn report_opening<S: Steps, O: Sink>(steps: &S, alloc: Global, out: &mut O) -> Option<End>
+    ensures says { (s : Settings) (life : Life) → S.stands_for steps.now s life → IsOpened life
+        → Says result (O.written out.old) (O.written out.new) (S.opening s life) }
     ensures write { result ≡ Some End.Write → Rose (O.faults out.old) (O.faults out.new) }
     ensures others { (¬ (result ≡ Some End.Link)) × (¬ (result ≡ Some End.Disk)) }
     ensures later { O.faults out.old ≤ O.faults out.new }
@@ -565,8 +613,10 @@ fn serve_on<S: Steps, L: Link<Out = S::Sealed>, O: Sink>(
 ) -> End
     requires all { length connections.old ≡ most_connections }
     ensures serves { (s : Settings) (life : Life) → S.stands_for steps.old s life → IsOpened life → Reads connections.old NoIntakes
-        → ServesOn S.output (S.text s) s life result (O.written out.old) (O.written out.new) (L.told link.old) (L.told link.new) (HoldsBy S.Steps steps.old steps.new s life) (L.asked link.old) (L.asked link.new) turns }
-    ensures causes { HasCauses (Some result) (S.faults steps.old) (S.faults steps.new) (O.faults out.old) (O.faults out.new) (L.faults link.old) (L.faults link.new) }
+        → ServesOn S.output (S.text s) s life result (O.written out.old) (O.written out.new) (L.told link.old) (L.told link.new)
+        (HoldsBy S.Steps steps.old steps.new s life) (L.asked link.old) (L.asked link.new) turns }
+    ensures causes { HasCauses (Some result) (S.faults steps.old) (S.faults steps.new) (O.faults out.old) (O.faults out.new)
+        (L.faults link.old) (L.faults link.new) }
 {
     if let Some(end) = start(steps, alloc, link, out) {
         return end;
@@ -642,10 +692,13 @@ impl<S: Steps> Node<S> {
         link: &mut L,
         out: &mut O,
     ) -> Option<End>
-        ensures turns { (s : Settings) (life : Life) (intakes : Intakes) → S.stands_for self.old.steps s life → IsUp life → Reads self.old.connections.items intakes
-            → Turns S.output (S.text s) s life intakes result (O.written out.old) (O.written out.new) (L.told link.old) (L.told link.new) (HoldsBy S.Steps self.old.steps self.new.steps s life) self.new.connections.items (L.asked link.old) (L.asked link.new) 1 }
+        ensures turns { (s : Settings) (life : Life) (intakes : Intakes) → S.stands_for self.old.steps s life → IsUp life
+            → Reads self.old.connections.items intakes
+            → Turns S.output (S.text s) s life intakes result (O.written out.old) (O.written out.new) (L.told link.old) (L.told link.new)
+            (HoldsBy S.Steps self.old.steps self.new.steps s life) self.new.connections.items (L.asked link.old) (L.asked link.new) 1 }
         ensures never { ¬ (result ≡ Some End.Turns) }
-        ensures causes { HasCauses result (S.faults self.old.steps) (S.faults self.new.steps) (O.faults out.old) (O.faults out.new) (L.faults link.old) (L.faults link.new) }
+        ensures causes { HasCauses result (S.faults self.old.steps) (S.faults self.new.steps) (O.faults out.old) (O.faults out.new)
+            (L.faults link.old) (L.faults link.new) }
     {
         take_turn(
             &mut self.steps,
@@ -663,11 +716,14 @@ impl<S: Steps> Node<S> {
         out: &mut O,
         turns: u64,
     ) -> End
-        ensures serves { (s : Settings) (life : Life) → S.stands_for self.old.steps s life → IsOpened life → Reads self.old.connections.items NoIntakes
-            → Serves S.output (S.text s) s life result (O.written out.old) (O.written out.new) (L.told link.old) (L.told link.new) (HoldsBy S.Steps self.old.steps self.new.steps s life) (L.asked link.old) (L.asked link.new) turns (S.opening s life) }
-        ensures causes { HasCauses (Some result) (S.faults self.old.steps) (S.faults self.new.steps) (O.faults out.old) (O.faults out.new) (L.faults link.old) (L.faults link.new) }
+        ensures serves { (s : Settings) (life : Life) → S.stands_for self.old.steps s life → IsOpened life
+            → Reads self.old.connections.items NoIntakes
+            → Serves S.output (S.text s) s life result (O.written out.old) (O.written out.new) (L.told link.old) (L.told link.new)
+            (HoldsBy S.Steps self.old.steps self.new.steps s life) (L.asked link.old) (L.asked link.new) turns (S.opening s life) }
+        ensures causes { HasCauses (Some result) (S.faults self.old.steps) (S.faults self.new.steps) (O.faults out.old) (O.faults out.new)
+            (L.faults link.old) (L.faults link.new) }
     {
-        match tell_opening(&self.steps, self.alloc, out) {
+        match report_opening(&self.steps, self.alloc, out) {
             Some(end) => end,
             None => serve_on(
                 &mut self.steps,

@@ -34,8 +34,10 @@ impl<D: Disks> Node<Reporter<StateJournal<D>>> {
     ///
     /// Those of [`StateJournal::open`]; and `Memory` where there is none for the connections. Each hands the disk back.
     pub fn open(alloc: Global, settings: Settings, disk: D) -> Result<JournalNode<D>, OpenError<D>>
-        ensures stands { IfOk result (λ node. (life : Life) → ContinuesUnlessFirst (acts_of (log_of life)) (Open node.steps.node.core.keeper.kept)
-            → Reports ⟦<StateJournal<D> as Keeper>⟧ node.steps.node node.steps.told settings (Opened life node.steps.node.core.keeper.kept)) }
+        ensures stands { IfOk result
+            (λ node. (life : Life) → ContinuesUnlessFirst (acts_of (log_of life)) (Open node.steps.node.core.keeper.kept)
+            → Reports ⟦<StateJournal<D> as Keeper>⟧ node.steps.node node.steps.told settings
+            (Opened life node.steps.node.core.keeper.kept)) }
         ensures found { D.told → IfOk result (λ node. found_of (D.seen disk) ≡ Ok node.steps.node.core.keeper.kept) }
         ensures reads { IfOk result (λ node. Reads node.connections.items NoIntakes) }
         ensures why { D.told → IfErr result (IsWhyOf (D.seen disk)) }
@@ -44,7 +46,9 @@ impl<D: Disks> Node<Reporter<StateJournal<D>>> {
         ensures later_err { IfErr result (λ e. D.faults disk ≤ D.faults (handed_back e)) }
 
         // After a crash at any moment an opening finds what it might have found before.
-        ensures any_moment { D.told → IfOk result (λ node. LeavesOnly D.moment D.left_since disk node.steps.node.core.keeper.log.disk (FoundAsSome (D.may_leave disk))) }
+        ensures any_moment { D.told
+            → IfOk result (λ node. LeavesOnly D.moment D.left_since disk node.steps.node.core.keeper.log.disk
+            (FoundAsSome (D.may_leave disk))) }
         ensures any_moment_err { D.told → IfErr result (λ e. LeavesOnly D.moment D.left_since disk (handed_back e) (FoundAsSome (D.may_leave disk))) }
 
         // Where it is refused, the device calls of an opening and no others.
@@ -78,9 +82,13 @@ impl<D: Disks> Node<Reporter<StateJournal<D>>> {
         out: &mut O,
         turns: u64,
     ) -> (D, End)
-        ensures serves { (s : SettingsOf) (life : Life) → Reports ⟦<StateJournal<D> as Keeper>⟧ self.steps.node self.steps.told s life → IsOpened life → Reads self.connections.items NoIntakes
-            → Serves sent_of (entry_text s) s life result.1 (O.written out.old) (O.written out.new) (L.told link.old) (L.told link.new) (HoldsOn D.Disks self.steps.node.core.keeper.log.disk result.0 s life) (L.asked link.old) (L.asked link.new) turns (opening_text s life) }
-        ensures causes { HasCauses (Some result.1) (D.faults self.steps.node.core.keeper.log.disk) (D.faults result.0) (O.faults out.old) (O.faults out.new) (L.faults link.old) (L.faults link.new) }
+        ensures serves { (s : SettingsOf) (life : Life) → Reports ⟦<StateJournal<D> as Keeper>⟧ self.steps.node self.steps.told s life
+            → IsOpened life → Reads self.connections.items NoIntakes
+            → Serves sent_of (entry_text s) s life result.1 (O.written out.old) (O.written out.new) (L.told link.old) (L.told link.new)
+            (HoldsOn D.Disks self.steps.node.core.keeper.log.disk result.0 s life) (L.asked link.old) (L.asked link.new) turns
+            (opening_text s life) }
+        ensures causes { HasCauses (Some result.1) (D.faults self.steps.node.core.keeper.log.disk) (D.faults result.0) (O.faults out.old)
+            (O.faults out.new) (L.faults link.old) (L.faults link.new) }
     {
         let mut node = self;
         let end = node.serve(link, out, turns);

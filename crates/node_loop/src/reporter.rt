@@ -12,10 +12,10 @@ use crate::steps::{Done, StepError, Steps};
 use coordinator::{Coordinator, Entries, Sealed};
 use master_tasks::Outgoing;
 use policy_model::{Event, Settings};
-use schedule_text::Text;
 use state_journal::Keeper;
 use std::alloc::{AllocError, Global};
 use std::mem;
+use text::Text;
 use trace_text::write_record;
 use voting_config::NodeId;
 use wire_frames::{Frame, FrameError};
@@ -36,7 +36,8 @@ impl<K: Keeper> Reporter<K> {
     pub fn open(alloc: Global, settings: Settings, keeper: K) -> Reporter<K>
         requires { K.has_stopped keeper ≡ false }
         ensures keeper { result.node.core.keeper ≡ keeper }
-        ensures stands { (life : Life) → ContinuesUnlessFirst (acts_of (log_of life)) (Open (K.record_of keeper)) → Reports K.Keeper result.node result.told settings (Opened life (K.record_of keeper)) }
+        ensures stands { (life : Life) → ContinuesUnlessFirst (acts_of (log_of life)) (Open (K.record_of keeper))
+            → Reports K.Keeper result.node result.told settings (Opened life (K.record_of keeper)) }
     {
         Reporter {
             me: settings.me,

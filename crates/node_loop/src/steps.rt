@@ -13,8 +13,8 @@ ghost use Rattle.node_loop.specs.Crashes.{Holds};
 ghost use Rattle.node_loop.specs.Steps.{StepsTo, IsDisk};
 
 use policy_model::Event;
-use schedule_text::Text;
 use std::alloc::{AllocError, Global};
+use text::Text;
 use wire_frames::FrameError;
 
 /// An event that was done: what may leave the node, and its lines, or none where memory was lacking for them.
@@ -69,7 +69,8 @@ pub trait Steps {
     fn step(&mut self, alloc: Global, event: Event) -> Result<Done<Self::Sealed>, StepError>
         requires fit { IsFitEvent event }
         ensures steps { (s : Settings) (life : Life) → stands_for self.old s life → is_start event ≡ starts_next life
-            → StepsTo (λ now s2 new. Holds stands_for told moment left_since faults self.old now s2 life new) (text s) s life event self.new output result }
+            → StepsTo (λ now s2 new. Holds stands_for told moment left_since faults self.old now s2 life new) (text s) s life event self.new
+            output result }
         ensures later { faults self.old ≤ faults self.new }
         ensures disk { IsDisk result → Rose (faults self.old) (faults self.new) };
 
@@ -91,5 +92,6 @@ pub trait Steps {
         ensures unread { (s : Settings) (life : Life) (conn : ℕ) → result.now ≡ text s life (Unread conn) };
 
     /// An entry of no event changes nothing that it stands for.
-    ghost idle: { (node : Self) (s : Settings) (life : Life) (entry : Entry) → IsIdle entry → stands_for node s life → stands_for node s (Lived life entry) };
+    ghost idle: { (node : Self) (s : Settings) (life : Life) (entry : Entry) → IsIdle entry → stands_for node s life
+        → stands_for node s (Lived life entry) };
 }

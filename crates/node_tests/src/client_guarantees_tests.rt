@@ -10,4 +10,5 @@ fn the_laws_can_be_called() {
     law_processed_came();
     law_next_meets_each();
     law_last_setting_stands();
+    law_excluded_stay_out();
 }

@@ -1,4 +1,4 @@
-//! A node from the opening of its journal to the end of its run, as the program does it.
+//! A node from the opening of its journal to the end of its run, as the program does it. The lines are those of docs/formats.md.
 ghost use Rattle.std.specs.Prelude.{IfOk, IsTrue};
 ghost use Rattle.std.specs.List.{list_all};
 ghost use Rattle.zen_link.specs.Told.{has_low_conn};

@@ -12,12 +12,14 @@ module _ {K : Type 0} (k : Ghosts K) where
   -- `refusal` is the cause for which the old record is refused, and `made` the new one. Of the causes the first that holds is
   -- answered: memory is looked for last, and before anything is written.
   abbrev pub ToolEnds : (refusal : Option ToolError) (made : Kept) (old new : K) → Result (Unit {0}) ToolError → Type 0
-  ToolEnds refusal made old new (Ok u) = (refusal ≡ None) × (k.has_stopped old ≡ false) × (k.has_stopped new ≡ false) × (k.record_of new ≡ made)
+  ToolEnds refusal made old new (Ok u) = (refusal ≡ None) × (k.has_stopped old ≡ false) × (k.has_stopped new ≡ false)
+      × (k.record_of new ≡ made)
   ToolEnds refusal made old new (Err NoState) = refusal ≡ Some NoState
   ToolEnds refusal made old new (Err (Exhausted version)) = refusal ≡ Some (Exhausted version)
   ToolEnds refusal made old new (Err Stopped) = (refusal ≡ None) × (k.has_stopped old ≡ true)
   ToolEnds refusal made old new (Err Memory) = (refusal ≡ None) × (k.has_stopped old ≡ false)
-  ToolEnds refusal made old new (Err Disk) = (refusal ≡ None) × (k.has_stopped old ≡ false) × (k.record_of new ≡ k.record_of old) × Rose (k.faults old) (k.faults new)
+  ToolEnds refusal made old new (Err Disk) = (refusal ≡ None) × (k.has_stopped old ≡ false) × (k.record_of new ≡ k.record_of old)
+      × Rose (k.faults old) (k.faults new)
 
   -- This state was written as the accepted one, with one change. But for a write that failed, nothing is done at an error, in memory or
   -- on the disk.

@@ -17,7 +17,8 @@ pub record GoesOn (h : History) (node : Id) (kept : Kept) : Type 0 where
   -- with the new record the node may begin a history anew, and with what detach_cluster makes each other node may
   pub alone : IsAlone node (record_alone node kept)
   pub opens : ContinuesFrom node (record_alone node kept) node NoActs (Open (record_alone node kept))
-  pub detached : (other : Id) (theirs : Kept) → same other node ≡ false → ContinuesFrom node (record_alone node kept) other NoActs (Open (record_detached theirs))
+  pub detached : (other : Id) (theirs : Kept) → same other node ≡ false
+      → ContinuesFrom node (record_alone node kept) other NoActs (Open (record_detached theirs))
   -- each such history is safe, and each state that it commits descends from the new state
   pub safe : (later : History) → IsLegalFrom node (record_alone node kept) later → IsSafeFrom (state_alone node kept) later
   -- the new state was made from the one that the node had accepted, and stands above it

@@ -23,8 +23,8 @@ Asked dir was now end.NoMemory = (now ≡ was) ⊎ (now ≡ and_call was (OpensD
 Asked dir was now other = now ≡ and_call was (OpensDisk dir false)
 
 module _ {D L : Type 0} (d : Disks D) (tool : Tool) (host host_now : HostView D L) where
-  -- The host gave a disk, the one that it had ready where it tells, and was given it back. The tool made this of it; and a crash at any moment
-  -- leaves what might have been found before, or the new record.
+  -- The host gave a disk, the one that it had ready where it tells, and was given it back. The tool made this of it; and a crash at any
+  -- moment leaves what might have been found before, or the new record.
   pub record Used (t : Tooled) : Type 0 where
     pub given : D
     pub is_given : (disk : D) → host.disk_ready ≡ Some disk → given ≡ disk
@@ -41,16 +41,18 @@ module _ {D L : Type 0} (d : Disks D) (tool : Tool) (host host_now : HostView D 
   EndsWith was now wrote wrote_now end.Refused = (text : List ℕ) × Used (tooled.Refused text) × Appended was now text
   EndsWith was now wrote wrote_now end.NotAJournal = (text : List ℕ) × Used (tooled.NotAJournal text) × Appended was now text
   EndsWith was now wrote wrote_now end.WriteFault =
-      (text : List ℕ) × (Used (tooled.Report text) ⊎ (Used (tooled.Refused text) ⊎ Used (tooled.NotAJournal text))) × AppendedFront was now text × Rose wrote wrote_now
+      (text : List ℕ) × (Used (tooled.Report text) ⊎ (Used (tooled.Refused text) ⊎ Used (tooled.NotAJournal text)))
+      × AppendedFront was now text × Rose wrote wrote_now
   EndsWith was now wrote wrote_now end.DiskFault = Used tooled.Disk × Appended was now []
   EndsWith was now wrote wrote_now end.HostFault = Rose host.faults host_now.faults × Appended was now []
   EndsWith was now wrote wrote_now end.NoMemory = (Undisked d host host_now ⊎ Used tooled.Memory) × Appended was now []
 
-  -- a disk that stands for a record that the tool takes is given the new one, and one whose record it refuses is refused, unless memory runs
-  -- out, where nothing fails
+  -- a disk that stands for a record that the tool takes is given the new one, and one whose record it refuses is refused, unless memory
+  -- runs out, where nothing fails
   abbrev pub IsComplete : (wrote wrote_now : ℕ) → ToolEnd → Type 0
   IsComplete wrote wrote_now e =
-      (disk : D) → host.disk_ready ≡ Some disk → d.told → (kept : Kept) → found_of (d.seen disk) ≡ Ok kept → (Rose host.faults host_now.faults → ⊥) → (Rose wrote wrote_now → ⊥)
+      (disk : D) → host.disk_ready ≡ Some disk → d.told → (kept : Kept) → found_of (d.seen disk) ≡ Ok kept
+      → (Rose host.faults host_now.faults → ⊥) → (Rose wrote wrote_now → ⊥)
       → ((back : D) → host_now.disk_back ≡ Some back → Rose 0 (d.faults back) → ⊥)
       → (e ≡ end.NoMemory) ⊎ (((e ≡ end.Done) × (refusal_of tool kept ≡ None)) ⊎ ((e ≡ end.Refused) × (refusal_of tool kept ≡ None → ⊥)))
 

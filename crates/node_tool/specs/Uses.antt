@@ -115,14 +115,16 @@ TellsError (refused.Memory back) t = t ≡ tooled.Memory
 module _ {D : Type 0} (d : Disks D) (tool : Tool) (old new : StateJournal D d) where
   -- what a tool does on an opened journal
   abbrev pub UsesOn : Tooled → Type 0
-  UsesOn (tooled.Report text) = (refusal_of tool old.kept ≡ None) × (new.log.stopped ≡ false) × (new.kept ≡ made_by tool old.kept) × (text ≡ report new.kept new.records)
+  UsesOn (tooled.Report text) = (refusal_of tool old.kept ≡ None) × (new.log.stopped ≡ false) × (new.kept ≡ made_by tool old.kept)
+      × (text ≡ report new.kept new.records)
   UsesOn (tooled.Refused text) = (cause : ToolError) × (refusal_of tool old.kept ≡ Some cause) × (text ≡ refusal_line cause) × (new ≡ old)
   UsesOn (tooled.NotAJournal text) = ⊥
   UsesOn tooled.Disk = Rose (d.faults old.log.disk) (d.faults new.log.disk)
   UsesOn tooled.Memory = Unit {0}
 
   abbrev pub WroteOn : Bool → Type 0
-  WroteOn ok = CallsMade d.steps (keeping_calls old.due (place old.log) old.kept (Accepted (state_by tool old.kept))) old.log.disk new.log.disk ok
+  WroteOn ok = CallsMade d.steps (keeping_calls old.due (place old.log) old.kept (Accepted (state_by tool old.kept))) old.log.disk
+      new.log.disk ok
 
   abbrev pub WritesOn : Tooled → Type 0
   WritesOn (tooled.Report text) = WroteOn true

@@ -58,7 +58,9 @@ fn keep<K: Keeper>(journal: &mut K, ready: Ready) -> Result<(), ToolError>
     requires runs { K.has_stopped journal.old ≡ false }
     ensures ends { ToolEnds K.Keeper None (changed (K.record_of journal.old) (change.Accepted ready.state)) journal.old journal.new result }
     ensures later { K.faults journal.old ≤ K.faults journal.new }
-    ensures any_moment { K.told → LeavesOnly K.moment K.left_since journal.old journal.new (IsEither (K.record_of journal.old) (changed (K.record_of journal.old) (change.Accepted ready.state))) }
+    ensures any_moment { K.told
+        → LeavesOnly K.moment K.left_since journal.old journal.new
+        (IsEither (K.record_of journal.old) (changed (K.record_of journal.old) (change.Accepted ready.state))) }
     ensures wrote { ToolWrites K.Keeper ready.state journal.old journal.new result }
 {
     match journal.set_accepted(ready) {
@@ -79,11 +81,14 @@ pub fn unsafe_bootstrap<K: Keeper>(
     id: NodeId,
     journal: &mut K,
 ) -> Result<(), ToolError>
-    ensures ends { ToolEnds K.Keeper (alone_refusal (K.record_of journal.old)) (record_alone id (K.record_of journal.old)) journal.old journal.new result }
+    ensures ends { ToolEnds K.Keeper (alone_refusal (K.record_of journal.old)) (record_alone id (K.record_of journal.old)) journal.old
+        journal.new result }
     ensures later { K.faults journal.old ≤ K.faults journal.new }
 
     // A crash at any moment leaves the old record or the new one.
-    ensures any_moment { K.told → LeavesOnly K.moment K.left_since journal.old journal.new (IsEither (K.record_of journal.old) (record_alone id (K.record_of journal.old))) }
+    ensures any_moment { K.told
+        → LeavesOnly K.moment K.left_since journal.old journal.new
+        (IsEither (K.record_of journal.old) (record_alone id (K.record_of journal.old))) }
     ensures wrote { ToolWrites K.Keeper (state_alone id (K.record_of journal.old)) journal.old journal.new result }
 {
     let kept = journal.kept();
@@ -109,11 +114,14 @@ pub fn unsafe_bootstrap<K: Keeper>(
 /// Disk; `Memory` before anything is written, and `Disk` only where the count of faults rose in this call. At an error the
 /// record is as before.
 pub fn detach_cluster<K: Keeper>(alloc: Global, journal: &mut K) -> Result<(), ToolError>
-    ensures ends { ToolEnds K.Keeper (detach_refusal (K.record_of journal.old)) (record_detached (K.record_of journal.old)) journal.old journal.new result }
+    ensures ends { ToolEnds K.Keeper (detach_refusal (K.record_of journal.old)) (record_detached (K.record_of journal.old)) journal.old
+        journal.new result }
     ensures later { K.faults journal.old ≤ K.faults journal.new }
 
     // A crash at any moment leaves the old record or the new one.
-    ensures any_moment { K.told → LeavesOnly K.moment K.left_since journal.old journal.new (IsEither (K.record_of journal.old) (record_detached (K.record_of journal.old))) }
+    ensures any_moment { K.told
+        → LeavesOnly K.moment K.left_since journal.old journal.new
+        (IsEither (K.record_of journal.old) (record_detached (K.record_of journal.old))) }
     ensures wrote { ToolWrites K.Keeper empty_state journal.old journal.new result }
 {
     if journal.kept().accepted.config.is_empty() {
@@ -131,9 +139,12 @@ pub fn detach_cluster<K: Keeper>(alloc: Global, journal: &mut K) -> Result<(), T
 impl Tool {
     /// Uses the tool.
     pub fn apply<K: Keeper>(self, alloc: Global, journal: &mut K) -> Result<(), ToolError>
-        ensures ends { ToolEnds K.Keeper (refusal_of self (K.record_of journal.old)) (made_by self (K.record_of journal.old)) journal.old journal.new result }
+        ensures ends { ToolEnds K.Keeper (refusal_of self (K.record_of journal.old)) (made_by self (K.record_of journal.old)) journal.old
+            journal.new result }
         ensures later { K.faults journal.old ≤ K.faults journal.new }
-        ensures any_moment { K.told → LeavesOnly K.moment K.left_since journal.old journal.new (IsEither (K.record_of journal.old) (made_by self (K.record_of journal.old))) }
+        ensures any_moment { K.told
+            → LeavesOnly K.moment K.left_since journal.old journal.new
+            (IsEither (K.record_of journal.old) (made_by self (K.record_of journal.old))) }
         ensures wrote { ToolWrites K.Keeper (state_by self (K.record_of journal.old)) journal.old journal.new result }
     {
         match self {

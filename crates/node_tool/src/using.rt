@@ -8,9 +8,9 @@ ghost use Rattle.node_tool.specs.declared.error.ToolError.TheVariants as error;
 use crate::{Tool, ToolError};
 use cluster_state::Kept;
 use journal_inspection::{write_not_a_journal, write_report};
-use schedule_text::Text;
 use state_journal::{Keeper, OpenError, StateJournal, Why};
 use std::alloc::{AllocError, Global};
+use text::Text;
 use zen_disk::Disks;
 
 /// What a tool made of the journal on a disk.

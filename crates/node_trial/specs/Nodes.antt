@@ -50,5 +50,6 @@ folder_of dir n = dir ++ codes "/" ++ name_of n
 -- the words that run a node
 abbrev pub words_of : ToldTrial → TrialNode → List (List ℕ)
 words_of t n =
-    codes "node" ∷ codes "--id" ∷ name_of n ∷ codes "--dir" ∷ folder_of t.dir n ∷ codes "--listen" ∷ address t.port n ∷ codes "--peers" ∷ peers_of t.port n
+    codes "node" ∷ codes "--id" ∷ name_of n ∷ codes "--dir" ∷ folder_of t.dir n ∷ codes "--listen" ∷ address t.port n ∷ codes "--peers"
+    ∷ peers_of t.port n
     ∷ codes "--initial" ∷ codes "a,b,c" ∷ codes "--turns" ∷ decimal t.turns ∷ []

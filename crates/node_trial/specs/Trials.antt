@@ -16,7 +16,8 @@ use Rattle.node_trial.specs.Ends.{ToldEnds, have_passed, text_of}
 abbrev pub Starts : ToldTrial → List TrialNode → (children : List ℕ) → (was now : Option (List HostCall)) → Type 0
 Starts t [] [] was now = now ≡ was
 Starts t (n ∷ ns) (child ∷ children) was now =
-    IsNumber (and_call was (Spawns t.program (words_of t n) false)) child × Starts t ns children (and_call was (Spawns t.program (words_of t n) false)) now
+    IsNumber (and_call was (Spawns t.program (words_of t n) false)) child
+    × Starts t ns children (and_call was (Spawns t.program (words_of t n) false)) now
 Starts t ns children was now = ⊥
 
 -- these children are waited for, one after the other, and end so

@@ -4,8 +4,8 @@ ghost use Rattle.zen_host.specs.HostCalls.{told_end};
 ghost use Rattle.node_trial.specs.Ends.{told_ends, is_win, has_won as has_won_of, has_passed as has_passed_of, have_passed as have_passed_of, one_has_won, child_line, won_line, text_of};
 
 use crate::TrialNode;
-use schedule_text::Text;
 use std::alloc::AllocError;
+use text::Text;
 use voting_config::cut;
 use zen_host::Ended;
 

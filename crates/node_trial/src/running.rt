@@ -9,8 +9,8 @@ ghost use Rattle.node_trial.specs.Trials.{IsKilled, AreKilled, Begins, Awaits, T
 use crate::ends::{have_passed, write_ends};
 use crate::node::node_words;
 use crate::{Trial, TrialEnds, TrialNode};
-use schedule_text::Text;
 use std::alloc::Global;
+use text::Text;
 use zen_host::{Host, HostError};
 use zen_link::{Sink, write_all};
 
@@ -43,7 +43,8 @@ fn start<H: Host>(
     node: TrialNode,
     host: &mut H,
 ) -> Result<H::Child, HostError>
-    ensures call { Notes (H.calls host.old) (H.calls host.new) (Spawns trial.now.program.now (words_of (told_trial trial.now) node)) result }
+    ensures call { Notes (H.calls host.old) (H.calls host.new) (Spawns trial.now.program.now (words_of (told_trial trial.now) node))
+        result }
     ensures number { IfOk result (λ child. IsNumber (H.calls host.new) (H.child_number child)) }
     ensures held { IfOk result (λ child. H.held host.new ≡ H.held host.old + 1) }
     ensures running { IfOk result (λ child. H.running host.new ≡ H.running host.old + 1) }
@@ -94,7 +95,8 @@ fn start_all<H: Host>(
     trial: &Trial<'_>,
     host: &mut H,
 ) -> Result<Children<H::Child>, HostError>
-    ensures begins { Begins (told_trial trial.now) (H.calls host.old) (H.calls host.new) result (λ children. H.child_number children.a ∷ H.child_number children.b ∷ H.child_number children.c ∷ []) }
+    ensures begins { Begins (told_trial trial.now) (H.calls host.old) (H.calls host.new) result
+        (λ children. H.child_number children.a ∷ H.child_number children.b ∷ H.child_number children.c ∷ []) }
     ensures held { IfOk result (λ children. H.held host.new ≡ H.held host.old + 3) }
     ensures running { IfOk result (λ children. H.running host.new ≡ H.running host.old + 3) }
     ensures refused { OnErr result (H.held host.new ≡ H.held host.old) }
@@ -127,7 +129,8 @@ fn start_all<H: Host>(
 
 // Waits for all children, or asks the host to kill those that it has not waited for.
 fn wait_for_all<H: Host>(host: &mut H, children: Children<H::Child>) -> Result<TrialEnds, HostError>
-    ensures awaits { Awaits told_ends (H.child_number children.a ∷ H.child_number children.b ∷ H.child_number children.c ∷ []) (H.calls host.old) (H.calls host.new) result }
+    ensures awaits { Awaits told_ends (H.child_number children.a ∷ H.child_number children.b ∷ H.child_number children.c ∷ [])
+        (H.calls host.old) (H.calls host.new) result }
     ensures held { H.held host.new ≡ H.held host.old - 3 }
     ensures running { IfOk result (λ ends. H.running host.new ≡ H.running host.old - 3) }
     ensures disk_ready { H.disk_ready host.new ≡ H.disk_ready host.old }
@@ -197,7 +200,8 @@ pub fn run_trial<H: Host>(
     out: &mut H::Out,
     host: &mut H,
 ) -> TrialEnd
-    ensures tried { Tried (told_trial trial.now) (H.calls host.old) (H.calls host.new) (H.Out.written out.old) (H.Out.written out.new) result }
+    ensures tried { Tried (told_trial trial.now) (H.calls host.old) (H.calls host.new) (H.Out.written out.old) (H.Out.written out.new)
+        result }
     ensures held { H.held host.new ≡ H.held host.old }
     ensures running { has_waited result ≡ true → H.running host.new ≡ H.running host.old }
     ensures disk_ready { H.disk_ready host.new ≡ H.disk_ready host.old }

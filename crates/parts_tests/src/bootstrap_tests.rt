@@ -1,4 +1,4 @@
-//! When a node takes the first configuration, by cases.
+//! When a node takes the first configuration, by cases. The cases are those of docs/policy.md.
 use bootstrap::*;
 use std::test::*;
 use voting_config::{NodeId, NodeSet, VotingConfig};

@@ -397,22 +397,20 @@ fn answer(place: usize) -> Answer {
         3 => Answer::BadSetting(129),
         4 => Answer::QueueFull(64),
         5 => Answer::TooManySettings(1_025),
-        6 => Answer::NotMember(id("b")),
-        7 => Answer::TooManyExclusions(11),
-        8 => Answer::StillMember(id("b")),
-        9 => Answer::FailedToCommit(u64::MAX),
+        6 => Answer::TooManyExclusions(11),
+        7 => Answer::StillMember(id("b")),
+        8 => Answer::FailedToCommit(u64::MAX),
         _ => Answer::ExclusionTimeout(set("b,c")),
     }
 }
 
-const ANSWERS: [&str; 11] = [
+const ANSWERS: [&str; 10] = [
     r#"{"acked":{"term":1,"version":2},"id":65}"#,
     r#"{"id":65,"not_master":"a"}"#,
     r#"{"id":65,"not_master":null}"#,
     r#"{"bad_setting":129,"id":65}"#,
     r#"{"id":65,"queue_full":64}"#,
     r#"{"id":65,"too_many_settings":1025}"#,
-    r#"{"id":65,"not_member":"b"}"#,
     r#"{"id":65,"too_many_exclusions":11}"#,
     r#"{"id":65,"still_member":"b"}"#,
     r#"{"failed_to_commit":18446744073709551615,"id":65}"#,

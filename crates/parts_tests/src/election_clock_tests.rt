@@ -1,4 +1,5 @@
-//! The waits of the first attempts at an election, by number.
+//! The waits of the first attempts at an election, by number. The bounds were worked out from the numbers of docs/policy.md: 100
+//! ms more with each attempt, 10 s at most.
 use election_clock::*;
 use std::test::*;
 

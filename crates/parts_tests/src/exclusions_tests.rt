@@ -1,4 +1,4 @@
-//! Which exclusions are taken, and when a clear is refused.
+//! Which exclusions are taken, and when a clear is refused. The answers follow from docs/policy.md.
 use exclusions::*;
 use std::alloc::{AllocError, Global};
 use std::test::*;
@@ -48,12 +48,19 @@ const ADDED: &[(&str, &str, &str, &str)] = &[
         "k",
         "11 nodes would be excluded, and 10 may be",
     ),
-    ("_", "a,b,c", "x,y,z", "x is no member"),
-    ("a,b,c,d,e,f,g,h,i,j", "_", "x", "x is no member"),
+    // An id may be excluded before it is a member.
+    ("_", "a,b,c", "x", "x"),
+    ("c", "a,b,c", "b,x,y", "b,c,x,y"),
+    (
+        "a,b,c,d,e,f,g,h,i,j",
+        "_",
+        "x",
+        "11 nodes would be excluded, and 10 may be",
+    ),
 ];
 
 #[test]
-fn only_members_and_at_most_ten_nodes_are_excluded(rt: HostRuntime) -> Result<(), Fail> {
+fn at_most_ten_nodes_are_excluded_members_or_not(rt: HostRuntime) -> Result<(), Fail> {
     for row in ADDED {
         let (excluded, members, asked, want) = *row;
         assert!(rt;

@@ -1,4 +1,5 @@
-//! A follower that never answers, one that lags, and a leader that refuses, tick by tick.
+//! A follower that never answers, one that lags, and a leader that refuses, tick by tick. The moments were worked out from the
+//! numbers of docs/policy.md.
 use cluster_state::StateId;
 use fault_checks::*;
 use std::test::*;

@@ -317,7 +317,7 @@ const OUTCOMES: &[(u64, (&str, &str), &[Wish], &str)] = &[
         1,
         ("a,b,c", "_"),
         &[Wish::Exclude("x")],
-        r#"same {"id":1,"not_member":"x"}"#,
+        r#"abc {"exclusions":["x"],"master":"a","members":["a","b","c"],"settings":{"v":"x"}}"#,
     ),
     (
         1,
@@ -508,6 +508,26 @@ const CHANGES: &[Change] = &[
 fn members_leave_and_join_up_to_32(rt: HostRuntime) -> Result<(), Fail> {
     for (at, change) in CHANGES.iter().enumerate() {
         assert!(rt; is_made(rt.alloc(), "a,b,c", *change)?, "row {at}");
+    }
+    Ok(())
+}
+
+// Who is excluded where node c joins a, the only voter, and b; and the voters after that.
+const JOINED: &[(&str, &str)] = &[("_", "a,b,c"), ("c", "a")];
+
+fn are_voters_with_c(alloc: Global, excluded: &str, voters: &str) -> Result<bool, Fail> {
+    let accepted = state(alloc, "a", "a,b", excluded, one_setting(alloc)?)?;
+    let next = after_changes(alloc, &accepted, "_", &["c"])?;
+    Ok(has(&next, &config(voters), "a,b,c"))
+}
+
+#[test]
+fn a_node_that_was_excluded_before_it_joins_does_not_vote(rt: HostRuntime) -> Result<(), Fail> {
+    for (excluded, voters) in JOINED {
+        assert!(rt;
+            are_voters_with_c(rt.alloc(), excluded, voters)?,
+            "{voters}"
+        );
     }
     Ok(())
 }

@@ -1,4 +1,4 @@
-//! Which peers are kept, and when they are asked.
+//! Which peers are kept, and when they are asked. What is expected follows from docs/policy.md.
 use peer_finder::*;
 use std::test::*;
 use voting_config::NodeId;

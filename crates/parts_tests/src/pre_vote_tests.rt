@@ -1,4 +1,4 @@
-//! Rounds of pre-votes, answer by answer.
+//! Rounds of pre-votes, answer by answer. The answers follow from docs/policy.md.
 use cluster_state::StateId;
 use pre_vote::*;
 use std::test::*;

@@ -1,4 +1,5 @@
-//! A publication from its start to its end, in time and late.
+//! A publication from its start to its end, in time and late. The moments were worked out from the time that docs/policy.md
+//! gives a publication.
 use cluster_state::StateId;
 use publication::*;
 use std::test::*;

@@ -1,4 +1,4 @@
-//! Live nodes and voters, with the voters that they become.
+//! Live nodes and voters, with the voters that they become. The voters follow from the rule of docs/policy.md.
 use reconfigurator::*;
 use std::test::*;
 use voting_config::{NodeId, NodeSet, VotingConfig};

@@ -1,4 +1,4 @@
-//! Frames byte by byte, streams however they are cut, and first faults.
+//! Frames byte by byte, streams however they are cut, and first faults. The bytes are those of docs/formats.md.
 ghost use Rattle.std.specs.Prelude.{IfOk};
 ghost use Rattle.wire_frames.specs.Frames.{IsFitFrame};
 ghost use Rattle.wire_frames.specs.Messages.{IsFitMessage};

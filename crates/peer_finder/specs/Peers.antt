@@ -44,7 +44,8 @@ known_of (Then calls call) = known_of calls
 -- the last answer of a peer since it became known, where answers were not forgotten since
 abbrev pub answer_of : Calls → Id → Option Found
 answer_of (Started me) peer = None
-answer_of (Then calls (Answered id master)) peer = if same peer id && has peer (known_of calls) then Some (record { master = master }) else answer_of calls peer
+answer_of (Then calls (Answered id master)) peer = if same peer id
+    && has peer (known_of calls) then Some (record { master = master }) else answer_of calls peer
 answer_of (Then calls (Forgotten id)) peer = if same peer id then None else answer_of calls peer
 answer_of (Then calls (AnswersForgotten now)) peer = None
 answer_of (Then calls call) peer = answer_of calls peer

@@ -93,12 +93,12 @@ module _ (s : Settings) where
   quiet-becomes_follower : (v : View) (p : Id) → IsQuiet (doing.becomes_follower s v p)
   quiet-becomes_follower v p = search (quiet-append, quiet-if, quiet-becomes_candidate, Silent, Also)
 
-  answered-starts_join : (v : View) (c : Id) (t : ℕ) → IsAnswered s v (doing.starts_join s v c t)
-  answered-starts_join v c t =
+  answered-on_start_join : (v : View) (c : Id) (t : ℕ) → IsAnswered s v (doing.on_start_join s v c t)
+  answered-on_start_join v c t =
       ByAct v (StartJoin c t) _ refl (search (answered-if, answered-quiet, quiet-becomes_candidate_once, Ended, Also))
 
   answered-raises_term : (v : View) (c : Id) (t : ℕ) → IsAnswered s v (doing.raises_term s v c t)
-  answered-raises_term v c t = search (answered-if, answered-starts_join, Ended)
+  answered-raises_term v c t = search (answered-if, answered-on_start_join, Ended)
 
   -- the next state
   answered-publishes : (v made : View) → IsAnswered s made (next.publishes s v made)
@@ -152,25 +152,25 @@ module _ (s : Settings) where
   quiet-goes_to_election v Fresher = Silent
   quiet-goes_to_election v (Quorum term) = quiet-stands_for_election v term
 
-  quiet-counts_pre_vote : (v : View) (round : Option Round) (p : Id) (term : ℕ) (last : StateId) → IsQuiet (elections.counts_pre_vote s v round p term last)
-  quiet-counts_pre_vote v None p term last = Silent
-  quiet-counts_pre_vote v (Some r) p term last = search (quiet-if, quiet-goes_to_election, Silent, Also)
+  quiet-on_pre_vote_answer : (v : View) (round : Option Round) (p : Id) (term : ℕ) (last : StateId) → IsQuiet (elections.on_pre_vote_answer s v round p term last)
+  quiet-on_pre_vote_answer v None p term last = Silent
+  quiet-on_pre_vote_answer v (Some r) p term last = search (quiet-if, quiet-goes_to_election, Silent, Also)
 
   -- discovery
   quiet-asks_peers : (v : View) → IsQuiet (discovery.asks_peers s v)
   quiet-asks_peers v = search (quiet-if, quiet-sends, Silent, Also)
 
-  answered-asked_for_peers : (v : View) (p : Id) (ids : List Id) → IsAnswered s v (discovery.is_asked_for_peers s v p ids)
+  answered-asked_for_peers : (v : View) (p : Id) (ids : List Id) → IsAnswered s v (discovery.on_peers_ask s v p ids)
   answered-asked_for_peers v p ids = ByQuiet v _ _ refl (ByQuiet _ _ _ refl (Ended _))
 
   answered-seeks_master : (v : View) (p : Id) (master : Option Id) (term : ℕ) → IsAnswered s v (discovery.seeks_master s v p master term)
-  answered-seeks_master v p master term = search (answered-if, answered-starts_join, answered-quiet, Silent, Also, Ended)
+  answered-seeks_master v p master term = search (answered-if, answered-on_start_join, answered-quiet, Silent, Also, Ended)
 
   answered-hears_peer : (v : View) (p : Id) (master : Option Id) (term : ℕ) → IsAnswered s v (discovery.hears_peer s v p master term)
   answered-hears_peer v p master term =
       answered-if v (doing.is_candidate v.mode) _ _ (ByQuiet _ _ _ refl (answered-seeks_master _ p master term)) (Ended v)
 
-  answered-told_peers : (v : View) (p : Id) (master : Option Id) (term : ℕ) (ids : List Id) → IsAnswered s v (discovery.is_told_peers s v p master term ids)
+  answered-told_peers : (v : View) (p : Id) (master : Option Id) (term : ℕ) (ids : List Id) → IsAnswered s v (discovery.on_peers_answer s v p master term ids)
   answered-told_peers v p master term ids = ByQuiet v _ _ refl (answered-hears_peer _ p master term)
 
   -- joins
@@ -188,13 +188,13 @@ module _ (s : Settings) where
       let act : Act = TakeJoin (joins.join_from p s.me term last) in
       answered-if v (has_room v.node.join_votes p) _ _ (ByAct v act _ refl (answered-after_join v (doing.after_act s v act) act p)) (Ended v)
 
-  answered-joined : (v : View) (p : Id) (term : ℕ) (last : StateId) → IsAnswered s v (joins.is_joined s v p term last)
+  answered-joined : (v : View) (p : Id) (term : ℕ) (last : StateId) → IsAnswered s v (joins.on_join s v p term last)
   answered-joined v p term last =
       answered-if v (doing.is_voting_only s s.me) _ _ (Ended v)
       (answered-then v _ (λ u. joins.takes_join s u p term last) (answered-raises_term v s.me term) (λ u. answered-takes_join u p term last))
 
-  answered-asked_to_join : (v : View) (p : Id) (term : ℕ) → IsAnswered s v (joins.is_asked_to_join s v p term)
-  answered-asked_to_join v p term = search (answered-if, answered-takes_member, answered-starts_join, Ended)
+  answered-asked_to_join : (v : View) (p : Id) (term : ℕ) → IsAnswered s v (joins.on_join_ask s v p term)
+  answered-asked_to_join v p term = search (answered-if, answered-takes_member, answered-on_start_join, Ended)
 
   -- publications
   answered-accepts : (v : View) (p : Id) (state : ClusterState) → IsAnswered s v (publications.accepts s v p state)
@@ -202,15 +202,15 @@ module _ (s : Settings) where
       ByAct v (Publish (record { source = p; state = state })) _ refl
       (search (answered-quiet, quiet-if, quiet-becomes_follower, Silent, Also))
 
-  answered-published_to : (v : View) (p : Id) (state : ClusterState) → IsAnswered s v (publications.is_published_to s v p state)
+  answered-published_to : (v : View) (p : Id) (state : ClusterState) → IsAnswered s v (publications.on_publish s v p state)
   answered-published_to v p state =
       answered-then v _ (λ u. publications.accepts s u p state) (answered-raises_term v p state.term) (λ u. answered-accepts u p state)
 
   quiet-sends_commit : (v : View) (sent : Bool) (p : Id) (id : StateId) → IsQuiet (publications.sends_commit s v sent p id)
   quiet-sends_commit v sent p id = search (quiet-append, quiet-if, quiet-sends, quiet-replies, Silent, Also)
 
-  answered-counts_response : (v : View) (p : Id) (id : StateId) → IsAnswered s v (publications.counts_response s v p id)
-  answered-counts_response v p id =
+  answered-on_response : (v : View) (p : Id) (id : StateId) → IsAnswered s v (publications.on_response s v p id)
+  answered-on_response v p id =
       let act : Act = Response (record { source = p; target = s.me; term = id.term; version = id.version }) in
       answered-if v (doing.is_leader v.mode && is_some v.publication && has_room v.node.publish_votes p) _ _
       (ByAct v act _ refl
@@ -220,7 +220,7 @@ module _ (s : Settings) where
   quiet-acks_exclusions : (v : View) → IsQuiet (publications.acks_exclusions s v)
   quiet-acks_exclusions v = search (quiet-append, quiet-replies, Silent, Also)
 
-  answered-told_commit : (v : View) (p : Id) (id : StateId) → IsAnswered s v (publications.is_told_commit s v p id)
+  answered-told_commit : (v : View) (p : Id) (id : StateId) → IsAnswered s v (publications.on_commit s v p id)
   answered-told_commit v p id =
       let act : Act = Commit (record { source = p; term = id.term; version = id.version }) in
       let after = doing.after_act s v act in
@@ -246,7 +246,7 @@ module _ (s : Settings) where
       answered-if v (doing.is_leader v.mode) _ _ (ByQuiet _ _ _ refl (Ended _))
       (answered-then v _ (λ u. checks.answers_leader s u p true) (answered-quiet v _ (quiet-becomes_follower v p)) (λ u. ByQuiet _ _ _ refl (Ended _)))
 
-  answered-checked_by_leader : (v : View) (p : Id) (term : ℕ) → IsAnswered s v (checks.is_checked_by_leader s v p term)
+  answered-checked_by_leader : (v : View) (p : Id) (term : ℕ) → IsAnswered s v (checks.on_follower_check s v p term)
   answered-checked_by_leader v p term =
       answered-if v (nat_lt term v.node.term) _ _ (ByQuiet _ _ _ refl (Ended _))
       (answered-then v _ (λ u. checks.follows_checker s u p) (answered-raises_term v p term) (λ u. answered-follows_checker u p))
@@ -287,16 +287,16 @@ module _ (s : Settings) where
 
   -- a frame, by its message
   answered-message : (v : View) (p : Id) (m : WireMessage) → IsAnswered s v (rules.takes_message s v p m)
-  answered-message v p (message.StartJoin candidate term) = answered-starts_join v candidate term
+  answered-message v p (message.StartJoin candidate term) = answered-on_start_join v candidate term
   answered-message v p (message.Join term last) = answered-joined v p term last
   answered-message v p (message.Publish state) = answered-published_to v p state
-  answered-message v p (message.Response id) = answered-counts_response v p id
+  answered-message v p (message.Response id) = answered-on_response v p id
   answered-message v p (message.Commit id) = answered-told_commit v p id
   answered-message v p (message.JoinAsk term) = answered-asked_to_join v p term
   answered-message v p (message.PeersAsk known) = answered-asked_for_peers v p known
   answered-message v p (message.PeersAnswer master term known) = answered-told_peers v p master term known
   answered-message v p message.PreVoteAsk = answered-quiet v _ (quiet-pre_vote_reply v p _)
-  answered-message v p (message.PreVoteAnswer term last) = answered-quiet v _ (quiet-counts_pre_vote v v.round p term last)
+  answered-message v p (message.PreVoteAnswer term last) = answered-quiet v _ (quiet-on_pre_vote_answer v v.round p term last)
   answered-message v p (message.PreVoteRefuse leader) = ByQuiet _ _ _ refl (Ended _)
   answered-message v p (message.FollowerCheck term) = answered-checked_by_leader v p term
   answered-message v p (message.FollowerAnswer good term applied) = answered-quiet v _ (quiet-if (doing.is_leader v.mode) _ _ (Also _ _ refl Silent) Silent)

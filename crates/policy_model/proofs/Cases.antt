@@ -20,11 +20,11 @@ use Rattle.policy_model.specs.Parts.{no_peers, no_followers, published_at}
 use Rattle.policy_model.specs.Views.{View}
 use Rattle.policy_model.specs.Moves.{moved}
 use Rattle.policy_model.specs.NextState.{hands_over}
-use Rattle.policy_model.specs.Elections.{is_asked_pre_vote, counts_pre_vote}
-use Rattle.policy_model.specs.Discovery.{is_told_peers}
-use Rattle.policy_model.specs.Joins.{is_asked_to_join}
+use Rattle.policy_model.specs.Elections.{on_pre_vote_ask, on_pre_vote_answer}
+use Rattle.policy_model.specs.Discovery.{on_peers_answer}
+use Rattle.policy_model.specs.Joins.{on_join_ask}
 use Rattle.policy_model.specs.Publications.{sends_first_commit, acks_exclusions}
-use Rattle.policy_model.specs.Checks.{checks_followers, checks_leader, is_checked_by_leader, is_checked_by_follower}
+use Rattle.policy_model.specs.Checks.{checks_followers, checks_leader, on_follower_check, on_leader_check}
 use Rattle.policy_model.specs.Requests.{times_out_exclusions}
 
 abbrev a : Id
@@ -47,10 +47,10 @@ to id m = Sends (record { from = a; to = id; message = m })
 
 module _ (v : View) where
   -- a follower refuses a pre-vote to another node, and answers its leader
-  follower_refuses : is_asked_pre_vote three (record v { mode = Follower b }) c ≡ to c (message.PreVoteRefuse b) ∷ []
+  follower_refuses : on_pre_vote_ask three (record v { mode = Follower b }) c ≡ to c (message.PreVoteRefuse b) ∷ []
   follower_refuses = refl
 
-  leader_is_answered : is_asked_pre_vote three (record v { mode = Follower b }) b ≡ to b (message.PreVoteAnswer v.node.term (id_of v.node.accepted)) ∷ []
+  leader_is_answered : on_pre_vote_ask three (record v { mode = Follower b }) b ≡ to b (message.PreVoteAnswer v.node.term (id_of v.node.accepted)) ∷ []
   leader_is_answered = refl
 
   -- a candidate of term 4 with a round, one of three voters, which has met the others
@@ -63,43 +63,43 @@ module _ (v : View) where
   }
 
   -- an answer that counts makes it stand for election, in the term after the greatest
-  pre_vote_elects : counts_pre_vote three in_round in_round.round b 6 (state_id 1 3)
+  pre_vote_elects : on_pre_vote_answer three in_round in_round.round b 6 (state_id 1 3)
       ≡ Notes (RoundAnswered b 6 (state_id 1 3)) ∷ Notes RoundEnded ∷ to a (message.StartJoin a 7) ∷ to b (message.StartJoin a 7) ∷ []
   pre_vote_elects = refl
 
   -- an answer of one that has accepted more doesn't
-  fresher_does_not : counts_pre_vote three in_round in_round.round b 6 (state_id 1 4) ≡ Notes (RoundAnswered b 6 (state_id 1 4)) ∷ []
+  fresher_does_not : on_pre_vote_answer three in_round in_round.round b 6 (state_id 1 4) ≡ Notes (RoundAnswered b 6 (state_id 1 4)) ∷ []
   fresher_does_not = refl
 
   -- without a round, and in another mode, nothing is counted
-  no_round : counts_pre_vote three in_round None b 6 (state_id 1 3) ≡ []
+  no_round : on_pre_vote_answer three in_round None b 6 (state_id 1 3) ≡ []
   no_round = refl
 
-  leader_counts_none : counts_pre_vote three (record in_round { mode = Leader }) in_round.round b 6 (state_id 1 3) ≡ []
+  leader_counts_none : on_pre_vote_answer three (record in_round { mode = Leader }) in_round.round b 6 (state_id 1 3) ≡ []
   leader_counts_none = refl
 
   -- a leader takes who asks for a join as a member; in a later term it raises its own; another node does nothing
   abbrev leading : View
   leading = record v { mode = Leader; node = record v.node { term = 4 }; publication = Some (published_at (state_id 4 1) (a ∷ []) 0) }
 
-  leader_takes_member : is_asked_to_join three leading b 4 ≡ Notes (Joined (b ∷ [])) ∷ []
+  leader_takes_member : on_join_ask three leading b 4 ≡ Notes (Joined (b ∷ [])) ∷ []
   leader_takes_member = refl
 
-  follower_takes_none : is_asked_to_join three (record v { mode = Follower b }) c 4 ≡ []
+  follower_takes_none : on_join_ask three (record v { mode = Follower b }) c 4 ≡ []
   follower_takes_none = refl
 
   -- a candidate that hears of a master from that master asks it for a join
   abbrev seeking : View
   seeking = record v { mode = Candidate; node = record v.node { term = 4 } }
 
-  master_is_asked : is_told_peers three seeking b (Some b) 4 (c ∷ [])
+  master_is_asked : on_peers_answer three seeking b (Some b) 4 (c ∷ [])
       ≡ Notes (Met (b ∷ c ∷ [])) ∷ Notes (Heard b (Some b)) ∷ to b (message.JoinAsk 4) ∷ []
   master_is_asked = refl
 
-  other_master_is_not : is_told_peers three seeking b (Some c) 4 [] ≡ Notes (Met (b ∷ [])) ∷ Notes (Heard b (Some c)) ∷ []
+  other_master_is_not : on_peers_answer three seeking b (Some c) 4 [] ≡ Notes (Met (b ∷ [])) ∷ Notes (Heard b (Some c)) ∷ []
   other_master_is_not = refl
 
-  follower_meets : is_told_peers three (record v { mode = Follower b }) b (Some b) 4 (c ∷ []) ≡ Notes (Met (b ∷ c ∷ [])) ∷ []
+  follower_meets : on_peers_answer three (record v { mode = Follower b }) b (Some b) 4 (c ∷ []) ≡ Notes (Met (b ∷ c ∷ [])) ∷ []
   follower_meets = refl
 
   -- a hand-over comes a second after the last one at the earliest
@@ -140,17 +140,17 @@ module _ (v : View) where
   checks_come_first = refl
 
   -- a member is answered whether the node leads it in its term
-  member_is_led : is_checked_by_follower three (record leading { publication = Some (published_at (state_id 4 1) (a ∷ b ∷ []) 0) }) b 4 ≡ to b (message.LeaderAnswer true) ∷ []
+  member_is_led : on_leader_check three (record leading { publication = Some (published_at (state_id 4 1) (a ∷ b ∷ []) 0) }) b 4 ≡ to b (message.LeaderAnswer true) ∷ []
   member_is_led = refl
 
-  other_term_is_not : is_checked_by_follower three (record leading { publication = Some (published_at (state_id 4 1) (a ∷ b ∷ []) 0) }) b 3 ≡ to b (message.LeaderAnswer false) ∷ []
+  other_term_is_not : on_leader_check three (record leading { publication = Some (published_at (state_id 4 1) (a ∷ b ∷ []) 0) }) b 3 ≡ to b (message.LeaderAnswer false) ∷ []
   other_term_is_not = refl
 
-  no_member_is_not : is_checked_by_follower three leading b 4 ≡ to b (message.LeaderAnswer false) ∷ []
+  no_member_is_not : on_leader_check three leading b 4 ≡ to b (message.LeaderAnswer false) ∷ []
   no_member_is_not = refl
 
   -- a check of an earlier term is answered no
-  earlier_leader : is_checked_by_leader three (record v { node = record v.node { term = 4 } }) b 3 ≡ to b (message.FollowerAnswer false 4 v.applied) ∷ []
+  earlier_leader : on_follower_check three (record v { node = record v.node { term = 4 } }) b 3 ≡ to b (message.FollowerAnswer false 4 v.applied) ∷ []
   earlier_leader = refl
 
   -- a leader whose checks failed three times is lost

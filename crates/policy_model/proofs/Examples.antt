@@ -28,7 +28,7 @@ use Rattle.policy_model.specs.NextState.{hands_over}
 use Rattle.policy_model.specs.Publications.{sends_first_commit}
 use Rattle.policy_model.specs.Views.{View}
 use Rattle.policy_model.specs.Follows.{items_of}
-use Rattle.policy_model.specs.Checks.{is_checked_by_leader}
+use Rattle.policy_model.specs.Checks.{on_follower_check}
 use Rattle.policy_model.specs.Requests.{takes_line, queues}
 use Rattle.policy_model.specs.Rules.{ticks_leader}
 
@@ -116,7 +116,7 @@ publishes_first = record { publishes = refl; leads = refl; responds = refl; comm
 
 module _ (s : Settings) (v : View) where
   -- a follower answers its leader's check
-  follower_answers : is_checked_by_leader s (record v { mode = Follower b; node = record v.node { term = 1 } }) b 1
+  follower_answers : on_follower_check s (record v { mode = Follower b; node = record v.node { term = 1 } }) b 1
       ≡ Sends (record { from = s.me; to = b; message = message.FollowerAnswer true 1 v.applied }) ∷ []
   follower_answers = refl
 

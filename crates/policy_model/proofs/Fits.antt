@@ -377,15 +377,15 @@ module _ (s : Settings) where
       sound-if (doing.follows_node v.mode p) _ _ Silent
       (sound-append _ _ (sound-if (doing.is_leader v.mode) _ _ (sound-becomes_candidate v) Silent) (Also _ _ tt Silent))
 
-  fit-starts_join : (v : View) (c : Id) (t : ℕ) → IsFitView v → Fit v (doing.starts_join s v c t)
-  fit-starts_join v c t f =
+  fit-on_start_join : (v : View) (c : Id) (t : ℕ) → IsFitView v → Fit v (doing.on_start_join s v c t)
+  fit-on_start_join v c t f =
       fit-act v (StartJoin c t) _ f tt (λ g.
       fit-if _ (doing.takes s v (StartJoin c t)) _ _
       (λ e. fit-sound _ _ g (Also _ _ (started-fits s.me v.node c t e, id-fits v.node.accepted f.accepted) (sound-becomes_candidate_once (doing.after_act s v (StartJoin c t)))))
       (fit-none _ g))
 
   fit-raises_term : (v : View) (c : Id) (t : ℕ) → IsFitView v → Fit v (doing.raises_term s v c t)
-  fit-raises_term v c t f = fit-if v (nat_lt v.node.term t) _ _ (λ e. fit-starts_join v c t f) (fit-none v f)
+  fit-raises_term v c t f = fit-if v (nat_lt v.node.term t) _ _ (λ e. fit-on_start_join v c t f) (fit-none v f)
 
   -- ---- the next state
 
@@ -455,28 +455,28 @@ module _ (s : Settings) where
   sound-goes_to_election v Fresher = Silent
   sound-goes_to_election v (Quorum term) = sound-stands v term
 
-  sound-counts_pre_vote : (v : View) (round : Option Round) (p : Id) (term : ℕ) (last : StateId) → term ≤ 2 ^ 62 → AreSound (elections.counts_pre_vote s v round p term last)
-  sound-counts_pre_vote v None p term last e = Silent
-  sound-counts_pre_vote v (Some r) p term last e = sound-if _ _ _ (Also _ _ e (sound-goes_to_election v _)) Silent
+  sound-on_pre_vote_answer : (v : View) (round : Option Round) (p : Id) (term : ℕ) (last : StateId) → term ≤ 2 ^ 62 → AreSound (elections.on_pre_vote_answer s v round p term last)
+  sound-on_pre_vote_answer v None p term last e = Silent
+  sound-on_pre_vote_answer v (Some r) p term last e = sound-if _ _ _ (Also _ _ e (sound-goes_to_election v _)) Silent
 
   -- ---- discovery
 
   sound-asks_peers : (v : View) → AreSound (discovery.asks_peers s v)
   sound-asks_peers v = sound-if (is_due v.finder.due v.moment) _ _ (Also _ _ tt (sound-sends _ _ tt)) Silent
 
-  fit-asked_for_peers : (v : View) (p : Id) (ids : List Id) → IsFitView v → Fit v (discovery.is_asked_for_peers s v p ids)
+  fit-asked_for_peers : (v : View) (p : Id) (ids : List Id) → IsFitView v → Fit v (discovery.on_peers_ask s v p ids)
   fit-asked_for_peers v p ids f = fit-sound v _ f (Also _ _ tt (Also _ _ f.term Silent))
 
   fit-seeks_master : (v : View) (p : Id) (master : Option Id) (term : ℕ) → IsFitView v → Fit v (discovery.seeks_master s v p master term)
   fit-seeks_master v p master term f =
       fit-if v (discovery.is_node master p) _ _
-      (λ e. fit-if v (nat_lt v.node.term term) _ _ (λ d. fit-starts_join v p term f) (fit-sound v _ f (Also _ _ f.term Silent))) (fit-none v f)
+      (λ e. fit-if v (nat_lt v.node.term term) _ _ (λ d. fit-on_start_join v p term f) (fit-sound v _ f (Also _ _ f.term Silent))) (fit-none v f)
 
   fit-hears_peer : (v : View) (p : Id) (master : Option Id) (term : ℕ) → IsFitView v → Fit v (discovery.hears_peer s v p master term)
   fit-hears_peer v p master term f =
       fit-if v (doing.is_candidate v.mode) _ _ (λ e. fit-item v _ _ f tt (λ g. fit-seeks_master _ p master term g)) (fit-none v f)
 
-  fit-told_peers : (v : View) (p : Id) (master : Option Id) (term : ℕ) (ids : List Id) → IsFitView v → Fit v (discovery.is_told_peers s v p master term ids)
+  fit-told_peers : (v : View) (p : Id) (master : Option Id) (term : ℕ) (ids : List Id) → IsFitView v → Fit v (discovery.on_peers_answer s v p master term ids)
   fit-told_peers v p master term ids f = fit-item v _ _ f tt (λ g. fit-hears_peer _ p master term g)
 
   -- ---- joins
@@ -497,15 +497,15 @@ module _ (s : Settings) where
       let act : Act = TakeJoin (joins.join_from p s.me term last) in
       fit-if v (has_room v.node.join_votes p) _ _ (λ e. fit-act v act _ f tt (λ g. fit-after_join v (doing.after_act s v act) act p g)) (fit-none v f)
 
-  fit-joined : (v : View) (p : Id) (term : ℕ) (last : StateId) → IsFitView v → Fit v (joins.is_joined s v p term last)
+  fit-joined : (v : View) (p : Id) (term : ℕ) (last : StateId) → IsFitView v → Fit v (joins.on_join s v p term last)
   fit-joined v p term last f =
       fit-if v (doing.is_voting_only s s.me) _ _ (λ e. fit-none v f)
       (fit-then v _ (λ u. joins.takes_join s u p term last) (fit-raises_term v s.me term f) (λ u g. fit-takes_join u p term last g))
 
-  fit-asked_to_join : (v : View) (p : Id) (term : ℕ) → IsFitView v → Fit v (joins.is_asked_to_join s v p term)
+  fit-asked_to_join : (v : View) (p : Id) (term : ℕ) → IsFitView v → Fit v (joins.on_join_ask s v p term)
   fit-asked_to_join v p term f =
       fit-if v (not (doing.is_leader v.mode)) _ _ (λ e. fit-none v f)
-      (fit-if v (nat_le term v.node.term) _ _ (λ e. fit-takes_member v p f) (fit-starts_join v s.me term f))
+      (fit-if v (nat_le term v.node.term) _ _ (λ e. fit-takes_member v p f) (fit-on_start_join v s.me term f))
 
   -- ---- publications
 
@@ -516,7 +516,7 @@ module _ (s : Settings) where
       fit-if _ (doing.takes s v act) _ _
       (λ e. fit-sound _ _ g (Also _ _ (id-fits state fit) (sound-if (same p s.me) _ _ Silent (sound-becomes_follower (doing.after_act s v act) p)))) (fit-none _ g))
 
-  fit-published_to : (v : View) (p : Id) (state : ClusterState) → IsFitView v → IsFit state → IsSettings state.value.settings → Fit v (publications.is_published_to s v p state)
+  fit-published_to : (v : View) (p : Id) (state : ClusterState) → IsFitView v → IsFit state → IsSettings state.value.settings → Fit v (publications.on_publish s v p state)
   fit-published_to v p state f fit settings =
       fit-then v _ (λ u. publications.accepts s u p state) (fit-raises_term v p state.term f) (λ u g. fit-accepts u p state g fit settings)
 
@@ -524,8 +524,8 @@ module _ (s : Settings) where
   sound-sends_commit v sent p id e =
       sound-if sent _ _ (Also _ _ e Silent) (sound-append _ _ (sound-append _ _ (sound-sends _ _ e) (sound-replies _)) (Also _ _ tt Silent))
 
-  fit-counts_response : (v : View) (p : Id) (id : StateId) → IsFitView v → IsFitId id → Fit v (publications.counts_response s v p id)
-  fit-counts_response v p id f e =
+  fit-on_response : (v : View) (p : Id) (id : StateId) → IsFitView v → IsFitId id → Fit v (publications.on_response s v p id)
+  fit-on_response v p id f e =
       let act : Act = Response (record { source = p; target = s.me; term = id.term; version = id.version }) in
       fit-if v (doing.is_leader v.mode && is_some v.publication && has_room v.node.publish_votes p) _ _
       (λ b. fit-act v act _ f tt (λ g.
@@ -534,7 +534,7 @@ module _ (s : Settings) where
   sound-acks_exclusions : (v : View) → AreSound (publications.acks_exclusions s v)
   sound-acks_exclusions v = sound-append _ _ (sound-replies _) (Also _ _ tt Silent)
 
-  fit-told_commit : (v : View) (p : Id) (id : StateId) → IsFitView v → Fit v (publications.is_told_commit s v p id)
+  fit-told_commit : (v : View) (p : Id) (id : StateId) → IsFitView v → Fit v (publications.on_commit s v p id)
   fit-told_commit v p id f =
       let act : Act = Commit (record { source = p; term = id.term; version = id.version }) in
       let after : View = doing.after_act s v act in
@@ -564,15 +564,15 @@ module _ (s : Settings) where
       fit-if v (doing.is_leader v.mode) _ _ (λ e. fit-sound v _ f (sound-answers_leader v p false f))
       (fit-then v _ (λ u. checks.answers_leader s u p true) (fit-sound v _ f (sound-becomes_follower v p)) (λ u g. fit-sound u _ g (sound-answers_leader u p true g)))
 
-  fit-checked_by_leader : (v : View) (p : Id) (term : ℕ) → IsFitView v → Fit v (checks.is_checked_by_leader s v p term)
+  fit-checked_by_leader : (v : View) (p : Id) (term : ℕ) → IsFitView v → Fit v (checks.on_follower_check s v p term)
   fit-checked_by_leader v p term f =
       fit-if v (nat_lt term v.node.term) _ _ (λ e. fit-sound v _ f (sound-answers_leader v p false f))
       (fit-then v _ (λ u. checks.follows_checker s u p) (fit-raises_term v p term f) (λ u g. fit-follows_checker u p g))
 
-  sound-answered_by_follower : (v : View) (p : Id) (good : Bool) (applied : StateId) → AreSound (checks.is_answered_by_follower s v p good applied)
+  sound-answered_by_follower : (v : View) (p : Id) (good : Bool) (applied : StateId) → AreSound (checks.on_follower_answer s v p good applied)
   sound-answered_by_follower v p good applied = sound-if (doing.is_leader v.mode) _ _ (Also _ _ tt Silent) Silent
 
-  sound-answered_by_leader : (v : View) (p : Id) (good : Bool) → AreSound (checks.is_answered_by_leader s v p good)
+  sound-answered_by_leader : (v : View) (p : Id) (good : Bool) → AreSound (checks.on_leader_answer s v p good)
   sound-answered_by_leader v p good = sound-if (doing.follows_node v.mode p) _ _ (Also _ _ tt Silent) Silent
 
   -- ---- requests
@@ -611,16 +611,16 @@ module _ (s : Settings) where
   fit-ticks v word (Follower leader) f = fit-checks_leader v leader v.leader_check f
 
   fit-message : (v : View) (p : Id) (m : WireMessage) → IsFitView v → IsFitMessage m → HoldsSettings m → Fit v (rules.takes_message s v p m)
-  fit-message v p (message.StartJoin candidate term) f e h = fit-starts_join v candidate term f
+  fit-message v p (message.StartJoin candidate term) f e h = fit-on_start_join v candidate term f
   fit-message v p (message.Join term last) f e h = fit-joined v p term last f
   fit-message v p (message.Publish state) f e h = fit-published_to v p state f e h
-  fit-message v p (message.Response id) f e h = fit-counts_response v p id f e
+  fit-message v p (message.Response id) f e h = fit-on_response v p id f e
   fit-message v p (message.Commit id) f e h = fit-told_commit v p id f
   fit-message v p (message.JoinAsk term) f e h = fit-asked_to_join v p term f
   fit-message v p (message.PeersAsk known) f e h = fit-asked_for_peers v p known f
   fit-message v p (message.PeersAnswer master term known) f e h = fit-told_peers v p master term known f
   fit-message v p message.PreVoteAsk f e h = fit-sound v _ f (sound-pre_vote_reply v p _ f)
-  fit-message v p (message.PreVoteAnswer term last) f e h = fit-sound v _ f (sound-counts_pre_vote v v.round p term last e.0)
+  fit-message v p (message.PreVoteAnswer term last) f e h = fit-sound v _ f (sound-on_pre_vote_answer v v.round p term last e.0)
   fit-message v p (message.PreVoteRefuse leader) f e h = fit-sound v _ f (Also _ _ tt Silent)
   fit-message v p (message.FollowerCheck term) f e h = fit-checked_by_leader v p term f
   fit-message v p (message.FollowerAnswer good term applied) f e h = fit-sound v _ f (sound-answered_by_follower v p good applied)

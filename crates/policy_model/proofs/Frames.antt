@@ -130,7 +130,7 @@ members-ask accepted value (ask.Put key text) =
     members-put (not (has key (map (λ (t : Setting). t.0) value.settings)) && nat_le most_settings (length value.settings)) value (record value { settings = put_setting (key, text) value.settings })
     (AnsweredAtOnce (answer.TooManySettings (most_settings + 1))) refl refl
 members-ask accepted value (ask.Remove key) = refl
-members-ask accepted value (ask.Exclude ids) = members-exclude value (added_of value.exclusions value.members ids)
+members-ask accepted value (ask.Exclude ids) = members-exclude value (added_of value.exclusions ids)
 members-ask accepted value (ask.Clear wait) = members-clear value (cleared_of value.exclusions value.members wait)
 members-ask accepted value ask.State = refl
 
@@ -403,13 +403,13 @@ module _ (s : Settings) where
       few-if 0 v (doing.follows_node v.mode p) _ _ (few-none v f)
       (few-append 0 0 v _ _ (few-if 0 v (doing.is_leader v.mode) _ _ (few-becomes_candidate v f) (few-none v f)) (λ g. few-item 0 _ _ _ refl g (λ h. few-none _ h)))
 
-  few-starts_join : (v : View) (c : Id) (t : ℕ) → IsSmallView v → Few 1 v (doing.starts_join s v c t)
-  few-starts_join v c t f =
+  few-on_start_join : (v : View) (c : Id) (t : ℕ) → IsSmallView v → Few 1 v (doing.on_start_join s v c t)
+  few-on_start_join v c t f =
       few-act 1 v (StartJoin c t) _ f tt (λ g.
       few-if 1 _ (doing.takes s v (StartJoin c t)) _ _ (few-send 0 _ _ _ g (λ h. few-becomes_candidate_once _ h)) (none-within 1 _ g))
 
   few-raises_term : (v : View) (c : Id) (t : ℕ) → IsSmallView v → Few 1 v (doing.raises_term s v c t)
-  few-raises_term v c t f = few-if 1 v (nat_lt v.node.term t) _ _ (few-starts_join v c t f) (none-within 1 v f)
+  few-raises_term v c t f = few-if 1 v (nat_lt v.node.term t) _ _ (few-on_start_join v c t f) (none-within 1 v f)
 
   -- ---- the next state
 
@@ -494,9 +494,9 @@ module _ (s : Settings) where
   few-goes_to_election u v Fresher g f = none-within 32 u g
   few-goes_to_election u v (Quorum term) g f = few-stands u v term g f
 
-  few-counts_pre_vote : (v : View) (round : Option Round) (p : Id) (term : ℕ) (last : StateId) → IsSmallView v → Few 32 v (elections.counts_pre_vote s v round p term last)
-  few-counts_pre_vote v None p term last f = none-within 32 v f
-  few-counts_pre_vote v (Some r) p term last f = few-if 32 v _ _ _ (few-item 32 v _ _ refl f (λ g. few-goes_to_election _ v _ g f)) (none-within 32 v f)
+  few-on_pre_vote_answer : (v : View) (round : Option Round) (p : Id) (term : ℕ) (last : StateId) → IsSmallView v → Few 32 v (elections.on_pre_vote_answer s v round p term last)
+  few-on_pre_vote_answer v None p term last f = none-within 32 v f
+  few-on_pre_vote_answer v (Some r) p term last f = few-if 32 v _ _ _ (few-item 32 v _ _ refl f (λ g. few-goes_to_election _ v _ g f)) (none-within 32 v f)
 
   -- ---- discovery
 
@@ -504,19 +504,19 @@ module _ (s : Settings) where
   few-asks_peers v f =
       few-if 31 v (is_due v.finder.due v.moment) _ _ (few-item 31 v _ _ refl f (λ g. few-sends 31 _ _ _ (few-known v f) g)) (none-within 31 v f)
 
-  few-asked_for_peers : (v : View) (p : Id) (ids : List Id) → IsSmallView v → Few 1 v (discovery.is_asked_for_peers s v p ids)
+  few-asked_for_peers : (v : View) (p : Id) (ids : List Id) → IsSmallView v → Few 1 v (discovery.on_peers_ask s v p ids)
   few-asked_for_peers v p ids f = few-item 1 v _ _ refl f (λ g. few-send 0 _ _ _ g (λ h. few-none _ h))
 
   few-seeks_master : (v : View) (p : Id) (master : Option Id) (term : ℕ) → IsSmallView v → Few 1 v (discovery.seeks_master s v p master term)
   few-seeks_master v p master term f =
       few-if 1 v (discovery.is_node master p) _ _
-      (few-if 1 v (nat_lt v.node.term term) _ _ (few-starts_join v p term f) (few-send 0 v _ _ f (λ g. few-none v g))) (none-within 1 v f)
+      (few-if 1 v (nat_lt v.node.term term) _ _ (few-on_start_join v p term f) (few-send 0 v _ _ f (λ g. few-none v g))) (none-within 1 v f)
 
   few-hears_peer : (v : View) (p : Id) (master : Option Id) (term : ℕ) → IsSmallView v → Few 1 v (discovery.hears_peer s v p master term)
   few-hears_peer v p master term f =
       few-if 1 v (doing.is_candidate v.mode) _ _ (few-item 1 v _ _ refl f (λ g. few-seeks_master _ p master term g)) (none-within 1 v f)
 
-  few-told_peers : (v : View) (p : Id) (master : Option Id) (term : ℕ) (ids : List Id) → IsSmallView v → Few 1 v (discovery.is_told_peers s v p master term ids)
+  few-told_peers : (v : View) (p : Id) (master : Option Id) (term : ℕ) (ids : List Id) → IsSmallView v → Few 1 v (discovery.on_peers_answer s v p master term ids)
   few-told_peers v p master term ids f = few-item 1 v _ _ refl f (λ g. few-hears_peer _ p master term g)
 
   -- ---- joins
@@ -537,15 +537,15 @@ module _ (s : Settings) where
       let act : Act = TakeJoin (joins.join_from p s.me term last) in
       few-if 32 v (has_room v.node.join_votes p) _ _ (few-act 32 v act _ f tt (λ g. few-after_join v (doing.after_act s v act) act p g)) (none-within 32 v f)
 
-  few-is_joined : (v : View) (p : Id) (term : ℕ) (last : StateId) → IsSmallView v → Few 33 v (joins.is_joined s v p term last)
-  few-is_joined v p term last f =
+  few-on_join : (v : View) (p : Id) (term : ℕ) (last : StateId) → IsSmallView v → Few 33 v (joins.on_join s v p term last)
+  few-on_join v p term last f =
       few-if 33 v (doing.is_voting_only s s.me) _ _ (none-within 33 v f)
       (few-then 1 32 v _ (λ u. joins.takes_join s u p term last) (few-raises_term v s.me term f) (λ u g. few-takes_join u p term last g))
 
-  few-asked_to_join : (v : View) (p : Id) (term : ℕ) → IsSmallView v → Few 32 v (joins.is_asked_to_join s v p term)
+  few-asked_to_join : (v : View) (p : Id) (term : ℕ) → IsSmallView v → Few 32 v (joins.on_join_ask s v p term)
   few-asked_to_join v p term f =
       few-if 32 v (not (doing.is_leader v.mode)) _ _ (none-within 32 v f)
-      (few-if 32 v (nat_le term v.node.term) _ _ (few-takes_member v p f) (few-more 1 32 v _ (omega arith) (few-starts_join v s.me term f)))
+      (few-if 32 v (nat_le term v.node.term) _ _ (few-takes_member v p f) (few-more 1 32 v _ (omega arith) (few-on_start_join v s.me term f)))
 
   -- ---- publications
 
@@ -556,7 +556,7 @@ module _ (s : Settings) where
       few-if 1 _ (doing.takes s v act) _ _
       (few-send 0 _ _ _ g (λ h. few-if 0 _ (same p s.me) _ _ (few-none _ h) (few-becomes_follower (doing.after_act s v act) p h))) (none-within 1 _ g))
 
-  few-published_to : (v : View) (p : Id) (state : ClusterState) → IsSmallView v → length state.value.members ≤ most_ids → Few 2 v (publications.is_published_to s v p state)
+  few-published_to : (v : View) (p : Id) (state : ClusterState) → IsSmallView v → length state.value.members ≤ most_ids → Few 2 v (publications.on_publish s v p state)
   few-published_to v p state f few = few-then 1 1 v _ (λ u. publications.accepts s u p state) (few-raises_term v p state.term f) (λ u g. few-accepts u p state g few)
 
   few-sends_commit : (v : View) (sent : Bool) (p : Id) (id : StateId) → IsSmallView v → Few 32 v (publications.sends_commit s v sent p id)
@@ -569,8 +569,8 @@ module _ (s : Settings) where
       (few-sends 32 v _ _ most f)
       (λ g. few-replies _ _ g)) (λ g. few-item 0 _ _ _ refl g (λ h. few-none _ h)))
 
-  few-counts_response : (v : View) (p : Id) (id : StateId) → IsSmallView v → Few 32 v (publications.counts_response s v p id)
-  few-counts_response v p id f =
+  few-on_response : (v : View) (p : Id) (id : StateId) → IsSmallView v → Few 32 v (publications.on_response s v p id)
+  few-on_response v p id f =
       let act : Act = Response (record { source = p; target = s.me; term = id.term; version = id.version }) in
       few-if 32 v (doing.is_leader v.mode && is_some v.publication && has_room v.node.publish_votes p) _ _
       (few-act 32 v act _ f tt (λ g.
@@ -579,7 +579,7 @@ module _ (s : Settings) where
   few-acks_exclusions : (v : View) → IsSmallView v → Few 0 v (publications.acks_exclusions s v)
   few-acks_exclusions v f = few-append 0 0 v _ _ (few-replies v _ f) (λ g. few-item 0 _ (Notes ExclusionsAcked) [] refl g (λ h. few-none _ h))
 
-  few-told_commit : (v : View) (p : Id) (id : StateId) → IsSmallView v → Few 32 v (publications.is_told_commit s v p id)
+  few-told_commit : (v : View) (p : Id) (id : StateId) → IsSmallView v → Few 32 v (publications.on_commit s v p id)
   few-told_commit v p id f =
       let act : Act = Commit (record { source = p; term = id.term; version = id.version }) in
       let after : View = doing.after_act s v act in
@@ -618,7 +618,7 @@ module _ (s : Settings) where
       few-if 1 v (doing.is_leader v.mode) _ _ (few-answers_leader v p false f)
       (few-then 0 1 v _ (λ u. checks.answers_leader s u p true) (few-becomes_follower v p f) (λ u g. few-answers_leader u p true g))
 
-  few-checked_by_leader : (v : View) (p : Id) (term : ℕ) → IsSmallView v → Few 2 v (checks.is_checked_by_leader s v p term)
+  few-checked_by_leader : (v : View) (p : Id) (term : ℕ) → IsSmallView v → Few 2 v (checks.on_follower_check s v p term)
   few-checked_by_leader v p term f =
       few-if 2 v (nat_lt term v.node.term) _ _ (few-more 1 2 v _ (omega arith) (few-answers_leader v p false f))
       (few-then 1 1 v _ (λ u. checks.follows_checker s u p) (few-raises_term v p term f) (λ u g. few-follows_checker u p g))
@@ -661,16 +661,16 @@ module _ (s : Settings) where
   few-ticks v word (Follower leader) f = few-more 1 94 v _ (omega arith) (few-checks_leader v leader v.leader_check f)
 
   few-message : (v : View) (p : Id) (m : WireMessage) → IsSmallView v → HoldsSet m → Few 33 v (rules.takes_message s v p m)
-  few-message v p (message.StartJoin candidate term) f h = few-more 1 33 v _ (omega arith) (few-starts_join v candidate term f)
-  few-message v p (message.Join term last) f h = few-is_joined v p term last f
+  few-message v p (message.StartJoin candidate term) f h = few-more 1 33 v _ (omega arith) (few-on_start_join v candidate term f)
+  few-message v p (message.Join term last) f h = few-on_join v p term last f
   few-message v p (message.Publish state) f h = few-more 2 33 v _ (omega arith) (few-published_to v p state f h)
-  few-message v p (message.Response id) f h = few-more 32 33 v _ (omega arith) (few-counts_response v p id f)
+  few-message v p (message.Response id) f h = few-more 32 33 v _ (omega arith) (few-on_response v p id f)
   few-message v p (message.Commit id) f h = few-more 32 33 v _ (omega arith) (few-told_commit v p id f)
   few-message v p (message.JoinAsk term) f h = few-more 32 33 v _ (omega arith) (few-asked_to_join v p term f)
   few-message v p (message.PeersAsk known) f h = few-more 1 33 v _ (omega arith) (few-asked_for_peers v p known f)
   few-message v p (message.PeersAnswer master term known) f h = few-more 1 33 v _ (omega arith) (few-told_peers v p master term known f)
   few-message v p message.PreVoteAsk f h = few-more 1 33 v _ (omega arith) (few-pre_vote_reply v p _ f)
-  few-message v p (message.PreVoteAnswer term last) f h = few-more 32 33 v _ (omega arith) (few-counts_pre_vote v v.round p term last f)
+  few-message v p (message.PreVoteAnswer term last) f h = few-more 32 33 v _ (omega arith) (few-on_pre_vote_answer v v.round p term last f)
   few-message v p (message.PreVoteRefuse leader) f h = few-item 33 v _ _ refl f (λ g. none-within 33 _ g)
   few-message v p (message.FollowerCheck term) f h = few-more 2 33 v _ (omega arith) (few-checked_by_leader v p term f)
   few-message v p (message.FollowerAnswer good term applied) f h = few-more 0 33 v _ (omega arith) (few-note v (doing.is_leader v.mode) (FollowerAnswered p good applied) f)

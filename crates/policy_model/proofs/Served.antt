@@ -168,13 +168,13 @@ module _ (s : Settings) where
   served-becomes_follower : (v : View) (p : Id) → IsServed s v (doing.becomes_follower s v p)
   served-becomes_follower v p = served-if v (doing.follows_node v.mode p) _ _ (Ended v) (served-turns v p (doing.is_leader v.mode) refl)
 
-  served-starts_join : (v : View) (c : Id) (t : ℕ) → IsServed s v (doing.starts_join s v c t)
-  served-starts_join v c t =
+  served-on_start_join : (v : View) (c : Id) (t : ℕ) → IsServed s v (doing.on_start_join s v c t)
+  served-on_start_join v c t =
       Aside v _ _ refl
       (served-if _ (doing.takes s v (StartJoin c t)) _ _ (Aside _ _ _ refl (served-becomes_candidate_once (doing.after_act s v (StartJoin c t)))) (Ended _))
 
   served-raises_term : (v : View) (c : Id) (t : ℕ) → IsServed s v (doing.raises_term s v c t)
-  served-raises_term v c t = served-if v (nat_lt v.node.term t) _ _ (served-starts_join v c t) (Ended v)
+  served-raises_term v c t = served-if v (nat_lt v.node.term t) _ _ (served-on_start_join v c t) (Ended v)
 
   -- the next state
   served-publishes : (v made : View) → IsServed s made (next.publishes s v made)
@@ -225,16 +225,16 @@ module _ (s : Settings) where
   aside-goes_to_election v Fresher = Nothing
   aside-goes_to_election v (Quorum term) = aside-stands_for_election v term
 
-  aside-counts_pre_vote : (v : View) (round : Option Round) (p : Id) (term : ℕ) (last : StateId) → AreAside (elections.counts_pre_vote s v round p term last)
-  aside-counts_pre_vote v None p term last = Nothing
-  aside-counts_pre_vote v (Some r) p term last = search (aside-if, aside-goes_to_election, Nothing, Also)
+  aside-on_pre_vote_answer : (v : View) (round : Option Round) (p : Id) (term : ℕ) (last : StateId) → AreAside (elections.on_pre_vote_answer s v round p term last)
+  aside-on_pre_vote_answer v None p term last = Nothing
+  aside-on_pre_vote_answer v (Some r) p term last = search (aside-if, aside-goes_to_election, Nothing, Also)
 
   -- discovery
   aside-asks_peers : (v : View) → AreAside (discovery.asks_peers s v)
   aside-asks_peers v = search (aside-if, aside-sends, Nothing, Also)
 
   served-seeks_master : (v : View) (p : Id) (master : Option Id) (term : ℕ) → IsServed s v (discovery.seeks_master s v p master term)
-  served-seeks_master v p master term = search (served-if, served-starts_join, served-aside, Nothing, Also, Ended)
+  served-seeks_master v p master term = search (served-if, served-on_start_join, served-aside, Nothing, Also, Ended)
 
   served-hears_peer : (v : View) (p : Id) (master : Option Id) (term : ℕ) → IsServed s v (discovery.hears_peer s v p master term)
   served-hears_peer v p master term = served-if v (doing.is_candidate v.mode) _ _ (Aside _ _ _ refl (served-seeks_master _ p master term)) (Ended v)
@@ -254,13 +254,13 @@ module _ (s : Settings) where
       let act : Act = TakeJoin (joins.join_from p s.me term last) in
       served-if v (has_room v.node.join_votes p) _ _ (Aside v _ _ refl (served-after_join v (doing.after_act s v act) act p)) (Ended v)
 
-  served-joined : (v : View) (p : Id) (term : ℕ) (last : StateId) → IsServed s v (joins.is_joined s v p term last)
+  served-joined : (v : View) (p : Id) (term : ℕ) (last : StateId) → IsServed s v (joins.on_join s v p term last)
   served-joined v p term last =
       served-if v (doing.is_voting_only s s.me) _ _ (Ended v)
       (served-then v _ (λ u. joins.takes_join s u p term last) (served-raises_term v s.me term) (λ u. served-takes_join u p term last))
 
-  served-asked_to_join : (v : View) (p : Id) (term : ℕ) → IsServed s v (joins.is_asked_to_join s v p term)
-  served-asked_to_join v p term = search (served-if, served-takes_member, served-starts_join, Ended)
+  served-asked_to_join : (v : View) (p : Id) (term : ℕ) → IsServed s v (joins.on_join_ask s v p term)
+  served-asked_to_join v p term = search (served-if, served-takes_member, served-on_start_join, Ended)
 
   -- publications
   served-accepts : (v : View) (p : Id) (state : ClusterState) → IsServed s v (publications.accepts s v p state)
@@ -270,7 +270,7 @@ module _ (s : Settings) where
       (served-if _ (doing.takes s v act) _ _
       (Aside _ _ _ refl (served-if _ (same p s.me) _ _ (Ended _) (served-becomes_follower (doing.after_act s v act) p))) (Ended _))
 
-  served-published_to : (v : View) (p : Id) (state : ClusterState) → IsServed s v (publications.is_published_to s v p state)
+  served-published_to : (v : View) (p : Id) (state : ClusterState) → IsServed s v (publications.on_publish s v p state)
   served-published_to v p state = served-then v _ (λ u. publications.accepts s u p state) (served-raises_term v p state.term) (λ u. served-accepts u p state)
 
   served-sends_first_commit : (v : View) (id : StateId) → IsServed s v (publications.sends_first_commit s v id)
@@ -285,8 +285,8 @@ module _ (s : Settings) where
   served-sends_commit : (v : View) (sent : Bool) (p : Id) (id : StateId) → IsServed s v (publications.sends_commit s v sent p id)
   served-sends_commit v sent p id = served-if v sent _ _ (Aside _ _ _ refl (Ended _)) (served-sends_first_commit v id)
 
-  served-counts_response : (v : View) (p : Id) (id : StateId) → IsServed s v (publications.counts_response s v p id)
-  served-counts_response v p id =
+  served-on_response : (v : View) (p : Id) (id : StateId) → IsServed s v (publications.on_response s v p id)
+  served-on_response v p id =
       let act : Act = Response (record { source = p; target = s.me; term = id.term; version = id.version }) in
       served-if v (doing.is_leader v.mode && is_some v.publication && has_room v.node.publish_votes p) _ _
       (Aside v _ _ refl
@@ -298,7 +298,7 @@ module _ (s : Settings) where
   served-acks_exclusions v =
       Answers v _ ExclusionsAcked [] refl (done-step v.node.committed (id_of v.node.accepted) v.tasks.waiting) (Ended _)
 
-  served-told_commit : (v : View) (p : Id) (id : StateId) → IsServed s v (publications.is_told_commit s v p id)
+  served-told_commit : (v : View) (p : Id) (id : StateId) → IsServed s v (publications.on_commit s v p id)
   served-told_commit v p id =
       let act : Act = Commit (record { source = p; term = id.term; version = id.version }) in
       let after = doing.after_act s v act in
@@ -323,7 +323,7 @@ module _ (s : Settings) where
       served-if v (doing.is_leader v.mode) _ _ (Aside _ _ _ refl (Ended _))
       (served-then v _ (λ u. checks.answers_leader s u p true) (served-becomes_follower v p) (λ u. Aside _ _ _ refl (Ended _)))
 
-  served-checked_by_leader : (v : View) (p : Id) (term : ℕ) → IsServed s v (checks.is_checked_by_leader s v p term)
+  served-checked_by_leader : (v : View) (p : Id) (term : ℕ) → IsServed s v (checks.on_follower_check s v p term)
   served-checked_by_leader v p term =
       served-if v (nat_lt term v.node.term) _ _ (Aside _ _ _ refl (Ended _))
       (served-then v _ (λ u. checks.follows_checker s u p) (served-raises_term v p term) (λ u. served-follows_checker u p))
@@ -365,16 +365,16 @@ module _ (s : Settings) where
 
   -- a frame, by its message
   served-message : (v : View) (p : Id) (m : WireMessage) → IsServed s v (rules.takes_message s v p m)
-  served-message v p (message.StartJoin candidate term) = served-starts_join v candidate term
+  served-message v p (message.StartJoin candidate term) = served-on_start_join v candidate term
   served-message v p (message.Join term last) = served-joined v p term last
   served-message v p (message.Publish state) = served-published_to v p state
-  served-message v p (message.Response id) = served-counts_response v p id
+  served-message v p (message.Response id) = served-on_response v p id
   served-message v p (message.Commit id) = served-told_commit v p id
   served-message v p (message.JoinAsk term) = served-asked_to_join v p term
   served-message v p (message.PeersAsk known) = Aside _ _ _ refl (Aside _ _ _ refl (Ended _))
   served-message v p (message.PeersAnswer master term known) = Aside v _ _ refl (served-hears_peer _ p master term)
   served-message v p message.PreVoteAsk = served-aside v _ (aside-pre_vote_reply v p _)
-  served-message v p (message.PreVoteAnswer term last) = served-aside v _ (aside-counts_pre_vote v v.round p term last)
+  served-message v p (message.PreVoteAnswer term last) = served-aside v _ (aside-on_pre_vote_answer v v.round p term last)
   served-message v p (message.PreVoteRefuse leader) = Aside _ _ _ refl (Ended _)
   served-message v p (message.FollowerCheck term) = served-checked_by_leader v p term
   served-message v p (message.FollowerAnswer good term applied) = served-if v (doing.is_leader v.mode) _ _ (Aside _ _ _ refl (Ended _)) (Ended v)

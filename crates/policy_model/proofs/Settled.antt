@@ -11,7 +11,7 @@ use Rattle.cluster_state.specs.declared.state.StateId.{StateId}
 use Rattle.cluster_state.specs.States.{id_of}
 use Rattle.cluster_state.specs.Fields.{most_settings}
 use Rattle.exclusions.specs.declared.AddError.{AddError}
-use Rattle.exclusions.specs.declared.AddError.TheVariants.{NotMember, TooMany}
+use Rattle.exclusions.specs.declared.AddError.TheVariants.{TooMany}
 use Rattle.exclusions.specs.declared.StillMember.{StillMember}
 use Rattle.exclusions.specs.Exclusions.{added_of, cleared_of}
 use Rattle.cluster_state.specs.declared.request.Ask.{Ask}
@@ -187,7 +187,6 @@ at-once-if true x a value e h = at-once x a e h
 at-once-if false x a value e h = absurd (cc)
 
 late-refused : (error : AddError) → is_for_line (refused error) ≡ false
-late-refused (NotMember id) = refl
 late-refused (TooMany count) = refl
 
 late-excluding : (value : ClusterValue) (r : Result (List Id) AddError) (a : Answer) → excluding value r ≡ AnsweredAtOnce a → is_for_line a ≡ false
@@ -201,7 +200,7 @@ late-clearing value (Err still) a h = at-once (answer.StillMember still.0) a ref
 late-asked : (accepted : ClusterState) (value : ClusterValue) (q : Ask) (a : Answer) → processing accepted value q ≡ AnsweredAtOnce a → is_for_line a ≡ false
 late-asked accepted value (ask.Put key text) a h = at-once-if _ (answer.TooManySettings (most_settings + 1)) a _ refl h
 late-asked accepted value (ask.Remove key) a h = absurd (cc)
-late-asked accepted value (ask.Exclude ids) a h = late-excluding value (added_of value.exclusions value.members ids) a h
+late-asked accepted value (ask.Exclude ids) a h = late-excluding value (added_of value.exclusions ids) a h
 late-asked accepted value (ask.Clear wait) a h = late-clearing value (cleared_of value.exclusions value.members wait) a h
 late-asked accepted value ask.State a h = at-once (answer.State accepted) a refl h
 

@@ -151,13 +151,13 @@ module _ (s : Settings) where
       most-if 0 2 (doing.follows_node v.mode p) _ _ (most-none 0 2)
       (most-append 0 1 0 1 _ _ (most-if 0 1 (doing.is_leader v.mode) _ _ (most-becomes_candidate v) (most-none 0 1)) (most-turn 0 0 (Follower p) v.node.term [] (most-none 0 0)))
 
-  most-starts_join : (v : View) (c : Id) (t : ℕ) → AtMost 1 2 (doing.starts_join s v c t)
-  most-starts_join v c t =
+  most-on_start_join : (v : View) (c : Id) (t : ℕ) → AtMost 1 2 (doing.on_start_join s v c t)
+  most-on_start_join v c t =
       most-act 0 1 (StartJoin c t) _ _
       (most-if 0 1 (doing.takes s v (StartJoin c t)) _ _ (most-silent 0 1 _ _ refl (most-becomes_candidate_once (doing.after_act s v (StartJoin c t)))) (most-none 0 1))
 
   most-raises_term : (v : View) (c : Id) (t : ℕ) → AtMost 1 2 (doing.raises_term s v c t)
-  most-raises_term v c t = most-if 1 2 (nat_lt v.node.term t) _ _ (most-starts_join v c t) (most-none 1 2)
+  most-raises_term v c t = most-if 1 2 (nat_lt v.node.term t) _ _ (most-on_start_join v c t) (most-none 1 2)
 
   -- ---- the next state
 
@@ -212,9 +212,9 @@ module _ (s : Settings) where
   silent-goes_to_election v Fresher = Silent
   silent-goes_to_election v (Quorum term) = silent-stands v term
 
-  silent-counts_pre_vote : (v : View) (round : Option Round) (p : Id) (term : ℕ) (last : StateId) → AreSilent (elections.counts_pre_vote s v round p term last)
-  silent-counts_pre_vote v None p term last = Silent
-  silent-counts_pre_vote v (Some r) p term last = silent-if _ _ _ (Also _ _ refl (silent-goes_to_election v _)) Silent
+  silent-on_pre_vote_answer : (v : View) (round : Option Round) (p : Id) (term : ℕ) (last : StateId) → AreSilent (elections.on_pre_vote_answer s v round p term last)
+  silent-on_pre_vote_answer v None p term last = Silent
+  silent-on_pre_vote_answer v (Some r) p term last = silent-if _ _ _ (Also _ _ refl (silent-goes_to_election v _)) Silent
 
   -- ---- discovery
 
@@ -224,13 +224,13 @@ module _ (s : Settings) where
   most-seeks_master : (v : View) (p : Id) (master : Option Id) (term : ℕ) → AtMost 1 2 (discovery.seeks_master s v p master term)
   most-seeks_master v p master term =
       most-if 1 2 (discovery.is_node master p) _ _
-      (most-if 1 2 (nat_lt v.node.term term) _ _ (most-starts_join v p term) (most-quiet 1 2 _ (Also _ _ refl Silent))) (most-none 1 2)
+      (most-if 1 2 (nat_lt v.node.term term) _ _ (most-on_start_join v p term) (most-quiet 1 2 _ (Also _ _ refl Silent))) (most-none 1 2)
 
   most-hears_peer : (v : View) (p : Id) (master : Option Id) (term : ℕ) → AtMost 1 2 (discovery.hears_peer s v p master term)
   most-hears_peer v p master term =
       most-if 1 2 (doing.is_candidate v.mode) _ _ (most-silent 1 2 _ _ refl (most-seeks_master (moved s v (Notes (Heard p master))) p master term)) (most-none 1 2)
 
-  most-told_peers : (v : View) (p : Id) (master : Option Id) (term : ℕ) (ids : List Id) → AtMost 1 2 (discovery.is_told_peers s v p master term ids)
+  most-told_peers : (v : View) (p : Id) (master : Option Id) (term : ℕ) (ids : List Id) → AtMost 1 2 (discovery.on_peers_answer s v p master term ids)
   most-told_peers v p master term ids = most-silent 1 2 _ _ refl (most-hears_peer (moved s v (Notes (Met (p ∷ ids)))) p master term)
 
   -- ---- joins
@@ -253,15 +253,15 @@ module _ (s : Settings) where
       let act : Act = TakeJoin (joins.join_from p s.me term last) in
       most-if 2 4 (has_room v.node.join_votes p) _ _ (most-act 1 3 act _ _ (most-after_join v (doing.after_act s v act) act p)) (most-none 2 4)
 
-  most-joined : (v : View) (p : Id) (term : ℕ) (last : StateId) → AtMost 3 6 (joins.is_joined s v p term last)
+  most-joined : (v : View) (p : Id) (term : ℕ) (last : StateId) → AtMost 3 6 (joins.on_join s v p term last)
   most-joined v p term last =
       most-if 3 6 (doing.is_voting_only s s.me) _ _ (most-none 3 6)
       (most-then 1 2 2 4 v _ (λ u. joins.takes_join s u p term last) (most-raises_term v s.me term) (λ u. most-takes_join u p term last))
 
-  most-asked_to_join : (v : View) (p : Id) (term : ℕ) → AtMost 1 2 (joins.is_asked_to_join s v p term)
+  most-asked_to_join : (v : View) (p : Id) (term : ℕ) → AtMost 1 2 (joins.on_join_ask s v p term)
   most-asked_to_join v p term =
       most-if 1 2 (not (doing.is_leader v.mode)) _ _ (most-none 1 2)
-      (most-if 1 2 (nat_le term v.node.term) _ _ (most-takes_member v p) (most-starts_join v s.me term))
+      (most-if 1 2 (nat_le term v.node.term) _ _ (most-takes_member v p) (most-on_start_join v s.me term))
 
   -- ---- publications
 
@@ -272,15 +272,15 @@ module _ (s : Settings) where
       (most-if 0 2 (doing.takes s v act) _ _
       (most-silent 0 2 _ _ refl (most-if 0 2 (same p s.me) _ _ (most-none 0 2) (most-becomes_follower (doing.after_act s v act) p))) (most-none 0 2))
 
-  most-published_to : (v : View) (p : Id) (state : ClusterState) → AtMost 2 5 (publications.is_published_to s v p state)
+  most-published_to : (v : View) (p : Id) (state : ClusterState) → AtMost 2 5 (publications.on_publish s v p state)
   most-published_to v p state = most-then 1 2 1 3 v _ (λ u. publications.accepts s u p state) (most-raises_term v p state.term) (λ u. most-accepts u p state)
 
   silent-sends_commit : (v : View) (sent : Bool) (p : Id) (id : StateId) → AreSilent (publications.sends_commit s v sent p id)
   silent-sends_commit v sent p id =
       silent-if sent _ _ (Also _ _ refl Silent) (silent-append _ _ (silent-append _ _ (silent-sends _ _) (silent-replies _)) (Also _ _ refl Silent))
 
-  most-counts_response : (v : View) (p : Id) (id : StateId) → AtMost 1 1 (publications.counts_response s v p id)
-  most-counts_response v p id =
+  most-on_response : (v : View) (p : Id) (id : StateId) → AtMost 1 1 (publications.on_response s v p id)
+  most-on_response v p id =
       let act : Act = Response (record { source = p; target = s.me; term = id.term; version = id.version }) in
       most-if 1 1 (doing.is_leader v.mode && is_some v.publication && has_room v.node.publish_votes p) _ _
       (most-act 0 0 act _ _ (most-quiet 0 0 _ (silent-if _ _ _ (silent-sends_commit (doing.after_act s v act) (publications.is_commit_sent v.publication) p id) Silent)))
@@ -289,7 +289,7 @@ module _ (s : Settings) where
   silent-acks_exclusions : (v : View) → AreSilent (publications.acks_exclusions s v)
   silent-acks_exclusions v = silent-append _ _ (silent-replies _) (Also _ _ refl Silent)
 
-  most-told_commit : (v : View) (p : Id) (id : StateId) → AtMost 2 3 (publications.is_told_commit s v p id)
+  most-told_commit : (v : View) (p : Id) (id : StateId) → AtMost 2 3 (publications.on_commit s v p id)
   most-told_commit v p id =
       let act : Act = Commit (record { source = p; term = id.term; version = id.version }) in
       let after : View = doing.after_act s v act in
@@ -319,7 +319,7 @@ module _ (s : Settings) where
       most-if 0 2 (doing.is_leader v.mode) _ _ (most-quiet 0 2 _ (silent-answers_leader v p false))
       (most-then 0 2 0 0 v _ (λ u. checks.answers_leader s u p true) (most-becomes_follower v p) (λ u. most-quiet 0 0 _ (silent-answers_leader u p true)))
 
-  most-checked_by_leader : (v : View) (p : Id) (term : ℕ) → AtMost 1 4 (checks.is_checked_by_leader s v p term)
+  most-checked_by_leader : (v : View) (p : Id) (term : ℕ) → AtMost 1 4 (checks.on_follower_check s v p term)
   most-checked_by_leader v p term =
       most-if 1 4 (nat_lt term v.node.term) _ _ (most-quiet 1 4 _ (silent-answers_leader v p false))
       (most-then 1 2 0 2 v _ (λ u. checks.follows_checker s u p) (most-raises_term v p term) (λ u. most-follows_checker u p))
@@ -359,16 +359,16 @@ module _ (s : Settings) where
   most-ticks v word (Follower leader) = most-more 0 1 3 6 _ (most-checks_leader v leader v.leader_check) (omega arith) (omega arith)
 
   most-message : (v : View) (p : Id) (m : WireMessage) → AtMost 3 6 (rules.takes_message s v p m)
-  most-message v p (message.StartJoin candidate term) = most-more 1 2 3 6 _ (most-starts_join v candidate term) (omega arith) (omega arith)
+  most-message v p (message.StartJoin candidate term) = most-more 1 2 3 6 _ (most-on_start_join v candidate term) (omega arith) (omega arith)
   most-message v p (message.Join term last) = most-joined v p term last
   most-message v p (message.Publish state) = most-more 2 5 3 6 _ (most-published_to v p state) (omega arith) (omega arith)
-  most-message v p (message.Response id) = most-more 1 1 3 6 _ (most-counts_response v p id) (omega arith) (omega arith)
+  most-message v p (message.Response id) = most-more 1 1 3 6 _ (most-on_response v p id) (omega arith) (omega arith)
   most-message v p (message.Commit id) = most-more 2 3 3 6 _ (most-told_commit v p id) (omega arith) (omega arith)
   most-message v p (message.JoinAsk term) = most-more 1 2 3 6 _ (most-asked_to_join v p term) (omega arith) (omega arith)
   most-message v p (message.PeersAsk known) = most-quiet 3 6 _ (Also _ _ refl (Also _ _ refl Silent))
   most-message v p (message.PeersAnswer master term known) = most-more 1 2 3 6 _ (most-told_peers v p master term known) (omega arith) (omega arith)
   most-message v p message.PreVoteAsk = most-quiet 3 6 _ (silent-pre_vote_reply v p _)
-  most-message v p (message.PreVoteAnswer term last) = most-quiet 3 6 _ (silent-counts_pre_vote v v.round p term last)
+  most-message v p (message.PreVoteAnswer term last) = most-quiet 3 6 _ (silent-on_pre_vote_answer v v.round p term last)
   most-message v p (message.PreVoteRefuse leader) = most-quiet 3 6 _ (Also _ _ refl Silent)
   most-message v p (message.FollowerCheck term) = most-more 1 4 3 6 _ (most-checked_by_leader v p term) (omega arith) (omega arith)
   most-message v p (message.FollowerAnswer good term applied) = most-quiet 3 6 _ (silent-if (doing.is_leader v.mode) _ _ (Also _ _ refl Silent) Silent)

@@ -216,14 +216,14 @@ module _ (s : Settings) where
       spends-if v (doing.follows_node v.mode p) _ _ (spends-none v)
       (spends-append v _ _ (spends-if v (doing.is_leader v.mode) _ _ (spends-becomes_candidate v) (spends-none v)) (spends-calm _ _ (Also _ _ refl Silent)))
 
-  spends-starts_join : (v : View) (c : Id) (t : ℕ) → Spends s v (doing.starts_join s v c t)
-  spends-starts_join v c t =
+  spends-on_start_join : (v : View) (c : Id) (t : ℕ) → Spends s v (doing.on_start_join s v c t)
+  spends-on_start_join v c t =
       spends-item v (doing.act_now s v (StartJoin c t)) _ refl
       (spends-if _ (doing.takes s v (StartJoin c t)) _ _
       (spends-item _ _ _ refl (spends-becomes_candidate_once (doing.after_act s v (StartJoin c t)))) (spends-none _))
 
   spends-raises_term : (v : View) (c : Id) (t : ℕ) → Spends s v (doing.raises_term s v c t)
-  spends-raises_term v c t = spends-if v (nat_lt v.node.term t) _ _ (spends-starts_join v c t) (spends-none v)
+  spends-raises_term v c t = spends-if v (nat_lt v.node.term t) _ _ (spends-on_start_join v c t) (spends-none v)
 
   -- ---- the next state
 
@@ -281,9 +281,9 @@ module _ (s : Settings) where
   calm-goes_to_election v Fresher = Silent
   calm-goes_to_election v (Quorum term) = calm-stands v term
 
-  calm-counts_pre_vote : (v : View) (round : Option Round) (p : Id) (term : ℕ) (last : StateId) → AreCalm (elections.counts_pre_vote s v round p term last)
-  calm-counts_pre_vote v None p term last = Silent
-  calm-counts_pre_vote v (Some r) p term last = calm-if _ _ _ (Also _ _ refl (calm-goes_to_election v _)) Silent
+  calm-on_pre_vote_answer : (v : View) (round : Option Round) (p : Id) (term : ℕ) (last : StateId) → AreCalm (elections.on_pre_vote_answer s v round p term last)
+  calm-on_pre_vote_answer v None p term last = Silent
+  calm-on_pre_vote_answer v (Some r) p term last = calm-if _ _ _ (Also _ _ refl (calm-goes_to_election v _)) Silent
 
   calm-asks_peers : (v : View) → AreCalm (discovery.asks_peers s v)
   calm-asks_peers v = calm-if (is_due v.finder.due v.moment) _ _ (Also _ _ refl (calm-sends _ _)) Silent
@@ -291,13 +291,13 @@ module _ (s : Settings) where
   spends-seeks_master : (v : View) (p : Id) (master : Option Id) (term : ℕ) → Spends s v (discovery.seeks_master s v p master term)
   spends-seeks_master v p master term =
       spends-if v (discovery.is_node master p) _ _
-      (spends-if v (nat_lt v.node.term term) _ _ (spends-starts_join v p term) (spends-calm v _ (Also _ _ refl Silent))) (spends-none v)
+      (spends-if v (nat_lt v.node.term term) _ _ (spends-on_start_join v p term) (spends-calm v _ (Also _ _ refl Silent))) (spends-none v)
 
   spends-hears_peer : (v : View) (p : Id) (master : Option Id) (term : ℕ) → Spends s v (discovery.hears_peer s v p master term)
   spends-hears_peer v p master term =
       spends-if v (doing.is_candidate v.mode) _ _ (spends-item v (Notes (Heard p master)) _ refl (spends-seeks_master (moved s v (Notes (Heard p master))) p master term)) (spends-none v)
 
-  spends-told_peers : (v : View) (p : Id) (master : Option Id) (term : ℕ) (ids : List Id) → Spends s v (discovery.is_told_peers s v p master term ids)
+  spends-told_peers : (v : View) (p : Id) (master : Option Id) (term : ℕ) (ids : List Id) → Spends s v (discovery.on_peers_answer s v p master term ids)
   spends-told_peers v p master term ids = spends-item v (Notes (Met (p ∷ ids))) _ refl (spends-hears_peer (moved s v (Notes (Met (p ∷ ids)))) p master term)
 
   -- ---- joins
@@ -320,15 +320,15 @@ module _ (s : Settings) where
       let act : Act = TakeJoin (joins.join_from p s.me term last) in
       spends-if v (has_room v.node.join_votes p) _ _ (spends-item v (doing.act_now s v act) _ refl (spends-after_join v (doing.after_act s v act) act p)) (spends-none v)
 
-  spends-joined : (v : View) (p : Id) (term : ℕ) (last : StateId) → Spends s v (joins.is_joined s v p term last)
+  spends-joined : (v : View) (p : Id) (term : ℕ) (last : StateId) → Spends s v (joins.on_join s v p term last)
   spends-joined v p term last =
       spends-if v (doing.is_voting_only s s.me) _ _ (spends-none v)
       (spends-then v _ (λ u. joins.takes_join s u p term last) (spends-raises_term v s.me term) (λ u. spends-takes_join u p term last))
 
-  spends-asked_to_join : (v : View) (p : Id) (term : ℕ) → Spends s v (joins.is_asked_to_join s v p term)
+  spends-asked_to_join : (v : View) (p : Id) (term : ℕ) → Spends s v (joins.on_join_ask s v p term)
   spends-asked_to_join v p term =
       spends-if v (not (doing.is_leader v.mode)) _ _ (spends-none v)
-      (spends-if v (nat_le term v.node.term) _ _ (spends-takes_member v p) (spends-starts_join v s.me term))
+      (spends-if v (nat_le term v.node.term) _ _ (spends-takes_member v p) (spends-on_start_join v s.me term))
 
   -- ---- publications
 
@@ -339,7 +339,7 @@ module _ (s : Settings) where
       (spends-if _ (doing.takes s v act) _ _
       (spends-item _ _ _ refl (spends-if _ (same p s.me) _ _ (spends-none _) (spends-becomes_follower (doing.after_act s v act) p))) (spends-none _))
 
-  spends-published_to : (v : View) (p : Id) (state : ClusterState) → Spends s v (publications.is_published_to s v p state)
+  spends-published_to : (v : View) (p : Id) (state : ClusterState) → Spends s v (publications.on_publish s v p state)
   spends-published_to v p state = spends-then v _ (λ u. publications.accepts s u p state) (spends-raises_term v p state.term) (λ u. spends-accepts u p state)
 
   spends-first_commit : (v : View) (id : StateId) → Spends s v (publications.sends_first_commit s v id)
@@ -353,8 +353,8 @@ module _ (s : Settings) where
       rw (append_assoc sent (doing.reply_all s answers) (Notes CommitAcked ∷ []))
       (spends-append v sent (doing.reply_all s answers ++ Notes CommitAcked ∷ []) (spends-calm v sent (calm-sends to (message.Commit id))) (rw (moved_all-sends s v to (message.Commit id)) rest))
 
-  spends-counts_response : (v : View) (p : Id) (id : StateId) → Spends s v (publications.counts_response s v p id)
-  spends-counts_response v p id =
+  spends-on_response : (v : View) (p : Id) (id : StateId) → Spends s v (publications.on_response s v p id)
+  spends-on_response v p id =
       let act : Act = Response (record { source = p; target = s.me; term = id.term; version = id.version }) in
       let after : View = doing.after_act s v act in
       spends-if v (doing.is_leader v.mode && is_some v.publication && has_room v.node.publish_votes p) _ _
@@ -368,7 +368,7 @@ module _ (s : Settings) where
       let decide : Waiting → Option Answer = exclusion_done v.node.committed (id_of v.node.accepted) in
       spends-replies v (answers_by decide v.tasks.waiting) (Notes ExclusionsAcked ∷ []) (let all = counted decide v.tasks.waiting in omega (arith, all))
 
-  spends-told_commit : (v : View) (p : Id) (id : StateId) → Spends s v (publications.is_told_commit s v p id)
+  spends-told_commit : (v : View) (p : Id) (id : StateId) → Spends s v (publications.on_commit s v p id)
   spends-told_commit v p id =
       let act : Act = Commit (record { source = p; term = id.term; version = id.version }) in
       let after : View = doing.after_act s v act in
@@ -398,7 +398,7 @@ module _ (s : Settings) where
       spends-if v (doing.is_leader v.mode) _ _ (spends-answers_leader v p false)
       (spends-then v _ (λ u. checks.answers_leader s u p true) (spends-becomes_follower v p) (λ u. spends-answers_leader u p true))
 
-  spends-checked_by_leader : (v : View) (p : Id) (term : ℕ) → Spends s v (checks.is_checked_by_leader s v p term)
+  spends-checked_by_leader : (v : View) (p : Id) (term : ℕ) → Spends s v (checks.on_follower_check s v p term)
   spends-checked_by_leader v p term =
       spends-if v (nat_lt term v.node.term) _ _ (spends-answers_leader v p false)
       (spends-then v _ (λ u. checks.follows_checker s u p) (spends-raises_term v p term) (λ u. spends-follows_checker u p))
@@ -429,16 +429,16 @@ module _ (s : Settings) where
   spends-ticks v word (Follower leader) = spends-checks_leader v leader v.leader_check
 
   spends-message : (v : View) (p : Id) (m : WireMessage) → Spends s v (rules.takes_message s v p m)
-  spends-message v p (message.StartJoin candidate term) = spends-starts_join v candidate term
+  spends-message v p (message.StartJoin candidate term) = spends-on_start_join v candidate term
   spends-message v p (message.Join term last) = spends-joined v p term last
   spends-message v p (message.Publish state) = spends-published_to v p state
-  spends-message v p (message.Response id) = spends-counts_response v p id
+  spends-message v p (message.Response id) = spends-on_response v p id
   spends-message v p (message.Commit id) = spends-told_commit v p id
   spends-message v p (message.JoinAsk term) = spends-asked_to_join v p term
   spends-message v p (message.PeersAsk known) = spends-calm v _ (Also _ _ refl (Also _ _ refl Silent))
   spends-message v p (message.PeersAnswer master term known) = spends-told_peers v p master term known
   spends-message v p message.PreVoteAsk = spends-calm v _ (calm-pre_vote_reply v p _)
-  spends-message v p (message.PreVoteAnswer term last) = spends-calm v _ (calm-counts_pre_vote v v.round p term last)
+  spends-message v p (message.PreVoteAnswer term last) = spends-calm v _ (calm-on_pre_vote_answer v v.round p term last)
   spends-message v p (message.PreVoteRefuse leader) = spends-calm v _ (Also _ _ refl Silent)
   spends-message v p (message.FollowerCheck term) = spends-checked_by_leader v p term
   spends-message v p (message.FollowerAnswer good term applied) = spends-calm v _ (calm-if (doing.is_leader v.mode) _ _ (Also _ _ refl Silent) Silent)

@@ -44,7 +44,8 @@ pub record AnswersFew (s : Settings) (v : View) (items : List Item) : Type 0 whe
 abbrev pub LawAnswersFew : Type 0
 LawAnswersFew = (s : Settings) (v : View) (event : Event) → length v.tasks.waiting ≤ most_open → AnswersFew s v (next_of s v event)
 
--- a node whose sets are as small as sets in memory are: the members of its state, its peers, the followers that it watches, and whom its publication goes to
+-- a node whose sets are as small as sets in memory are: the members of its state, its peers, the followers that it watches, and whom its
+-- publication goes to
 pub record AreSmall (node : NodeState) (finder : PeerFinder) (followers : Followers) (publication : Option Publication) : Type 0 where
   pub members : length node.accepted.value.members ≤ most_ids
   pub peers : length finder.peers ≤ most_peers
@@ -66,8 +67,8 @@ EventHoldsSet (Tick now word) = Unit {0}
 EventHoldsSet (FrameCame frame) = HoldsSet frame.message
 EventHoldsSet (LineCame conn line) = Unit {0}
 
--- How many frames an event sends at most. At a tick: a candidate that is a quorum alone asks 31 peers for peers and 31 for a pre-vote, and starts 32
--- joins. A join by which the term rises and that wins: one more than a state goes to.
+-- How many frames an event sends at most. At a tick: a candidate that is a quorum alone asks 31 peers for peers and 31 for a pre-vote, and
+-- starts 32 joins. A join by which the term rises and that wins: one more than a state goes to.
 abbrev pub most_frames : Event → ℕ
 most_frames Start = 0
 most_frames (Tick now word) = 94

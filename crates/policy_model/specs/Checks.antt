@@ -45,19 +45,19 @@ module _ (s : Settings) where
       else then_rule s v (becomes_follower s v p) (λ v'. answers_leader v' p true)
 
   -- a check of an earlier term is answered no; one of a later term raises the node's own first
-  abbrev pub is_checked_by_leader : View → Id → ℕ → List Item
-  is_checked_by_leader v p term =
+  abbrev pub on_follower_check : View → Id → ℕ → List Item
+  on_follower_check v p term =
       if nat_lt term v.node.term then answers_leader v p false
       else then_rule s v (raises_term s v p term) (λ v'. follows_checker v' p)
 
   -- a member is answered whether the node leads it
-  abbrev pub is_checked_by_follower : View → Id → ℕ → List Item
-  is_checked_by_follower v p term =
+  abbrev pub on_leader_check : View → Id → ℕ → List Item
+  on_leader_check v p term =
       send s p (message.LeaderAnswer (is_leader v.mode && nat_eq term v.node.term && has p (targets_of v.publication))) ∷ []
 
   -- answers to the node's own checks
-  abbrev pub is_answered_by_follower : View → Id → Bool → StateId → List Item
-  is_answered_by_follower v p good applied = if is_leader v.mode then Notes (FollowerAnswered p good applied) ∷ [] else []
+  abbrev pub on_follower_answer : View → Id → Bool → StateId → List Item
+  on_follower_answer v p good applied = if is_leader v.mode then Notes (FollowerAnswered p good applied) ∷ [] else []
 
-  abbrev pub is_answered_by_leader : View → Id → Bool → List Item
-  is_answered_by_leader v p good = if follows_node v.mode p then Notes (LeaderAnswered good) ∷ [] else []
+  abbrev pub on_leader_answer : View → Id → Bool → List Item
+  on_leader_answer v p good = if follows_node v.mode p then Notes (LeaderAnswered good) ∷ [] else []

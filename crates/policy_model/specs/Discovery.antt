@@ -7,7 +7,7 @@ use Rattle.peer_finder.specs.Peers.{known_set}
 use Rattle.policy_model.specs.declared.settings.Settings.{Settings}
 use Rattle.policy_model.specs.Events.{Item, Notes, Met, Heard, PeersAsked}
 use Rattle.policy_model.specs.Views.{View}
-use Rattle.policy_model.specs.Doing.{is_candidate, leader_of, then_rule, send, send_all, starts_join}
+use Rattle.policy_model.specs.Doing.{is_candidate, leader_of, then_rule, send, send_all, on_start_join}
 
 abbrev pub is_node : Option Id → Id → Bool
 is_node None p = false
@@ -29,14 +29,14 @@ module _ (s : Settings) where
   abbrev pub tells_peers : View → Id → List Item
   tells_peers v p = send s p (message.PeersAnswer (leader_of s.me v.mode) v.node.term (with_id s.me (known_set v.finder))) ∷ []
 
-  abbrev pub is_asked_for_peers : View → Id → List Id → List Item
-  is_asked_for_peers v p known = then_rule s v (Notes (Met (p ∷ known)) ∷ []) (λ v'. tells_peers v' p)
+  abbrev pub on_peers_ask : View → Id → List Id → List Item
+  on_peers_ask v p known = then_rule s v (Notes (Met (p ∷ known)) ∷ []) (λ v'. tells_peers v' p)
 
   -- a candidate that hears of a master from that master joins it: at once where its term is greater, else it asks for a join
   abbrev pub seeks_master : View → Id → Option Id → ℕ → List Item
   seeks_master v p master term =
       if is_node master p
-      then (if nat_lt v.node.term term then starts_join s v p term else send s p (message.JoinAsk v.node.term) ∷ [])
+      then (if nat_lt v.node.term term then on_start_join s v p term else send s p (message.JoinAsk v.node.term) ∷ [])
       else []
 
   abbrev pub hears_peer : View → Id → Option Id → ℕ → List Item
@@ -45,5 +45,5 @@ module _ (s : Settings) where
       then then_rule s v (Notes (Heard p master) ∷ []) (λ v'. seeks_master v' p master term)
       else []
 
-  abbrev pub is_told_peers : View → Id → Option Id → ℕ → List Id → List Item
-  is_told_peers v p master term known = then_rule s v (Notes (Met (p ∷ known)) ∷ []) (λ v'. hears_peer v' p master term)
+  abbrev pub on_peers_answer : View → Id → Option Id → ℕ → List Id → List Item
+  on_peers_answer v p master term known = then_rule s v (Notes (Met (p ∷ known)) ∷ []) (λ v'. hears_peer v' p master term)

@@ -1,5 +1,5 @@
--- Part of the statement: what the rules are made of: acts with their answers, frames and replies, and the changes of mode. Each says which items a
--- node adds that is v.
+-- Part of the statement: what the rules are made of: acts with their answers, frames and replies, and the changes of mode. Each says which
+-- items a node adds that is v.
 use Rattle.std.specs.Prelude.{ℕ, Bool, true, false, Option, None, Some, List, [], ◌∷◌, ◌++◌, map, nat_lt, if◌then◌else◌}
 use Rattle.voting_config.specs.Ids.{Id, same, has}
 use Rattle.wire_frames.specs.declared.frame.WireMessage.{WireMessage}
@@ -85,8 +85,8 @@ module _ (s : Settings) where
   becomes_candidate_once v = if is_candidate v.mode then [] else becomes_candidate v
 
   -- starting a join for a candidate in a term: the join goes to it
-  abbrev pub starts_join : View → Id → ℕ → List Item
-  starts_join v candidate term =
+  abbrev pub on_start_join : View → Id → ℕ → List Item
+  on_start_join v candidate term =
       act_now v (StartJoin candidate term)
       ∷ (if takes v (StartJoin candidate term)
       then send candidate (message.Join term (id_of v.node.accepted)) ∷ becomes_candidate_once (after_act v (StartJoin candidate term))
@@ -94,7 +94,7 @@ module _ (s : Settings) where
 
   -- the same where the term is above the node's
   abbrev pub raises_term : View → Id → ℕ → List Item
-  raises_term v candidate term = if nat_lt v.node.term term then starts_join v candidate term else []
+  raises_term v candidate term = if nat_lt v.node.term term then on_start_join v candidate term else []
 
   -- following a node, which is not done anew; a leader becomes a candidate first
   abbrev pub becomes_follower : View → Id → List Item

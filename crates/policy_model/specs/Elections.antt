@@ -65,8 +65,8 @@ module _ (s : Settings) where
   pre_vote_reply v p Answer = send s p (message.PreVoteAnswer v.node.term (id_of v.node.accepted)) ∷ []
   pre_vote_reply v p (Refused leader) = send s p (message.PreVoteRefuse leader) ∷ []
 
-  abbrev pub is_asked_pre_vote : View → Id → List Item
-  is_asked_pre_vote v p = pre_vote_reply v p (reply_to p (leader_of s.me v.mode))
+  abbrev pub on_pre_vote_ask : View → Id → List Item
+  on_pre_vote_ask v p = pre_vote_reply v p (reply_to p (leader_of s.me v.mode))
 
   -- an answer to a candidate with an open round, where it fits
   abbrev pub goes_to_election : View → Added → List Item
@@ -74,14 +74,14 @@ module _ (s : Settings) where
   goes_to_election v Fresher = []
   goes_to_election v (Quorum term) = stands_for_election v term
 
-  abbrev pub counts_pre_vote : View → Option Round → Id → ℕ → StateId → List Item
-  counts_pre_vote v None p term last = []
-  counts_pre_vote v (Some round) p term last =
+  abbrev pub on_pre_vote_answer : View → Option Round → Id → ℕ → StateId → List Item
+  on_pre_vote_answer v None p term last = []
+  on_pre_vote_answer v (Some round) p term last =
       if is_candidate v.mode && fits p round
       then Notes (RoundAnswered p term last)
       ∷ goes_to_election v (added_of (answered round p term last) last v.node.committed v.node.accepted.config)
       else []
 
   -- who refuses a pre-vote names the leader
-  abbrev pub is_refused_pre_vote : View → Id → List Item
-  is_refused_pre_vote v leader = Notes (Met (leader ∷ [])) ∷ []
+  abbrev pub on_pre_vote_refuse : View → Id → List Item
+  on_pre_vote_refuse v leader = Notes (Met (leader ∷ [])) ∷ []

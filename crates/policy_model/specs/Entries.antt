@@ -33,7 +33,8 @@ log_of (Opened life found) = And (log_of life) (Opens found)
 log_of (Lived life (Did event items)) = added (And (log_of life) (Begins event)) items
 log_of (Lived life entry) = log_of life
 
--- An event shows its acts and mode lines in order, then drops by ascending member, then frames by ascending receiver, then replies in order.
+-- An event shows its acts and mode lines in order, then drops by ascending member, then frames by ascending receiver, then replies in
+-- order.
 
 abbrev pub steps_in : Item → List Step
 steps_in (Acts act outcome) = step.Act act outcome ∷ []

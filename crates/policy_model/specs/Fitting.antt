@@ -71,7 +71,8 @@ pub record StaysFit (s : Settings) (v : View) (items : List Item) : Type 0 where
 
 -- a node within the limits to which what is within the limits comes sends and becomes only what is
 abbrev pub LawStaysFit : Type 0
-LawStaysFit = (s : Settings) (v : View) (event : Event) → IsFitView v → IsFitEvent event → EventHoldsSettings event → StaysFit s v (next_of s v event)
+LawStaysFit = (s : Settings) (v : View) (event : Event) → IsFitView v → IsFitEvent event → EventHoldsSettings event
+    → StaysFit s v (next_of s v event)
 
 -- so is a node that was just opened with such a record
 abbrev pub LawOpenedIsFit : Type 0

@@ -10,7 +10,7 @@ use Rattle.world_model.specs.declared.acts.ActReply.TheVariants.{Taken, Refused,
 use Rattle.policy_model.specs.declared.settings.Settings.{Settings}
 use Rattle.policy_model.specs.Events.{Leader, Item, Turns, Notes, Joined}
 use Rattle.policy_model.specs.Views.{View}
-use Rattle.policy_model.specs.Doing.{is_leader, is_voting_only, then_rule, reply_now, act_now, after_act, takes, starts_join, raises_term}
+use Rattle.policy_model.specs.Doing.{is_leader, is_voting_only, then_rule, reply_now, act_now, after_act, takes, on_start_join, raises_term}
 use Rattle.policy_model.specs.NextState.{goes_on}
 
 -- a join wins the election
@@ -48,12 +48,12 @@ module _ (s : Settings) where
   counts_join v p term last = then_rule s v (raises_term s v s.me term) (λ v'. takes_join v' p term last)
 
   -- a voting-only node does nothing with a join, so it never wins
-  abbrev pub is_joined : View → Id → ℕ → StateId → List Item
-  is_joined v p term last = if is_voting_only s s.me then [] else counts_join v p term last
+  abbrev pub on_join : View → Id → ℕ → StateId → List Item
+  on_join v p term last = if is_voting_only s s.me then [] else counts_join v p term last
 
   -- a leader is asked for a join: who is in a later term gets one by a new election
-  abbrev pub is_asked_to_join : View → Id → ℕ → List Item
-  is_asked_to_join v p term =
+  abbrev pub on_join_ask : View → Id → ℕ → List Item
+  on_join_ask v p term =
       if not (is_leader v.mode) then []
       else if nat_le term v.node.term then takes_member v p
-      else starts_join s v s.me term
+      else on_start_join s v s.me term

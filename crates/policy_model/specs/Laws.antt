@@ -13,7 +13,7 @@ use Rattle.policy_model.specs.Views.{View, view_of}
 use Rattle.policy_model.specs.Moves.{opened, moved, moved_all}
 use Rattle.policy_model.specs.Doing.{may_win}
 use Rattle.policy_model.specs.Elections.{free_nodes, waits_until, waits_for_election}
-use Rattle.policy_model.specs.Joins.{counts_join, is_joined}
+use Rattle.policy_model.specs.Joins.{counts_join, on_join}
 use Rattle.policy_model.specs.NextState.{responders_of, successor_of}
 use Rattle.policy_model.specs.Follows.{Follows, items_of}
 
@@ -37,8 +37,9 @@ LawOpeningMoves =
 -- the three rules that look at the list of voting-only nodes are what they would be without it
 pub record IsWithoutVotingOnly (s : Settings) : Type 0 where
   pub waits : (v : View) (word : ℕ)
-      → waits_for_election s v word ≡ (if may_win s v && elects v.node (free_nodes s v) then waits_until s v word v.deadline else Notes ElectionOff ∷ [])
-  pub joined : (v : View) (p : Id) (term : ℕ) (last : StateId) → is_joined s v p term last ≡ counts_join s v p term last
+      → waits_for_election s v word
+      ≡ (if may_win s v && elects v.node (free_nodes s v) then waits_until s v word v.deadline else Notes ElectionOff ∷ [])
+  pub joined : (v : View) (p : Id) (term : ℕ) (last : StateId) → on_join s v p term last ≡ counts_join s v p term last
   pub successor : (v : View) → successor_of s v ≡ find (λ id. has id v.node.committed) (responders_of v.publication)
 
 -- so it is where the list names nobody

@@ -89,13 +89,16 @@ abbrev pub sends_one : Outcome → Bool
 sends_one (Answered (Taken sends wins)) = is_some sends
 sends_one o = false
 
--- the last value that was published since the node became leader: who responded since, whether its commit was sent, whether the node has taken it
+-- the last value that was published since the node became leader: who responded since, whether its commit was sent, whether the node has
+-- taken it
 abbrev pub publication_of : Log → Option Publication
 publication_of NoItems = None
 publication_of (And l (Opens found)) = None
 publication_of (And l (Acts (Value version config value) o)) =
-    if is_ok o then Some (published_at (record { term = (node_of l).term; version = version }) value.members (moment_of l)) else publication_of l
-publication_of (And l (Acts (Response response) o)) = if is_ok o then responded (publication_of l) response.source (sends_one o) else publication_of l
+    if is_ok o then Some (published_at (record { term = (node_of l).term; version = version }) value.members (moment_of l))
+    else publication_of l
+publication_of (And l (Acts (Response response) o)) = if is_ok o then responded (publication_of l) response.source (sends_one o)
+    else publication_of l
 publication_of (And l (Acts (Commit commit) o)) = if is_ok o then finished (publication_of l) else publication_of l
 publication_of (And l (Turns Candidate term)) = None
 publication_of (And l i) = publication_of l
@@ -138,7 +141,8 @@ tasks_of s (And l (Notes (Joined ids))) = all_to_be_added (tasks_of s l) ids
 tasks_of s (And l (Drops member cause)) = to_be_removed (tasks_of s l) member
 tasks_of s (And l (Notes ExclusionsTimedOut)) = without_answered (timed_out (node_of l).committed (moment_of l)) (tasks_of s l)
 tasks_of s (And l (Notes CommitAcked)) = without_answered (committed_in (published_id (node_of l))) (tasks_of s l)
-tasks_of s (And l (Notes ExclusionsAcked)) = without_answered (exclusion_done (node_of l).committed (id_of (node_of l).accepted)) (tasks_of s l)
+tasks_of s (And l (Notes ExclusionsAcked)) =
+    without_answered (exclusion_done (node_of l).committed (id_of (node_of l).accepted)) (tasks_of s l)
 tasks_of s (And l (Notes StateMade)) = tasks_after (as_master s (node_of l)) (tasks_of s l)
 tasks_of s (And l (Turns Candidate term)) = no_tasks
 tasks_of s (And l i) = tasks_of s l

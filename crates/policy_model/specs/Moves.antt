@@ -46,7 +46,8 @@ begun v event = v
 abbrev pub acted : Settings → View → Act → Outcome → View
 acted s v (Value version config value) o = record v {
   node = node_state_after v.node (Value version config value) o;
-  publication = (if is_ok o then Some (published_at (record { term = v.node.term; version = version }) value.members v.moment) else v.publication);
+  publication = (if is_ok o then Some (published_at (record { term = v.node.term; version = version }) value.members v.moment)
+      else v.publication);
   followers = (if is_ok o then watched s.me v.followers value.members v.moment else v.followers);
 }
 acted s v (Response response) o = record v {

@@ -38,8 +38,8 @@ module _ (s : Settings) where
       then send s p (message.Response (id_of state)) ∷ (if same p s.me then [] else becomes_follower s (after_act s v act) p)
       else [])
 
-  abbrev pub is_published_to : View → Id → ClusterState → List Item
-  is_published_to v p state = then_rule s v (raises_term s v p state.term) (λ v'. accepts v' p state)
+  abbrev pub on_publish : View → Id → ClusterState → List Item
+  on_publish v p state = then_rule s v (raises_term s v p state.term) (λ v'. accepts v' p state)
 
   -- the first commit goes to each target that has responded, and the requests in the state are acknowledged
   abbrev pub sends_first_commit : View → StateId → List Item
@@ -53,8 +53,8 @@ module _ (s : Settings) where
   sends_commit v sent p id = if sent then send s p (message.Commit id) ∷ [] else sends_first_commit v id
 
   -- a response to a leader that has published, where it fits
-  abbrev pub counts_response : View → Id → StateId → List Item
-  counts_response v p id =
+  abbrev pub on_response : View → Id → StateId → List Item
+  on_response v p id =
       let act = Response (record { source = p; target = s.me; term = id.term; version = id.version }) in
       if is_leader v.mode && is_some v.publication && has_room v.node.publish_votes p
       then act_now s v act
@@ -66,8 +66,8 @@ module _ (s : Settings) where
   acks_exclusions v =
       reply_all s (answers_by (exclusion_done v.node.committed (id_of v.node.accepted)) v.tasks.waiting) ++ Notes ExclusionsAcked ∷ []
 
-  abbrev pub is_told_commit : View → Id → StateId → List Item
-  is_told_commit v p id =
+  abbrev pub on_commit : View → Id → StateId → List Item
+  on_commit v p id =
       let act = Commit (record { source = p; term = id.term; version = id.version }) in
       let after = after_act s v act in
       act_now s v act ∷ (if takes s v act && is_leader after.mode then then_rule s after (acks_exclusions after) (goes_on s) else [])

@@ -11,13 +11,13 @@ use Rattle.publication.specs.Publications.{Publication, stage_of}
 use Rattle.policy_model.specs.declared.settings.Settings.{Settings}
 use Rattle.policy_model.specs.Events.{Mode, Candidate, Leader, Follower, Event, Start, Tick, FrameCame, LineCame, Item}
 use Rattle.policy_model.specs.Views.{View}
-use Rattle.policy_model.specs.Doing.{then_rule, becomes_candidate, starts_join}
+use Rattle.policy_model.specs.Doing.{then_rule, becomes_candidate, on_start_join}
 use Rattle.policy_model.specs.NextState.{goes_on}
-use Rattle.policy_model.specs.Elections.{bootstraps, waits_for_election, is_asked_pre_vote, counts_pre_vote, is_refused_pre_vote}
-use Rattle.policy_model.specs.Discovery.{meets_first, asks_peers, is_asked_for_peers, is_told_peers}
-use Rattle.policy_model.specs.Joins.{is_joined, is_asked_to_join}
-use Rattle.policy_model.specs.Publications.{is_published_to, counts_response, is_told_commit}
-use Rattle.policy_model.specs.Checks.{checks_followers, checks_leader, is_checked_by_leader, is_checked_by_follower, is_answered_by_follower, is_answered_by_leader}
+use Rattle.policy_model.specs.Elections.{bootstraps, waits_for_election, on_pre_vote_ask, on_pre_vote_answer, on_pre_vote_refuse}
+use Rattle.policy_model.specs.Discovery.{meets_first, asks_peers, on_peers_ask, on_peers_answer}
+use Rattle.policy_model.specs.Joins.{on_join, on_join_ask}
+use Rattle.policy_model.specs.Publications.{on_publish, on_response, on_commit}
+use Rattle.policy_model.specs.Checks.{checks_followers, checks_leader, on_follower_check, on_leader_check, on_follower_answer, on_leader_answer}
 use Rattle.policy_model.specs.Requests.{times_out_exclusions, takes_line}
 
 abbrev pub is_failed : Stage → Bool
@@ -46,21 +46,21 @@ module _ (s : Settings) where
   ticks v word (Follower leader) = checks_leader s v leader v.leader_check
 
   abbrev pub takes_message : View → Id → WireMessage → List Item
-  takes_message v p (message.StartJoin candidate term) = starts_join s v candidate term
-  takes_message v p (message.Join term last) = is_joined s v p term last
-  takes_message v p (message.Publish state) = is_published_to s v p state
-  takes_message v p (message.Response id) = counts_response s v p id
-  takes_message v p (message.Commit id) = is_told_commit s v p id
-  takes_message v p (message.JoinAsk term) = is_asked_to_join s v p term
-  takes_message v p (message.PeersAsk known) = is_asked_for_peers s v p known
-  takes_message v p (message.PeersAnswer master term known) = is_told_peers s v p master term known
-  takes_message v p message.PreVoteAsk = is_asked_pre_vote s v p
-  takes_message v p (message.PreVoteAnswer term last) = counts_pre_vote s v v.round p term last
-  takes_message v p (message.PreVoteRefuse leader) = is_refused_pre_vote s v leader
-  takes_message v p (message.FollowerCheck term) = is_checked_by_leader s v p term
-  takes_message v p (message.FollowerAnswer good term applied) = is_answered_by_follower s v p good applied
-  takes_message v p (message.LeaderCheck term) = is_checked_by_follower s v p term
-  takes_message v p (message.LeaderAnswer good) = is_answered_by_leader s v p good
+  takes_message v p (message.StartJoin candidate term) = on_start_join s v candidate term
+  takes_message v p (message.Join term last) = on_join s v p term last
+  takes_message v p (message.Publish state) = on_publish s v p state
+  takes_message v p (message.Response id) = on_response s v p id
+  takes_message v p (message.Commit id) = on_commit s v p id
+  takes_message v p (message.JoinAsk term) = on_join_ask s v p term
+  takes_message v p (message.PeersAsk known) = on_peers_ask s v p known
+  takes_message v p (message.PeersAnswer master term known) = on_peers_answer s v p master term known
+  takes_message v p message.PreVoteAsk = on_pre_vote_ask s v p
+  takes_message v p (message.PreVoteAnswer term last) = on_pre_vote_answer s v v.round p term last
+  takes_message v p (message.PreVoteRefuse leader) = on_pre_vote_refuse s v leader
+  takes_message v p (message.FollowerCheck term) = on_follower_check s v p term
+  takes_message v p (message.FollowerAnswer good term applied) = on_follower_answer s v p good applied
+  takes_message v p (message.LeaderCheck term) = on_leader_check s v p term
+  takes_message v p (message.LeaderAnswer good) = on_leader_answer s v p good
 
   -- a frame for another node does nothing
   abbrev pub takes_frame : View → Frame → List Item

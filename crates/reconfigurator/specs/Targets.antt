@@ -6,7 +6,8 @@ use Rattle.voting_config.specs.Ids.{Id, among, has, is_quorum_of, outside, set_o
 abbrev pub odd_of : ℕ → ℕ
 odd_of k = if nat_eq (k % 2) 0 then k - 1 else k
 
--- how many voters there are at least: where the configuration may shrink, 3, or 1 where it has fewer than 3 members; else as many as it has that are not excluded
+-- how many voters there are at least: where the configuration may shrink, 3, or 1 where it has fewer than 3 members; else as many as it has
+-- that are not excluded
 abbrev pub least_size : ℕ → ℕ → Bool → ℕ
 least_size members voters shrink =
     if shrink
@@ -17,7 +18,8 @@ least_size members voters shrink =
 abbrev pub size_of : ℕ → ℕ → ℕ → Bool → ℕ
 size_of live members voters shrink = max (odd_of live) (least_size members voters shrink)
 
--- in order of preference, by the live nodes and the voters of today: the master, live voters, other live nodes, voters that are not live; each by id
+-- in order of preference, by the live nodes and the voters of today: the master, live voters, other live nodes, voters that are not live;
+-- each by id
 abbrev pub candidates_of : List Id → List Id → Id → List Id
 candidates_of live voters master =
     let others = outside live (master ∷ []) in

@@ -39,7 +39,8 @@ abbrev pub start_join_at : List (List ℕ) → Result Act WhyBad
 start_join_at ws = (two node any_number).at ws >>= λ x. Ok (StartJoin x.0 x.1)
 
 abbrev pub join_at : List (List ℕ) → Result Act WhyBad
-join_at ws = (four node node any_number state_id).at ws >>= λ x. Ok (TakeJoin (record { source = x.0; target = x.1; term = x.2; last_term = (x.3).term; last_version = (x.3).version }))
+join_at ws = (four node node any_number state_id).at ws >>= λ x. Ok
+    (TakeJoin (record { source = x.0; target = x.1; term = x.2; last_term = (x.3).term; last_version = (x.3).version }))
 
 abbrev pub value_act_at : List (List ℕ) → Result Act WhyBad
 value_act_at ws =
@@ -51,7 +52,8 @@ abbrev pub publish_at : List (List ℕ) → Result Act WhyBad
 publish_at ws = word_and_rest ws >>= λ w. node.at w.0 >>= λ n. state_at w.1 >>= λ state. Ok (Publish (record { source = n; state = state }))
 
 abbrev pub response_at : List (List ℕ) → Result Act WhyBad
-response_at ws = (three node node state_id).at ws >>= λ x. Ok (Response (record { source = x.0; target = x.1; term = (x.2).term; version = (x.2).version }))
+response_at ws = (three node node state_id).at ws >>= λ x. Ok
+    (Response (record { source = x.0; target = x.1; term = (x.2).term; version = (x.2).version }))
 
 abbrev pub commit_at : List (List ℕ) → Result Act WhyBad
 commit_at ws = (two node state_id).at ws >>= λ x. Ok (Commit (record { source = x.0; term = (x.1).term; version = (x.1).version }))
@@ -69,14 +71,20 @@ fields_at kind.Commit ws = commit_at ws
 
 -- an act: how it ended stands before it, and is read by its kind
 abbrev pub ended_at : Id → List ℕ → List (List ℕ) → Result Entry WhyBad
-ended_at n ended ws = word_and_rest ws >>= λ w. kind_at w.0 >>= λ k. ending_at k ended >>= λ e. fields_at k (words_of w.1) >>= λ act. Ok (Acted n e act)
+ended_at n ended ws = word_and_rest ws >>= λ w. kind_at w.0 >>= λ k. ending_at k ended >>= λ e. fields_at k (words_of w.1) >>= λ act. Ok
+    (Acted n e act)
 
 abbrev pub act_at : List (List ℕ) → Result Entry WhyBad
 act_at ws = word_and_rest ws >>= λ w. node.at w.0 >>= λ n. word_and_rest (words_of w.1) >>= λ v. ended_at n v.0 (words_of v.1)
 
 -- the record that a line shows, as far as it does: its accepted state has no value here
 abbrev pub shown_record : ℕ → StateId → List Id → List Id → Kept
-shown_record term id config committed = record { term = term; accepted = record { term = id.term; version = id.version; parent = None; config = config; committed = []; value = empty_value }; committed = committed }
+shown_record term id config committed = record {
+  term = term;
+  accepted = record
+      { term = id.term; version = id.version; parent = None; config = config; committed = []; value = empty_value };
+  committed = committed;
+}
 
 abbrev pub found_at : List (List ℕ) → Result Kept WhyBad
 found_at ws = (four any_number state_id ids ids).at ws >>= λ x. Ok (shown_record x.0 x.1 x.2 x.3)

@@ -66,7 +66,8 @@ settings_of d = get (codes "settings") d >>? settings_in
 abbrev pub value_in : Data → Option ClusterValue
 value_in d =
     if has_members 4 d
-    then (ids_of (codes "exclusions") d >>? λ exclusions. master_of d >>? λ master. ids_of (codes "members") d >>? λ members. settings_of d >>? λ settings.
+    then (ids_of (codes "exclusions") d >>? λ exclusions. master_of d >>? λ master. ids_of (codes "members") d >>? λ members. settings_of d
+    >>? λ settings.
     Some (record { master = master; members = members; exclusions = exclusions; settings = settings }))
     else None
 
@@ -76,7 +77,8 @@ value_of d = get (codes "value") d >>? value_in
 abbrev pub state_id_in : Data → Option StateId
 state_id_in d =
     if has_members 2 d
-    then (number_at (codes "term") d >>? λ term. number_at (codes "version") d >>? λ version. Some (record { term = term; version = version }))
+    then (number_at (codes "term") d >>? λ term. number_at (codes "version") d >>? λ version. Some
+    (record { term = term; version = version }))
     else None
 
 abbrev pub parent_in : Data → Option (Option StateId)

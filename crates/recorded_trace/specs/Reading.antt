@@ -60,7 +60,8 @@ end_at p (b ∷ bs) x = Err (record { line = p.number; why = why_cut p (b ∷ bs
 abbrev pub lines_at : Progress → List Numbered → List (List ℕ) → Result (List Numbered) BadTrace
 lines_at p front [] = Ok front
 lines_at p front (line ∷ []) = end_at p line front
-lines_at p front (line ∷ next ∷ more) = in_line p (sized p line (told_at line)) >>> λ told. lines_at (after_line p line) (with_entry p front told) (next ∷ more)
+lines_at p front (line ∷ next ∷ more) =
+    in_line p (sized p line (told_at line)) >>> λ told. lines_at (after_line p line) (with_entry p front told) (next ∷ more)
 
 -- the first line, which is no line where there are no bytes
 abbrev pub no_header : List ℕ → Why

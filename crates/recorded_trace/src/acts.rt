@@ -17,8 +17,7 @@ use cluster_state::{
     ApplyCommit, ClusterState, ClusterValue, Join, Kept, PublishRequest, PublishResponse,
     SharedConfig, SharedState, SharedValue, StateId,
 };
-use schedule_text::lines::{four_words, one_word, three_words, two_words};
-use schedule_text::{ReadError, WhyBad};
+use schedule_text::{ReadError, WhyBad, four_words, one_word, three_words, two_words};
 use std::alloc::{AllocError, Global};
 use voting_config::{NodeId, NodeSet, VotingConfig, cut};
 use world_model::Act;

@@ -7,8 +7,7 @@ ghost use Rattle.recorded_trace.specs.Words.{node, ids, state_id, no_word};
 ghost use Rattle.recorded_trace.specs.Causes.{two_numbers as two_numbers_of};
 
 use cluster_state::StateId;
-use schedule_text::WhyBad;
-use schedule_text::words::number_at;
+use schedule_text::{WhyBad, number_at};
 use voting_config::{NodeId, NodeSet, cut};
 
 /// The id that a word is.

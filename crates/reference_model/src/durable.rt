@@ -60,7 +60,9 @@ pub(crate) fn accepted_after(
     first: bool,
     entry: &Entry,
 ) -> Result<SharedState, AllocError>
-    ensures { IfOk result (λ s. (g : NodeHistory) → accepted ≡ accepted_of g → first ≡ is_first g → s ≡ accepted_of (Then g entry.now.act entry.now.outcome)) }
+    ensures { IfOk result
+        (λ s. (g : NodeHistory) → accepted ≡ accepted_of g → first ≡ is_first g
+        → s ≡ accepted_of (Then g entry.now.act entry.now.outcome)) }
 {
     match &entry.act {
         Act::Bootstrap(config) => {
@@ -112,7 +114,8 @@ fn committed_after(
     first: bool,
     entry: &Entry,
 ) -> VotingConfig
-    ensures { (g : NodeHistory) → committed ≡ committed_of g → accepted.now ≡ accepted_of g → first ≡ is_first g → result ≡ committed_of (Then g entry.now.act entry.now.outcome) }
+    ensures { (g : NodeHistory) → committed ≡ committed_of g → accepted.now ≡ accepted_of g → first ≡ is_first g
+        → result ≡ committed_of (Then g entry.now.act entry.now.outcome) }
 {
     match &entry.act {
         Act::Bootstrap(config) => {

@@ -46,7 +46,8 @@ fn emptied(set: NodeSet, is_emptied: bool) -> NodeSet
 }
 
 fn votes_after(mut votes: NodeSet, entry: &Entry) -> Result<NodeSet, Full>
-    ensures value { IfOk result (λ v. (g : NodeHistory) → votes ≡ join_votes_of g → v ≡ join_votes_of (Then g entry.now.act entry.now.outcome)) }
+    ensures value { IfOk result
+        (λ v. (g : NodeHistory) → votes ≡ join_votes_of g → v ≡ join_votes_of (Then g entry.now.act entry.now.outcome)) }
     ensures full { OnErr result (length votes ≡ most_ids) }
 {
     match &entry.act {
@@ -106,7 +107,8 @@ pub fn won(entries: &[Entry]) -> bool
 }
 
 fn version_after(version: u64, accepted: &SharedState, entry: &Entry) -> u64
-    ensures { (g : NodeHistory) → version ≡ published_version_of g → accepted.now ≡ accepted_of g → result ≡ published_version_of (Then g entry.now.act entry.now.outcome) }
+    ensures { (g : NodeHistory) → version ≡ published_version_of g → accepted.now ≡ accepted_of g
+        → result ≡ published_version_of (Then g entry.now.act entry.now.outcome) }
 {
     match &entry.act {
         Act::StartJoin(_, _) => { if entry.is_ok() { 0 } else { version } }
@@ -142,7 +144,8 @@ pub fn version(alloc: Global, entries: &[Entry]) -> Result<u64, AllocError>
 }
 
 fn config_after(config: VotingConfig, accepted: &SharedState, entry: &Entry) -> VotingConfig
-    ensures { (g : NodeHistory) → config ≡ published_config_of g → accepted.now ≡ accepted_of g → result ≡ published_config_of (Then g entry.now.act entry.now.outcome) }
+    ensures { (g : NodeHistory) → config ≡ published_config_of g → accepted.now ≡ accepted_of g
+        → result ≡ published_config_of (Then g entry.now.act entry.now.outcome) }
 {
     match &entry.act {
         Act::StartJoin(_, _) => {
@@ -184,7 +187,8 @@ pub fn config(alloc: Global, entries: &[Entry]) -> Result<VotingConfig, AllocErr
 }
 
 fn acks_after(mut acks: NodeSet, entry: &Entry) -> Result<NodeSet, Full>
-    ensures value { IfOk result (λ v. (g : NodeHistory) → acks ≡ publish_votes_of g → v ≡ publish_votes_of (Then g entry.now.act entry.now.outcome)) }
+    ensures value { IfOk result
+        (λ v. (g : NodeHistory) → acks ≡ publish_votes_of g → v ≡ publish_votes_of (Then g entry.now.act entry.now.outcome)) }
     ensures full { OnErr result (length acks ≡ most_ids) }
 {
     match &entry.act {

@@ -41,8 +41,8 @@ is_commit (JoinMessage join) = false
 is_commit (PublishMessage request) = false
 is_commit (ResponseMessage response) = false
 
--- These are the numbers of a history: the lines of its schedule, its acts, those that were refused, its wins, and the commits that were sent. A state
--- whose commit was sent twice has two lines, where an audit counts it once.
+-- These are the numbers of a history: the lines of its schedule, its acts, those that were refused, its wins, and the commits that were
+-- sent. A state whose commit was sent twice has two lines, where an audit counts it once.
 pub record AreOf (c : Counts) (s : Schedule) (h : History) : Type 0 where
   pub steps : c.steps ≡ length s.lines
   pub acts : c.acts ≡ act_count h

@@ -27,7 +27,8 @@ pub record Cluster : Type 0 where
 
 -- a node knows all others, in ascending order, the initial names, and who is voting-only
 abbrev pub settings_of : (nodes initial voting_only : List Id) → Id → Settings
-settings_of nodes initial voting_only n = record { me = n; peers = without_id n nodes; initial = initial; voting_only = voting_only; shrink = true }
+settings_of nodes initial voting_only n =
+    record { me = n; peers = without_id n nodes; initial = initial; voting_only = voting_only; shrink = true }
 
 abbrev pub with_life : (Id → Life) → Id → Life → Id → Life
 with_life lives n life = λ m. cond (same n m) life (lives m)

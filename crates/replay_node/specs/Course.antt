@@ -28,7 +28,8 @@ act_then (CrashedIn way) i w rest = record { items = i ∷ []; world = w; struck
 -- the node does these, one after the other; each act has the outcome that its disk lets it have
 abbrev pub played : Id → World → List Item → Course
 played n w [] = record { items = []; world = w; struck = false }
-played n w (Acts act outcome ∷ is) = act_then (act_called n (node_world w n) act).ended (Acts act (outcome_at n (node_world w n) act)) (did w n act) (λ (v : World). played n v is)
+played n w (Acts act outcome ∷ is) = act_then (act_called n (node_world w n) act).ended (Acts act (outcome_at n (node_world w n) act))
+    (did w n act) (λ (v : World). played n v is)
 played n w (Opens found ∷ is) = behind (Opens found) (played n w is)
 played n w (Begins event ∷ is) = behind (Begins event) (played n w is)
 played n w (Turns mode term ∷ is) = behind (Turns mode term) (played n w is)
@@ -54,7 +55,8 @@ node_act_then (CrashedIn way) i x rest = record { items = i ∷ []; node = x; st
 
 abbrev pub node_played : Id → NodeWorld → List Item → NodeCourse
 node_played n x [] = record { items = []; node = x; struck = false }
-node_played n x (Acts act outcome ∷ is) = node_act_then (act_called n x act).ended (Acts act (outcome_at n x act)) (after_act n x act) (λ (y : NodeWorld). node_played n y is)
+node_played n x (Acts act outcome ∷ is) =
+    node_act_then (act_called n x act).ended (Acts act (outcome_at n x act)) (after_act n x act) (λ (y : NodeWorld). node_played n y is)
 node_played n x (Opens found ∷ is) = node_behind (Opens found) (node_played n x is)
 node_played n x (Begins event ∷ is) = node_behind (Begins event) (node_played n x is)
 node_played n x (Turns mode term ∷ is) = node_behind (Turns mode term) (node_played n x is)

@@ -60,7 +60,8 @@ effects_text count n other = []
 
 abbrev pub ended_text : Option Ending → (count : ℕ) → Id → (act : List ℕ) → Did → List ℕ
 ended_text None count n act d = down_line n
-ended_text (Some ending) count n act d = (codes "act " ++ n ++ codes " " ++ ending_text ending ++ codes " " ++ act ++ codes "\n") ++ effects_text count n d
+ended_text (Some ending) count n act d = (codes "act " ++ n ++ codes " " ++ ending_text ending ++ codes " " ++ act ++ codes "\n")
+    ++ effects_text count n d
 
 abbrev pub did_text : (count : ℕ) → Id → (act : List ℕ) → Did → List ℕ
 did_text count n act d = ended_text (ending_by d) count n act d
@@ -72,7 +73,8 @@ WinsIn term other = Unit {0}
 
 -- the act won nothing, and what it committed is this state
 abbrev pub CommitsLast : Option ClusterState → Did → Type 0
-CommitsLast published (did.Taken e) = (e.won ≡ None) × (committed_by e.committed ≡ committed_line (Answered (Taken (message_of_some e.sends) (is_won e.won))) published)
+CommitsLast published (did.Taken e) = (e.won ≡ None)
+    × (committed_by e.committed ≡ committed_line (Answered (Taken (message_of_some e.sends) (is_won e.won))) published)
 CommitsLast published other = Unit {0}
 
 -- ---- an act of a node, which may be down

@@ -36,7 +36,8 @@ placed files other = files
 
 -- A call, where this stop falls on it or none, and whether a fault does. Where both fall on it, it is stopped.
 abbrev pub call_by : Option Way → Bool → NodeDisk → DeviceCall → Called
-call_by (Some way) fault disk call = record { disk = record { files = both_left_by way (placed disk.files call); armed = armed_later disk.armed }; ended = CrashedIn way }
+call_by (Some way) fault disk call =
+    record { disk = record { files = both_left_by way (placed disk.files call); armed = armed_later disk.armed }; ended = CrashedIn way }
 call_by None fault disk call =
     if fault then record { disk = record { files = disk.files; armed = armed_later disk.armed }; ended = Failed }
     else record { disk = record { files = after disk.files call; armed = armed_later disk.armed }; ended = Done }
@@ -101,4 +102,5 @@ pub record Restarted (old new : MemFuse) : Type 0 where
 abbrev pub EndsAs : CallsEnd → MemFuse → NodeDisk → Bool → Type 0
 EndsAs Done fuse disk ok = (ok ≡ true) × DiskStands fuse disk
 EndsAs Failed fuse disk ok = (ok ≡ false) × (fuse.struck ≡ Some Fault) × DiskStands fuse disk
-EndsAs (CrashedIn way) fuse disk ok = (ok ≡ false) × (fuse.struck ≡ Some Stop) × (fuse.down ≡ Some way) × (both_left_by way (files_of fuse.disk) ≡ disk.files) × (fuse.armed ≡ disk.armed)
+EndsAs (CrashedIn way) fuse disk ok = (ok ≡ false) × (fuse.struck ≡ Some Stop) × (fuse.down ≡ Some way)
+    × (both_left_by way (files_of fuse.disk) ≡ disk.files) × (fuse.armed ≡ disk.armed)

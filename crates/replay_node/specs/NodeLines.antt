@@ -26,7 +26,8 @@ restart_text me w = if needs_opening w then opening_text (opening w.disk).ended 
 
 -- an opening that succeeds finds the record that the node keeps
 abbrev pub FindsKept : NodeWorld → Type 0
-FindsKept w = needs_opening w ≡ true → (opening w.disk).ended ≡ Done → found_at w ≡ durable_of (settled (is_kept w.acts (found_at w)) w.acts)
+FindsKept w = needs_opening w ≡ true → (opening w.disk).ended ≡ Done
+    → found_at w ≡ durable_of (settled (is_kept w.acts (found_at w)) w.acts)
 
 -- a line: whatever the node stood for, it stands for that after the line, and the line's results were written
 pub record DoesLine (old new : ReplayNode) (after : NodeWorld → NodeWorld) (results : NodeWorld → List ℕ) (was now : List ℕ) : Type 0 where

@@ -63,7 +63,8 @@ abbrev pub outcome_at : Id → NodeWorld → Act → Outcome
 outcome_at me w act = outcome_by (act_called me w act).ended (reply_of me w.acts act)
 
 abbrev pub after_act : Id → NodeWorld → Act → NodeWorld
-after_act me w act = record { acts = Then w.acts act (outcome_at me w act); disk = (act_called me w act).disk; down = ends_in_a_crash (act_called me w act).ended }
+after_act me w act = record
+    { acts = Then w.acts act (outcome_at me w act); disk = (act_called me w act).disk; down = ends_in_a_crash (act_called me w act).ended }
 
 -- ---- a crash between two acts, and orders
 

@@ -49,8 +49,10 @@ journal_ghosts = JournalKeeper.ghosts (FuseRow.the_row MemDisksRow.the_row) fuse
 -- whatever a crash leaves holds the acts so far, with the act that was struck or without it; and where the two records show the same, they
 -- are the same
 pub record LeavesActs (fuse : MemFuse) (g : NodeHistory) : Type 0 where
-  pub left : (files : Files) → MayLeave fuse files → IsEither (durable_of (settled false g)) (durable_of (settled true g)) (record_of_files files)
-  pub shown : shows_as (durable_of (settled false g)) (durable_of (settled true g)) ≡ true → durable_of (settled false g) ≡ durable_of (settled true g)
+  pub left : (files : Files) → MayLeave fuse files
+      → IsEither (durable_of (settled false g)) (durable_of (settled true g)) (record_of_files files)
+  pub shown : shows_as (durable_of (settled false g)) (durable_of (settled true g)) ≡ true
+      → durable_of (settled false g) ≡ durable_of (settled true g)
 
 -- a node whose journal is open; once it met a fault of its disk, an act was struck
 pub record OpenStands (me : Id) (state : CoordState Journal) (w : NodeWorld) : Type 0 where

@@ -43,7 +43,8 @@ pub record StateDoes (old new : CoordState Journal) (act : Act) (d : Did) : Type
 
 -- what is written of it, where the node had published this state last
 abbrev pub WritesText : Act → Option ClusterState → Did → Type 0
-WritesText act published d = (count : ℕ) (n : Id) (o : Outcome) → outcome_of d ≡ Some o → results count published n act o ≡ did_text count n (act_text act) d
+WritesText act published d = (count : ℕ) (n : Id) (o : Outcome) → outcome_of d ≡ Some o
+    → results count published n act o ≡ did_text count n (act_text act) d
 
 -- a node whose disk has stopped goes down, another stays
 abbrev pub ClosesTo : Slot → Slot → Type 0

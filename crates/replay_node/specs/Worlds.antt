@@ -59,7 +59,8 @@ history_opened Failed h n found = h
 history_opened (CrashedIn way) h n found = h
 
 abbrev pub opened : World → Id → World
-opened w n = with_node w n (history_opened (opening (w.disks n)).ended w.history n (found_at (node_world w n))) (after_opening (node_world w n))
+opened w n = with_node w n (history_opened (opening (w.disks n)).ended w.history n (found_at (node_world w n)))
+    (after_opening (node_world w n))
 
 abbrev pub restarted : World → Id → World
 restarted w n = if needs_opening (node_world w n) then opened w n else w

@@ -7,8 +7,8 @@ ghost use Rattle.zen_disk.specs.Sides.{Files};
 ghost use Rattle.replay_node.specs.NodeDisk.{MayLeave, Restarted, bytes_read, no_files};
 ghost use Rattle.replay_node.specs.Opens.{StaysDown};
 
-use schedule_text::Text;
 use std::alloc::{AllocError, Global};
+use text::Text;
 use trace_text::{write_crashed, write_disk};
 use voting_config::NodeId;
 use zen_disk::{Armable, Armed, Fuse, MemDisks, Order, Struck, Way};

@@ -23,11 +23,11 @@ use crate::state;
 use crate::state::OpenNode;
 use cluster_state::Settings;
 use coord_state::CoordState;
-use schedule_text::Text;
 use state_journal::{Keeper, OpenError, StateJournal};
 use std::alloc::{AllocError, Global};
 use std::mem;
 use std::rc::Rc;
+use text::Text;
 use trace_text::{write_crashed, write_down, write_record, write_up};
 use voting_config::{NodeId, NodeSet, VotingConfig};
 use zen_disk::{Armable, Fuse, MemDisks, Order, Way};
@@ -70,7 +70,9 @@ fn keep_sent(
     published: &mut Option<Rc<FitPublishRequest>>,
     sends: &Option<SentMessage>,
 ) -> Result<(), AllocError>
-    ensures { OnOk result ((wins : Bool) → state_published published.new ≡ published_by (outcome.Answered (reply.Taken (message_of_some sends.now) wins)) (state_published published.old)) }
+    ensures { OnOk result
+        ((wins : Bool) → state_published published.new
+        ≡ published_by (outcome.Answered (reply.Taken (message_of_some sends.now) wins)) (state_published published.old)) }
 {
     match sends {
         None => Ok(()),
@@ -82,7 +84,9 @@ fn keep_publication(
     published: &mut Option<Rc<FitPublishRequest>>,
     message: &SentMessage,
 ) -> Result<(), AllocError>
-    ensures { OnOk result ((wins : Bool) → state_published published.new ≡ published_by (outcome.Answered (reply.Taken (Some (message_of message.now)) wins)) (state_published published.old)) }
+    ensures { OnOk result
+        ((wins : Bool) → state_published published.new
+        ≡ published_by (outcome.Answered (reply.Taken (Some (message_of message.now)) wins)) (state_published published.old)) }
 {
     match message {
         SentMessage::Publish(publication) => {
@@ -180,7 +184,8 @@ impl ReplayNode {
         settings: Settings,
     ) -> Result<Did, AllocError>
         requires { IsFitValue (record empty_value { settings = settings }) }
-        ensures { IfOk result (λ did. NodeDoes self.old self.new (act.Value version config.now (record empty_value { settings = settings })) did) }
+        ensures { IfOk result
+            (λ did. NodeDoes self.old self.new (act.Value version config.now (record empty_value { settings = settings })) did) }
     {
         let Slot::Open(state) = &mut self.slot else {
             return Ok(Did::Down);
@@ -195,7 +200,8 @@ impl ReplayNode {
     fn remember(&mut self, did: &Did) -> Result<(), AllocError>
         ensures me { self.new.me ≡ self.old.me }
         ensures slot { self.new.slot ≡ self.old.slot }
-        ensures published { OnOk result (IfSome (outcome_of did.now) (λ o. state_published self.new.published ≡ published_by o (state_published self.old.published))) }
+        ensures published { OnOk result
+            (IfSome (outcome_of did.now) (λ o. state_published self.new.published ≡ published_by o (state_published self.old.published))) }
     {
         match did {
             Did::Taken(effects) => keep_sent(&mut self.published, &effects.sends),

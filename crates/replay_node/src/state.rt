@@ -142,7 +142,9 @@ fn publication(
     requires value { IsFitValue (record empty_value { settings = settings }) }
     requires version { version ≤ last_number }
     requires above { (fields_of journal_ghosts state.now).accepted.version < version }
-    ensures { IfOk result (λ sent. message_of sent ≡ PublishMessage (request_of journal_ghosts state.now version config.now (record empty_value { settings = settings }))) }
+    ensures { IfOk result
+        (λ sent. message_of sent
+        ≡ PublishMessage (request_of journal_ghosts state.now version config.now (record empty_value { settings = settings }))) }
 {
     // For the proof alone: what is kept is within the limits of a state.
     let kept = state.kept();
@@ -174,8 +176,11 @@ pub fn client_value(
     settings: Settings,
 ) -> Result<Did, AllocError>
     requires { IsFitValue (record empty_value { settings = settings }) }
-    ensures does { IfOk result (λ did. StateDoes state.old state.new (act.Value version config.now (record empty_value { settings = settings })) did) }
-    ensures text { IfOk result (λ did. (published : Option State) → WritesText (act.Value version config.now (record empty_value { settings = settings })) published did) }
+    ensures does { IfOk result
+        (λ did. StateDoes state.old state.new (act.Value version config.now (record empty_value { settings = settings })) did) }
+    ensures text { IfOk result
+        (λ did. (published : Option State)
+        → WritesText (act.Value version config.now (record empty_value { settings = settings })) published did) }
 {
     match state.take_value(version, config) {
         Err(error) => ended(state, error.not_taken()),

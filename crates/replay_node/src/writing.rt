@@ -7,9 +7,9 @@ ghost use Rattle.replay_node.specs.Sent.{taking};
 
 use crate::did::{Did, Effects};
 use crate::message::{FitPublishRequest, SentMessage};
-use schedule_text::Text;
 use std::alloc::AllocError;
 use std::rc::Rc;
+use text::Text;
 use trace_text::{
     write_act_head, write_commit, write_commit_message, write_committed_shown, write_down,
     write_join, write_join_message, write_publish_message, write_publish_shown, write_response,

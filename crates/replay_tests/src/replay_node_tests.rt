@@ -1,4 +1,5 @@
-//! What a stop leaves on both sides of a node's disk.
+//! What a stop leaves on both sides of a node's disk. What is expected follows from docs/formats.md: the sides of a journal, and
+//! what a stop leaves of each.
 ghost use Rattle.std.specs.Prelude.{◌≡◌};
 ghost use Rattle.zen_disk.specs.MemDisks.{read_of};
 ghost use Rattle.replay_node.specs.NodeDisk.{bytes_read, no_files};

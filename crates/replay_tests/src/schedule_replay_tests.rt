@@ -1,12 +1,14 @@
-//! A schedule of whole nodes with its trace, and generated schedules with their summaries.
+//! A schedule of whole nodes with its trace, and generated schedules with their summaries. The traces follow from docs/policy.md
+//! and docs/formats.md.
 ghost use Rattle.std.specs.List.{AllByRecursion};
 ghost use Rattle.schedule_text.specs.declared.level.Level.TheVariants.{Node};
 ghost use Rattle.schedule_text.specs.Lines.{FitsLine};
 
 use schedule_replay::{generate, replay, write_trace};
-use schedule_text::{Level, Schedule, Text, read_schedule};
+use schedule_text::{Level, Schedule, read_schedule};
 use std::alloc::{AllocError, Global};
 use std::test::*;
+use text::Text;
 use trace_summary::{Summary, Tally, write_summary};
 use zen_link::MemSink;
 

@@ -1,8 +1,9 @@
-//! Recorded traces and the verdicts on them.
-use schedule_text::{ReadError, Text};
+//! Recorded traces and the verdicts on them. Each verdict follows from the one thing that was changed in a legal trace.
+use schedule_text::ReadError;
 use std::alloc::{AllocError, Global};
 use std::process::Abort;
 use std::test::Fail;
+use text::Text;
 use trace_audit::{audit, write_bad_trace, write_verdict};
 
 // The line of the verdict, or that of the first bad line.

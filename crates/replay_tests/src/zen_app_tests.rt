@@ -1,4 +1,5 @@
-//! Whole runs of the program in memory: schedules with their traces, and each way in which a run ends.
+//! Whole runs of the program in memory: schedules with their traces, and each way in which a run ends. The traces follow from
+//! docs/policy.md and docs/formats.md, the endings from the table of statuses there.
 mod audits;
 mod inspections;
 mod nodes;
@@ -14,11 +15,12 @@ use rows::{
     RULES, SAFE_COMMITS, SAFE_JOINS, SAFE_PUBLICATIONS, SAFE_VALUES, STOPS, Traced, WHOLE_NODES,
 };
 use runs::{Case, REPLAY, UNREAD, Written, ends, replay_of, replays, written_by};
-use schedule_text::{Level, Schedule, Text, read_schedule, write_schedule};
+use schedule_text::{Level, Schedule, read_schedule, write_schedule};
 use sha2::{Digest, Sha256};
 use std::alloc::{AllocError, Global};
 use std::process::Abort;
 use std::test::Fail;
+use text::Text;
 use zen_app::Status;
 
 fn write_line(text: &mut Text, line: &str) -> Result<(), AllocError> {

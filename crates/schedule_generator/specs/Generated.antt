@@ -17,10 +17,12 @@ line_at number step sent =
 abbrev pub generated_from : List Line → Schedule
 generated_from lines = record { nodes = items_of (codes "a,b,c,d"); initial = items_of (codes "a,b,c"); voting_only = []; lines = lines }
 
--- So many lines, where this says how many messages some lines send: each line is that of its step, after the messages of all lines before it.
+-- So many lines, where this says how many messages some lines send: each line is that of its step, after the messages of all lines before
+-- it.
 abbrev pub lines_by : (messages : List Line → ℕ) → (number steps : ℕ) → List Line
 lines_by messages number zero = []
-lines_by messages number (suc steps) = lines_by messages number steps ++ line_at number steps (messages (lines_by messages number steps)) ∷ []
+lines_by messages number (suc steps) = lines_by messages number steps
+    ++ line_at number steps (messages (lines_by messages number steps)) ∷ []
 
 abbrev pub generated_by : (messages : List Line → ℕ) → (number steps : ℕ) → Schedule
 generated_by messages number steps = generated_from (lines_by messages number steps)

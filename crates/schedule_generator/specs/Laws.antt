@@ -13,4 +13,5 @@ most_steps = 100000
 abbrev pub LawGeneratedIsSpelled : Type 0
 LawGeneratedIsSpelled =
     (messages : List Line → ℕ) → ((lines : List Line) → messages lines ≤ length lines)
-    → (number steps : ℕ) → steps ≤ most_steps → Spells Core (schedule_text (generated_by messages number steps)) (generated_by messages number steps)
+    → (number steps : ℕ) → steps ≤ most_steps
+    → Spells Core (schedule_text (generated_by messages number steps)) (generated_by messages number steps)

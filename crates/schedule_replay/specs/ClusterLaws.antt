@@ -12,8 +12,8 @@ use Rattle.schedule_replay.specs.ClusterSteps.{ClusterStep, cluster_text}
 use Rattle.schedule_replay.specs.ClusterTold.{core_of, frames_in, numbered_frames, replies_shown, life_replies}
 use Rattle.schedule_replay.specs.ClusterTraceSteps.{cluster_steps}
 
--- The trace is the text of these steps, which echo the lines in order. The history is read off them. They show just the frames that were sent,
--- in order and numbered from 1, and of each node just the replies of its life, in order.
+-- The trace is the text of these steps, which echo the lines in order. The history is read off them. They show just the frames that were
+-- sent, in order and numbered from 1, and of each node just the replies of its life, in order.
 pub record ClusterTells (s : Schedule) (xs : List ClusterStep) : Type 0 where
   pub text : trace s ≡ cluster_text xs
   pub lines : lines_of (core_of xs) ≡ s.lines
@@ -28,7 +28,8 @@ LawClusterTraceTells = (s : Schedule) → ClusterTells s (cluster_steps s)
 
 -- more lines leave the steps of the lines before as they are
 abbrev pub LawClusterStepsGoOn : Type 0
-LawClusterStepsGoOn = (s : Schedule) (more : List Line) → (rest : List ClusterStep) × (cluster_steps (record s { lines = s.lines ++ more }) ≡ cluster_steps s ++ rest)
+LawClusterStepsGoOn = (s : Schedule) (more : List Line)
+    → (rest : List ClusterStep) × (cluster_steps (record s { lines = s.lines ++ more }) ≡ cluster_steps s ++ rest)
 
 -- where the history is legal, the `won` lines are its wins, and the `committed` lines show just the states committed in it
 abbrev pub LawClusterTraceShows : Type 0

@@ -9,8 +9,10 @@ use Rattle.schedule_replay.specs.ClusterStands.{ClusterFor}
 use Rattle.schedule_replay.specs.ClusterTrace.{trace_from}
 use Rattle.schedule_replay.specs.declared.cluster.node.ClusterNode.{ClusterNode}
 
--- The nodes stand for what they did so far. What was written, what is held back, and the trace of the lines that are left are the whole trace.
-pub record ClusterSoFar (ids initial voting_only : List Id) (nodes : List ClusterNode) (frames : List Frame) (was now : Option (List ℕ)) (pending : List ℕ) (left : List Line) (all : List ℕ) : Type 0 where
+-- The nodes stand for what they did so far. What was written, what is held back, and the trace of the lines that are left are the whole
+-- trace.
+pub record ClusterSoFar (ids initial voting_only : List Id) (nodes : List ClusterNode) (frames : List Frame) (was now : Option (List ℕ))
+    (pending : List ℕ) (left : List Line) (all : List ℕ) : Type 0 where
   pub cluster : Cluster
   pub stands : ClusterFor ids initial voting_only nodes frames cluster
   pub front : List ℕ

@@ -14,7 +14,8 @@ use Rattle.schedule_replay.specs.declared.cluster.node.ClusterNode.{ClusterNode}
 -- each of these nodes, of the schedule's, stands for its part of the cluster
 abbrev pub AllFor : (nodes initial voting_only ids : List Id) → List ClusterNode → Cluster → Type 0
 AllFor nodes initial voting_only [] [] c = Unit {0}
-AllFor nodes initial voting_only (i ∷ is) (x ∷ xs) c = NodeFor (settings_of nodes initial voting_only i) x (own_in c i) false × AllFor nodes initial voting_only is xs c
+AllFor nodes initial voting_only (i ∷ is) (x ∷ xs) c = NodeFor (settings_of nodes initial voting_only i) x (own_in c i) false
+    × AllFor nodes initial voting_only is xs c
 AllFor nodes initial voting_only [] (x ∷ xs) c = ⊥
 AllFor nodes initial voting_only (i ∷ is) [] c = ⊥
 
@@ -31,15 +32,20 @@ pub record ClusterFor (nodes initial voting_only : List Id) (all : List ClusterN
   pub ascending : ascends nodes ≡ true
 
 -- a line, or what of it stands after its echo
-pub record LineDone (nodes initial voting_only : List Id) (new : List ClusterNode) (frames : List Frame) (after_it : Cluster) (results was now : List ℕ) : Type 0 where
+pub record LineDone (nodes initial voting_only : List Id) (new : List ClusterNode) (frames : List Frame) (after_it : Cluster)
+    (results was now : List ℕ) : Type 0 where
   pub stands : ClusterFor nodes initial voting_only new frames after_it
   pub written : now ≡ was ++ results
 
-abbrev pub DoesLine : (nodes initial voting_only : List Id) → (old new : List ClusterNode) → (frames frames_now : List Frame) → (was now : List ℕ) → (Cluster → Cluster) → (Cluster → List ℕ) → Type 0
+abbrev pub DoesLine : (nodes initial voting_only : List Id) → (old new : List ClusterNode) → (frames frames_now : List Frame)
+    → (was now : List ℕ) → (Cluster → Cluster) → (Cluster → List ℕ) → Type 0
 DoesLine nodes initial voting_only old new frames frames_now was now after_it results =
-    (c : Cluster) → ClusterFor nodes initial voting_only old frames c → LineDone nodes initial voting_only new frames_now (after_it c) (results c) was now
+    (c : Cluster) → ClusterFor nodes initial voting_only old frames c
+    → LineDone nodes initial voting_only new frames_now (after_it c) (results c) was now
 
 -- a line with its echo
-abbrev pub WritesLine : (nodes initial voting_only : List Id) → (old new : List ClusterNode) → (frames frames_now : List Frame) → (was now : List ℕ) → Line → Type 0
+abbrev pub WritesLine : (nodes initial voting_only : List Id) → (old new : List ClusterNode) → (frames frames_now : List Frame)
+    → (was now : List ℕ) → Line → Type 0
 WritesLine nodes initial voting_only old new frames frames_now was now l =
-    DoesLine nodes initial voting_only old new frames frames_now was now (λ c. after nodes initial voting_only c l) (λ c. trace_line nodes initial voting_only c l)
+    DoesLine nodes initial voting_only old new frames frames_now was now (λ c. after nodes initial voting_only c l)
+    (λ c. trace_line nodes initial voting_only c l)

@@ -1,7 +1,7 @@
--- Part of the statement: the steps of a trace of whole nodes, and their text. A step that level core has too is a step of level core, so that what
--- those tell is told here in the same words. A step holds what its text shows, and beside that: of an act the message that it sends, with its
--- number among the messages of all acts, since here frames are shown in its place; of a record the value of the accepted state; and of a reply its
--- connection.
+-- Part of the statement: the steps of a trace of whole nodes, and their text. A step that level core has too is a step of level core, so
+-- that what those tell is told here in the same words. A step holds what its text shows, and beside that: of an act the message that it
+-- sends, with its number among the messages of all acts, since here frames are shown in its place; of a record the value of the accepted
+-- state; and of a reply its connection.
 use Rattle.std.specs.Prelude.{ℕ, List, ◌++◌, codes}
 use Rattle.std.specs.List.{flat_map}
 use Rattle.voting_config.specs.Ids.{Id}

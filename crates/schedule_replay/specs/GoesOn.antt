@@ -26,8 +26,8 @@ pub record IsFree (w : World) (n : Id) : Type 0 where
 abbrev pub with_lines : Schedule → List Line → Schedule
 with_lines s lines = record s { lines = s.lines ++ lines }
 
--- With the lines of a plan the schedule is still one of level core, its history is the one before, gone on with by the acts of the plan, and it
--- is rescued: by `IsRescued` the node of the plan is a winner of its term, and a state of its term and version is committed.
+-- With the lines of a plan the schedule is still one of level core, its history is the one before, gone on with by the acts of the plan,
+-- and it is rescued: by `IsRescued` the node of the plan is a winner of its term, and a state of its term and version is committed.
 pub record GoesOn (s : Schedule) (us : List Id) (p : Plan) : Type 0 where
   pub schedule : IsSchedule Core (with_lines s p.lines)
   pub history : replayed (with_lines s p.lines) ≡ lines_done value_with (replayed s) p.lines
@@ -37,5 +37,6 @@ pub record GoesOn (s : Schedule) (us : List Id) (p : Plan) : Type 0 where
 abbrev pub LawGoesOn : Type 0
 LawGoesOn =
     (s : Schedule) → IsSchedule Core s → length s.lines ≤ most_lines
-    → (us : List Id) → IsIdSet us → ((u : Id) → has u us ≡ true → has u s.nodes ≡ true) → ((u : Id) → has u us ≡ true → IsFree (world_after s) u)
+    → (us : List Id) → IsIdSet us → ((u : Id) → has u us ≡ true → has u s.nodes ≡ true)
+    → ((u : Id) → has u us ≡ true → IsFree (world_after s) u)
     → (p : Plan) → planned (ups (replayed s) us) (length (sent (replayed s))) ≡ Ok p → GoesOn s us p

@@ -1,5 +1,5 @@
--- For the contracts inside: what stands after the echo of each line. It is the statement of `law_trace_follows`. The history and which nodes are
--- down give it, and these come from the steps before. Only how an act or an opening ended is left open here: that is the disk's.
+-- For the contracts inside: what stands after the echo of each line. It is the statement of `law_trace_follows`. The history and which
+-- nodes are down give it, and these come from the steps before. Only how an act or an opening ended is left open here: that is the disk's.
 use Rattle.std.specs.Prelude.{◌≡◌, ◌-◌, Bool, true, false, cond, ◌||◌, ◌⊎◌, Option, None, Some, List, [], ◌∷◌, ◌++◌, slice_get, if◌then◌else◌}
 use Rattle.voting_config.specs.Ids.{Id, same}
 use Rattle.cluster_state.specs.declared.state.Kept.{Kept}
@@ -23,7 +23,8 @@ abbrev pub is_crash : Ending → Bool
 is_crash ending.Crashed = true
 is_crash other = false
 
--- a node goes down as it crashes, in an act, between two acts or in an opening, and by an opening that fails; it comes up by one that succeeds
+-- a node goes down as it crashes, in an act, between two acts or in an opening, and by an opening that fails; it comes up by one that
+-- succeeds
 abbrev pub down_by : (Id → Bool) → Step → Id → Bool
 down_by down (Did x) n = cond (same x.node n) (is_crash x.ending) (down n)
 down_by down (Opened node found) n = cond (same node n) false (down n)
@@ -68,7 +69,8 @@ ShowsLine initial h down (line.Tick n now word) xs = xs ≡ []
 ShowsLine initial h down (line.Client n bytes) xs = xs ≡ []
 
 -- the steps are the echo of the first line and what stands after it, and then those of the lines that are left
-pub record Begins (ShowsFirst : List Step → Type 0) (ShowsRest : (first rest : List Step) → Type 0) (l : Line) (xs : List Step) : Type 0 where
+pub record Begins (ShowsFirst : List Step → Type 0) (ShowsRest : (first rest : List Step) → Type 0) (l : Line)
+    (xs : List Step) : Type 0 where
   pub first : List Step
   pub rest : List Step
   pub are : xs ≡ Echo l ∷ (first ++ rest)

@@ -20,7 +20,8 @@ Node = Coordinator Journal
 
 -- what the journal's ghost members are over such a disk
 abbrev pub keeper : Ghosts Journal
-keeper = JournalKeeper.ghosts (FuseRow.the_row MemDisksRow.the_row) (FuseDisks.ghosts MemDisksRow.the_row MemDisksDisks.ghosts FuseDisks.no_dict) JournalKeeper.no_dict
+keeper = JournalKeeper.ghosts (FuseRow.the_row MemDisksRow.the_row)
+    (FuseDisks.ghosts MemDisksRow.the_row MemDisksDisks.ghosts FuseDisks.no_dict) JournalKeeper.no_dict
 
 -- a node whose journal is open; while it runs, it is within the limits
 pub record OpenFor (s : Settings) (node : Node) (life : Life) (x : NodeWorld) : Type 0 where

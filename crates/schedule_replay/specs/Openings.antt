@@ -43,16 +43,20 @@ pub record ClosedFor (s : Settings) (c : ClusterNode) (fuse : MemFuse) (own : Ow
   pub life : LifeFor s own.life own.node false
 
 -- the node was opened again, of the nodes and with the initial names of a schedule
-abbrev pub Restarts : (nodes initial voting_only : List Id) → (old new : ClusterNode) → MemFuse → (frames frames_now : List Frame) → (was now : List ℕ) → Type 0
+abbrev pub Restarts : (nodes initial voting_only : List Id) → (old new : ClusterNode) → MemFuse → (frames frames_now : List Frame)
+    → (was now : List ℕ) → Type 0
 Restarts nodes initial voting_only old new fuse frames frames_now was now =
     let s : Settings = settings_of nodes initial voting_only old.me in
-    (own : Own) → ClosedFor s old fuse own → OwnDone s new (own_restart s own) frames frames_now (own_restart_frames s own) was now (own_restart_results s (length frames) own)
+    (own : Own) → ClosedFor s old fuse own
+    → OwnDone s new (own_restart s own) frames frames_now (own_restart_frames s own) was now (own_restart_results s (length frames) own)
 
 -- the same of a node that was opened only where its journal was closed
-abbrev pub Reopens : (nodes initial voting_only : List Id) → (old new : ClusterNode) → (frames frames_now : List Frame) → (was now : List ℕ) → Type 0
+abbrev pub Reopens : (nodes initial voting_only : List Id) → (old new : ClusterNode) → (frames frames_now : List Frame) → (was now : List ℕ)
+    → Type 0
 Reopens nodes initial voting_only old new frames frames_now was now =
     let s : Settings = settings_of nodes initial voting_only old.me in
-    (own : Own) → NodeFor s old own false → OwnDone s new (own_restart s own) frames frames_now (own_restart_frames s own) was now (own_restart_results s (length frames) own)
+    (own : Own) → NodeFor s old own false
+    → OwnDone s new (own_restart s own) frames frames_now (own_restart_frames s own) was now (own_restart_results s (length frames) own)
 
 -- what a node is before the first line
 abbrev pub fresh_own : Settings → Own

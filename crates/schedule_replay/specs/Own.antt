@@ -1,4 +1,5 @@
--- For the contracts inside: one node of a cluster by itself: its life, what it did and its disk; what each line makes of it, sends and writes.
+-- For the contracts inside: one node of a cluster by itself: its life, what it did and its disk; what each line makes of it, sends and
+-- writes.
 use Rattle.std.specs.Prelude.{ℕ, List, [], ◌++◌, if◌then◌else◌}
 use Rattle.voting_config.specs.Ids.{Id}
 use Rattle.zen_disk.specs.declared.orders.Order.{Order}

@@ -1,5 +1,5 @@
--- For the contracts inside: when a node of a cluster, open or down, stands for its life, for what it did and for its disk; and what a line makes
--- of it.
+-- For the contracts inside: when a node of a cluster, open or down, stands for its life, for what it did and for its disk; and what a line
+-- makes of it.
 use Rattle.std.specs.Prelude.{◌≡◌, Bool, true, false, ℕ, List, ◌++◌, length}
 use Rattle.std.specs.List.{AllByRecursion}
 use Rattle.wire_frames.specs.declared.frame.Frame.{Frame}
@@ -43,13 +43,16 @@ pub record NodeFor (s : Settings) (c : ClusterNode) (own : Own) (starts : Bool) 
   pub life : LifeFor s own.life own.node starts
 
 -- the node stands for this, these frames were sent, and these results were written
-pub record OwnDone (s : Settings) (new : ClusterNode) (own : Own) (frames frames_now sent : List Frame) (was now results : List ℕ) : Type 0 where
+pub record OwnDone (s : Settings) (new : ClusterNode) (own : Own) (frames frames_now sent : List Frame)
+    (was now results : List ℕ) : Type 0 where
   pub stands : NodeFor s new own false
   pub sent_is : frames_now ≡ frames ++ sent
   pub written : now ≡ was ++ results
   pub fit : AllByRecursion IsFitFrame sent
 
 -- a line of one node: whatever the node stood for, it stands for that after the line
-abbrev pub OwnDoes : (old new : ClusterNode) → (starts : Bool) → (frames frames_now : List Frame) → (was now : List ℕ) → (Settings → Own → Own) → (Settings → Own → List Frame) → (Settings → ℕ → Own → List ℕ) → Type 0
+abbrev pub OwnDoes : (old new : ClusterNode) → (starts : Bool) → (frames frames_now : List Frame) → (was now : List ℕ)
+    → (Settings → Own → Own) → (Settings → Own → List Frame) → (Settings → ℕ → Own → List ℕ) → Type 0
 OwnDoes old new starts frames frames_now was now after sent results =
-    (s : Settings) (own : Own) → NodeFor s old own starts → OwnDone s new (after s own) frames frames_now (sent s own) was now (results s (length frames) own)
+    (s : Settings) (own : Own) → NodeFor s old own starts
+    → OwnDone s new (after s own) frames frames_now (sent s own) was now (results s (length frames) own)

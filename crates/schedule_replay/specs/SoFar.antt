@@ -12,7 +12,8 @@ use Rattle.schedule_replay.specs.WorldStands.{Stands}
 
 -- The replay stands for what its nodes did so far. What was written, what is held back, and the trace of the lines that are left are the
 -- whole trace, and the lines that are left lead to the end.
-pub record SoFar (ids initial : List Id) (nodes : List ReplayNode) (messages : List SentMessage) (was now : Option (List ℕ)) (pending : List ℕ) (left : List Line) (all : List ℕ) (end : World) : Type 0 where
+pub record SoFar (ids initial : List Id) (nodes : List ReplayNode) (messages : List SentMessage) (was now : Option (List ℕ))
+    (pending : List ℕ) (left : List Line) (all : List ℕ) (end : World) : Type 0 where
   pub world : World
   pub stands : Stands ids nodes messages world
   pub front : List ℕ

@@ -15,11 +15,14 @@ use Rattle.schedule_replay.specs.ClusterStands.{ClusterFor}
 use Rattle.schedule_replay.specs.declared.cluster.node.ClusterNode.{ClusterNode}
 
 -- the nodes and the messages are what these lines make of them, and what observes has seen their trace
-pub record Tallied {T : Type 0} (saw : T → List ℕ → Type 0) (ids initial : List Id) (nodes : List ReplayNode) (messages : List SentMessage) (observer : T) (done : List Line) : Type 0 where
+pub record Tallied {T : Type 0} (saw : T → List ℕ → Type 0) (ids initial : List Id) (nodes : List ReplayNode) (messages : List SentMessage)
+    (observer : T) (done : List Line) : Type 0 where
   pub stands : Stands ids nodes messages (replayed_from initial fresh_world done)
   pub tallies : saw observer (trace_from initial fresh_world done)
 
 -- and so of whole nodes
-pub record ClusterTallied {T : Type 0} (saw : T → List ℕ → Type 0) (ids initial voting_only : List Id) (nodes : List ClusterNode) (frames : List Frame) (observer : T) (done : List Line) : Type 0 where
-  pub stands : ClusterFor ids initial voting_only nodes frames (cluster_from ids initial voting_only (fresh_cluster ids initial voting_only) done)
+pub record ClusterTallied {T : Type 0} (saw : T → List ℕ → Type 0) (ids initial voting_only : List Id) (nodes : List ClusterNode)
+    (frames : List Frame) (observer : T) (done : List Line) : Type 0 where
+  pub stands : ClusterFor ids initial voting_only nodes frames
+      (cluster_from ids initial voting_only (fresh_cluster ids initial voting_only) done)
   pub tallies : saw observer (cluster_trace ids initial voting_only (fresh_cluster ids initial voting_only) done)

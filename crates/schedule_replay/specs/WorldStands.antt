@@ -40,11 +40,13 @@ pub record ActDone (ids : List Id) (new : List ReplayNode) (w : World) (n : Id) 
   pub text : (count : ℕ) → act_results count n (node_world w n) act ≡ did_text count n (act_text act) d
 
 -- a line, or what of it stands after its echo: whatever a replay stood for, it stands for that after the line, and the results were written
-pub record LineDone (ids : List Id) (new : List ReplayNode) (messages : List SentMessage) (after_it : World) (results was now : List ℕ) : Type 0 where
+pub record LineDone (ids : List Id) (new : List ReplayNode) (messages : List SentMessage) (after_it : World) (results was now : List ℕ)
+    : Type 0 where
   pub stands : Stands ids new messages after_it
   pub written : now ≡ was ++ results
 
-abbrev pub DoesLine : (ids : List Id) → (old_nodes new_nodes : List ReplayNode) → (old_messages new_messages : List SentMessage) → (old_text new_text : List ℕ) → (World → World) → (World → List ℕ) → Type 0
+abbrev pub DoesLine : (ids : List Id) → (old_nodes new_nodes : List ReplayNode) → (old_messages new_messages : List SentMessage)
+    → (old_text new_text : List ℕ) → (World → World) → (World → List ℕ) → Type 0
 DoesLine ids old_nodes new_nodes old_messages new_messages old_text new_text after_it results =
     (w : World) → Stands ids old_nodes old_messages w → LineDone ids new_nodes new_messages (after_it w) (results w) old_text new_text
 
@@ -54,6 +56,7 @@ DeliversNothing (line.Deliver n number) = ⊥
 DeliversNothing other = Unit {0}
 
 -- a line with its echo
-abbrev pub WritesLine : (ids initial : List Id) → (old_nodes new_nodes : List ReplayNode) → (old_messages new_messages : List SentMessage) → (old_text new_text : List ℕ) → Line → Type 0
+abbrev pub WritesLine : (ids initial : List Id) → (old_nodes new_nodes : List ReplayNode) → (old_messages new_messages : List SentMessage)
+    → (old_text new_text : List ℕ) → Line → Type 0
 WritesLine ids initial old_nodes new_nodes old_messages new_messages old_text new_text l =
     DoesLine ids old_nodes new_nodes old_messages new_messages old_text new_text (λ w. after initial w l) (λ w. trace_line initial w l)

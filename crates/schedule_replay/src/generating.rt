@@ -8,8 +8,8 @@ ghost use Rattle.trace_summary.specs.Summaries.{summary_of};
 
 use crate::replayer::Replayer;
 use schedule_generator::{Generator, empty_schedule};
-use schedule_text::Text;
 use std::alloc::{AllocError, Global};
+use text::Text;
 use trace_summary::{Summary, Tally};
 
 /// Replays so many lines of a number's schedule, at most `schedule_generator::MAX_STEPS`, and sums up their trace. No line is

@@ -18,9 +18,10 @@ ghost use Rattle.schedule_replay.specs.WorldStands.{AllStand, DeliversNothing, S
 use crate::places::place_of;
 use cluster_state::{ClusterValue, Settings};
 use replay_node::{Did, ReplayNode, SentMessage, write_delivery, write_did};
-use schedule_text::{IdList, Line, Schedule, SettingText, Text};
+use schedule_text::{IdList, Line, Schedule, SettingText, write_echo};
 use std::alloc::{AllocError, Global};
 use std::mem;
+use text::Text;
 use trace_text::{write_boot, write_down, write_start_join, write_value};
 use voting_config::{NodeId, NodeSet, VotingConfig};
 use zen_disk::{Order, Way};
@@ -69,9 +70,11 @@ impl Replayer {
     ) -> Result<(), AllocError>
         requires fits { FitsLine Core schedule.now.nodes line.now }
         requires stands { (w : World) × Stands schedule.now.nodes self.old.nodes.items self.old.sent.items w }
-        ensures done { OnOk result (WritesLine schedule.now.nodes schedule.now.initial self.old.nodes.items self.new.nodes.items self.old.sent.items self.new.sent.items text.old text.new line.now) }
+        ensures done { OnOk result
+            (WritesLine schedule.now.nodes schedule.now.initial self.old.nodes.items self.new.nodes.items self.old.sent.items
+            self.new.sent.items text.old text.new line.now) }
     {
-        text.echo(line)?;
+        write_echo(text, line)?;
         if let Line::Deliver(n, ordinal) = line {
             return self.deliver(alloc, &schedule.nodes, *n, *ordinal, text);
         }
@@ -90,7 +93,9 @@ impl Replayer {
         requires fits { FitsLine Core schedule.now.nodes line.now }
         requires other { DeliversNothing line.now }
         requires stands { (w : World) × Stands schedule.now.nodes self.old.nodes.items self.old.sent.items w }
-        ensures done { OnOk result (DoesLine schedule.now.nodes self.old.nodes.items self.new.nodes.items self.old.sent.items self.new.sent.items text.old text.new (λ w. after schedule.now.initial w line.now) (λ w. line_results schedule.now.initial w line.now)) }
+        ensures done { OnOk result
+            (DoesLine schedule.now.nodes self.old.nodes.items self.new.nodes.items self.old.sent.items self.new.sent.items text.old text.new
+            (λ w. after schedule.now.initial w line.now) (λ w. line_results schedule.now.initial w line.now)) }
     {
         let ids = &schedule.nodes;
         match line {
@@ -123,7 +128,9 @@ impl Replayer {
     ) -> Result<(), AllocError>
         requires listed { has n ids.now ≡ true }
         requires stands { (w : World) × Stands ids.now self.old.nodes.items self.old.sent.items w }
-        ensures done { OnOk result (DoesLine ids.now self.old.nodes.items self.new.nodes.items self.old.sent.items self.new.sent.items text.old text.new (λ w. crashed w n way) (λ w. stop_text n (node_world w n))) }
+        ensures done { OnOk result
+            (DoesLine ids.now self.old.nodes.items self.new.nodes.items self.old.sent.items self.new.sent.items text.old text.new
+            (λ w. crashed w n way) (λ w. stop_text n (node_world w n))) }
     {
         let place = place_of(ids.as_slice(), n);
         let nodes = self.nodes.as_mut_slice();
@@ -139,7 +146,9 @@ impl Replayer {
     ) -> Result<(), AllocError>
         requires listed { has n ids.now ≡ true }
         requires stands { (w : World) × Stands ids.now self.old.nodes.items self.old.sent.items w }
-        ensures done { OnOk result (DoesLine ids.now self.old.nodes.items self.new.nodes.items self.old.sent.items self.new.sent.items text.old text.new (λ w. restarted w n) (λ w. restart_text n (node_world w n))) }
+        ensures done { OnOk result
+            (DoesLine ids.now self.old.nodes.items self.new.nodes.items self.old.sent.items self.new.sent.items text.old text.new
+            (λ w. restarted w n) (λ w. restart_text n (node_world w n))) }
     {
         let place = place_of(ids.as_slice(), n);
         let nodes = self.nodes.as_mut_slice();
@@ -149,7 +158,9 @@ impl Replayer {
     fn arm(&mut self, ids: &NodeSet, n: NodeId, order: Order)
         requires listed { has n ids.now ≡ true }
         requires stands { (w : World) × Stands ids.now self.old.nodes.items self.old.sent.items w }
-        ensures done { (text : List ℕ) → DoesLine ids.now self.old.nodes.items self.new.nodes.items self.old.sent.items self.new.sent.items text text (λ w. ordered w n order) (λ w. []) }
+        ensures done { (text : List ℕ)
+            → DoesLine ids.now self.old.nodes.items self.new.nodes.items self.old.sent.items self.new.sent.items text text
+            (λ w. ordered w n order) (λ w. []) }
     {
         let place = place_of(ids.as_slice(), n);
         let nodes = self.nodes.as_mut_slice();
@@ -166,7 +177,9 @@ impl Replayer {
     ) -> Result<(), AllocError>
         requires listed { has n ids.now ≡ true }
         requires stands { (w : World) × Stands ids.now self.old.nodes.items self.old.sent.items w }
-        ensures done { OnOk result (DoesLine ids.now self.old.nodes.items self.new.nodes.items self.old.sent.items self.new.sent.items text.old text.new (λ w. did_unless_down w n (act.Bootstrap initial.now)) (λ w. results_of w n (act.Bootstrap initial.now))) }
+        ensures done { OnOk result
+            (DoesLine ids.now self.old.nodes.items self.new.nodes.items self.old.sent.items self.new.sent.items text.old text.new
+            (λ w. did_unless_down w n (act.Bootstrap initial.now)) (λ w. results_of w n (act.Bootstrap initial.now))) }
     {
         self.act.clear();
         write_boot(&mut self.act, initial)?;
@@ -187,7 +200,9 @@ impl Replayer {
     ) -> Result<(), AllocError>
         requires listed { has n ids.now ≡ true }
         requires stands { (w : World) × Stands ids.now self.old.nodes.items self.old.sent.items w }
-        ensures done { OnOk result (DoesLine ids.now self.old.nodes.items self.new.nodes.items self.old.sent.items self.new.sent.items text.old text.new (λ w. did_unless_down w n (act.StartJoin candidate term)) (λ w. results_of w n (act.StartJoin candidate term))) }
+        ensures done { OnOk result
+            (DoesLine ids.now self.old.nodes.items self.new.nodes.items self.old.sent.items self.new.sent.items text.old text.new
+            (λ w. did_unless_down w n (act.StartJoin candidate term)) (λ w. results_of w n (act.StartJoin candidate term))) }
     {
         self.act.clear();
         write_start_join(&mut self.act, candidate, term)?;
@@ -209,7 +224,10 @@ impl Replayer {
     ) -> Result<(), AllocError>
         requires listed { has n ids.now ≡ true }
         requires stands { (w : World) × Stands ids.now self.old.nodes.items self.old.sent.items w }
-        ensures done { OnOk result (DoesLine ids.now self.old.nodes.items self.new.nodes.items self.old.sent.items self.new.sent.items text.old text.new (λ w. did_unless_down w n (act.Value version config.now (value_with setting))) (λ w. results_of w n (act.Value version config.now (value_with setting)))) }
+        ensures done { OnOk result
+            (DoesLine ids.now self.old.nodes.items self.new.nodes.items self.old.sent.items self.new.sent.items text.old text.new
+            (λ w. did_unless_down w n (act.Value version config.now (value_with setting)))
+            (λ w. results_of w n (act.Value version config.now (value_with setting)))) }
     {
         self.config.copy_from(&config.to_set());
         set_value(&mut self.value, settings_of(alloc, setting)?);
@@ -234,7 +252,9 @@ impl Replayer {
         requires listed { has n ids.now ≡ true }
         requires stands { (w : World) × Stands ids.now self.old.nodes.items self.old.sent.items w }
         requires positive { 0 < ordinal }
-        ensures done { OnOk result (DoesLine ids.now self.old.nodes.items self.new.nodes.items self.old.sent.items self.new.sent.items text.old text.new (λ w. took_some w n (message_at w ordinal)) (λ w. delivery_results w n (message_at w ordinal))) }
+        ensures done { OnOk result
+            (DoesLine ids.now self.old.nodes.items self.new.nodes.items self.old.sent.items self.new.sent.items text.old text.new
+            (λ w. took_some w n (message_at w ordinal)) (λ w. delivery_results w n (message_at w ordinal))) }
     {
         let index = (ordinal - 1) as usize;
         let sent = self.sent.as_slice();
@@ -259,7 +279,9 @@ impl Replayer {
         requires stands { (w : World) × Stands ids.now self.old.nodes.items self.old.sent.items w }
         requires positive { 0 < ordinal }
         requires sent { ordinal ≤ length self.old.sent.items }
-        ensures done { OnOk result (DoesLine ids.now self.old.nodes.items self.new.nodes.items self.old.sent.items self.new.sent.items text.old text.new (λ w. took_some w n (message_at w ordinal)) (λ w. delivery_results w n (message_at w ordinal))) }
+        ensures done { OnOk result
+            (DoesLine ids.now self.old.nodes.items self.new.nodes.items self.old.sent.items self.new.sent.items text.old text.new
+            (λ w. took_some w n (message_at w ordinal)) (λ w. delivery_results w n (message_at w ordinal))) }
     {
         let place = place_of(ids.as_slice(), n);
         let index = (ordinal - 1) as usize;

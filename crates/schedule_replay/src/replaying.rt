@@ -14,8 +14,9 @@ ghost use Rattle.trace_summary.specs.Tallies.{EndsLine};
 use crate::cluster::replayer::ClusterReplayer;
 use crate::observing::{Nobody, Observer};
 use crate::replayer::Replayer;
-use schedule_text::{Level, Schedule, Text};
+use schedule_text::{Level, Schedule};
 use std::alloc::Global;
+use text::Text;
 use trace_summary::{Summary, Tally};
 use zen_link::{Sink, write_all};
 

@@ -19,9 +19,10 @@ use crate::replayer::Replayer;
 use crate::surveyed::{Survey, SurveyedNode};
 use replay_node::{OpenNode, ReplayNode, Slot};
 use rescue_plan::UpNode;
-use schedule_text::{Schedule, Text};
+use schedule_text::Schedule;
 use state_journal::Keeper;
 use std::alloc::{AllocError, Global};
+use text::Text;
 use voting_config::{NodeId, VotingConfig};
 use zen_disk::{Armable, Fuse, MemDisks};
 

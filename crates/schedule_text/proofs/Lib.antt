@@ -1,5 +1,4 @@
 pub mod Written
-pub mod Digits
 pub mod FirstBadLaws
 pub mod FirstLines
 pub mod IdListLaws

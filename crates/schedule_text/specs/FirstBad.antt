@@ -24,4 +24,5 @@ pub record IsFirstBad (level : Level) (line : ℕ) (bytes : List ℕ) : Type 0 w
 
 -- A fault names a line exactly where it is the first bad one.
 abbrev pub LawFirstBadLine : Type 0
-LawFirstBadLine = (level : Level) (bytes : List ℕ) (line : ℕ) → ((why : WhyBad) × (fault_of level bytes ≡ Some (record { line = line; why = why }))) ↔ IsFirstBad level line bytes
+LawFirstBadLine = (level : Level) (bytes : List ℕ) (line : ℕ)
+    → ((why : WhyBad) × (fault_of level bytes ≡ Some (record { line = line; why = why }))) ↔ IsFirstBad level line bytes

@@ -22,7 +22,8 @@ first_place = record { number = 1; before = 0 }
 abbrev pub after_line : Place → List ℕ → Place
 after_line p line = record { number = p.number + 1; before = p.before + length line + 1 }
 
--- the line with its line feed, where it has one, reaches past the greatest size; or it is one too many; or it ends without a line feed; or it is too long
+-- the line with its line feed, where it has one, reaches past the greatest size; or it is one too many; or it ends without a line feed; or
+-- it is too long
 abbrev pub sized_at : Place → List ℕ → Result (List ℕ) WhyBad
 sized_at p line =
     if nat_lt most_bytes (p.before + length line + 1) then Err why.TooBig
@@ -103,7 +104,8 @@ end_at p (b ∷ bs) x = Err (record { line = p.number; why = why_cut p (b ∷ bs
 abbrev pub lines_at : Level → List Id → Place → List Line → List (List ℕ) → Result (List Line) BadSchedule
 lines_at level ids p front [] = Ok front
 lines_at level ids p front (line ∷ []) = end_at p line front
-lines_at level ids p front (line ∷ next ∷ more) = one_line_at level ids p line >>> λ l. lines_at level ids (after_line p line) (front ++ l ∷ []) (next ∷ more)
+lines_at level ids p front (line ∷ next ∷ more) =
+    one_line_at level ids p line >>> λ l. lines_at level ids (after_line p line) (front ++ l ∷ []) (next ∷ more)
 
 abbrev pub pieces : List ℕ → List (List ℕ)
 pieces bytes = parts_of line_feed bytes

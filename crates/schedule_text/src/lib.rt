@@ -1,34 +1,31 @@
 //! Schedules as text: read whole or with the first bad line, and written again.
 #![tactic(auto)]
 
-pub mod boxed;
-pub mod fault;
-pub mod id_list;
-pub mod laws;
-pub mod level;
-pub mod line_bytes;
+mod fault;
+mod id_list;
+mod laws;
+mod level;
+mod line_bytes;
 mod line_ends;
-pub mod lines;
-pub mod modes;
-mod numbers;
-pub mod place;
-pub mod printing;
-pub mod reading;
-pub mod schedule;
-pub mod setting_text;
-pub mod text;
-pub mod words;
+mod lines;
+mod modes;
+mod place;
+mod reading;
+mod schedule;
+mod setting_text;
+mod words;
+mod writing;
 
-pub use boxed::Boxed;
 pub use fault::{BadSchedule, ReadError, WhyBad};
 pub use id_list::IdList;
 pub use laws::{law_first_bad_line, law_no_fault, law_one_schedule};
 pub use level::Level;
 pub use line_bytes::LineBytes;
-pub use lines::{MAX_MOMENT, MAX_ORDINAL};
+pub use lines::{MAX_MOMENT, MAX_ORDINAL, four_words, one_word, read_line, three_words, two_words};
+pub use modes::hex_byte;
 pub use place::{MAX_BYTES, MAX_LINE_BYTES, MAX_LINES};
-pub use printing::write_schedule;
 pub use reading::read_schedule;
 pub use schedule::{Line, Lines, Schedule};
 pub use setting_text::SettingText;
-pub use text::Text;
+pub use words::number_at;
+pub use writing::{write_bad_schedule, write_echo, write_line, write_schedule};

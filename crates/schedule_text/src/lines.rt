@@ -6,7 +6,6 @@ ghost use Rattle.voting_config.specs.Lists.{parts_in, space};
 ghost use Rattle.schedule_text.specs.Lines.{one_word as one_word_of, two_words as two_words_of, three_words as three_words_of, four_words as four_words_of, word_and_rest as word_and_rest_of, boot_at, start_join_at, value_at, deliver_at, crash_at, restart_at, fuse_at, fail_at, tick_at, client_at, stop_verb_at, core_line_at, node_line_at, line_at, words_of};
 ghost use Rattle.schedule_text.specs.Answers.{Gives, Answers};
 
-use crate::boxed::Boxed;
 use crate::fault::{ReadError, WhyBad};
 use crate::level::Level;
 use crate::line_bytes::LineBytes;
@@ -14,6 +13,7 @@ use crate::modes::mode_at;
 use crate::schedule::Line;
 use crate::words::{config_at, node_at, number_at, text_at};
 use std::alloc::Global;
+use text::Boxed;
 use voting_config::{NodeId, NodeSet, cut};
 
 /// The greatest number that a `deliver`, `fuse` or `fail` line has.
@@ -205,7 +205,8 @@ fn client(alloc: Global, ids: &NodeSet, rest: Option<&[u8]>) -> Result<Line, Rea
 // What stands after this verb, where it is the first word of the line, as `cut` gives it.
 fn after_verb<'a, const N: usize>(line: &'a [u8], verb: &[u8; N]) -> Option<Option<&'a [u8]>>
     requires { list_all (λ b. not (b == space)) verb.now ≡ true }
-    ensures { MatchOption result (bytes_eq (get_or (words_of line.now) 0 []) verb.now ≡ false) (λ rest. (bytes_eq (get_or (words_of line.now) 0 []) verb.now ≡ true) × (drop 1 (words_of line.now) ≡ parts_in space rest)) }
+    ensures { MatchOption result (bytes_eq (get_or (words_of line.now) 0 []) verb.now ≡ false)
+        (λ rest. (bytes_eq (get_or (words_of line.now) 0 []) verb.now ≡ true) × (drop 1 (words_of line.now) ≡ parts_in space rest)) }
 {
     if line.len() < N {
         return None;

@@ -1,11 +1,11 @@
 //! Schedules and their lines, as types.
 ghost use Rattle.std.specs.Prelude.{◌≡◌};
 
-use crate::boxed::Boxed;
 use crate::id_list::IdList;
 use crate::line_bytes::LineBytes;
 use crate::setting_text::SettingText;
 use std::marker::Model;
+use text::Boxed;
 use voting_config::{NodeId, NodeSet};
 use zen_disk::Way;
 

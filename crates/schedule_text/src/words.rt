@@ -80,7 +80,8 @@ fn begins_number(word: &[u8]) -> bool
 
 // The number that these bytes say, where they are digits and it has 64 bits at most.
 fn value_of(word: &[u8]) -> Option<u64>
-    ensures { result ≡ (if list_all is_digit_of word.now && nat_lt (value_from 0 word.now) (2 ^ 64) then Some (value_from 0 word.now) else None) }
+    ensures { result ≡ (if list_all is_digit_of word.now
+        && nat_lt (value_from 0 word.now) (2 ^ 64) then Some (value_from 0 word.now) else None) }
 {
     let mut value: u64 = 0;
     for b in word {

@@ -24,7 +24,8 @@ last_row c (l ∷ ls) = last_row (after c l.told) ls
 
 -- where a message is sent that no line hands over
 abbrev pub lost_by : List Column → List Bool → Cursor → List ℕ → Told → List ℕ
-lost_by columns handed c line (told.Sent from to) = if get_or handed (c.sent - 1) true then [] else lost (left_of columns from) (y_of c.row + 4) c.sent line
+lost_by columns handed c line (told.Sent from to) = if get_or handed (c.sent - 1) true then []
+    else lost (left_of columns from) (y_of c.row + 4) c.sent line
 lost_by columns handed c line other = []
 
 abbrev pub lost_in : List Column → List Bool → Cursor → TraceLine → List ℕ
@@ -40,8 +41,8 @@ lifelines lines columns = flat_map (lifeline lines (last_row first_cursor lines 
 abbrev pub heads : List TraceLine → List Column → List ℕ
 heads lines columns = flat_map (head 28) columns ++ flat_map (head (y_of (last_row first_cursor lines + 1) + 14)) columns
 
--- What is drawn, where the first column begins so far to the right: the steps, then the lifelines, the arrows, the messages that were lost, the labels
--- and the names. What comes later stands in front.
+-- What is drawn, where the first column begins so far to the right: the steps, then the lifelines, the arrows, the messages that were lost,
+-- the labels and the names. What comes later stands in front.
 abbrev pub drawing : ℕ → List TraceLine → List ℕ
 drawing left lines =
     walk (step_in (origins_of lines)) first_cursor lines

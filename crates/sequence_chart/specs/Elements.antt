@@ -104,7 +104,8 @@ label_text x y l = codes "<text" ++ look x y l ++ codes ">" ++ title l.text ++ e
 
 -- the mark of a line, and the words beside it
 abbrev pub label : ℕ → ℕ → TraceLine → List ℕ
-label left row l = mark (line_of left) (y_of row) l ++ (paper (left + 37) (y_of row - 6) (length (label_of l)) ++ label_text (left + 38) (y_of row + 3) l)
+label left row l = mark (line_of left) (y_of row) l
+    ++ (paper (left + 37) (y_of row - 6) (length (label_of l)) ++ label_text (left + 38) (y_of row + 3) l)
 
 abbrev pub has_label : Told → Bool
 has_label (told.Delivery n k) = false
@@ -153,7 +154,8 @@ point x y = decimal x ++ codes " " ++ decimal y
 
 -- in a bow to the left, from a lifeline to itself
 unfoldable pub bow : ℕ → ℕ → ℕ → List ℕ
-bow left y down = point (left + 21) y ++ (codes "C" ++ (point (left + 6) (y + 2) ++ (codes " " ++ (point (left + 6) down ++ (codes " " ++ point (left + 20) down)))))
+bow left y down = point (left + 21) y
+    ++ (codes "C" ++ (point (left + 6) (y + 2) ++ (codes " " ++ (point (left + 6) down ++ (codes " " ++ point (left + 20) down)))))
 
 -- from one lifeline to another, or to itself
 unfoldable pub way : ℕ → ℕ → ℕ → ℕ → List ℕ
@@ -192,4 +194,5 @@ end_at x y = codes "</path><use href='#end' class='end" ++ at_place x y ++ codes
 -- A message that was never handed over ends in a small cross; up to six of one row stand apart.
 abbrev pub lost : ℕ → ℕ → ℕ → List ℕ → List ℕ
 lost left y number line =
-    stub (left + 24) y (left + 5 * (number % 2)) (y + 4 + 5 * (number / 2 % 3)) ++ (title line ++ end_at (left + 5 * (number % 2)) (y + 4 + 5 * (number / 2 % 3)))
+    stub (left + 24) y (left + 5 * (number % 2)) (y + 4 + 5 * (number / 2 % 3))
+    ++ (title line ++ end_at (left + 5 * (number % 2)) (y + 4 + 5 * (number / 2 % 3)))

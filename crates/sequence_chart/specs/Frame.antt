@@ -4,7 +4,8 @@ use Rattle.sequence_chart.specs.declared.frame.TheConstants.{STYLE}
 
 unfoldable pub size : ℕ → ℕ → List ℕ
 size width height =
-    codes "<svg xmlns='http://www.w3.org/2000/svg' xml:space='preserve' width='" ++ decimal width ++ codes "' height='" ++ decimal height ++ codes "' viewBox='0 0 "
+    codes "<svg xmlns='http://www.w3.org/2000/svg' xml:space='preserve' width='" ++ decimal width ++ codes "' height='" ++ decimal height
+    ++ codes "' viewBox='0 0 "
 
 unfoldable pub view : ℕ → ℕ → List ℕ
 view width height = decimal width ++ codes " " ++ decimal height ++ codes "'>\n"

@@ -28,10 +28,12 @@ LawEachDelivery =
     (left : ℕ) (front between rest : List TraceLine) (m l : TraceLine) (from n : Id) (to : Option Id) (k : ℕ)
     → m.told ≡ told.Sent from to → l.told ≡ told.Delivery n k → k ≡ (place_behind front m).sent
     → HasPart (drawing left (front ++ (m ∷ (between ++ (l ∷ rest)))))
-    (arrow (columns_of left (front ++ (m ∷ (between ++ (l ∷ rest))))) (record { from = from; row = (place_behind front m).row; text = m.text }) n (place_behind (front ++ (m ∷ between)) l).row)
+    (arrow (columns_of left (front ++ (m ∷ (between ++ (l ∷ rest)))))
+    (record { from = from; row = (place_behind front m).row; text = m.text }) n (place_behind (front ++ (m ∷ between)) l).row)
 
 -- A line that has a label, as each act, has it in its row at the lifeline of its node: its mark, its words, and the whole line.
 abbrev pub LawEachLabel : Type 0
 LawEachLabel =
     (left : ℕ) (front rest : List TraceLine) (l : TraceLine) → IsTrue (has_label l.told)
-    → HasPart (drawing left (front ++ (l ∷ rest))) (label (left_of (columns_of left (front ++ (l ∷ rest))) (node_of l.told)) (place_behind front l).row l)
+    → HasPart (drawing left (front ++ (l ∷ rest)))
+    (label (left_of (columns_of left (front ++ (l ∷ rest))) (node_of l.told)) (place_behind front l).row l)

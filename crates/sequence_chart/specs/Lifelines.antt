@@ -48,7 +48,8 @@ mode_class mode.Leader = codes "leader "
 mode_class mode.Follower = codes "follower "
 
 abbrev pub piece_of : ℕ → ℕ → ℕ → List ℕ
-piece_of left top bottom = codes "' d='M" ++ decimal (line_of left) ++ codes " " ++ decimal (y_of top) ++ codes "V" ++ decimal (y_of bottom) ++ codes "'/>\n"
+piece_of left top bottom = codes "' d='M" ++ decimal (line_of left) ++ codes " " ++ decimal (y_of top) ++ codes "V" ++ decimal (y_of bottom)
+    ++ codes "'/>\n"
 
 -- the line down to a row, and nothing while a node is down
 abbrev pub piece_by : ℕ → ℕ → Stroke → ℕ → List ℕ
@@ -71,11 +72,13 @@ pen_after pen row (Some s) = record { top = row; stroke = s }
 abbrev pub lifeline_from : ℕ → Id → ℕ → Pen → Cursor → List TraceLine → List ℕ
 lifeline_from left n bottom pen c [] = piece left pen bottom
 lifeline_from left n bottom pen c (l ∷ ls) =
-    piece_at left pen (after c l.told).row (turn n l.told) ++ lifeline_from left n bottom (pen_after pen (after c l.told).row (turn n l.told)) (after c l.told) ls
+    piece_at left pen (after c l.told).row (turn n l.told)
+    ++ lifeline_from left n bottom (pen_after pen (after c l.told).row (turn n l.told)) (after c l.told) ls
 
 abbrev pub lifeline : List TraceLine → ℕ → Column → List ℕ
 lifeline lines bottom column = lifeline_from column.left column.node bottom first_pen first_cursor lines
 
 -- the name of a node at its lifeline
 abbrev pub head : ℕ → Column → List ℕ
-head y column = codes "<text class='head' x='" ++ decimal (line_of column.left) ++ codes "' y='" ++ decimal y ++ codes "'>" ++ column.node ++ codes "</text>\n"
+head y column = codes "<text class='head' x='" ++ decimal (line_of column.left) ++ codes "' y='" ++ decimal y ++ codes "'>" ++ column.node
+    ++ codes "</text>\n"

@@ -37,7 +37,8 @@ open_brace = 123
 abbrev pub close_brace : ℕ
 close_brace = 125
 
--- the parent of a state written as JSON, and what stands after it: no colon stands before it but those after `committed`, `config` and `parent`
+-- the parent of a state written as JSON, and what stands after it: no colon stands before it but those after `committed`, `config` and
+-- `parent`
 abbrev pub from_parent : List ℕ → List ℕ
 from_parent json = behind colon (behind colon (behind colon json))
 

@@ -9,8 +9,8 @@ use crate::columns::{Column, left_of};
 use crate::marks::{write_place, write_title};
 use crate::messages::{Origin, message};
 use crate::rows::{Cursor, MAX_LINES, y_of};
-use schedule_text::Text;
 use std::alloc::AllocError;
+use text::Text;
 use trace_reader::{Told, TraceLine};
 use voting_config::NodeId;
 

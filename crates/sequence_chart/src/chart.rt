@@ -10,8 +10,9 @@ use crate::marks::write_labels;
 use crate::messages::{handed_of, origins_of};
 use crate::rows::{MAX_LINES, last_row, y_of};
 use crate::steps::{margin, write_steps};
-use schedule_text::{ReadError, Text};
+use schedule_text::ReadError;
 use std::alloc::{AllocError, Global};
+use text::Text;
 use trace_reader::{BadTrace, TraceLine, read_trace};
 
 /// The chart of a trace of at most a million lines, as SVG.

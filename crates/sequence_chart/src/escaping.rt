@@ -2,9 +2,9 @@
 ghost use Rattle.std.specs.Prelude.{◌≡◌, ◌++◌, OnOk};
 ghost use Rattle.sequence_chart.specs.Words.{byte_name, escaped, escaped_byte};
 
-use schedule_text::Text;
-use schedule_text::modes::hex_byte;
+use schedule_text::hex_byte;
 use std::alloc::AllocError;
+use text::Text;
 
 fn write_byte_name(text: &mut Text, b: u8) -> Result<(), AllocError>
     ensures { OnOk result (text.new ≡ text.old ++ byte_name b) }

@@ -2,8 +2,8 @@
 ghost use Rattle.std.specs.Prelude.{◌≡◌, ◌++◌, OnOk};
 ghost use Rattle.sequence_chart.specs.Frame.{frame, last, size, style, view};
 
-use schedule_text::Text;
 use std::alloc::AllocError;
+use text::Text;
 
 /// How the chart looks on a light background and on a dark one, and the forms of its marks. It is the same in each picture.
 pub const STYLE: &str = "<style>\n\

@@ -3,8 +3,8 @@ ghost use Rattle.std.specs.Prelude.{◌≡◌, ◌++◌, OnOk, IfOk};
 ghost use Rattle.sequence_chart.specs.Labels.{fields as fields_of, without_node as without_node_of, label_words, label_of};
 
 use crate::words::{before, behind, short_words, write_capped};
-use schedule_text::Text;
 use std::alloc::{AllocError, Global};
+use text::Text;
 use trace_reader::{Told, TraceLine};
 
 /// How many bytes of a label are shown at most.

@@ -7,8 +7,8 @@ ghost use Rattle.sequence_chart.specs.Rows.{first_cursor};
 use crate::columns::{Column, node_of};
 use crate::marks::term_class;
 use crate::rows::{Cursor, MAX_LINES, y_of};
-use schedule_text::Text;
 use std::alloc::AllocError;
+use text::Text;
 use trace_reader::{Ending, Mode, Told, TraceLine};
 use voting_config::NodeId;
 

@@ -11,9 +11,9 @@ use crate::escaping::write_escaped;
 use crate::labels::label;
 use crate::rows::{Cursor, MAX_LINES, y_of};
 use crate::words::term_word;
-use schedule_text::Text;
-use schedule_text::words::number_at;
+use schedule_text::number_at;
 use std::alloc::{AllocError, Global};
+use text::Text;
 use trace_reader::{Ending, Told, TraceLine};
 
 /// The class that gives a term its colour.

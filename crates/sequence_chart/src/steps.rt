@@ -12,8 +12,8 @@ use crate::marks::{write_place, write_title};
 use crate::messages::{Origin, message};
 use crate::rows::{Cursor, MAX_LINES, y_of};
 use crate::words::{behind, short_words, write_capped};
-use schedule_text::Text;
 use std::alloc::{AllocError, Global};
+use text::Text;
 use trace_reader::{Told, TraceLine};
 
 /// How many bytes are shown of a line of the schedule, and of the message after it.

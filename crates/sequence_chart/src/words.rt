@@ -2,9 +2,9 @@
 ghost use Rattle.std.specs.Prelude.{◌≡◌, ◌++◌, ◌≤◌, ◌+◌, length, OnOk};
 ghost use Rattle.sequence_chart.specs.Words.{before as before_of, behind as behind_of, last_part as last_part_of, behind_parent as behind_parent_of, term_word as term_word_of, version_word as version_word_of, short_json as short_json_of, short_words as short_words_of, capped as capped_of};
 
-use schedule_text::Text;
-use schedule_text::words::number_at;
+use schedule_text::number_at;
 use std::alloc::AllocError;
+use text::Text;
 use voting_config::cut;
 
 /// What stands before the first such byte: all where there is none.

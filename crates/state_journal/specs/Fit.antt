@@ -57,7 +57,17 @@ HasSpelling-prop : (s : ClusterState) → IsProp (HasSpelling s)
 unfolding HasSpelling
 HasSpelling-prop s =
     let v = s.value in
-    hlevel (parent_prop s.parent, ids_prop s.config, ids_prop s.committed, optional_prop v.master, ids_prop v.members, ids_prop v.exclusions, entries_prop v.settings, props)
+    hlevel (
+      parent_prop s.parent,
+      ids_prop s.config,
+      ids_prop s.committed,
+      optional_prop v.master,
+      ids_prop v.members,
+      ids_prop
+          v.exclusions,
+      entries_prop v.settings,
+      props,
+    )
 
 pub IsDraft-prop : (s : ClusterState) (draft : Drafted) → IsProp (IsDraft s draft)
 IsDraft-prop s draft = hlevel (HasSpelling-prop s, props)

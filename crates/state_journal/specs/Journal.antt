@@ -32,7 +32,8 @@ in_order kept (Renewed generation) = nat_le generation.kept.accepted.term genera
 
 -- the record with what a body spells, whose gate stands at p; a body of version 1 that comes late, after one of version 2, is not in order
 unfoldable pub with_change : ℕ → (late : Bool) → Kept → Result Change BodyFault → Result Kept Fault
-with_change p late kept (Ok change) = if late then Err (Order p) else if in_order kept change then Ok (changed kept change) else Err (Order p)
+with_change p late kept (Ok change) = if late then Err (Order p) else if in_order kept change then Ok (changed kept change)
+    else Err (Order p)
 with_change p late kept (Err fault) = Err (Body p fault)
 
 abbrev pub unless : Option Fault → Result Kept Fault → Result Kept Fault
@@ -51,7 +52,8 @@ goes_on_with more (Err why) = Err why
 -- the record with these bodies, of which the first one's gate stands at p, or the first fault
 unfoldable pub folded_from : ℕ → (after : Bool) → Kept → List (List ℕ) → Result Kept Fault
 folded_from p after kept [] = Ok kept
-folded_from p after kept (body ∷ bodies) = goes_on_with (λ (k : Kept). folded_from (p + 5 + length body) (is_guarded body) k bodies) (with_body p after kept body)
+folded_from p after kept (body ∷ bodies) =
+    goes_on_with (λ (k : Kept). folded_from (p + 5 + length body) (is_guarded body) k bodies) (with_body p after kept body)
 
 -- the record of the bodies of one side, or its first fault
 abbrev pub record_of_bodies : List (List ℕ) → Result Kept Fault
@@ -97,10 +99,13 @@ abbrev pub FoundAsSome : (Files → Type 0) → Files → Type 0
 FoundAsSome outcomes files = (d : Files) × outcomes d × (found_of files ≡ found_of d)
 
 -- at rest a crash leaves the record
-pub only_record : (seen : Files) (left_now may_leave : Files → Type 0) (kept : Kept) (found : Option Kept) → ((c : Files) → left_now c → may_leave c) → Only seen may_leave → found_of seen ≡ Ok kept
+pub only_record : (seen : Files) (left_now may_leave : Files → Type 0) (kept : Kept) (found : Option Kept)
+    → ((c : Files) → left_now c → may_leave c) → Only seen may_leave → found_of seen ≡ Ok kept
     → (c : Files) × left_now c × (found ≡ record_of_files c) → found ≡ Some kept
-only_record seen left_now may_leave kept found now only is left = left.2 ∙ ap record_of_files (only left.0 (now left.0 left.1)) ∙ ap result_ok is
+only_record seen left_now may_leave kept found now only is left =
+    left.2 ∙ ap record_of_files (only left.0 (now left.0 left.1)) ∙ ap result_ok is
 
 -- a crash since t might have left the record, where it might have left the file as it reads
-pub record_stays : (seen : Files) (left_since : ℕ → Files → Type 0) (t : ℕ) (kept : Kept) → left_since t seen → found_of seen ≡ Ok kept → StoodFor left_since t (Some kept)
+pub record_stays : (seen : Files) (left_since : ℕ → Files → Type 0) (t : ℕ) (kept : Kept) → left_since t seen → found_of seen ≡ Ok kept
+    → StoodFor left_since t (Some kept)
 record_stays seen left_since t kept left is = (seen, left, sym (ap result_ok is))

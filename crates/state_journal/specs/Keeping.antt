@@ -30,7 +30,8 @@ writing_calls renewing p body generation =
 -- A change is appended to the side in use, or the record with it begins the next generation on the other side, as it does where one is
 -- due.
 abbrev pub keeping_calls : (due : Bool) → Place → Kept → Change → List DeviceCall
-keeping_calls due p kept change = writing_calls (renews due p (body_of change)) p (body_of change) (generation_after p (changed kept change))
+keeping_calls due p kept change =
+    writing_calls (renews due p (body_of change)) p (body_of change) (generation_after p (changed kept change))
 
 -- The same where these generations stand: one is due where a body of version 1 is in use.
 abbrev pub keeping_calls_in : Generations → Kept → Change → List DeviceCall

@@ -62,31 +62,41 @@ pub trait Keeper {
     fn set_term(&mut self, term: u64) -> Result<(), KeepError>
         requires above { (record_of self.old).term < term }
         requires fits { term ≤ last_number }
-        ensures ends { WriteEnds (has_stopped self.old) (record_of self.old) (changed (record_of self.old) (change.Term term)) (faults self.old) (faults self.new) (has_stopped self.new) (record_of self.new) result }
+        ensures ends { WriteEnds (has_stopped self.old) (record_of self.old) (changed (record_of self.old) (change.Term term))
+            (faults self.old) (faults self.new) (has_stopped self.new) (record_of self.new) result }
         ensures later { faults self.old ≤ faults self.new }
-        ensures any_moment { told → has_stopped self.old ≡ false → LeavesOnly moment left_since self.old self.new (IsEither (record_of self.old) (changed (record_of self.old) (change.Term term))) }
+        ensures any_moment { told → has_stopped self.old ≡ false
+            → LeavesOnly moment left_since self.old self.new
+            (IsEither (record_of self.old) (changed (record_of self.old) (change.Term term))) }
         ensures written { has_stopped self.old ≡ false → writes self.old (change.Term term) self.new (is_ok result) }
         ensures unchanged { has_stopped self.old ≡ true → self.new ≡ self.old };
 
     /// Keeps a state as the accepted one, and the committed configuration that it carries. Refused as `set_term` is.
     fn set_accepted(&mut self, ready: Ready) -> Result<(), KeepError>
         requires { ready.state.term ≤ (record_of self.old).term }
-        ensures ends { WriteEnds (has_stopped self.old) (record_of self.old) (changed (record_of self.old) (change.Accepted ready.state)) (faults self.old) (faults self.new) (has_stopped self.new) (record_of self.new) result }
+        ensures ends { WriteEnds (has_stopped self.old) (record_of self.old) (changed (record_of self.old) (change.Accepted ready.state))
+            (faults self.old) (faults self.new) (has_stopped self.new) (record_of self.new) result }
         ensures later { faults self.old ≤ faults self.new }
-        ensures any_moment { told → has_stopped self.old ≡ false → LeavesOnly moment left_since self.old self.new (IsEither (record_of self.old) (changed (record_of self.old) (change.Accepted ready.state))) }
+        ensures any_moment { told → has_stopped self.old ≡ false
+            → LeavesOnly moment left_since self.old self.new
+            (IsEither (record_of self.old) (changed (record_of self.old) (change.Accepted ready.state))) }
         ensures written { has_stopped self.old ≡ false → writes self.old (change.Accepted ready.state) self.new (is_ok result) }
         ensures unchanged { has_stopped self.old ≡ true → self.new ≡ self.old };
 
     /// Keeps the accepted configuration as the committed one, also where that changes nothing. Refused as `set_term` is.
     fn mark_committed(&mut self) -> Result<(), KeepError>
-        ensures ends { WriteEnds (has_stopped self.old) (record_of self.old) (changed (record_of self.old) change.Committed) (faults self.old) (faults self.new) (has_stopped self.new) (record_of self.new) result }
+        ensures ends { WriteEnds (has_stopped self.old) (record_of self.old) (changed (record_of self.old) change.Committed)
+            (faults self.old) (faults self.new) (has_stopped self.new) (record_of self.new) result }
         ensures later { faults self.old ≤ faults self.new }
-        ensures any_moment { told → has_stopped self.old ≡ false → LeavesOnly moment left_since self.old self.new (IsEither (record_of self.old) (changed (record_of self.old) change.Committed)) }
+        ensures any_moment { told → has_stopped self.old ≡ false
+            → LeavesOnly moment left_since self.old self.new
+            (IsEither (record_of self.old) (changed (record_of self.old) change.Committed)) }
         ensures written { has_stopped self.old ≡ false → writes self.old change.Committed self.new (is_ok result) }
         ensures unchanged { has_stopped self.old ≡ true → self.new ≡ self.old };
 
     /// Between two calls a crash leaves the record.
-    ghost only_kept: { (k : Self) (found : Option Record) → told → has_stopped k ≡ false → left_since k (moment k) found → found ≡ Some (record_of k) };
+    ghost only_kept: { (k : Self) (found : Option Record) → told → has_stopped k ≡ false → left_since k (moment k) found
+        → found ≡ Some (record_of k) };
 
     /// While it runs, the record is among what a crash since any earlier moment might have left.
     ghost may_stay: { (k : Self) (t : ℕ) → told → t ≤ moment k → has_stopped k ≡ false → left_since k t (Some (record_of k)) };

@@ -1,4 +1,5 @@
-//! States with their bytes and their JSON, and which settings and values a state may have.
+//! States with their bytes and their JSON, and which settings and values a state may have. Bytes and JSON are those of
+//! docs/formats.md.
 use cluster_state::checking::check_state;
 use cluster_state::decoding::decode_state;
 use cluster_state::encoding::encode_state;

@@ -1,4 +1,5 @@
-//! A node alone, from its first configuration to a commit. What each act promises is proved; these run it.
+//! A node alone, from its first configuration to a commit. What each act promises is proved; these run it. The answers follow
+//! from docs/protocol.md.
 ghost use Rattle.std.specs.Prelude.{◌≤◌, ◌^◌};
 ghost use Rattle.cluster_state.specs.States.{IsFit};
 

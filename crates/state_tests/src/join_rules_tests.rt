@@ -1,4 +1,4 @@
-//! Joins that are counted, and those that are refused.
+//! Joins that are counted, and those that are refused. The causes follow from docs/protocol.md.
 use cluster_state::{Join, JoinCause, StateId};
 use join_rules::{JoinVotes, join_check};
 use voting_config::{MAX_IDS, NodeId, NodeSet, VotingConfig};

@@ -1,4 +1,4 @@
-//! Ids, sets and quorums at their limits.
+//! Ids, sets and quorums at their limits. What is expected was counted by hand.
 use voting_config::{IdError, MAX_IDS, NodeId, NodeSet, VotingConfig};
 
 const FULL: &str = "0,1,2,3,4,5,a,b,c,d,e,f,g,h,i,j,k,l,m,n,o,p,q,r,s,t,u,v,w,x,y,z";

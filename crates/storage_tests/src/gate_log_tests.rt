@@ -1,4 +1,5 @@
-//! Journals byte by byte, and each device call of an append and of a renewal struck in turn.
+//! Journals byte by byte, and each device call of an append and of a renewal struck in turn. The bytes are those of
+//! docs/formats.md.
 use crate::files::{disk_of, is_written, reads};
 use crate::strikes::orders;
 use gate_log::{AppendError, Fault, GateLog, LogError, Opened, Why};

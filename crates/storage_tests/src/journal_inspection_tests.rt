@@ -1,4 +1,5 @@
-//! Journals in memory with the lines that show them, and each way in which an inspection ends.
+//! Journals in memory with the lines that show them, and each way in which an inspection ends. The lines are those of
+//! docs/formats.md.
 use crate::hosts::{Failing, host_of, is_used_once, sink_of};
 use crate::journals::{
     CHANGED, NO_DIGEST, OLD_AFTER, OLD_TERM_ONE, SECOND, SECOND_CHANGED, TERM_ONE,

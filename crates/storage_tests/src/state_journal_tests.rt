@@ -1,5 +1,5 @@
 //! Journals byte by byte, what an opening finds, each byte of two files changed, and each device call of a renewal struck in
-//! turn. Bodies are of version 2, with a digest, where nothing else is said.
+//! turn. Bodies are of version 2, with a digest, where nothing else is said. The bytes are those of docs/formats.md.
 use crate::files::{Files, disk_of, files_in, files_of, is_written};
 use crate::journals::{
     CHANGED, Journal, NO_DIGEST, OLD_AFTER, OLD_TERM_ONE, SECOND, SECOND_CHANGED, TERM_ONE, opened,

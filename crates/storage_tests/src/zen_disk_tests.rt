@@ -1,4 +1,5 @@
-//! What a crash loses, keeps or tears of a disk in memory, and how a fuse strikes.
+//! What a crash loses, keeps or tears of a disk in memory, and how a fuse strikes. What is expected follows from what was synced
+//! before.
 use crate::files::reads;
 use std::alloc::{AllocError, Global};
 use std::test::Fail;

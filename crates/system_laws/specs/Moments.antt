@@ -9,12 +9,14 @@ use Rattle.policy_model.specs.Follows.{items_of}
 use Rattle.system_laws.specs.Systems.{System, Nothing, Starts, Lives, Dies, Runs, run_of}
 
 -- The node was killed when all acts of the event were done, and its frames and replies were on their way: this is what it would have lived.
-pub record IsKilledAfterActs (h : System) (killed : Id) (event : Event) (done : List Item) (n : Id) (s : Settings) (life : Life) : Type 0 where
+pub record IsKilledAfterActs (h : System) (killed : Id) (event : Event) (done : List Item) (n : Id) (s : Settings)
+    (life : Life) : Type 0 where
   pub node : killed ≡ n
   pub before : Life
   pub runs : run_of h killed ≡ Runs s before
   pub lived : life ≡ Lived before (Did event (items_of s (log_of before) event))
-  pub acts : acts_of (log_of (Lived before (Did event done))) ≡ acts_of (log_of (Lived before (Did event (items_of s (log_of before) event))))
+  pub acts : acts_of (log_of (Lived before (Did event done)))
+      ≡ acts_of (log_of (Lived before (Did event (items_of s (log_of before) event))))
 
 -- at some moment a run of the node had lived this
 abbrev pub HadLived : System → Id → Settings → Life → Type 0
@@ -24,7 +26,8 @@ HadLived (Lives h node entry) n s life = (run_of (Lives h node entry) n ≡ Runs
 HadLived (Dies h node event items) n s life = IsKilledAfterActs h node event items n s life ⊎ HadLived h n s life
 
 -- the node had lived this and was then killed within this event, of which it had done this
-pub record IsKilledIn (h : System) (killed : Id) (came : Event) (items : List Item) (n : Id) (s : Settings) (life : Life) (event : Event) (done : List Item) : Type 0 where
+pub record IsKilledIn (h : System) (killed : Id) (came : Event) (items : List Item) (n : Id) (s : Settings) (life : Life) (event : Event)
+    (done : List Item) : Type 0 where
   pub node : killed ≡ n
   pub runs : run_of h killed ≡ Runs s life
   pub within : came ≡ event

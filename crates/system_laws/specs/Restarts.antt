@@ -28,7 +28,8 @@ LawLastRunIsKept =
 -- with the act that was struck kept, or not kept, it is the same life but for that, and as silent
 pub record IsSettled (s : Settings) (life : Life) (event : Event) (items : List Item) (kept : Bool) : Type 0 where
   pub follows : Follows s (Lived life (Did event (settled_items kept items)))
-  pub acts : acts_of (log_of (Lived life (Did event (settled_items kept items)))) ≡ settled_acts kept (acts_of (log_of (Lived life (Did event items))))
+  pub acts : acts_of (log_of (Lived life (Did event (settled_items kept items))))
+      ≡ settled_acts kept (acts_of (log_of (Lived life (Did event items))))
   pub silent : frames_of (settled_items kept items) ≡ []
   pub unanswered : replies_of (settled_items kept items) ≡ []
 

@@ -1,6 +1,6 @@
 //! A text that holds something already, by which a test sees that a writer leaves it there and writes behind it.
-use schedule_text::Text;
 use std::alloc::{AllocError, Global};
+use text::Text;
 
 /// A text that holds something already.
 pub(crate) fn begun(alloc: Global) -> Result<Text, AllocError> {

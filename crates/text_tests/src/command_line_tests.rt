@@ -1,4 +1,4 @@
-//! Words that are commands, and words that are none.
+//! Words that are commands, and words that are none. Which words are commands follows from docs/formats.md.
 use clap::error::ErrorKind;
 use command_line::program::program;
 use command_line::{NodeWords, ProgramCommand, WordsError, read_words};

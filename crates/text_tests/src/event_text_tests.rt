@@ -8,9 +8,9 @@ use cluster_state::{
 use event_text::*;
 use master_tasks::Outgoing;
 use policy_model::{DropCause, MemberDrop, Mode, Step};
-use schedule_text::Text;
 use std::alloc::{AllocError, Global};
 use std::test::*;
+use text::Text;
 use voting_config::{NodeId, NodeSet};
 use wire_frames::{Frame, WireMessage};
 use world_model::{Act, ActReply, Cause, Message as Sent, Outcome};
@@ -259,8 +259,16 @@ fn winning(alloc: Global) -> Result<[Step; 3], AllocError> {
     ])
 }
 
-const WINNING: &str =
-    "act a ok join b a 2 0/0\nwon a 2\nmode a leader 2\nact a ok value 1 a {\"exclusions\":[],\"master\":null,\"members\":[],\"settings\":{}}\ndrop a b checks\ndrop a c lag\nm5 a->b joinask 7\nm6 a->c prevoteask\nreply a {\"id\":7,\"not_master\":null}\nreply a {\"error\":\"not_json\"}\n";
+const WINNING: &str = "act a ok join b a 2 0/0\n\
+    won a 2\n\
+    mode a leader 2\n\
+    act a ok value 1 a {\"exclusions\":[],\"master\":null,\"members\":[],\"settings\":{}}\n\
+    drop a b checks\n\
+    drop a c lag\n\
+    m5 a->b joinask 7\n\
+    m6 a->c prevoteask\n\
+    reply a {\"id\":7,\"not_master\":null}\n\
+    reply a {\"error\":\"not_json\"}\n";
 
 fn event(alloc: Global, published: &mut Option<SharedState>) -> Result<Text, AllocError> {
     let steps = winning(alloc)?;
@@ -345,8 +353,12 @@ fn responding(alloc: Global) -> Result<[Step; 5], AllocError> {
     ])
 }
 
-const RESPONDING: &str =
-    "act a ok response b a 2/1\ncommitted {\"committed\":[\"a\"],\"config\":[\"a\"],\"parent\":{\"term\":1,\"version\":4},\"term\":2,\"value\":{\"exclusions\":[],\"master\":null,\"members\":[],\"settings\":{}},\"version\":1}\nact a refused:TermNotGreater(2,2) startjoin b 2\nact a stopped commit a 2/1\nact a crashed publish a {\"committed\":[\"a\"],\"config\":[\"a\"],\"parent\":{\"term\":1,\"version\":4},\"term\":2,\"value\":{\"exclusions\":[],\"master\":null,\"members\":[],\"settings\":{}},\"version\":1}\nact a disk boot a,b\n";
+const RESPONDING: &str = "act a ok response b a 2/1\n\
+    committed {\"committed\":[\"a\"],\"config\":[\"a\"],\"parent\":{\"term\":1,\"version\":4},\"term\":2,\"value\":{\"exclusions\":[],\"master\":null,\"members\":[],\"settings\":{}},\"version\":1}\n\
+    act a refused:TermNotGreater(2,2) startjoin b 2\n\
+    act a stopped commit a 2/1\n\
+    act a crashed publish a {\"committed\":[\"a\"],\"config\":[\"a\"],\"parent\":{\"term\":1,\"version\":4},\"term\":2,\"value\":{\"exclusions\":[],\"master\":null,\"members\":[],\"settings\":{}},\"version\":1}\n\
+    act a disk boot a,b\n";
 
 fn steps_text(
     alloc: Global,

@@ -1,8 +1,9 @@
-//! The lines that numbers give, also as a second generator draws them.
+//! The lines that numbers give, also as a second generator draws them. The lines follow from the draws of docs/formats.md.
 use schedule_generator::{Generator, empty_schedule};
-use schedule_text::{Level, Line, Lines, Schedule, Text, read_schedule, write_schedule};
+use schedule_text::{Level, Line, Lines, Schedule, read_schedule, write_line, write_schedule};
 use std::alloc::{AllocError, Global};
 use std::test::Fail;
+use text::Text;
 
 // The first lines of a number's schedule, where each line sends one message.
 fn lines(alloc: Global, number: u64, steps: u64) -> Result<Vec<Line>, AllocError> {
@@ -18,7 +19,7 @@ fn lines(alloc: Global, number: u64, steps: u64) -> Result<Vec<Line>, AllocError
 fn text_of(alloc: Global, lines: &[Line]) -> Result<Text, AllocError> {
     let mut text = Text::new(alloc);
     for line in lines {
-        text.line(line)?;
+        write_line(&mut text, line)?;
         text.word("\n")?;
     }
     Ok(text)
@@ -65,7 +66,7 @@ fn is_last(alloc: Global, number: u64, steps: u64, wanted: &str) -> Result<bool,
         return Ok(false);
     };
     let mut text = Text::new(alloc);
-    text.line(line)?;
+    write_line(&mut text, line)?;
     Ok(text.as_bytes() == wanted.as_bytes())
 }
 

@@ -1,12 +1,10 @@
-//! Texts with their first bad lines, and texts that are printed as they were read.
-use schedule_text::fault::{BadSchedule, ReadError, WhyBad};
-use schedule_text::level::Level;
-use schedule_text::printing::write_schedule;
-use schedule_text::reading::read_schedule;
-use schedule_text::schedule::Line;
-use schedule_text::text::Text;
+//! Texts with their first bad lines, and texts that are printed as they were read. The reasons are those of docs/formats.md.
+use schedule_text::{
+    BadSchedule, Level, Line, ReadError, WhyBad, read_schedule, write_bad_schedule, write_schedule,
+};
 use std::alloc::{AllocError, Global};
 use std::test::Fail;
+use text::Text;
 use zen_disk::Way;
 
 const HEADER: &[u8] = b"nodes a\ninitial a\n";
@@ -225,8 +223,18 @@ fn prints_each_stop_that_it_has_read(rt: HostRuntime) {
 
 #[test]
 fn prints_what_it_has_read_at_level_node(rt: HostRuntime) {
-    let text =
-        b"nodes a,b\ninitial a\ntick a 0 0\ntick b 4611686018427387904 18446744073709551615\nclient a \nclient b  get  x \nclient a \xff\x00\x80\ndeliver a 1\ncrash a torn:09\nrestart a\nfuse b 1 all\nfail b 10\n";
+    let text = b"nodes a,b\n\
+        initial a\n\
+        tick a 0 0\n\
+        tick b 4611686018427387904 18446744073709551615\n\
+        client a \n\
+        client b  get  x \n\
+        client a \xff\x00\x80\n\
+        deliver a 1\n\
+        crash a torn:09\n\
+        restart a\n\
+        fuse b 1 all\n\
+        fail b 10\n";
     assert!(rt; prints_itself(rt.alloc(), Level::Node, text));
 }
 
@@ -310,10 +318,13 @@ fn shows_a_value(rt: HostRuntime) {
 }
 
 fn write_fault(text: &mut Text) -> Result<(), AllocError> {
-    text.bad_schedule(&BadSchedule {
-        line: 3,
-        why: WhyBad::Id,
-    })
+    write_bad_schedule(
+        text,
+        &BadSchedule {
+            line: 3,
+            why: WhyBad::Id,
+        },
+    )
 }
 
 #[test]

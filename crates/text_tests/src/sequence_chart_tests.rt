@@ -1,4 +1,4 @@
-//! Parts of small pictures.
+//! Parts of small pictures. The marks are those of docs/charts.md.
 use sequence_chart::draw_trace;
 use std::alloc::Global;
 use std::test::Fail;

@@ -1,7 +1,8 @@
-//! Traces that are read, and texts that are refused.
-use schedule_text::{ReadError, Text, WhyBad};
+//! Traces that are read, and texts that are refused. The reasons are those of docs/formats.md.
+use schedule_text::{ReadError, WhyBad};
 use std::alloc::Global;
 use std::test::Fail;
+use text::Text;
 use trace_reader::{BadTrace, Ending, Told, Trace, TraceLine, read_trace, write_bad_trace};
 
 const ELECTION: &str = "> boot a\n\

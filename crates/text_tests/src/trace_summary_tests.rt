@@ -1,7 +1,7 @@
-//! Texts with their summaries, whole and in pieces.
-use schedule_text::Text;
+//! Texts with their summaries, whole and in pieces. The digests are the SHA-256 of the texts.
 use std::alloc::{AllocError, Global};
 use std::test::Fail;
+use text::Text;
 use trace_summary::{Tally, write_summary};
 
 // Lines of every kind, and words of one kind in lines of another.

@@ -5,9 +5,9 @@ use cluster_state::{
     PublishCause, PublishRequest, PublishResponse, ResponseCause, SharedState, StartCause,
     ValueCause, to_json,
 };
-use schedule_text::Text;
 use std::alloc::{AllocError, Global};
 use std::test::Fail;
+use text::Text;
 use trace_text::{
     Ending, write_act_head, write_boot, write_cause, write_commit, write_commit_message,
     write_committed, write_crashed, write_disk, write_down, write_join, write_join_message,

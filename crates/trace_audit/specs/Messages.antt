@@ -20,10 +20,12 @@ same_parent (Some x) None = false
 same_parent (Some x) (Some y) = is_same_state x y
 
 abbrev pub same_state : ClusterState → ClusterState → Bool
-same_state a b = nat_eq a.term b.term && nat_eq a.version b.version && same_parent a.parent b.parent && same_config a.config b.config && same_config a.committed b.committed && same_value a.value b.value
+same_state a b = nat_eq a.term b.term && nat_eq a.version b.version && same_parent a.parent b.parent && same_config a.config b.config
+    && same_config a.committed b.committed && same_value a.value b.value
 
 abbrev pub same_join : Join → Join → Bool
-same_join a b = same a.source b.source && same a.target b.target && nat_eq a.term b.term && nat_eq a.last_term b.last_term && nat_eq a.last_version b.last_version
+same_join a b = same a.source b.source && same a.target b.target && nat_eq a.term b.term && nat_eq a.last_term b.last_term
+    && nat_eq a.last_version b.last_version
 
 abbrev pub same_request : PublishRequest → PublishRequest → Bool
 same_request a b = same a.source b.source && same_state a.state b.state

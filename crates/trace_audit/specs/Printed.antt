@@ -32,7 +32,8 @@ abbrev pub won_line : Winner → List ℕ
 won_line w = won_text true w.node w.term
 
 abbrev pub counts_text : (entries winners committed : ℕ) → List ℕ
-counts_text entries winners committed = named_text (codes "legal") entries ++ named_text (codes "winners") winners ++ named_text (codes "committed") committed
+counts_text entries winners committed = named_text (codes "legal") entries ++ named_text (codes "winners") winners
+    ++ named_text (codes "committed") committed
 
 -- a number, and why
 abbrev pub line_text : ℕ → List ℕ → List ℕ

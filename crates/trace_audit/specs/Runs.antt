@@ -19,8 +19,9 @@ use Rattle.trace_audit.specs.declared.running.AuditEnd.TheVariants as end
 abbrev pub most_audited : ℕ
 most_audited = most_bytes + 1
 
--- The bytes record a legal history, and that very history is safe: no term has two winners, committed states of one version are equal, each descends
--- from every earlier committed one, and no node forgets what it answered for. This text says so, with the history's numbers and winners.
+-- The bytes record a legal history, and that very history is safe: no term has two winners, committed states of one version are equal, each
+-- descends from every earlier committed one, and no node forgets what it answered for. This text says so, with the history's numbers and
+-- winners.
 pub record FoundLegal (bytes : List ℕ) (Says : List ℕ → Type 0) : Type 0 where
   pub trace : Recording
   pub read : recording_of bytes ≡ Ok trace
@@ -52,12 +53,15 @@ EndsWith end.Legal bytes left_now was now = (left_now ≡ Some []) × FoundLegal
 EndsWith end.NotLegal bytes left_now was now = (left_now ≡ Some []) × FoundBroken bytes (Appended was now)
 EndsWith end.BadTrace bytes left_now was now = (left_now ≡ Some (drop most_audited bytes)) × FoundBad bytes (Appended was now)
 EndsWith end.WriteFault bytes left_now was now =
-    (left_now ≡ Some (drop most_audited bytes)) × (FoundLegal bytes (AppendedFront was now) ⊎ (FoundBroken bytes (AppendedFront was now) ⊎ FoundBad bytes (AppendedFront was now)))
+    (left_now ≡ Some (drop most_audited bytes))
+    × (FoundLegal bytes (AppendedFront was now) ⊎ (FoundBroken bytes (AppendedFront was now) ⊎ FoundBad bytes (AppendedFront was now)))
 EndsWith end.NoMemory bytes left_now was now = Appended was now []
 EndsWith end.ReadFault bytes left_now was now = Appended was now []
 
--- How the audit of an input ends: what the source told was left of it and the count of its faults, what the sink told was written and the count of its.
-pub record Audited (left left_now : Option (List ℕ)) (read read_now : ℕ) (was now : Option (List ℕ)) (wrote wrote_now : ℕ) (e : AuditEnd) : Type 0 where
+-- How the audit of an input ends: what the source told was left of it and the count of its faults, what the sink told was written and the
+-- count of its.
+pub record Audited (left left_now : Option (List ℕ)) (read read_now : ℕ) (was now : Option (List ℕ)) (wrote wrote_now : ℕ) (e : AuditEnd)
+    : Type 0 where
   -- where the source tells its bytes
   pub audits : (bytes : List ℕ) → left ≡ Some bytes → EndsWith e bytes left_now was now
   pub read_at_most : ReadsAtMost most_audited left left_now

@@ -109,7 +109,8 @@ Counted initial new (Err OutOfMemory) xs = Unit {0}
 
 -- what one more line makes of it, or why the line is bad
 abbrev pub TakesLine : List Id → Auditor → Progress → List ℕ → List Numbered → Result Judgement (ReadError BadTrace) → Type 0
-TakesLine initial new p line xs (Ok j) = (told : Option Entry) × (in_line p (sized p line (told_at line)) ≡ Ok told) × SoFar initial new j.broken (with_told p xs told) × (j.entries ≡ length (with_told p xs told))
+TakesLine initial new p line xs (Ok j) = (told : Option Entry) × (in_line p (sized p line (told_at line)) ≡ Ok told)
+    × SoFar initial new j.broken (with_told p xs told) × (j.entries ≡ length (with_told p xs told))
 TakesLine initial new p line xs (Err (Bad bad)) = in_line p (sized p line (told_at line)) ≡ Err bad
 TakesLine initial new p line xs (Err OutOfMemory) = Unit {0}
 

@@ -41,7 +41,8 @@ fn judge_next(
     entry: &Entry,
 ) -> Result<Option<Broken>, ReadError<BadTrace>>
     requires { IsEntry entry.now }
-    ensures { (initial : List Id) (xs : List Numbered) → Audits initial auditor.old (traced xs) → Judged initial auditor.new result (xs ++ record { line = line; entry = entry.now } ∷ []) }
+    ensures { (initial : List Id) (xs : List Numbered) → Audits initial auditor.old (traced xs)
+        → Judged initial auditor.new result (xs ++ record { line = line; entry = entry.now } ∷ []) }
 {
     match auditor.step(entry) {
         Ok(()) => Ok(None),
@@ -57,7 +58,8 @@ fn judge(
     entry: &Entry,
 ) -> Result<Option<Broken>, ReadError<BadTrace>>
     requires { IsEntry entry.now }
-    ensures { (initial : List Id) (xs : List Numbered) → SoFar initial auditor.old broken xs → Judged initial auditor.new result (xs ++ record { line = line; entry = entry.now } ∷ []) }
+    ensures { (initial : List Id) (xs : List Numbered) → SoFar initial auditor.old broken xs
+        → Judged initial auditor.new result (xs ++ record { line = line; entry = entry.now } ∷ []) }
 {
     match broken {
         Some(broken) => Ok(Some(broken)),
@@ -82,7 +84,8 @@ fn take_entry(
 ) -> Result<Judgement, ReadError<BadTrace>>
     requires entry { IsEntry entry.now }
     requires few { so_far.entries + 1 < 2 ^ 64 }
-    ensures { (initial : List Id) (xs : List Numbered) → SoFar initial auditor.old so_far.broken xs → so_far.entries ≡ length xs → Counted initial auditor.new result (xs ++ record { line = line; entry = entry.now } ∷ []) }
+    ensures { (initial : List Id) (xs : List Numbered) → SoFar initial auditor.old so_far.broken xs → so_far.entries ≡ length xs
+        → Counted initial auditor.new result (xs ++ record { line = line; entry = entry.now } ∷ []) }
 {
     match judge(auditor, so_far.broken, line, entry) {
         Ok(broken) => Ok(Judgement {
@@ -103,7 +106,8 @@ fn take_line(
 ) -> Result<Judgement, ReadError<BadTrace>>
     requires bytes { progress.now.before + length line.now + 1 < 2 ^ 64 }
     requires few { so_far.entries + 1 < 2 ^ 64 }
-    ensures { (initial : List Id) (xs : List Numbered) → SoFar initial auditor.old so_far.broken xs → so_far.entries ≡ length xs → TakesLine initial auditor.new progress.now line.now xs result }
+    ensures { (initial : List Id) (xs : List Numbered) → SoFar initial auditor.old so_far.broken xs → so_far.entries ≡ length xs
+        → TakesLine initial auditor.new progress.now line.now xs result }
 {
     let told = match entry_at(alloc, progress, line) {
         Ok(told) => told,
@@ -117,7 +121,8 @@ fn take_line(
 
 // The verdict on so many entries, which are legal.
 fn legal(auditor: Auditor, entries: usize) -> Verdict
-    ensures { (initial : List Id) (xs : List Numbered) → Audits initial auditor (traced xs) → entries ≡ length xs → IsRight (record { initial = initial; entries = xs }) result }
+    ensures { (initial : List Id) (xs : List Numbered) → Audits initial auditor (traced xs) → entries ≡ length xs
+        → IsRight (record { initial = initial; entries = xs }) result }
 {
     let notes = auditor.into_notes();
     let committed = notes.committed();
@@ -130,7 +135,8 @@ fn legal(auditor: Auditor, entries: usize) -> Verdict
 
 // The verdict on so many entries.
 fn verdict(auditor: Auditor, broken: Option<Broken>, entries: usize) -> Verdict
-    ensures { (initial : List Id) (xs : List Numbered) → SoFar initial auditor broken xs → entries ≡ length xs → IsRight (record { initial = initial; entries = xs }) result }
+    ensures { (initial : List Id) (xs : List Numbered) → SoFar initial auditor broken xs → entries ≡ length xs
+        → IsRight (record { initial = initial; entries = xs }) result }
 {
     match broken {
         Some(broken) => Verdict::NotLegal {

@@ -222,7 +222,8 @@ impl Auditor {
 
     fn acted(&mut self, id: NodeId, ending: Ending, act: &Act) -> Result<(), Stop>
         requires { is_opening act.now ≡ false }
-        ensures { (initial : List Id) (h : History) → Audits initial self.old h → Takes initial self.new result (with_entry h (Acted id ending act.now)) }
+        ensures { (initial : List Id) (h : History) → Audits initial self.old h
+            → Takes initial self.new result (with_entry h (Acted id ending act.now)) }
     {
         let node = take_out(self.alloc, &mut self.nodes, id)?;
         if node.is_down() {
@@ -246,7 +247,8 @@ impl Auditor {
     }
 
     fn recorded(&mut self, id: NodeId, shown: &Kept) -> Result<(), Stop>
-        ensures { (initial : List Id) (h : History) → Audits initial self.old h → Takes initial self.new result (with_entry h (Recorded id shown.now)) }
+        ensures { (initial : List Id) (h : History) → Audits initial self.old h
+            → Takes initial self.new result (with_entry h (Recorded id shown.now)) }
     {
         let node = take_out(self.alloc, &mut self.nodes, id)?;
         let kept = node.found(shown)?;

@@ -65,7 +65,8 @@ impl Notes {
     }
 
     fn add_message(&mut self, node: NodeId, message: Message) -> Result<(), AllocError>
-        ensures { (messages : List TheMessage) (winners : List TheWinner) (commits : List TheCommit) → AreNotes self.old messages winners commits
+        ensures { (messages : List TheMessage) (winners : List TheWinner) (commits : List TheCommit)
+            → AreNotes self.old messages winners commits
             → OnOk result (AreNotes self.new (messages ++ message ∷ []) winners (commits ++ commits_by node (Some message))) }
     {
         self.add_published(node, &message)?;
@@ -73,7 +74,8 @@ impl Notes {
     }
 
     fn add_win(&mut self, node: NodeId, term: u64, wins: bool) -> Result<(), AllocError>
-        ensures { (messages : List TheMessage) (winners : List TheWinner) (commits : List TheCommit) → AreNotes self.old messages winners commits
+        ensures { (messages : List TheMessage) (winners : List TheWinner) (commits : List TheCommit)
+            → AreNotes self.old messages winners commits
             → OnOk result (AreNotes self.new messages (winners ++ winners_by node term wins) commits) }
     {
         if wins {
@@ -89,8 +91,10 @@ impl Notes {
         sends: Option<Message>,
         wins: bool,
     ) -> Result<(), AllocError>
-        ensures { (messages : List TheMessage) (winners : List TheWinner) (commits : List TheCommit) → AreNotes self.old messages winners commits
-            → OnOk result (AreNotes self.new (messages ++ messages_by sends) (winners ++ winners_by node term wins) (commits ++ commits_by node sends)) }
+        ensures { (messages : List TheMessage) (winners : List TheWinner) (commits : List TheCommit)
+            → AreNotes self.old messages winners commits
+            → OnOk result (AreNotes self.new (messages ++ messages_by sends) (winners ++ winners_by node term wins)
+            (commits ++ commits_by node sends)) }
     {
         self.add_win(node, term, wins)?;
         match sends {
@@ -100,7 +104,8 @@ impl Notes {
     }
 
     fn add_reply(&mut self, node: NodeId, term: u64, reply: ActReply) -> Result<(), AllocError>
-        ensures { (h : History) (act : TheAct) → NotesOf self.old h → (wins_by (Answered reply) ≡ true → term ≡ term_of (node_history h node))
+        ensures { (h : History) (act : TheAct) → NotesOf self.old h
+            → (wins_by (Answered reply) ≡ true → term ≡ term_of (node_history h node))
             → OnOk result (NotesOf self.new (Next h node act (outcome_shown reply ending.Taken))) }
     {
         match reply {
@@ -118,7 +123,8 @@ impl Notes {
         reply: ActReply,
         ending: Ending,
     ) -> Result<(), AllocError>
-        ensures { (h : History) (act : TheAct) → NotesOf self.old h → (wins_by (Answered reply) ≡ true → term ≡ term_of (node_history h node))
+        ensures { (h : History) (act : TheAct) → NotesOf self.old h
+            → (wins_by (Answered reply) ≡ true → term ≡ term_of (node_history h node))
             → OnOk result (NotesOf self.new (Next h node act (outcome_shown reply ending))) }
     {
         match ending {
@@ -144,7 +150,8 @@ impl Notes {
 
     /// How many of the published states were committed.
     pub fn committed(&self) -> usize
-        ensures { (messages : List TheMessage) (winners : List TheWinner) (commits : List TheCommit) → AreNotes self.now messages winners commits → result ≡ count_by (is_committed messages) commits }
+        ensures { (messages : List TheMessage) (winners : List TheWinner) (commits : List TheCommit)
+            → AreNotes self.now messages winners commits → result ≡ count_by (is_committed messages) commits }
     {
         self.count_sent(self.published.as_slice())
     }

@@ -6,8 +6,8 @@ ghost use Rattle.trace_audit.specs.Printed.{clause_text, why_text, named_text, w
 use crate::clause::Clause;
 use crate::verdict::{Verdict, Winner};
 use recorded_trace::{BadTrace, Why};
-use schedule_text::Text;
 use std::alloc::AllocError;
+use text::Text;
 use trace_text::messages::write_won;
 
 impl Clause {

@@ -7,8 +7,9 @@ use crate::auditing::audit;
 use crate::printing::{write_bad_trace, write_verdict};
 use crate::verdict::Verdict;
 use recorded_trace::BadTrace;
-use schedule_text::{ReadError, Text};
+use schedule_text::ReadError;
 use std::alloc::{AllocError, Global};
+use text::Text;
 
 /// What an audit finds.
 #[derive(Clone, Copy, Debug, PartialEq, Eq)]

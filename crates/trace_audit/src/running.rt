@@ -37,7 +37,8 @@ fn end_of(finding: Finding) -> AuditEnd
 
 /// Reads a recorded trace, at most one byte more than it may have, and writes the verdict or the first bad line.
 pub fn run_audit<I: Source, S: Sink>(alloc: Global, input: &mut I, out: &mut S) -> AuditEnd
-    ensures { Audited (I.left input.old) (I.left input.new) (I.faults input.old) (I.faults input.new) (S.written out.old) (S.written out.new) (S.faults out.old) (S.faults out.new) result }
+    ensures { Audited (I.left input.old) (I.left input.new) (I.faults input.old) (I.faults input.new) (S.written out.old)
+        (S.written out.new) (S.faults out.old) (S.faults out.new) result }
 {
     let bytes = match read_input(alloc, input, MAX_BYTES + 1) {
         Ok(bytes) => bytes,

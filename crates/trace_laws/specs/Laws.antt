@@ -39,23 +39,28 @@ IsResult p actor = p.actor ≡ Some actor
 
 -- an act, and an opening of a journal
 abbrev pub LawOutcome : Type 0
-LawOutcome = (p : Progress) (actor n : Id) (o : Outcome) (act : Act) → IsResult p actor → IsTrue (is_id n) → FitsEnding (ending_of o) → FitsAct act → IsRead p (outcome_line n o act) (outcome_told n o act)
+LawOutcome = (p : Progress) (actor n : Id) (o : Outcome) (act : Act) → IsResult p actor → IsTrue (is_id n) → FitsEnding (ending_of o)
+    → FitsAct act → IsRead p (outcome_line n o act) (outcome_told n o act)
 
 -- an election that was won
 abbrev pub LawWon : Type 0
-LawWon = (p : Progress) (actor n : Id) (term : ℕ) → IsResult p actor → IsTrue (is_id n) → IsSmall term → IsRead p (won_text true n term) (told.Won n term)
+LawWon = (p : Progress) (actor n : Id) (term : ℕ) → IsResult p actor → IsTrue (is_id n) → IsSmall term
+    → IsRead p (won_text true n term) (told.Won n term)
 
 -- a state that is committed, by the node of the last line of the schedule
 abbrev pub LawCommitted : Type 0
-LawCommitted = (p : Progress) (actor : Id) (state : ClusterState) → IsResult p actor → IsRead p (committed_text (Some state)) (told.Committed actor)
+LawCommitted = (p : Progress) (actor : Id) (state : ClusterState) → IsResult p actor
+    → IsRead p (committed_text (Some state)) (told.Committed actor)
 
 -- the next message
 abbrev pub LawSent : Type 0
-LawSent = (p : Progress) (actor : Id) (message : Message) → IsResult p actor → IsSmall p.next → FitsMessage message → IsRead p (message_line p.next message) (message_told message)
+LawSent = (p : Progress) (actor : Id) (message : Message) → IsResult p actor → IsSmall p.next → FitsMessage message
+    → IsRead p (message_line p.next message) (message_told message)
 
 -- the next frame
 abbrev pub LawFramed : Type 0
-LawFramed = (p : Progress) (actor : Id) (frame : Frame) → IsResult p actor → IsSmall p.next → FitsFrame frame → IsRead p (frame_line p.next frame) (told.Sent frame.from (Some frame.to))
+LawFramed = (p : Progress) (actor : Id) (frame : Frame) → IsResult p actor → IsSmall p.next → FitsFrame frame
+    → IsRead p (frame_line p.next frame) (told.Sent frame.from (Some frame.to))
 
 -- a node that is down, that is up, that stops, or whose disk fails
 pub record LawState : Type 0 where
@@ -71,18 +76,23 @@ pub record LawDelivery : Type 0 where
 
 -- a mode, a member that is dropped, and a reply to a client
 pub record LawNote : Type 0 where
-  pub mode : (p : Progress) (actor n : Id) (mode : Mode) (term : ℕ) → IsResult p actor → IsTrue (is_id n) → FitsMode mode → IsSmall term → IsRead p (mode_line n mode term) (told.Mode n (mode_told_by mode) term)
-  pub drop : (p : Progress) (actor n : Id) (dropped : MemberDrop) → IsResult p actor → IsTrue (is_id n) → IsTrue (is_id dropped.member) → IsRead p (drop_line n dropped) (told.Dropped n)
-  pub reply : (p : Progress) (actor n : Id) (answer : Outgoing) → IsResult p actor → IsTrue (is_id n) → IsRead p (reply_line n answer) (told.Replied n)
+  pub mode : (p : Progress) (actor n : Id) (mode : Mode) (term : ℕ) → IsResult p actor → IsTrue (is_id n) → FitsMode mode → IsSmall term
+      → IsRead p (mode_line n mode term) (told.Mode n (mode_told_by mode) term)
+  pub drop : (p : Progress) (actor n : Id) (dropped : MemberDrop) → IsResult p actor → IsTrue (is_id n) → IsTrue (is_id dropped.member)
+      → IsRead p (drop_line n dropped) (told.Dropped n)
+  pub reply : (p : Progress) (actor n : Id) (answer : Outgoing) → IsResult p actor → IsTrue (is_id n)
+      → IsRead p (reply_line n answer) (told.Replied n)
 
 -- the echo of a line of a schedule of these nodes
 abbrev pub LawEcho : Type 0
-LawEcho = (p : Progress) (level : Level) (ids : List Id) (l : Line) → IsIdSet ids → FitsLine level ids l → IsRead p (codes "> " ++ line_text l ++ codes "\n") (told_by l)
+LawEcho = (p : Progress) (level : Level) (ids : List Id) (l : Line) → IsIdSet ids → FitsLine level ids l
+    → IsRead p (codes "> " ++ line_text l ++ codes "\n") (told_by l)
 
 -- Lines one after another, each of which tells something where it stands.
 pub data AreRead : Progress → List ℕ → List TraceLine → Type 0 where
   Nothing : (p : Progress) → AreRead p [] []
-  Read : (p : Progress) (line more : List ℕ) (told : Told) (lines : List TraceLine) → IsTrue (is_one_line line) → told_at p line ≡ Ok told → AreRead (after_line p line told) more lines → AreRead p (line ++ 10 ∷ more) (record { text = line; told = told } ∷ lines)
+  Read : (p : Progress) (line more : List ℕ) (told : Told) (lines : List TraceLine) → IsTrue (is_one_line line) → told_at p line ≡ Ok told
+      → AreRead (after_line p line told) more lines → AreRead p (line ++ 10 ∷ more) (record { text = line; told = told } ∷ lines)
 
 -- such lines are a trace, and are read as what they tell
 abbrev pub LawTrace : Type 0

@@ -34,7 +34,8 @@ next_after next (told.Sent from to) = next + 1
 next_after next other = next
 
 abbrev pub after_line : Progress → List ℕ → Told → Progress
-after_line p line t = record { number = p.number + 1; before = p.before + length line + 1; actor = actor_after p.actor t; next = next_after p.next t }
+after_line p line t = record
+    { number = p.number + 1; before = p.before + length line + 1; actor = actor_after p.actor t; next = next_after p.next t }
 
 -- ---- a line
 

@@ -4,8 +4,7 @@ ghost use Rattle.schedule_text.specs.Answers.{Answers};
 ghost use Rattle.trace_reader.specs.Echoes.{word_at, level_of as level_of_verb, with_word, list_at, ids_in, named_in, told_by as told_by_line, echo_at};
 
 use crate::told::Told;
-use schedule_text::lines::read_line;
-use schedule_text::{Level, Line, ReadError, WhyBad};
+use schedule_text::{Level, Line, ReadError, WhyBad, read_line};
 use std::alloc::Global;
 use voting_config::{NodeId, NodeSet, cut};
 

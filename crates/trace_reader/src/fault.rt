@@ -3,8 +3,9 @@ ghost use Rattle.std.specs.Prelude.{◌≡◌, ◌++◌, OnOk, decimal};
 ghost use Rattle.schedule_text.specs.Printed.{reason_text};
 ghost use Rattle.trace_reader.specs.Printed.{bad_line};
 
-use schedule_text::{Text, WhyBad};
+use schedule_text::WhyBad;
 use std::alloc::AllocError;
+use text::Text;
 use thiserror::Error;
 
 /// The first bad line of a text, and why it is bad. Where several reasons hold it is the first of them, and of the words of the

@@ -6,9 +6,7 @@ ghost use Rattle.schedule_text.specs.Answers.{Gives};
 ghost use Rattle.trace_reader.specs.Reading.{rest_of as rest_of_words};
 ghost use Rattle.trace_reader.specs.Results.{no_word as no_word_of, some_word as some_word_of, node, node_alone as node_alone_of, node_with_rest as node_with_rest_of};
 
-use schedule_text::WhyBad;
-use schedule_text::lines::one_word;
-use schedule_text::words::number_at;
+use schedule_text::{WhyBad, number_at, one_word};
 use voting_config::{NodeId, cut};
 
 /// The id that a word is, and else `Id`.

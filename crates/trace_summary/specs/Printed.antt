@@ -10,7 +10,8 @@ named_text name number = name ++ codes "=" ++ decimal number ++ codes "\n"
 
 abbrev pub counts_text : Counts → List ℕ
 counts_text c =
-    named_text (codes "steps") c.steps ++ named_text (codes "acts") c.acts ++ named_text (codes "refused") c.refused ++ named_text (codes "won") c.won
+    named_text (codes "steps") c.steps ++ named_text (codes "acts") c.acts ++ named_text (codes "refused") c.refused
+    ++ named_text (codes "won") c.won
     ++ named_text (codes "committed") c.committed ++ named_text (codes "crashes") c.crashes
 
 -- bytes in lower-case hexadecimal

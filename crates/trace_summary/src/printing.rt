@@ -4,8 +4,8 @@ ghost use Rattle.trace_summary.specs.Printed.{counts_text, digest_text, hex_text
 
 use crate::counts::Counts;
 use crate::summary::Summary;
-use schedule_text::Text;
 use std::alloc::{AllocError, Global};
+use text::Text;
 
 // A name, `=` and a number, with a line feed.
 fn write_named(text: &mut Text, name: &str, number: u64) -> Result<(), AllocError>

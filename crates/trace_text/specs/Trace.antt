@@ -114,8 +114,10 @@ state_text state = compact_text (state_json state)
 abbrev pub act_text : Act → List ℕ
 act_text (Bootstrap config) = codes "boot " ++ list_text config
 act_text (StartJoin candidate term) = codes "startjoin " ++ candidate ++ codes " " ++ decimal term
-act_text (TakeJoin j) = codes "join " ++ j.source ++ codes " " ++ j.target ++ codes " " ++ decimal j.term ++ codes " " ++ id_text j.last_term j.last_version
-act_text (Value version config value) = codes "value " ++ decimal version ++ codes " " ++ list_text config ++ codes " " ++ compact_text (value_json value)
+act_text (TakeJoin j) = codes "join " ++ j.source ++ codes " " ++ j.target ++ codes " " ++ decimal j.term ++ codes " "
+    ++ id_text j.last_term j.last_version
+act_text (Value version config value) = codes "value " ++ decimal version ++ codes " " ++ list_text config ++ codes " "
+    ++ compact_text (value_json value)
 act_text (Publish r) = codes "publish " ++ r.source ++ codes " " ++ state_text r.state
 act_text (Response r) = codes "response " ++ r.source ++ codes " " ++ r.target ++ codes " " ++ id_text r.term r.version
 act_text (Commit c) = codes "commit " ++ c.source ++ codes " " ++ id_text c.term c.version
@@ -128,7 +130,8 @@ act_line n e act = codes "act " ++ n ++ codes " " ++ ending_text e ++ codes " " 
 -- a node has opened its journal, and found this record
 abbrev pub record_line : Id → ℕ → ClusterState → List Id → List ℕ
 record_line n term accepted committed =
-    codes "record " ++ n ++ codes " " ++ decimal term ++ codes " " ++ id_text accepted.term accepted.version ++ codes " " ++ list_text accepted.config ++ codes " " ++ list_text committed ++ codes "\n"
+    codes "record " ++ n ++ codes " " ++ decimal term ++ codes " " ++ id_text accepted.term accepted.version ++ codes " "
+    ++ list_text accepted.config ++ codes " " ++ list_text committed ++ codes "\n"
 
 -- a node is down, and takes nothing
 abbrev pub down_line : Id → List ℕ
@@ -183,7 +186,8 @@ message_text (CommitMessage c) = codes "commit " ++ id_text c.term c.version
 
 -- the message of this number
 abbrev pub message_line : ℕ → Message → List ℕ
-message_line number message = codes "m" ++ decimal number ++ codes " " ++ address_text message ++ codes " " ++ message_text message ++ codes "\n"
+message_line number message = codes "m" ++ decimal number ++ codes " " ++ address_text message ++ codes " " ++ message_text message
+    ++ codes "\n"
 
 abbrev pub sent_line : ℕ → Outcome → List ℕ
 sent_line number (Answered (Taken (Some message) w)) = message_line number message

@@ -9,8 +9,8 @@ use cluster_state::{
     ApplyCommit, ClusterState, ClusterValue, Join, PublishRequest, PublishResponse, to_json,
     value_to_json,
 };
-use schedule_text::Text;
 use std::alloc::{AllocError, Global};
+use text::Text;
 use voting_config::{NodeId, NodeSet, VotingConfig};
 
 /// Writes a term and a version, as `1/2`.

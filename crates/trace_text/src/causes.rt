@@ -6,8 +6,8 @@ use crate::Ending;
 use cluster_state::{
     CommitCause, InitialCause, JoinCause, PublishCause, ResponseCause, StartCause, ValueCause,
 };
-use schedule_text::Text;
 use std::alloc::AllocError;
+use text::Text;
 use voting_config::NodeId;
 use world_model::Cause;
 

@@ -5,8 +5,8 @@ ghost use Rattle.trace_text.specs.Trace.{message_line, message_text, state_text,
 
 use crate::acts::write_state_id;
 use cluster_state::{ApplyCommit, ClusterState, Join, PublishResponse, to_json};
-use schedule_text::Text;
 use std::alloc::{AllocError, Global};
+use text::Text;
 use voting_config::NodeId;
 
 /// Writes that the node has won the election of a term, where it has.
@@ -126,7 +126,8 @@ pub fn write_publish_message(
     json: &[u8],
 ) -> Result<(), AllocError>
     requires { json.now ≡ state_text state.now }
-    ensures { OnOk result (text.new ≡ text.old ++ message_line ordinal (message.Publish (record { source = source.now; state = state.now }))) }
+    ensures { OnOk result
+        (text.new ≡ text.old ++ message_line ordinal (message.Publish (record { source = source.now; state = state.now }))) }
 {
     number(text, ordinal)?;
     to_any(text, source)?;

@@ -4,8 +4,8 @@ ghost use Rattle.trace_text.specs.Trace.{down_line, up_line, crashed_line, disk_
 
 use crate::acts::write_state_id;
 use cluster_state::Kept;
-use schedule_text::Text;
 use std::alloc::AllocError;
+use text::Text;
 use voting_config::NodeId;
 
 /// Writes that a node is down, and so takes nothing.

@@ -1,4 +1,5 @@
--- Part of the statement: a frame as bytes: four bytes of length, and as many of body: a kind, the ids from and to, and the fields of the kind.
+-- Part of the statement: a frame as bytes: four bytes of length, and as many of body: a kind, the ids from and to, and the fields of the
+-- kind.
 use Rattle.std.specs.Prelude.{◌≡◌, ℕ, List, ◌∷◌, ◌++◌, length, Option, Some, None, Result, Ok, Err}
 use Rattle.std.specs.Int.{w32, to_be_bytes}
 use Rattle.cluster_state.specs.declared.fault.FieldError.{FieldError}

@@ -25,7 +25,8 @@ code kind.LeaderAnswer = 15
 
 abbrev pub kinds : List Kind
 kinds = kind.StartJoin ∷ kind.Join ∷ kind.Publish ∷ kind.Response ∷ kind.Commit ∷ kind.JoinAsk ∷ kind.PeersAsk ∷ kind.PeersAnswer
-    ∷ kind.PreVoteAsk ∷ kind.PreVoteAnswer ∷ kind.PreVoteRefuse ∷ kind.FollowerCheck ∷ kind.FollowerAnswer ∷ kind.LeaderCheck ∷ kind.LeaderAnswer ∷ []
+    ∷ kind.PreVoteAsk ∷ kind.PreVoteAnswer ∷ kind.PreVoteRefuse ∷ kind.FollowerCheck ∷ kind.FollowerAnswer ∷ kind.LeaderCheck
+    ∷ kind.LeaderAnswer ∷ []
 
 -- the kind that the byte stands for
 abbrev pub kind_of : ℕ → Option Kind

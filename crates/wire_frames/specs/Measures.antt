@@ -11,7 +11,8 @@ use Rattle.wire_frames.specs.Streams.{Unfinished, Faulty, Whole, front_with, fro
 abbrev pub Measures : BodyLength → List ℕ → Type 0
 Measures body.Unfinished bytes = front_of bytes ≡ Unfinished
 Measures body.TooLong bytes = front_of bytes ≡ Faulty TooLong
-Measures (body.Whole size) bytes = (4 ≤ length bytes) × (size ≤ length (drop 4 bytes)) × (front_of bytes ≡ front_with (frame_of (take size (drop 4 bytes))) (drop size (drop 4 bytes)))
+Measures (body.Whole size) bytes = (4 ≤ length bytes) × (size ≤ length (drop 4 bytes))
+    × (front_of bytes ≡ front_with (frame_of (take size (drop 4 bytes))) (drop size (drop 4 bytes)))
 
 -- a frame of so many bytes stands at the front
 pub record IsFramed (bytes : List ℕ) (used : ℕ) : Type 0 where

@@ -43,4 +43,5 @@ IsEnding (Fault fault) bytes = BeginsTooLong bytes fault ⊎ BeginsNoFrame bytes
 -- the bytes are these frames, one after the other, and then this ending
 abbrev pub Splits : List ℕ → List Frame → Ending → Type 0
 Splits bytes [] ending = IsEnding ending bytes
-Splits bytes (frame ∷ frames) ending = (first : List ℕ) × (rest : List ℕ) × (bytes ≡ first ++ rest) × SpellsFrame frame first × Splits rest frames ending
+Splits bytes (frame ∷ frames) ending = (first : List ℕ) × (rest : List ℕ) × (bytes ≡ first ++ rest) × SpellsFrame frame first
+    × Splits rest frames ending

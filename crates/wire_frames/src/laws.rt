@@ -19,7 +19,8 @@ pub fn law_first_frame()
 /// Bytes are the stream of these frames and this ending exactly where they are the frames, spelled one after the other,
 /// and then less than a frame, or a fault.
 pub fn law_stream()
-    ensures { (bytes : List ℕ) (frames : List Frame) (ending : Ending) → All (λ b. b < 2 ^ 8) bytes → (IsStream bytes frames ending ↔ Splits bytes frames ending) }
+    ensures { (bytes : List ℕ) (frames : List Frame) (ending : Ending) → All (λ b. b < 2 ^ 8) bytes
+        → (IsStream bytes frames ending ↔ Splits bytes frames ending) }
 {}
 
 /// Cut in two, a stream is the frames of its first part, and then the stream of what stands after them and its second

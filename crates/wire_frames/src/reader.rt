@@ -47,7 +47,8 @@ impl FrameReader {
         ensures ok { OnOk result (self.new ≡ pushed self.old bytes.now) }
         ensures err { OnErr result (self.new ≡ self.old) }
         // The frames given so far and what is left are still the stream of all bytes that came.
-        ensures carried { OnOk result ((came : List ℕ) (given : List Frame) → IsCarried came given self.old → IsCarried (came ++ bytes.now) given self.new) }
+        ensures carried { OnOk result
+            ((came : List ℕ) (given : List Frame) → IsCarried came given self.old → IsCarried (came ++ bytes.now) given self.new) }
     {
         self.add(bytes)
     }
@@ -67,7 +68,8 @@ impl FrameReader {
         // What is left once the frame is given back.
         ensures* after { sem 𝓛 (follows_so the_row the_row self.entry.ghost_name none (λ _ _. ⊤) (λ left. left ≡ after_next self.old)) }
         // The frames given so far and what is left are still the stream of all bytes that came.
-        ensures carried { (came : List ℕ) (given : List Frame) → IsCarried came given self.old → IsCarried came (given ++ frames_in (next_of self.old)) (after_next self.old) }
+        ensures carried { (came : List ℕ) (given : List Frame) → IsCarried came given self.old
+            → IsCarried came (given ++ frames_in (next_of self.old)) (after_next self.old) }
     {
         match self.buffer.step() {
             None => None,

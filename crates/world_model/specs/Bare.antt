@@ -1,5 +1,5 @@
--- For the contracts inside: histories from before states had parents, and how such a history goes on. What is bare is without the parent of each
--- state in it.
+-- For the contracts inside: histories from before states had parents, and how such a history goes on. What is bare is without the parent of
+-- each state in it.
 use Rattle.std.specs.Prelude.{◌≡◌, ◌⊎◌, None, Some, List}
 use Rattle.voting_config.specs.Ids.{Id}
 use Rattle.cluster_state.specs.declared.state.ClusterState.{ClusterState}

@@ -12,11 +12,13 @@ use Rattle.world_model.specs.Local.{NamesConfigs, BeginsEmpty, IsSourcedAll, Are
 abbrev pub LawKept : Type 0
 LawKept = (initial : List Id) (h : History) → IsLegal initial h → HoldsAnswers h
 
--- so has a node by itself, whatever messages it took and whatever it was first opened with, if each state that it accepted names a configuration
+-- so has a node by itself, whatever messages it took and whatever it was first opened with, if each state that it accepted names a
+-- configuration
 abbrev pub LawKeptAlone : Type 0
 LawKeptAlone = (me : Id) (g : NodeHistory) → IsLocal me g → NamesConfigs g → HoldsAll (durable_of g) g
 
--- a history is legal just where each node acts as it may by itself, beginning with nothing kept, and each message is sent before it is taken
+-- a history is legal just where each node acts as it may by itself, beginning with nothing kept, and each message is sent before it is
+-- taken
 abbrev pub LawAssemble : Type 0
 LawAssemble =
     (initial : List Id) (h : History)
@@ -27,8 +29,10 @@ LawAssemble =
 abbrev pub LawAssembleRuns : Type 0
 LawAssembleRuns =
     (initial : List Id) (h : History) (runs : Id → List NodeHistory)
-    → ((n : Id) → AreRuns n NoActs (runs n)) → ((n : Id) → node_history h n ≡ then_runs NoActs (runs n)) → IsSourcedAll initial h → IsLegal initial h
+    → ((n : Id) → AreRuns n NoActs (runs n)) → ((n : Id) → node_history h n ≡ then_runs NoActs (runs n)) → IsSourcedAll initial h
+    → IsLegal initial h
 
 -- in a legal history each published state has as parent field the id of the state that it was made from
 abbrev pub LawParent : Type 0
-LawParent = (initial : List Id) (h : History) → IsLegal initial h → (p : Published) → Contains (published h) p → p.state.parent ≡ Some (id_of p.parent)
+LawParent = (initial : List Id) (h : History) → IsLegal initial h → (p : Published) → Contains (published h) p
+    → p.state.parent ≡ Some (id_of p.parent)

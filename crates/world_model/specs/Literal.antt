@@ -115,7 +115,8 @@ literal_term g = greatest ((first_record g).term ∷ all effective_start g)
 abbrev pub literal_accepted : NodeHistory → ClusterState
 literal_accepted g = unwrap_or (last effective_state g) (first_record g).accepted
 
--- the accepted configuration where an effective Commit follows that Publish or Bootstrap (or the first record), else the committed one of its state (or the first record's)
+-- the accepted configuration where an effective Commit follows that Publish or Bootstrap (or the first record), else the committed one of
+-- its state (or the first record's)
 abbrev pub literal_committed : NodeHistory → List Id
 literal_committed g =
     let came = option_map_or (λ (s : ClusterState). s.committed) (last effective_state g) (first_record g).committed in

@@ -1,4 +1,5 @@
--- Part of the statement: what a node is after its acts: its term, its accepted state, its votes and the like, each looked up among the acts.
+-- Part of the statement: what a node is after its acts: its term, its accepted state, its votes and the like, each looked up among the
+-- acts.
 use Rattle.std.specs.Prelude.{ℕ, Bool, false, cond, ◌||◌, None, List, []}
 pub use Rattle.cluster_state.specs.Initial.{empty_value, initial_state, empty_state, empty_record}
 use Rattle.std.specs.Prelude.{max}

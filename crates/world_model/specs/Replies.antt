@@ -41,7 +41,8 @@ after_check cause_of (Err cause) reply = Refused (cause_of cause)
 
 -- the join that a node sends
 abbrev pub join_from : Id → NodeState → Id → ℕ → Join
-join_from me p candidate term = record { source = me; target = candidate; term = term; last_term = p.accepted.term; last_version = p.accepted.version }
+join_from me p candidate term =
+    record { source = me; target = candidate; term = term; last_term = p.accepted.term; last_version = p.accepted.version }
 
 abbrev pub start_checked : NodeState → ℕ → Result (Unit {0}) StartCause
 start_checked p term =
@@ -50,7 +51,8 @@ start_checked p term =
     (Ok tt))
 
 abbrev pub start_reply : Id → NodeState → Id → ℕ → ActReply
-start_reply me p candidate term = after_check StartRefused (start_checked p term) (Taken (Some (JoinMessage (join_from me p candidate term))) false)
+start_reply me p candidate term =
+    after_check StartRefused (start_checked p term) (Taken (Some (JoinMessage (join_from me p candidate term))) false)
 
 abbrev pub join_reply : Id → NodeState → Join → ActReply
 join_reply me p j =
@@ -60,29 +62,45 @@ join_reply me p j =
 abbrev pub value_reply : Id → NodeState → ℕ → List Id → ClusterValue → ActReply
 value_reply me p version config value =
     cond (not p.election_won) (Refused (ValueRefused value_cause.NotWon))
-    (cond (not (nat_eq p.published_version p.accepted.version)) (Refused (ValueRefused (value_cause.NotAccepted p.published_version p.accepted.version)))
+    (cond (not (nat_eq p.published_version p.accepted.version))
+    (Refused (ValueRefused (value_cause.NotAccepted p.published_version p.accepted.version)))
     (cond (nat_le version p.published_version) (Refused (ValueRefused (value_cause.VersionNotGreater p.published_version version)))
     (cond (nat_lt last_number version) (Refused (ValueRefused (value_cause.VersionTooLarge version)))
-    (cond (not (same_config config p.accepted.config) && not (same_config p.committed p.accepted.config)) (Refused (ValueRefused value_cause.Reconfiguring))
+    (cond (not (same_config config p.accepted.config) && not (same_config p.committed p.accepted.config))
+    (Refused (ValueRefused value_cause.Reconfiguring))
     (cond (not (is_quorum_of config p.join_votes)) (Refused (ValueRefused value_cause.NoJoinQuorum))
-    (Taken (Some (PublishMessage (record { source = me; state = record { term = p.term; version = version; parent = Some (id_of p.accepted); config = config; committed = p.committed; value = value } }))) false))))))
+    (Taken (Some (PublishMessage
+    (record {
+      source = me;
+      state = record {
+        term = p.term;
+        version = version;
+        parent = Some (id_of p.accepted);
+        config = config;
+        committed = p.committed;
+        value = value;
+      };
+    }))) false))))))
 
 abbrev pub publish_reply : Id → NodeState → PublishRequest → ActReply
 publish_reply me p r =
     cond (not (nat_eq p.term r.state.term)) (Refused (PublishRefused (publish_cause.TermMismatch p.term r.state.term)))
-    (cond (nat_eq r.state.term p.accepted.term && nat_le r.state.version p.accepted.version) (Refused (PublishRefused (publish_cause.VersionNotGreater p.accepted.version r.state.version)))
+    (cond (nat_eq r.state.term p.accepted.term && nat_le r.state.version p.accepted.version)
+    (Refused (PublishRefused (publish_cause.VersionNotGreater p.accepted.version r.state.version)))
     (Taken (Some (ResponseMessage (record { source = me; target = r.source; term = r.state.term; version = r.state.version }))) false))
 
 abbrev pub commit_sent : Id → NodeState → PublishResponse → Option Message
 commit_sent me p r =
-    cond (commits p (with_id r.source p.publish_votes)) (Some (CommitMessage (record { source = me; term = r.term; version = r.version }))) None
+    cond (commits p (with_id r.source p.publish_votes)) (Some (CommitMessage (record { source = me; term = r.term; version = r.version })))
+    None
 
 abbrev pub response_reply : Id → NodeState → PublishResponse → ActReply
 response_reply me p r =
     cond (not (same r.target me)) (Refused (ResponseRefused (response_cause.NotForMe r.target)))
     (cond (not p.election_won) (Refused (ResponseRefused response_cause.NotWon))
     (cond (not (nat_eq p.term r.term)) (Refused (ResponseRefused (response_cause.TermMismatch p.term r.term)))
-    (cond (not (nat_eq p.published_version r.version)) (Refused (ResponseRefused (response_cause.VersionMismatch p.published_version r.version)))
+    (cond (not (nat_eq p.published_version r.version))
+    (Refused (ResponseRefused (response_cause.VersionMismatch p.published_version r.version)))
     (Taken (commit_sent me p r) false))))
 
 abbrev pub commit_reply : NodeState → ApplyCommit → ActReply
@@ -90,7 +108,8 @@ commit_reply p c =
     cond (not (nat_eq p.term c.term)) (Refused (CommitRefused (commit_cause.TermMismatch p.term c.term)))
     (cond (not (nat_eq p.accepted.term c.term)) (Refused (CommitRefused (commit_cause.AcceptedTermMismatch p.accepted.term c.term)))
     (cond (not (nat_eq p.accepted.version c.version)) (Refused (CommitRefused (commit_cause.VersionMismatch p.accepted.version c.version)))
-    (cond (p.election_won && not (nat_eq p.accepted.version p.published_version)) (Refused (CommitRefused (commit_cause.Publishing p.accepted.version p.published_version)))
+    (cond (p.election_won && not (nat_eq p.accepted.version p.published_version))
+    (Refused (CommitRefused (commit_cause.Publishing p.accepted.version p.published_version)))
     (Taken None false))))
 
 abbrev pub unless_halted : NodeState → ActReply → ActReply

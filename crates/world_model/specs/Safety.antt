@@ -14,7 +14,8 @@ pub record Win : Type 0 where
 
 abbrev pub winners : History → List Win
 winners NoEntries = []
-winners (Next h node act outcome) = cond (wins outcome) (winners h ++ record { node = node; term = term_of (node_history h node) } ∷ []) (winners h)
+winners (Next h node act outcome) =
+    cond (wins outcome) (winners h ++ record { node = node; term = term_of (node_history h node) } ∷ []) (winners h)
 
 -- a state that its publisher took from a client, over the state that it had accepted
 pub record Published : Type 0 where
@@ -23,7 +24,8 @@ pub record Published : Type 0 where
   pub parent : ClusterState
 
 abbrev pub published_by : History → Id → Outcome → List Published
-published_by h node (Answered (Taken (Some (PublishMessage request)) wins)) = record { publisher = node; state = request.state; parent = accepted_of (node_history h node) } ∷ []
+published_by h node (Answered (Taken (Some (PublishMessage request)) wins)) =
+    record { publisher = node; state = request.state; parent = accepted_of (node_history h node) } ∷ []
 published_by h node other = []
 
 abbrev pub published : History → List Published
@@ -32,7 +34,8 @@ published (Next h node act outcome) = published h ++ published_by h node outcome
 
 -- its commit was sent
 abbrev pub IsCommitted : History → Published → Type 0
-IsCommitted h p = Contains (published h) p × Contains (sent h) (CommitMessage (record { source = p.publisher; term = p.state.term; version = p.state.version }))
+IsCommitted h p = Contains (published h) p
+    × Contains (sent h) (CommitMessage (record { source = p.publisher; term = p.state.term; version = p.state.version }))
 
 -- state was made from ancestor, by one publication after another
 pub data Descends (h : History) (ancestor : ClusterState) : ClusterState → Type 0 where
@@ -67,10 +70,11 @@ pub record HoldsAnswers (h : History) : Type 0 where
   -- at each moment what a node keeps holds all that it answered for so far
   pub kept : (node : Id) (p : History) → IsPrefix p h → HoldsAll (durable_of (node_history p node)) (node_history p node)
   -- and so does the record of each opening
-  pub opened : (node : Id) (p : History) (found : Kept) (outcome : Outcome) → IsPrefix (Next p node (Open found) outcome) h → HoldsAll found (node_history p node)
+  pub opened : (node : Id) (p : History) (found : Kept) (outcome : Outcome) → IsPrefix (Next p node (Open found) outcome) h
+      → HoldsAll found (node_history p node)
 
--- What is promised of a history whose nodes all began with the state `root`: one winner a term; committed states of one version are equal, and
--- each descends from each of a lower version and from `root`; no node forgets what it answered for.
+-- What is promised of a history whose nodes all began with the state `root`: one winner a term; committed states of one version are equal,
+-- and each descends from each of a lower version and from `root`; no node forgets what it answered for.
 pub record IsSafeFrom (root : ClusterState) (h : History) : Type 0 where
   pub one_winner : (v w : Win) → Contains (winners h) v → Contains (winners h) w → v.term ≡ w.term → v.node ≡ w.node
   pub one_state : (p q : Published) → IsCommitted h p → IsCommitted h q → p.state.version ≡ q.state.version → p.state ≡ q.state

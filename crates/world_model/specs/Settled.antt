@@ -14,7 +14,8 @@ abbrev pub settled : Bool → NodeHistory → NodeHistory
 settled kept NoActs = NoActs
 settled kept (Then g act (Disk was)) = Then g act (Disk kept)
 settled kept (Then g act (Crashed was)) = Then g act (Crashed kept)
-settled kept (Then g act (Answered reply)) = if is_opening act then Then g act (Answered reply) else Then (settled kept g) act (Answered reply)
+settled kept (Then g act (Answered reply)) = if is_opening act then Then g act (Answered reply)
+    else Then (settled kept g) act (Answered reply)
 
 -- there is no such act
 abbrev pub IsUnstruck : NodeHistory → Type 0
@@ -42,8 +43,10 @@ is_kept g found = shows_as found (durable_of (settled true g))
 abbrev pub settled_entry : Bool → (before settled_before : History) → Id → Act → Outcome → History
 settled_entry kept before settled_before n act (Disk was) = Next before n act (Disk kept)
 settled_entry kept before settled_before n act (Crashed was) = Next before n act (Crashed kept)
-settled_entry kept before settled_before n act (Answered reply) = Next (if is_opening act then before else settled_before) n act (Answered reply)
+settled_entry kept before settled_before n act (Answered reply) =
+    Next (if is_opening act then before else settled_before) n act (Answered reply)
 
 abbrev pub settled_for : Id → Bool → History → History
 settled_for n kept NoEntries = NoEntries
-settled_for n kept (Next h node act outcome) = if same node n then settled_entry kept h (settled_for n kept h) node act outcome else Next (settled_for n kept h) node act outcome
+settled_for n kept (Next h node act outcome) = if same node n then settled_entry kept h (settled_for n kept h) node act outcome
+    else Next (settled_for n kept h) node act outcome

@@ -50,7 +50,8 @@ node_state_after p (Commit commit) o = record p {
 node_state_after p (Open found) o = p
 
 -- the look-ups over one more act are those of before, moved by this act
-pub node_state-Then : (g : NodeHistory) (act : Act) (o : Outcome) → is_opening act ≡ false → node_state (Then g act o) ≡ node_state_after (node_state g) act o
+pub node_state-Then : (g : NodeHistory) (act : Act) (o : Outcome) → is_opening act ≡ false
+    → node_state (Then g act o) ≡ node_state_after (node_state g) act o
 node_state-Then g (Bootstrap config) o h = refl
 node_state-Then g (StartJoin candidate term) o h = refl
 node_state-Then g (TakeJoin join) o h = refl

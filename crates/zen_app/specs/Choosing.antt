@@ -75,7 +75,8 @@ is_long l = nat_lt most_line_bytes (length (line_text l))
 
 -- so many bytes and lines, the two of the header not counted, and these lines after them pass a limit of a schedule
 abbrev pub is_full : (bytes lines : ℕ) → List Line → Bool
-is_full bytes lines more = nat_lt most_bytes (bytes + length (lines_text more)) || (nat_lt most_lines (2 + lines + length more) || list_any is_long more)
+is_full bytes lines more = nat_lt most_bytes (bytes + length (lines_text more))
+    || (nat_lt most_lines (2 + lines + length more) || list_any is_long more)
 
 abbrev pub unless_full : (bytes lines : ℕ) → Plan → Result Plan NoRescue
 unless_full bytes lines p = if is_full bytes lines p.lines then Err Full else Ok p

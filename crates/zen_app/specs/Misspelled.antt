@@ -8,8 +8,8 @@ use Rattle.schedule_text.specs.FirstBad.{IsFirstBad}
 use Rattle.schedule_text.specs.Printed.{bad_line}
 use Rattle.zen_app.specs.Reading.{read_of}
 
--- What was read of the bytes is no schedule of this level, and which line is bad and why was written: some schedule has the same lines before
--- it, and none has the same lines up to it.
+-- What was read of the bytes is no schedule of this level, and which line is bad and why was written: some schedule has the same lines
+-- before it, and none has the same lines up to it.
 pub record Refused (level : Level) (bytes : List ℕ) (was now : Option (List ℕ)) : Type 0 where
   pub bad : BadSchedule
   pub fault : fault_of level (read_of bytes) ≡ Some bad

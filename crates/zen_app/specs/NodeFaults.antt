@@ -20,7 +20,8 @@ status_by host.Failed = exit.HostFault
 status_by host.Memory = exit.NoMemory
 
 -- a status names the object that failed
-pub record NodeFaults {D L : Type 0} (disk_faults : D → ℕ) (link_faults : L → ℕ) (disk_back : Option D) (link_back : Option L) (host host_now sink sink_now : ℕ) (status : Status) : Type 0 where
+pub record NodeFaults {D L : Type 0} (disk_faults : D → ℕ) (link_faults : L → ℕ) (disk_back : Option D) (link_back : Option L)
+    (host host_now sink sink_now : ℕ) (status : Status) : Type 0 where
   pub read_fault : status ≡ exit.ReadFault → ⊥
   pub write_fault : status ≡ exit.WriteFault → Rose sink sink_now
   pub disk_fault : status ≡ exit.DiskFault → Failed disk_faults disk_back

@@ -39,7 +39,13 @@ turns_line = codes "zen: turns\n"
 
 -- what the words give a node
 abbrev pub settings_by : NodeWords → Settings
-settings_by w = record { me = w.link.me; peers = map (λ (p : ToldPeer). p.id) w.link.peers; initial = w.initial; voting_only = w.voting_only; shrink = w.shrink }
+settings_by w = record {
+  me = w.link.me;
+  peers = map (λ (p : ToldPeer). p.id) w.link.peers;
+  initial = w.initial;
+  voting_only = w.voting_only;
+  shrink = w.shrink;
+}
 
 -- the status, by how serving ended
 abbrev pub status_after : End → Status
@@ -77,17 +83,18 @@ abbrev pub IsSound : {X : Type 0} → (X → ℕ) → Option X → Type 0
 IsSound count back = (x : _) → back ≡ Some x → Rose 0 (count x) → ⊥
 
 module _ {D : Type 0} (d : Disks D) where
-  -- The journal on a disk was opened, with this record. A crash within it leaves what is opened as before, and a crash after it leaves this record.
+  -- The journal on a disk was opened, with this record. A crash within it leaves what is opened as before, and a crash after it leaves this
+  -- record.
   pub record OpensJournal (given opened : D) (kept : Kept) : Type 0 where
     pub found : d.told → found_of (d.seen given) ≡ Ok kept
     pub any_moment : d.told → LeavesOnly d.moment d.left_since given opened (FoundAsSome (d.may_leave given))
     pub leaves : d.told → (files : Files) → d.may_leave opened files → record_of_files files ≡ Some kept
 
-  -- A node that was opened with this record lived on to this life, and its disk went from one to the other. It did what the policy says, and its
-  -- acts keep the rules of the core by themselves. It went on by one entry after the other: at the end of each a crash leaves the record of all acts
-  -- by then, and within one that of what was done by then, without the act in hand or with it (`holds`). At the end whatever files a crash may leave
-  -- stand for the record of all acts, a last one that was struck counted as not kept or as kept. An act is struck only where the disk failed
-  -- meanwhile, and none is said to be one at which the node crashed.
+  -- A node that was opened with this record lived on to this life, and its disk went from one to the other. It did what the policy says,
+  -- and its acts keep the rules of the core by themselves. It went on by one entry after the other: at the end of each a crash leaves the
+  -- record of all acts by then, and within one that of what was done by then, without the act in hand or with it (`holds`). At the end
+  -- whatever files a crash may leave stand for the record of all acts, a last one that was struck counted as not kept or as kept. An act is
+  -- struck only where the disk failed meanwhile, and none is said to be one at which the node crashed.
   pub record LivesOn (s : Settings) (kept : Kept) (opened back : D) (life : Life) : Type 0 where
     pub follows : Follows s life
     pub local : IsLocal s.me (acts_of (log_of life))
@@ -96,16 +103,18 @@ module _ {D : Type 0} (d : Disks D) where
     pub struck : is_struck life ≡ true → Rose (d.faults opened) (d.faults back)
     pub uncrashed : has_crashed (acts_of (log_of life)) ≡ false
 
-module _ {D L : Type 0} (d : Disks D) (l : Links L Sealed) (w : NodeWords) (host host_now : HostView D L) (sink sink_now : SinkView) (status : Status) where
+module _ {D L : Type 0} (d : Disks D) (l : Links L Sealed) (w : NodeWords) (host host_now : HostView D L) (sink sink_now : SinkView)
+    (status : Status) where
   -- the host gave no disk, or no memory was found before it was asked
   pub record WithoutDisk : Type 0 where
-    pub asked : ((status ≡ exit.NoMemory) × (host_now.calls ≡ host.calls)) ⊎ ((status ≡ exit.HostFault) × (host_now.calls ≡ and_call host.calls (OpensDisk w.dir true)))
+    pub asked : ((status ≡ exit.NoMemory) × (host_now.calls ≡ host.calls))
+        ⊎ ((status ≡ exit.HostFault) × (host_now.calls ≡ and_call host.calls (OpensDisk w.dir true)))
     pub written : Appended sink.written sink_now.written []
     pub back : host_now.disk_back ≡ host.disk_back
     pub links : LeavesLinks host host_now
 
-  -- The host gave a disk whose journal was not opened, and was given it back. No device call was made but those of an opening: so what is read is as it
-  -- was, but for the header of a file of at most nine bytes.
+  -- The host gave a disk whose journal was not opened, and was given it back. No device call was made but those of an opening: so what is
+  -- read is as it was, but for the header of a file of at most nine bytes.
   pub record WithoutJournal : Type 0 where
     pub given : D
     pub is_given : IsGiven d.faults host.disk_ready given
@@ -148,8 +157,10 @@ module _ {D L : Type 0} (d : Disks D) (l : Links L Sealed) (w : NodeWords) (host
     pub end : End
     pub served : Option (List ℕ)
     pub wrote : ℕ
-    pub serves : Serves sent_of (entry_text (settings_by w)) (settings_by w) (Opened NotBegun kept) end sink.written served (l.told link) (l.told link_now)
-        (LivesOn d (settings_by w) kept opened back) (l.asked link) (l.asked link_now) w.turns (opening_text (settings_by w) (Opened NotBegun kept))
+    pub serves : Serves sent_of (entry_text (settings_by w)) (settings_by w) (Opened NotBegun kept) end sink.written served (l.told link)
+        (l.told link_now)
+        (LivesOn d (settings_by w) kept opened back) (l.asked link) (l.asked link_now) w.turns
+        (opening_text (settings_by w) (Opened NotBegun kept))
     pub causes : HasCauses (Some end) (d.faults given) (d.faults back) sink.faults wrote (l.faults link) (l.faults link_now)
     pub ends : EndsBy end served sink_now.written status
 
@@ -159,10 +170,11 @@ module _ {D L : Type 0} (d : Disks D) (l : Links L Sealed) (w : NodeWords) (host
     Unlinked : WithoutLink → NodeStages
     Served : Serving → NodeStages
 
-  -- how far a run of `node` came; and with no fault counted a journal that stands for a record is opened and served, until the link gives Stop, the
-  -- turns are over or memory runs out
+  -- how far a run of `node` came; and with no fault counted a journal that stands for a record is opened and served, until the link gives
+  -- Stop, the turns are over or memory runs out
   pub record NodeRun : Type 0 where
     pub came : NodeStages
     pub complete : (disk : D) → host.disk_ready ≡ Some disk → d.told → (kept : Kept) → found_of (d.seen disk) ≡ Ok kept
-        → (Rose host.faults host_now.faults → ⊥) → (Rose sink.faults sink_now.faults → ⊥) → IsSound d.faults host_now.disk_back → IsSound l.faults host_now.link_back
+        → (Rose host.faults host_now.faults → ⊥) → (Rose sink.faults sink_now.faults → ⊥) → IsSound d.faults host_now.disk_back
+        → IsSound l.faults host_now.link_back
         → (status ≡ exit.Ok) ⊎ ((status ≡ exit.Turns) ⊎ (status ≡ exit.NoMemory))

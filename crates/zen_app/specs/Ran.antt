@@ -68,10 +68,12 @@ ReplayEnds level bytes left_now was now exit.ReadFault = Appended was now []
 ReplayEnds level bytes left_now was now other = ⊥
 
 -- how a replay at this level ends, where the input held these bytes
-pub record Replays (level : Level) (bytes : List ℕ) (source source_now : SourceView) (sink sink_now : SinkView) (status : Status) : Type 0 where
+pub record Replays (level : Level) (bytes : List ℕ) (source source_now : SourceView) (sink sink_now : SinkView)
+    (status : Status) : Type 0 where
   pub ended : ReplayEnds level bytes source_now.left sink.written sink_now.written status
   -- whatever the status: of a schedule a prefix of its trace was written, and the history that the trace tells is legal and safe
-  pub traced : (s : Schedule) → Spells level bytes s → AppendedFront sink.written sink_now.written (trace_at level s) × IsSafeTraceAt level s
+  pub traced : (s : Schedule) → Spells level bytes s
+      → AppendedFront sink.written sink_now.written (trace_at level s) × IsSafeTraceAt level s
   -- a schedule, with no fault counted, is replayed to the end, unless memory runs out
   pub complete : (s : Schedule) → Spells level bytes s → (Rose source.faults source_now.faults → ⊥) → (Rose sink.faults sink_now.faults → ⊥)
       → (status ≡ exit.Ok) ⊎ (status ≡ exit.NoMemory)
@@ -97,8 +99,10 @@ pub record ReplayRun (level : Level) (source source_now : SourceView) (sink sink
   -- where the source tells its bytes
   pub replays : (bytes : List ℕ) → source.left ≡ Some bytes → Replays level bytes source source_now sink sink_now status
 
--- a run of `inspect --dir`: what the host was asked, what was written of the disk that it gave, and that a journal is shown where nothing fails
-pub record InspectRun {D L : Type 0} (d : Disks D) (dir : List ℕ) (host host_now : HostView D L) (sink sink_now : SinkView) (status : Status) : Type 0 where
+-- a run of `inspect --dir`: what the host was asked, what was written of the disk that it gave, and that a journal is shown where nothing
+-- fails
+pub record InspectRun {D L : Type 0} (d : Disks D) (dir : List ℕ) (host host_now : HostView D L) (sink sink_now : SinkView)
+    (status : Status) : Type 0 where
   pub end : Inspection
   pub is_status : status ≡ status_of end
   pub asked : Asked dir host.calls host_now.calls end
@@ -115,7 +119,8 @@ pub record GenerateRun (number steps : ℕ) (was now : Option (List ℕ)) (statu
 pub record AuditRun (source source_now : SourceView) (sink sink_now : SinkView) (status : Status) : Type 0 where
   pub end : AuditEnd
   pub is_status : status ≡ status_of_audit end
-  pub audited : Audited source.left source_now.left source.faults source_now.faults sink.written sink_now.written sink.faults sink_now.faults end
+  pub audited : Audited source.left source_now.left source.faults source_now.faults sink.written sink_now.written sink.faults
+      sink_now.faults end
 
 -- how a run ends whose words are no command
 abbrev pub RefusesWords : (was now : Option (List ℕ)) → Status → Type 0
@@ -124,8 +129,10 @@ RefusesWords was now exit.WriteFault = AppendedFront was now usage_line
 RefusesWords was now exit.NoMemory = Appended was now []
 RefusesWords was now other = ⊥
 
--- What a run does, by the command that its words are. A command that does not read leaves the source as it was, and one that opens nothing the host.
-abbrev pub Does : {D L : Type 0} (d : Disks D) (l : Links L Sealed) (source source_now : SourceView) (sink sink_now : SinkView) (host host_now : HostView D L) → Status → Option ProgramCommand → Type 0
+-- What a run does, by the command that its words are. A command that does not read leaves the source as it was, and one that opens nothing
+-- the host.
+abbrev pub Does : {D L : Type 0} (d : Disks D) (l : Links L Sealed) (source source_now : SourceView) (sink sink_now : SinkView)
+    (host host_now : HostView D L) → Status → Option ProgramCommand → Type 0
 Does d l source source_now sink sink_now host host_now status None =
     RefusesWords sink.written sink_now.written status × (source_now ≡ source) × (host_now ≡ host)
 Does d l source source_now sink sink_now host host_now status (Some (Replay level)) =
@@ -147,15 +154,16 @@ Does d l source source_now sink sink_now host host_now status (Some (UnsafeBoots
 Does d l source source_now sink sink_now host host_now status (Some (DetachCluster dir)) =
     ToolRun d tool.DetachCluster dir host host_now sink sink_now status × (source_now ≡ source)
 
--- how many bytes of the source are read at most: one more than a recorded trace has where the command is an audit, one more than a schedule has
--- otherwise
+-- how many bytes of the source are read at most: one more than a recorded trace has where the command is an audit, one more than a schedule
+-- has otherwise
 abbrev pub most_by : Option ProgramCommand → ℕ
 most_by (Some Audit) = most_audited
 most_by other = most_read
 
--- The whole clause: of the words, of what the source, the sink and the host told before the run and after it, and of the status. `d` and `l` are what
--- disks and links of this host tell.
-pub record Ran {D L : Type 0} (d : Disks D) (l : Links L Sealed) (words : List (List ℕ)) (source source_now : SourceView) (sink sink_now : SinkView) (host host_now : HostView D L) (status : Status) : Type 0 where
+-- The whole clause: of the words, of what the source, the sink and the host told before the run and after it, and of the status. `d` and
+-- `l` are what disks and links of this host tell.
+pub record Ran {D L : Type 0} (d : Disks D) (l : Links L Sealed) (words : List (List ℕ)) (source source_now : SourceView)
+    (sink sink_now : SinkView) (host host_now : HostView D L) (status : Status) : Type 0 where
   pub does : Does d l source source_now sink sink_now host host_now status (command_of words)
   pub read_at_most : ReadsAtMost (most_by (command_of words)) source.left source_now.left
   pub read_fault : status ≡ exit.ReadFault → Rose source.faults source_now.faults

@@ -34,8 +34,10 @@ pub record Unplanned (bytes : List ℕ) (ids : List Id) : Type 0 where
 
 -- what each status says, where the input held these bytes: just the lines of the plan were written, or just why there is none
 abbrev pub RescueEnds : (ids : List Id) → (bytes : List ℕ) → (left_now : Option (List ℕ)) → (was now : Option (List ℕ)) → Status → Type 0
-RescueEnds ids bytes left_now was now exit.Ok = (left_now ≡ Some []) × ((p : Planned bytes ids) × Appended was now (lines_text p.plan.lines))
-RescueEnds ids bytes left_now was now exit.RescueRefused = (left_now ≡ Some []) × ((u : Unplanned bytes ids) × Appended was now (no_rescue_line u.why))
+RescueEnds ids bytes left_now was now exit.Ok = (left_now ≡ Some [])
+    × ((p : Planned bytes ids) × Appended was now (lines_text p.plan.lines))
+RescueEnds ids bytes left_now was now exit.RescueRefused = (left_now ≡ Some [])
+    × ((u : Unplanned bytes ids) × Appended was now (no_rescue_line u.why))
 RescueEnds ids bytes left_now was now exit.BadSchedule = (left_now ≡ Some (unread_of bytes)) × Refused Core bytes was now
 RescueEnds ids bytes left_now was now exit.NoMemory = Appended was now []
 RescueEnds ids bytes left_now was now exit.WriteFault =
@@ -52,7 +54,8 @@ EndsBy (Ok p) status = (status ≡ exit.Ok) ⊎ (status ≡ exit.NoMemory)
 EndsBy (Err why) status = (status ≡ exit.RescueRefused) ⊎ (status ≡ exit.NoMemory)
 
 -- how a rescue of these nodes ends, where the input held these bytes
-pub record Rescues (ids : List Id) (bytes : List ℕ) (source source_now : SourceView) (sink sink_now : SinkView) (status : Status) : Type 0 where
+pub record Rescues (ids : List Id) (bytes : List ℕ) (source source_now : SourceView) (sink sink_now : SinkView)
+    (status : Status) : Type 0 where
   pub ended : RescueEnds ids bytes source_now.left sink.written sink_now.written status
   -- a schedule, with no fault counted, is answered, unless memory runs out
   pub complete : (s : Schedule) → Spells Core bytes s → (Rose source.faults source_now.faults → ⊥) → (Rose sink.faults sink_now.faults → ⊥)
@@ -68,8 +71,8 @@ MayEndRescue exit.ReadFault = Unit {0}
 MayEndRescue exit.WriteFault = Unit {0}
 MayEndRescue other = ⊥
 
--- A run of `rescue --up`: with status `Ok` the bytes read and then those written are a schedule, whose history is that of the bytes read, gone on
--- with by the acts of the plan, in which a node wins a new term and a new state is committed.
+-- A run of `rescue --up`: with status `Ok` the bytes read and then those written are a schedule, whose history is that of the bytes read,
+-- gone on with by the acts of the plan, in which a node wins a new term and a new state is committed.
 pub record RescueRun (ids : List Id) (source source_now : SourceView) (sink sink_now : SinkView) (status : Status) : Type 0 where
   pub ends : MayEndRescue status
   -- where the source tells its bytes

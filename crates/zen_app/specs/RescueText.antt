@@ -10,7 +10,8 @@ abbrev pub share_text : ℕ × ℕ → List ℕ
 share_text share = decimal share.0 ++ (codes "/" ++ decimal share.1)
 
 abbrev pub refused_text : RescueRefused → List ℕ
-refused_text (NoQuorum committed accepted) = codes "NoQuorum(" ++ (share_text committed ++ (codes "," ++ (share_text accepted ++ codes ")")))
+refused_text (NoQuorum committed accepted) = codes "NoQuorum("
+    ++ (share_text committed ++ (codes "," ++ (share_text accepted ++ codes ")")))
 refused_text (Exhausted term version) = codes "Exhausted(" ++ (decimal term ++ (codes "," ++ (decimal version ++ codes ")")))
 
 abbrev pub why_text : NoRescue → List ℕ

@@ -11,8 +11,8 @@ use Rattle.zen_app.specs.Choosing.{lines_text, rescue_of}
 use Rattle.zen_app.specs.declared.refusals.NoAnswer.{NoAnswer}
 use Rattle.zen_app.specs.declared.refusals.NoAnswer.TheVariants.{Bad, Refused, Memory}
 
--- The bytes of the schedule and then the lines of the plan are the schedule with these lines. Its history is the one before, gone on with by the
--- acts of the plan, and with them the node of the plan is a winner of its term, and a state of its term and version is committed.
+-- The bytes of the schedule and then the lines of the plan are the schedule with these lines. Its history is the one before, gone on with
+-- by the acts of the plan, and with them the node of the plan is a winner of its term, and a state of its term and version is committed.
 pub record IsRescue (bytes : List ℕ) (ids : List Id) (s : Schedule) (p : Plan) : Type 0 where
   pub spelled : Spells Core (bytes ++ lines_text p.lines) (with_lines s p.lines)
   pub goes_on : GoesOn s ids p

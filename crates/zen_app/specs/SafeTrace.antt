@@ -21,8 +21,8 @@ use Rattle.client_guarantees.specs.Replies.{RepliesTruly}
 
 -- ---- level core: the lines are single acts of the nodes
 
--- The trace of the schedule tells a legal history, and that very history is safe: no term has two winners, committed states of one version are
--- equal, each descends from every earlier committed one, and no node forgets what it answered for.
+-- The trace of the schedule tells a legal history, and that very history is safe: no term has two winners, committed states of one version
+-- are equal, each descends from every earlier committed one, and no node forgets what it answered for.
 pub record IsSafeTrace (s : Schedule) : Type 0 where
   pub legal : IsLegal s.initial (replayed s)
   pub safe : IsSafe s.initial (replayed s)
@@ -47,8 +47,8 @@ pub record LivesByPolicy (s : Schedule) (n : Id) : Type 0 where
 abbrev pub up_to : Schedule → List Line → Schedule
 up_to s first = record s { lines = first }
 
--- What the nodes did by the policy is a legal history, so they keep the rules of the core and take no message that was not sent. That very history
--- is safe, as at level core, and the trace tells it.
+-- What the nodes did by the policy is a legal history, so they keep the rules of the core and take no message that was not sent. That very
+-- history is safe, as at level core, and the trace tells it.
 pub record IsSafeClusterTrace (s : Schedule) : Type 0 where
   pub legal : IsLegal s.initial (replayed_history s)
   pub safe : IsSafe s.initial (replayed_history s)

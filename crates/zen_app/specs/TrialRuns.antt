@@ -15,7 +15,8 @@ abbrev pub trial_by : TrialWords → ToldTrial
 trial_by w = record { program = w.program; dir = w.dir; port = w.port; turns = w.turns }
 
 -- the calls that were made, and what was written; no disk and no link was given or given back
-pub record TrialRun {D L : Type 0} (w : TrialWords) (host host_now : HostView D L) (sink sink_now : SinkView) (status : Status) : Type 0 where
+pub record TrialRun {D L : Type 0} (w : TrialWords) (host host_now : HostView D L) (sink sink_now : SinkView)
+    (status : Status) : Type 0 where
   pub end : TrialEnd
   pub is_status : status ≡ status_of_trial end
   pub tried : Tried (trial_by w) host.calls host_now.calls sink.written sink_now.written end

@@ -12,15 +12,16 @@ ghost use Rattle.zen_app.specs.declared.status.Status.TheVariants as exit;
 
 use crate::Status;
 use schedule_replay::generate;
-use schedule_text::Text;
 use std::alloc::Global;
+use text::Text;
 use trace_summary::write_summary;
 use zen_link::{Sink, write_all};
 
 /// Replays so many lines of a number's schedule, and writes the summary of their trace.
 pub fn run_generate<S: Sink>(alloc: Global, number: u64, steps: u64, out: &mut S) -> Status
     requires { steps ≤ most_steps }
-    ensures says { SaysLine (summary_text (summary_of (trace_at Core (generated number steps)))) exit.Ok (S.written out.old) (S.written out.new) result }
+    ensures says { SaysLine (summary_text (summary_of (trace_at Core (generated number steps)))) exit.Ok (S.written out.old)
+        (S.written out.new) result }
     ensures write { result ≡ exit.WriteFault → Rose (S.faults out.old) (S.faults out.new) }
     ensures later { S.faults out.old ≤ S.faults out.new }
 {

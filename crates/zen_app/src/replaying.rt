@@ -8,8 +8,9 @@ ghost use Rattle.zen_app.specs.declared.status.Status.TheVariants as exit;
 
 use crate::Status;
 use schedule_replay::{ReplayError, write_trace};
-use schedule_text::{BadSchedule, Level, MAX_BYTES, ReadError, Text, read_schedule};
+use schedule_text::{BadSchedule, Level, MAX_BYTES, ReadError, read_schedule, write_bad_schedule};
 use std::alloc::Global;
+use text::Text;
 use zen_link::{InputError, Sink, Source, read_input, write_all};
 
 /// Reads a schedule of this level and writes its trace.
@@ -50,7 +51,7 @@ pub fn refuse_schedule<S: Sink>(alloc: Global, out: &mut S, bad: BadSchedule) ->
     ensures { Refusal (S.written out.old) (S.written out.new) (S.faults out.old) (S.faults out.new) (bad_line bad) exit.BadSchedule result }
 {
     let mut text = Text::new(alloc);
-    let Ok(()) = text.bad_schedule(&bad) else {
+    let Ok(()) = write_bad_schedule(&mut text, &bad) else {
         return Status::NoMemory;
     };
     let Ok(()) = write_all(out, text.as_bytes()) else {

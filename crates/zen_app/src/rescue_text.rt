@@ -6,8 +6,9 @@ ghost use Rattle.zen_app.specs.RescueText.{no_rescue_line, share_text, refused_t
 
 use crate::refusals::NoRescue;
 use rescue_plan::RescueRefused;
-use schedule_text::{Line, Text};
+use schedule_text::{Line, write_line};
 use std::alloc::AllocError;
+use text::Text;
 
 fn write_share(text: &mut Text, share: (usize, usize)) -> Result<(), AllocError>
     ensures { OnOk result (text.new ≡ text.old ++ share_text share) }
@@ -69,7 +70,7 @@ pub fn write_lines(text: &mut Text, lines: &[Line]) -> Result<(), AllocError>
     ensures { OnOk result (text.new ≡ text.old ++ with_feeds (map (λ l. line_text l) lines.now)) }
 {
     for line in lines {
-        text.line(line)?;
+        write_line(text, line)?;
         text.word("\n")?;
     }
     Ok(())

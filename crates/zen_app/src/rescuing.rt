@@ -20,15 +20,18 @@ use crate::rescue_text::{write_lines, write_no_rescue};
 use rescue_plan::{Plan, PlanError, plan};
 use schedule_replay::survey;
 use schedule_text::{
-    Level, Line, MAX_BYTES, MAX_LINE_BYTES, MAX_LINES, ReadError, Schedule, Text, read_schedule,
+    Level, Line, MAX_BYTES, MAX_LINE_BYTES, MAX_LINES, ReadError, Schedule, read_schedule,
+    write_line,
 };
 use std::alloc::{AllocError, Global};
+use text::Text;
 use voting_config::NodeSet;
 use zen_link::{InputError, Sink, Source, read_input, write_all};
 
 // Writes why there is no rescue.
 fn refuse<S: Sink>(alloc: Global, out: &mut S, why: NoRescue) -> Status
-    ensures { Refusal (S.written out.old) (S.written out.new) (S.faults out.old) (S.faults out.new) (no_rescue_line why) exit.RescueRefused result }
+    ensures { Refusal (S.written out.old) (S.written out.new) (S.faults out.old) (S.faults out.new) (no_rescue_line why) exit.RescueRefused
+        result }
 {
     let mut text = Text::new(alloc);
     let Ok(()) = write_no_rescue(&mut text, &why) else {
@@ -62,7 +65,7 @@ fn has_long(alloc: Global, lines: &[Line]) -> Result<bool, AllocError>
     let mut text = Text::new(alloc);
     for line in lines {
         text.clear();
-        text.line(line)?;
+        write_line(&mut text, line)?;
         if text.len() > MAX_LINE_BYTES {
             return Ok(true);
         }

@@ -15,9 +15,9 @@ use coordinator::Sealed;
 use journal_inspection::write_not_a_journal;
 use node_loop::{End, JournalNode, Node};
 use policy_model::{NodeIds, Settings};
-use schedule_text::Text;
 use state_journal::{OpenError, Why};
 use std::alloc::{AllocError, Global};
+use text::Text;
 use voting_config::NodeId;
 use zen_host::{Host, HostError};
 use zen_link::{Link, Peer, Sink, write_all};
@@ -146,7 +146,8 @@ pub fn run_node<L: Link<Out = Sealed> + Drop, H: Host<Link = L>>(
         (sink_view H.Out.Sink out.new)
         result }
     ensures held { H.held host.new ≡ H.held host.old }
-    ensures faults { NodeFaults H.Disk.faults L.faults (H.disk_back host.new) (H.link_back host.new) (H.faults host.old) (H.faults host.new) (H.Out.faults out.old) (H.Out.faults out.new) result }
+    ensures faults { NodeFaults H.Disk.faults L.faults (H.disk_back host.new) (H.link_back host.new) (H.faults host.old) (H.faults host.new)
+        (H.Out.faults out.old) (H.Out.faults out.new) result }
 {
     let Ok(settings) = settings(alloc, words) else {
         return Status::NoMemory;

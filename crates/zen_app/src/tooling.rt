@@ -40,7 +40,8 @@ pub fn use_on<H: Host>(
         (sink_view H.Out.Sink out.new)
         result }
     ensures held { H.held host.new ≡ H.held host.old }
-    ensures faults { NodeFaults H.Disk.faults H.Link.faults (H.disk_back host.new) (H.link_back host.new) (H.faults host.old) (H.faults host.new) (H.Out.faults out.old) (H.Out.faults out.new) result }
+    ensures faults { NodeFaults H.Disk.faults H.Link.faults (H.disk_back host.new) (H.link_back host.new) (H.faults host.old)
+        (H.faults host.new) (H.Out.faults out.old) (H.Out.faults out.new) result }
 {
     status_after(run_tool(alloc, tool, dir, out, host))
 }

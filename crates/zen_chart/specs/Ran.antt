@@ -48,13 +48,14 @@ pub record RefusedPrefix (bytes : List ℕ) (was now : Option (List ℕ)) : Type
 
 -- ---- how a run ends
 
--- What each status says, where the input held these bytes. So a trace ends with `Ok` and any other input with `BadTrace`, unless memory ran out or a
--- count of faults rose.
+-- What each status says, where the input held these bytes. So a trace ends with `Ok` and any other input with `BadTrace`, unless memory ran
+-- out or a count of faults rose.
 abbrev pub DrawEnds : (bytes : List ℕ) → (left_now : Option (List ℕ)) → (was now : Option (List ℕ)) → Status → Type 0
 DrawEnds bytes left_now was now exit.Ok = (left_now ≡ Some []) × Drawn bytes was now
 DrawEnds bytes left_now was now exit.BadTrace = (left_now ≡ Some (unread_of bytes)) × Refused bytes was now
 DrawEnds bytes left_now was now exit.NoMemory = Appended was now []
-DrawEnds bytes left_now was now exit.WriteFault = (left_now ≡ Some (unread_of bytes)) × (DrawnPrefix bytes was now ⊎ RefusedPrefix bytes was now)
+DrawEnds bytes left_now was now exit.WriteFault = (left_now ≡ Some (unread_of bytes))
+    × (DrawnPrefix bytes was now ⊎ RefusedPrefix bytes was now)
 DrawEnds bytes left_now was now exit.ReadFault = Appended was now []
 DrawEnds bytes left_now was now exit.Usage = ⊥
 

@@ -7,9 +7,10 @@ ghost use Rattle.zen_chart.specs.Ran.{Ran, RefusesWords};
 ghost use Rattle.zen_chart.specs.Runs.{DrawEnded, Refusal, UsageRun};
 
 use crate::status::Status;
-use schedule_text::{ReadError, Text};
+use schedule_text::ReadError;
 use sequence_chart::draw_trace;
 use std::alloc::Global;
+use text::Text;
 use trace_reader::{BadTrace, MAX_TRACE_BYTES, write_bad_trace};
 use zen_link::{InputError, Sink, Source, read_input, write_all};
 

@@ -1,4 +1,4 @@
-//! Runs in memory, one for each status that no lack of memory brings.
+//! Runs in memory, one for each status that no lack of memory brings. The statuses are those of docs/charts.md.
 
 use crate::running::run;
 use crate::status::Status;

@@ -1,4 +1,5 @@
--- For the contracts inside: what two files in memory may leave after a crash, by the log of each and the order of their records, the newest first.
+-- For the contracts inside: what two files in memory may leave after a crash, by the log of each and the order of their records, the newest
+-- first.
 use Rattle.std.specs.Prelude.{◌⊎◌, ℕ, ◌≤◌, List, [], ◌∷◌, length}
 use Rattle.std.proofs.Common.{inl, inr, arith}
 use Rattle.zen_disk.specs.Sides.{Sides, Files, on, put}
@@ -40,7 +41,8 @@ pub were-are : (order : List Side) (past : Sides (List UndoRecord)) (read : File
 were-are [] past read t c are = are
 were-are (side ∷ order) past read t c are = inl are
 
-pub only-last : (order : List Side) (past : Sides (List UndoRecord)) (read : Files) (c : Files) → WereImages order past read (length order) c
+pub only-last : (order : List Side) (past : Sides (List UndoRecord)) (read : Files) (c : Files)
+    → WereImages order past read (length order) c
     → AreImages past read c
 only-last [] past read c were = were
 only-last (side ∷ order) past read c (inl are) = are

@@ -69,7 +69,8 @@ impl MemFile {
     ) -> Result<(), AllocError>
         requires { at ≤ length self.old.bytes.items }
         ensures ok { OnOk result (self.new.bytes.items ≡ written self.old.bytes.items at bytes.now) }
-        ensures noted { OnOk result (past_in self.new.log ≡ Overwrote (overwrite_at at bytes.now self.old.bytes.items) ∷ past_in self.old.log) }
+        ensures noted { OnOk result
+            (past_in self.new.log ≡ Overwrote (overwrite_at at bytes.now self.old.bytes.items) ∷ past_in self.old.log) }
         ensures order { OnOk result (order.new.items ≡ order.old.items ++ side ∷ []) }
         ensures err { OnErr result (self.new.bytes.items ≡ self.old.bytes.items) }
         ensures err_log { OnErr result (past_in self.new.log ≡ past_in self.old.log) }

@@ -32,8 +32,8 @@ pub record ToldEnd : Type 0 where
 abbrev pub told_end : Ended → ToldEnd
 told_end ended = record { status = ended.status; output = ended.output.items }
 
--- A call, and whether it was refused as Failed; a wait is noted with how the child ended, unless it was refused. A child is named by the number of
--- the call that spawned it.
+-- A call, and whether it was refused as Failed; a wait is noted with how the child ended, unless it was refused. A child is named by the
+-- number of the call that spawned it.
 pub data HostCall : Type 0 where
   OpensDisk : (dir : List ℕ) → (refused : Bool) → HostCall
   OpensLink : (settings : ToldSettings) → (refused : Bool) → HostCall

@@ -3,8 +3,8 @@ use Rattle.std.specs.Prelude.{ℕ, Option, List}
 use Rattle.zen_host.specs.HostCalls.{HostCall}
 use Rattle.zen_host.specs.declared.host.Host.{Ghosts as Hosts}
 
--- What a host tells: the calls made, the disk and the link that it has ready and those that were given back last; how many children are held, which were
--- spawned and given neither to a wait nor to a kill; and how many faults there were.
+-- What a host tells: the calls made, the disk and the link that it has ready and those that were given back last; how many children are
+-- held, which were spawned and given neither to a wait nor to a kill; and how many faults there were.
 pub record HostView (D L : Type 0) : Type 0 where
   pub calls : Option (List HostCall)
   pub disk_ready : Option D

@@ -254,7 +254,8 @@ fn tell_link(
     settings: &LinkSettings,
     refused: bool,
 ) -> Result<(), AllocError>
-    ensures told { OnOk result (map call_of asked.new.items ≡ map call_of asked.old.items ++ OpensLink (told_settings settings.now) refused ∷ []) }
+    ensures told { OnOk result
+        (map call_of asked.new.items ≡ map call_of asked.old.items ++ OpensLink (told_settings settings.now) refused ∷ []) }
     ensures kept { OnErr result (asked.new.items ≡ asked.old.items) }
 {
     let settings = copy_settings(alloc, settings)?;
@@ -268,7 +269,8 @@ fn refuse_link(
     faults: &mut u64,
     settings: &LinkSettings,
 ) -> HostError
-    ensures told { result ≡ HostError.Failed → map call_of asked.new.items ≡ map call_of asked.old.items ++ OpensLink (told_settings settings.now) true ∷ [] }
+    ensures told { result ≡ HostError.Failed
+        → map call_of asked.new.items ≡ map call_of asked.old.items ++ OpensLink (told_settings settings.now) true ∷ [] }
     ensures kept { result ≡ HostError.Memory → asked.new.items ≡ asked.old.items }
     ensures rose { result ≡ HostError.Failed → Rose faults.old faults.new }
     ensures same { result ≡ HostError.Memory → faults.new ≡ faults.old }
@@ -298,7 +300,8 @@ fn tell_spawn(
     words: &[String],
     refused: bool,
 ) -> Result<(), AllocError>
-    ensures told { OnOk result (map call_of asked.new.items ≡ map call_of asked.old.items ++ Spawns program.now (map string_bytes words.now) refused ∷ []) }
+    ensures told { OnOk result
+        (map call_of asked.new.items ≡ map call_of asked.old.items ++ Spawns program.now (map string_bytes words.now) refused ∷ []) }
     ensures kept { OnErr result (asked.new.items ≡ asked.old.items) }
 {
     let program = String::from_str(alloc, program)?;
@@ -321,7 +324,8 @@ fn refuse_spawn(
     program: &str,
     words: &[String],
 ) -> HostError
-    ensures told { result ≡ HostError.Failed → map call_of asked.new.items ≡ map call_of asked.old.items ++ Spawns program.now (map string_bytes words.now) true ∷ [] }
+    ensures told { result ≡ HostError.Failed
+        → map call_of asked.new.items ≡ map call_of asked.old.items ++ Spawns program.now (map string_bytes words.now) true ∷ [] }
     ensures kept { result ≡ HostError.Memory → asked.new.items ≡ asked.old.items }
     ensures rose { result ≡ HostError.Failed → Rose faults.old faults.new }
     ensures same { result ≡ HostError.Memory → faults.new ≡ faults.old }
@@ -350,7 +354,8 @@ fn tell_end(
     child: usize,
     ended: &Ended,
 ) -> Result<(), AllocError>
-    ensures told { OnOk result (map call_of asked.new.items ≡ map call_of asked.old.items ++ WaitsFor child (Some (told_end ended.now)) ∷ []) }
+    ensures told { OnOk result
+        (map call_of asked.new.items ≡ map call_of asked.old.items ++ WaitsFor child (Some (told_end ended.now)) ∷ []) }
     ensures kept { OnErr result (asked.new.items ≡ asked.old.items) }
 {
     let ended = copy_end(alloc, ended)?;
@@ -408,15 +413,20 @@ impl<D: Disks + Drop, L: Link + Drop> Host for MemHost<D, L> {
 
     ghost faults = { λ host. host.faults };
 
-    ghost steps = { λ old new result. MemOpens old.fails.items new.fails.items old.number new.number old.disk new.disk old.faults new.faults result };
+    ghost steps = { λ old new result. MemOpens old.fails.items new.fails.items old.number new.number old.disk new.disk old.faults new.faults
+        result };
 
-    ghost link_steps = { λ old new result. MemOpens old.fails.items new.fails.items old.number new.number old.link new.link old.faults new.faults result };
+    ghost link_steps = { λ old new result. MemOpens old.fails.items new.fails.items old.number new.number old.link new.link old.faults
+        new.faults result };
 
-    ghost spawn_steps = { λ old new result. MemSpawns old.fails.items new.fails.items old.number new.number old.ends.items new.ends.items old.running old.faults new.faults result };
+    ghost spawn_steps = { λ old new result. MemSpawns old.fails.items new.fails.items old.number new.number old.ends.items new.ends.items
+        old.running old.faults new.faults result };
 
-    ghost wait_steps = { λ old new child result. MemWaits old.fails.items new.fails.items old.number new.number old.ends new.ends child old.faults new.faults result };
+    ghost wait_steps = { λ old new child result. MemWaits old.fails.items new.fails.items old.number new.number old.ends new.ends child
+        old.faults new.faults result };
 
-    ghost kill_steps = { λ old new result. MemKills old.fails.items new.fails.items old.number new.number old.ends new.ends old.faults new.faults result };
+    ghost kill_steps = { λ old new result. MemKills old.fails.items new.fails.items old.number new.number old.ends new.ends old.faults
+        new.faults result };
 
     fn open_disk(&mut self, dir: &str) -> Result<D, HostError> {
         self.number = self.number.saturating_add(1);

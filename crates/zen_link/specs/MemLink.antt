@@ -16,8 +16,8 @@ is_failed (Ok input) = false
 is_failed (Err Failed) = true
 is_failed (Err Memory) = false
 
--- A call fails exactly where its number is listed, and only one that fails counts a fault. What is given is the input whose turn it is, and then it is
--- the turn of the next one.
+-- A call fails exactly where its number is listed, and only one that fails counts a fault. What is given is the input whose turn it is, and
+-- then it is the turn of the next one.
 pub record MemNexts {O : Type 0} (old new : MemLink O) (result : Result Input LinkError) : Type 0 where
   pub number : new.calls ≡ next_number old.calls
   pub fails : new.fails ≡ old.fails

@@ -20,5 +20,6 @@ pub record MemWrites (old : MemSink) (bytes : List ℕ) (new : MemSink) (result 
   pub most : new.most ≡ old.most
   pub listed : is_listed old.fails.items new.calls ≡ true → is_ok result ≡ false
   pub count : IfOk result (λ count. count ≡ min (length bytes) old.most)
-  pub refused : is_ok result ≡ false → (is_listed old.fails.items new.calls ≡ true) ⊎ (vec_capacity old.bytes < vec_len old.bytes + min (length bytes) old.most)
+  pub refused : is_ok result ≡ false
+      → (is_listed old.fails.items new.calls ≡ true) ⊎ (vec_capacity old.bytes < vec_len old.bytes + min (length bytes) old.most)
   pub faults : is_ok result ≡ true → new.faults ≡ old.faults

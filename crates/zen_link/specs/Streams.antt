@@ -32,7 +32,8 @@ WritesAll was now bytes (Err e) = AppendedFront was now bytes
 -- where the source tells what is left, the read took a prefix of it, and nothing only at its end
 abbrev pub Left : Option (List ℕ) → Option (List ℕ) → (into : List ℕ) → (count : ℕ) → Type 0
 Left None now into count = now ≡ None
-Left (Some was) now into count = (take count into ≡ take count was) × (now ≡ Some (drop count was)) × (count ≤ length was) × (0 < length into → count ≡ 0 → was ≡ [])
+Left (Some was) now into count = (take count into ≡ take count was) × (now ≡ Some (drop count was)) × (count ≤ length was)
+    × (0 < length into → count ≡ 0 → was ≡ [])
 
 -- a read fills a prefix of the buffer; a refused one takes nothing
 abbrev pub Reads : Option (List ℕ) → Option (List ℕ) → (into : List ℕ) → Result ℕ Failed → Type 0

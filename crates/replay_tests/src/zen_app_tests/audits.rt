@@ -1,4 +1,4 @@
-//! Runs of `audit`.
+//! Runs of `audit`. The verdicts follow from what the traces show.
 use super::runs::{Call, Case, Fault, REPLAY, Written, all_end_by, ends};
 use crate::trace_audit_tests::{ELECTION, UNSENT};
 use std::alloc::{AllocError, Global};

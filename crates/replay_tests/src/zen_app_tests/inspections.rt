@@ -1,4 +1,5 @@
-//! Runs of `inspect` over disks in memory: what is shown of a journal, and how an inspection ends without one.
+//! Runs of `inspect` over disks in memory: what is shown of a journal, and how an inspection ends without one. The lines are
+//! those of docs/formats.md.
 use super::runs::{Call, Case, Fault, INSPECT, Written, all_end_by, ends, host_after};
 use std::alloc::{AllocError, Global};
 use std::test::Fail;

@@ -1,4 +1,4 @@
-//! Runs of `node` over links and disks in memory.
+//! Runs of `node` over links and disks in memory. The lines are those of docs/formats.md.
 use super::runs::{Call, Case, Fault, UNREAD, Written, all_end_by, ends, host_after};
 use std::alloc::{AllocError, Global};
 use std::test::Fail;

@@ -1,8 +1,9 @@
 //! Schedules that are drawn at random.
 use rand_core::utils::NextWord;
 use rand_pcg::Pcg32;
-use schedule_text::{Boxed, IdList, Line, Lines, MAX_ORDINAL, Schedule, SettingText};
+use schedule_text::{IdList, Line, Lines, MAX_ORDINAL, Schedule, SettingText};
 use std::alloc::{AllocError, Global};
+use text::Boxed;
 use voting_config::{NodeId, NodeSet};
 use zen_disk::Way;
 

@@ -1,9 +1,10 @@
-//! Schedules that are gone on with, and those that can't be.
+//! Schedules that are gone on with, and those that can't be. What is expected follows from docs/formats.md.
 use super::runs::{Call, Case, Fault, REPLAY, Written, all_end_by, ends, replays, written_by};
 use schedule_generator::Generator;
-use schedule_text::{Level, Text};
+use schedule_text::{Level, write_line};
 use std::alloc::{AllocError, Global};
 use std::test::Fail;
+use text::Text;
 use zen_app::Status;
 
 const UP_A: &[&str] = &["rescue", "--up", "a"];
@@ -243,7 +244,7 @@ fn drawn(alloc: Global, steps: u64) -> Result<Text, AllocError> {
     text.word("nodes a,b,c,d\ninitial a,b,c\n")?;
     for step in 0..steps {
         let line = generator.line(alloc, sent_before(step))?;
-        text.line(&line)?;
+        write_line(&mut text, &line)?;
         text.word("\n")?;
     }
     Ok(text)

@@ -3,8 +3,8 @@
 //!
 //! Where they come from: each trace was worked out from docs/protocol.md, docs/formats.md and the definitions of `world_model` by a second
 //! replay, written in another language for that alone, and the ends of nearly all in the three lists of `SAFE_` by a third. Those of whole
-//! nodes were worked out so from docs/policy.md. None is the program's own output. (Three lists in place of one, since a proof reads a list
-//! whole.)
+//! nodes were worked out so from docs/policy.md, but for that of an exclusion by name, by hand. None is the program's own output. (Three lists
+//! in place of one, since a proof reads a list whole.)
 use super::passages::*;
 
 /// A name, the header, and the trace.
@@ -1163,7 +1163,7 @@ pub const SAFE_PUBLICATIONS: [Traced; 4] = [
 ];
 
 /// Whole nodes: elections, requests of clients, and stops.
-pub const WHOLE_NODES: [Traced; 6] = [
+pub const WHOLE_NODES: [Traced; 7] = [
     (
         "a node elects itself, and acks a put at its commit",
         ONE,
@@ -1187,6 +1187,30 @@ pub const WHOLE_NODES: [Traced; 6] = [
                 "act a ok commit a 1/2",
                 r#"> client a {"id":2,"put":{"key":"k","value":"v"}}"#,
                 r#"reply a {"acked":{"term":1,"version":2},"id":2}"#,
+            ],
+        ],
+    ),
+    (
+        "a node is excluded before it is a member, and the exclusion is acked at the leader's own commit",
+        ONE,
+        &[
+            A_ELECTS_ITSELF,
+            A_PUBLISHES_FIRST_STATE,
+            A_COMMITS_FIRST_STATE,
+            &[
+                r#"> client a {"id":1,"exclude":["x"]}"#,
+                r#"act a ok value 2 a {"exclusions":["x"],"master":"a","members":["a"],"settings":{}}"#,
+                r#"m6 a->a publish {"committed":["a"],"config":["a"],"parent":{"term":1,"version":1},"term":1,"value":{"exclusions":["x"],"master":"a","members":["a"],"settings":{}},"version":2}"#,
+                "> deliver a 6",
+                r#"act a ok publish a {"committed":["a"],"config":["a"],"parent":{"term":1,"version":1},"term":1,"value":{"exclusions":["x"],"master":"a","members":["a"],"settings":{}},"version":2}"#,
+                "m7 a->a response 1/2",
+                "> deliver a 7",
+                "act a ok response a a 1/2",
+                r#"committed {"committed":["a"],"config":["a"],"parent":{"term":1,"version":1},"term":1,"value":{"exclusions":["x"],"master":"a","members":["a"],"settings":{}},"version":2}"#,
+                "m8 a->a commit 1/2",
+                "> deliver a 8",
+                "act a ok commit a 1/2",
+                r#"reply a {"acked":{"term":1,"version":2},"id":1}"#,
             ],
         ],
     ),

@@ -23,10 +23,10 @@ use coordinator::{Coordinator, Entries, Sealed};
 use event_text::{write_event, write_struck_event};
 use policy_model::{Event, NodeIds, Settings};
 use replay_node::disk::{crashed, empty_disk, restarted, stay_down};
-use schedule_text::Text;
 use state_journal::{Keeper, OpenError, StateJournal};
 use std::alloc::{AllocError, Global};
 use std::mem;
+use text::Text;
 use trace_text::{write_crashed, write_down, write_record, write_up};
 use voting_config::{NodeId, NodeSet};
 use wire_frames::Frame;
@@ -80,7 +80,9 @@ fn show_whole(
     frames: &mut Vec<SentFrame>,
     text: &mut Text,
 ) -> Result<(), AllocError>
-    ensures text { OnOk result (text.new ≡ text.old ++ event_results (length frames.old.items) me published.old sealed.now.entries.steps.list sealed.now.entries.drops.list sealed.now.sends.list sealed.now.replies.sent) }
+    ensures text { OnOk result
+        (text.new ≡ text.old ++ event_results (length frames.old.items) me published.old sealed.now.entries.steps.list
+        sealed.now.entries.drops.list sealed.now.sends.list sealed.now.replies.sent) }
     ensures published { OnOk result (published.new ≡ published_after published.old sealed.now.entries.steps.list) }
     ensures frames { OnOk result (frames.new.items ≡ frames.old.items ++ sealed.now.sends.list) }
 {
@@ -109,7 +111,9 @@ fn show_struck(
     crashed: bool,
     text: &mut Text,
 ) -> Result<(), AllocError>
-    ensures text { OnOk result ((count : ℕ) → text.new ≡ text.old ++ event_results count me published.old (told_as crashed entries.now.steps.list) entries.now.drops.list [] []) }
+    ensures text { OnOk result
+        ((count : ℕ) → text.new
+        ≡ text.old ++ event_results count me published.old (told_as crashed entries.now.steps.list) entries.now.drops.list [] []) }
     ensures published { OnOk result (published.new ≡ published_after published.old entries.now.steps.list) }
 {
     write_struck_event(
@@ -135,7 +139,10 @@ impl ClusterNode {
     ) -> Result<(), AllocError>
         requires fit { IsFitEvent event }
         requires stands { (s : SettingsOf) × (own : Own) × NodeFor s self.old own (is_start event) }
-        ensures { OnOk result (OwnDoes self.old self.new (is_start event) frames.old.items frames.new.items text.old text.new (λ s own. own_event_if_up s event own) (λ s own. own_frames_if_up s event own) (λ s count own. own_results_if_up s event count own)) }
+        ensures { OnOk result
+            (OwnDoes self.old self.new (is_start event) frames.old.items frames.new.items text.old text.new
+            (λ s own. own_event_if_up s event own) (λ s own. own_frames_if_up s event own)
+            (λ s count own. own_results_if_up s event count own)) }
     {
         let Slot::Open(node) = &mut self.slot else {
             return write_down(text, self.me);
@@ -179,7 +186,9 @@ impl ClusterNode {
         initial: &NodeSet,
         voting_only: &NodeSet,
     ) -> Result<ClusterNode, AllocError>
-        ensures { IfOk result (λ c. NodeFor (settings_in ids.now initial.now voting_only.now me) c (fresh_own (settings_in ids.now initial.now voting_only.now me)) false) }
+        ensures { IfOk result
+            (λ c. NodeFor (settings_in ids.now initial.now voting_only.now me) c
+            (fresh_own (settings_in ids.now initial.now voting_only.now me)) false) }
     {
         let mut node = first_node(alloc, me, ids, initial, voting_only)?;
         start(&mut node, alloc)?;
@@ -202,7 +211,10 @@ impl ClusterNode {
 
     /// The node crashes between two events: its disk stops. Writes `crashed` and the node, or `down` where it was down.
     pub fn crash(&mut self, alloc: Global, way: Way, text: &mut Text) -> Result<(), AllocError>
-        ensures { OnOk result ((frames : List FrameOf) → OwnDoes self.old self.new false frames frames text.old text.new (λ s own. own_crash way own) (λ s own. []) (λ s count own. stop_text s.me own.node)) }
+        ensures { OnOk result
+            ((frames : List FrameOf)
+            → OwnDoes self.old self.new false frames frames text.old text.new (λ s own. own_crash way own) (λ s own. [])
+            (λ s count own. stop_text s.me own.node)) }
     {
         match take_slot(&mut self.slot, alloc) {
             Slot::Down(fuse) => {
@@ -218,7 +230,8 @@ impl ClusterNode {
 
     /// Orders a stop or a fault of the node's disk.
     pub fn arm(&mut self, order: Order)
-        ensures { (frames : List FrameOf) (text : List ℕ) → OwnDoes self.old self.new false frames frames text text (λ s own. own_order order own) (λ s own. []) (λ s count own. []) }
+        ensures { (frames : List FrameOf) (text : List ℕ)
+            → OwnDoes self.old self.new false frames frames text text (λ s own. own_order order own) (λ s own. []) (λ s count own. []) }
     {
         match &mut self.slot {
             Slot::Open(node) => node.arm(order),
@@ -238,7 +251,8 @@ impl ClusterNode {
         text: &mut Text,
     ) -> Result<(), AllocError>
         requires { (own : Own) × NodeFor (settings_in ids.now initial.now voting_only.now self.old.me) self.old own false }
-        ensures { OnOk result (Reopens ids.now initial.now voting_only.now self.old self.new frames.old.items frames.new.items text.old text.new) }
+        ensures { OnOk result
+            (Reopens ids.now initial.now voting_only.now self.old self.new frames.old.items frames.new.items text.old text.new) }
     {
         match take_slot(&mut self.slot, alloc) {
             Slot::Down(fuse) => self.open(alloc, ids, initial, voting_only, fuse, frames, text),
@@ -265,7 +279,8 @@ impl ClusterNode {
         text: &mut Text,
     ) -> Result<(), AllocError>
         requires { (own : Own) × ClosedFor (settings_in ids.now initial.now voting_only.now self.old.me) self.old fuse own }
-        ensures { OnOk result (Restarts ids.now initial.now voting_only.now self.old self.new fuse frames.old.items frames.new.items text.old text.new) }
+        ensures { OnOk result
+            (Restarts ids.now initial.now voting_only.now self.old self.new fuse frames.old.items frames.new.items text.old text.new) }
     {
         match StateJournal::open(alloc, fuse) {
             Ok(journal) => {

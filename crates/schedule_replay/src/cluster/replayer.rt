@@ -18,8 +18,9 @@ use crate::cluster::sent_frame::SentFrame;
 use crate::places::place_of;
 use client_lines::Line as ClientLine;
 use policy_model::Event;
-use schedule_text::{Line, LineBytes, Schedule, Text};
+use schedule_text::{Line, LineBytes, Schedule, write_echo};
 use std::alloc::{AllocError, Global};
+use text::Text;
 use trace_text::write_down;
 use voting_config::{NodeId, NodeSet};
 use zen_disk::{Order, Way};
@@ -39,7 +40,9 @@ impl ClusterReplayer {
         initial: &NodeSet,
         voting_only: &NodeSet,
     ) -> Result<ClusterReplayer, AllocError>
-        ensures { IfOk result (λ r. ClusterFor ids.now initial.now voting_only.now r.nodes.items r.frames.items (fresh_cluster ids.now initial.now voting_only.now)) }
+        ensures { IfOk result
+            (λ r. ClusterFor ids.now initial.now voting_only.now r.nodes.items r.frames.items
+            (fresh_cluster ids.now initial.now voting_only.now)) }
     {
         let nodes = fresh_nodes(alloc, ids, initial, voting_only)?;
         // For the proof alone: a set ascends and has 32 ids at most.
@@ -59,10 +62,13 @@ impl ClusterReplayer {
         text: &mut Text,
     ) -> Result<(), AllocError>
         requires fits { FitsLine Node schedule.now.nodes line.now }
-        requires stands { (c : Cluster) × ClusterFor schedule.now.nodes schedule.now.initial schedule.now.voting_only self.old.nodes.items self.old.frames.items c }
-        ensures done { OnOk result (WritesLine schedule.now.nodes schedule.now.initial schedule.now.voting_only self.old.nodes.items self.new.nodes.items self.old.frames.items self.new.frames.items text.old text.new line.now) }
+        requires stands { (c : Cluster)
+            × ClusterFor schedule.now.nodes schedule.now.initial schedule.now.voting_only self.old.nodes.items self.old.frames.items c }
+        ensures done { OnOk result
+            (WritesLine schedule.now.nodes schedule.now.initial schedule.now.voting_only self.old.nodes.items self.new.nodes.items
+            self.old.frames.items self.new.frames.items text.old text.new line.now) }
     {
-        text.echo(line)?;
+        write_echo(text, line)?;
         match line {
             Line::Tick(n, now, word) => self.tick(alloc, schedule, *n, *now, *word, text),
             Line::Client(n, bytes) => self.client(alloc, schedule, *n, bytes, text),
@@ -91,8 +97,15 @@ impl ClusterReplayer {
         text: &mut Text,
     ) -> Result<(), AllocError>
         requires listed { has n schedule.now.nodes ≡ true }
-        requires stands { (c : Cluster) × ClusterFor schedule.now.nodes schedule.now.initial schedule.now.voting_only self.old.nodes.items self.old.frames.items c }
-        ensures done { OnOk result (DoesLine schedule.now.nodes schedule.now.initial schedule.now.voting_only self.old.nodes.items self.new.nodes.items self.old.frames.items self.new.frames.items text.old text.new (λ c. after_event_if_up (settings_of schedule.now.nodes schedule.now.initial schedule.now.voting_only n) c (event.Tick now word)) (λ c. event_shown_if_up (settings_of schedule.now.nodes schedule.now.initial schedule.now.voting_only n) c (event.Tick now word))) }
+        requires stands { (c : Cluster)
+            × ClusterFor schedule.now.nodes schedule.now.initial schedule.now.voting_only self.old.nodes.items self.old.frames.items c }
+        ensures done { OnOk result
+            (DoesLine schedule.now.nodes schedule.now.initial schedule.now.voting_only self.old.nodes.items self.new.nodes.items
+            self.old.frames.items self.new.frames.items text.old text.new
+            (λ c. after_event_if_up (settings_of schedule.now.nodes schedule.now.initial schedule.now.voting_only n) c
+            (event.Tick now word))
+            (λ c. event_shown_if_up (settings_of schedule.now.nodes schedule.now.initial schedule.now.voting_only n) c
+            (event.Tick now word))) }
     {
         self.event(alloc, schedule, n, Event::Tick { now, word }, text)
     }
@@ -107,8 +120,15 @@ impl ClusterReplayer {
         text: &mut Text,
     ) -> Result<(), AllocError>
         requires listed { has n schedule.now.nodes ≡ true }
-        requires stands { (c : Cluster) × ClusterFor schedule.now.nodes schedule.now.initial schedule.now.voting_only self.old.nodes.items self.old.frames.items c }
-        ensures done { OnOk result (DoesLine schedule.now.nodes schedule.now.initial schedule.now.voting_only self.old.nodes.items self.new.nodes.items self.old.frames.items self.new.frames.items text.old text.new (λ c. after_event_if_up (settings_of schedule.now.nodes schedule.now.initial schedule.now.voting_only n) c (event.Client 0 bytes.now)) (λ c. event_shown_if_up (settings_of schedule.now.nodes schedule.now.initial schedule.now.voting_only n) c (event.Client 0 bytes.now))) }
+        requires stands { (c : Cluster)
+            × ClusterFor schedule.now.nodes schedule.now.initial schedule.now.voting_only self.old.nodes.items self.old.frames.items c }
+        ensures done { OnOk result
+            (DoesLine schedule.now.nodes schedule.now.initial schedule.now.voting_only self.old.nodes.items self.new.nodes.items
+            self.old.frames.items self.new.frames.items text.old text.new
+            (λ c. after_event_if_up (settings_of schedule.now.nodes schedule.now.initial schedule.now.voting_only n) c
+            (event.Client 0 bytes.now))
+            (λ c. event_shown_if_up (settings_of schedule.now.nodes schedule.now.initial schedule.now.voting_only n) c
+            (event.Client 0 bytes.now))) }
     {
         let line = ClientLine::of(Vec::from_slice(alloc, bytes.as_slice())?);
         self.event(alloc, schedule, n, Event::Client { conn: 0, line }, text)
@@ -126,8 +146,13 @@ impl ClusterReplayer {
         requires listed { has n schedule.now.nodes ≡ true }
         requires fit { IsFitEvent event }
         requires later { is_start event ≡ false }
-        requires stands { (c : Cluster) × ClusterFor schedule.now.nodes schedule.now.initial schedule.now.voting_only self.old.nodes.items self.old.frames.items c }
-        ensures done { OnOk result (DoesLine schedule.now.nodes schedule.now.initial schedule.now.voting_only self.old.nodes.items self.new.nodes.items self.old.frames.items self.new.frames.items text.old text.new (λ c. after_event_if_up (settings_of schedule.now.nodes schedule.now.initial schedule.now.voting_only n) c event) (λ c. event_shown_if_up (settings_of schedule.now.nodes schedule.now.initial schedule.now.voting_only n) c event)) }
+        requires stands { (c : Cluster)
+            × ClusterFor schedule.now.nodes schedule.now.initial schedule.now.voting_only self.old.nodes.items self.old.frames.items c }
+        ensures done { OnOk result
+            (DoesLine schedule.now.nodes schedule.now.initial schedule.now.voting_only self.old.nodes.items self.new.nodes.items
+            self.old.frames.items self.new.frames.items text.old text.new
+            (λ c. after_event_if_up (settings_of schedule.now.nodes schedule.now.initial schedule.now.voting_only n) c event)
+            (λ c. event_shown_if_up (settings_of schedule.now.nodes schedule.now.initial schedule.now.voting_only n) c event)) }
     {
         let place = place_of(schedule.nodes.as_slice(), n);
         let nodes = self.nodes.as_mut_slice();
@@ -143,9 +168,14 @@ impl ClusterReplayer {
         text: &mut Text,
     ) -> Result<(), AllocError>
         requires listed { has n schedule.now.nodes ≡ true }
-        requires stands { (c : Cluster) × ClusterFor schedule.now.nodes schedule.now.initial schedule.now.voting_only self.old.nodes.items self.old.frames.items c }
+        requires stands { (c : Cluster)
+            × ClusterFor schedule.now.nodes schedule.now.initial schedule.now.voting_only self.old.nodes.items self.old.frames.items c }
         requires positive { 0 < ordinal }
-        ensures done { OnOk result (DoesLine schedule.now.nodes schedule.now.initial schedule.now.voting_only self.old.nodes.items self.new.nodes.items self.old.frames.items self.new.frames.items text.old text.new (λ c. after_frame (settings_of schedule.now.nodes schedule.now.initial schedule.now.voting_only n) c (frame_at c ordinal)) (λ c. frame_shown (settings_of schedule.now.nodes schedule.now.initial schedule.now.voting_only n) c (frame_at c ordinal))) }
+        ensures done { OnOk result
+            (DoesLine schedule.now.nodes schedule.now.initial schedule.now.voting_only self.old.nodes.items self.new.nodes.items
+            self.old.frames.items self.new.frames.items text.old text.new
+            (λ c. after_frame (settings_of schedule.now.nodes schedule.now.initial schedule.now.voting_only n) c (frame_at c ordinal))
+            (λ c. frame_shown (settings_of schedule.now.nodes schedule.now.initial schedule.now.voting_only n) c (frame_at c ordinal))) }
     {
         let runs = self.runs(schedule, n);
         match self.frames.as_slice().get((ordinal - 1) as usize) {
@@ -172,8 +202,11 @@ impl ClusterReplayer {
     // Whether the node runs.
     fn runs(&self, schedule: &Schedule, n: NodeId) -> bool
         requires listed { has n schedule.now.nodes ≡ true }
-        requires stands { (c : Cluster) × ClusterFor schedule.now.nodes schedule.now.initial schedule.now.voting_only self.now.nodes.items self.now.frames.items c }
-        ensures { (c : Cluster) → AllFor schedule.now.nodes schedule.now.initial schedule.now.voting_only schedule.now.nodes self.now.nodes.items c → result ≡ not (needs_opening (node_world c.world n)) }
+        requires stands { (c : Cluster)
+            × ClusterFor schedule.now.nodes schedule.now.initial schedule.now.voting_only self.now.nodes.items self.now.frames.items c }
+        ensures { (c : Cluster)
+            → AllFor schedule.now.nodes schedule.now.initial schedule.now.voting_only schedule.now.nodes self.now.nodes.items c
+            → result ≡ not (needs_opening (node_world c.world n)) }
     {
         let place = place_of(schedule.nodes.as_slice(), n);
         let nodes = self.nodes.as_slice();
@@ -189,8 +222,12 @@ impl ClusterReplayer {
         text: &mut Text,
     ) -> Result<(), AllocError>
         requires listed { has n schedule.now.nodes ≡ true }
-        requires stands { (c : Cluster) × ClusterFor schedule.now.nodes schedule.now.initial schedule.now.voting_only self.old.nodes.items self.old.frames.items c }
-        ensures done { OnOk result (DoesLine schedule.now.nodes schedule.now.initial schedule.now.voting_only self.old.nodes.items self.new.nodes.items self.old.frames.items self.new.frames.items text.old text.new (λ c. record c { world = crashed c.world n way }) (λ c. stop_text n (node_world c.world n))) }
+        requires stands { (c : Cluster)
+            × ClusterFor schedule.now.nodes schedule.now.initial schedule.now.voting_only self.old.nodes.items self.old.frames.items c }
+        ensures done { OnOk result
+            (DoesLine schedule.now.nodes schedule.now.initial schedule.now.voting_only self.old.nodes.items self.new.nodes.items
+            self.old.frames.items self.new.frames.items text.old text.new (λ c. record c { world = crashed c.world n way })
+            (λ c. stop_text n (node_world c.world n))) }
     {
         let place = place_of(schedule.nodes.as_slice(), n);
         let nodes = self.nodes.as_mut_slice();
@@ -205,8 +242,13 @@ impl ClusterReplayer {
         text: &mut Text,
     ) -> Result<(), AllocError>
         requires listed { has n schedule.now.nodes ≡ true }
-        requires stands { (c : Cluster) × ClusterFor schedule.now.nodes schedule.now.initial schedule.now.voting_only self.old.nodes.items self.old.frames.items c }
-        ensures done { OnOk result (DoesLine schedule.now.nodes schedule.now.initial schedule.now.voting_only self.old.nodes.items self.new.nodes.items self.old.frames.items self.new.frames.items text.old text.new (λ c. after_restart (settings_of schedule.now.nodes schedule.now.initial schedule.now.voting_only n) c) (λ c. restart_shown (settings_of schedule.now.nodes schedule.now.initial schedule.now.voting_only n) c)) }
+        requires stands { (c : Cluster)
+            × ClusterFor schedule.now.nodes schedule.now.initial schedule.now.voting_only self.old.nodes.items self.old.frames.items c }
+        ensures done { OnOk result
+            (DoesLine schedule.now.nodes schedule.now.initial schedule.now.voting_only self.old.nodes.items self.new.nodes.items
+            self.old.frames.items self.new.frames.items text.old text.new
+            (λ c. after_restart (settings_of schedule.now.nodes schedule.now.initial schedule.now.voting_only n) c)
+            (λ c. restart_shown (settings_of schedule.now.nodes schedule.now.initial schedule.now.voting_only n) c)) }
     {
         let place = place_of(schedule.nodes.as_slice(), n);
         let nodes = self.nodes.as_mut_slice();
@@ -222,8 +264,11 @@ impl ClusterReplayer {
 
     fn arm(&mut self, schedule: &Schedule, n: NodeId, order: Order)
         requires listed { has n schedule.now.nodes ≡ true }
-        requires stands { (c : Cluster) × ClusterFor schedule.now.nodes schedule.now.initial schedule.now.voting_only self.old.nodes.items self.old.frames.items c }
-        ensures done { (text : List ℕ) → DoesLine schedule.now.nodes schedule.now.initial schedule.now.voting_only self.old.nodes.items self.new.nodes.items self.old.frames.items self.new.frames.items text text (λ c. record c { world = ordered c.world n order }) (λ c. []) }
+        requires stands { (c : Cluster)
+            × ClusterFor schedule.now.nodes schedule.now.initial schedule.now.voting_only self.old.nodes.items self.old.frames.items c }
+        ensures done { (text : List ℕ)
+            → DoesLine schedule.now.nodes schedule.now.initial schedule.now.voting_only self.old.nodes.items self.new.nodes.items
+            self.old.frames.items self.new.frames.items text text (λ c. record c { world = ordered c.world n order }) (λ c. []) }
     {
         let place = place_of(schedule.nodes.as_slice(), n);
         let nodes = self.nodes.as_mut_slice();
@@ -238,7 +283,8 @@ fn fresh_nodes(
     names: &NodeSet,
     voting_only: &NodeSet,
 ) -> Result<Vec<ClusterNode>, AllocError>
-    ensures { IfOk result (λ nodes. AllFor ids.now names.now voting_only.now ids.now nodes.items (fresh_cluster ids.now names.now voting_only.now)) }
+    ensures { IfOk result
+        (λ nodes. AllFor ids.now names.now voting_only.now ids.now nodes.items (fresh_cluster ids.now names.now voting_only.now)) }
 {
     let mut nodes = Vec::new(alloc);
     let listed = ids.as_slice();

@@ -23,6 +23,6 @@ pub returns-in-Err-clause-takes : goal.returns-in-Err-clause-takes
 returns-in-Err-clause-takes g c s life intakes stands up reads = record {
   intake = Unread c.args.conn c.args.bytes.now;
   is = refl;
-  tells = c.tell_unread.ensures.tells s life stands up;
+  tells = c.report_unread.ensures.tells s life stands up;
   reads = unread_reads c.args.connections.now c.feed_at.new.connections c.args.conn c.args.bytes.now intakes c.requires.all reads c.in-Err.ensures.err;
 }

@@ -20,7 +20,7 @@ returns-in-Err-Failed-clause-turns g c s life intakes stands up reads =
 
 pub returns-in-Err-Memory-clause-turns : goal.returns-in-Err-Memory-clause-turns
 returns-in-Err-Memory-clause-turns g c s life intakes stands up reads =
-    turn_refused g.S.Steps.output (g.S.Steps.text s) s life intakes c.tell_no_memory.result (g.O.Sink.written c.args.out.now) (g.O.Sink.written c.tell_no_memory.new.out)
+    turn_refused g.S.Steps.output (g.S.Steps.text s) s life intakes c.report_no_memory.result (g.O.Sink.written c.args.out.now) (g.O.Sink.written c.report_no_memory.new.out)
     (g.L.Link.told c.args.link.now) (g.L.Link.told c.next.new.self) (HoldsBy g.S.Steps c.args.steps.now c.args.steps.now s life) c.args.connections.now (g.L.Link.asked c.args.link.now) (g.L.Link.asked c.next.new.self)
-    reads c.in-Err-Memory.ensures.takes c.tell_no_memory.ensures.stop (c.tell_no_memory.ensures.refused s life (g.L.Link.told c.args.link.now) up stands)
-    c.next.ensures.asked c.tell_no_memory.ensures.others.0
+    reads c.in-Err-Memory.ensures.takes c.report_no_memory.ensures.stop (c.report_no_memory.ensures.refused s life (g.L.Link.told c.args.link.now) up stands)
+    c.next.ensures.asked c.report_no_memory.ensures.others.0

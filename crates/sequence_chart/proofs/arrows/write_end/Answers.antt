@@ -1,5 +1,5 @@
 use Rattle.std.proofs.Common.{codes}
-use Rattle.schedule_text.proofs.Written.{three_written}
+use Rattle.text.proofs.Written.{three_written}
 use Rattle.sequence_chart.specs.Elements.{at_place, end_at}
 use Rattle.sequence_chart.proofs.arrows.write_end.Goals as goal
 

@@ -1,5 +1,5 @@
 use Rattle.std.proofs.Common.{codes}
-use Rattle.schedule_text.proofs.Written.{three_written}
+use Rattle.text.proofs.Written.{three_written}
 use Rattle.sequence_chart.specs.Elements.{form, mark_of}
 use Rattle.sequence_chart.proofs.marks.write_form.Goals as goal
 

@@ -1,6 +1,6 @@
 use Rattle.std.proofs.Common.{decimal}
 use Rattle.schedule_text.specs.Printed.{reason_text}
-use Rattle.schedule_text.proofs.Written.{three_written}
+use Rattle.text.proofs.Written.{three_written}
 use Rattle.trace_reader.proofs.fault.write_bad_trace.Goals as goal
 
 pub returns : goal.returns

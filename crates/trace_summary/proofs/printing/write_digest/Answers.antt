@@ -1,5 +1,5 @@
 use Rattle.std.specs.Prelude.{codes}
-use Rattle.schedule_text.proofs.Written.{three_written}
+use Rattle.text.proofs.Written.{three_written}
 use Rattle.trace_summary.specs.Printed.{hex_text}
 use Rattle.trace_summary.proofs.printing.write_digest.Goals as goal
 

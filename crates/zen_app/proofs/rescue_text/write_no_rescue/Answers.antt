@@ -1,4 +1,4 @@
-use Rattle.schedule_text.proofs.Written.{three_written}
+use Rattle.text.proofs.Written.{three_written}
 use Rattle.zen_app.proofs.rescue_text.write_no_rescue.Goals as goal
 
 pub returns : goal.returns

@@ -4,4 +4,4 @@ use Rattle.coordinator.proofs.coordinator.Coordinator.plan_of.Goals as goal
 
 pub returns : goal.returns
 returns g c =
-    same_plan c.args.self.now.settings (view_in g.K.Keeper c.args.self.now) c.in_ok-plan.plan c.term.result c.votes.result c.in_ok-tasks.tasks c.args.tasks.now c.term.ensures.term c.votes.ensures c.in_ok-tasks.ensures c.in_ok-plan.ensures
+    same_plan c.args.self.now.settings (view_in g.K.Keeper c.args.self.now) c.in_ok-plan.plan c.term.result c.votes.result c.args.tasks.now c.term.ensures.term c.votes.ensures c.in_ok-plan.ensures

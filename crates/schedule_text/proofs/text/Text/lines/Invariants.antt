@@ -1,7 +1,0 @@
-use Rattle.std.proofs.Common.{◌≡◌, ◌++◌, map, drop}
-use Rattle.schedule_text.specs.Lines.{line_text}
-use Rattle.schedule_text.specs.Spelled.{with_feeds}
-use Rattle.schedule_text.proofs.text.Text.lines.Given as goal
-
-abbrev pub invariant-loop-line : goal.invariant-loop-line
-invariant-loop-line l = l.self ++ with_feeds (map line_text (drop l.line-index l.lines)) ≡ l.initial.self ++ with_feeds (map line_text l.lines)
