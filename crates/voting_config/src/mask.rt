@@ -1,0 +1,64 @@
+//! `Mask`: a configuration as a word over a roster.
+ghost use Rattle.std.specs.Prelude.{◌≡◌, ◌<◌, ◌^◌, cond, bit_or, length, IsTrue, []};
+ghost use Rattle.voting_config.specs.Ids.{has};
+ghost use Rattle.voting_config.specs.Rosters.{are_distinct, mask_of, is_quorum_mask};
+
+use crate::config::VotingConfig;
+use crate::node_id::NodeId;
+use crate::node_set::NodeSet;
+use crate::roster::{Roster, quorum_mask, with_bit};
+
+/// A configuration, and a word that tells which of the ids of a roster are in it. Whoever holds it mends the word as the roster grows.
+#[derive(Drop)]
+pub struct Mask {
+    config: VotingConfig,
+    word: u64,
+}
+
+impl Mask {
+    /// The empty configuration.
+    pub fn new() -> Mask
+        ensures { result ≡ record { config = []; word = 0 } }
+    {
+        Mask {
+            config: VotingConfig::of(&NodeSet::new()),
+            word: 0,
+        }
+    }
+
+    /// Sets the bit of an id that was put on the roster at this place, where the configuration has it.
+    pub fn mend(&mut self, id: NodeId, place: u8)
+        requires { place < 64 }
+        ensures { self.new ≡ record self.old { word = cond (has id self.old.config) (bit_or self.old.word (2 ^ place)) self.old.word } }
+    {
+        if self.config.members().contains(id) {
+            self.word = with_bit(self.word, place);
+        }
+    }
+
+    /// Makes it the word over this roster.
+    pub fn renew(&mut self, roster: &Roster)
+        ensures { self.new ≡ record self.old { word = mask_of roster.now self.old.config } }
+    {
+        self.word = roster.mask(self.config.members());
+    }
+
+    /// Makes it that of this configuration, where it is not.
+    pub fn stand_for(&mut self, config: &VotingConfig, roster: &Roster)
+        requires { self.old.word ≡ mask_of roster.now self.old.config }
+        ensures { self.new ≡ record { config = config.now; word = mask_of roster.now config.now } }
+    {
+        if !self.config.is_same(config) {
+            self.config.copy_from(config.members());
+            self.renew(roster);
+        }
+    }
+
+    /// Whether votes are a quorum of it, as a word over the same roster.
+    pub fn is_quorum(&self, votes: u64) -> bool
+        ensures value { result ≡ is_quorum_mask votes self.now.word (length self.now.config) }
+        ensures distinct { IsTrue (are_distinct self.now.config) }
+    {
+        quorum_mask(votes, self.word, self.config.members().as_slice().len())
+    }
+}
