@@ -1,16 +1,16 @@
 -- What a bit more or less, and an id more on the roster, make of the set that a word is.
-use Rattle.std.proofs.Common.{◌≡◌, ◌≢◌, ℕ, suc, ◌+◌, ◌-◌, ◌*◌, ◌^◌, ◌≤◌, ◌<◌, min, max, Bool, true, false, cond, Some, None, ◌&&◌, ◌||◌, List, [], ◌∷◌, ◌++◌, length, count_by, refl, sym, ◌∙◌, ap, subst, arith, nat_lt, w64}
-use Rattle.std.specs.Prelude.{bit_and, bit_or, count_ones, nat_eq}
+use Rattle.std.proofs.Common.{◌≡◌, ℕ, ◌+◌, ◌*◌, ◌^◌, ◌≤◌, ◌<◌, Bool, true, false, cond, Some, ◌&&◌, ◌||◌, List, [], ◌∷◌, ◌++◌, length, count_by, refl, sym, ◌∙◌, ap, subst, arith, nat_lt, w64}
+use Rattle.std.specs.Prelude.{bit_and, bit_or, count_ones}
 use Rattle.std.specs.Int.{bit_at, bit_not}
 use Rattle.std.specs.Int.Bits.{or_shifted_r, and_self}
-use Rattle.std.proofs.lemmas.Bool.{and_parts, and_from}
+use Rattle.std.proofs.lemmas.Bool.{and_from}
 use Rattle.std.proofs.lemmas.List.Sums.{sum_by-cons}
 use Rattle.std.proofs.lemmas.Nat.{and_le_l, or_lt, pow_below}
 use Rattle.std.proofs.lemmas.Nat.Bits.{bit_at_and, bit_at_or, bit_at_not, bit_at-lt, bit_at-pow_same, bit_at-pow_other}
 use Rattle.voting_config.specs.Ids.{Id, same, has, with_id, without_id, set_of, are_among, is_quorum_of, most_ids, IsIdSet}
 use Rattle.voting_config.specs.Rosters.{are_distinct, IsRoster, place_on, mask_of, ids_at, marked, is_quorum_mask}
 use Rattle.voting_config.proofs.Sets.{same_self}
-use Rattle.voting_config.proofs.Rosters.{at_roster, ascends-set_of, place_some, place-within, marked-with, marked-without, ids_at-append, mask_of-append, mask_of-lt, mask_of-marked, ones_shared, count_both, count_all_on, distinct_of, spot}
+use Rattle.voting_config.proofs.Rosters.{at_roster, ascends-set_of, place_some, place-within, marked-with, marked-without, ids_at-append, mask_of-append, mask_of-lt, mask_of-marked, ones_shared, count_both, count_all_on, distinct_of}
 
 -- the bit of an id set, and cleared
 

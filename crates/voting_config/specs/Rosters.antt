@@ -1,5 +1,5 @@
 -- Part of the statement: ids in the order of their first sight, and sets of them as words of bits.
-use Rattle.std.specs.Prelude.{◌≡◌, ℕ, ◌+◌, ◌*◌, ◌/◌, ◌%◌, ◌≤◌, Bool, true, not, ◌&&◌, Option, List, [], ◌∷◌, ◌++◌, length, position, IsTrue, nat_eq, nat_lt, bit_and, count_ones, if◌then◌else◌}
+use Rattle.std.specs.Prelude.{◌≡◌, ℕ, ◌+◌, ◌*◌, ◌/◌, ◌%◌, ◌^◌, ◌<◌, ◌≤◌, Bool, true, not, ◌&&◌, Option, List, [], ◌∷◌, ◌++◌, length, position, IsTrue, nat_eq, nat_lt, bit_and, count_ones, if◌then◌else◌}
 use Rattle.std.specs.List.{list_all}
 use Rattle.voting_config.specs.Ids.{Id, has, same, is_id, most_ids, set_of, are_among, is_quorum_of, IsIdSet}
 
@@ -35,6 +35,11 @@ ids_at (id ∷ roster) word = if nat_eq (word % 2) 1 then id ∷ ids_at roster (
 -- the set that a word is over a roster
 abbrev pub marked : List Id → ℕ → List Id
 marked roster word = set_of (ids_at roster word)
+
+-- what a tally is: a roster, and a word with no bit behind its ids
+pub record IsTally (roster : List Id) (word : ℕ) : Type 0 where
+  pub is_roster : IsRoster roster
+  pub within : word < 2 ^ length roster
 
 -- the votes are more than half of a configuration of this size, each as a word over one roster
 abbrev pub is_quorum_mask : ℕ → ℕ → ℕ → Bool
