@@ -1,5 +1,7 @@
 //! `SharedState`: a cluster state that all who have it hold in one place, as do those who have its configuration or its value alone.
 ghost use Rattle.std.specs.Prelude.{◌≡◌, ◌↔◌, Ok, IfOk, IfErr, IfSome, IsTrue, length};
+ghost use Rattle.serde_json.specs.Written.{compact_text};
+ghost use Rattle.cluster_state.specs.Json.{state_json};
 ghost use Rattle.cluster_state.specs.Shared.{first_of};
 ghost use Rattle.cluster_state.specs.States.{state as state_field, whole, IsFit};
 
@@ -13,7 +15,7 @@ use std::rc::Rc;
 use voting_config::VotingConfig;
 
 /// A cluster state that all who have it hold in one place, so that handing it on copies none of it. Beside it lie its bytes, where it came as bytes or
-/// was spelled to be published, so that whoever writes them copies them. Contracts see the state.
+/// was spelled to be published, and its JSON in the second case, so that whoever writes them copies them. Contracts see the state.
 #[derive(Drop)]
 pub struct SharedState {
     // A list of one: a state is large, and moves into the room of a list as it is, where a call that may hand it back moves it through places
@@ -64,8 +66,8 @@ impl SharedState {
         SharedState::place(alloc, SpelledState::unknown(state))
     }
 
-    /// [`of`](SharedState::of) for a state that is to be written more than once: where it is within the limits it is spelled here, and its bytes are
-    /// kept beside it.
+    /// [`of`](SharedState::of) for a state that is to be written and shown more than once: where it is within the limits it is spelled here, and its
+    /// bytes and its JSON are kept beside it.
     pub fn spell(alloc: Global, state: ClusterState) -> Result<SharedState, AllocError>
         ensures { IfOk result (λ s. s ≡ state) }
     {
@@ -107,6 +109,13 @@ impl SharedState {
         ensures { IfSome result (λ view. view ≡ self.now) }
     {
         self.spelled().view()
+    }
+
+    /// The state as compact JSON, as [`to_json`](crate::json::to_json) makes it, where it is known.
+    pub fn json(&self) -> Option<&[u8]>
+        ensures { IfSome result (λ json. json.now ≡ compact_text (state_json self.now)) }
+    {
+        self.spelled().json()
     }
 
     /// Whether it is within the limits, so that it has a spelling, as [`ClusterState::is_fit`] has it. What has bytes is.

@@ -1,22 +1,28 @@
-//! A state beside its bytes, where they are known.
+//! A state beside its bytes and its JSON, where they are known.
 ghost use Rattle.std.specs.Prelude.{◌≡◌, Ok, IfOk, IfSome};
+ghost use Rattle.serde_json.specs.Written.{compact_text};
+ghost use Rattle.cluster_state.specs.Json.{state_json};
 ghost use Rattle.cluster_state.specs.States.{state as state_field, whole};
 
 use crate::encoding::encode_state;
+use crate::json::to_json;
 use crate::state::ClusterState;
 use crate::view::StateView;
 use std::alloc::{AllocError, Global};
 use std::marker::Model;
 
-/// A state beside its bytes, where they are known, so that it is spelled no more than once. Contracts see the state.
+/// A state beside its bytes and its JSON, where they are known, so that it is spelled no more than once. Contracts see the state.
 #[derive(Drop)]
 pub(crate) struct SpelledState {
     state: ClusterState,
     bytes: Option<Vec<u8>>,
+    json: Option<Vec<u8>>,
 }
 
 impl Model for SpelledState {
     ghost use Rattle.std.specs.Prelude.{◌≡◌, Ok, IfSome};
+    ghost use Rattle.serde_json.specs.Written.{compact_text};
+    ghost use Rattle.cluster_state.specs.Json.{state_json};
     ghost use Rattle.cluster_state.specs.States.{state as state_field, whole};
     ghost use Rattle.cluster_state.specs.declared.state.ClusterState.{ClusterState};
 
@@ -24,18 +30,23 @@ impl Model for SpelledState {
 
     ghost view = { λ s. s.state };
 
-    ghost invariant = { λ s. IfSome s.bytes (λ b. whole (state_field.at b.items) ≡ Ok s.state) };
+    ghost invariant = { λ s. IfSome s.bytes (λ b. whole (state_field.at b.items) ≡ Ok s.state)
+        × IfSome s.json (λ j. j.items ≡ compact_text (state_json s.state)) };
 }
 
 impl SpelledState {
-    // This state, whose bytes are not known.
+    // This state, whose bytes and JSON are not known.
     pub(crate) fn unknown(state: ClusterState) -> SpelledState
         ensures { result ≡ state }
     {
-        SpelledState { state, bytes: None }
+        SpelledState {
+            state,
+            bytes: None,
+            json: None,
+        }
     }
 
-    // This state beside its bytes, where it is within the limits.
+    // This state beside its bytes and its JSON, where it is within the limits.
     pub(crate) fn spell(alloc: Global, state: ClusterState) -> Result<SpelledState, AllocError>
         ensures { IfOk result (λ s. s ≡ state) }
     {
@@ -43,9 +54,11 @@ impl SpelledState {
             return Ok(SpelledState::unknown(state));
         }
         let bytes = encode_state(alloc, &state)?;
+        let json = to_json(alloc, &state)?;
         Ok(SpelledState {
             state,
             bytes: Some(bytes),
+            json: Some(json),
         })
     }
 
@@ -63,6 +76,7 @@ impl SpelledState {
         Ok(SpelledState {
             state,
             bytes: Some(copied),
+            json: None,
         })
     }
 
@@ -85,6 +99,16 @@ impl SpelledState {
         match &self.bytes {
             None => None,
             Some(bytes) => Some(StateView::of_checked(bytes)),
+        }
+    }
+
+    // The state's JSON, where it is known.
+    pub(crate) fn json(&self) -> Option<&[u8]>
+        ensures { IfSome result (λ json. json.now ≡ compact_text (state_json self.now)) }
+    {
+        match &self.json {
+            None => None,
+            Some(json) => Some(json.as_slice()),
         }
     }
 }
