@@ -32,7 +32,7 @@ use Rattle.policy_model.specs.declared.events.Mode.TheVariants.{Candidate, Leade
 use Rattle.policy_model.specs.declared.events.Event.{Event}
 use Rattle.policy_model.specs.declared.events.Event.TheVariants.{Start, Tick, Frame as FrameCame, Client as LineCame}
 use Rattle.policy_model.specs.declared.events.DropCause.{DropCause}
-use Rattle.policy_model.specs.Events.{Met, Heard, PeersAsked, ElectionOff, ElectionSet, RoundBegun, RoundAnswered, RoundEnded, Joined, FollowersChecked, FollowerAnswered, LeaderChecked, LeaderAnswered, Queued, ExclusionsTimedOut, CommitAcked, ExclusionsAcked, StateMade, HandedOver, Item, Opens, Begins, Acts, Turns, Drops, Sends, Replies, Notes, Log, And, added}
+use Rattle.policy_model.specs.Events.{Met, Heard, PeersAsked, ElectionOff, ElectionSet, RoundBegun, RoundAnswered, RoundEnded, Joined, FollowersChecked, FollowerAnswered, LeaderChecked, LeaderAnswered, Queued, ExclusionsTimedOut, CommitAcked, ExclusionsAcked, StateMade, HandedOver, Item, Opens, Begins, Acts, ChangesMode, Drops, Sends, Replies, Notes, Log, And, added}
 use Rattle.policy_model.specs.Entries.{Life, NotBegun, Opened, Lived, Did, Gone, Bad, NoMemory, Unread, log_of}
 use Rattle.policy_model.specs.Follows.{Follows, IsNext, IsStruck, Here, Later, without_output, items_of}
 use Rattle.policy_model.specs.Views.{View, view_of}
@@ -277,7 +277,7 @@ fits_other : (P : ℕ → Request → Type 0) (i : Item) → is_queueing i ≡ f
 fits_other P (Opens found) e = tt
 fits_other P (Begins event) e = tt
 fits_other P (Acts act o) e = tt
-fits_other P (Turns mode term) e = tt
+fits_other P (ChangesMode mode term) e = tt
 fits_other P (Drops member cause) e = tt
 fits_other P (Sends frame) e = tt
 fits_other P (Replies answer) e = tt
@@ -310,7 +310,7 @@ left_fits : (P : ℕ → Request → Type 0) (i : Item) (left : List Item) → F
 left_fits P (Opens found) left f a = (f, a)
 left_fits P (Begins event) left f a = (f, a)
 left_fits P (Acts act o) left f a = (f, a)
-left_fits P (Turns mode term) left f a = (f, a)
+left_fits P (ChangesMode mode term) left f a = (f, a)
 left_fits P (Drops member cause) left f a = (f, a)
 left_fits P (Sends frame) left f a = a
 left_fits P (Replies answer) left f a = a
@@ -324,7 +324,7 @@ one_queued : (P : ℕ → Request → Type 0) (l : Log) (i : Item) (conn : ℕ) 
 one_queued P l (Opens found) c r f q = absurd q
 one_queued P l (Begins event) c r f q = inr q
 one_queued P l (Acts act o) c r f q = inr q
-one_queued P l (Turns mode term) c r f q = inr q
+one_queued P l (ChangesMode mode term) c r f q = inr q
 one_queued P l (Drops member cause) c r f q = inr q
 one_queued P l (Sends frame) c r f q = inr q
 one_queued P l (Replies answer) c r f q = inr q

@@ -18,7 +18,7 @@ use Rattle.world_model.specs.Histories.{History}
 use Rattle.world_model.specs.Safety.{Published}
 use Rattle.policy_model.specs.declared.settings.Settings.{Settings}
 use Rattle.policy_model.specs.declared.events.Mode.TheVariants.{Leader}
-use Rattle.policy_model.specs.Events.{Item, Turns, Notes, Joined, StateMade}
+use Rattle.policy_model.specs.Events.{Item, ChangesMode, Notes, Joined, StateMade}
 use Rattle.policy_model.specs.Parts.{as_master, published_id}
 use Rattle.policy_model.specs.Views.{View}
 use Rattle.policy_model.specs.Moves.{moved}
@@ -200,14 +200,14 @@ module _ (h : History) (U : IsUnique h) (s : Settings) (P : ℕ → Request → 
   pub keeps-leads : (v : View) (g : List Waiting) → HasWon (standing v) → Keeps h s P v g (joins.leads s v) (Holds h s P)
   keeps-leads v g w =
       keeps-then h s P v g _ (next.goes_on s) (IsReadyToGo h s P) (Holds h s P)
-      (keeps-item h s P v g (Turns Leader v.node.term) _ (IsReadyToGo h s P) refl
+      (keeps-item h s P v g (ChangesMode Leader v.node.term) _ (IsReadyToGo h s P) refl
       (λ b. keeps-item h s P _ g (Notes (Joined (s.me ∷ v.node.join_votes))) [] (IsReadyToGo h s P) refl (λ k. keeps-none h s P _ g (IsReadyToGo h s P) ready)))
       keeps-goes_on
     where
       nothing : (p : Publication) → v.publication ≡ Some p → v.publication ≡ None → ⊥
       nothing p e n = cc
 
-      ready : IsReadyToGo h s P (place (moved s (moved s v (Turns Leader v.node.term)) (Notes (Joined (s.me ∷ v.node.join_votes)))) g)
+      ready : IsReadyToGo h s P (place (moved s (moved s v (ChangesMode Leader v.node.term)) (Notes (Joined (s.me ∷ v.node.join_votes)))) g)
       ready = record {
         ready = record {
           leads = record { idle = λ e. cc; won = λ l. w.won; new = λ l n. w.new; done = λ l p e f. absurd (nothing p e w.unpublished) };

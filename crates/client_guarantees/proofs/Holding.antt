@@ -22,7 +22,7 @@ use Rattle.world_model.specs.declared.acts.Act.TheVariants.{TakeJoin, Value, Pub
 use Rattle.world_model.specs.declared.acts.Outcome.TheVariants.{Answered}
 use Rattle.world_model.specs.declared.acts.ActReply.TheVariants.{Taken, Refused, Stopped}
 use Rattle.world_model.specs.Replies.{is_taken}
-use Rattle.world_model.specs.Steps.{is_opening}
+use Rattle.world_model.specs.Moves.{is_opening}
 use Rattle.world_model.specs.Histories.{History}
 use Rattle.world_model.specs.Safety.{Published, published}
 use Rattle.policy_model.specs.declared.settings.Settings.{Settings}

@@ -18,7 +18,7 @@ use Rattle.world_model.specs.declared.acts.Outcome.TheVariants.{Answered}
 use Rattle.world_model.specs.declared.acts.ActReply.TheVariants.{Taken, Refused, Stopped}
 use Rattle.world_model.specs.NodeState.{NodeState}
 use Rattle.world_model.specs.Replies.{is_taken}
-use Rattle.world_model.specs.Steps.{is_opening}
+use Rattle.world_model.specs.Moves.{is_opening}
 use Rattle.world_model.specs.Histories.{History}
 use Rattle.policy_model.specs.declared.settings.Settings.{Settings}
 use Rattle.policy_model.specs.Events.{Acts}

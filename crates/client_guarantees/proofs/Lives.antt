@@ -22,7 +22,7 @@ use Rattle.world_model.proofs.System.{IsSystem}
 use Rattle.world_model.proofs.Moments.{Begins as IsBeginning, begins_self, begins_trans}
 use Rattle.policy_model.specs.declared.settings.Settings.{Settings}
 use Rattle.policy_model.specs.declared.events.Event.{Event}
-use Rattle.policy_model.specs.Events.{Met, Heard, PeersAsked, ElectionOff, ElectionSet, RoundBegun, RoundAnswered, RoundEnded, Joined, FollowersChecked, FollowerAnswered, LeaderChecked, LeaderAnswered, Queued, ExclusionsTimedOut, CommitAcked, ExclusionsAcked, StateMade, HandedOver, Item, Log, Opens, Begins, Acts, Turns, Drops, Sends, Replies, Notes, And, added, acts_of}
+use Rattle.policy_model.specs.Events.{Met, Heard, PeersAsked, ElectionOff, ElectionSet, RoundBegun, RoundAnswered, RoundEnded, Joined, FollowersChecked, FollowerAnswered, LeaderChecked, LeaderAnswered, Queued, ExclusionsTimedOut, CommitAcked, ExclusionsAcked, StateMade, HandedOver, Item, Log, Opens, Begins, Acts, ChangesMode, Drops, Sends, Replies, Notes, And, added, acts_of}
 use Rattle.policy_model.specs.Entries.{Life, NotBegun, Opened, Lived, Did, Gone, Bad, NoMemory, Unread, log_of, replies_of}
 use Rattle.policy_model.specs.Views.{View, view_of}
 use Rattle.policy_model.specs.Moves.{moved, moved_all, is_own, are_own, view_of-And}
@@ -47,7 +47,7 @@ begins_item : (l : Log) (i : Item) → IsBeginning (acts_of l) (acts_of (And l i
 begins_item l (Opens found) = inr (begins_self (acts_of l))
 begins_item l (Begins event) = begins_self (acts_of l)
 begins_item l (Acts act o) = inr (begins_self (acts_of l))
-begins_item l (Turns mode term) = begins_self (acts_of l)
+begins_item l (ChangesMode mode term) = begins_self (acts_of l)
 begins_item l (Drops member cause) = begins_self (acts_of l)
 begins_item l (Sends frame) = begins_self (acts_of l)
 begins_item l (Replies answer) = begins_self (acts_of l)
@@ -62,7 +62,7 @@ processed-And : (s : Settings) (l : Log) (i : Item) → is_own i ≡ true → pr
 processed-And s l (Opens found) e = absurd (true≢false (sym e))
 processed-And s l (Begins event) e = refl
 processed-And s l (Acts act o) e = refl
-processed-And s l (Turns mode term) e = refl
+processed-And s l (ChangesMode mode term) e = refl
 processed-And s l (Drops member cause) e = refl
 processed-And s l (Sends frame) e = refl
 processed-And s l (Replies answer) e = refl
@@ -149,7 +149,7 @@ module _ (h : History) (root : ClusterState) (W : IsSystem (node_history h) root
   quietly v (Opens found) is e a = cc
   quietly v (Begins event) is e a = cc
   quietly v (Acts act o) is e a = cc
-  quietly v (Turns mode term) is e a = (tt, a)
+  quietly v (ChangesMode mode term) is e a = (tt, a)
   quietly v (Drops member cause) is e a = (tt, a)
   quietly v (Sends frame) is e a = (tt, a)
   quietly v (Replies answer) is e a = (tt, a)

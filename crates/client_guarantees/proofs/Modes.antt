@@ -12,7 +12,7 @@ use Rattle.world_model.specs.Histories.{History}
 use Rattle.policy_model.specs.declared.settings.Settings.{Settings}
 use Rattle.policy_model.specs.declared.events.Mode.{Mode}
 use Rattle.policy_model.specs.declared.events.Mode.TheVariants.{Candidate, Leader, Follower}
-use Rattle.policy_model.specs.Events.{Turns}
+use Rattle.policy_model.specs.Events.{ChangesMode}
 use Rattle.policy_model.specs.Views.{View}
 use Rattle.policy_model.specs.Doing as doing
 use Rattle.client_guarantees.proofs.Leading.{IsIdle}
@@ -31,15 +31,15 @@ IsBare x = (x.stands.publication ≡ None) × (x.stands.waiting ≡ [])
 
 module _ (h : History) (s : Settings) (P : ℕ → Request → Type 0) where
   keeps-turned : (v : View) (g : List Waiting) (Q : Place → Type 0) → ((node : NodeState) → Q (record { stands = record { mode = Candidate; publication = None; node = node; waiting = [] }; processed = g }))
-      → Keeps h s P v g (Turns Candidate v.node.term ∷ []) Q
-  keeps-turned v g Q q = keeps-item h s P v g (Turns Candidate v.node.term) [] Q refl (λ b. keeps-none h s P _ g Q (q _))
+      → Keeps h s P v g (ChangesMode Candidate v.node.term ∷ []) Q
+  keeps-turned v g Q q = keeps-item h s P v g (ChangesMode Candidate v.node.term) [] Q refl (λ b. keeps-none h s P _ g Q (q _))
 
   keeps-candidate : (v : View) (g : List Waiting) (Q : Place → Type 0) → ((node : NodeState) → Q (record { stands = record { mode = Candidate; publication = None; node = node; waiting = [] }; processed = g }))
       → Keeps h s P v g (doing.becomes_candidate s v) Q
   keeps-candidate v g Q q = by (doing.is_leader v.mode)
     where
-      by : (b : Bool) → Keeps h s P v g ((if b then doing.reply_all s (answers_by (failed v.leader_term) v.tasks.waiting) else []) ++ Turns Candidate v.node.term ∷ []) Q
-      by true = keeps-answers h s P v g _ (Turns Candidate v.node.term ∷ []) Q (true-failed h P g v.leader_term v.tasks.waiting) (keeps-turned v g Q q)
+      by : (b : Bool) → Keeps h s P v g ((if b then doing.reply_all s (answers_by (failed v.leader_term) v.tasks.waiting) else []) ++ ChangesMode Candidate v.node.term ∷ []) Q
+      by true = keeps-answers h s P v g _ (ChangesMode Candidate v.node.term ∷ []) Q (true-failed h P g v.leader_term v.tasks.waiting) (keeps-turned v g Q q)
       by false = keeps-turned v g Q q
 
   pub keeps-becomes_candidate : (v : View) (g : List Waiting) → Keeps h s P v g (doing.becomes_candidate s v) (Holds h s P)
@@ -55,11 +55,11 @@ module _ (h : History) (s : Settings) (P : ℕ → Request → Type 0) where
   keeps-becomes_follower v g p i =
       keeps-if h s P v g (doing.follows_node v.mode p) [] _ (Holds h s P)
       (λ e. keeps-none h s P v g (Holds h s P) i)
-      (λ e. keeps-append h s P v g _ (Turns (Follower p) v.node.term ∷ []) IsBare (Holds h s P)
+      (λ e. keeps-append h s P v g _ (ChangesMode (Follower p) v.node.term ∷ []) IsBare (Holds h s P)
       (keeps-if h s P v g (doing.is_leader v.mode) (doing.becomes_candidate s v) [] IsBare
       (λ l. keeps-candidate v g IsBare (λ node. (refl, refl)))
       (λ l. keeps-none h s P v g IsBare (i.stands.leads.idle l)))
-      (λ k. keeps-item h s P _ _ (Turns (Follower p) v.node.term) [] (Holds h s P) refl (λ b. keeps-none h s P _ _ (Holds h s P) (holds-idle h s P _ refl k.0 k.1))))
+      (λ k. keeps-item h s P _ _ (ChangesMode (Follower p) v.node.term) [] (Holds h s P) refl (λ b. keeps-none h s P _ _ (Holds h s P) (holds-idle h s P _ refl k.0 k.1))))
 
   pub keeps-on_start_join : (v : View) (g : List Waiting) (c : Id) (t : ℕ) → Holds h s P (place v g) → Keeps h s P v g (doing.on_start_join s v c t) (Holds h s P)
   keeps-on_start_join v g c t i =

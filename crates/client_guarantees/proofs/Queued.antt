@@ -9,7 +9,7 @@ use Rattle.master_tasks.specs.Queue.{arriving}
 use Rattle.master_tasks.specs.Answering.{timed_out, committed_in, exclusion_done}
 use Rattle.policy_model.specs.declared.settings.Settings.{Settings}
 use Rattle.policy_model.specs.declared.events.Mode.TheVariants.{Candidate, Leader, Follower}
-use Rattle.policy_model.specs.Events.{Met, Heard, PeersAsked, ElectionOff, ElectionSet, RoundBegun, RoundAnswered, RoundEnded, Joined, FollowersChecked, FollowerAnswered, LeaderChecked, LeaderAnswered, Queued, ExclusionsTimedOut, CommitAcked, ExclusionsAcked, StateMade, HandedOver, Opens, Begins, Acts, Turns, Drops, Sends, Replies, Notes, Log, NoItems, And}
+use Rattle.policy_model.specs.Events.{Met, Heard, PeersAsked, ElectionOff, ElectionSet, RoundBegun, RoundAnswered, RoundEnded, Joined, FollowersChecked, FollowerAnswered, LeaderChecked, LeaderAnswered, Queued, ExclusionsTimedOut, CommitAcked, ExclusionsAcked, StateMade, HandedOver, Opens, Begins, Acts, ChangesMode, Drops, Sends, Replies, Notes, Log, NoItems, And}
 use Rattle.policy_model.specs.Parts.{as_master, published_id}
 use Rattle.policy_model.specs.LookBacks.{node_of, moment_of, tasks_of}
 use Rattle.policy_model.proofs.Fits.{waiting-added}
@@ -39,9 +39,9 @@ queued s NoItems = record { waiting = tt; processed = tt }
 queued s (And l (Opens found)) = record { waiting = tt; processed = tt }
 queued s (And l (Begins event)) = record { waiting = (queued s l).waiting; processed = (queued s l).processed }
 queued s (And l (Acts act o)) = record { waiting = (queued s l).waiting; processed = (queued s l).processed }
-queued s (And l (Turns Candidate term)) = record { waiting = tt; processed = (queued s l).processed }
-queued s (And l (Turns Leader term)) = record { waiting = (queued s l).waiting; processed = (queued s l).processed }
-queued s (And l (Turns (Follower leader) term)) = record { waiting = (queued s l).waiting; processed = (queued s l).processed }
+queued s (And l (ChangesMode Candidate term)) = record { waiting = tt; processed = (queued s l).processed }
+queued s (And l (ChangesMode Leader term)) = record { waiting = (queued s l).waiting; processed = (queued s l).processed }
+queued s (And l (ChangesMode (Follower leader) term)) = record { waiting = (queued s l).waiting; processed = (queued s l).processed }
 queued s (And l (Drops member cause)) = record { waiting = (queued s l).waiting; processed = (queued s l).processed }
 queued s (And l (Sends frame)) = record { waiting = (queued s l).waiting; processed = (queued s l).processed }
 queued s (And l (Replies answer)) = record { waiting = (queued s l).waiting; processed = (queued s l).processed }

@@ -16,7 +16,7 @@ use Rattle.world_model.specs.NodeState.{NodeState}
 use Rattle.policy_model.specs.declared.settings.Settings.{Settings}
 use Rattle.policy_model.specs.declared.events.Mode.{Mode}
 use Rattle.policy_model.specs.declared.events.DropCause.{DropCause}
-use Rattle.policy_model.specs.Events.{Note, Met, Heard, PeersAsked, ElectionOff, ElectionSet, RoundBegun, RoundAnswered, RoundEnded, FollowersChecked, FollowerAnswered, LeaderChecked, LeaderAnswered, HandedOver, Item, Opens, Begins, Acts, Turns, Drops, Sends, Replies, Notes}
+use Rattle.policy_model.specs.Events.{Note, Met, Heard, PeersAsked, ElectionOff, ElectionSet, RoundBegun, RoundAnswered, RoundEnded, FollowersChecked, FollowerAnswered, LeaderChecked, LeaderAnswered, HandedOver, Item, Opens, Begins, Acts, ChangesMode, Drops, Sends, Replies, Notes}
 use Rattle.policy_model.specs.Entries.{replies_in, replies_of}
 use Rattle.policy_model.specs.Views.{View}
 use Rattle.policy_model.specs.Moves.{moved, moved_all}
@@ -102,7 +102,7 @@ item_stands s v (Notes note) e = note_stands s v note e
 item_stands s v (Opens found) e = cc
 item_stands s v (Begins event) e = cc
 item_stands s v (Acts act o) e = cc
-item_stands s v (Turns mode term) e = cc
+item_stands s v (ChangesMode mode term) e = cc
 item_stands s v (Replies answer) e = cc
 
 item_silent : (i : Item) → is_steady i ≡ true → replies_in i ≡ []
@@ -112,7 +112,7 @@ item_silent (Notes note) e = refl
 item_silent (Opens found) e = cc
 item_silent (Begins event) e = cc
 item_silent (Acts act o) e = cc
-item_silent (Turns mode term) e = cc
+item_silent (ChangesMode mode term) e = cc
 item_silent (Replies answer) e = cc
 
 pub steady_stands : (s : Settings) (v : View) (is : List Item) → IsSteady is → standing (moved_all s v is) ≡ standing v

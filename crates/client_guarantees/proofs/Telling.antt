@@ -19,7 +19,7 @@ use Rattle.world_model.specs.declared.acts.Outcome.TheVariants.{Answered}
 use Rattle.world_model.specs.Histories.{History}
 use Rattle.world_model.specs.Safety.{Published, IsCommitted}
 use Rattle.policy_model.specs.declared.settings.Settings.{Settings}
-use Rattle.policy_model.specs.Events.{Met, Heard, PeersAsked, ElectionOff, ElectionSet, RoundBegun, RoundAnswered, RoundEnded, Joined, FollowersChecked, FollowerAnswered, LeaderChecked, LeaderAnswered, Queued, ExclusionsTimedOut, CommitAcked, ExclusionsAcked, StateMade, HandedOver, Item, Opens, Begins, Acts, Turns, Drops, Sends, Replies, Notes}
+use Rattle.policy_model.specs.Events.{Met, Heard, PeersAsked, ElectionOff, ElectionSet, RoundBegun, RoundAnswered, RoundEnded, Joined, FollowersChecked, FollowerAnswered, LeaderChecked, LeaderAnswered, Queued, ExclusionsTimedOut, CommitAcked, ExclusionsAcked, StateMade, HandedOver, Item, Opens, Begins, Acts, ChangesMode, Drops, Sends, Replies, Notes}
 use Rattle.policy_model.specs.Parts.{as_master}
 use Rattle.policy_model.specs.Entries.{replies_in, replies_of}
 use Rattle.policy_model.specs.Views.{View}
@@ -60,7 +60,7 @@ unmade : (s : Settings) (v : View) (g : List Waiting) (i : Item) → is_made i �
 unmade s v g (Opens found) e = refl
 unmade s v g (Begins event) e = refl
 unmade s v g (Acts act o) e = refl
-unmade s v g (Turns mode term) e = refl
+unmade s v g (ChangesMode mode term) e = refl
 unmade s v g (Drops member cause) e = refl
 unmade s v g (Sends frame) e = refl
 unmade s v g (Replies answer) e = refl
@@ -88,7 +88,7 @@ steady_unmade : (i : Item) → is_steady i ≡ true → is_made i ≡ false
 steady_unmade (Opens found) e = refl
 steady_unmade (Begins event) e = refl
 steady_unmade (Acts act o) e = refl
-steady_unmade (Turns mode term) e = refl
+steady_unmade (ChangesMode mode term) e = refl
 steady_unmade (Drops member cause) e = refl
 steady_unmade (Sends frame) e = refl
 steady_unmade (Replies answer) e = refl
@@ -121,7 +121,7 @@ grown_item : (s : Settings) (v : View) (g : List Waiting) (i : Item) → Grown g
 grown_item s v g (Opens found) = record { more = []; is = sym (append-nil g) }
 grown_item s v g (Begins event) = record { more = []; is = sym (append-nil g) }
 grown_item s v g (Acts act o) = record { more = []; is = sym (append-nil g) }
-grown_item s v g (Turns mode term) = record { more = []; is = sym (append-nil g) }
+grown_item s v g (ChangesMode mode term) = record { more = []; is = sym (append-nil g) }
 grown_item s v g (Drops member cause) = record { more = []; is = sym (append-nil g) }
 grown_item s v g (Sends frame) = record { more = []; is = sym (append-nil g) }
 grown_item s v g (Replies answer) = record { more = []; is = sym (append-nil g) }

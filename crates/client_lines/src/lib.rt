@@ -1,10 +1,10 @@
 //! Requests of clients, a line of JSON each, and the replies to them.
 #![tactic(auto)]
 
-pub mod fault;
-pub mod lines;
-pub mod reading;
-pub mod writing;
+mod fault;
+mod lines;
+mod reading;
+mod writing;
 
 pub use cluster_state::{Answer, Ask, LineFault, MAX_KEY, MAX_VALUE, Reply, Request, Text};
 pub use fault::LineError;

@@ -177,7 +177,7 @@ impl LineReader {
 
 /// Bytes that come in two pieces give the lines that they give in one, and leave the same to be held.
 pub fn law_cuts()
-    ensures { (front back : List ℕ) → CutsAnywhere front back }
+    ensures { (prefix back : List ℕ) → CutsAnywhere prefix back }
 {}
 
 /// What is kept of a line is the request that the whole line is, or has its fault.

@@ -50,10 +50,10 @@ use Rattle.policy_model.specs.declared.events.Event.{Event}
 use Rattle.policy_model.specs.declared.events.Event.TheVariants.{Start, Tick, Frame as FrameCame, Client as LineCame}
 use Rattle.policy_model.specs.declared.events.DropCause.{DropCause}
 use Rattle.policy_model.specs.declared.events.DropCause.TheVariants.{Checks, Lag}
-use Rattle.policy_model.specs.Events.{Note, Met, Heard, HandedOver, RoundEnded, RoundBegun, RoundAnswered, ElectionSet, ElectionOff, PeersAsked, ExclusionsAcked, FollowersChecked, ExclusionsTimedOut, Joined, Queued, LeaderChecked, StateMade, CommitAcked, Item, Turns, Drops, Sends, Replies, Notes}
+use Rattle.policy_model.specs.Events.{Note, Met, Heard, HandedOver, RoundEnded, RoundBegun, RoundAnswered, ElectionSet, ElectionOff, PeersAsked, ExclusionsAcked, FollowersChecked, ExclusionsTimedOut, Joined, Queued, LeaderChecked, StateMade, CommitAcked, Item, ChangesMode, Drops, Sends, Replies, Notes}
 use Rattle.policy_model.specs.Parts.{as_master}
 use Rattle.policy_model.specs.Views.{View}
-use Rattle.policy_model.specs.Moves.{moved, moved_all, noted, turned}
+use Rattle.policy_model.specs.Moves.{moved, moved_all, noted, mode_changed}
 use Rattle.policy_model.specs.Doing as doing
 use Rattle.policy_model.specs.NextState as next
 use Rattle.policy_model.specs.Elections as elections
@@ -68,7 +68,7 @@ use Rattle.system_laws.proofs.Meant.{Covers, sent_after, covers-after}
 use Rattle.system_laws.proofs.Sending.{known, start-sends, value-sends, publish-sends, response-sends}
 use Rattle.cluster_replay.proofs.Fits.{each-with_id}
 use Rattle.cluster_replay.proofs.Naming.{AllIds, NamedView, NamesMaster, NamesMessage, NamesMode, NamesPublication, all-free, all-known, peers-met, some-followers}
-use Rattle.cluster_replay.proofs.Allowing.{members-fit, FitView, FitNote, IsGoodFrame, IsSentBy, IsAllowed, Ended, ByAct, BySend, ByReply, ByTurn, ByDrop, ByNote, fit-acted, fit-turned, fit-noted, fit-moved, allowed-append}
+use Rattle.cluster_replay.proofs.Allowing.{members-fit, FitView, FitNote, IsGoodFrame, IsSentBy, IsAllowed, Ended, ByAct, BySend, ByReply, ByTurn, ByDrop, ByNote, fit-acted, fit-mode_changed, fit-noted, fit-moved, allowed-append}
 
 -- ---- items that neither act nor change what may be sent or kept
 
@@ -89,7 +89,7 @@ data IsCalm (s : Settings) : List Item → Type 0 where
   Silent : IsCalm s []
   Saying : (to : Id) (m : FrameMessage) (is : List Item) → is_plain m ≡ true → is_id to ≡ true → NamesMessage m → IsCalm s is → IsCalm s (Sends (record { from = s.me; to = to; message = m }) ∷ is)
   Replying : (answer : Outgoing) (is : List Item) → IsCalm s is → IsCalm s (Replies answer ∷ is)
-  Turning : (mode : Mode) (term : ℕ) (is : List Item) → NamesMode mode → IsCalm s is → IsCalm s (Turns mode term ∷ is)
+  Turning : (mode : Mode) (term : ℕ) (is : List Item) → NamesMode mode → IsCalm s is → IsCalm s (ChangesMode mode term ∷ is)
   Dropping : (member : Id) (cause : DropCause) (is : List Item) → is_id member ≡ true → IsCalm s is → IsCalm s (Drops member cause ∷ is)
   Meeting : (ids : List Id) (is : List Item) → AllIds ids → IsCalm s is → IsCalm s (Notes (Met ids) ∷ is)
   Noting : (note : Note) (is : List Item) → is_plain_note note ≡ true → IsCalm s is → IsCalm s (Notes note ∷ is)
@@ -124,7 +124,7 @@ allowed-calm : (s : Settings) (ms : List Message) (v : View) (is : List Item) �
 allowed-calm s ms v xs Silent = Ended ms v
 allowed-calm s ms v xs (Saying to m is e h n q) = BySend ms v to m is h n (plain-sent ms s.me to m e) (allowed-calm s ms v is q)
 allowed-calm s ms v xs (Replying answer is q) = ByReply ms v answer is (allowed-calm s ms v is q)
-allowed-calm s ms v xs (Turning mode term is n q) = ByTurn ms v mode term is n (allowed-calm s ms (turned v mode term) is q)
+allowed-calm s ms v xs (Turning mode term is n q) = ByTurn ms v mode term is n (allowed-calm s ms (mode_changed v mode term) is q)
 allowed-calm s ms v xs (Meeting ids is n q) = ByNote ms v (Met ids) is n (allowed-calm s ms (noted s v (Met ids)) is q)
 allowed-calm s ms v xs (Dropping member cause is n q) = ByDrop ms v member cause is n (allowed-calm s ms (moved s v (Drops member cause)) is q)
 allowed-calm s ms v xs (Noting note is e q) = ByNote ms v note is (plain-fits note e) (allowed-calm s ms (noted s v note) is q)
@@ -370,8 +370,8 @@ module _ (s : Settings) (mine : is_id s.me ≡ true) (initial : IsIdSet s.initia
   allowed-leads : (ms : List Message) (v : View) → FitView v → IsAllowed s ms v (joins.leads s v)
   allowed-leads ms v f =
       let all : list_all is_id (s.me ∷ v.node.join_votes) ≡ true = and_from (is_id s.me) (list_all is_id v.node.join_votes) mine f.node.votes.each in
-      let g : FitView (turned v Leader v.node.term) = fit-turned v Leader v.node.term f tt in
-      ByTurn ms v Leader v.node.term _ tt (ByNote ms _ (Joined (s.me ∷ v.node.join_votes)) _ all (allowed-goes_on ms _ (fit-noted s (turned v Leader v.node.term) (Joined (s.me ∷ v.node.join_votes)) g all)))
+      let g : FitView (mode_changed v Leader v.node.term) = fit-mode_changed v Leader v.node.term f tt in
+      ByTurn ms v Leader v.node.term _ tt (ByNote ms _ (Joined (s.me ∷ v.node.join_votes)) _ all (allowed-goes_on ms _ (fit-noted s (mode_changed v Leader v.node.term) (Joined (s.me ∷ v.node.join_votes)) g all)))
 
   allowed-takes_member : (ms : List Message) (v : View) (p : Id) → FitView v → is_id p ≡ true → IsAllowed s ms v (joins.takes_member s v p)
   allowed-takes_member ms v p f h =

@@ -35,18 +35,18 @@ use Rattle.world_model.specs.NodeState.{NodeState}
 use Rattle.world_model.specs.Replies.{reply_at}
 use Rattle.world_model.specs.Histories.{IsSourced, sent_by}
 use Rattle.world_model.specs.Acts.{is_opening}
-use Rattle.world_model.specs.Steps.{node_state_after}
+use Rattle.world_model.specs.Moves.{node_state_after}
 use Rattle.policy_model.specs.declared.settings.Settings.{Settings}
 use Rattle.policy_model.specs.declared.events.Mode.{Mode}
 use Rattle.policy_model.specs.declared.events.Mode.TheVariants.{Candidate, Leader, Follower}
 use Rattle.policy_model.specs.declared.events.DropCause.{DropCause}
-use Rattle.policy_model.specs.Events.{Note, Met, Heard, PeersAsked, ElectionOff, ElectionSet, RoundBegun, RoundAnswered, RoundEnded, Joined, FollowersChecked, FollowerAnswered, LeaderChecked, LeaderAnswered, Queued, ExclusionsTimedOut, CommitAcked, ExclusionsAcked, StateMade, HandedOver, Item, Acts, Turns, Drops, Sends, Replies, Notes}
+use Rattle.policy_model.specs.Events.{Note, Met, Heard, PeersAsked, ElectionOff, ElectionSet, RoundBegun, RoundAnswered, RoundEnded, Joined, FollowersChecked, FollowerAnswered, LeaderChecked, LeaderAnswered, Queued, ExclusionsTimedOut, CommitAcked, ExclusionsAcked, StateMade, HandedOver, Item, Acts, ChangesMode, Drops, Sends, Replies, Notes}
 use Rattle.policy_model.specs.Entries.{frames_in}
 use Rattle.policy_model.specs.Joins.{join_from}
 use Rattle.policy_model.specs.Parts.{all_to_be_added, as_master, finished, followers_ticked, follower_answered, heard, met, peers_asked, responded, state_finished}
 use Rattle.policy_model.specs.LookBacks.{sends_one}
 use Rattle.policy_model.specs.Views.{View}
-use Rattle.policy_model.specs.Moves.{moved, moved_all, acted, turned, noted}
+use Rattle.policy_model.specs.Moves.{moved, moved_all, acted, mode_changed, noted}
 use Rattle.system_laws.proofs.Meant.{Covers, sent_after, covers-after}
 use Rattle.trace_text.proofs.IdLists.{none_set}
 use Rattle.cluster_replay.proofs.Fits.{set-fits, set-with, set-with_known}
@@ -114,7 +114,7 @@ pub data IsAllowed (s : Settings) : List Message → View → List Item → Type
   BySend : (ms : List Message) (v : View) (to : Id) (m : FrameMessage) (is : List Item) → is_id to ≡ true → NamesMessage m → IsSentBy ms s.me to m → IsAllowed s ms v is
       → IsAllowed s ms v (Sends (record { from = s.me; to = to; message = m }) ∷ is)
   ByReply : (ms : List Message) (v : View) (answer : Outgoing) (is : List Item) → IsAllowed s ms v is → IsAllowed s ms v (Replies answer ∷ is)
-  ByTurn : (ms : List Message) (v : View) (mode : Mode) (term : ℕ) (is : List Item) → NamesMode mode → IsAllowed s ms (turned v mode term) is → IsAllowed s ms v (Turns mode term ∷ is)
+  ByTurn : (ms : List Message) (v : View) (mode : Mode) (term : ℕ) (is : List Item) → NamesMode mode → IsAllowed s ms (mode_changed v mode term) is → IsAllowed s ms v (ChangesMode mode term ∷ is)
   ByDrop : (ms : List Message) (v : View) (member : Id) (cause : DropCause) (is : List Item) → is_id member ≡ true → IsAllowed s ms (moved s v (Drops member cause)) is → IsAllowed s ms v (Drops member cause ∷ is)
   ByNote : (ms : List Message) (v : View) (note : Note) (is : List Item) → FitNote note → IsAllowed s ms (noted s v note) is → IsAllowed s ms v (Notes note ∷ is)
 
@@ -241,18 +241,18 @@ fit-acted s v (Open found) o f a = record { node = fit-act v.node (Open found) o
 pub fit-none : FitTasks no_tasks
 fit-none = record { additions = none_set; waiting = tt }
 
-pub fit-turned : (v : View) (mode : Mode) (term : ℕ) → FitView v → NamesMode mode → FitView (turned v mode term)
-fit-turned v Candidate term f n = record {
+pub fit-mode_changed : (v : View) (mode : Mode) (term : ℕ) → FitView v → NamesMode mode → FitView (mode_changed v mode term)
+fit-mode_changed v Candidate term f n = record {
   node = f.node;
   tasks = fit-none;
   names = record { term = f.names.term; version = f.names.version; mode = tt; peers = peers-forgotten v.finder.peers f.names.peers; publication = tt; watched = refl };
 }
-fit-turned v Leader term f n = record {
+fit-mode_changed v Leader term f n = record {
   node = f.node;
   tasks = f.tasks;
   names = record { term = f.names.term; version = f.names.version; mode = tt; peers = f.names.peers; publication = f.names.publication; watched = f.names.watched };
 }
-fit-turned v (Follower leader) term f n = record {
+fit-mode_changed v (Follower leader) term f n = record {
   node = f.node;
   tasks = f.tasks;
   names = record { term = f.names.term; version = f.names.version; mode = n; peers = f.names.peers; publication = f.names.publication; watched = f.names.watched };
@@ -299,7 +299,7 @@ fit-moved s ms v is (Ended ms' v') f = f
 fit-moved s ms v is (ByAct ms' v' act rest o sourced fit a) f = fit-moved s _ _ rest a (fit-acted s v' act _ f fit)
 fit-moved s ms v is (BySend ms' v' to m rest there names sent a) f = fit-moved s _ _ rest a f
 fit-moved s ms v is (ByReply ms' v' answer rest a) f = fit-moved s _ _ rest a f
-fit-moved s ms v is (ByTurn ms' v' mode term rest n a) f = fit-moved s _ _ rest a (fit-turned v' mode term f n)
+fit-moved s ms v is (ByTurn ms' v' mode term rest n a) f = fit-moved s _ _ rest a (fit-mode_changed v' mode term f n)
 fit-moved s ms v is (ByDrop ms' v' member cause rest n a) f =
     fit-moved s _ _ rest a (record { node = f.node; tasks = record { additions = f.tasks.additions; waiting = f.tasks.waiting }; names = record { term = f.names.term; version = f.names.version; mode = f.names.mode; peers = f.names.peers; publication = f.names.publication; watched = f.names.watched } })
 fit-moved s ms v is (ByNote ms' v' note rest n a) f = fit-moved s _ _ rest a (fit-noted s v' note f n)

@@ -23,7 +23,7 @@ use Rattle.fault_checks.specs.Followers.{stays, answered_from, answered_by, ids_
 use Rattle.publication.specs.Publications.{Publication}
 use Rattle.policy_model.specs.declared.events.Mode.{Mode}
 use Rattle.policy_model.specs.declared.events.Mode.TheVariants.{Candidate, Leader, Follower as Following}
-use Rattle.policy_model.specs.Events.{Item, Opens, Begins, Acts, Turns, Drops, Sends, Replies, Notes}
+use Rattle.policy_model.specs.Events.{Item, Opens, Begins, Acts, ChangesMode, Drops, Sends, Replies, Notes}
 use Rattle.policy_model.specs.Entries.{by_receiver}
 use Rattle.system_laws.proofs.Done.{all-sorted}
 use Rattle.policy_model.specs.Follows.{IsStruck, Here, Later, without_output}
@@ -81,7 +81,7 @@ abbrev pub NamesItem : Item → Type 0
 NamesItem (Opens found) = Unit {0}
 NamesItem (Begins event) = Unit {0}
 NamesItem (Acts act outcome) = NamesAct act
-NamesItem (Turns mode term) = NamesMode mode
+NamesItem (ChangesMode mode term) = NamesMode mode
 NamesItem (Drops member cause) = is_id member ≡ true
 NamesItem (Sends frame) = NamesFrame frame
 NamesItem (Replies answer) = Unit {0}
@@ -99,7 +99,7 @@ struck-names is left (Later i rest more struck) h = each_append NamesItem (witho
     own (Opens found) n = (n, tt)
     own (Begins event) n = (n, tt)
     own (Acts act outcome) n = (n, tt)
-    own (Turns mode term) n = (n, tt)
+    own (ChangesMode mode term) n = (n, tt)
     own (Drops member cause) n = (n, tt)
     own (Sends frame) n = tt
     own (Replies answer) n = tt

@@ -24,7 +24,7 @@ use Rattle.replay_node.proofs.Moves.{NodeMoves, moves_did}
 use Rattle.replay_node.proofs.StateSteps.{halted_then, halted_disk}
 use Rattle.replay_node.proofs.NodeSound.{IsFitAct}
 use Rattle.policy_model.specs.declared.settings.Settings.{Settings}
-use Rattle.policy_model.specs.Events.{Item, Opens, Begins, Acts, Turns, Drops, Sends, Replies, Notes, Log, And, added, acts_of}
+use Rattle.policy_model.specs.Events.{Item, Opens, Begins, Acts, ChangesMode, Drops, Sends, Replies, Notes, Log, And, added, acts_of}
 use Rattle.policy_model.specs.Entries.{frames_in}
 use Rattle.policy_model.specs.Views.{View, view_of}
 use Rattle.policy_model.specs.Moves.{moved, is_own, view_of-And}
@@ -50,7 +50,7 @@ acts-added l m (i ∷ is) e = acts-added (And l i) (And m i) is (one i)
     one (Opens found) = ap (λ (g : NodeHistory). Then g (Open found) (Answered (Taken None false))) e
     one (Acts act o) = ap (λ (g : NodeHistory). Then g act o) e
     one (Begins event) = e
-    one (Turns mode term) = e
+    one (ChangesMode mode term) = e
     one (Drops member cause) = e
     one (Sends frame) = e
     one (Replies answer) = e
@@ -60,7 +60,7 @@ acts-without : (l : Log) (i : Item) (is : List Item) → acts_of (added l (witho
 acts-without l (Opens found) is = refl
 acts-without l (Begins event) is = refl
 acts-without l (Acts act o) is = refl
-acts-without l (Turns mode term) is = refl
+acts-without l (ChangesMode mode term) is = refl
 acts-without l (Drops member cause) is = refl
 acts-without l (Sends frame) is = acts-added l (And l (Sends frame)) is refl
 acts-without l (Replies answer) is = acts-added l (And l (Replies answer)) is refl
@@ -70,7 +70,7 @@ silent-without : (i : Item) (is : List Item) → flat_map frames_in (without_out
 silent-without (Opens found) is = refl
 silent-without (Begins event) is = refl
 silent-without (Acts act o) is = refl
-silent-without (Turns mode term) is = refl
+silent-without (ChangesMode mode term) is = refl
 silent-without (Drops member cause) is = refl
 silent-without (Sends frame) is = refl
 silent-without (Replies answer) is = refl
@@ -233,8 +233,8 @@ plays s ms w l v is (BySend ms' v' to m rest there names sent_it a) view same_se
 plays s ms w l v is (ByReply ms' v' answer rest a) view same_sent sound acts running =
     in_front s w w l (Replies answer) rest (played s.me w rest) refl (λ m other. refl) (λ m k. k) (plays s _ w (And l (Replies answer)) v' rest a view same_sent sound acts running)
 plays s ms w l v is (ByTurn ms' v' mode term rest n a) view same_sent sound acts running =
-    in_front s w w l (Turns mode term) rest (played s.me w rest) refl (λ m other. refl) (λ m k. k)
-    (plays s _ w (And l (Turns mode term)) _ rest a (ap (λ (u : View). moved s u (Turns mode term)) view ∙ sym (view_of-And s l (Turns mode term) refl)) same_sent sound acts running)
+    in_front s w w l (ChangesMode mode term) rest (played s.me w rest) refl (λ m other. refl) (λ m k. k)
+    (plays s _ w (And l (ChangesMode mode term)) _ rest a (ap (λ (u : View). moved s u (ChangesMode mode term)) view ∙ sym (view_of-And s l (ChangesMode mode term) refl)) same_sent sound acts running)
 plays s ms w l v is (ByDrop ms' v' member cause rest n a) view same_sent sound acts running =
     in_front s w w l (Drops member cause) rest (played s.me w rest) refl (λ m other. refl) (λ m k. k)
     (plays s _ w (And l (Drops member cause)) _ rest a (ap (λ (u : View). moved s u (Drops member cause)) view ∙ sym (view_of-And s l (Drops member cause) refl)) same_sent sound acts running)

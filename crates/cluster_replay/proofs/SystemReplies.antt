@@ -12,7 +12,7 @@ use Rattle.world_model.specs.Histories.{History, node_history}
 use Rattle.world_model.specs.Local.{then_run}
 use Rattle.world_model.proofs.Moments.{Begins as IsBeginning, begins_self}
 use Rattle.policy_model.specs.declared.settings.Settings.{Settings}
-use Rattle.policy_model.specs.Events.{Item, Opens, Begins, Acts, Turns, Drops, Sends, Replies, Notes, Log, And, added, acts_of}
+use Rattle.policy_model.specs.Events.{Item, Opens, Begins, Acts, ChangesMode, Drops, Sends, Replies, Notes, Log, And, added, acts_of}
 use Rattle.policy_model.specs.Entries.{Life, Lived, Did, log_of, replies_of}
 use Rattle.policy_model.specs.Follows.{items_of}
 use Rattle.client_guarantees.specs.Laws.{IsRunIn}
@@ -53,7 +53,7 @@ same-acts : (l k : Log) (i : Item) → acts_of l ≡ acts_of k → acts_of (And 
 same-acts l k (Opens found) e = ap (λ (g : NodeHistory). Then g (Open found) (Answered (Taken None false))) e
 same-acts l k (Begins event) e = e
 same-acts l k (Acts act o) e = ap (λ (g : NodeHistory). Then g act o) e
-same-acts l k (Turns mode term) e = e
+same-acts l k (ChangesMode mode term) e = e
 same-acts l k (Drops member cause) e = e
 same-acts l k (Sends frame) e = e
 same-acts l k (Replies answer) e = e
@@ -63,7 +63,7 @@ with-answers : (P : Outgoing → Type 0) (i : Item) (xs ys : List Item) → (All
 with-answers P (Opens found) xs ys more a = more a
 with-answers P (Begins event) xs ys more a = more a
 with-answers P (Acts act o) xs ys more a = more a
-with-answers P (Turns mode term) xs ys more a = more a
+with-answers P (ChangesMode mode term) xs ys more a = more a
 with-answers P (Drops member cause) xs ys more a = more a
 with-answers P (Sends frame) xs ys more a = more a
 with-answers P (Replies answer) xs ys more a = All-cons P answer (replies_of ys) (All-head P answer (replies_of xs) a) (more (All-tail P answer (replies_of xs) a))

@@ -1,7 +1,7 @@
 //! What holds of each schedule in which whole nodes run, and what a client may rely on where nodes talk over a network.
 #![tactic(auto)]
 
-pub mod laws;
+mod laws;
 
 pub use laws::{
     law_cluster_replay_is_legal, law_cluster_replies_are_true, law_killed_replies_are_true,

@@ -57,9 +57,9 @@ impl<'a> Reader<'a> {
         if bytes.len() < 8 {
             return Err(FieldError::Short);
         }
-        let (front, rest) = bytes.split_at(8);
+        let (prefix, rest) = bytes.split_at(8);
         let number = u64::from_be_bytes([
-            front[0], front[1], front[2], front[3], front[4], front[5], front[6], front[7],
+            prefix[0], prefix[1], prefix[2], prefix[3], prefix[4], prefix[5], prefix[6], prefix[7],
         ]);
         if number > 1 << 62 {
             return Err(too_large);
@@ -102,9 +102,9 @@ impl<'a> Reader<'a> {
         if bytes.len() < 2 {
             return Err(FieldError::Short);
         }
-        let (front, rest) = bytes.split_at(2);
+        let (prefix, rest) = bytes.split_at(2);
         self.rest = rest;
-        Ok(u16::from_be_bytes([front[0], front[1]]))
+        Ok(u16::from_be_bytes([prefix[0], prefix[1]]))
     }
 
     /// A flag: one byte. `Short`, then `BadFlag` where it is neither 0 nor 1.
@@ -140,9 +140,9 @@ impl<'a> Reader<'a> {
         if bytes.len() < len {
             return Err(FieldError::Short);
         }
-        let (front, rest) = bytes.split_at(len);
+        let (prefix, rest) = bytes.split_at(len);
         self.rest = rest;
-        NodeId::from_bytes(front).ok_or(FieldError::BadId)
+        NodeId::from_bytes(prefix).ok_or(FieldError::BadId)
     }
 
     /// A flag, and after a 1 an id.
@@ -211,9 +211,9 @@ impl<'a> Reader<'a> {
         if bytes.len() < len {
             return Err(FieldError::Short);
         }
-        let (front, rest) = bytes.split_at(len);
+        let (prefix, rest) = bytes.split_at(len);
         self.rest = rest;
-        match text_of(front) {
+        match text_of(prefix) {
             Some(text) => Ok(text),
             None => Err(FieldError::BadText),
         }

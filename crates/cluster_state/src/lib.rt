@@ -2,32 +2,32 @@
 //! for and are answered.
 #![tactic(auto)]
 
-pub mod causes;
-pub mod checking;
-pub mod decoding;
-pub mod encoding;
-pub mod fault;
-pub mod fields;
-pub mod json;
-pub mod limits;
-pub mod messages;
-pub mod reply;
-pub mod request;
-pub mod settings;
-pub mod shared;
+mod causes;
+mod checking;
+mod decoding;
+mod encoding;
+mod fault;
+mod fields;
+mod json;
+mod limits;
+mod messages;
+mod reply;
+mod request;
+mod settings;
+mod shared;
 pub(crate) mod spelled;
-pub mod state;
-pub mod text;
-pub mod uniqueness;
-pub mod view;
-pub mod writing;
+mod state;
+mod text;
+mod uniqueness;
+mod view;
+mod writing;
 
 pub use causes::{
     CommitCause, InitialCause, JoinCause, PublishCause, ResponseCause, StartCause, ValueCause,
 };
 pub use checking::check_state;
 pub use decoding::decode_state;
-pub use encoding::encode_state;
+pub use encoding::{encode_state, write_shared_state, write_state};
 pub use fault::{DecodeError, FieldError, ReadError, StateFault};
 pub use fields::{MAX_EXCLUSIONS, MAX_SETTINGS, Reader};
 pub use json::{to_json, value_to_json};
@@ -40,3 +40,4 @@ pub use shared::{SharedConfig, SharedState, SharedValue};
 pub use state::{ClusterState, ClusterValue, Kept, LAST_NUMBER, StateId};
 pub use text::Text;
 pub use view::StateView;
+pub use writing::{write_flag, write_id, write_ids, write_optional_id, write_state_id, write_term};

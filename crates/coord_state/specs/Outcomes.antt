@@ -86,10 +86,10 @@ abbrev pub commit_outcome : {T : Type 0} → Result (Unit {0}) (ActError CommitC
 commit_outcome answer = outcome plain CommitRefused answer
 
 -- an outcome that an act reports: no crash, and what the disk failed to write counts as not kept
-abbrev pub IsTold : Outcome → Type 0
-IsTold (Answered reply) = Unit {0}
-IsTold (Disk kept) = kept ≡ false
-IsTold (Crashed kept) = ⊥
+abbrev pub IsReported : Outcome → Type 0
+IsReported (Answered reply) = Unit {0}
+IsReported (Disk kept) = kept ≡ false
+IsReported (Crashed kept) = ⊥
 
 -- what the act took is handed back, but where the disk failed
 abbrev pub HandsBack : {A C T : Type 0} → T → Result A (ActError C T) → Type 0

@@ -11,7 +11,7 @@ use Rattle.world_model.specs.declared.acts.Outcome.{Outcome}
 use Rattle.world_model.specs.Acts.{NodeHistory, Then, is_disk, is_crashed}
 use Rattle.world_model.specs.NodeState.{NodeState, node_state}
 use Rattle.world_model.specs.Replies.{id_of, IsOutcome, IsOutcomeAt}
-use Rattle.world_model.specs.Steps.{node_state_after, node_state-Then, is_opening}
+use Rattle.world_model.specs.Moves.{node_state_after, node_state-Then, is_opening}
 use Rattle.coord_state.specs.declared.coord.CoordState.{CoordState}
 
 module _ {K : Type 0} (k : Ghosts K) where

@@ -3,7 +3,7 @@ ghost use Rattle.std.specs.Prelude.{◌≡◌};
 ghost use Rattle.world_model.specs.declared.acts.ActReply.{ActReply};
 ghost use Rattle.world_model.specs.declared.acts.Cause.{Cause as AnyCause};
 ghost use Rattle.world_model.specs.declared.acts.Cause.TheVariants as cause;
-ghost use Rattle.coord_state.specs.Outcomes.{IsTold, ending, not_taken, outcome, value_outcome, plain, sends_join, counted, sends_request, sends_response, sends_commit};
+ghost use Rattle.coord_state.specs.Outcomes.{IsReported, ending, not_taken, outcome, value_outcome, plain, sends_join, counted, sends_request, sends_response, sends_commit};
 
 use crate::coord::{ActError, Joined};
 use cluster_state::{
@@ -165,7 +165,7 @@ impl ActAnswer for Option<ApplyCommit> {
 /// The outcome of an act, by what it answered.
 pub fn outcome_of<A: ActAnswer, C: ActCause, T: Drop>(answer: Result<A, ActError<C, T>>) -> Outcome
     ensures value { result ≡ outcome A.reply_of C.cause_of answer }
-    ensures told { IsTold result }
+    ensures told { IsReported result }
 {
     match answer {
         Ok(taken) => Outcome::Answered(taken.into_reply()),
@@ -179,7 +179,7 @@ pub fn outcome_of_value<T: Drop>(
     request: PublishRequest,
 ) -> Outcome
     ensures value { result ≡ value_outcome request answer }
-    ensures told { IsTold result }
+    ensures told { IsReported result }
 {
     match answer {
         Ok(()) => Outcome::Answered(request.into_reply()),
@@ -191,7 +191,7 @@ impl NotTaken {
     /// The outcome of the act. A record that the disk failed to write counts as not kept until it is opened again.
     pub fn into_outcome(self) -> Outcome
         ensures value { result ≡ ending self }
-        ensures told { IsTold result }
+        ensures told { IsReported result }
     {
         match self {
             NotTaken::Stopped => Outcome::Answered(ActReply::Stopped),

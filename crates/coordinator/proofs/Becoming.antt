@@ -10,17 +10,17 @@ use Rattle.master_tasks.specs.Answering.{answers_by, failed}
 use Rattle.wire_frames.specs.declared.frame.WireMessage.TheVariants as message
 use Rattle.world_model.specs.declared.acts.Act.TheVariants.{StartJoin}
 use Rattle.policy_model.specs.declared.settings.Settings.{Settings}
-use Rattle.policy_model.specs.Events.{Item, Turns}
+use Rattle.policy_model.specs.Events.{Item, ChangesMode}
 use Rattle.policy_model.specs.declared.events.Mode.TheVariants.{Candidate}
 use Rattle.policy_model.specs.Views.{View}
-use Rattle.policy_model.specs.Moves.{turned}
+use Rattle.policy_model.specs.Moves.{mode_changed}
 use Rattle.policy_model.specs.Doing.{is_leader, reply_all, send, act_now, after_act, takes, becomes_candidate, becomes_candidate_once, on_start_join}
 use Rattle.coordinator.specs.Showing.{Shown, showing}
 use Rattle.coordinator.specs.Views.{view_in}
 use Rattle.coordinator.specs.Does.{Makes, Fails, Ends}
 use Rattle.coordinator.specs.declared.coordinator.Coordinator.{Coordinator}
 use Rattle.coordinator.proofs.Composing.{makes_then, fails_before}
-use Rattle.coordinator.proofs.Quiet.{makes_nothing, makes_replies, makes_send, makes_turn}
+use Rattle.coordinator.proofs.Quiet.{makes_nothing, makes_replies, makes_send, makes_mode}
 
 module _ {K : Type 0} (k : Ghosts K) where
   abbrev view : Coordinator K → View
@@ -45,15 +45,15 @@ module _ {K : Type 0} (k : Ghosts K) where
       subst (λ (l : List Outgoing). Make c c o (record o { replies = l }) []) (sym (append-nil o.replies)) (makes_nothing k c o)
 
   pub becomes : (old new : Coordinator K) (o o1 o_now : Shown) (term : ℕ) → o1 ≡ record o { replies = o.replies ++ (if is_leader old.mode then answers_by (failed old.leader_term) old.tasks.waiting else []) }
-      → new.settings ≡ old.settings → new.moment ≡ old.moment → new.core ≡ old.core → term ≡ (view old).node.term → view new ≡ turned (view old) Candidate term → o_now ≡ showing o1 (Turns Candidate term)
+      → new.settings ≡ old.settings → new.moment ≡ old.moment → new.core ≡ old.core → term ≡ (view old).node.term → view new ≡ mode_changed (view old) Candidate term → o_now ≡ showing o1 (ChangesMode Candidate term)
       → Make old new o o_now (becomes_candidate old.settings (view old))
   becomes old new o o1 o_now term failed_ones settings moment_is core term_is is shown =
       let first : Make old old o o1 (if is_leader old.mode then reply_all old.settings (answers_by (failed old.leader_term) old.tasks.waiting) else []) =
       subst (λ (x : Shown). Make old old o x (if is_leader old.mode then reply_all old.settings (answers_by (failed old.leader_term) old.tasks.waiting) else [])) (sym failed_ones)
       (replies_if old o (is_leader old.mode) (answers_by (failed old.leader_term) old.tasks.waiting)) in
-      let second = makes_turn k old new o1 o_now Candidate term settings moment_is core is shown in
-      makes_as old new o o_now _ (becomes_candidate old.settings (view old)) (makes_then k old old new o o1 o_now _ (Turns Candidate term ∷ []) first second)
-      (ap (λ (n : ℕ). (if is_leader old.mode then reply_all old.settings (answers_by (failed old.leader_term) old.tasks.waiting) else []) ++ Turns Candidate n ∷ []) term_is)
+      let second = makes_mode k old new o1 o_now Candidate term settings moment_is core is shown in
+      makes_as old new o o_now _ (becomes_candidate old.settings (view old)) (makes_then k old old new o o1 o_now _ (ChangesMode Candidate term ∷ []) first second)
+      (ap (λ (n : ℕ). (if is_leader old.mode then reply_all old.settings (answers_by (failed old.leader_term) old.tasks.waiting) else []) ++ ChangesMode Candidate n ∷ []) term_is)
 
   -- a join that was started
   pub starts_taken : (old mid new : Coordinator K) (o o1 o2 o3 : Shown) (candidate : Id) (term : ℕ) → Make old mid o o1 (act_now old.settings (view old) (StartJoin candidate term) ∷ [])

@@ -5,9 +5,9 @@ use Rattle.std.proofs.lemmas.List.{append_assoc}
 use Rattle.std.specs.Prelude.{Result, Ok, Err, IsErr, is_ok}
 use Rattle.std.specs.List.{flat_map}
 use Rattle.policy_model.specs.declared.settings.Settings.{Settings}
-use Rattle.policy_model.specs.declared.events.Step.{Step}
+use Rattle.policy_model.specs.declared.events.Deed.{Deed}
 use Rattle.policy_model.specs.declared.events.MemberDrop.{MemberDrop}
-use Rattle.policy_model.specs.Entries.{steps_in, drops_in}
+use Rattle.policy_model.specs.Entries.{deeds_in, drops_in}
 use Rattle.policy_model.specs.Events.{Item}
 use Rattle.policy_model.specs.Views.{View}
 use Rattle.policy_model.specs.Moves.{moved_all}
@@ -17,7 +17,7 @@ use Rattle.coordinator.specs.Showing.{Shown, showing_all}
 use Rattle.coordinator.specs.Views.{view_in, IsReady}
 use Rattle.coordinator.specs.Does.{Goes, Makes, Fails, Ends}
 use Rattle.coordinator.specs.declared.coordinator.Coordinator.{Coordinator}
-use Rattle.coordinator.proofs.Appending.{showing_all-append, behind, struck_behind, struck_before, moved_all-behind, steps-behind, drops-behind, steps-shown, drops-shown, did-append, did-behind, did_me}
+use Rattle.coordinator.proofs.Appending.{showing_all-append, behind, struck_behind, struck_before, moved_all-behind, deeds-behind, drops-behind, deeds-shown, drops-shown, did-append, did-behind, did_me}
 
 module _ {K : Type 0} (k : Ghosts K) where
   abbrev view : Coordinator K → View
@@ -67,9 +67,9 @@ module _ {K : Type 0} (k : Ghosts K) where
     left = behind xs then.left;
     struck = struck_behind xs ys then.left then.struck;
     goes = goes_behind a b c xs then.left first.goes then.goes;
-    steps = then.steps ∙ ap (λ (l : List Step). l ++ flat_map steps_in then.left) (ap (λ (o : Shown). o.steps) first.shown ∙ steps-shown o1 xs)
-        ∙ append_assoc o1.steps (flat_map steps_in xs) (flat_map steps_in then.left)
-        ∙ ap (λ (l : List Step). o1.steps ++ l) (sym (steps-behind xs then.left));
+    deeds = then.deeds ∙ ap (λ (l : List Deed). l ++ flat_map deeds_in then.left) (ap (λ (o : Shown). o.deeds) first.shown ∙ deeds-shown o1 xs)
+        ∙ append_assoc o1.deeds (flat_map deeds_in xs) (flat_map deeds_in then.left)
+        ∙ ap (λ (l : List Deed). o1.deeds ++ l) (sym (deeds-behind xs then.left));
     drops = then.drops ∙ ap (λ (l : List MemberDrop). l ++ flat_map drops_in then.left) (ap (λ (o : Shown). o.drops) first.shown ∙ drops-shown o1 xs)
         ∙ append_assoc o1.drops (flat_map drops_in xs) (flat_map drops_in then.left)
         ∙ ap (λ (l : List MemberDrop). o1.drops ++ l) (sym (drops-behind xs then.left));
@@ -77,7 +77,7 @@ module _ {K : Type 0} (k : Ghosts K) where
 
   -- a rule that fails has failed with those after it
   pub fails_before : (a b : Coordinator K) (o1 o2 : Shown) (xs ys : List Item) → Fail a b o1 o2 xs → Fail a b o1 o2 (xs ++ ys)
-  fails_before a b o1 o2 xs ys first = record { left = first.left; struck = struck_before xs ys first.left first.struck; goes = first.goes; steps = first.steps; drops = first.drops }
+  fails_before a b o1 o2 xs ys first = record { left = first.left; struck = struck_before xs ys first.left first.struck; goes = first.goes; deeds = first.deeds; drops = first.drops }
 
   pub ends_then : (a b c : Coordinator K) (o1 o2 o3 : Shown) (xs ys : List Item) (fine : Bool) → Make a b o1 o2 xs → End fine b c o2 o3 ys → End fine a c o1 o3 (xs ++ ys)
   ends_then a b c o1 o2 o3 xs ys true first then = makes_then a b c o1 o2 o3 xs ys first then

@@ -12,13 +12,13 @@ use Rattle.world_model.specs.declared.acts.Outcome.TheVariants.{Answered, Disk, 
 use Rattle.world_model.specs.Acts.{is_disk, is_crashed}
 use Rattle.world_model.specs.Replies.{writes}
 use Rattle.world_model.specs.NodeState.{NodeState}
-use Rattle.world_model.specs.Steps.{node_state_after}
+use Rattle.world_model.specs.Moves.{node_state_after}
 use Rattle.coord_state.specs.StandsFor.{fields_of}
 use Rattle.coord_state.specs.declared.coord.CoordState.{CoordState}
 use Rattle.policy_model.specs.declared.settings.Settings.{Settings}
 use Rattle.policy_model.specs.declared.events.Event.{Event}
 use Rattle.policy_model.specs.declared.events.Event.TheVariants.{Start, Tick, Frame as FrameCame, Client as LineCame}
-use Rattle.policy_model.specs.Events.{acts_of, Item, Opens, Begins, Acts, Turns, Drops, Sends, Replies, Notes, And, added}
+use Rattle.policy_model.specs.Events.{acts_of, Item, Opens, Begins, Acts, ChangesMode, Drops, Sends, Replies, Notes, And, added}
 use Rattle.policy_model.specs.Entries.{Life, log_of}
 use Rattle.policy_model.specs.Views.{View, view_of}
 use Rattle.policy_model.specs.Moves.{begun, moved_all, is_own, are_own, view_of-And}
@@ -29,7 +29,7 @@ use Rattle.policy_model.proofs.Answering.{answered-next}
 use Rattle.policy_model.proofs.Standing.{view_of-added, own-answered}
 use Rattle.coordinator.specs.Does.{Goes, Makes, Fails, EndsAll, Leaves}
 use Rattle.coordinator.specs.Showing.{Shown}
-use Rattle.coordinator.specs.Turns.{CoreDid, IsAlong}
+use Rattle.coordinator.specs.CoreActs.{CoreDid, IsAlong}
 use Rattle.coordinator.specs.Lives.{StandsForLife, WroteAll, Passes, Brings, Breaks, EventEnds, Enters, Survives}
 use Rattle.coordinator.specs.Views.{view_in, IsReady}
 use Rattle.coordinator.specs.declared.coordinator.Coordinator.{Coordinator}
@@ -53,7 +53,7 @@ own_without : (i : Item) (left : List Item) → is_own i ≡ true → are_own le
 own_without (Opens found) left i own = cc
 own_without (Begins event) left i own = own
 own_without (Acts act o) left i own = rw i own
-own_without (Turns mode term) left i own = own
+own_without (ChangesMode mode term) left i own = own
 own_without (Drops member cause) left i own = own
 own_without (Sends frame) left i own = own
 own_without (Replies answer) left i own = own
@@ -113,7 +113,7 @@ module _ {K : Type 0} (k : Ghosts K) where
   did_wrote old new (Opens found ∷ is) did = absurd did
   did_wrote old new (Begins event ∷ is) did = absurd did
   did_wrote old new (Acts act o ∷ is) did = (did.0.keeper, did.1.wrote, did_wrote did.0 new is did.2)
-  did_wrote old new (Turns mode term ∷ is) did = did_wrote old new is did
+  did_wrote old new (ChangesMode mode term ∷ is) did = did_wrote old new is did
   did_wrote old new (Drops member cause ∷ is) did = did_wrote old new is did
   did_wrote old new (Sends frame ∷ is) did = did_wrote old new is did
   did_wrote old new (Replies answer ∷ is) did = did_wrote old new is did
@@ -125,7 +125,7 @@ module _ {K : Type 0} (k : Ghosts K) where
   did_later old new (Opens found ∷ is) did = absurd did
   did_later old new (Begins event ∷ is) did = absurd did
   did_later old new (Acts act o ∷ is) did = omega (arith, did.1.acts.at.later, did_later did.0 new is did.2)
-  did_later old new (Turns mode term ∷ is) did = did_later old new is did
+  did_later old new (ChangesMode mode term ∷ is) did = did_later old new is did
   did_later old new (Drops member cause ∷ is) did = did_later old new is did
   did_later old new (Sends frame ∷ is) did = did_later old new is did
   did_later old new (Replies answer ∷ is) did = did_later old new is did
@@ -141,7 +141,7 @@ module _ {K : Type 0} (k : Ghosts K) where
   did_rise old new items left (Later (Opens found) rest left' q) did = absurd did
   did_rise old new items left (Later (Begins event) rest left' q) did = absurd did
   did_rise old new items left (Later (Acts act o) rest left' q) did = later_rose _ _ _ did.1.acts.at.later (did_rise did.0 new rest left' q did.2)
-  did_rise old new items left (Later (Turns mode term) rest left' q) did = did_rise old new rest left' q did
+  did_rise old new items left (Later (ChangesMode mode term) rest left' q) did = did_rise old new rest left' q did
   did_rise old new items left (Later (Drops member cause) rest left' q) did = did_rise old new rest left' q did
   did_rise old new items left (Later (Sends frame) rest left' q) did = did_rise old new rest left' q did
   did_rise old new items left (Later (Replies answer) rest left' q) did = did_rise old new rest left' q did
@@ -176,7 +176,7 @@ module _ {K : Type 0} (k : Ghosts K) where
   did_run old new (Acts act o ∷ is) f did =
       let parts = or_parts (is_fault o) (has_fault is) f in
       did_run did.0 new is parts.1 did.2 ∙ ap (λ (n : NodeState). n.halted) did.1.acts.at.after ∙ running_by (fields_of k old) act o parts.0
-  did_run old new (Turns mode term ∷ is) f did = did_run old new is f did
+  did_run old new (ChangesMode mode term ∷ is) f did = did_run old new is f did
   did_run old new (Drops member cause ∷ is) f did = did_run old new is f did
   did_run old new (Sends frame ∷ is) f did = did_run old new is f did
   did_run old new (Replies answer ∷ is) f did = did_run old new is f did
@@ -191,7 +191,7 @@ module _ {K : Type 0} (k : Ghosts K) where
   did_halts old new items left (Later (Opens found) rest left' q) did = absurd did
   did_halts old new items left (Later (Begins event) rest left' q) did = absurd did
   did_halts old new items left (Later (Acts act o) rest left' q) did = did_halts did.0 new rest left' q did.2
-  did_halts old new items left (Later (Turns mode term) rest left' q) did = did_halts old new rest left' q did
+  did_halts old new items left (Later (ChangesMode mode term) rest left' q) did = did_halts old new rest left' q did
   did_halts old new items left (Later (Drops member cause) rest left' q) did = did_halts old new rest left' q did
   did_halts old new items left (Later (Sends frame) rest left' q) did = did_halts old new rest left' q did
   did_halts old new items left (Later (Replies answer) rest left' q) did = did_halts old new rest left' q did
@@ -217,7 +217,7 @@ module _ {K : Type 0} (k : Ghosts K) where
     left = fails.left;
     struck = fails.struck;
     passes = passes_of old mid new event fails.left settings core begins fails.goes;
-    steps = fails.steps;
+    deeds = fails.deeds;
     drops = fails.drops;
   }
 

@@ -14,7 +14,7 @@ use Rattle.world_model.specs.declared.acts.ActReply.TheVariants.{Taken, Refused,
 use Rattle.world_model.specs.declared.acts.Outcome.TheVariants.{Answered}
 use Rattle.world_model.specs.NodeState.{NodeState}
 use Rattle.world_model.specs.Replies.{is_taken}
-use Rattle.world_model.specs.Steps.{node_state_after}
+use Rattle.world_model.specs.Moves.{node_state_after}
 use Rattle.master_tasks.specs.Queue.{Tasks}
 use Rattle.master_tasks.specs.Answering.{answers_by, exclusion_done, without_answered}
 use Rattle.master_tasks.specs.NextState.{leader_of}

@@ -15,9 +15,9 @@ use Rattle.world_model.specs.Replies.{writes}
 use Rattle.coord_state.specs.declared.coord.CoordState.{CoordState}
 use Rattle.coord_state.specs.StandsFor.{StandsFor}
 use Rattle.coord_state.specs.Writes.{IsDuring}
-use Rattle.policy_model.specs.Events.{Item, Opens, Begins, Acts, Turns, Drops, Sends, Replies, Notes}
+use Rattle.policy_model.specs.Events.{Item, Opens, Begins, Acts, ChangesMode, Drops, Sends, Replies, Notes}
 use Rattle.policy_model.specs.Follows.{IsStruck, Here, Later, is_fault}
-use Rattle.coordinator.specs.Turns.{Acted, CoreDid, IsAlong, IsDuringAs}
+use Rattle.coordinator.specs.CoreActs.{Acted, CoreDid, IsAlong, IsDuringAs}
 
 -- what was kept before a faulty act, or what it wrote
 struck_kept : (g : NodeHistory) (act : Act) (o : Outcome) → writes act ≡ true → is_fault o ≡ true → (found : Option Kept) → found ≡ Some (durable_of (Then g act o)) → IsDuring g act found
@@ -58,7 +58,7 @@ along_struck g items left (Here act sends wins rest fault w f) found a = inl (�
 along_struck g items left (Later (Opens kept) rest left' q) found a = along_struck g rest left' q found a
 along_struck g items left (Later (Begins event) rest left' q) found a = along_struck g rest left' q found a
 along_struck g items left (Later (Acts act o) rest left' q) found a = ⊎_elim (λ during. inl during) (λ after. inr (along_struck (Then g act o) rest left' q found after)) a
-along_struck g items left (Later (Turns mode term) rest left' q) found a = along_struck g rest left' q found a
+along_struck g items left (Later (ChangesMode mode term) rest left' q) found a = along_struck g rest left' q found a
 along_struck g items left (Later (Drops member cause) rest left' q) found a = along_struck g rest left' q found a
 along_struck g items left (Later (Sends frame) rest left' q) found a = along_struck g rest left' q found a
 along_struck g items left (Later (Replies answer) rest left' q) found a = along_struck g rest left' q found a
@@ -80,7 +80,7 @@ module _ {K : Type 0} (k : Ghosts K) where
   did_leaves old new (Acts act o ∷ is) did t g s =
       let rest = did_leaves did.0 new is did.2 t (Then g act o) (did.1.acts.stands g s) in
       joins k.moment k.left_since old.keeper did.0.keeper new.keeper (IsDuringAs g act o) (IsAlong (Then g act o) is) (IsAlong g (Acts act o ∷ is)) (act_leaves old did.0 act o did.1 t g s) rest (λ found in_hand. inl in_hand) (λ found after. inr after)
-  did_leaves old new (Turns mode term ∷ is) did t g s = did_leaves old new is did t g s
+  did_leaves old new (ChangesMode mode term ∷ is) did t g s = did_leaves old new is did t g s
   did_leaves old new (Drops member cause ∷ is) did t g s = did_leaves old new is did t g s
   did_leaves old new (Sends frame ∷ is) did t g s = did_leaves old new is did t g s
   did_leaves old new (Replies answer ∷ is) did t g s = did_leaves old new is did t g s

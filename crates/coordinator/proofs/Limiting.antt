@@ -9,7 +9,7 @@ use Rattle.master_tasks.specs.declared.waiting.Outgoing.{Outgoing}
 use Rattle.master_tasks.specs.Queue.{most_open}
 use Rattle.policy_model.specs.declared.events.Event.{Event}
 use Rattle.policy_model.specs.declared.events.Event.TheVariants.{Start, Tick, Frame as FrameCame, Client as LineCame}
-use Rattle.policy_model.specs.declared.events.Step.{Step}
+use Rattle.policy_model.specs.declared.events.Deed.{Deed}
 use Rattle.policy_model.specs.Bounds.{IsSmallView, EventHoldsSet, most_frames}
 use Rattle.policy_model.specs.Fitting.{IsFitView, IsFitEvent, EventHoldsSettings}
 use Rattle.policy_model.specs.Moves.{begun}
@@ -63,7 +63,7 @@ module _ {K : Type 0} (k : Ghosts K) where
       let is = sealed_so event items shown sealed (subst (λ (o : Shown). shown ≡ showing_all o items) none brings.shown) seals in
       let answers = answers_few s v event (subst (λ (n : ℕ). n ≤ most_open) (sym (ap (λ l. length l) (waiting_begun (view_in k old) event))) few) in
       record {
-        steps = subst (λ (l : List Step). length l ≤ 6) (sym is.entries.steps) (event_short s v event).steps;
+        deeds = subst (λ (l : List Deed). length l ≤ 6) (sym is.entries.deeds) (event_short s v event).deeds;
         replies = subst (λ (l : List Outgoing). length l ≤ most_open) (sym is.replies) answers.replies;
         sends = λ fit_before. subst (λ (l : List Frame). AllByRecursion IsFitFrame l) (sym is.sends) (stays_fit s v event (fit_begun (view_in k old) event fit_before) fit holds).frames;
         after = λ fit_before. subst (λ (u : View). IsFitView u) (sym brings.passes.view) (stays_fit s v event (fit_begun (view_in k old) event fit_before) fit holds).after;

@@ -18,8 +18,8 @@ use Rattle.world_model.specs.declared.acts.Outcome.TheVariants.{Answered, Disk, 
 use Rattle.world_model.specs.Acts.{NodeHistory, is_ok as was_taken, wins}
 use Rattle.world_model.specs.Replies.{reply_at, is_taken, writes}
 use Rattle.world_model.specs.NodeState.{NodeState}
-use Rattle.world_model.specs.Steps.{node_state_after}
-use Rattle.coord_state.specs.Outcomes.{IsTold, value_outcome}
+use Rattle.world_model.specs.Moves.{node_state_after}
+use Rattle.coord_state.specs.Outcomes.{IsReported, value_outcome}
 use Rattle.coord_state.specs.StandsFor.{Acts as CoreActs, StandsFor, request_of}
 use Rattle.coord_state.specs.Writes.{WritesBy, IsDuring}
 use Rattle.coord_state.specs.declared.coord.ActError.{ActError}
@@ -33,7 +33,7 @@ use Rattle.policy_model.specs.Joins.{wins_now}
 use Rattle.policy_model.specs.Publications.{commits_now}
 use Rattle.policy_model.specs.Doing.{act_now, reply_now, takes}
 use Rattle.coordinator.specs.Showing.{Shown, showing}
-use Rattle.coordinator.specs.Turns.{Acted}
+use Rattle.coordinator.specs.CoreActs.{Acted}
 use Rattle.coordinator.specs.Verdicts.{verdict}
 use Rattle.coordinator.specs.Views.{view_in, IsReady}
 use Rattle.coordinator.specs.Does.{Goes, Makes, Fails, Ends}
@@ -97,7 +97,7 @@ module _ {K : Type 0} (k : Ghosts K) where
         left = Acts act (Disk false) ∷ [];
         struck = rw reply.1.1 (Here act reply.0 reply.1.0 rest (Disk false) at.1 refl);
         goes = goes_by old new act (Disk false) did settings moment_is is;
-        steps = ap (λ (o : Shown). o.steps) shown;
+        deeds = ap (λ (o : Shown). o.deeds) shown;
         drops = ap (λ (o : Shown). o.drops) shown ∙ sym (append-nil sent.drops);
       }
 
@@ -112,7 +112,7 @@ module _ {K : Type 0} (k : Ghosts K) where
   answered old core act (Disk b) ready none did = absurd (true≢false (sym did.acts.at.answers.1 ∙ none))
   answered old core act (Crashed b) ready none did = absurd (true≢false (sym did.acts.at.answers.1 ∙ none))
 
-  ends_told : (old new : Coordinator K) (act : Act) (o : Outcome) (sent sent_now : Shown) → IsReady old → Act1 old.core new.core act o → IsTold o
+  ends_told : (old new : Coordinator K) (act : Act) (o : Outcome) (sent sent_now : Shown) → IsReady old → Act1 old.core new.core act o → IsReported o
       → new.settings ≡ old.settings → new.moment ≡ old.moment → view new ≡ acted old.settings (view old) act o → sent_now ≡ showing sent (Acts act o)
       → Ends k (is_ok (verdict o)) old new sent sent_now (act_now old.settings (view old) act ∷ [])
   ends_told old new act (Answered reply) sent sent_now ready did is_told settings moment_is is shown = makes_by old new act reply sent sent_now ready did settings moment_is is shown
@@ -121,7 +121,7 @@ module _ {K : Type 0} (k : Ghosts K) where
   ends_told old new act (Crashed b) sent sent_now ready did is_told settings moment_is is shown = absurd is_told
 
   -- an act, however it ended: the outcome that was reported is the core's
-  pub ends_act : (old new : Coordinator K) (act : Act) (o told : Outcome) (r : Result Bool DiskFailed) (sent sent_now : Shown) → IsReady old → Act1 old.core new.core act o → told ≡ o → IsTold told
+  pub ends_act : (old new : Coordinator K) (act : Act) (o told : Outcome) (r : Result Bool DiskFailed) (sent sent_now : Shown) → IsReady old → Act1 old.core new.core act o → told ≡ o → IsReported told
       → new.settings ≡ old.settings → new.moment ≡ old.moment → view new ≡ acted old.settings (view old) act o → sent_now ≡ showing sent (Acts act told) → r ≡ verdict told
       → Ends k (is_ok r) old new sent sent_now (act_now old.settings (view old) act ∷ [])
   ends_act old new act o told r sent sent_now ready did same is_told settings moment_is is shown r_is =
@@ -169,7 +169,7 @@ module _ {K : Type 0} (k : Ghosts K) where
 
   -- the core publishes a value, whose request was made before
   pub value_did : (old new : CoordState K) (version v : ℕ) (config c : List Id) (value : ClusterValue) (request : PublishRequest) (answer : Result (Unit {0}) (ActError ValueCause (Unit {0}))) (o : Outcome)
-      → v ≡ version → c ≡ config → request ≡ request_of k old version config value → o ≡ value_outcome request answer → IsTold o
+      → v ≡ version → c ≡ config → request ≡ request_of k old version config value → o ≡ value_outcome request answer → IsReported o
       → CoreActs k old new (Value v c value) (answered_value old v c value answer) → WritesBy k old.keeper (Value v c value) new.keeper (answered_value old v c value answer)
       → (k.told → (g : NodeHistory) → StandsFor k old g → LeavesOnly k.moment k.left_since old.keeper new.keeper (IsDuring g (Value v c value)))
       → Acted k old new (Value version config value) o
@@ -178,5 +178,5 @@ module _ {K : Type 0} (k : Ghosts K) where
       o_is ∙ ap (λ (r : PublishRequest). value_outcome r answer) request_is
       ∙ ap (λ (n : ℕ). answered_value old n config value answer) (sym version_is) ∙ ap (λ (x : List Id). answered_value old v x value answer) (sym config_is) in
       let did : Acted k old new (Value v c value) o =
-      subst (λ (x : Outcome). Acted k old new (Value v c value) x) (sym o_is') (record { acts = acts; wrote = wrote; any_moment = any_moment; told = subst IsTold o_is' is_told }) in
+      subst (λ (x : Outcome). Acted k old new (Value v c value) x) (sym o_is') (record { acts = acts; wrote = wrote; any_moment = any_moment; told = subst IsReported o_is' is_told }) in
       subst (λ (n : ℕ). Acted k old new (Value n config value) o) version_is (subst (λ (x : List Id). Acted k old new (Value v x value) o) config_is did)

@@ -9,14 +9,14 @@ use Rattle.wire_frames.specs.declared.frame.Frame.{Frame}
 use Rattle.wire_frames.specs.declared.frame.WireMessage.{WireMessage}
 use Rattle.policy_model.specs.declared.settings.Settings.{Settings}
 use Rattle.policy_model.specs.declared.events.Mode.{Mode}
-use Rattle.policy_model.specs.Events.{Note, Item, Replies, Notes, Turns}
+use Rattle.policy_model.specs.Events.{Note, Item, Replies, Notes, ChangesMode}
 use Rattle.policy_model.specs.Views.{View}
-use Rattle.policy_model.specs.Moves.{turned, noted}
+use Rattle.policy_model.specs.Moves.{mode_changed, noted}
 use Rattle.policy_model.specs.Doing.{send, send_all, reply_all}
 use Rattle.policy_model.proofs.Sweeps.{moved_all-replies, moved_all-sends}
 use Rattle.coordinator.specs.Plans.{frame_to}
 use Rattle.coordinator.specs.Showing.{Shown, showing, showing_all}
-use Rattle.coordinator.specs.Turns.{CoreDid}
+use Rattle.coordinator.specs.CoreActs.{CoreDid}
 use Rattle.coordinator.specs.Views.{view_in}
 use Rattle.coordinator.specs.Does.{Makes}
 use Rattle.coordinator.specs.declared.coordinator.Coordinator.{Coordinator}
@@ -72,9 +72,9 @@ module _ {K : Type 0} (k : Ghosts K) where
   makes_send c o to m = record { goes = record { settings = refl; clock = refl; view = refl; core = refl }; shown = refl }
 
   -- the mode changed
-  pub makes_turn : (old new : Coordinator K) (o o_now : Shown) (mode : Mode) (term : ℕ) → new.settings ≡ old.settings → new.moment ≡ old.moment → new.core ≡ old.core → view new ≡ turned (view old) mode term → o_now ≡ showing o (Turns mode term)
-      → Make old new o o_now (Turns mode term ∷ [])
-  makes_turn old new o o_now mode term settings moment_is core is shown = record { goes = record { settings = settings; clock = moment_is; view = is; core = core }; shown = shown }
+  pub makes_mode : (old new : Coordinator K) (o o_now : Shown) (mode : Mode) (term : ℕ) → new.settings ≡ old.settings → new.moment ≡ old.moment → new.core ≡ old.core → view new ≡ mode_changed (view old) mode term → o_now ≡ showing o (ChangesMode mode term)
+      → Make old new o o_now (ChangesMode mode term ∷ [])
+  makes_mode old new o o_now mode term settings moment_is core is shown = record { goes = record { settings = settings; clock = moment_is; view = is; core = core }; shown = shown }
 
   -- a rule ran
   pub makes_note : (old new : Coordinator K) (o : Shown) (note : Note) → new.settings ≡ old.settings → new.moment ≡ old.moment → new.core ≡ old.core → view new ≡ noted old.settings (view old) note → Make old new o o (Notes note ∷ [])

@@ -9,7 +9,7 @@ use Rattle.state_journal.specs.declared.keeper.Keeper.{Ghosts}
 use Rattle.wire_frames.specs.declared.frame.Frame.{Frame}
 use Rattle.policy_model.specs.declared.events.Event.{Event}
 use Rattle.policy_model.specs.declared.events.MemberDrop.{MemberDrop}
-use Rattle.policy_model.specs.Events.{Item, Opens, Begins, Acts, Turns, Drops, Sends, Replies, Notes, acts_of}
+use Rattle.policy_model.specs.Events.{Item, Opens, Begins, Acts, ChangesMode, Drops, Sends, Replies, Notes, acts_of}
 use Rattle.policy_model.specs.Views.{View}
 use Rattle.policy_model.specs.Entries.{Life, Lived, Did, log_of, frames_in, replies_in, by_member, by_receiver}
 use Rattle.policy_model.specs.Follows.{items_of}
@@ -26,7 +26,7 @@ use Rattle.coordinator.specs.declared.coordinator.EventError.TheVariants as erro
 use Rattle.coordinator.specs.declared.step.Sealed.{Sealed}
 use Rattle.coordinator.specs.declared.step.StepError.{StepError}
 use Rattle.coordinator.specs.declared.step.StepError.TheVariants as step_error
-use Rattle.coordinator.proofs.Appending.{steps-shown, drops-shown}
+use Rattle.coordinator.proofs.Appending.{deeds-shown, drops-shown}
 use Rattle.coordinator.proofs.Entering.{own_next, own_struck, items_now, enters, did_later, did_rise, did_run, did_halts}
 
 frames-shown : (o : Shown) (is : List Item) → (showing_all o is).frames ≡ o.frames ++ flat_map frames_in is
@@ -34,7 +34,7 @@ frames-shown o [] = sym (append-nil o.frames)
 frames-shown o (Opens found ∷ is) = frames-shown o is
 frames-shown o (Begins event ∷ is) = frames-shown o is
 frames-shown o (Acts act outcome ∷ is) = frames-shown (showing o (Acts act outcome)) is
-frames-shown o (Turns mode term ∷ is) = frames-shown (showing o (Turns mode term)) is
+frames-shown o (ChangesMode mode term ∷ is) = frames-shown (showing o (ChangesMode mode term)) is
 frames-shown o (Drops member cause ∷ is) = frames-shown (showing o (Drops member cause)) is
 frames-shown o (Sends frame ∷ is) = frames-shown (showing o (Sends frame)) is ∙ append_assoc o.frames (frame ∷ []) (flat_map frames_in is)
 frames-shown o (Replies answer ∷ is) = frames-shown (showing o (Replies answer)) is
@@ -45,7 +45,7 @@ replies-shown o [] = sym (append-nil o.replies)
 replies-shown o (Opens found ∷ is) = replies-shown o is
 replies-shown o (Begins event ∷ is) = replies-shown o is
 replies-shown o (Acts act outcome ∷ is) = replies-shown (showing o (Acts act outcome)) is
-replies-shown o (Turns mode term ∷ is) = replies-shown (showing o (Turns mode term)) is
+replies-shown o (ChangesMode mode term ∷ is) = replies-shown (showing o (ChangesMode mode term)) is
 replies-shown o (Drops member cause ∷ is) = replies-shown (showing o (Drops member cause)) is
 replies-shown o (Sends frame ∷ is) = replies-shown (showing o (Sends frame)) is
 replies-shown o (Replies answer ∷ is) = replies-shown (showing o (Replies answer)) is ∙ append_assoc o.replies (answer ∷ []) (flat_map replies_in is)
@@ -56,7 +56,7 @@ pub sealed_so : (event : Event) (items : List Item) (shown : Shown) (sealed : Se
 sealed_so event items shown sealed is ordered = record {
   entries = record {
     event = ordered.entries.event;
-    steps = ordered.entries.steps ∙ ap (λ (o : Shown). o.steps) is ∙ steps-shown nothing_shown items;
+    deeds = ordered.entries.deeds ∙ ap (λ (o : Shown). o.deeds) is ∙ deeds-shown nothing_shown items;
     drops = ordered.entries.drops ∙ ap (λ (o : Shown). by_member o.drops) is ∙ ap (λ (l : List MemberDrop). by_member l) (drops-shown nothing_shown items);
   };
   sends = ordered.sends ∙ ap (λ (o : Shown). by_receiver o.frames) is ∙ ap (λ (l : List Frame). by_receiver l) (frames-shown nothing_shown items);
@@ -89,7 +89,7 @@ module _ {K : Type 0} (k : Ghosts K) where
     left = breaks.left;
     struck = breaks.struck;
     enters = enters k old new event breaks.left (own_struck _ breaks.left breaks.struck (own_next old.settings (begun (view_in k old) event) event)) breaks.passes;
-    entries = record { event = seals.event; steps = seals.steps ∙ breaks.steps; drops = seals.drops ∙ ap (λ (l : List MemberDrop). by_member l) breaks.drops };
+    entries = record { event = seals.event; deeds = seals.deeds ∙ breaks.deeds; drops = seals.drops ∙ ap (λ (l : List MemberDrop). by_member l) breaks.drops };
     rose = did_rise k old.core new.core _ breaks.left breaks.struck breaks.passes.core;
     stopped = did_halts k old.core new.core _ breaks.left breaks.struck breaks.passes.core;
   }
@@ -118,10 +118,10 @@ module _ {K : Type 0} (k : Ghosts K) where
   stays (Err error.Memory) r old new event sent shown items same seals = subst (λ (x : Result Sealed StepError). Stays k old new x) (sym seals) same
 
   -- whatever life the node stood for, the event is the one of that life
-  pub steps : (ended : Result (Unit {0}) EventError) (r : Result Sealed StepError) (old new : Coordinator K) (event : Event) (sent shown : Shown) → sent ≡ nothing_shown
+  pub deeds : (ended : Result (Unit {0}) EventError) (r : Result Sealed StepError) (old new : Coordinator K) (event : Event) (sent shown : Shown) → sent ≡ nothing_shown
       → EventEnds k ended old new event sent shown (next_of old.settings (begun (view_in k old) event) event) → Seals ended event shown r → k.has_stopped old.core.keeper ≡ false
       → (life : Life) → StandsForLife k old life → Steps k old new event (items_of old.settings (log_of life) event) r
-  steps ended r old new event sent shown none does seals up life stands =
+  deeds ended r old new event sent shown none does seals up life stands =
       subst (λ (items : List Item). Steps k old new event items r) (items_now k old life event stands)
       (steps_by ended r old new event shown
       (subst (λ (o : Shown). EventEnds k ended old new event o shown (next_of old.settings (begun (view_in k old) event) event)) none does) seals up)
@@ -142,7 +142,7 @@ module _ {K : Type 0} (k : Ghosts K) where
       → EventEnds k ended old new event sent shown (next_of old.settings (begun (view_in k old) event) event) → Seals ended event shown r → k.has_stopped old.core.keeper ≡ false
       → LeavesRecord new → IfOk r (λ (sealed : Sealed). Lasts k old new event)
   lasting ended (Ok sealed) old new event sent shown none does seals up leaves = λ life stands told found.
-      lasts old new event (items_of old.settings (log_of life) event) sealed leaves life stands (steps ended (Ok sealed) old new event sent shown none does seals up life stands) told found
+      lasts old new event (items_of old.settings (log_of life) event) sealed leaves life stands (deeds ended (Ok sealed) old new event sent shown none does seals up life stands) told found
   lasting ended (Err e) old new event sent shown none does seals up leaves = tt
 
 -- an event that came to its end is sealed

@@ -28,7 +28,7 @@ use Rattle.master_tasks.specs.NextState.{leader_of}
 use Rattle.coordinator.proofs.Foreseen.{has_planned}
 use Rattle.coordinator.specs.Ticks.{all_removed, dropped, tasks_ticked, ticks_members, IsPlannedTick}
 use Rattle.coordinator.specs.Showing.{Shown, showing, showing_all}
-use Rattle.coordinator.specs.Turns.{CoreDid}
+use Rattle.coordinator.specs.CoreActs.{CoreDid}
 use Rattle.coordinator.specs.Views.{view_in}
 use Rattle.coordinator.specs.Does.{Makes}
 use Rattle.coordinator.specs.declared.coordinator.Coordinator.{Coordinator}

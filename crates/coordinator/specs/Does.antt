@@ -3,7 +3,7 @@ use Rattle.std.specs.Prelude.{◌≡◌, Bool, true, false, Result, Ok, Err, Lis
 use Rattle.state_journal.specs.declared.keeper.Keeper.{Ghosts}
 use Rattle.std.specs.List.{flat_map}
 use Rattle.policy_model.specs.declared.settings.Settings.{Settings}
-use Rattle.policy_model.specs.Entries.{steps_in, drops_in}
+use Rattle.policy_model.specs.Entries.{deeds_in, drops_in}
 use Rattle.policy_model.specs.Events.{Item}
 use Rattle.policy_model.specs.Views.{View}
 use Rattle.policy_model.specs.Moves.{moved_all}
@@ -12,7 +12,7 @@ use Rattle.coordinator.specs.Showing.{Shown, shown_in, showing_all}
 use Rattle.zen_disk.specs.Moments.{LeavesOnly}
 use Rattle.world_model.specs.Acts.{NodeHistory}
 use Rattle.coord_state.specs.StandsFor.{StandsFor}
-use Rattle.coordinator.specs.Turns.{CoreDid, IsAlong}
+use Rattle.coordinator.specs.CoreActs.{CoreDid, IsAlong}
 use Rattle.coordinator.specs.Views.{view_in}
 use Rattle.coordinator.specs.declared.coordinator.Coordinator.{Coordinator}
 use Rattle.coordinator.specs.declared.output.Output.{Output}
@@ -37,7 +37,7 @@ module _ {K : Type 0} (k : Ghosts K) where
     pub left : List Item
     pub struck : IsStruck items left
     pub goes : Goes old new left
-    pub steps : sent_now.steps ≡ sent.steps ++ flat_map steps_in left
+    pub deeds : sent_now.deeds ≡ sent.deeds ++ flat_map deeds_in left
     pub drops : sent_now.drops ≡ sent.drops ++ flat_map drops_in left
 
   abbrev pub Ends : Bool → (old new : Coordinator K) (sent sent_now : Shown) → List Item → Type 0

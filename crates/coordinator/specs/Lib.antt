@@ -1,7 +1,7 @@
 pub mod Lists
 pub mod Showing
 pub mod Views
-pub mod Turns
+pub mod CoreActs
 pub mod Verdicts
 pub mod Does
 pub mod Rooms

@@ -11,9 +11,9 @@ use Rattle.coordinator.specs.Views.{view_in}
 use Rattle.coordinator.specs.declared.coordinator.Coordinator.{Coordinator}
 use Rattle.coordinator.specs.declared.step.Sealed.{Sealed}
 
--- few steps and replies; and where the node was within the limits, so are its frames, and the node after it
+-- few deeds and replies; and where the node was within the limits, so are its frames, and the node after it
 pub record IsWithin {K : Type 0} (k : Ghosts K) (old new : Coordinator K) (sealed : Sealed) : Type 0 where
-  pub steps : length sealed.entries.steps.list ≤ 6
+  pub deeds : length sealed.entries.deeds.list ≤ 6
   pub replies : length sealed.replies.sent ≤ most_open
   pub sends : IsFitView (view_in k old) → AllByRecursion IsFitFrame sealed.sends.list
   pub after : IsFitView (view_in k old) → IsFitView (view_in k new)

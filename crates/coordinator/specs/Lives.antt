@@ -7,14 +7,14 @@ use Rattle.cluster_state.specs.declared.state.Kept.{Kept}
 use Rattle.world_model.specs.NodeState.{durable_of}
 use Rattle.coord_state.specs.Writes.{WritesBy}
 use Rattle.policy_model.specs.declared.events.Event.{Event}
-use Rattle.policy_model.specs.Events.{Item, Opens, Begins, Acts, Turns, Drops, Sends, Replies, Notes, acts_of}
-use Rattle.policy_model.specs.Entries.{Life, Lived, Did, log_of, steps_in, drops_in}
+use Rattle.policy_model.specs.Events.{Item, Opens, Begins, Acts, ChangesMode, Drops, Sends, Replies, Notes, acts_of}
+use Rattle.policy_model.specs.Entries.{Life, Lived, Did, log_of, deeds_in, drops_in}
 use Rattle.policy_model.specs.Views.{view_of}
 use Rattle.policy_model.specs.Moves.{begun, moved_all}
 use Rattle.policy_model.specs.Follows.{IsStruck, items_of}
 use Rattle.policy_model.specs.Rules.{next_of}
 use Rattle.coordinator.specs.Showing.{Shown, shown_in, showing_all}
-use Rattle.coordinator.specs.Turns.{CoreDid, IsAlong}
+use Rattle.coordinator.specs.CoreActs.{CoreDid, IsAlong}
 use Rattle.coordinator.specs.Views.{view_in}
 use Rattle.coordinator.specs.declared.coordinator.Coordinator.{Coordinator}
 use Rattle.coordinator.specs.declared.coordinator.EventError.{EventError}
@@ -32,7 +32,7 @@ module _ {K : Type 0} (k : Ghosts K) where
   WroteAll old (Acts act o ∷ is) new = (mid : K) × WritesBy k old act mid o × WroteAll mid is new
   WroteAll old (Opens found ∷ is) new = WroteAll old is new
   WroteAll old (Begins event ∷ is) new = WroteAll old is new
-  WroteAll old (Turns mode term ∷ is) new = WroteAll old is new
+  WroteAll old (ChangesMode mode term ∷ is) new = WroteAll old is new
   WroteAll old (Drops member cause ∷ is) new = WroteAll old is new
   WroteAll old (Sends frame ∷ is) new = WroteAll old is new
   WroteAll old (Replies answer ∷ is) new = WroteAll old is new
@@ -55,7 +55,7 @@ module _ {K : Type 0} (k : Ghosts K) where
     pub left : List Item
     pub struck : IsStruck items left
     pub passes : Passes old new event left
-    pub steps : sent_now.steps ≡ sent.steps ++ flat_map steps_in left
+    pub deeds : sent_now.deeds ≡ sent.deeds ++ flat_map deeds_in left
     pub drops : sent_now.drops ≡ sent.drops ++ flat_map drops_in left
 
   abbrev pub EventEnds : Result (Unit {0}) EventError → (old new : Coordinator K) → Event → (sent sent_now : Shown) → List Item → Type 0

@@ -5,10 +5,10 @@ use Rattle.zen_disk.specs.Faults.{Rose}
 use Rattle.policy_model.specs.declared.events.Event.{Event}
 use Rattle.policy_model.specs.declared.events.Event.TheVariants.{Start, Tick, Frame as FrameCame, Client as LineCame}
 use Rattle.policy_model.specs.Events.{Item}
-use Rattle.policy_model.specs.Entries.{steps_of, drops_of, frames_of, replies_of, by_member, by_receiver}
+use Rattle.policy_model.specs.Entries.{deeds_of, drops_of, frames_of, replies_of, by_member, by_receiver}
 use Rattle.policy_model.specs.Follows.{IsStruck}
 use Rattle.coordinator.specs.Lives.{Enters}
-use Rattle.coordinator.specs.Rooms.{event_steps, tick_drops, to_set_and_one, to_three_sets}
+use Rattle.coordinator.specs.Rooms.{event_deeds, tick_drops, to_set_and_one, to_three_sets}
 use Rattle.coordinator.specs.Showing.{Shown}
 use Rattle.coordinator.specs.declared.coordinator.Coordinator.{Coordinator}
 use Rattle.coordinator.specs.declared.coordinator.EventError.{EventError}
@@ -18,12 +18,12 @@ use Rattle.coordinator.specs.declared.step.Entries.{Entries}
 use Rattle.coordinator.specs.declared.step.StepError.{StepError}
 use Rattle.coordinator.specs.declared.step.StepError.TheVariants as step_error
 
--- how many steps, drops and frames an event comes to at most
-abbrev pub steps_for : Event → ℕ
-steps_for Start = 0
-steps_for (Tick now word) = event_steps
-steps_for (FrameCame frame) = event_steps
-steps_for (LineCame conn line) = event_steps
+-- how many deeds, drops and frames an event comes to at most
+abbrev pub deeds_for : Event → ℕ
+deeds_for Start = 0
+deeds_for (Tick now word) = event_deeds
+deeds_for (FrameCame frame) = event_deeds
+deeds_for (LineCame conn line) = event_deeds
 
 abbrev pub drops_for : Event → ℕ
 drops_for Start = 0
@@ -39,10 +39,10 @@ frames_for (Tick now word) = to_three_sets
 frames_for (FrameCame frame) = to_set_and_one
 frames_for (LineCame conn line) = to_set_and_one
 
--- the entries are the steps and the drops of these items
+-- the entries are the deeds and the drops of these items
 pub record AreEntries (e : Event) (items : List Item) (entries : Entries) : Type 0 where
   pub event : entries.event ≡ e
-  pub steps : entries.steps.list ≡ steps_of items
+  pub deeds : entries.deeds.list ≡ deeds_of items
   pub drops : entries.drops.list ≡ drops_of items
 
 -- what is sealed is what these items show
@@ -54,7 +54,7 @@ pub record IsSealed (e : Event) (items : List Item) (sealed : Sealed) : Type 0 w
 -- what was shown is in its order
 pub record AreOrdered (e : Event) (shown : Shown) (entries : Entries) : Type 0 where
   pub event : entries.event ≡ e
-  pub steps : entries.steps.list ≡ shown.steps
+  pub deeds : entries.deeds.list ≡ shown.deeds
   pub drops : entries.drops.list ≡ by_member shown.drops
 
 pub record IsOrdered (e : Event) (shown : Shown) (sealed : Sealed) : Type 0 where

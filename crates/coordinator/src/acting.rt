@@ -42,7 +42,7 @@ impl<K: Keeper> Coordinator<K> {
         first: FirstState,
     ) -> Result<bool, DiskFailed>
         requires ready { IsReady self.old }
-        requires steps { 1 ≤ out.old.steps.room }
+        requires deeds { 1 ≤ out.old.deeds.room }
         requires first { first.ready.state ≡ initial_state first.config }
         ensures does { Does K.Keeper self.old self.new out.old out.new (λ s v. act_now s v (act.Bootstrap first.config) ∷ []) (is_ok result) }
         ensures taken { IfOk result (λ taken. taken ≡ takes self.old.settings (view_in K.Keeper self.old) (act.Bootstrap first.config)) }
@@ -64,7 +64,7 @@ impl<K: Keeper> Coordinator<K> {
         term: u64,
     ) -> Result<bool, DiskFailed>
         requires ready { IsReady self.old }
-        requires steps { 1 ≤ out.old.steps.room }
+        requires deeds { 1 ≤ out.old.deeds.room }
         ensures does { Does K.Keeper self.old self.new out.old out.new (λ s v. act_now s v (act.StartJoin candidate term) ∷ []) (is_ok result) }
         ensures taken { IfOk result (λ taken. taken ≡ takes self.old.settings (view_in K.Keeper self.old) (act.StartJoin candidate term)) }
         ensures uses { Uses out.old out.new 1 0 0 }
@@ -79,7 +79,7 @@ impl<K: Keeper> Coordinator<K> {
     // Counts a join. Answers whether that was taken and whether it wins.
     pub(crate) fn act_join(&mut self, out: &mut Output, join: &Join) -> Counted
         requires ready { IsReady self.old }
-        requires steps { 1 ≤ out.old.steps.room }
+        requires deeds { 1 ≤ out.old.deeds.room }
         requires room { has_room_of self.old.core.join_votes join.now.source ≡ true }
         ensures does { Does K.Keeper self.old self.new out.old out.new (λ s v. act_now s v (act.TakeJoin join.now) ∷ []) true }
         ensures taken { result.taken ≡ takes self.old.settings (view_in K.Keeper self.old) (act.TakeJoin join.now) }
@@ -106,7 +106,7 @@ impl<K: Keeper> Coordinator<K> {
         value: SharedValue,
     ) -> bool
         requires ready { IsReady self.old }
-        requires steps { 1 ≤ out.old.steps.room }
+        requires deeds { 1 ≤ out.old.deeds.room }
         requires request { request ≡ request_of K.Keeper self.old.core request.state.version config value }
         ensures does { Does K.Keeper self.old self.new out.old out.new (λ s v. act_now s v (act.Value request.state.version config value) ∷ []) true }
         ensures taken { result ≡ takes self.old.settings (view_in K.Keeper self.old) (act.Value request.state.version config value) }
@@ -139,7 +139,7 @@ impl<K: Keeper> Coordinator<K> {
         entry: SharedState,
     ) -> Result<bool, DiskFailed>
         requires ready { IsReady self.old }
-        requires steps { 1 ≤ out.old.steps.room }
+        requires deeds { 1 ≤ out.old.deeds.room }
         requires entry { entry ≡ state.state }
         ensures does { Does K.Keeper self.old self.new out.old out.new (λ s v. act_now s v (act.Publish (record { source = source; state = state.state })) ∷ []) (is_ok result) }
         ensures taken { IfOk result (λ taken. taken ≡ takes self.old.settings (view_in K.Keeper self.old) (act.Publish (record { source = source; state = state.state }))) }
@@ -159,7 +159,7 @@ impl<K: Keeper> Coordinator<K> {
     // Counts a response to the publication. Answers whether it sends a commit.
     pub(crate) fn act_response(&mut self, out: &mut Output, response: &PublishResponse) -> bool
         requires ready { IsReady self.old }
-        requires steps { 1 ≤ out.old.steps.room }
+        requires deeds { 1 ≤ out.old.deeds.room }
         requires room { has_room_of self.old.core.publish_votes response.now.source ≡ true }
         ensures does { Does K.Keeper self.old self.new out.old out.new (λ s v. act_now s v (act.Response response.now) ∷ []) true }
         ensures commits { result ≡ commits_now (reply_now self.old.settings (view_in K.Keeper self.old) (act.Response response.now)) }
@@ -186,7 +186,7 @@ impl<K: Keeper> Coordinator<K> {
         commit: &ApplyCommit,
     ) -> Result<bool, DiskFailed>
         requires ready { IsReady self.old }
-        requires steps { 1 ≤ out.old.steps.room }
+        requires deeds { 1 ≤ out.old.deeds.room }
         ensures does { Does K.Keeper self.old self.new out.old out.new (λ s v. act_now s v (act.Commit commit.now) ∷ []) (is_ok result) }
         ensures taken { IfOk result (λ taken. taken ≡ takes self.old.settings (view_in K.Keeper self.old) (act.Commit commit.now)) }
         ensures uses { Uses out.old out.new 1 0 0 }

@@ -33,7 +33,7 @@ impl<K: Keeper> Coordinator<K> {
         term: u64,
     ) -> Result<(), EventError>
         requires ready { IsReady self.old }
-        requires steps { 2 ≤ out.old.steps.room }
+        requires deeds { 2 ≤ out.old.deeds.room }
         requires frames { to_set ≤ out.old.frames.room }
         ensures does { DoesAll K.Keeper self.old self.new out.old out.new (λ s v. on_join_ask s v p term) result }
     {

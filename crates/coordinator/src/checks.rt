@@ -55,7 +55,7 @@ fn is_target(publication: &Option<Publication>, id: NodeId) -> bool
 impl<K: Keeper> Coordinator<K> {
     // A follower asks its leader, or has lost it.
     pub(crate) fn check_leader(&mut self, out: &mut Output, leader: NodeId)
-        requires steps { 1 ≤ out.old.steps.room }
+        requires deeds { 1 ≤ out.old.deeds.room }
         requires frames { 1 ≤ out.old.frames.room }
         requires replies { length self.old.tasks.waiting ≤ out.old.replies.room }
         ensures does { Does K.Keeper self.old self.new out.old out.new (λ s v. checks_leader s v leader v.leader_check) true }
@@ -68,7 +68,7 @@ impl<K: Keeper> Coordinator<K> {
     }
 
     fn do_check(&mut self, out: &mut Output, leader: NodeId, tick: LeaderTick)
-        requires steps { 1 ≤ out.old.steps.room }
+        requires deeds { 1 ≤ out.old.deeds.room }
         requires frames { 1 ≤ out.old.frames.room }
         requires replies { length self.old.tasks.waiting ≤ out.old.replies.room }
         ensures does { Does K.Keeper self.old self.new out.old out.new (λ s v. does_check s v leader tick) true }
@@ -100,7 +100,7 @@ impl<K: Keeper> Coordinator<K> {
 
     // A leader does not follow; another node follows the one that checks it.
     fn follow_checker(&mut self, out: &mut Output, leader: NodeId)
-        requires steps { 2 ≤ out.old.steps.room }
+        requires deeds { 2 ≤ out.old.deeds.room }
         requires frames { 1 ≤ out.old.frames.room }
         requires replies { length self.old.tasks.waiting ≤ out.old.replies.room }
         ensures does { Does K.Keeper self.old self.new out.old out.new (λ s v. follows_checker s v leader) true }
@@ -117,7 +117,7 @@ impl<K: Keeper> Coordinator<K> {
     // A check of an earlier term is answered no; one of a later term raises the node's own first.
     fn take_follower_check(&mut self, out: &mut Output, leader: NodeId, term: u64) -> Acted
         requires ready { IsReady self.old }
-        requires steps { 4 ≤ out.old.steps.room }
+        requires deeds { 4 ≤ out.old.deeds.room }
         requires frames { 2 ≤ out.old.frames.room }
         requires replies { length self.old.tasks.waiting ≤ out.old.replies.room }
         ensures does { Does K.Keeper self.old self.new out.old out.new (λ s v. on_follower_check s v leader term) (is_ok result) }
@@ -137,7 +137,7 @@ impl<K: Keeper> Coordinator<K> {
         term: u64,
     ) -> Result<(), EventError>
         requires ready { IsReady self.old }
-        requires steps { 4 ≤ out.old.steps.room }
+        requires deeds { 4 ≤ out.old.deeds.room }
         requires frames { 2 ≤ out.old.frames.room }
         ensures does { DoesAll K.Keeper self.old self.new out.old out.new (λ s v. on_follower_check s v leader term) result }
     {
@@ -153,7 +153,7 @@ impl<K: Keeper> Coordinator<K> {
     // A leader of the node's term or a later one is followed.
     fn follow_later(&mut self, out: &mut Output, leader: NodeId, term: u64) -> Acted
         requires ready { IsReady self.old }
-        requires steps { 4 ≤ out.old.steps.room }
+        requires deeds { 4 ≤ out.old.deeds.room }
         requires frames { 2 ≤ out.old.frames.room }
         requires replies { length self.old.tasks.waiting ≤ out.old.replies.room }
         ensures does { Does K.Keeper self.old self.new out.old out.new (λ s v. then_rule s v (raises_term s v leader term) (λ u. follows_checker s u leader)) (is_ok result) }

@@ -64,7 +64,7 @@ impl<K: Keeper> Coordinator<K> {
     fn finish_publication(&mut self, out: &mut Output, plan: Option<Plan>)
         requires ready { IsReady self.old }
         requires plan { IsPlanned self.old.settings (moved_all self.old.settings (view_in K.Keeper self.old) (acks_exclusions self.old.settings (view_in K.Keeper self.old))) plan }
-        requires steps { 2 ≤ out.old.steps.room }
+        requires deeds { 2 ≤ out.old.deeds.room }
         requires frames { to_set ≤ out.old.frames.room }
         requires replies { length self.old.tasks.waiting + replies_planned plan ≤ out.old.replies.room }
         ensures does { Does K.Keeper self.old self.new out.old out.new finishes true }
@@ -77,7 +77,7 @@ impl<K: Keeper> Coordinator<K> {
     fn take_commit(&mut self, out: &mut Output, p: NodeId, id: StateId, plan: Option<Plan>) -> Acted
         requires ready { IsReady self.old }
         requires plan { IsPlannedCommit self.old.settings (view_in K.Keeper self.old) plan }
-        requires steps { 3 ≤ out.old.steps.room }
+        requires deeds { 3 ≤ out.old.deeds.room }
         requires frames { to_set ≤ out.old.frames.room }
         requires replies { length self.old.tasks.waiting + replies_planned plan ≤ out.old.replies.room }
         ensures does { Does K.Keeper self.old self.new out.old out.new (λ s v. on_commit s v p id) (is_ok result) }
@@ -110,7 +110,7 @@ impl<K: Keeper> Coordinator<K> {
         id: StateId,
     ) -> Result<(), EventError>
         requires ready { IsReady self.old }
-        requires steps { 3 ≤ out.old.steps.room }
+        requires deeds { 3 ≤ out.old.deeds.room }
         requires frames { to_set ≤ out.old.frames.room }
         ensures does { DoesAll K.Keeper self.old self.new out.old out.new (λ s v. on_commit s v p id) result }
     {

@@ -3,7 +3,7 @@ ghost use Rattle.std.specs.Prelude.{◌≡◌, ◌≤◌, ◌<◌, [], ◌∷◌
 ghost use Rattle.voting_config.specs.Ids.{most_ids, with_id};
 ghost use Rattle.policy_model.specs.Events.{Notes, Met, Heard};
 ghost use Rattle.policy_model.specs.Doing.{is_candidate as is_candidate_of, leader_of as leader_of_mode, then_rule};
-ghost use Rattle.policy_model.specs.Discovery.{is_node as is_node_of, meets_first, asks_peers, tells_peers, on_peers_ask, seeks_master, hears_peer, on_peers_answer};
+ghost use Rattle.policy_model.specs.Discovery.{is_node as is_node_of, meets_first, asks_peers, answers_peers, on_peers_ask, seeks_master, hears_peer, on_peers_answer};
 ghost use Rattle.policy_model.specs.Parts.{met};
 ghost use Rattle.coordinator.specs.Does.{Does, DoesAll};
 ghost use Rattle.coordinator.specs.Rooms.{Uses, to_set};
@@ -111,7 +111,7 @@ impl<K: Keeper> Coordinator<K> {
         ensures uses { Uses out.old out.new 0 1 0 }
     {
         self.meet(from, known);
-        self.tell_peers(out, from);
+        self.answer_peers(out, from);
     }
 
     // A node is met, and those that it knows.
@@ -123,9 +123,9 @@ impl<K: Keeper> Coordinator<K> {
         meet_all(&mut self.finder, known.as_slice());
     }
 
-    fn tell_peers(&self, out: &mut Output, to: NodeId)
+    fn answer_peers(&self, out: &mut Output, to: NodeId)
         requires frames { 1 ≤ out.old.frames.room }
-        ensures does { Does K.Keeper self.now self.now out.old out.new (λ s v. tells_peers s v to) true }
+        ensures does { Does K.Keeper self.now self.now out.old out.new (λ s v. answers_peers s v to) true }
         ensures uses { Uses out.old out.new 0 1 0 }
     {
         let me = self.settings.me;
@@ -140,7 +140,7 @@ impl<K: Keeper> Coordinator<K> {
     // A peer is met, and a candidate keeps its answer.
     fn take_peers_answer(&mut self, out: &mut Output, answer: &PeerAnswer, known: &NodeSet) -> Acted
         requires ready { IsReady self.old }
-        requires steps { 2 ≤ out.old.steps.room }
+        requires deeds { 2 ≤ out.old.deeds.room }
         requires frames { 1 ≤ out.old.frames.room }
         requires replies { length self.old.tasks.waiting ≤ out.old.replies.room }
         ensures does { Does K.Keeper self.old self.new out.old out.new (λ s v. on_peers_answer s v answer.now.from answer.now.master answer.now.term known.now) (is_ok result) }
@@ -160,7 +160,7 @@ impl<K: Keeper> Coordinator<K> {
         known: &NodeSet,
     ) -> Result<(), EventError>
         requires ready { IsReady self.old }
-        requires steps { 2 ≤ out.old.steps.room }
+        requires deeds { 2 ≤ out.old.deeds.room }
         requires frames { 1 ≤ out.old.frames.room }
         ensures does { DoesAll K.Keeper self.old self.new out.old out.new (λ s v. on_peers_answer s v from master.now term known.now) result }
     {
@@ -181,7 +181,7 @@ impl<K: Keeper> Coordinator<K> {
     // A candidate keeps a peer's answer.
     fn hear_peer(&mut self, out: &mut Output, answer: &PeerAnswer) -> Acted
         requires ready { IsReady self.old }
-        requires steps { 2 ≤ out.old.steps.room }
+        requires deeds { 2 ≤ out.old.deeds.room }
         requires frames { 1 ≤ out.old.frames.room }
         requires replies { length self.old.tasks.waiting ≤ out.old.replies.room }
         ensures does { Does K.Keeper self.old self.new out.old out.new (λ s v. hears_peer s v answer.now.from answer.now.master answer.now.term) (is_ok result) }
@@ -196,7 +196,7 @@ impl<K: Keeper> Coordinator<K> {
 
     fn join_master(&mut self, out: &mut Output, answer: &PeerAnswer) -> Acted
         requires ready { IsReady self.old }
-        requires steps { 2 ≤ out.old.steps.room }
+        requires deeds { 2 ≤ out.old.deeds.room }
         requires frames { 1 ≤ out.old.frames.room }
         requires replies { length self.old.tasks.waiting ≤ out.old.replies.room }
         ensures does { Does K.Keeper self.old self.new out.old out.new (λ s v. then_rule s v (Notes (Heard answer.now.from answer.now.master) ∷ []) (λ u. seeks_master s u answer.now.from answer.now.master answer.now.term)) (is_ok result) }
@@ -217,7 +217,7 @@ impl<K: Keeper> Coordinator<K> {
     // A master is joined: at once where its term is greater, else it is asked for a join.
     fn seek_master(&mut self, out: &mut Output, answer: &PeerAnswer) -> Acted
         requires ready { IsReady self.old }
-        requires steps { 2 ≤ out.old.steps.room }
+        requires deeds { 2 ≤ out.old.deeds.room }
         requires frames { 1 ≤ out.old.frames.room }
         requires replies { length self.old.tasks.waiting ≤ out.old.replies.room }
         ensures does { Does K.Keeper self.old self.new out.old out.new (λ s v. seeks_master s v answer.now.from answer.now.master answer.now.term) (is_ok result) }

@@ -8,8 +8,8 @@ ghost use Rattle.policy_model.specs.Parts.{last_moment};
 ghost use Rattle.policy_model.specs.Rules.{takes_frame, takes_message};
 ghost use Rattle.coordinator.specs.Does.{DoesAll};
 ghost use Rattle.coordinator.specs.Lives.{DoesEvent};
-ghost use Rattle.coordinator.specs.Rooms.{event_steps, tick_drops, to_set_and_one, to_three_sets};
-ghost use Rattle.coordinator.specs.Steps.{steps_for, drops_for, frames_for};
+ghost use Rattle.coordinator.specs.Rooms.{event_deeds, tick_drops, to_set_and_one, to_three_sets};
+ghost use Rattle.coordinator.specs.Steps.{deeds_for, drops_for, frames_for};
 ghost use Rattle.coordinator.specs.Views.{IsReady};
 
 use crate::coordinator::{Coordinator, EventError};
@@ -33,7 +33,7 @@ impl<K: Keeper> Coordinator<K> {
     ) -> Result<(), EventError>
         requires ready { IsReady self.old }
         requires fit { IsFitMessage message.now }
-        requires steps { event_steps ≤ out.old.steps.room }
+        requires deeds { event_deeds ≤ out.old.deeds.room }
         requires frames { to_set_and_one ≤ out.old.frames.room }
         ensures does { DoesAll K.Keeper self.old self.new out.old out.new (λ s v. takes_message s v p message.now) result }
     {
@@ -87,7 +87,7 @@ impl<K: Keeper> Coordinator<K> {
     fn take_frame(&mut self, out: &mut Output, frame: &Frame) -> Result<(), EventError>
         requires ready { IsReady self.old }
         requires fit { IsFitMessage frame.now.message }
-        requires steps { event_steps ≤ out.old.steps.room }
+        requires deeds { event_deeds ≤ out.old.deeds.room }
         requires frames { to_set_and_one ≤ out.old.frames.room }
         ensures does { DoesAll K.Keeper self.old self.new out.old out.new (λ s v. takes_frame s v frame.now) result }
     {
@@ -118,7 +118,7 @@ impl<K: Keeper> Coordinator<K> {
     // The moment, in ms, and a random word. Where memory is lacking, the moment stays.
     fn on_tick(&mut self, out: &mut Output, now: u64, word: u64) -> Result<(), EventError>
         requires ready { IsReady self.old }
-        requires steps { event_steps ≤ out.old.steps.room }
+        requires deeds { event_deeds ≤ out.old.deeds.room }
         requires drops { tick_drops ≤ out.old.drops.room }
         requires frames { to_three_sets ≤ out.old.frames.room }
         ensures { DoesEvent K.Keeper self.old self.new (event.Tick now word) out.old out.new result }
@@ -139,7 +139,7 @@ impl<K: Keeper> Coordinator<K> {
     fn on_frame(&mut self, out: &mut Output, frame: &Frame) -> Result<(), EventError>
         requires ready { IsReady self.old }
         requires fit { IsFitMessage frame.now.message }
-        requires steps { event_steps ≤ out.old.steps.room }
+        requires deeds { event_deeds ≤ out.old.deeds.room }
         requires frames { to_set_and_one ≤ out.old.frames.room }
         ensures { DoesEvent K.Keeper self.old self.new (event.Frame frame.now) out.old out.new result }
     {
@@ -149,7 +149,7 @@ impl<K: Keeper> Coordinator<K> {
     // A line of a client, by its connection.
     fn on_line(&mut self, out: &mut Output, conn: u64, line: &Line) -> Result<(), EventError>
         requires ready { IsReady self.old }
-        requires steps { event_steps ≤ out.old.steps.room }
+        requires deeds { event_deeds ≤ out.old.deeds.room }
         requires frames { to_set_and_one ≤ out.old.frames.room }
         ensures { DoesEvent K.Keeper self.old self.new (event.Client conn line.now) out.old out.new result }
     {
@@ -160,7 +160,7 @@ impl<K: Keeper> Coordinator<K> {
     pub(crate) fn take_event(&mut self, out: &mut Output, event: &Event) -> Result<(), EventError>
         requires ready { IsReady self.old }
         requires fit { IsFitEvent event.now }
-        requires steps { steps_for event.now ≤ out.old.steps.room }
+        requires deeds { deeds_for event.now ≤ out.old.deeds.room }
         requires drops { drops_for event.now ≤ out.old.drops.room }
         requires frames { frames_for event.now ≤ out.old.frames.room }
         ensures does { DoesEvent K.Keeper self.old self.new event.now out.old out.new result }

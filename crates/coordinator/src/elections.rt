@@ -69,7 +69,7 @@ impl<K: Keeper> Coordinator<K> {
     fn bootstrap(&mut self, out: &mut Output, first: Option<FirstState>) -> Acted
         requires ready { IsReady self.old }
         requires first { IsPlannedFirst self.old.settings (view_in K.Keeper self.old) first }
-        requires steps { 1 ≤ out.old.steps.room }
+        requires deeds { 1 ≤ out.old.deeds.room }
         ensures does { Does K.Keeper self.old self.new out.old out.new bootstraps (is_ok result) }
         ensures uses { Uses out.old out.new 1 0 0 }
     {
@@ -86,7 +86,7 @@ impl<K: Keeper> Coordinator<K> {
     fn find_peers(&mut self, out: &mut Output, first: Option<FirstState>) -> Acted
         requires ready { IsReady self.old }
         requires first { IsPlannedFirst self.old.settings (view_in K.Keeper self.old) first }
-        requires steps { 1 ≤ out.old.steps.room }
+        requires deeds { 1 ≤ out.old.deeds.room }
         requires frames { to_set ≤ out.old.frames.room }
         ensures does { Does K.Keeper self.old self.new out.old out.new (λ s v. then_rule s v (bootstraps s v) (asks_peers s)) (is_ok result) }
         ensures uses { Uses out.old out.new 1 to_set 0 }
@@ -109,7 +109,7 @@ impl<K: Keeper> Coordinator<K> {
     ) -> Acted
         requires ready { IsReady self.old }
         requires first { IsPlannedFirst self.old.settings (view_in K.Keeper self.old) first }
-        requires steps { 1 ≤ out.old.steps.room }
+        requires deeds { 1 ≤ out.old.deeds.room }
         requires frames { to_three_sets ≤ out.old.frames.room }
         ensures does { Does K.Keeper self.old self.new out.old out.new (λ s v. ticks_candidate s v word) (is_ok result) }
         ensures uses { Uses out.old out.new 1 to_three_sets 0 }

@@ -9,7 +9,7 @@ ghost use Rattle.policy_model.specs.Moves.{moved_all};
 ghost use Rattle.coordinator.specs.Ahead.{winning, IsPlannedJoin};
 ghost use Rattle.coordinator.specs.Does.{Does, DoesAll};
 ghost use Rattle.coordinator.specs.Plans.{IsPlanned, replies_planned};
-ghost use Rattle.coordinator.specs.Rooms.{Uses, event_steps, to_set, to_set_and_one};
+ghost use Rattle.coordinator.specs.Rooms.{Uses, event_deeds, to_set, to_set_and_one};
 ghost use Rattle.coordinator.specs.Views.{view_in, IsReady};
 
 use crate::ahead::add_members;
@@ -24,7 +24,7 @@ use voting_config::NodeId;
 impl<K: Keeper> Coordinator<K> {
     // It leads from now on, with all who voted as members.
     fn lead(&mut self, out: &mut Output)
-        requires steps { 1 ≤ out.old.steps.room }
+        requires deeds { 1 ≤ out.old.deeds.room }
         ensures does { Does K.Keeper self.old self.new out.old out.new winning true }
         ensures uses { Uses out.old out.new 1 0 0 }
     {
@@ -35,7 +35,7 @@ impl<K: Keeper> Coordinator<K> {
         self.tasks.add_member(self.settings.me);
         let votes = self.core.votes();
         add_members(&mut self.tasks, votes.as_slice());
-        out.turn(Mode::Leader, term);
+        out.change_mode(Mode::Leader, term);
     }
 
     // A node is to become a member.
@@ -49,7 +49,7 @@ impl<K: Keeper> Coordinator<K> {
     fn win(&mut self, out: &mut Output, plan: Option<Plan>)
         requires ready { IsReady self.old }
         requires plan { IsPlanned self.old.settings (moved_all self.old.settings (view_in K.Keeper self.old) (winning self.old.settings (view_in K.Keeper self.old))) plan }
-        requires steps { 3 ≤ out.old.steps.room }
+        requires deeds { 3 ≤ out.old.deeds.room }
         requires frames { to_set ≤ out.old.frames.room }
         requires replies { replies_planned plan ≤ out.old.replies.room }
         ensures does { Does K.Keeper self.old self.new out.old out.new leads true }
@@ -62,7 +62,7 @@ impl<K: Keeper> Coordinator<K> {
     pub(crate) fn take_member(&mut self, out: &mut Output, p: NodeId, plan: Option<Plan>)
         requires ready { IsReady self.old }
         requires plan { IsPlanned self.old.settings (moved_all self.old.settings (view_in K.Keeper self.old) (Notes (Joined (p ∷ [])) ∷ [])) plan }
-        requires steps { 2 ≤ out.old.steps.room }
+        requires deeds { 2 ≤ out.old.deeds.room }
         requires frames { to_set ≤ out.old.frames.room }
         requires replies { replies_planned plan ≤ out.old.replies.room }
         ensures does { Does K.Keeper self.old self.new out.old out.new (λ s v. takes_member s v p) true }
@@ -82,7 +82,7 @@ impl<K: Keeper> Coordinator<K> {
     )
         requires ready { IsReady self.old }
         requires plan { IsPlannedJoin self.old.settings (view_in K.Keeper self.old) p (act.TakeJoin (join_from p self.old.settings.me term last)) plan }
-        requires steps { 4 ≤ out.old.steps.room }
+        requires deeds { 4 ≤ out.old.deeds.room }
         requires frames { to_set ≤ out.old.frames.room }
         requires replies { replies_planned plan ≤ out.old.replies.room }
         ensures does { Does K.Keeper self.old self.new out.old out.new (λ s v. takes_join s v p term last) true }
@@ -129,7 +129,7 @@ impl<K: Keeper> Coordinator<K> {
         last: StateId,
     ) -> Result<(), EventError>
         requires ready { IsReady self.old }
-        requires steps { event_steps ≤ out.old.steps.room }
+        requires deeds { event_deeds ≤ out.old.deeds.room }
         requires frames { to_set_and_one ≤ out.old.frames.room }
         ensures does { DoesAll K.Keeper self.old self.new out.old out.new (λ s v. on_join s v p term last) result }
     {

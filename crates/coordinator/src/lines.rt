@@ -45,7 +45,7 @@ impl<K: Keeper> Coordinator<K> {
         request: Request,
     ) -> Result<(), EventError>
         requires ready { IsReady self.old }
-        requires steps { 2 ≤ out.old.steps.room }
+        requires deeds { 2 ≤ out.old.deeds.room }
         requires frames { to_set ≤ out.old.frames.room }
         ensures does { DoesAll K.Keeper self.old self.new out.old out.new (λ s v. queues_one s v conn request) result }
     {
@@ -76,7 +76,7 @@ impl<K: Keeper> Coordinator<K> {
         requires ready { IsReady self.old }
         requires waits { makes_next self.old.settings (view_in K.Keeper self.old) ≡ false }
         requires frames { to_set ≤ out.old.frames.room }
-        requires steps { 2 ≤ out.old.steps.room }
+        requires deeds { 2 ≤ out.old.deeds.room }
         ensures does { DoesAll K.Keeper self.old self.new out.old out.new (λ s v. queues_one s v conn request) result }
     {
         let Ok(()) = out.make_room(0, &None) else {
@@ -92,7 +92,7 @@ impl<K: Keeper> Coordinator<K> {
     // A leader queues a request, and goes on.
     fn queue(&mut self, out: &mut Output, conn: u64, request: Request) -> Result<(), EventError>
         requires ready { IsReady self.old }
-        requires steps { 2 ≤ out.old.steps.room }
+        requires deeds { 2 ≤ out.old.deeds.room }
         requires frames { to_set ≤ out.old.frames.room }
         ensures does { DoesAll K.Keeper self.old self.new out.old out.new (λ s v. queues_one s v conn request) result }
     {
@@ -121,7 +121,7 @@ impl<K: Keeper> Coordinator<K> {
         request: Request,
     ) -> Result<(), EventError>
         requires ready { IsReady self.old }
-        requires steps { 2 ≤ out.old.steps.room }
+        requires deeds { 2 ≤ out.old.deeds.room }
         requires frames { to_set ≤ out.old.frames.room }
         ensures does { DoesAll K.Keeper self.old self.new out.old out.new (λ s v. takes_line s v conn (Ok request)) result }
     {
@@ -149,7 +149,7 @@ impl<K: Keeper> Coordinator<K> {
         line: &Line,
     ) -> Result<(), EventError>
         requires ready { IsReady self.old }
-        requires steps { 2 ≤ out.old.steps.room }
+        requires deeds { 2 ≤ out.old.deeds.room }
         requires frames { to_set ≤ out.old.frames.room }
         ensures does { DoesAll K.Keeper self.old self.new out.old out.new (λ s v. takes_line s v conn (line_request line.now)) result }
     {

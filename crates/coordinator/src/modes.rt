@@ -34,7 +34,7 @@ fn fail_requests(mode: Mode, term: u64, tasks: &mut MasterTasks, out: &mut Outpu
 impl<K: Keeper> Coordinator<K> {
     // Becomes a candidate, and drops what it did in another mode and in earlier elections.
     pub(crate) fn become_candidate(&mut self, out: &mut Output)
-        requires steps { 1 ≤ out.old.steps.room }
+        requires deeds { 1 ≤ out.old.deeds.room }
         requires replies { length self.old.tasks.waiting ≤ out.old.replies.room }
         ensures does { Does K.Keeper self.old self.new out.old out.new becomes_candidate true }
         ensures uses { Uses out.old out.new 1 0 (length self.old.tasks.waiting) }
@@ -51,12 +51,12 @@ impl<K: Keeper> Coordinator<K> {
         self.followers = FollowerChecks::new();
         self.leader_check = None;
         self.tasks.clear();
-        out.turn(Mode::Candidate, self.core.term());
+        out.change_mode(Mode::Candidate, self.core.term());
     }
 
     // The same where it is none.
     fn leave(&mut self, out: &mut Output)
-        requires steps { 1 ≤ out.old.steps.room }
+        requires deeds { 1 ≤ out.old.deeds.room }
         requires replies { length self.old.tasks.waiting ≤ out.old.replies.room }
         ensures does { Does K.Keeper self.old self.new out.old out.new becomes_candidate_once true }
         ensures uses { Uses out.old out.new 1 0 (length self.old.tasks.waiting) }
@@ -72,7 +72,7 @@ impl<K: Keeper> Coordinator<K> {
     // Starts a join for a candidate in a term. The join goes to it.
     pub(crate) fn start_join(&mut self, out: &mut Output, candidate: NodeId, term: u64) -> Acted
         requires ready { IsReady self.old }
-        requires steps { 2 ≤ out.old.steps.room }
+        requires deeds { 2 ≤ out.old.deeds.room }
         requires frames { 1 ≤ out.old.frames.room }
         requires replies { length self.old.tasks.waiting ≤ out.old.replies.room }
         ensures does { Does K.Keeper self.old self.new out.old out.new (λ s v. on_start_join s v candidate term) (is_ok result) }
@@ -103,7 +103,7 @@ impl<K: Keeper> Coordinator<K> {
     // The same where the term is above the node's.
     pub(crate) fn raise_term(&mut self, out: &mut Output, candidate: NodeId, term: u64) -> Acted
         requires ready { IsReady self.old }
-        requires steps { 2 ≤ out.old.steps.room }
+        requires deeds { 2 ≤ out.old.deeds.room }
         requires frames { 1 ≤ out.old.frames.room }
         requires replies { length self.old.tasks.waiting ≤ out.old.replies.room }
         ensures does { Does K.Keeper self.old self.new out.old out.new (λ s v. raises_term s v candidate term) (is_ok result) }
@@ -125,7 +125,7 @@ impl<K: Keeper> Coordinator<K> {
         term: u64,
     ) -> Result<(), EventError>
         requires ready { IsReady self.old }
-        requires steps { 2 ≤ out.old.steps.room }
+        requires deeds { 2 ≤ out.old.deeds.room }
         requires frames { 1 ≤ out.old.frames.room }
         ensures does { DoesAll K.Keeper self.old self.new out.old out.new (λ s v. on_start_join s v candidate term) result }
     {

@@ -76,7 +76,7 @@ impl<K: Keeper> Coordinator<K> {
         requires ready { IsReady self.old }
         requires request { new.request ≡ request_of K.Keeper self.old.core new.request.state.version new.config new.value }
         requires all { length new.frames.list ≡ length new.value.members }
-        requires steps { 2 ≤ out.old.steps.room }
+        requires deeds { 2 ≤ out.old.deeds.room }
         requires frames { to_set ≤ out.old.frames.room }
         requires replies { length self.old.tasks.waiting ≤ out.old.replies.room }
         ensures does { (v : View) → v.node ≡ (view_in K.Keeper self.old).node → IsNewState self.old.settings.me (state_by (as_master self.old.settings v.node) v.tasks) new → Does K.Keeper self.old self.new out.old out.new (λ s u. publishes s v u) true }
@@ -101,7 +101,7 @@ impl<K: Keeper> Coordinator<K> {
     fn make_state(&mut self, out: &mut Output, plan: Plan)
         requires ready { IsReady self.old }
         requires plan { IsPlan (as_master self.old.settings (view_in K.Keeper self.old).node) self.old.tasks plan }
-        requires steps { 2 ≤ out.old.steps.room }
+        requires deeds { 2 ≤ out.old.deeds.room }
         requires frames { to_set ≤ out.old.frames.room }
         requires replies { length plan.replies.sent + length plan.waiting.items ≤ out.old.replies.room }
         ensures does { Does K.Keeper self.old self.new out.old out.new makes_state true }
@@ -161,7 +161,7 @@ impl<K: Keeper> Coordinator<K> {
     pub(crate) fn go_on(&mut self, out: &mut Output, plan: Option<Plan>)
         requires ready { IsReady self.old }
         requires plan { IsPlanned self.old.settings (view_in K.Keeper self.old) plan }
-        requires steps { 2 ≤ out.old.steps.room }
+        requires deeds { 2 ≤ out.old.deeds.room }
         requires frames { to_set ≤ out.old.frames.room }
         requires replies { replies_planned plan ≤ out.old.replies.room }
         ensures does { Does K.Keeper self.old self.new out.old out.new goes_on true }

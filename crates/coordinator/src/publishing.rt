@@ -17,7 +17,7 @@ use wire_frames::WireMessage;
 impl<K: Keeper> Coordinator<K> {
     // The publisher is followed, unless it is the node itself.
     fn follow_other(&mut self, out: &mut Output, p: NodeId)
-        requires steps { 2 ≤ out.old.steps.room }
+        requires deeds { 2 ≤ out.old.deeds.room }
         requires replies { length self.old.tasks.waiting ≤ out.old.replies.room }
         ensures does { Does K.Keeper self.old self.new out.old out.new (λ s v. follows_other s v p) true }
     {
@@ -28,7 +28,7 @@ impl<K: Keeper> Coordinator<K> {
 
     // It is responded to, and followed.
     fn respond(&mut self, out: &mut Output, p: NodeId, id: StateId)
-        requires steps { 2 ≤ out.old.steps.room }
+        requires deeds { 2 ≤ out.old.deeds.room }
         requires frames { 1 ≤ out.old.frames.room }
         requires replies { length self.old.tasks.waiting ≤ out.old.replies.room }
         ensures does { Does K.Keeper self.old self.new out.old out.new (λ s v. responds s v p id) true }
@@ -41,7 +41,7 @@ impl<K: Keeper> Coordinator<K> {
     fn accept(&mut self, out: &mut Output, p: NodeId, state: Ready, entry: SharedState) -> Acted
         requires ready { IsReady self.old }
         requires entry { entry ≡ state.state }
-        requires steps { 3 ≤ out.old.steps.room }
+        requires deeds { 3 ≤ out.old.deeds.room }
         requires frames { 1 ≤ out.old.frames.room }
         requires replies { length self.old.tasks.waiting ≤ out.old.replies.room }
         ensures does { Does K.Keeper self.old self.new out.old out.new (λ s v. accepts s v p state.state) (is_ok result) }
@@ -62,7 +62,7 @@ impl<K: Keeper> Coordinator<K> {
     fn take_state(&mut self, out: &mut Output, p: NodeId, state: Ready, entry: SharedState) -> Acted
         requires ready { IsReady self.old }
         requires entry { entry ≡ state.state }
-        requires steps { 5 ≤ out.old.steps.room }
+        requires deeds { 5 ≤ out.old.deeds.room }
         requires frames { 2 ≤ out.old.frames.room }
         requires replies { length self.old.tasks.waiting ≤ out.old.replies.room }
         ensures does { Does K.Keeper self.old self.new out.old out.new (λ s v. on_publish s v p state.state) (is_ok result) }
@@ -82,7 +82,7 @@ impl<K: Keeper> Coordinator<K> {
     ) -> Result<(), EventError>
         requires ready { IsReady self.old }
         requires fit { IsFit state.now }
-        requires steps { 5 ≤ out.old.steps.room }
+        requires deeds { 5 ≤ out.old.deeds.room }
         requires frames { 2 ≤ out.old.frames.room }
         ensures does { DoesAll K.Keeper self.old self.new out.old out.new (λ s v. on_publish s v p state.now) result }
     {

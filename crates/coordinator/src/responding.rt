@@ -113,7 +113,7 @@ impl<K: Keeper> Coordinator<K> {
     fn take_response(&mut self, out: &mut Output, p: NodeId, id: StateId)
         requires ready { IsReady self.old }
         requires room { has_room_of self.old.core.publish_votes p ≡ true }
-        requires steps { 1 ≤ out.old.steps.room }
+        requires deeds { 1 ≤ out.old.deeds.room }
         requires frames { to_set ≤ out.old.frames.room }
         requires replies { length self.old.tasks.waiting ≤ out.old.replies.room }
         ensures does { Does K.Keeper self.old self.new out.old out.new (λ s v. takes_response s v p id) true }
@@ -138,7 +138,7 @@ impl<K: Keeper> Coordinator<K> {
         id: StateId,
     ) -> Result<(), EventError>
         requires ready { IsReady self.old }
-        requires steps { 1 ≤ out.old.steps.room }
+        requires deeds { 1 ≤ out.old.deeds.room }
         requires frames { to_set ≤ out.old.frames.room }
         ensures does { DoesAll K.Keeper self.old self.new out.old out.new (λ s v. on_response s v p id) result }
     {

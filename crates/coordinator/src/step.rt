@@ -7,7 +7,7 @@ ghost use Rattle.policy_model.specs.Follows.{items_of};
 ghost use Rattle.coordinator.specs.Limits.{IsFew, IsWithin};
 ghost use Rattle.coordinator.specs.Lives.{Lasts, StandsForLife, Survives};
 ghost use Rattle.coordinator.specs.Showing.{shown_in, nothing_shown};
-ghost use Rattle.coordinator.specs.Steps.{Seals, Stays, Steps, drops_for, frames_for, steps_for};
+ghost use Rattle.coordinator.specs.Steps.{Seals, Stays, Steps, drops_for, frames_for, deeds_for};
 ghost use Rattle.coordinator.specs.declared.step.StepError.TheVariants as step_error;
 ghost use Rattle.coordinator.specs.Views.{IsReady};
 
@@ -15,14 +15,14 @@ use crate::coordinator::{Coordinator, EventError};
 use crate::output::{Listed, Output};
 use crate::sorting::{sort_drops, sort_frames};
 use master_tasks::Replies;
-use policy_model::{Event, MemberDrop, Step, law_event_holds_set, law_event_holds_settings};
+use policy_model::{Deed, Event, MemberDrop, law_event_holds_set, law_event_holds_settings};
 use state_journal::Keeper;
 use std::alloc::{AllocError, Global};
 use voting_config::MAX_IDS;
 use wire_frames::Frame;
 
-/// How many steps an event has at most: three acts and as many modes.
-const MOST_STEPS: usize = 6;
+/// How many deeds an event has at most: three acts and as many modes.
+const MOST_DEEDS: usize = 6;
 
 /// How many members a tick drops at most: those that fail their checks, and those that lag.
 const TICK_DROPS: usize = 2 * MAX_IDS;
@@ -38,7 +38,7 @@ const EVENT_FRAMES: usize = MAX_IDS + 1;
 pub struct Entries {
     pub event: Event,
     /// The acts and the changes of mode, in order.
-    pub steps: Listed<Step>,
+    pub deeds: Listed<Deed>,
     /// Whom a leader drops, by ascending member.
     pub drops: Listed<MemberDrop>,
 }
@@ -105,7 +105,7 @@ fn no_output(alloc: Global) -> Output
 {
     Output {
         alloc,
-        steps: Listed::new(alloc),
+        deeds: Listed::new(alloc),
         drops: Listed::new(alloc),
         frames: Listed::new(alloc),
         replies: Replies::new(alloc),
@@ -115,19 +115,19 @@ fn no_output(alloc: Global) -> Output
 // Nothing shown yet, with room for what the event shows at most, but for its replies. At the start no memory is taken.
 pub(crate) fn new_output(alloc: Global, event: &Event) -> Result<Output, AllocError>
     ensures shown { IfOk result (λ o. shown_in o ≡ nothing_shown) }
-    ensures steps { IfOk result (λ o. steps_for event.now ≤ o.steps.room) }
+    ensures deeds { IfOk result (λ o. deeds_for event.now ≤ o.deeds.room) }
     ensures drops { IfOk result (λ o. drops_for event.now ≤ o.drops.room) }
     ensures frames { IfOk result (λ o. frames_for event.now ≤ o.frames.room) }
     ensures start { event.now ≡ Start → is_ok result ≡ true }
 {
-    let (steps, drops, frames) = match event {
+    let (deeds, drops, frames) = match event {
         Event::Start => return Ok(no_output(alloc)),
-        Event::Tick { .. } => (MOST_STEPS, TICK_DROPS, TICK_FRAMES),
-        Event::Frame(_) | Event::Client { .. } => (MOST_STEPS, 0, EVENT_FRAMES),
+        Event::Tick { .. } => (MOST_DEEDS, TICK_DROPS, TICK_FRAMES),
+        Event::Frame(_) | Event::Client { .. } => (MOST_DEEDS, 0, EVENT_FRAMES),
     };
     Ok(Output {
         alloc,
-        steps: Listed::with_room(alloc, steps)?,
+        deeds: Listed::with_room(alloc, deeds)?,
         drops: Listed::with_room(alloc, drops)?,
         frames: Listed::with_room(alloc, frames)?,
         replies: Replies::new(alloc),
@@ -144,7 +144,7 @@ pub(crate) fn seal(
 {
     let Output {
         alloc: _,
-        steps,
+        deeds,
         drops,
         frames,
         replies,
@@ -153,7 +153,7 @@ pub(crate) fn seal(
     sort_drops(&mut drops);
     let entries = Entries {
         event,
-        steps,
+        deeds,
         drops,
     };
     match ended {
@@ -181,9 +181,9 @@ impl<K: Keeper> Coordinator<K> {
         requires ready { IsReady self.old }
         requires fit { IsFitEvent event }
 
-        // The steps, drops, frames and replies are those of the policy, for each life that the node stood for; and it stands
+        // The deeds, drops, frames and replies are those of the policy, for each life that the node stood for; and it stands
         // for the life with this entry.
-        ensures steps { (life : Life) → StandsForLife K.Keeper self.old life → Steps K.Keeper self.old self.new event (items_of self.old.settings (log_of life) event) result }
+        ensures deeds { (life : Life) → StandsForLife K.Keeper self.old life → Steps K.Keeper self.old self.new event (items_of self.old.settings (log_of life) event) result }
 
         // Whatever it stood for: its settings stay, and the disk's count of faults never falls. At Disk that count rose, and
         // the node is halted; at Memory and Stopped nothing changed.
@@ -192,7 +192,7 @@ impl<K: Keeper> Coordinator<K> {
         // A crash at any moment of it leaves the record of the acts so far, without the act in hand or with it.
         ensures crash { Survives K.Keeper self.old self.new event }
 
-        // Few steps and replies; and where the node was within the limits, so are its frames, and the node after it.
+        // Few deeds and replies; and where the node was within the limits, so are its frames, and the node after it.
         ensures within { IfOk result (λ sealed. IsWithin K.Keeper self.old self.new sealed) }
 
         // At most 94 frames, and fewer but at a tick, where the node's sets were as small as sets in memory are; so they stay.

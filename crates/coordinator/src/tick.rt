@@ -16,7 +16,7 @@ impl<K: Keeper> Coordinator<K> {
     // A candidate's tick, at a moment that is kept already.
     fn ticks_candidate(&mut self, out: &mut Output, word: u64) -> Result<(), EventError>
         requires ready { IsReady self.old }
-        requires steps { 1 ≤ out.old.steps.room }
+        requires deeds { 1 ≤ out.old.deeds.room }
         requires frames { to_three_sets ≤ out.old.frames.room }
         ensures does { DoesAll K.Keeper self.old self.new out.old out.new (λ s v. ticks_candidate s v word) result }
     {
@@ -31,7 +31,7 @@ impl<K: Keeper> Coordinator<K> {
 
     // The tick of a follower of this leader, at a moment that is kept already.
     fn ticks_follower(&mut self, out: &mut Output, leader: NodeId) -> Result<(), EventError>
-        requires steps { 1 ≤ out.old.steps.room }
+        requires deeds { 1 ≤ out.old.deeds.room }
         requires frames { 1 ≤ out.old.frames.room }
         ensures does { DoesAll K.Keeper self.old self.new out.old out.new (λ s v. checks_leader s v leader v.leader_check) result }
     {
@@ -45,7 +45,7 @@ impl<K: Keeper> Coordinator<K> {
     // A tick, at a moment that is kept already.
     pub(crate) fn tick_by_mode(&mut self, out: &mut Output, word: u64) -> Result<(), EventError>
         requires ready { IsReady self.old }
-        requires steps { 2 ≤ out.old.steps.room }
+        requires deeds { 2 ≤ out.old.deeds.room }
         requires frames { to_three_sets ≤ out.old.frames.room }
         requires drops { tick_drops ≤ out.old.drops.room }
         ensures does { DoesAll K.Keeper self.old self.new out.old out.new (λ s v. ticks s v word v.mode) result }

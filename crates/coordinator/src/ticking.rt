@@ -116,7 +116,7 @@ impl<K: Keeper> Coordinator<K> {
     // A leader's tick, at a moment that is kept already.
     pub(crate) fn ticks_leader(&mut self, out: &mut Output) -> Result<(), EventError>
         requires ready { IsReady self.old }
-        requires steps { 2 ≤ out.old.steps.room }
+        requires deeds { 2 ≤ out.old.deeds.room }
         requires frames { to_two_sets ≤ out.old.frames.room }
         requires drops { tick_drops ≤ out.old.drops.room }
         ensures does { DoesAll K.Keeper self.old self.new out.old out.new ticks_leader result }

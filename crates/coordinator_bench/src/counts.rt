@@ -2,7 +2,7 @@
 use client_lines::{Answer, Reply};
 use coordinator::Sealed;
 use master_tasks::Outgoing;
-use policy_model::{Mode, Step};
+use policy_model::{Deed, Mode};
 use std::fmt;
 use std::hash::{DefaultHasher, Hasher};
 use wire_frames::Frame;
@@ -56,11 +56,11 @@ impl Counts {
         }
     }
 
-    fn add_steps(&mut self, place: usize, steps: &[Step]) {
-        for step in steps {
-            match step {
-                Step::Act(_, _) => self.acts = self.acts.wrapping_add(1),
-                Step::Mode(mode, term) => {
+    fn add_deeds(&mut self, place: usize, deeds: &[Deed]) {
+        for deed in deeds {
+            match deed {
+                Deed::Act(_, _) => self.acts = self.acts.wrapping_add(1),
+                Deed::Mode(mode, term) => {
                     self.modes = self.modes.wrapping_add(1);
                     self.digest.write_u64(*term);
                     if matches!(mode, Mode::Leader) {
@@ -97,7 +97,7 @@ impl Counts {
         self.events = self.events.wrapping_add(1);
         self.drops = self.drops.wrapping_add(drops as u64);
         self.digest.write_u64(place as u64);
-        self.add_steps(place, sealed.entries().steps.as_slice());
+        self.add_deeds(place, sealed.entries().deeds.as_slice());
         self.add_frames(sealed.sends().as_slice());
         self.add_replies(sealed.replies().as_slice());
     }

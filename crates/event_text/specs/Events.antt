@@ -9,9 +9,9 @@ use Rattle.wire_frames.specs.declared.frame.Frame.{Frame}
 use Rattle.policy_model.specs.declared.events.DropCause.{DropCause}
 use Rattle.policy_model.specs.declared.events.DropCause.TheVariants.{Checks, Lag}
 use Rattle.policy_model.specs.declared.events.MemberDrop.{MemberDrop}
-use Rattle.policy_model.specs.declared.events.Step.{Step}
+use Rattle.policy_model.specs.declared.events.Deed.{Deed}
 use Rattle.event_text.specs.Frames.{frames_text}
-use Rattle.event_text.specs.Steps.{steps_text}
+use Rattle.event_text.specs.Deeds.{deeds_text}
 
 abbrev pub cause_text : DropCause → List ℕ
 cause_text Checks = codes "checks"
@@ -33,6 +33,6 @@ replies_text n replies = flat_map (reply_line n) replies
 
 -- An event of a node that had published this state last before it, after so many frames: acts and changes of mode, then drops, then
 -- frames, then replies.
-abbrev pub event_results : (count : ℕ) → Id → Option ClusterState → List Step → List MemberDrop → List Frame → List Outgoing → List ℕ
-event_results count n published steps drops frames replies =
-    steps_text n published steps ++ drops_text n drops ++ frames_text count frames ++ replies_text n replies
+abbrev pub event_results : (count : ℕ) → Id → Option ClusterState → List Deed → List MemberDrop → List Frame → List Outgoing → List ℕ
+event_results count n published deeds drops frames replies =
+    deeds_text n published deeds ++ drops_text n drops ++ frames_text count frames ++ replies_text n replies

@@ -1,4 +1,4 @@
 pub mod Published
 pub mod Frames
-pub mod Steps
+pub mod Deeds
 pub mod Events

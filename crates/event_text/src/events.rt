@@ -1,15 +1,15 @@
 //! All lines of an event: its acts and changes of mode, then drops, frames and replies.
 ghost use Rattle.std.specs.Prelude.{ℕ, ◌≡◌, ◌<◌, ◌^◌, [], ◌++◌, OnOk};
 ghost use Rattle.event_text.specs.Published.{published_after};
-ghost use Rattle.event_text.specs.Steps.{told_as};
+ghost use Rattle.event_text.specs.Deeds.{as_left};
 ghost use Rattle.event_text.specs.Events.{cause_text, drop_line, drops_text, event_results, replies_text, reply_line};
 
+use crate::deeds::{write_deeds, write_struck_deeds};
 use crate::frames::write_frames;
-use crate::steps::{write_steps, write_struck_steps};
 use client_lines::write_reply;
 use cluster_state::SharedState;
 use master_tasks::Outgoing;
-use policy_model::{DropCause, MemberDrop, Step};
+use policy_model::{Deed, DropCause, MemberDrop};
 use std::alloc::{AllocError, Global};
 use text::Text;
 use voting_config::NodeId;
@@ -78,23 +78,23 @@ pub fn write_replies(
 }
 
 /// Writes an event of a node, after `count` frames: its acts and changes of mode, then drops, then frames, then replies.
-/// `published` is as for `write_steps`.
+/// `published` is as for `write_deeds`.
 pub fn write_event(
     text: &mut Text,
     alloc: Global,
     count: usize,
     node: NodeId,
     published: &mut Option<SharedState>,
-    steps: &[Step],
+    deeds: &[Deed],
     drops: &[MemberDrop],
     frames: &[Frame],
     replies: &[Outgoing],
 ) -> Result<(), AllocError>
     requires { count < 2 ^ 63 }
-    ensures text { OnOk result (text.new ≡ text.old ++ event_results count node published.old steps.now drops.now frames.now replies.now) }
-    ensures published { OnOk result (published.new ≡ published_after published.old steps.now) }
+    ensures text { OnOk result (text.new ≡ text.old ++ event_results count node published.old deeds.now drops.now frames.now replies.now) }
+    ensures published { OnOk result (published.new ≡ published_after published.old deeds.now) }
 {
-    write_steps(text, alloc, node, published, steps)?;
+    write_deeds(text, alloc, node, published, deeds)?;
     write_drops(text, node, drops)?;
     write_frames(text, alloc, count, frames)?;
     write_replies(text, alloc, node, replies)
@@ -102,20 +102,20 @@ pub fn write_event(
 
 /// Writes an event at which the disk failed in the last act: its acts and changes of mode, then drops. Nothing was sent
 /// and nobody was answered. Where `crashed`, the disk failed since the node crashed in that act. `published` is as for
-/// `write_steps`.
+/// `write_deeds`.
 pub fn write_struck_event(
     text: &mut Text,
     alloc: Global,
     node: NodeId,
     published: &mut Option<SharedState>,
-    steps: &[Step],
+    deeds: &[Deed],
     drops: &[MemberDrop],
     crashed: bool,
 ) -> Result<(), AllocError>
     ensures text { OnOk result
-        ((count : ℕ) → text.new ≡ text.old ++ event_results count node published.old (told_as crashed steps.now) drops.now [] []) }
-    ensures published { OnOk result (published.new ≡ published_after published.old steps.now) }
+        ((count : ℕ) → text.new ≡ text.old ++ event_results count node published.old (as_left crashed deeds.now) drops.now [] []) }
+    ensures published { OnOk result (published.new ≡ published_after published.old deeds.now) }
 {
-    write_struck_steps(text, alloc, node, published, steps, crashed)?;
+    write_struck_deeds(text, alloc, node, published, deeds, crashed)?;
     write_drops(text, node, drops)
 }

@@ -7,7 +7,7 @@ ghost use Rattle.event_text.specs.Frames.{answer_text, frame_line, frames_text, 
 use cluster_state::StateId;
 use std::alloc::{AllocError, Global};
 use text::Text;
-use trace_text::acts::{write_state_id, write_state_json};
+use trace_text::{write_state_id, write_state_json};
 use voting_config::{NodeId, NodeSet};
 use wire_frames::{Frame, WireMessage};
 

@@ -2,7 +2,7 @@
 ghost use Rattle.std.specs.Prelude.{◌≡◌, Bool, OnOk, Some};
 ghost use Rattle.world_model.specs.declared.acts.Outcome.TheVariants as outcome;
 ghost use Rattle.world_model.specs.declared.acts.ActReply.TheVariants as reply;
-ghost use Rattle.policy_model.specs.declared.events.Step.TheVariants as step;
+ghost use Rattle.policy_model.specs.declared.events.Deed.TheVariants as deed;
 ghost use Rattle.trace_text.specs.Published.{published_by};
 ghost use Rattle.event_text.specs.Published.{published_in};
 
@@ -59,7 +59,7 @@ pub(crate) fn keep_published(
     act: &Act,
     outcome: &Outcome,
 ) -> Result<(), AllocError>
-    ensures { OnOk result (published.new ≡ published_in published.old (step.Act act.now outcome.now)) }
+    ensures { OnOk result (published.new ≡ published_in published.old (deed.Act act.now outcome.now)) }
 {
     match act {
         Act::Value(_, _, _) => keep_outcome(published, outcome),

@@ -1,11 +1,11 @@
 //! Fault detection: whether the followers answer and keep up, and whether the leader answers.
 #![tactic(auto)]
 
-pub mod checking;
-pub mod followers;
-pub mod laws;
-pub mod leader;
-pub mod spans;
+mod checking;
+mod followers;
+mod laws;
+mod leader;
+mod spans;
 
 pub use checking::Check;
 pub use followers::{Behind, Checked, Follower, FollowerChecks};

@@ -16,9 +16,9 @@ torn_behind bodies file c gate n is torn =
     ∙ get_or-take (gate + 1) file gate 0 (omega arith) in
     record {
       short = is.short;
-      front =
+      prefix =
           sym (take-take gate (gate + 1) c (omega arith)) ∙ ap (λ (l : List ℕ). take gate l) torn.before
-          ∙ take-take gate (gate + 1) file (omega arith) ∙ is.front;
+          ∙ take-take gate (gate + 1) file (omega arith) ∙ is.prefix;
       inside = omega (arith, is.inside, torn.no_shorter);
       closed = λ one. is.closed (sym same ∙ one);
     }
@@ -42,7 +42,7 @@ module _ (bodies : List (List ℕ)) (body frame file : List ℕ) (gate : ℕ) (i
       ∙ ap (λ (l : List ℕ). l ++ drop (length frame) (drop (gate + 1) file)) (behind ∙ framing.bytes) in
       let from_gate : drop gate c ≡ 1 ∷ (sized body ++ 0 ∷ [] ++ rest) = drop_more c gate 0 in_c ∙ (λ i. one i ∷ tail i) in
       let parts : c ≡ header ++ laid bodies ++ 1 ∷ (sized body ++ 0 ∷ [] ++ rest) =
-      sym (take-append-drop gate c) ∙ (λ i. (torn.before ∙ is.front) i ++ from_gate i) in
+      sym (take-append-drop gate c) ∙ (λ i. (torn.before ∙ is.prefix) i ++ from_gate i) in
       let regroup : header ++ laid bodies ++ 1 ∷ (sized body ++ 0 ∷ [] ++ rest) ≡ header ++ (laid bodies ++ 1 ∷ sized body) ++ 0 ∷ rest =
       simp append_assoc in
       let whole : c ≡ header ++ laid (bodies ++ body ∷ []) ++ 0 ∷ rest =
@@ -63,7 +63,7 @@ module _ (bodies : List (List ℕ)) (body frame file : List ℕ) (gate : ℕ) (i
 
   -- closed, it does not
   pub still_closed : get_or c gate 0 ≢ 1 → IsLaid bodies c gate
-  still_closed closed = record { short = is.short; front = torn.before ∙ is.front; inside = in_c; closed = closed }
+  still_closed closed = record { short = is.short; prefix = torn.before ∙ is.prefix; inside = in_c; closed = closed }
 
 -- what the first two calls may leave
 pub first_leaves : (bodies : List (List ℕ)) (body file c : List ℕ) (gate n : ℕ) → IsLaid bodies file gate → Torn (gate + 1) n file c
@@ -112,7 +112,7 @@ module _ (bodies : List (List ℕ)) (file : List ℕ) (gate : ℕ) (is : IsLaid 
   emptied shut =
       record {
         short = All-nil (λ (b : List ℕ). length b ≤ most_body);
-        front = begins;
+        prefix = begins;
         inside = omega
             (arith, past_header, torn.no_shorter);
         closed = shut;

@@ -82,11 +82,11 @@ nothing_laid (body ∷ bodies) none = absurd (omega arith)
 module _ (bodies : List (List ℕ)) (file : List ℕ) (gate : ℕ) (is : IsLaid bodies file gate) where
   pub split : file ≡ header ++ laid bodies ++ get_or file gate 0 ∷ drop (gate + 1) file
   split =
-      sym (take-append-drop gate file) ∙ ap (λ (l : List ℕ). l ++ drop gate file) is.front
+      sym (take-append-drop gate file) ∙ ap (λ (l : List ℕ). l ++ drop gate file) is.prefix
       ∙ ap (λ (l : List ℕ). header ++ laid bodies ++ l) (drop_more file gate 0 is.inside)
 
   pub gate_is : gate ≡ 8 + length (laid bodies)
-  gate_is = omega (arith, length-take-le gate file (omega (arith, is.inside)), ap length is.front, length-append header (laid bodies))
+  gate_is = omega (arith, length-take-le gate file (omega (arith, is.inside)), ap length is.prefix, length-append header (laid bodies))
 
   pub stands_for : bodies_of file ≡ Ok bodies
   unfolding bodies_of
@@ -115,7 +115,7 @@ laid_from bodies file gate shut rest short at whole closed =
     let there : get_or file gate 0 ≡ shut = ap (λ (l : List ℕ). get_or l gate 0) whole ∙ get_or_at (header ++ laid bodies) shut rest 0 gate size in
     record {
       short = short;
-      front = ap (λ (l : List ℕ). take gate l) whole ∙ take_at (header ++ laid bodies) (shut ∷ rest) gate size;
+      prefix = ap (λ (l : List ℕ). take gate l) whole ∙ take_at (header ++ laid bodies) (shut ∷ rest) gate size;
       inside = omega (arith, ap length whole, length-append (header ++ laid bodies) (shut ∷ rest), size);
       closed = λ one. closed (sym there ∙ one);
     }
@@ -130,4 +130,4 @@ torn_fresh old c short torn = brief c (omega (arith, torn.no_longer, short)) ∙
 
 pub fresh_laid : IsLaid [] (header ++ 0 ∷ []) 8
 unfolding laid
-fresh_laid = record { short = All-nil (λ (b : List ℕ). length b ≤ most_body); front = refl; inside = lit< tt; closed = λ no. absurd (omega arith) }
+fresh_laid = record { short = All-nil (λ (b : List ℕ). length b ≤ most_body); prefix = refl; inside = lit< tt; closed = λ no. absurd (omega arith) }

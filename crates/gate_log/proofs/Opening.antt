@@ -18,88 +18,88 @@ use Rattle.std.proofs.lemmas.List.{append-nil}
 use Rattle.gate_log.specs.Calls.{preparing_calls, reading_calls, opening_calls, both_opening_calls}
 use Rattle.gate_log.specs.Journal.{header}
 
-module _ {D : Type 0} (steps : D → DeviceCall → D → Bool → Type 0) (side : Side) (file : List ℕ) where
+module _ {D : Type 0} (moves : D → DeviceCall → D → Bool → Type 0) (side : Side) (file : List ℕ) where
   abbrev fresh : List DeviceCall
   fresh = Write side 0 (header ++ 0 ∷ []) ∷ Sync side ∷ []
 
   -- a file of at most nine bytes gets a header
-  pub fresh_ran : (old mid new : D) (ok : Bool) → length file ≤ 9 → CallsMade steps (Sync side ∷ Len side ∷ []) old mid true → CallsMade steps fresh mid new ok
-      → CallsMade steps (preparing_calls side file) old new ok
+  pub fresh_ran : (old mid new : D) (ok : Bool) → length file ≤ 9 → CallsMade moves (Sync side ∷ Len side ∷ []) old mid true → CallsMade moves fresh mid new ok
+      → CallsMade moves (preparing_calls side file) old new ok
   fresh_ran old mid new ok short first more =
-      subst (λ (calls : List DeviceCall). CallsMade steps (Sync side ∷ Len side ∷ calls) old new ok)
+      subst (λ (calls : List DeviceCall). CallsMade moves (Sync side ∷ Len side ∷ calls) old new ok)
       (sym (cond-true (nat_le (length file) 9) fresh [] (le-leb (length file) 9 short)))
-      (ran_on steps (Sync side ∷ Len side ∷ []) fresh old mid new ok first more)
+      (ran_on moves (Sync side ∷ Len side ∷ []) fresh old mid new ok first more)
 
   -- a longer one doesn't
-  pub same_ran : (old new : D) → 9 < length file → CallsMade steps (Sync side ∷ Len side ∷ []) old new true
-      → CallsMade steps (preparing_calls side file) old new true
+  pub same_ran : (old new : D) → 9 < length file → CallsMade moves (Sync side ∷ Len side ∷ []) old new true
+      → CallsMade moves (preparing_calls side file) old new true
   same_ran old new long first =
-      subst (λ (calls : List DeviceCall). CallsMade steps (Sync side ∷ Len side ∷ calls) old new true)
+      subst (λ (calls : List DeviceCall). CallsMade moves (Sync side ∷ Len side ∷ calls) old new true)
       (sym (cond-false (nat_le (length file) 9) fresh [] (lt-leb (length file) 9 long))) first
 
-  pub synced_failed : (old new : D) → CallsMade steps (Sync side ∷ Len side ∷ []) old new false → CallsMade steps (preparing_calls side file) old new false
-  synced_failed old new failed = ran_failed steps (Sync side ∷ Len side ∷ []) _ old new failed
+  pub synced_failed : (old new : D) → CallsMade moves (Sync side ∷ Len side ∷ []) old new false → CallsMade moves (preparing_calls side file) old new false
+  synced_failed old new failed = ran_failed moves (Sync side ∷ Len side ∷ []) _ old new failed
 
-  pub prepared_failed : (old new : D) → CallsMade steps (preparing_calls side file) old new false → CallsMade steps (opening_calls side file) old new false
-  prepared_failed old new failed = ran_failed steps (preparing_calls side file) (reading_calls side file) old new failed
+  pub prepared_failed : (old new : D) → CallsMade moves (preparing_calls side file) old new false → CallsMade moves (opening_calls side file) old new false
+  prepared_failed old new failed = ran_failed moves (preparing_calls side file) (reading_calls side file) old new failed
 
-  pub brief_ran : (old new : D) → length file ≤ 9 → CallsMade steps (preparing_calls side file) old new true
-      → CallsMade steps (opening_calls side file) old new true
+  pub brief_ran : (old new : D) → length file ≤ 9 → CallsMade moves (preparing_calls side file) old new true
+      → CallsMade moves (opening_calls side file) old new true
   brief_ran old new short ran =
-      ran_on steps (preparing_calls side file) (reading_calls side file) old new new true ran
-      (subst (λ (calls : List DeviceCall). CallsMade steps calls new new true)
+      ran_on moves (preparing_calls side file) (reading_calls side file) old new new true ran
+      (subst (λ (calls : List DeviceCall). CallsMade moves calls new new true)
       (sym (cond-true (nat_le (length file) 9) [] (Read side 0 (length file) ∷ []) (le-leb (length file) 9 short))) (refl, refl))
 
-  one_ran : (mid new : D) (call : DeviceCall) (ok : Bool) → steps mid call new ok → CallsMade steps (call ∷ []) mid new ok
+  one_ran : (mid new : D) (call : DeviceCall) (ok : Bool) → moves mid call new ok → CallsMade moves (call ∷ []) mid new ok
   one_ran mid new call true step = inl (new, step, (refl, refl))
   one_ran mid new call false step = inr (step, refl)
 
-  pub read_ran : (old mid new : D) (ok : Bool) → 9 < length file → CallsMade steps (preparing_calls side file) old mid true
-      → steps mid (Read side 0 (length file)) new ok → CallsMade steps (opening_calls side file) old new ok
+  pub read_ran : (old mid new : D) (ok : Bool) → 9 < length file → CallsMade moves (preparing_calls side file) old mid true
+      → moves mid (Read side 0 (length file)) new ok → CallsMade moves (opening_calls side file) old new ok
   read_ran old mid new ok long ran step =
-      ran_on steps (preparing_calls side file) (reading_calls side file) old mid new ok ran
-      (subst (λ (calls : List DeviceCall). CallsMade steps calls mid new ok)
+      ran_on moves (preparing_calls side file) (reading_calls side file) old mid new ok ran
+      (subst (λ (calls : List DeviceCall). CallsMade moves calls mid new ok)
       (sym (cond-false (nat_le (length file) 9) [] (Read side 0 (length file) ∷ []) (lt-leb (length file) 9 long)))
       (one_ran mid new (Read side 0 (length file)) ok step))
 
   -- all calls were made, and then the bytes were refused
-  pub refused_ran : (old new : D) (e : SideError) → DidNotFail e → CallsMade steps (opening_calls side file) old new true
-      → SideRan steps side file old new e
+  pub refused_ran : (old new : D) (e : SideError) → DidNotFail e → CallsMade moves (opening_calls side file) old new true
+      → SideRan moves side file old new e
   refused_ran old new (error.Fault fault) calm ran = ran
   refused_ran old new error.Memory calm ran = inr ran
   refused_ran old new error.Failed calm ran = absurd calm
 
 -- a refused opening of both sides
-module _ {D : Type 0} (steps : D → DeviceCall → D → Bool → Type 0) (files : Files) where
-  pub side_zero_ran : (old new : D) (e : SideError) → SideRan steps Zero files.zero old new e → RanUntil steps files old (refusal_of Zero e new)
+module _ {D : Type 0} (moves : D → DeviceCall → D → Bool → Type 0) (files : Files) where
+  pub side_zero_ran : (old new : D) (e : SideError) → SideRan moves Zero files.zero old new e → RanUntil moves files old (refusal_of Zero e new)
   side_zero_ran old new (error.Fault fault) ran = ran
   side_zero_ran old new error.Memory (inl ran) = (Sync Zero ∷ Len Zero ∷ [], _, refl, ran)
   side_zero_ran old new error.Memory (inr ran) = (opening_calls Zero files.zero, opening_calls One files.one, refl, ran)
-  side_zero_ran old new error.Failed ran = ran_failed steps (opening_calls Zero files.zero) (opening_calls One files.one) old new ran
+  side_zero_ran old new error.Failed ran = ran_failed moves (opening_calls Zero files.zero) (opening_calls One files.one) old new ran
 
-  pub side_one_ran : (old mid new : D) (e : SideError) → CallsMade steps (opening_calls Zero files.zero) old mid true
-      → SideRan steps One files.one mid new e → RanUntil steps files old (refusal_of One e new)
+  pub side_one_ran : (old mid new : D) (e : SideError) → CallsMade moves (opening_calls Zero files.zero) old mid true
+      → SideRan moves One files.one mid new e → RanUntil moves files old (refusal_of One e new)
   side_one_ran old mid new (error.Fault fault) first ran =
-      ran_on steps (opening_calls Zero files.zero) (opening_calls One files.one) old mid new true first ran
+      ran_on moves (opening_calls Zero files.zero) (opening_calls One files.one) old mid new true first ran
   side_one_ran old mid new error.Memory first (inl ran) = (
     opening_calls Zero files.zero ++ Sync One ∷ Len One ∷ [],
     (if nat_le (length files.one) 9 then Write One 0 (header ++ 0 ∷ []) ∷ Sync One ∷ [] else []) ++ reading_calls One files.one,
     append_assoc (opening_calls Zero files.zero) (Sync One ∷ Len One ∷ []) _,
-    ran_on steps (opening_calls Zero files.zero) (Sync One ∷ Len One ∷ []) old mid new true first ran,
+    ran_on moves (opening_calls Zero files.zero) (Sync One ∷ Len One ∷ []) old mid new true first ran,
   )
   side_one_ran old mid new error.Memory first (inr ran) = (
     both_opening_calls files,
     [],
     append-nil (both_opening_calls files),
-    ran_on steps (opening_calls Zero files.zero)
+    ran_on moves (opening_calls Zero files.zero)
         (opening_calls One files.one) old mid new true first ran,
   )
   side_one_ran old mid new error.Failed first ran =
-      ran_on steps (opening_calls Zero files.zero) (opening_calls One files.one) old mid new false first ran
+      ran_on moves (opening_calls Zero files.zero) (opening_calls One files.one) old mid new false first ran
 
-  pub twin_ran : (old new : D) (why : Why) → CallsMade steps (both_opening_calls files) old new true → (why ≡ Twin)
-      → RanUntil steps files old (NotAJournal why new)
-  twin_ran old new why ran is = subst (λ (w : Why). RanUntil steps files old (NotAJournal w new)) (sym is) ran
+  pub twin_ran : (old new : D) (why : Why) → CallsMade moves (both_opening_calls files) old new true → (why ≡ Twin)
+      → RanUntil moves files old (NotAJournal why new)
+  twin_ran old new why ran is = subst (λ (w : Why). RanUntil moves files old (NotAJournal w new)) (sym is) ran
 
 -- two sides have no other fault together
 pub why_is_twin : (zero one : Option ℕ) (why : Why) → chosen_by zero one ≡ Err why → why ≡ Twin

@@ -29,4 +29,4 @@ pub record Appends {D T : Type 0} (disks : Ghosts D) (body : List ℕ) (old new 
   pub any_moment : disks.told → old.stopped ≡ false
       → LeavesOnly disks.moment disks.left_since old.disk new.disk (IsAppended (standing_in (disks.seen old.disk)) body)
   -- these device calls and no others
-  pub ran : CalledDisk result → CallsMade disks.steps (append_calls old.side old.gate (framed body)) old.disk new.disk (is_ok result)
+  pub ran : CalledDisk result → CallsMade disks.moves (append_calls old.side old.gate (framed body)) old.disk new.disk (is_ok result)

@@ -34,7 +34,7 @@ pub(crate) fn add_record<D: Disks>(
         → IsLaid bodies (on side (D.seen disk.old)) gate
         → Only (D.seen disk.old) (D.may_leave disk.old)
         → LeavesOnly D.moment D.left_since disk.old disk.new (LeavesOn side (IsBeforeOrAfter bodies body) (D.seen disk.old)) }
-    ensures ran { CallsMade D.steps (append_calls side gate frame.now) disk.old disk.new (is_ok result) }
+    ensures ran { CallsMade D.moves (append_calls side gate frame.now) disk.old disk.new (is_ok result) }
     ensures cause { HasCause (D.faults disk.old) (D.faults disk.new) result }
 {
     write_through(disk, side, gate + 1, frame)?;
@@ -55,7 +55,7 @@ pub(crate) fn close_first<D: Disks>(disk: &mut D, side: Side) -> Result<(), Fail
     ensures any_moment { D.told → (bodies : List (List ℕ)) → (gate : ℕ) → 8 < gate → IsLaid bodies (on side (D.seen disk.old)) gate
         → Only (D.seen disk.old) (D.may_leave disk.old)
         → LeavesOnly D.moment D.left_since disk.old disk.new (LeavesOn side (IsAsBeforeOrNone bodies) (D.seen disk.old)) }
-    ensures ran { CallsMade D.steps (Write side 8 (0 ∷ []) ∷ Sync side ∷ []) disk.old disk.new (is_ok result) }
+    ensures ran { CallsMade D.moves (Write side 8 (0 ∷ []) ∷ Sync side ∷ []) disk.old disk.new (is_ok result) }
     ensures cause { HasCause (D.faults disk.old) (D.faults disk.new) result }
 {
     write_through(disk, side, 8, &[0])?;

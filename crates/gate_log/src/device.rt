@@ -24,7 +24,7 @@ pub(crate) fn write_through<D: Disks>(
     ensures still { (file : List ℕ) → OnlyOn (other side) file (D.may_leave disk.old) → OnlyOn (other side) file (D.may_leave disk.new) }
     ensures limit { OnOk result (at + length bytes.now ≤ most_file_bytes) }
     ensures any_moment { LeavesOnly D.moment D.left_since disk.old disk.new (TornFrom (D.may_leave disk.old) side at (length bytes.now)) }
-    ensures ran { CallsMade D.steps (Write side at bytes.now ∷ Sync side ∷ []) disk.old disk.new (is_ok result) }
+    ensures ran { CallsMade D.moves (Write side at bytes.now ∷ Sync side ∷ []) disk.old disk.new (is_ok result) }
     ensures cause { HasCause (D.faults disk.old) (D.faults disk.new) result }
 {
     disk.write_at(side, at, bytes)?;

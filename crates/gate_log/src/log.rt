@@ -81,8 +81,8 @@ impl<D: Disks> GateLog<D> {
         ensures any_moment_err { D.told → IfErr result (λ e. LeavesOnly D.moment D.left_since disk (handed_back e) (StandsAsSome (D.may_leave disk))) }
 
         // These device calls and no others.
-        ensures ran { D.told → IfOk result (λ o. CallsMade D.steps (both_opening_calls (D.seen disk)) disk o.log.disk true) }
-        ensures ran_err { D.told → IfErr result (RanUntil D.steps (D.seen disk) disk) }
+        ensures ran { D.told → IfOk result (λ o. CallsMade D.moves (both_opening_calls (D.seen disk)) disk o.log.disk true) }
+        ensures ran_err { D.told → IfErr result (RanUntil D.moves (D.seen disk) disk) }
     {
         let mut disk = disk;
         let zero = match open_side(alloc, &mut disk, Side::Zero) {
@@ -228,7 +228,7 @@ impl<D: Disks> GateLog<D> {
 
         // These device calls and no others.
         ensures ran { CalledDisk result
-            → CallsMade D.steps (renewal_calls (other self.old.side) self.old.other_gate frame.now) self.old.disk self.new.disk
+            → CallsMade D.moves (renewal_calls (other self.old.side) self.old.other_gate frame.now) self.old.disk self.new.disk
             (is_ok result) }
     {
         if self.stopped {

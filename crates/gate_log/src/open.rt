@@ -41,7 +41,7 @@ pub(crate) fn synced_len<D: Disks>(disk: &mut D, side: Side) -> Result<u64, Fail
     ensures durable { OnOk result (OnlyOn side (on side (D.seen disk.new)) (D.may_leave disk.new)) }
     ensures within { Within (D.may_leave disk.old) (D.may_leave disk.new) }
     ensures any_moment { LeavesOnly D.moment D.left_since disk.old disk.new (D.may_leave disk.old) }
-    ensures ran { CallsMade D.steps (Sync side ∷ Len side ∷ []) disk.old disk.new (is_ok result) }
+    ensures ran { CallsMade D.moves (Sync side ∷ Len side ∷ []) disk.old disk.new (is_ok result) }
     ensures cause { HasCause (D.faults disk.old) (D.faults disk.new) result }
 {
     disk.sync(side)?;
@@ -62,7 +62,7 @@ pub(crate) fn prepare<D: Disks>(disk: &mut D, side: Side) -> Result<u64, Failed>
     ensures durable { OnOk result (OnlyOn side (on side (D.seen disk.new)) (D.may_leave disk.new)) }
     ensures still { (file : List ℕ) → OnlyOn (other side) file (D.may_leave disk.old) → OnlyOn (other side) file (D.may_leave disk.new) }
     ensures any_moment { D.told → LeavesOnly D.moment D.left_since disk.old disk.new (StandsAsSome (D.may_leave disk.old)) }
-    ensures ran { D.told → CallsMade D.steps (preparing_calls side (on side (D.seen disk.old))) disk.old disk.new (is_ok result) }
+    ensures ran { D.told → CallsMade D.moves (preparing_calls side (on side (D.seen disk.old))) disk.old disk.new (is_ok result) }
     ensures cause { HasCause (D.faults disk.old) (D.faults disk.new) result }
 {
     let Ok(len) = synced_len(disk, side) else {
@@ -90,8 +90,8 @@ pub(crate) fn read_all<D: Disks>(
     ensures seen { D.seen disk.new ≡ D.seen disk.old }
     ensures crash { Within (D.may_leave disk.old) (D.may_leave disk.new) }
     ensures any_moment { LeavesOnly D.moment D.left_since disk.old disk.new (D.may_leave disk.old) }
-    ensures step { OnOk result (D.steps disk.old (Read side 0 len) disk.new true) }
-    ensures failed { IsErrOf result ReadError.Failed → D.steps disk.old (Read side 0 len) disk.new false }
+    ensures moves { OnOk result (D.moves disk.old (Read side 0 len) disk.new true) }
+    ensures failed { IsErrOf result ReadError.Failed → D.moves disk.old (Read side 0 len) disk.new false }
     ensures memory { IsErrOf result ReadError.Memory → disk.new ≡ disk.old }
     ensures later { D.faults disk.old ≤ D.faults disk.new }
     ensures cause { IsErrOf result ReadError.Failed → Rose (D.faults disk.old) (D.faults disk.new) }
@@ -140,8 +140,8 @@ pub(crate) fn open_side<D: Disks>(
     ensures durable { OnOk result (OnlyOn side (on side (D.seen disk.new)) (D.may_leave disk.new)) }
     ensures still { (file : List ℕ) → OnlyOn (other side) file (D.may_leave disk.old) → OnlyOn (other side) file (D.may_leave disk.new) }
     ensures any_moment { D.told → LeavesOnly D.moment D.left_since disk.old disk.new (StandsAsSome (D.may_leave disk.old)) }
-    ensures ran { D.told → OnOk result (CallsMade D.steps (opening_calls side (on side (D.seen disk.old))) disk.old disk.new true) }
-    ensures ran_err { D.told → IfErr result (SideRan D.steps side (on side (D.seen disk.old)) disk.old disk.new) }
+    ensures ran { D.told → OnOk result (CallsMade D.moves (opening_calls side (on side (D.seen disk.old))) disk.old disk.new true) }
+    ensures ran_err { D.told → IfErr result (SideRan D.moves side (on side (D.seen disk.old)) disk.old disk.new) }
     ensures later { D.faults disk.old ≤ D.faults disk.new }
     ensures cause { IfErr result (SideRose (D.faults disk.old) (D.faults disk.new)) }
 {

@@ -23,7 +23,7 @@ fn clear<D: Disks>(disk: &mut D, side: Side, gate: u64) -> Result<(), Failed>
     ensures any_moment { D.told → (bodies : List (List ℕ)) → IsLaid bodies (on side (D.seen disk.old)) gate
         → Only (D.seen disk.old) (D.may_leave disk.old)
         → LeavesOnly D.moment D.left_since disk.old disk.new (LeavesOn side (IsAsBeforeOrNone bodies) (D.seen disk.old)) }
-    ensures ran { CallsMade D.steps (closing_calls side gate) disk.old disk.new (is_ok result) }
+    ensures ran { CallsMade D.moves (closing_calls side gate) disk.old disk.new (is_ok result) }
     ensures cause { HasCause (D.faults disk.old) (D.faults disk.new) result }
 {
     if gate <= 8 {
@@ -55,7 +55,7 @@ pub(crate) fn write_generation<D: Disks>(
         → IsLaid bodies (on side (D.seen disk.old)) gate
         → Only (D.seen disk.old) (D.may_leave disk.old)
         → LeavesOnly D.moment D.left_since disk.old disk.new (LeavesOn side (IsReplaced bodies body) (D.seen disk.old)) }
-    ensures ran { CallsMade D.steps (renewal_calls side gate frame.now) disk.old disk.new (is_ok result) }
+    ensures ran { CallsMade D.moves (renewal_calls side gate frame.now) disk.old disk.new (is_ok result) }
     ensures cause { HasCause (D.faults disk.old) (D.faults disk.new) result }
 {
     let Ok(()) = clear(disk, side, gate) else {

@@ -22,7 +22,7 @@ const READ: usize = 16_384;
 const STOP: &[u8; 5] = b"stop\n";
 
 // As many first bytes as a frame needs to show its sender: a length, a kind and an id.
-const FRONT: usize = 38;
+const PREFIX: usize = 38;
 
 // The bytes of a frame's length.
 const LENGTH: u64 = 4;
@@ -59,7 +59,7 @@ enum Coming {
 
 // What the first bytes of a connection show, none of which was read.
 #[derive(Clone, Copy, PartialEq, Eq)]
-pub(crate) enum Front {
+pub(crate) enum Prefix {
     // Too little to tell.
     Unclear,
     Stop,
@@ -70,18 +70,18 @@ pub(crate) enum Front {
 }
 
 // What these first bytes show. A frame's length begins with a zero byte.
-fn front_of<F: Framing>(framing: &F, bytes: &[u8]) -> Front {
+fn prefix_of<F: Framing>(framing: &F, bytes: &[u8]) -> Prefix {
     let stop = &STOP[..];
     if let Some(id) = framing.sender(bytes) {
-        Front::Frame(id)
+        Prefix::Frame(id)
     } else if bytes.starts_with(stop) {
-        Front::Stop
+        Prefix::Stop
     } else if !bytes.is_empty() && stop.starts_with(bytes) {
-        Front::Unclear
-    } else if bytes.len() < FRONT && bytes.starts_with(&[0]) {
-        Front::Unclear
+        Prefix::Unclear
+    } else if bytes.len() < PREFIX && bytes.starts_with(&[0]) {
+        Prefix::Unclear
     } else {
-        Front::Other
+        Prefix::Other
     }
 }
 
@@ -100,7 +100,7 @@ pub(crate) struct Connection {
     // Whether the end of the one that had this number before is still to be told.
     owes_end: bool,
     // The first bytes that were given.
-    front: ArrayVec<u8, FRONT>,
+    prefix: ArrayVec<u8, PREFIX>,
     // How many bytes were given.
     given: u64,
     // Whether a line feed was given.
@@ -143,7 +143,7 @@ impl Connection {
             age,
             heard: age,
             owes_end: false,
-            front: ArrayVec::new(),
+            prefix: ArrayVec::new(),
             given: 0,
             has_line: false,
             incoming: BytesMut::new(alloc),
@@ -169,12 +169,12 @@ impl Connection {
     }
 
     // What its first bytes show, where none was read.
-    pub(crate) fn front<F: Framing>(&self, framing: &F) -> Front {
-        let mut buffer = [0u8; FRONT];
+    pub(crate) fn prefix<F: Framing>(&self, framing: &F) -> Prefix {
+        let mut buffer = [0u8; PREFIX];
         match self.stream.peek(&mut buffer) {
-            Ok(count) => front_of(framing, &buffer[..count]),
-            Err(error) if is_later(&error) => Front::Unclear,
-            Err(_) => Front::Other,
+            Ok(count) => prefix_of(framing, &buffer[..count]),
+            Err(error) if is_later(&error) => Prefix::Unclear,
+            Err(_) => Prefix::Other,
         }
     }
 
@@ -190,7 +190,7 @@ impl Connection {
 
     // Whether its number's end is to be told: bytes of it were given, or of the one before it.
     pub(crate) fn was_heard(&self) -> bool {
-        self.owes_end || !self.front.is_empty()
+        self.owes_end || !self.prefix.is_empty()
     }
 
     // Whether the end of the one that had this number before is still to be told.
@@ -214,12 +214,12 @@ impl Connection {
 
     // Whether it was given as lines of a client: it came from outside, and no frame's length begins it.
     pub(crate) fn brings_lines(&self) -> bool {
-        self.peer.is_none() && matches!(self.front.as_slice(), [first, ..] if *first != 0)
+        self.peer.is_none() && matches!(self.prefix.as_slice(), [first, ..] if *first != 0)
     }
 
     // Whether a whole line or a whole frame was given. A frame's length begins with a zero byte, and no line does.
     fn has_whole(&self) -> bool {
-        match self.front.as_slice() {
+        match self.prefix.as_slice() {
             [0, second, third, fourth, ..] => {
                 let length = u32::from_be_bytes([0, *second, *third, *fourth]);
                 self.given >= LENGTH + length as u64
@@ -337,7 +337,7 @@ impl Connection {
         self.goes_on = true;
         self.note(bytes.as_slice());
         if self.sender.is_none() {
-            self.sender = framing.sender(self.front.as_slice());
+            self.sender = framing.sender(self.prefix.as_slice());
         }
         Ok(Heard::Bytes(bytes))
     }
@@ -358,7 +358,7 @@ impl Connection {
 
     // Whether its first byte is a frame's.
     fn carries_frames(&self) -> bool {
-        match self.front.as_slice() {
+        match self.prefix.as_slice() {
             [first, ..] => *first == 0,
             [] => self.incoming.as_slice().starts_with(&[0]),
         }
@@ -369,10 +369,10 @@ impl Connection {
         self.given = self.given.saturating_add(bytes.len() as u64);
         self.has_line = self.has_line || bytes.contains(&b'\n');
         for byte in bytes {
-            if self.front.is_full() {
+            if self.prefix.is_full() {
                 break;
             }
-            self.front.push(*byte);
+            self.prefix.push(*byte);
         }
     }
 

@@ -150,7 +150,7 @@ impl Disks for FileDisks {
 
     ghost faults = { λ disk. disk.faults };
 
-    ghost steps = { λ _ _ _ _. ⊤ };
+    ghost moves = { λ _ _ _ _. ⊤ };
 
     ghost seen_may_stay = { λ disk told. told };
 

@@ -37,5 +37,5 @@ pub trait Framing {
 
     /// Who sends the frames of a connection whose first bytes, 38 at most, are these. None where they are no frame's, and
     /// where there are too few to tell.
-    fn sender(&self, front: &[u8]) -> Option<NodeId>;
+    fn sender(&self, prefix: &[u8]) -> Option<NodeId>;
 }

@@ -84,15 +84,15 @@ impl<F: Framing + Copy + Drop> Host for SystemHost<'_, F> {
 
     ghost faults = { λ host. host.faults };
 
-    ghost steps = { λ _ _ _. ⊤ };
+    ghost moves = { λ _ _ _. ⊤ };
 
-    ghost link_steps = { λ _ _ _. ⊤ };
+    ghost link_moves = { λ _ _ _. ⊤ };
 
-    ghost spawn_steps = { λ _ _ _. ⊤ };
+    ghost spawn_moves = { λ _ _ _. ⊤ };
 
-    ghost wait_steps = { λ _ _ _ _. ⊤ };
+    ghost wait_moves = { λ _ _ _ _. ⊤ };
 
-    ghost kill_steps = { λ _ _ _. ⊤ };
+    ghost kill_moves = { λ _ _ _. ⊤ };
 
     fn open_disk(&mut self, dir: &str) -> Result<FileDisks, HostError> {
         match FileDisks::open(self.rt, dir) {

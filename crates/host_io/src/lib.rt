@@ -3,16 +3,16 @@
 //! they hold is not told, so no clause speaks of it: that they keep and carry bytes is tested.
 #![tactic(auto)]
 
-pub mod children;
+mod children;
 mod connection;
-pub mod disk;
-pub mod folder;
-pub mod framing;
-pub mod host;
-pub mod link;
+mod disk;
+mod folder;
+mod framing;
+mod host;
+mod link;
 mod queue;
 mod sockets;
-pub mod streams;
+mod streams;
 
 pub use children::{Children, SystemChild, Unwaited};
 pub use disk::FileDisks;

@@ -131,7 +131,7 @@ impl<R: Net + Clock + RandomSource + Drop, F: Framing + Drop> Link for SocketLin
 
     ghost faults = { λ link. link.faults };
 
-    ghost steps = { λ _ _ _. ⊤ };
+    ghost moves = { λ _ _ _. ⊤ };
 
     fn next(&mut self) -> Result<Input, LinkError> {
         self.asked = self.asked.saturating_add(1);

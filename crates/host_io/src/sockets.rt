@@ -2,7 +2,7 @@
 ghost use Rattle.std.specs.Prelude.{◌<◌, IsTrue, IfOk, IfSome};
 ghost use Rattle.zen_link.specs.Told.{has_low_conn, most_connections};
 
-use crate::connection::{Connection, Front, Heard, UNNUMBERED, is_later};
+use crate::connection::{Connection, Heard, Prefix, UNNUMBERED, is_later};
 use crate::framing::{Framing, Piece, Target};
 use crate::link::passed;
 use crate::queue::FrameQueue;
@@ -419,10 +419,10 @@ impl Sockets {
         if let Some(number) = self.free_number() {
             return Verdict::Enters(number);
         }
-        match guest.connection.front(framing) {
-            Front::Frame(id) => self.verdict_on_frame(id),
-            Front::Unclear if now < guest.until => Verdict::Waits,
-            Front::Stop => Verdict::Waits,
+        match guest.connection.prefix(framing) {
+            Prefix::Frame(id) => self.verdict_on_frame(id),
+            Prefix::Unclear if now < guest.until => Verdict::Waits,
+            Prefix::Stop => Verdict::Waits,
             _ => Verdict::Leaves,
         }
     }
@@ -441,7 +441,7 @@ impl Sockets {
     fn asks_to_stop<F: Framing>(&self, framing: &F) -> bool {
         self.lobby
             .iter()
-            .any(|guest| guest.connection.front(framing) == Front::Stop)
+            .any(|guest| guest.connection.prefix(framing) == Prefix::Stop)
     }
 
     // A number that is free, or else that of the oldest idle connection. It owes no reply.

@@ -23,7 +23,7 @@ impl Source for StandardInput {
 
     ghost faults = { λ input. input.faults };
 
-    ghost steps = { λ _ _ _. ⊤ };
+    ghost moves = { λ _ _ _. ⊤ };
 
     fn read(&mut self, into: &mut [u8]) -> Result<usize, Failed> {
         let Ok(count) = self.input.read(into) else {
@@ -53,7 +53,7 @@ impl Sink for StandardOutput {
 
     ghost faults = { λ output. output.faults };
 
-    ghost steps = { λ _ _ _ _. ⊤ };
+    ghost moves = { λ _ _ _ _. ⊤ };
 
     fn write(&mut self, bytes: &[u8]) -> Result<usize, Failed> {
         if let Ok(count) = self.output.write(bytes) {

@@ -45,9 +45,9 @@ impl Framing for Pieces {
         }))
     }
 
-    fn sender(&self, front: &[u8]) -> Option<NodeId> {
-        let len = *front.get(5)? as usize;
-        NodeId::from_bytes(front.get(6..6 + len)?)
+    fn sender(&self, prefix: &[u8]) -> Option<NodeId> {
+        let len = *prefix.get(5)? as usize;
+        NodeId::from_bytes(prefix.get(6..6 + len)?)
     }
 }
 
@@ -405,8 +405,8 @@ fn read_to_value(link: &mut RealLink, mut client: &TcpStream, value: u8) -> Opti
 
 // What comes after so many bytes of this value.
 fn after_many(bytes: &[u8], value: u8, count: usize) -> Option<&[u8]> {
-    let front = bytes.get(..count)?;
-    if front.iter().all(|byte| *byte == value) {
+    let prefix = bytes.get(..count)?;
+    if prefix.iter().all(|byte| *byte == value) {
         bytes.get(count..)
     } else {
         None

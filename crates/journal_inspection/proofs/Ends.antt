@@ -46,7 +46,7 @@ module _ {D : Type 0} (d : Disks D) (given back : D) where
   shows_refusal why shown.Memory is found = tt
 
   -- all calls were made
-  pub opens_all : (kept : Kept) (records : ℕ) (s : Shown) → Reports kept records s → CallsMade d.steps (both_opening_calls (d.seen given)) given back true → OnlyOpens d given back s
+  pub opens_all : (kept : Kept) (records : ℕ) (s : Shown) → Reports kept records s → CallsMade d.moves (both_opening_calls (d.seen given)) given back true → OnlyOpens d given back s
   opens_all kept records (shown.Report text) is ran = ran
   opens_all kept records (shown.NotAJournal text) is ran = absurd is
   opens_all kept records shown.Disk is ran = absurd is
@@ -60,7 +60,7 @@ module _ {D : Type 0} (d : Disks D) (given back : D) where
   first_calls (Ok generations) = ([], append-nil (both_opening_calls (d.seen given)))
 
   -- those up to the fault
-  pub opens_first : (why : Why) (s : Shown) → Refuses why s → CallsMade d.steps (calls_until (generations_of (d.seen given)) (d.seen given)) given back true → OnlyOpens d given back s
+  pub opens_first : (why : Why) (s : Shown) → Refuses why s → CallsMade d.moves (calls_until (generations_of (d.seen given)) (d.seen given)) given back true → OnlyOpens d given back s
   opens_first why (shown.Report text) is ran = absurd is
   opens_first why (shown.NotAJournal text) is ran = ran
   opens_first why shown.Disk is ran = absurd is

@@ -4,7 +4,7 @@ use Rattle.zen_disk.specs.Faults.{Rose}
 use Rattle.zen_disk.specs.declared.disks.Disks.{Ghosts as Disks}
 use Rattle.zen_host.specs.HostCalls.{HostCall, OpensDisk, and_call}
 use Rattle.zen_host.specs.Views.{HostView}
-use Rattle.zen_link.specs.Streams.{Appended, AppendedFront}
+use Rattle.zen_link.specs.Streams.{Appended, AppendedPrefix}
 use Rattle.cluster_state.specs.declared.state.Kept.{Kept}
 use Rattle.state_journal.specs.Journal.{found_of}
 use Rattle.journal_inspection.specs.Shows.{Shows, OnlyOpens, IsUnhurt}
@@ -47,7 +47,7 @@ module _ {D L : Type 0} (d : Disks D) (host host_now : HostView D L) where
   EndsWith was now wrote wrote_now end.Done = (text : List ℕ) × Opened (shown.Report text) × Appended was now text
   EndsWith was now wrote wrote_now end.NotAJournal = (text : List ℕ) × Opened (shown.NotAJournal text) × Appended was now text
   EndsWith was now wrote wrote_now end.WriteFault =
-      (text : List ℕ) × (Opened (shown.Report text) ⊎ Opened (shown.NotAJournal text)) × AppendedFront was now text × Rose wrote wrote_now
+      (text : List ℕ) × (Opened (shown.Report text) ⊎ Opened (shown.NotAJournal text)) × AppendedPrefix was now text × Rose wrote wrote_now
   EndsWith was now wrote wrote_now end.DiskFault = Opened shown.Disk × Appended was now []
   EndsWith was now wrote wrote_now end.HostFault = Rose host.faults host_now.faults × Appended was now []
   EndsWith was now wrote wrote_now end.NoMemory = (Undisked ⊎ Opened shown.Memory) × Appended was now []
@@ -64,7 +64,7 @@ module _ {D L : Type 0} (d : Disks D) (host host_now : HostView D L) where
 -- the text was written and the end is the first, or the sink failed and it is the second
 abbrev pub Says : {E : Type 0} → (text : List ℕ) → (whole cut : E) → (was now : Option (List ℕ)) → (wrote wrote_now : ℕ) → E → Type 0
 Says text whole cut was now wrote wrote_now e =
-    ((e ≡ whole) × Appended was now text) ⊎ ((e ≡ cut) × AppendedFront was now text × Rose wrote wrote_now)
+    ((e ≡ whole) × Appended was now text) ⊎ ((e ≡ cut) × AppendedPrefix was now text × Rose wrote wrote_now)
 
 -- how an inspection ends of which this is shown
 abbrev pub EndsShown : Shown → (was now : Option (List ℕ)) → (wrote wrote_now : ℕ) → Inspection → Type 0

@@ -46,10 +46,10 @@ module _ {D : Type 0} (d : Disks D) (given back : D) where
   -- The device calls of an opening were made, and no others: as far as the files are laid out as a journal is, or to the call that failed,
   -- or as far as there was memory. Of these calls a write comes only where a file has at most nine bytes, and makes its header.
   abbrev pub OnlyOpens : Shown → Type 0
-  OnlyOpens (shown.Report text) = CallsMade d.steps (both_opening_calls (d.seen given)) given back true
-  OnlyOpens (shown.NotAJournal text) = CallsMade d.steps (calls_until (generations_of (d.seen given)) (d.seen given)) given back true
-  OnlyOpens shown.Disk = CallsMade d.steps (both_opening_calls (d.seen given)) given back false
-  OnlyOpens shown.Memory = RanPartly d.steps (both_opening_calls (d.seen given)) given back
+  OnlyOpens (shown.Report text) = CallsMade d.moves (both_opening_calls (d.seen given)) given back true
+  OnlyOpens (shown.NotAJournal text) = CallsMade d.moves (calls_until (generations_of (d.seen given)) (d.seen given)) given back true
+  OnlyOpens shown.Disk = CallsMade d.moves (both_opening_calls (d.seen given)) given back false
+  OnlyOpens shown.Memory = RanPartly d.moves (both_opening_calls (d.seen given)) given back
 
   -- whatever is shown, a crash at any moment leaves files in which an opening finds what it might have found before
   abbrev pub IsUnhurt : Type 0

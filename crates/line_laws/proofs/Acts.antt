@@ -27,7 +27,7 @@ use Rattle.recorded_trace.specs.declared.entry.Entry.TheVariants.{Acted, Recorde
 use Rattle.recorded_trace.specs.declared.kind.Kind.TheVariants as kind
 use Rattle.recorded_trace.specs.Words.{node, ids, state_id}
 use Rattle.recorded_trace.specs.Acts.{act_at, fields_at, found_at, kind_at, shown_record}
-use Rattle.recorded_trace.specs.Lines.{words_told}
+use Rattle.recorded_trace.specs.Lines.{words_shown}
 use Rattle.line_laws.specs.Fits.{IsSmall, AreSmall, AreIds, FitsAct}
 use Rattle.line_laws.specs.Readable.{IsListed, IsReadable, IsReadableRecord, EndsAs, kind_of}
 use Rattle.line_laws.specs.Read.{IsRead, LawAct, LawRecord, recorded}
@@ -163,7 +163,7 @@ act_told n e act w rest good ends h is fields quiet =
           ((id_feedless n good), (refl, ((plain_lacks 10 (omega arith) (ending_text e) (ending_plain e (ends_fit act e ends))), (refl, (quiet, tt)))));
       rest = words_of behind;
       words = words ∙ ap (λ (t : List (List ℕ)). codes "act" ∷ t) all;
-      tells = ap words_told words ∙ rw (act_again n e act w rest good ends h is fields) refl;
+      tells = ap words_shown words ∙ rw (act_again n e act w rest good ends h is fields) refl;
     }
 
 pub act_read : LawAct
@@ -204,7 +204,7 @@ record_told n rest found good quiet is =
       alone = both n (32 ∷ rest) (id_feedless n good) quiet;
       rest = words_of (n ++ 32 ∷ rest);
       words = words;
-      tells = ap words_told words ∙ rw (first_and_rest n rest (id_lacks n good), good, is) refl;
+      tells = ap words_shown words ∙ rw (first_and_rest n rest (id_lacks n good), good, is) refl;
     }
 
 pub record_read : LawRecord

@@ -16,8 +16,8 @@ use Rattle.schedule_text.proofs.LineLaws.{line_lacks}
 use Rattle.trace_text.specs.Trace.{address_text, message_text, state_text}
 use Rattle.event_text.specs.Events.{cause_text}
 use Rattle.event_text.specs.Frames.{message_text as frame_text}
-use Rattle.event_text.specs.Steps.{mode_text}
-use Rattle.recorded_trace.specs.Lines.{words_told}
+use Rattle.event_text.specs.Deeds.{mode_text}
+use Rattle.recorded_trace.specs.Lines.{words_shown}
 use Rattle.line_laws.specs.Fits.{IsSmall, FitsMessage, FitsMode}
 use Rattle.line_laws.specs.Read.{IsSkipped, LawEcho, LawShown, LawNode, LawEvent}
 use Rattle.line_laws.proofs.Plain.{spaceless, number_again, number_plain}
@@ -26,25 +26,25 @@ use Rattle.line_laws.proofs.Json.{both, digits_feedless}
 use Rattle.line_laws.proofs.Feedless.{glued, id_feedless, state_feedless, message_feedless, frame_feedless, reply_feedless}
 
 -- a word of its own kind, and what stands behind it
-skipped : (verb behind : List ℕ) → lacks 32 verb ≡ true → lacks 10 verb ≡ true → lacks 10 behind ≡ true → ((ws : List (List ℕ)) → words_told (verb ∷ ws) ≡ Ok None) → IsSkipped verb ((verb ++ 32 ∷ behind) ++ codes "\n")
+skipped : (verb behind : List ℕ) → lacks 32 verb ≡ true → lacks 10 verb ≡ true → lacks 10 behind ≡ true → ((ws : List (List ℕ)) → words_shown (verb ∷ ws) ≡ Ok None) → IsSkipped verb ((verb ++ 32 ∷ behind) ++ codes "\n")
 skipped verb behind h whole quiet tells = record {
   line = verb ++ 32 ∷ behind;
   is = refl;
   alone = both verb (32 ∷ behind) whole quiet;
   rest = words_of behind;
   words = split_first 32 verb behind h;
-  tells = ap words_told (split_first 32 verb behind h) ∙ tells (words_of behind);
+  tells = ap words_shown (split_first 32 verb behind h) ∙ tells (words_of behind);
 }
 
 -- a word alone
-skipped_alone : (verb : List ℕ) → lacks 32 verb ≡ true → lacks 10 verb ≡ true → words_told (verb ∷ []) ≡ Ok None → IsSkipped verb (verb ++ codes "\n")
+skipped_alone : (verb : List ℕ) → lacks 32 verb ≡ true → lacks 10 verb ≡ true → words_shown (verb ∷ []) ≡ Ok None → IsSkipped verb (verb ++ codes "\n")
 skipped_alone verb h whole tells = record {
   line = verb;
   is = refl;
   alone = whole;
   rest = [];
   words = split_alone 32 verb h;
-  tells = ap words_told (split_alone 32 verb h) ∙ tells;
+  tells = ap words_shown (split_alone 32 verb h) ∙ tells;
 }
 
 pub echo_read : LawEcho

@@ -13,7 +13,7 @@ use Rattle.recorded_trace.specs.declared.entry.Entry.{Entry}
 use Rattle.recorded_trace.specs.declared.fault.BadTrace.{BadTrace}
 use Rattle.recorded_trace.specs.declared.fault.Why.{Why}
 use Rattle.recorded_trace.specs.declared.progress.Progress.{Progress}
-use Rattle.recorded_trace.specs.Lines.{told_at, header_at, header_words, some_ids}
+use Rattle.recorded_trace.specs.Lines.{shown_at, header_at, header_words, some_ids}
 use Rattle.recorded_trace.specs.Reading.{Numbered, ◌>>>◌, after_line, first_progress, in_line, lines_at, most_bytes, parts_read, sized, with_entry}
 use Rattle.line_laws.specs.Read.{IsRead, Shows, header, LawTrace}
 use Rattle.line_laws.specs.Read.Shows.{Nothing, Skip, Show}
@@ -31,7 +31,7 @@ within p line read x few is =
     rw (short, is) refl
 
 line_by_line : (p : Progress) (front : List Numbered) (line : List ℕ) (parts : List (List ℕ)) → parts ≢ []
-    → lines_at p front (line ∷ parts) ≡ (in_line p (sized p line (told_at line)) >>> λ told. lines_at (after_line p line) (with_entry p front told) parts)
+    → lines_at p front (line ∷ parts) ≡ (in_line p (sized p line (shown_at line)) >>> λ told. lines_at (after_line p line) (with_entry p front told) parts)
 line_by_line p front line [] some = absurd (some refl)
 line_by_line p front line (w ∷ ws) some = refl
 
@@ -41,13 +41,13 @@ record Behind (p : Progress) (front : List Numbered) (bytes : List ℕ) (entries
   read : lines_at p front (parts_of 10 bytes) ≡ whole (front ++ more)
   shows : map (λ x. x.entry) more ≡ entries
 
-one_line : (p : Progress) (front : List Numbered) (line more : List ℕ) (told : Option Entry) → lacks 10 line ≡ true → told_at line ≡ Ok told → p.before + length (line ++ 10 ∷ more) ≤ most_bytes
+one_line : (p : Progress) (front : List Numbered) (line more : List ℕ) (told : Option Entry) → lacks 10 line ≡ true → shown_at line ≡ Ok told → p.before + length (line ++ 10 ∷ more) ≤ most_bytes
     → lines_at p front (parts_of 10 (line ++ 10 ∷ more)) ≡ lines_at (after_line p line) (with_entry p front told) (parts_of 10 more)
 one_line p front line more told alone is few =
     ap (lines_at p front) (split_first 10 line more alone)
     ∙ line_by_line p front line (parts_of 10 more) (parts_not_empty 10 more)
     ∙ ap (λ (r : Result (Option Entry) BadTrace). r >>> λ (t : Option Entry). lines_at (after_line p line) (with_entry p front t) (parts_of 10 more))
-    (within p line (told_at line) told (omega (arith, few, length-append line (10 ∷ more))) is)
+    (within p line (shown_at line) told (omega (arith, few, length-append line (10 ∷ more))) is)
 
 fewer : (p : Progress) (line more : List ℕ) → p.before + length (line ++ 10 ∷ more) ≤ most_bytes → p.before + length line + 1 + length more ≤ most_bytes
 fewer p line more few = omega (arith, few, length-append line (10 ∷ more))

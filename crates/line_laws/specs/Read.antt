@@ -18,23 +18,23 @@ use Rattle.trace_text.specs.declared.ending.Ending.{Ending}
 use Rattle.trace_text.specs.Trace.{act_line, ending_text, record_line, won_text, committed_text, message_line, down_line, up_line, crashed_line, disk_line}
 use Rattle.event_text.specs.Events.{drop_line, reply_line}
 use Rattle.event_text.specs.Frames.{frame_line}
-use Rattle.event_text.specs.Steps.{mode_line}
+use Rattle.event_text.specs.Deeds.{mode_line}
 use Rattle.recorded_trace.specs.declared.entry.Entry.{Entry}
 use Rattle.recorded_trace.specs.declared.entry.Entry.TheVariants.{Acted, Recorded}
 use Rattle.recorded_trace.specs.Acts.{shown_record}
-use Rattle.recorded_trace.specs.Lines.{told_at}
+use Rattle.recorded_trace.specs.Lines.{shown_at}
 use Rattle.recorded_trace.specs.Reading.{Recording, most_bytes, recording_of}
 use Rattle.line_laws.specs.Fits.{IsSmall, FitsFrame, FitsMessage, FitsMode}
 use Rattle.line_laws.specs.Readable.{IsReadable, IsReadableRecord, EndsAs}
 
 -- the text is one line with its line feed; its words begin with these, and it shows this: an entry, or nothing that an audit looks at
-pub record IsRead (text : List ℕ) (front : List (List ℕ)) (told : Option Entry) : Type 0 where
+pub record IsRead (text : List ℕ) (prefix : List (List ℕ)) (told : Option Entry) : Type 0 where
   pub line : List ℕ
   pub is : text ≡ line ++ codes "\n"
   pub alone : IsTrue (is_one_line line)
   pub rest : List (List ℕ)
-  pub words : words_of line ≡ front ++ rest
-  pub tells : told_at line ≡ Ok told
+  pub words : words_of line ≡ prefix ++ rest
+  pub tells : shown_at line ≡ Ok told
 
 -- a line with this first word, which is skipped
 abbrev pub IsSkipped : List ℕ → List ℕ → Type 0
@@ -88,9 +88,9 @@ pub record LawEvent : Type 0 where
 -- Lines one after another, which show these entries.
 pub data Shows : List ℕ → List Entry → Type 0 where
   Nothing : Shows [] []
-  Skip : (line more : List ℕ) (entries : List Entry) → IsTrue (is_one_line line) → told_at line ≡ Ok None → Shows more entries
+  Skip : (line more : List ℕ) (entries : List Entry) → IsTrue (is_one_line line) → shown_at line ≡ Ok None → Shows more entries
       → Shows (line ++ 10 ∷ more) entries
-  Show : (line more : List ℕ) (entry : Entry) (entries : List Entry) → IsTrue (is_one_line line) → told_at line ≡ Ok (Some entry)
+  Show : (line more : List ℕ) (entry : Entry) (entries : List Entry) → IsTrue (is_one_line line) → shown_at line ≡ Ok (Some entry)
       → Shows more entries → Shows (line ++ 10 ∷ more) (entry ∷ entries)
 
 -- the first line of a recorded trace

@@ -3,13 +3,13 @@
 #![tactic(auto)]
 
 mod answering;
-pub mod laws;
+mod laws;
 mod members;
-pub mod next;
+mod next;
 mod processing;
-pub mod replies;
-pub mod tasks;
-pub mod waiting;
+mod replies;
+mod tasks;
+mod waiting;
 
 pub use answering::EXCLUSION_SPAN_MS;
 pub use laws::{

@@ -14,7 +14,7 @@ use Rattle.world_model.specs.NodeState.{NodeState, node_state, durable_of, halte
 use Rattle.cluster_state.specs.Initial.{empty_record}
 use Rattle.world_model.specs.Acts.{is_opening}
 use Rattle.world_model.specs.Replies.{reply_of, is_taken}
-use Rattle.world_model.specs.Steps.{node_state_after, node_state-Then}
+use Rattle.world_model.specs.Moves.{node_state_after, node_state-Then}
 use Rattle.world_model.specs.Settled.{settled, shows_as, is_kept}
 use Rattle.world_model.proofs.Settling.{unstruck, unstruck_then, settled_then}
 use Rattle.world_model.proofs.SettledLocal.{halted_reply}

@@ -1,10 +1,10 @@
 //! One node of an audit: what it answers to an act, what it keeps, and what an act, a fault, a crash or an opening makes of it.
 #![tactic(auto)]
 
-pub mod node;
-pub mod placed;
-pub mod running;
-pub mod sources;
+mod node;
+mod placed;
+mod running;
+mod sources;
 
 pub use node::{Node, Struck, shows_as};
 pub use placed::Placed;

@@ -13,7 +13,7 @@ ghost use Rattle.world_model.specs.Acts.{is_opening};
 ghost use Rattle.world_model.specs.declared.acts.Act.TheVariants as act;
 ghost use Rattle.world_model.specs.NodeState.{node_state, opened, durable_of};
 ghost use Rattle.world_model.specs.Replies.{bootstrap_reply, start_reply, join_reply, value_reply, publish_reply, response_reply, commit_reply, elects, commits, commit_sent, reply_at, is_taken};
-ghost use Rattle.world_model.specs.Steps.{node_state_after};
+ghost use Rattle.world_model.specs.Moves.{node_state_after};
 ghost use Rattle.node_audit.specs.Standing.{seen, kept_by};
 
 use crate::sources::Sources;

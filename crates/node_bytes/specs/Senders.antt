@@ -23,4 +23,4 @@ sender_in_body (Err fault) = None
 
 -- the sender that these first bytes name, after four bytes of length
 abbrev pub sender_of : List ℕ → Option Id
-sender_of front = sender_in_body (byte_at (drop 4 front))
+sender_of prefix = sender_in_body (byte_at (drop 4 prefix))

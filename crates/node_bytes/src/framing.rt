@@ -105,10 +105,10 @@ impl Framing for SealedFrames {
     }
 
     #[tactic(auto, using(std::proofs::lemmas::List::drop_min))]
-    fn sender(&self, front: &[u8]) -> Option<NodeId>
-        ensures { result ≡ sender_of front.now }
+    fn sender(&self, prefix: &[u8]) -> Option<NodeId>
+        ensures { result ≡ sender_of prefix.now }
     {
-        let (_, body) = front.split_at(front.len().min(4));
+        let (_, body) = prefix.split_at(prefix.len().min(4));
         sender_in(body)
     }
 }

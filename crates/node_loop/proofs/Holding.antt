@@ -5,7 +5,7 @@ use Rattle.zen_link.specs.Told.{most_connections}
 use Rattle.wire_frames.specs.declared.fault.FrameError.{FrameError}
 use Rattle.wire_frames.specs.declared.frame.Frame.{Frame}
 use Rattle.wire_frames.specs.Frames.{most_body, frame_of}
-use Rattle.wire_frames.specs.Streams.{Stream, read_up, said_length, front_of, stream_with_front, stream_within, stream}
+use Rattle.wire_frames.specs.Streams.{Stream, read_up, said_length, prefix_of, stream_with_prefix, stream_within, stream}
 use Rattle.client_lines.specs.Lines.{cut, rest_of}
 use Rattle.node_loop.specs.declared.connection.Connection.{Connection}
 use Rattle.node_loop.specs.declared.connection.Connection.TheVariants.{Fresh, Frames, Lines}
@@ -19,7 +19,7 @@ front_holds : (bytes : List ℕ) (after : List ℕ → Stream) (t1 t2 t3 : Bool)
     → nat_lt (length bytes) 4 ≡ t1 → nat_lt most_body (said_length bytes) ≡ t2 → nat_lt (length (drop 4 bytes)) (said_length bytes) ≡ t3
     → frame_of (take (said_length bytes) (drop 4 bytes)) ≡ body
     → ((rest : List ℕ) → length rest + 4 ≤ length bytes → IsShort (after rest).ending)
-    → IsShort (stream_with_front (front_of bytes) bytes after).ending
+    → IsShort (stream_with_prefix (prefix_of bytes) bytes after).ending
 front_holds bytes after true t2 t3 body e1 e2 e3 e4 later = rw e1 (let short = ltb-true (length bytes) 4 e1 in omega arith)
 front_holds bytes after false true t3 body e1 e2 e3 e4 later = rw (e1, e2) tt
 front_holds bytes after false false true body e1 e2 e3 e4 later =

@@ -13,10 +13,10 @@ use Rattle.world_model.specs.Histories.{node_history}
 use Rattle.zen_disk.specs.declared.disks.Disks.{Ghosts as Disks}
 use Rattle.state_journal.specs.Changes.{IsEither}
 use Rattle.coord_state.specs.Writes.{IsDuring}
-use Rattle.coordinator.specs.Turns.{IsAlong, IsDuringAs}
+use Rattle.coordinator.specs.CoreActs.{IsAlong, IsDuringAs}
 use Rattle.policy_model.specs.declared.settings.Settings.{Settings}
 use Rattle.policy_model.specs.declared.events.Event.{Event}
-use Rattle.policy_model.specs.Events.{Item, Opens, Begins, Acts, Turns, Drops, Sends, Replies, Notes, Log, And, acts_of}
+use Rattle.policy_model.specs.Events.{Item, Opens, Begins, Acts, ChangesMode, Drops, Sends, Replies, Notes, Log, And, acts_of}
 use Rattle.policy_model.specs.Entries.{Entry, Did, Gone, Bad, NoMemory, Unread, Life, Lived, log_of, by_receiver}
 use Rattle.policy_model.specs.Views.{View, view_of}
 use Rattle.policy_model.specs.Moves.{moved}
@@ -77,7 +77,7 @@ left-among s came ms v g (Opens kept ∷ is) found a k = absurd a
 left-among s came ms v g (Begins event ∷ is) found a k = absurd a
 left-among s came ms v g (Acts act o ∷ is) found a (inl d) = inl (left-in g act o found d _ a.0.answered)
 left-among s came ms v g (Acts act o ∷ is) found a (inr k) = inr (left-among s came _ (moved s v (Acts act o)) (Then g act o) is found a.1 k)
-left-among s came ms v g (Turns mode term ∷ is) found a k = left-among s came ms (moved s v (Turns mode term)) g is found a k
+left-among s came ms v g (ChangesMode mode term ∷ is) found a k = left-among s came ms (moved s v (ChangesMode mode term)) g is found a k
 left-among s came ms v g (Drops member cause ∷ is) found a k = left-among s came ms (moved s v (Drops member cause)) g is found a k
 left-among s came ms v g (Sends frame ∷ is) found a k = left-among s came ms v g is found a.1 k
 left-among s came ms v g (Replies answer ∷ is) found a k = left-among s came ms v g is found a k
@@ -100,7 +100,7 @@ left-struck s came ms v g is left found a (Later (Opens kept) rest some q) k = a
 left-struck s came ms v g is left found a (Later (Begins event) rest some q) k = absurd a
 left-struck s came ms v g is left found a (Later (Acts act o) rest some q) (inl d) = inl (left-in g act o found d _ a.0.answered)
 left-struck s came ms v g is left found a (Later (Acts act o) rest some q) (inr k) = inr (left-struck s came _ (moved s v (Acts act o)) (Then g act o) rest some found a.1 q k)
-left-struck s came ms v g is left found a (Later (Turns mode term) rest some q) k = left-struck s came ms (moved s v (Turns mode term)) g rest some found a q k
+left-struck s came ms v g is left found a (Later (ChangesMode mode term) rest some q) k = left-struck s came ms (moved s v (ChangesMode mode term)) g rest some found a q k
 left-struck s came ms v g is left found a (Later (Drops member cause) rest some q) k = left-struck s came ms (moved s v (Drops member cause)) g rest some found a q k
 left-struck s came ms v g is left found a (Later (Sends frame) rest some q) k = left-struck s came ms v g rest some found a.1 q k
 left-struck s came ms v g is left found a (Later (Replies answer) rest some q) k = left-struck s came ms v g rest some found a q k
@@ -140,7 +140,7 @@ left-record g (Acts act o ∷ is) found (inl d) = left-during g act o found d
 left-record g (Acts act o ∷ is) found (inr k) = left-record (Then g act o) is found k
 left-record g (Opens kept ∷ is) found k = left-record g is found k
 left-record g (Begins event ∷ is) found k = left-record g is found k
-left-record g (Turns mode term ∷ is) found k = left-record g is found k
+left-record g (ChangesMode mode term ∷ is) found k = left-record g is found k
 left-record g (Drops member cause ∷ is) found k = left-record g is found k
 left-record g (Sends frame ∷ is) found k = left-record g is found k
 left-record g (Replies answer ∷ is) found k = left-record g is found k

@@ -13,10 +13,10 @@ use Rattle.coord_state.specs.declared.coord.CoordState.{CoordState}
 use Rattle.coord_state.specs.StandsFor.{StandsFor}
 use Rattle.coord_state.specs.Writes.{IsDuring}
 use Rattle.coord_state.proofs.Standing.{stands_durable}
-use Rattle.coordinator.specs.Turns.{CoreDid}
+use Rattle.coordinator.specs.CoreActs.{CoreDid}
 use Rattle.coordinator.proofs.Entering.{did_run}
 use Rattle.policy_model.specs.declared.events.Event.{Event}
-use Rattle.policy_model.specs.Events.{Item, Opens, Begins, Acts, Turns, Drops, Sends, Replies, Notes, Log, And, added, acts_of}
+use Rattle.policy_model.specs.Events.{Item, Opens, Begins, Acts, ChangesMode, Drops, Sends, Replies, Notes, Log, And, added, acts_of}
 use Rattle.policy_model.specs.Entries.{Life, Lived, Did, log_of}
 use Rattle.policy_model.specs.Follows.{IsStruck, Here, Later, is_fault, has_fault, is_struck}
 use Rattle.node_loop.specs.Crashes.{IsRecordOf, LeavesLast}
@@ -79,8 +79,8 @@ module _ {K : Type 0} (k : Ghosts K)
       let none = neither (is_fault o) (has_fault rest) whole in
       struck_leaves did.0 new (And l (Acts act o)) rest left' q none.1 did.2 told
       (did_run k old did.0 (Acts act o ∷ []) none.0 (did.0, did.1, refl) ∙ runs) (did.1.acts.stands (acts_of l) s)
-  struck_leaves old new l items left (Later (Turns mode term) rest left' q) whole did told runs s =
-      struck_leaves old new (And l (Turns mode term)) rest left' q whole did told runs s
+  struck_leaves old new l items left (Later (ChangesMode mode term) rest left' q) whole did told runs s =
+      struck_leaves old new (And l (ChangesMode mode term)) rest left' q whole did told runs s
   struck_leaves old new l items left (Later (Drops member cause) rest left' q) whole did told runs s =
       struck_leaves old new (And l (Drops member cause)) rest left' q whole did told runs s
   struck_leaves old new l items left (Later (Sends frame) rest left' q) whole did told runs s = struck_leaves old new l rest left' q whole did told runs s

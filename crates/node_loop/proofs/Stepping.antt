@@ -10,12 +10,12 @@ use Rattle.coordinator.specs.declared.coordinator.Coordinator.{Coordinator}
 use Rattle.coordinator.specs.declared.step.Entries.{Entries}
 use Rattle.coordinator.specs.declared.step.Sealed.{Sealed}
 use Rattle.coordinator.specs.Lives.{StandsForLife}
-use Rattle.coordinator.specs.Steps.{Done as DoneBy, Failed}
-use Rattle.coordinator.specs.Turns.{CoreDid}
+use Rattle.coordinator.specs.EventNode.{Done as DoneBy, Failed}
+use Rattle.coordinator.specs.CoreActs.{CoreDid}
 use Rattle.coordinator.proofs.Leaving.{did_leaves}
 use Rattle.policy_model.specs.declared.settings.Settings.{Settings}
 use Rattle.policy_model.specs.declared.events.Event.{Event}
-use Rattle.policy_model.specs.Events.{Item, Opens, Begins, Acts, Turns, Drops, Sends, Replies, Notes, Log, And, added, acts_of}
+use Rattle.policy_model.specs.Events.{Item, Opens, Begins, Acts, ChangesMode, Drops, Sends, Replies, Notes, Log, And, added, acts_of}
 use Rattle.policy_model.specs.Entries.{Life, Lived, Did, log_of, frames_of, by_receiver}
 use Rattle.policy_model.specs.Follows.{IsStruck, has_fault, is_start, starts_next, items_of}
 use Rattle.policy_model.specs.Views.{View, view_of}
@@ -24,7 +24,7 @@ use Rattle.policy_model.proofs.Faults.{next-fault, struck-frames, struck-replies
 use Rattle.node_loop.specs.declared.lines.LastSent.{LastSent}
 use Rattle.node_loop.specs.Crashes.{Holds, IsLeftBy, has_crashed}
 use Rattle.node_loop.specs.Reporting.{Reports, AreLined, sent_of}
-use Rattle.node_loop.specs.Steps.{Does, IsHalted}
+use Rattle.node_loop.specs.EventNodes.{Does, IsHalted}
 use Rattle.node_loop.specs.Texts.{entry_text}
 use Rattle.node_loop.proofs.Lasting.{leaves_now, leaves_struck}
 
@@ -65,7 +65,7 @@ module _ {C K : Type 0} (k : Ghosts K)
   none_crashed old new l (Acts act (Answered reply) ∷ is) did = none_crashed did.0 new (And l (Acts act (Answered reply))) is did.2
   none_crashed old new l (Acts act (Disk kept) ∷ is) did = none_crashed did.0 new (And l (Acts act (Disk kept))) is did.2
   none_crashed old new l (Acts act (Crashed kept) ∷ is) did = absurd did.1.told
-  none_crashed old new l (Turns mode term ∷ is) did = none_crashed old new (And l (Turns mode term)) is did
+  none_crashed old new l (ChangesMode mode term ∷ is) did = none_crashed old new (And l (ChangesMode mode term)) is did
   none_crashed old new l (Drops member cause ∷ is) did = none_crashed old new (And l (Drops member cause)) is did
   none_crashed old new l (Sends frame ∷ is) did = none_crashed old new (And l (Sends frame)) is did
   none_crashed old new l (Replies answer ∷ is) did = none_crashed old new (And l (Replies answer)) is did

@@ -4,7 +4,7 @@ use Rattle.cluster_state.specs.declared.state.Kept.{Kept}
 use Rattle.state_journal.specs.Changes.{IsEither}
 use Rattle.world_model.specs.Acts.{NodeHistory, NoActs, Then, is_crashed}
 use Rattle.world_model.specs.NodeState.{durable_of}
-use Rattle.coordinator.specs.Turns.{IsAlong}
+use Rattle.coordinator.specs.CoreActs.{IsAlong}
 use Rattle.policy_model.specs.declared.settings.Settings.{Settings}
 use Rattle.policy_model.specs.Events.{acts_of}
 use Rattle.policy_model.specs.Entries.{Life, Lived, Entry, Did, Gone, Bad, NoMemory, Unread, log_of}

@@ -5,8 +5,8 @@ pub mod Feeds
 pub mod Feeding
 pub mod Reports
 pub mod Crashes
-pub mod Tells
-pub mod Steps
+pub mod Reported
+pub mod EventNodes
 pub mod Turns
 pub mod Texts
 pub mod Reporting

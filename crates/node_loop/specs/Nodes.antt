@@ -1,7 +1,7 @@
 -- For the contracts inside: the words for what a node comes to, by its ghost members.
 use Rattle.policy_model.specs.declared.settings.Settings.{Settings}
 use Rattle.policy_model.specs.Entries.{Life}
-use Rattle.node_loop.specs.declared.steps.Steps.{Ghosts}
+use Rattle.node_loop.specs.declared.event_node.EventNode.{Ghosts}
 use Rattle.node_loop.specs.Crashes.{Holds}
 
 -- a node that stood for one life stands for another, and came there by one entry after the other

@@ -5,7 +5,7 @@ use Rattle.wire_frames.specs.declared.frame.Frame.{Frame}
 use Rattle.master_tasks.specs.declared.waiting.Outgoing.{Outgoing}
 use Rattle.policy_model.specs.declared.events.Event.{Event}
 use Rattle.coordinator.specs.declared.step.Entries.{Entries}
-use Rattle.coordinator.specs.Steps.{AreEntries}
+use Rattle.coordinator.specs.EventNode.{AreEntries}
 use Rattle.state_journal.specs.declared.keeper.Keeper.{Ghosts}
 use Rattle.coordinator.specs.declared.coordinator.Coordinator.{Coordinator}
 use Rattle.coordinator.specs.declared.step.Sealed.{Sealed}
@@ -17,8 +17,8 @@ use Rattle.policy_model.specs.Follows.{is_struck}
 use Rattle.node_loop.specs.declared.lines.LastSent.{LastSent}
 use Rattle.node_loop.specs.Crashes.{LeavesLast, last_idle}
 use Rattle.node_loop.specs.Reports.{Output, IsIdle}
-use Rattle.node_loop.specs.Steps.{AreLines}
-use Rattle.node_loop.specs.Texts.{IsTold, entry_text}
+use Rattle.node_loop.specs.EventNodes.{AreLines}
+use Rattle.node_loop.specs.Texts.{IsLastSent, entry_text}
 
 -- The node has these settings and is what its life makes of it; it is halted exactly where its last event was struck. A crash now
 -- leaves the last record of its life. What it keeps for its lines is right, or lost.
@@ -27,7 +27,7 @@ pub record Reports {K : Type 0} (k : Ghosts K) (node : Coordinator K) (told : Op
   pub stands : StandsForLife k node life
   pub stopped : k.has_stopped node.core.keeper ≡ is_struck life
   pub leaves : k.told → LeavesLast k.moment k.left_since node.core.keeper life
-  pub lines : IsTold told life
+  pub lines : IsLastSent told life
 
 -- what is sent of an event
 abbrev pub sent_of : Sealed → Output
@@ -37,13 +37,13 @@ sent_of sealed = record { frames = sealed.sends.list; replies = sealed.replies.s
 -- what is kept then is right for the life with it; or there are no lines, and nothing is kept.
 abbrev pub AreLined : Id → Option LastSent → Entries → List Frame → List Outgoing → Option (List ℕ) → Option LastSent → Type 0
 AreLined node told entries frames replies lines kept =
-    (s : Settings) (life : Life) (event : Event) (items : List Item) → node ≡ s.me → IsTold told life → AreEntries event items entries
+    (s : Settings) (life : Life) (event : Event) (items : List Item) → node ≡ s.me → IsLastSent told life → AreEntries event items entries
     → frames ≡ frames_of items → replies ≡ replies_of items
-    → AreLines lines (entry_text s life (Did event items)) × IsTold kept (Lived life (Did event items))
+    → AreLines lines (entry_text s life (Did event items)) × IsLastSent kept (Lived life (Did event items))
 
 -- ---- an entry of no event changes nothing that a node stands for
 
-told_idle : (told : Option LastSent) (life : Life) (e : Entry) → IsIdle e → IsTold told life → IsTold told (Lived life e)
+told_idle : (told : Option LastSent) (life : Life) (e : Entry) → IsIdle e → IsLastSent told life → IsLastSent told (Lived life e)
 told_idle None life e is right = tt
 told_idle (Some told) life (Did event items) is right = absurd is
 told_idle (Some told) life (Gone conn) is right = right

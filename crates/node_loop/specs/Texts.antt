@@ -13,14 +13,14 @@ use Rattle.trace_text.specs.Trace.{record_line}
 use Rattle.event_text.specs.Events.{drops_text, replies_text}
 use Rattle.event_text.specs.Frames.{frame_line, message_text}
 use Rattle.event_text.specs.Published.{published_after}
-use Rattle.event_text.specs.Steps.{steps_text}
+use Rattle.event_text.specs.Deeds.{deeds_text}
 use Rattle.policy_model.specs.declared.events.Event.{Event}
 use Rattle.policy_model.specs.declared.events.Event.TheVariants.{Start, Tick, Frame as FrameCame, Client as LineCame}
 use Rattle.policy_model.specs.declared.events.MemberDrop.{MemberDrop}
-use Rattle.policy_model.specs.declared.events.Step.{Step}
+use Rattle.policy_model.specs.declared.events.Deed.{Deed}
 use Rattle.policy_model.specs.declared.settings.Settings.{Settings}
 use Rattle.policy_model.specs.Events.{acts_of}
-use Rattle.policy_model.specs.Entries.{Entry, Did, Gone, Bad, NoMemory, Unread, Life, NotBegun, Opened, Lived, log_of, steps_of, drops_of, frames_of, replies_of}
+use Rattle.policy_model.specs.Entries.{Entry, Did, Gone, Bad, NoMemory, Unread, Life, NotBegun, Opened, Lived, log_of, deeds_of, drops_of, frames_of, replies_of}
 use Rattle.node_loop.specs.declared.lines.LastSent.{LastSent}
 
 -- a node numbers its frames from 1 on since its journal was opened; at the greatest number it stays
@@ -48,13 +48,13 @@ last_frame_number (Lived life e) = last_frame_number life
 abbrev pub published_of : Life → Option ClusterState
 published_of NotBegun = None
 published_of (Opened life found) = None
-published_of (Lived life (Did event items)) = published_after (published_of life) (steps_of items)
+published_of (Lived life (Did event items)) = published_after (published_of life) (deeds_of items)
 published_of (Lived life e) = published_of life
 
 -- what is kept of a life for later lines is right, or it is lost
-abbrev pub IsTold : Option LastSent → Life → Type 0
-IsTold None life = Unit {0}
-IsTold (Some told) life = (told.published ≡ published_of life) × (told.number ≡ last_frame_number life)
+abbrev pub IsLastSent : Option LastSent → Life → Type 0
+IsLastSent None life = Unit {0}
+IsLastSent (Some told) life = (told.published ≡ published_of life) × (told.number ≡ last_frame_number life)
 
 -- what came to the node
 abbrev pub event_line : Event → List ℕ
@@ -80,13 +80,13 @@ bad_line conn fault = codes "> bad " ++ decimal conn ++ codes " " ++ fault_text 
 
 -- what came, and what the node shows of it: acts and changes of mode, then drops, frames and replies. Before it the node had published
 -- this state last and sent a frame of this number.
-abbrev pub event_lines : Id → Option ClusterState → ℕ → Event → List Step → List MemberDrop → List Frame → List Outgoing → List ℕ
-event_lines node published number event steps drops frames replies =
-    event_line event ++ steps_text node published steps ++ drops_text node drops ++ numbered number frames ++ replies_text node replies
+abbrev pub event_lines : Id → Option ClusterState → ℕ → Event → List Deed → List MemberDrop → List Frame → List Outgoing → List ℕ
+event_lines node published number event inner drops frames replies =
+    event_line event ++ deeds_text node published inner ++ drops_text node drops ++ numbered number frames ++ replies_text node replies
 
 -- the lines of an entry; where memory was lacking, they say that alone
 abbrev pub entry_text : Settings → Life → Entry → List ℕ
-entry_text s life (Did event items) = event_lines s.me (published_of life) (last_frame_number life) event (steps_of items) (drops_of items)
+entry_text s life (Did event items) = event_lines s.me (published_of life) (last_frame_number life) event (deeds_of items) (drops_of items)
     (frames_of items) (replies_of items)
 entry_text s life (Gone conn) = gone_line conn
 entry_text s life (Bad conn fault) = bad_line conn fault

@@ -6,9 +6,9 @@ ghost use Rattle.node_loop.specs.Texts.{event_line, event_lines, fault_text, nex
 ghost use Rattle.event_text.specs.Published.{published_after};
 
 use cluster_state::{FieldError, LAST_NUMBER, SharedState};
-use event_text::{write_drops, write_frame_line, write_message, write_replies, write_steps};
+use event_text::{write_deeds, write_drops, write_frame_line, write_message, write_replies};
 use master_tasks::Outgoing;
-use policy_model::{Event, MemberDrop, Step};
+use policy_model::{Deed, Event, MemberDrop};
 use std::alloc::{AllocError, Global};
 use text::Text;
 use voting_config::NodeId;
@@ -98,18 +98,18 @@ pub fn write_entry(
     node: NodeId,
     told: &mut LastSent,
     event: &Event,
-    steps: &[Step],
+    deeds: &[Deed],
     drops: &[MemberDrop],
     frames: &[Frame],
     replies: &[Outgoing],
 ) -> Result<(), AllocError>
     ensures text { OnOk result
-        (text.new ≡ text.old ++ event_lines node told.old.published told.old.number event.now steps.now drops.now frames.now replies.now) }
-    ensures published { OnOk result (told.new.published ≡ published_after told.old.published steps.now) }
+        (text.new ≡ text.old ++ event_lines node told.old.published told.old.number event.now deeds.now drops.now frames.now replies.now) }
+    ensures published { OnOk result (told.new.published ≡ published_after told.old.published deeds.now) }
     ensures number { OnOk result (told.new.number ≡ number_after told.old.number frames.now) }
 {
     write_event_line(text, alloc, event)?;
-    write_steps(text, alloc, node, &mut told.published, steps)?;
+    write_deeds(text, alloc, node, &mut told.published, deeds)?;
     write_drops(text, node, drops)?;
     write_numbered(text, alloc, &mut told.number, frames)?;
     write_replies(text, alloc, node, replies)

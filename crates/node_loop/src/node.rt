@@ -19,11 +19,11 @@ ghost use Rattle.node_loop.specs.Feeds.{happenings_of, kept_frames, kept_at};
 ghost use Rattle.node_loop.specs.Happenings.{Comes, Faulty, Ends, Unread, Refused, Makes};
 ghost use Rattle.policy_model.specs.Entries.{Entry, Did, NoMemory, Unread as UnreadEntry};
 ghost use Rattle.node_loop.specs.Nodes.{HoldsBy};
-ghost use Rattle.node_loop.specs.Steps.{Does, IsHalted, FailsTo, IsDiskError};
-ghost use Rattle.node_loop.specs.Tells.{Tells, HasCauses, IsUp, IsOpened, does_all, goes_on};
+ghost use Rattle.node_loop.specs.EventNodes.{Does, IsHalted, FailsTo, IsDiskError};
+ghost use Rattle.node_loop.specs.Reported.{Reported, HasCauses, IsUp, IsOpened, does_all, goes_on};
 
 use crate::connection::{Came, Connection, close_at, feed_at, keep_at};
-use crate::steps::{Done, StepError, Steps};
+use crate::event_node::{Done, EventNode, NotDone};
 use client_lines::Line;
 use policy_model::Event;
 use std::alloc::{AllocError, Global};
@@ -49,19 +49,19 @@ pub enum End {
 }
 
 // Writes the lines of an event that was done, and then sends what it has to.
-fn report_done<S: Steps, L: Link<Out = S::Sealed>, O: Sink>(
-    steps: &S,
+fn report_done<S: EventNode, L: Link<Out = S::Sealed>, O: Sink>(
+    inner: &S,
     link: &mut L,
     out: &mut O,
     done: Done<S::Sealed>,
 ) -> Option<End>
     ensures tells { (old : S) (s : Settings) (life : Life) (event : _)
-        → Does (λ now s2 new. HoldsBy S.Steps old now s2 life new) (S.text s) s life event steps.now S.output done
-        → Tells S.output (S.text s) s life (Makes (Comes event) ∷ []) result (O.written out.old) (O.written out.new) (L.told link.old)
-        (L.told link.new) (HoldsBy S.Steps old steps.now s life) }
+        → Does (λ now s2 new. HoldsBy S.EventNode old now s2 life new) (S.text s) s life event inner.now S.output done
+        → Reported S.output (S.text s) s life (Makes (Comes event) ∷ []) result (O.written out.old) (O.written out.new) (L.told link.old)
+        (L.told link.new) (HoldsBy S.EventNode old inner.now s life) }
     ensures within { does_all result ≡ goes_on result }
     ensures stop { is_stop result ≡ false }
-    ensures causes { HasCauses result (S.faults steps.now) (S.faults steps.now) (O.faults out.old) (O.faults out.new) (L.faults link.old)
+    ensures causes { HasCauses result (S.faults inner.now) (S.faults inner.now) (O.faults out.old) (O.faults out.new) (L.faults link.old)
         (L.faults link.new) }
     ensures asked { L.asked link.new ≡ L.asked link.old }
 {
@@ -77,11 +77,11 @@ fn report_done<S: Steps, L: Link<Out = S::Sealed>, O: Sink>(
 }
 
 // Writes the lines of an event in which the disk failed.
-fn report_struck<S: Steps, O: Sink>(steps: &S, out: &mut O, lines: Option<Text>) -> Option<End>
+fn report_struck<S: EventNode, O: Sink>(inner: &S, out: &mut O, lines: Option<Text>) -> Option<End>
     ensures tells { (old : S) (s : Settings) (life : Life) (event : _) (told : Option (List (Traffic S.Sealed)))
-        → IsHalted (λ now s2 new. HoldsBy S.Steps old now s2 life new) (S.text s) s life event steps.now lines
-        → Tells S.output (S.text s) s life (Makes (Comes event) ∷ []) result (O.written out.old) (O.written out.new) told told
-        (HoldsBy S.Steps old steps.now s life) }
+        → IsHalted (λ now s2 new. HoldsBy S.EventNode old now s2 life new) (S.text s) s life event inner.now lines
+        → Reported S.output (S.text s) s life (Makes (Comes event) ∷ []) result (O.written out.old) (O.written out.new) told told
+        (HoldsBy S.EventNode old inner.now s life) }
     ensures within { does_all result ≡ goes_on result }
     ensures stop { is_stop result ≡ false }
     ensures write { result ≡ Some End.Write → Rose (O.faults out.old) (O.faults out.new) }
@@ -98,56 +98,56 @@ fn report_struck<S: Steps, O: Sink>(steps: &S, out: &mut O, lines: Option<Text>)
 }
 
 // Writes that no memory was found.
-fn report_no_memory<S: Steps, O: Sink>(steps: &S, out: &mut O) -> Option<End>
+fn report_no_memory<S: EventNode, O: Sink>(inner: &S, out: &mut O) -> Option<End>
     ensures tells { (s : Settings) (life : Life) (event : _) (told : Option (List (Traffic S.Sealed))) → IsUp life
-        → S.stands_for steps.now s life
-        → Tells S.output (S.text s) s life (Makes (Comes event) ∷ []) result (O.written out.old) (O.written out.new) told told
-        (HoldsBy S.Steps steps.now steps.now s life) }
-    ensures refused { (s : Settings) (life : Life) (told : Option (List (Traffic S.Sealed))) → IsUp life → S.stands_for steps.now s life
-        → Tells S.output (S.text s) s life (Makes Refused ∷ []) result (O.written out.old) (O.written out.new) told told
-        (HoldsBy S.Steps steps.now steps.now s life) }
+        → S.stands_for inner.now s life
+        → Reported S.output (S.text s) s life (Makes (Comes event) ∷ []) result (O.written out.old) (O.written out.new) told told
+        (HoldsBy S.EventNode inner.now inner.now s life) }
+    ensures refused { (s : Settings) (life : Life) (told : Option (List (Traffic S.Sealed))) → IsUp life → S.stands_for inner.now s life
+        → Reported S.output (S.text s) s life (Makes Refused ∷ []) result (O.written out.old) (O.written out.new) told told
+        (HoldsBy S.EventNode inner.now inner.now s life) }
     ensures within { does_all result ≡ goes_on result }
     ensures stop { is_stop result ≡ false }
     ensures write { result ≡ Some End.Write → Rose (O.faults out.old) (O.faults out.new) }
     ensures others { (¬ (result ≡ Some End.Link)) × (¬ (result ≡ Some End.Disk)) }
     ensures later { O.faults out.old ≤ O.faults out.new }
 {
-    let Ok(()) = write_all(out, steps.no_memory_line()) else {
+    let Ok(()) = write_all(out, inner.no_memory_line()) else {
         return Some(End::Write);
     };
     None
 }
 
 // Does an event, and reports it.
-fn do_event<S: Steps, L: Link<Out = S::Sealed>, O: Sink>(
-    steps: &mut S,
+fn do_event<S: EventNode, L: Link<Out = S::Sealed>, O: Sink>(
+    inner: &mut S,
     alloc: Global,
     link: &mut L,
     out: &mut O,
     event: Event,
 ) -> Option<End>
     requires fit { IsFitEvent event }
-    ensures tells { is_start event ≡ false → (s : Settings) (life : Life) → S.stands_for steps.old s life → IsUp life
-        → Tells S.output (S.text s) s life (Makes (Comes event) ∷ []) result (O.written out.old) (O.written out.new) (L.told link.old)
-        (L.told link.new) (HoldsBy S.Steps steps.old steps.new s life) }
+    ensures tells { is_start event ≡ false → (s : Settings) (life : Life) → S.stands_for inner.old s life → IsUp life
+        → Reported S.output (S.text s) s life (Makes (Comes event) ∷ []) result (O.written out.old) (O.written out.new) (L.told link.old)
+        (L.told link.new) (HoldsBy S.EventNode inner.old inner.new s life) }
     ensures within { does_all result ≡ goes_on result }
     ensures stop { is_stop result ≡ false }
-    ensures causes { HasCauses result (S.faults steps.old) (S.faults steps.new) (O.faults out.old) (O.faults out.new) (L.faults link.old)
+    ensures causes { HasCauses result (S.faults inner.old) (S.faults inner.new) (O.faults out.old) (O.faults out.new) (L.faults link.old)
         (L.faults link.new) }
     ensures asked { L.asked link.new ≡ L.asked link.old }
 {
-    match steps.step(alloc, event) {
-        Ok(done) => report_done(steps, link, out, done),
-        Err(error) => report_error(steps, out, error),
+    match inner.step(alloc, event) {
+        Ok(done) => report_done(inner, link, out, done),
+        Err(error) => report_error(inner, out, error),
     }
 }
 
 // Writes what there is to say of an event that was not done to its end.
-fn report_error<S: Steps, O: Sink>(steps: &S, out: &mut O, error: StepError) -> Option<End>
+fn report_error<S: EventNode, O: Sink>(inner: &S, out: &mut O, error: NotDone) -> Option<End>
     ensures tells { (old : S) (s : Settings) (life : Life) (event : _) (told : Option (List (Traffic S.Sealed))) → IsUp life
-        → FailsTo (λ now s2 new. HoldsBy S.Steps old now s2 life new) (S.text s) s life event steps.now error
-        → Tells S.output (S.text s) s life (Makes (Comes event) ∷ []) result (O.written out.old) (O.written out.new) told told
-        (HoldsBy S.Steps old steps.now s life) }
+        → FailsTo (λ now s2 new. HoldsBy S.EventNode old now s2 life new) (S.text s) s life event inner.now error
+        → Reported S.output (S.text s) s life (Makes (Comes event) ∷ []) result (O.written out.old) (O.written out.new) told told
+        (HoldsBy S.EventNode old inner.now s life) }
     ensures within { does_all result ≡ goes_on result }
     ensures stop { is_stop result ≡ false }
     ensures write { result ≡ Some End.Write → Rose (O.faults out.old) (O.faults out.new) }
@@ -156,31 +156,31 @@ fn report_error<S: Steps, O: Sink>(steps: &S, out: &mut O, error: StepError) -> 
     ensures later { O.faults out.old ≤ O.faults out.new }
 {
     match error {
-        StepError::Disk(lines) => report_struck(steps, out, lines),
-        StepError::Memory => report_no_memory(steps, out),
+        NotDone::Disk(lines) => report_struck(inner, out, lines),
+        NotDone::Memory => report_no_memory(inner, out),
         // A node that met a fault of its disk takes no more turns.
-        StepError::Stopped => Some(End::Memory),
+        NotDone::Stopped => Some(End::Memory),
     }
 }
 
 // Writes that a connection ended.
-fn report_gone<S: Steps, L: Link<Out = S::Sealed>, O: Sink>(
-    steps: &S,
+fn report_gone<S: EventNode, L: Link<Out = S::Sealed>, O: Sink>(
+    inner: &S,
     alloc: Global,
     link: &mut L,
     out: &mut O,
     conn: u64,
 ) -> Option<End>
-    ensures tells { (s : Settings) (life : Life) → S.stands_for steps.now s life → IsUp life
-        → Tells S.output (S.text s) s life (Makes (Ends conn) ∷ []) result (O.written out.old) (O.written out.new) (L.told link.old)
-        (L.told link.new) (HoldsBy S.Steps steps.now steps.now s life) }
+    ensures tells { (s : Settings) (life : Life) → S.stands_for inner.now s life → IsUp life
+        → Reported S.output (S.text s) s life (Makes (Ends conn) ∷ []) result (O.written out.old) (O.written out.new) (L.told link.old)
+        (L.told link.new) (HoldsBy S.EventNode inner.now inner.now s life) }
     ensures within { does_all result ≡ goes_on result }
     ensures stop { is_stop result ≡ false }
-    ensures causes { HasCauses result (S.faults steps.now) (S.faults steps.now) (O.faults out.old) (O.faults out.new) (L.faults link.old)
+    ensures causes { HasCauses result (S.faults inner.now) (S.faults inner.now) (O.faults out.old) (O.faults out.new) (L.faults link.old)
         (L.faults link.new) }
     ensures asked { L.asked link.new ≡ L.asked link.old }
 {
-    let Ok(line) = steps.gone_line(alloc, conn) else {
+    let Ok(line) = inner.gone_line(alloc, conn) else {
         return Some(End::Memory);
     };
     let Ok(()) = write_all(out, line.as_bytes()) else {
@@ -190,24 +190,24 @@ fn report_gone<S: Steps, L: Link<Out = S::Sealed>, O: Sink>(
 }
 
 // Writes that the bytes of a connection are faulty, and drops it.
-fn report_bad<S: Steps, L: Link<Out = S::Sealed>, O: Sink>(
-    steps: &S,
+fn report_bad<S: EventNode, L: Link<Out = S::Sealed>, O: Sink>(
+    inner: &S,
     alloc: Global,
     link: &mut L,
     out: &mut O,
     conn: u64,
     fault: FrameError,
 ) -> Option<End>
-    ensures tells { (s : Settings) (life : Life) → S.stands_for steps.now s life → IsUp life
-        → Tells S.output (S.text s) s life (Makes (Faulty conn fault) ∷ []) result (O.written out.old) (O.written out.new) (L.told link.old)
-        (L.told link.new) (HoldsBy S.Steps steps.now steps.now s life) }
+    ensures tells { (s : Settings) (life : Life) → S.stands_for inner.now s life → IsUp life
+        → Reported S.output (S.text s) s life (Makes (Faulty conn fault) ∷ []) result (O.written out.old) (O.written out.new) (L.told link.old)
+        (L.told link.new) (HoldsBy S.EventNode inner.now inner.now s life) }
     ensures within { does_all result ≡ goes_on result }
     ensures stop { is_stop result ≡ false }
-    ensures causes { HasCauses result (S.faults steps.now) (S.faults steps.now) (O.faults out.old) (O.faults out.new) (L.faults link.old)
+    ensures causes { HasCauses result (S.faults inner.now) (S.faults inner.now) (O.faults out.old) (O.faults out.new) (L.faults link.old)
         (L.faults link.new) }
     ensures asked { L.asked link.new ≡ L.asked link.old }
 {
-    let Ok(line) = steps.bad_line(alloc, conn, fault) else {
+    let Ok(line) = inner.bad_line(alloc, conn, fault) else {
         return Some(End::Memory);
     };
     let Ok(()) = write_all(out, line.as_bytes()) else {
@@ -218,22 +218,22 @@ fn report_bad<S: Steps, L: Link<Out = S::Sealed>, O: Sink>(
 }
 
 // Writes that no memory was found for the bytes of a connection, and drops it.
-fn report_unread<S: Steps, L: Link<Out = S::Sealed>, O: Sink>(
-    steps: &S,
+fn report_unread<S: EventNode, L: Link<Out = S::Sealed>, O: Sink>(
+    inner: &S,
     link: &mut L,
     out: &mut O,
     conn: u64,
 ) -> Option<End>
-    ensures tells { (s : Settings) (life : Life) → S.stands_for steps.now s life → IsUp life
-        → Tells S.output (S.text s) s life (Makes (Unread conn) ∷ []) result (O.written out.old) (O.written out.new) (L.told link.old)
-        (L.told link.new) (HoldsBy S.Steps steps.now steps.now s life) }
+    ensures tells { (s : Settings) (life : Life) → S.stands_for inner.now s life → IsUp life
+        → Reported S.output (S.text s) s life (Makes (Unread conn) ∷ []) result (O.written out.old) (O.written out.new) (L.told link.old)
+        (L.told link.new) (HoldsBy S.EventNode inner.now inner.now s life) }
     ensures within { does_all result ≡ goes_on result }
     ensures stop { is_stop result ≡ false }
-    ensures causes { HasCauses result (S.faults steps.now) (S.faults steps.now) (O.faults out.old) (O.faults out.new) (L.faults link.old)
+    ensures causes { HasCauses result (S.faults inner.now) (S.faults inner.now) (O.faults out.old) (O.faults out.new) (L.faults link.old)
         (L.faults link.new) }
     ensures asked { L.asked link.new ≡ L.asked link.old }
 {
-    let Ok(()) = write_all(out, steps.no_memory_line()) else {
+    let Ok(()) = write_all(out, inner.no_memory_line()) else {
         return Some(End::Write);
     };
     link.drop_conn(conn);
@@ -241,43 +241,43 @@ fn report_unread<S: Steps, L: Link<Out = S::Sealed>, O: Sink>(
 }
 
 // Does a frame that came.
-fn do_frame<S: Steps, L: Link<Out = S::Sealed>, O: Sink>(
-    steps: &mut S,
+fn do_frame<S: EventNode, L: Link<Out = S::Sealed>, O: Sink>(
+    inner: &mut S,
     alloc: Global,
     link: &mut L,
     out: &mut O,
     frame: FrameView<'_>,
 ) -> Option<End>
-    ensures tells { (s : Settings) (life : Life) → S.stands_for steps.old s life → IsUp life
-        → Tells S.output (S.text s) s life (Makes (Comes (FrameCame (shown frame.entry))) ∷ []) result (O.written out.old)
-        (O.written out.new) (L.told link.old) (L.told link.new) (HoldsBy S.Steps steps.old steps.new s life) }
+    ensures tells { (s : Settings) (life : Life) → S.stands_for inner.old s life → IsUp life
+        → Reported S.output (S.text s) s life (Makes (Comes (FrameCame (shown frame.entry))) ∷ []) result (O.written out.old)
+        (O.written out.new) (L.told link.old) (L.told link.new) (HoldsBy S.EventNode inner.old inner.new s life) }
     ensures within { does_all result ≡ goes_on result }
     ensures stop { is_stop result ≡ false }
-    ensures causes { HasCauses result (S.faults steps.old) (S.faults steps.new) (O.faults out.old) (O.faults out.new) (L.faults link.old)
+    ensures causes { HasCauses result (S.faults inner.old) (S.faults inner.new) (O.faults out.old) (O.faults out.new) (L.faults link.old)
         (L.faults link.new) }
     ensures asked { L.asked link.new ≡ L.asked link.old }
 {
     match frame.frame(alloc) {
-        Ok(frame) => do_event(steps, alloc, link, out, Event::Frame(frame)),
-        Err(_) => report_no_memory(steps, out),
+        Ok(frame) => do_event(inner, alloc, link, out, Event::Frame(frame)),
+        Err(_) => report_no_memory(inner, out),
     }
 }
 
 // Does the frames that came, in order.
-fn do_frames<S: Steps, L: Link<Out = S::Sealed>, O: Sink>(
-    steps: &mut S,
+fn do_frames<S: EventNode, L: Link<Out = S::Sealed>, O: Sink>(
+    inner: &mut S,
     alloc: Global,
     link: &mut L,
     out: &mut O,
     reader: &mut FrameReader,
 ) -> Option<End>
-    ensures tells { (s : Settings) (life : Life) → S.stands_for steps.old s life → IsUp life
-        → Tells S.output (S.text s) s life (makes (of_frames reader.old.frames)) result (O.written out.old) (O.written out.new)
-        (L.told link.old) (L.told link.new) (HoldsBy S.Steps steps.old steps.new s life) }
+    ensures tells { (s : Settings) (life : Life) → S.stands_for inner.old s life → IsUp life
+        → Reported S.output (S.text s) s life (makes (of_frames reader.old.frames)) result (O.written out.old) (O.written out.new)
+        (L.told link.old) (L.told link.new) (HoldsBy S.EventNode inner.old inner.new s life) }
     ensures left { reader.new.ending ≡ reader.old.ending }
     ensures within { does_all result ≡ goes_on result }
     ensures stop { is_stop result ≡ false }
-    ensures causes { HasCauses result (S.faults steps.old) (S.faults steps.new) (O.faults out.old) (O.faults out.new) (L.faults link.old)
+    ensures causes { HasCauses result (S.faults inner.old) (S.faults inner.new) (O.faults out.old) (O.faults out.new) (L.faults link.old)
         (L.faults link.new) }
     ensures asked { L.asked link.new ≡ L.asked link.old }
 {
@@ -286,7 +286,7 @@ fn do_frames<S: Steps, L: Link<Out = S::Sealed>, O: Sink>(
             None => return None,
             Some(Err(_)) => return None,
             Some(Ok(frame)) => {
-                if let Some(end) = do_frame(steps, alloc, link, out, frame) {
+                if let Some(end) = do_frame(inner, alloc, link, out, frame) {
                     return Some(end);
                 }
             }
@@ -295,25 +295,25 @@ fn do_frames<S: Steps, L: Link<Out = S::Sealed>, O: Sink>(
 }
 
 // Does the lines that came, in order.
-fn do_lines<S: Steps, L: Link<Out = S::Sealed>, O: Sink>(
-    steps: &mut S,
+fn do_lines<S: EventNode, L: Link<Out = S::Sealed>, O: Sink>(
+    inner: &mut S,
     alloc: Global,
     link: &mut L,
     out: &mut O,
     conn: u64,
     lines: Vec<Line>,
 ) -> Option<End>
-    ensures tells { (s : Settings) (life : Life) → S.stands_for steps.old s life → IsUp life
-        → Tells S.output (S.text s) s life (makes (of_lines conn lines.items)) result (O.written out.old) (O.written out.new)
-        (L.told link.old) (L.told link.new) (HoldsBy S.Steps steps.old steps.new s life) }
+    ensures tells { (s : Settings) (life : Life) → S.stands_for inner.old s life → IsUp life
+        → Reported S.output (S.text s) s life (makes (of_lines conn lines.items)) result (O.written out.old) (O.written out.new)
+        (L.told link.old) (L.told link.new) (HoldsBy S.EventNode inner.old inner.new s life) }
     ensures within { does_all result ≡ goes_on result }
     ensures stop { is_stop result ≡ false }
-    ensures causes { HasCauses result (S.faults steps.old) (S.faults steps.new) (O.faults out.old) (O.faults out.new) (L.faults link.old)
+    ensures causes { HasCauses result (S.faults inner.old) (S.faults inner.new) (O.faults out.old) (O.faults out.new) (L.faults link.old)
         (L.faults link.new) }
     ensures asked { L.asked link.new ≡ L.asked link.old }
 {
     for line in lines {
-        if let Some(end) = do_event(steps, alloc, link, out, Event::Client { conn, line }) {
+        if let Some(end) = do_event(inner, alloc, link, out, Event::Client { conn, line }) {
             return Some(end);
         }
     }
@@ -321,8 +321,8 @@ fn do_lines<S: Steps, L: Link<Out = S::Sealed>, O: Sink>(
 }
 
 // Does the frames that came, puts their reader back, and then reports the fault that stands next.
-fn take_frames<S: Steps, L: Link<Out = S::Sealed>, O: Sink>(
-    steps: &mut S,
+fn take_frames<S: EventNode, L: Link<Out = S::Sealed>, O: Sink>(
+    inner: &mut S,
     connections: &mut [Connection],
     alloc: Global,
     link: &mut L,
@@ -331,52 +331,52 @@ fn take_frames<S: Steps, L: Link<Out = S::Sealed>, O: Sink>(
     reader: FrameReader,
 ) -> Option<End>
     requires { conn < length connections.old }
-    ensures tells { (s : Settings) (life : Life) → S.stands_for steps.old s life → IsUp life
-        → Tells S.output (S.text s) s life (makes (of_frames reader.frames ++ of_fault conn (fault_in reader.ending))) result
-        (O.written out.old) (O.written out.new) (L.told link.old) (L.told link.new) (HoldsBy S.Steps steps.old steps.new s life) }
+    ensures tells { (s : Settings) (life : Life) → S.stands_for inner.old s life → IsUp life
+        → Reported S.output (S.text s) s life (makes (of_frames reader.frames ++ of_fault conn (fault_in reader.ending))) result
+        (O.written out.old) (O.written out.new) (L.told link.old) (L.told link.new) (HoldsBy S.EventNode inner.old inner.new s life) }
     ensures kept { connections.new ≡ slice_set connections.old conn (kept_frames reader.ending) }
     ensures within { does_all result ≡ goes_on result }
     ensures stop { is_stop result ≡ false }
-    ensures causes { HasCauses result (S.faults steps.old) (S.faults steps.new) (O.faults out.old) (O.faults out.new) (L.faults link.old)
+    ensures causes { HasCauses result (S.faults inner.old) (S.faults inner.new) (O.faults out.old) (O.faults out.new) (L.faults link.old)
         (L.faults link.new) }
     ensures asked { L.asked link.new ≡ L.asked link.old }
 {
     let mut reader = reader;
-    let end = do_frames(steps, alloc, link, out, &mut reader);
+    let end = do_frames(inner, alloc, link, out, &mut reader);
     let fault = keep_at(connections, conn, reader);
     if let Some(end) = end {
         return Some(end);
     }
-    report_fault(steps, alloc, link, out, conn, fault)
+    report_fault(inner, alloc, link, out, conn, fault)
 }
 
 // Reports the fault, if there is one.
-fn report_fault<S: Steps, L: Link<Out = S::Sealed>, O: Sink>(
-    steps: &S,
+fn report_fault<S: EventNode, L: Link<Out = S::Sealed>, O: Sink>(
+    inner: &S,
     alloc: Global,
     link: &mut L,
     out: &mut O,
     conn: u64,
     fault: Option<FrameError>,
 ) -> Option<End>
-    ensures tells { (s : Settings) (life : Life) → S.stands_for steps.now s life → IsUp life
-        → Tells S.output (S.text s) s life (makes (of_fault conn fault)) result (O.written out.old) (O.written out.new) (L.told link.old)
-        (L.told link.new) (HoldsBy S.Steps steps.now steps.now s life) }
+    ensures tells { (s : Settings) (life : Life) → S.stands_for inner.now s life → IsUp life
+        → Reported S.output (S.text s) s life (makes (of_fault conn fault)) result (O.written out.old) (O.written out.new) (L.told link.old)
+        (L.told link.new) (HoldsBy S.EventNode inner.now inner.now s life) }
     ensures within { does_all result ≡ goes_on result }
     ensures stop { is_stop result ≡ false }
-    ensures causes { HasCauses result (S.faults steps.now) (S.faults steps.now) (O.faults out.old) (O.faults out.new) (L.faults link.old)
+    ensures causes { HasCauses result (S.faults inner.now) (S.faults inner.now) (O.faults out.old) (O.faults out.new) (L.faults link.old)
         (L.faults link.new) }
     ensures asked { L.asked link.new ≡ L.asked link.old }
 {
     match fault {
-        Some(fault) => report_bad(steps, alloc, link, out, conn, fault),
+        Some(fault) => report_bad(inner, alloc, link, out, conn, fault),
         None => None,
     }
 }
 
 // Does what bytes of a connection brought.
-fn take_came<S: Steps, L: Link<Out = S::Sealed>, O: Sink>(
-    steps: &mut S,
+fn take_came<S: EventNode, L: Link<Out = S::Sealed>, O: Sink>(
+    inner: &mut S,
     connections: &mut [Connection],
     alloc: Global,
     link: &mut L,
@@ -385,26 +385,26 @@ fn take_came<S: Steps, L: Link<Out = S::Sealed>, O: Sink>(
     came: Came,
 ) -> Option<End>
     requires { conn < length connections.old }
-    ensures tells { (s : Settings) (life : Life) → S.stands_for steps.old s life → IsUp life
-        → Tells S.output (S.text s) s life (makes (happenings_of conn came)) result (O.written out.old) (O.written out.new)
-        (L.told link.old) (L.told link.new) (HoldsBy S.Steps steps.old steps.new s life) }
+    ensures tells { (s : Settings) (life : Life) → S.stands_for inner.old s life → IsUp life
+        → Reported S.output (S.text s) s life (makes (happenings_of conn came)) result (O.written out.old) (O.written out.new)
+        (L.told link.old) (L.told link.new) (HoldsBy S.EventNode inner.old inner.new s life) }
     ensures kept { connections.new ≡ kept_at connections.old conn came }
     ensures within { does_all result ≡ goes_on result }
     ensures stop { is_stop result ≡ false }
-    ensures causes { HasCauses result (S.faults steps.old) (S.faults steps.new) (O.faults out.old) (O.faults out.new) (L.faults link.old)
+    ensures causes { HasCauses result (S.faults inner.old) (S.faults inner.new) (O.faults out.old) (O.faults out.new) (L.faults link.old)
         (L.faults link.new) }
     ensures asked { L.asked link.new ≡ L.asked link.old }
 {
     match came {
         Came::Nothing => None,
-        Came::Frames(reader) => take_frames(steps, connections, alloc, link, out, conn, reader),
-        Came::Lines(lines) => do_lines(steps, alloc, link, out, conn, lines.into_lines()),
+        Came::Frames(reader) => take_frames(inner, connections, alloc, link, out, conn, reader),
+        Came::Lines(lines) => do_lines(inner, alloc, link, out, conn, lines.into_lines()),
     }
 }
 
 // Does what more bytes of a connection bring.
-fn take_bytes<S: Steps, L: Link<Out = S::Sealed>, O: Sink>(
-    steps: &mut S,
+fn take_bytes<S: EventNode, L: Link<Out = S::Sealed>, O: Sink>(
+    inner: &mut S,
     connections: &mut [Connection],
     alloc: Global,
     link: &mut L,
@@ -414,25 +414,25 @@ fn take_bytes<S: Steps, L: Link<Out = S::Sealed>, O: Sink>(
 ) -> Option<End>
     requires all { length connections.old ≡ most_connections }
     requires low { conn < most_connections }
-    ensures takes { (s : Settings) (life : Life) (intakes : Intakes) → S.stands_for steps.old s life → IsUp life
+    ensures takes { (s : Settings) (life : Life) (intakes : Intakes) → S.stands_for inner.old s life → IsUp life
         → Reads connections.old intakes
         → TakesIn S.output (S.text s) s life intakes result (O.written out.old) (O.written out.new) (L.told link.old) (L.told link.new)
-        (HoldsBy S.Steps steps.old steps.new s life) connections.new (BytesCame conn bytes.now) }
-    ensures causes { HasCauses result (S.faults steps.old) (S.faults steps.new) (O.faults out.old) (O.faults out.new) (L.faults link.old)
+        (HoldsBy S.EventNode inner.old inner.new s life) connections.new (BytesCame conn bytes.now) }
+    ensures causes { HasCauses result (S.faults inner.old) (S.faults inner.new) (O.faults out.old) (O.faults out.new) (L.faults link.old)
         (L.faults link.new) }
     ensures asked { L.asked link.new ≡ L.asked link.old }
     ensures within { does_all result ≡ goes_on result }
     ensures stop { is_stop result ≡ false }
 {
     match feed_at(connections, alloc, conn, bytes) {
-        Ok(came) => take_came(steps, connections, alloc, link, out, conn, came),
-        Err(_) => report_unread(steps, link, out, conn),
+        Ok(came) => take_came(inner, connections, alloc, link, out, conn, came),
+        Err(_) => report_unread(inner, link, out, conn),
     }
 }
 
 // Reports that a connection ended, of which no byte is kept.
-fn take_closed<S: Steps, L: Link<Out = S::Sealed>, O: Sink>(
-    steps: &mut S,
+fn take_closed<S: EventNode, L: Link<Out = S::Sealed>, O: Sink>(
+    inner: &mut S,
     connections: &mut [Connection],
     alloc: Global,
     link: &mut L,
@@ -441,23 +441,23 @@ fn take_closed<S: Steps, L: Link<Out = S::Sealed>, O: Sink>(
 ) -> Option<End>
     requires all { length connections.old ≡ most_connections }
     requires low { conn < most_connections }
-    ensures takes { (s : Settings) (life : Life) (intakes : Intakes) → S.stands_for steps.old s life → IsUp life
+    ensures takes { (s : Settings) (life : Life) (intakes : Intakes) → S.stands_for inner.old s life → IsUp life
         → Reads connections.old intakes
         → TakesIn S.output (S.text s) s life intakes result (O.written out.old) (O.written out.new) (L.told link.old) (L.told link.new)
-        (HoldsBy S.Steps steps.old steps.new s life) connections.new (ConnectionClosed conn) }
-    ensures causes { HasCauses result (S.faults steps.old) (S.faults steps.new) (O.faults out.old) (O.faults out.new) (L.faults link.old)
+        (HoldsBy S.EventNode inner.old inner.new s life) connections.new (ConnectionClosed conn) }
+    ensures causes { HasCauses result (S.faults inner.old) (S.faults inner.new) (O.faults out.old) (O.faults out.new) (L.faults link.old)
         (L.faults link.new) }
     ensures asked { L.asked link.new ≡ L.asked link.old }
     ensures within { does_all result ≡ goes_on result }
     ensures stop { is_stop result ≡ false }
 {
     close_at(connections, conn);
-    report_gone(steps, alloc, link, out, conn)
+    report_gone(inner, alloc, link, out, conn)
 }
 
 // Does what an input brings.
-fn take_input<S: Steps, L: Link<Out = S::Sealed>, O: Sink>(
-    steps: &mut S,
+fn take_input<S: EventNode, L: Link<Out = S::Sealed>, O: Sink>(
+    inner: &mut S,
     connections: &mut [Connection],
     alloc: Global,
     link: &mut L,
@@ -466,20 +466,20 @@ fn take_input<S: Steps, L: Link<Out = S::Sealed>, O: Sink>(
 ) -> Option<End>
     requires all { length connections.old ≡ most_connections }
     requires low { IsTrue (has_low_conn input) }
-    ensures takes { (s : Settings) (life : Life) (intakes : Intakes) → S.stands_for steps.old s life → IsUp life
+    ensures takes { (s : Settings) (life : Life) (intakes : Intakes) → S.stands_for inner.old s life → IsUp life
         → Reads connections.old intakes
         → TakesIn S.output (S.text s) s life intakes result (O.written out.old) (O.written out.new) (L.told link.old) (L.told link.new)
-        (HoldsBy S.Steps steps.old steps.new s life) connections.new (input) }
+        (HoldsBy S.EventNode inner.old inner.new s life) connections.new (input) }
     ensures stop { is_stop result ≡ is_stop_input input }
     ensures never { ¬ (result ≡ Some End.Turns) }
     ensures unlinked { ¬ (result ≡ Some End.Link) }
-    ensures causes { HasCauses result (S.faults steps.old) (S.faults steps.new) (O.faults out.old) (O.faults out.new) (L.faults link.old)
+    ensures causes { HasCauses result (S.faults inner.old) (S.faults inner.new) (O.faults out.old) (O.faults out.new) (L.faults link.old)
         (L.faults link.new) }
     ensures asked { L.asked link.new ≡ L.asked link.old }
 {
     match input {
         Input::Bytes { conn, bytes } => take_bytes(
-            steps,
+            inner,
             connections,
             alloc,
             link,
@@ -487,39 +487,39 @@ fn take_input<S: Steps, L: Link<Out = S::Sealed>, O: Sink>(
             conn,
             &bytes,
         ),
-        Input::Closed { conn } => take_closed(steps, connections, alloc, link, out, conn),
-        Input::Tick { now, word } => do_event(steps, alloc, link, out, Event::Tick { now, word }),
+        Input::Closed { conn } => take_closed(inner, connections, alloc, link, out, conn),
+        Input::Tick { now, word } => do_event(inner, alloc, link, out, Event::Tick { now, word }),
         Input::Stop => Some(End::Stop),
     }
 }
 
 // Takes an input and does what it brings.
-fn take_turn<S: Steps, L: Link<Out = S::Sealed>, O: Sink>(
-    steps: &mut S,
+fn take_turn<S: EventNode, L: Link<Out = S::Sealed>, O: Sink>(
+    inner: &mut S,
     connections: &mut [Connection],
     alloc: Global,
     link: &mut L,
     out: &mut O,
 ) -> Option<End>
     requires all { length connections.old ≡ most_connections }
-    ensures turns { (s : Settings) (life : Life) (intakes : Intakes) → S.stands_for steps.old s life → IsUp life
+    ensures turns { (s : Settings) (life : Life) (intakes : Intakes) → S.stands_for inner.old s life → IsUp life
         → Reads connections.old intakes
         → Turns S.output (S.text s) s life intakes result (O.written out.old) (O.written out.new) (L.told link.old) (L.told link.new)
-        (HoldsBy S.Steps steps.old steps.new s life) connections.new (L.asked link.old) (L.asked link.new) 1 }
+        (HoldsBy S.EventNode inner.old inner.new s life) connections.new (L.asked link.old) (L.asked link.new) 1 }
     ensures never { ¬ (result ≡ Some End.Turns) }
-    ensures causes { HasCauses result (S.faults steps.old) (S.faults steps.new) (O.faults out.old) (O.faults out.new) (L.faults link.old)
+    ensures causes { HasCauses result (S.faults inner.old) (S.faults inner.new) (O.faults out.old) (O.faults out.new) (L.faults link.old)
         (L.faults link.new) }
 {
     match link.next() {
-        Ok(input) => take_input(steps, connections, alloc, link, out, input),
+        Ok(input) => take_input(inner, connections, alloc, link, out, input),
         Err(LinkError::Failed) => Some(End::Link),
-        Err(LinkError::Memory) => report_no_memory(steps, out),
+        Err(LinkError::Memory) => report_no_memory(inner, out),
     }
 }
 
 // Takes so many turns, unless one of them ends the run.
-fn take_turns<S: Steps, L: Link<Out = S::Sealed>, O: Sink>(
-    steps: &mut S,
+fn take_turns<S: EventNode, L: Link<Out = S::Sealed>, O: Sink>(
+    inner: &mut S,
     connections: &mut [Connection],
     alloc: Global,
     link: &mut L,
@@ -527,16 +527,16 @@ fn take_turns<S: Steps, L: Link<Out = S::Sealed>, O: Sink>(
     turns: u64,
 ) -> Option<End>
     requires all { length connections.old ≡ most_connections }
-    ensures turns { (s : Settings) (life : Life) (intakes : Intakes) → S.stands_for steps.old s life → IsUp life
+    ensures turns { (s : Settings) (life : Life) (intakes : Intakes) → S.stands_for inner.old s life → IsUp life
         → Reads connections.old intakes
         → Turns S.output (S.text s) s life intakes result (O.written out.old) (O.written out.new) (L.told link.old) (L.told link.new)
-        (HoldsBy S.Steps steps.old steps.new s life) connections.new (L.asked link.old) (L.asked link.new) turns }
+        (HoldsBy S.EventNode inner.old inner.new s life) connections.new (L.asked link.old) (L.asked link.new) turns }
     ensures never { ¬ (result ≡ Some End.Turns) }
-    ensures causes { HasCauses result (S.faults steps.old) (S.faults steps.new) (O.faults out.old) (O.faults out.new) (L.faults link.old)
+    ensures causes { HasCauses result (S.faults inner.old) (S.faults inner.new) (O.faults out.old) (O.faults out.new) (L.faults link.old)
         (L.faults link.new) }
 {
     for turn in 0..turns {
-        if let Some(end) = take_turn(steps, connections, alloc, link, out) {
+        if let Some(end) = take_turn(inner, connections, alloc, link, out) {
             return Some(end);
         }
     }
@@ -544,33 +544,33 @@ fn take_turns<S: Steps, L: Link<Out = S::Sealed>, O: Sink>(
 }
 
 // Does Start, as the first event.
-fn start<S: Steps, L: Link<Out = S::Sealed>, O: Sink>(
-    steps: &mut S,
+fn start<S: EventNode, L: Link<Out = S::Sealed>, O: Sink>(
+    inner: &mut S,
     alloc: Global,
     link: &mut L,
     out: &mut O,
 ) -> Option<End>
-    ensures tells { (s : Settings) (life : Life) → S.stands_for steps.old s life → IsOpened life
-        → Tells S.output (S.text s) s life (Makes (Comes Start) ∷ []) result (O.written out.old) (O.written out.new) (L.told link.old)
-        (L.told link.new) (HoldsBy S.Steps steps.old steps.new s life) }
+    ensures tells { (s : Settings) (life : Life) → S.stands_for inner.old s life → IsOpened life
+        → Reported S.output (S.text s) s life (Makes (Comes Start) ∷ []) result (O.written out.old) (O.written out.new) (L.told link.old)
+        (L.told link.new) (HoldsBy S.EventNode inner.old inner.new s life) }
     ensures within { does_all result ≡ goes_on result }
     ensures stop { is_stop result ≡ false }
-    ensures causes { HasCauses result (S.faults steps.old) (S.faults steps.new) (O.faults out.old) (O.faults out.new) (L.faults link.old)
+    ensures causes { HasCauses result (S.faults inner.old) (S.faults inner.new) (O.faults out.old) (O.faults out.new) (L.faults link.old)
         (L.faults link.new) }
     ensures asked { L.asked link.new ≡ L.asked link.old }
 {
-    match steps.step(alloc, Event::Start) {
-        Ok(done) => report_done(steps, link, out, done),
-        Err(error) => report_unstarted(steps, out, error),
+    match inner.step(alloc, Event::Start) {
+        Ok(done) => report_done(inner, link, out, done),
+        Err(error) => report_unstarted(inner, out, error),
     }
 }
 
 // Writes what there is to say of a start that was not done to its end.
-fn report_unstarted<S: Steps, O: Sink>(steps: &S, out: &mut O, error: StepError) -> Option<End>
+fn report_unstarted<S: EventNode, O: Sink>(inner: &S, out: &mut O, error: NotDone) -> Option<End>
     ensures tells { (old : S) (s : Settings) (life : Life) (told : Option (List (Traffic S.Sealed))) → IsOpened life
-        → FailsTo (λ now s2 new. HoldsBy S.Steps old now s2 life new) (S.text s) s life Start steps.now error
-        → Tells S.output (S.text s) s life (Makes (Comes Start) ∷ []) result (O.written out.old) (O.written out.new) told told
-        (HoldsBy S.Steps old steps.now s life) }
+        → FailsTo (λ now s2 new. HoldsBy S.EventNode old now s2 life new) (S.text s) s life Start inner.now error
+        → Reported S.output (S.text s) s life (Makes (Comes Start) ∷ []) result (O.written out.old) (O.written out.new) told told
+        (HoldsBy S.EventNode old inner.now s life) }
     ensures within { does_all result ≡ goes_on result }
     ensures stop { is_stop result ≡ false }
     ensures write { result ≡ Some End.Write → Rose (O.faults out.old) (O.faults out.new) }
@@ -579,21 +579,21 @@ fn report_unstarted<S: Steps, O: Sink>(steps: &S, out: &mut O, error: StepError)
     ensures later { O.faults out.old ≤ O.faults out.new }
 {
     match error {
-        StepError::Memory => Some(End::Memory),
-        StepError::Stopped => Some(End::Memory),
-        StepError::Disk(lines) => report_struck(steps, out, lines),
+        NotDone::Memory => Some(End::Memory),
+        NotDone::Stopped => Some(End::Memory),
+        NotDone::Disk(lines) => report_struck(inner, out, lines),
     }
 }
 
 // Writes the line of the opening.
-fn report_opening<S: Steps, O: Sink>(steps: &S, alloc: Global, out: &mut O) -> Option<End>
-    ensures says { (s : Settings) (life : Life) → S.stands_for steps.now s life → IsOpened life
+fn report_opening<S: EventNode, O: Sink>(inner: &S, alloc: Global, out: &mut O) -> Option<End>
+    ensures says { (s : Settings) (life : Life) → S.stands_for inner.now s life → IsOpened life
         → Says result (O.written out.old) (O.written out.new) (S.opening s life) }
     ensures write { result ≡ Some End.Write → Rose (O.faults out.old) (O.faults out.new) }
     ensures others { (¬ (result ≡ Some End.Link)) × (¬ (result ≡ Some End.Disk)) }
     ensures later { O.faults out.old ≤ O.faults out.new }
 {
-    let Ok(line) = steps.opening_line(alloc) else {
+    let Ok(line) = inner.opening_line(alloc) else {
         return Some(End::Memory);
     };
     let Ok(()) = write_all(out, line.as_bytes()) else {
@@ -603,8 +603,8 @@ fn report_opening<S: Steps, O: Sink>(steps: &S, alloc: Global, out: &mut O) -> O
 }
 
 // Does Start and takes the turns.
-fn serve_on<S: Steps, L: Link<Out = S::Sealed>, O: Sink>(
-    steps: &mut S,
+fn serve_on<S: EventNode, L: Link<Out = S::Sealed>, O: Sink>(
+    inner: &mut S,
     connections: &mut [Connection],
     alloc: Global,
     link: &mut L,
@@ -612,16 +612,16 @@ fn serve_on<S: Steps, L: Link<Out = S::Sealed>, O: Sink>(
     turns: u64,
 ) -> End
     requires all { length connections.old ≡ most_connections }
-    ensures serves { (s : Settings) (life : Life) → S.stands_for steps.old s life → IsOpened life → Reads connections.old NoIntakes
+    ensures serves { (s : Settings) (life : Life) → S.stands_for inner.old s life → IsOpened life → Reads connections.old NoIntakes
         → ServesOn S.output (S.text s) s life result (O.written out.old) (O.written out.new) (L.told link.old) (L.told link.new)
-        (HoldsBy S.Steps steps.old steps.new s life) (L.asked link.old) (L.asked link.new) turns }
-    ensures causes { HasCauses (Some result) (S.faults steps.old) (S.faults steps.new) (O.faults out.old) (O.faults out.new)
+        (HoldsBy S.EventNode inner.old inner.new s life) (L.asked link.old) (L.asked link.new) turns }
+    ensures causes { HasCauses (Some result) (S.faults inner.old) (S.faults inner.new) (O.faults out.old) (O.faults out.new)
         (L.faults link.old) (L.faults link.new) }
 {
-    if let Some(end) = start(steps, alloc, link, out) {
+    if let Some(end) = start(inner, alloc, link, out) {
         return end;
     }
-    match take_turns(steps, connections, alloc, link, out, turns) {
+    match take_turns(inner, connections, alloc, link, out, turns) {
         Some(end) => end,
         None => End::Turns,
     }
@@ -644,46 +644,46 @@ fn fresh_connections(alloc: Global) -> Result<Vec<Connection>, AllocError>
 /// and the body that a frame may have, or one byte more than a line may have (`law_holds_little`). It takes the next input
 /// only when it has done all frames and lines of the last one.
 #[derive(Drop)]
-pub struct Node<S: Steps> {
-    steps: S,
+pub struct Node<S: EventNode> {
+    inner: S,
     connections: Vec<Connection>,
     alloc: Global,
     ghost all: { length connections.items ≡ most_connections },
 }
 
-impl<S: Steps> Node<S> {
+impl<S: EventNode> Node<S> {
     /// A node whose journal was just opened, and to which nothing has come.
-    pub fn new(alloc: Global, steps: S) -> Result<Node<S>, S>
-        ensures ok { IfOk result (λ node. (node.steps ≡ steps) × Reads node.connections.items NoIntakes) }
-        ensures err { IfErr result (λ back. back ≡ steps) }
+    pub fn new(alloc: Global, inner: S) -> Result<Node<S>, S>
+        ensures ok { IfOk result (λ node. (node.inner ≡ inner) × Reads node.connections.items NoIntakes) }
+        ensures err { IfErr result (λ back. back ≡ inner) }
     {
         match fresh_connections(alloc) {
             Ok(connections) => Ok(Node {
-                steps,
+                inner,
                 connections,
                 alloc,
             }),
-            Err(_) => Err(steps),
+            Err(_) => Err(inner),
         }
     }
 
     /// What does its events.
-    pub fn steps(&self) -> &S
-        ensures { result.now ≡ self.now.steps }
+    pub fn inner(&self) -> &S
+        ensures { result.now ≡ self.now.inner }
     {
-        &self.steps
+        &self.inner
     }
 
     /// What does its events, given up by the node.
-    pub fn into_steps(self) -> S
-        ensures { result ≡ self.steps }
+    pub fn into_inner(self) -> S
+        ensures { result ≡ self.inner }
     {
         let Node {
-            steps,
+            inner,
             connections: _,
             alloc: _,
         } = self;
-        steps
+        inner
     }
 
     /// Takes an input and does what it brings. None where the node goes on.
@@ -692,16 +692,16 @@ impl<S: Steps> Node<S> {
         link: &mut L,
         out: &mut O,
     ) -> Option<End>
-        ensures turns { (s : Settings) (life : Life) (intakes : Intakes) → S.stands_for self.old.steps s life → IsUp life
+        ensures turns { (s : Settings) (life : Life) (intakes : Intakes) → S.stands_for self.old.inner s life → IsUp life
             → Reads self.old.connections.items intakes
             → Turns S.output (S.text s) s life intakes result (O.written out.old) (O.written out.new) (L.told link.old) (L.told link.new)
-            (HoldsBy S.Steps self.old.steps self.new.steps s life) self.new.connections.items (L.asked link.old) (L.asked link.new) 1 }
+            (HoldsBy S.EventNode self.old.inner self.new.inner s life) self.new.connections.items (L.asked link.old) (L.asked link.new) 1 }
         ensures never { ¬ (result ≡ Some End.Turns) }
-        ensures causes { HasCauses result (S.faults self.old.steps) (S.faults self.new.steps) (O.faults out.old) (O.faults out.new)
+        ensures causes { HasCauses result (S.faults self.old.inner) (S.faults self.new.inner) (O.faults out.old) (O.faults out.new)
             (L.faults link.old) (L.faults link.new) }
     {
         take_turn(
-            &mut self.steps,
+            &mut self.inner,
             &mut self.connections,
             self.alloc,
             link,
@@ -716,17 +716,17 @@ impl<S: Steps> Node<S> {
         out: &mut O,
         turns: u64,
     ) -> End
-        ensures serves { (s : Settings) (life : Life) → S.stands_for self.old.steps s life → IsOpened life
+        ensures serves { (s : Settings) (life : Life) → S.stands_for self.old.inner s life → IsOpened life
             → Reads self.old.connections.items NoIntakes
             → Serves S.output (S.text s) s life result (O.written out.old) (O.written out.new) (L.told link.old) (L.told link.new)
-            (HoldsBy S.Steps self.old.steps self.new.steps s life) (L.asked link.old) (L.asked link.new) turns (S.opening s life) }
-        ensures causes { HasCauses (Some result) (S.faults self.old.steps) (S.faults self.new.steps) (O.faults out.old) (O.faults out.new)
+            (HoldsBy S.EventNode self.old.inner self.new.inner s life) (L.asked link.old) (L.asked link.new) turns (S.opening s life) }
+        ensures causes { HasCauses (Some result) (S.faults self.old.inner) (S.faults self.new.inner) (O.faults out.old) (O.faults out.new)
             (L.faults link.old) (L.faults link.new) }
     {
-        match report_opening(&self.steps, self.alloc, out) {
+        match report_opening(&self.inner, self.alloc, out) {
             Some(end) => end,
             None => serve_on(
-                &mut self.steps,
+                &mut self.inner,
                 &mut self.connections,
                 self.alloc,
                 link,

@@ -11,7 +11,7 @@ ghost use Rattle.policy_model.specs.Events.{acts_of};
 ghost use Rattle.node_loop.specs.Intakes.{NoIntakes};
 ghost use Rattle.node_loop.specs.Reporting.{Reports, sent_of};
 ghost use Rattle.node_loop.specs.Running.{HoldsOn};
-ghost use Rattle.node_loop.specs.Tells.{HasCauses, IsOpened};
+ghost use Rattle.node_loop.specs.Reported.{HasCauses, IsOpened};
 ghost use Rattle.node_loop.specs.Texts.{entry_text, opening_text};
 ghost use Rattle.node_loop.specs.Turns.{Reads, Serves};
 
@@ -35,24 +35,24 @@ impl<D: Disks> Node<Reporter<StateJournal<D>>> {
     /// Those of [`StateJournal::open`]; and `Memory` where there is none for the connections. Each hands the disk back.
     pub fn open(alloc: Global, settings: Settings, disk: D) -> Result<JournalNode<D>, OpenError<D>>
         ensures stands { IfOk result
-            (λ node. (life : Life) → ContinuesUnlessFirst (acts_of (log_of life)) (Open node.steps.node.core.keeper.kept)
-            → Reports ⟦<StateJournal<D> as Keeper>⟧ node.steps.node node.steps.told settings
-            (Opened life node.steps.node.core.keeper.kept)) }
-        ensures found { D.told → IfOk result (λ node. found_of (D.seen disk) ≡ Ok node.steps.node.core.keeper.kept) }
+            (λ node. (life : Life) → ContinuesUnlessFirst (acts_of (log_of life)) (Open node.inner.node.core.keeper.kept)
+            → Reports ⟦<StateJournal<D> as Keeper>⟧ node.inner.node node.inner.told settings
+            (Opened life node.inner.node.core.keeper.kept)) }
+        ensures found { D.told → IfOk result (λ node. found_of (D.seen disk) ≡ Ok node.inner.node.core.keeper.kept) }
         ensures reads { IfOk result (λ node. Reads node.connections.items NoIntakes) }
         ensures why { D.told → IfErr result (IsWhyOf (D.seen disk)) }
         ensures cause { IfErr result (RoseIfDisk D.faults (D.faults disk)) }
-        ensures later { IfOk result (λ node. D.faults disk ≤ D.faults node.steps.node.core.keeper.log.disk) }
+        ensures later { IfOk result (λ node. D.faults disk ≤ D.faults node.inner.node.core.keeper.log.disk) }
         ensures later_err { IfErr result (λ e. D.faults disk ≤ D.faults (handed_back e)) }
 
         // After a crash at any moment an opening finds what it might have found before.
         ensures any_moment { D.told
-            → IfOk result (λ node. LeavesOnly D.moment D.left_since disk node.steps.node.core.keeper.log.disk
+            → IfOk result (λ node. LeavesOnly D.moment D.left_since disk node.inner.node.core.keeper.log.disk
             (FoundAsSome (D.may_leave disk))) }
         ensures any_moment_err { D.told → IfErr result (λ e. LeavesOnly D.moment D.left_since disk (handed_back e) (FoundAsSome (D.may_leave disk))) }
 
         // Where it is refused, the device calls of an opening and no others.
-        ensures ran_err { D.told → IfErr result (RanUntil D.steps (D.seen disk) disk) }
+        ensures ran_err { D.told → IfErr result (RanUntil D.moves (D.seen disk) disk) }
     {
         let journal = StateJournal::open(alloc, disk)?;
         match Node::new(alloc, Reporter::open(alloc, settings, journal)) {
@@ -63,16 +63,16 @@ impl<D: Disks> Node<Reporter<StateJournal<D>>> {
 
     /// The disk of its journal.
     pub fn disk(&self) -> &D
-        ensures { result.now ≡ self.now.steps.node.core.keeper.log.disk }
+        ensures { result.now ≡ self.now.inner.node.core.keeper.log.disk }
     {
-        self.steps().keeper().disk()
+        self.inner().keeper().disk()
     }
 
     /// The disk of its journal, given up by the node.
     pub fn into_disk(self) -> D
-        ensures { result ≡ self.steps.node.core.keeper.log.disk }
+        ensures { result ≡ self.inner.node.core.keeper.log.disk }
     {
-        self.into_steps().into_keeper().into_disk()
+        self.into_inner().into_keeper().into_disk()
     }
 
     /// Serves a link, as [`Node::serve`] says, and hands the disk of its journal out.
@@ -82,12 +82,12 @@ impl<D: Disks> Node<Reporter<StateJournal<D>>> {
         out: &mut O,
         turns: u64,
     ) -> (D, End)
-        ensures serves { (s : SettingsOf) (life : Life) → Reports ⟦<StateJournal<D> as Keeper>⟧ self.steps.node self.steps.told s life
+        ensures serves { (s : SettingsOf) (life : Life) → Reports ⟦<StateJournal<D> as Keeper>⟧ self.inner.node self.inner.told s life
             → IsOpened life → Reads self.connections.items NoIntakes
             → Serves sent_of (entry_text s) s life result.1 (O.written out.old) (O.written out.new) (L.told link.old) (L.told link.new)
-            (HoldsOn D.Disks self.steps.node.core.keeper.log.disk result.0 s life) (L.asked link.old) (L.asked link.new) turns
+            (HoldsOn D.Disks self.inner.node.core.keeper.log.disk result.0 s life) (L.asked link.old) (L.asked link.new) turns
             (opening_text s life) }
-        ensures causes { HasCauses (Some result.1) (D.faults self.steps.node.core.keeper.log.disk) (D.faults result.0) (O.faults out.old)
+        ensures causes { HasCauses (Some result.1) (D.faults self.inner.node.core.keeper.log.disk) (D.faults result.0) (O.faults out.old)
             (O.faults out.new) (L.faults link.old) (L.faults link.new) }
     {
         let mut node = self;

@@ -7,8 +7,8 @@ ghost use Rattle.policy_model.specs.Entries.{Life, Opened, log_of};
 ghost use Rattle.policy_model.specs.Events.{acts_of};
 ghost use Rattle.node_loop.specs.Reporting.{AreLined, Reports};
 
+use crate::event_node::{Done, EventNode, NotDone};
 use crate::lines::{LastSent, write_bad, write_entry, write_gone};
-use crate::steps::{Done, StepError, Steps};
 use coordinator::{Coordinator, Entries, Sealed};
 use master_tasks::Outgoing;
 use policy_model::{Event, Settings};
@@ -91,7 +91,7 @@ fn report(
         node,
         &mut kept,
         &entries.event,
-        entries.steps.as_slice(),
+        entries.deeds.as_slice(),
         entries.drops.as_slice(),
         frames,
         replies,
@@ -102,7 +102,7 @@ fn report(
     Some(text)
 }
 
-impl<K: Keeper> Steps for Reporter<K> {
+impl<K: Keeper> EventNode for Reporter<K> {
     ghost use Rattle.node_loop.specs.Reporting.{Reports, reports_idle, sent_of};
     ghost use Rattle.node_loop.specs.Texts.{entry_text, opening_text};
 
@@ -126,7 +126,7 @@ impl<K: Keeper> Steps for Reporter<K> {
 
     ghost idle = { λ r s life entry is stands. reports_idle _ r.node r.told s life entry is stands };
 
-    fn step(&mut self, alloc: Global, event: Event) -> Result<Done<Sealed>, StepError> {
+    fn step(&mut self, alloc: Global, event: Event) -> Result<Done<Sealed>, NotDone> {
         match self.node.step(alloc, event) {
             Ok(sealed) => {
                 let lines = report(
@@ -139,7 +139,7 @@ impl<K: Keeper> Steps for Reporter<K> {
                 );
                 Ok(Done { sealed, lines })
             }
-            Err(coordinator::StepError::Disk(entries)) => Err(StepError::Disk(report(
+            Err(coordinator::StepError::Disk(entries)) => Err(NotDone::Disk(report(
                 &mut self.told,
                 alloc,
                 self.me,
@@ -147,8 +147,8 @@ impl<K: Keeper> Steps for Reporter<K> {
                 &[],
                 &[],
             ))),
-            Err(coordinator::StepError::Memory) => Err(StepError::Memory),
-            Err(coordinator::StepError::Stopped) => Err(StepError::Stopped),
+            Err(coordinator::StepError::Memory) => Err(NotDone::Memory),
+            Err(coordinator::StepError::Stopped) => Err(NotDone::Stopped),
         }
     }
 

@@ -15,7 +15,7 @@ use crate::shown::shows;
 use client_lines::Line;
 use cluster_state::{LAST_NUMBER, StateId};
 use coordinator::{Coordinator, Entries, Sealed, StepError};
-use event_text::{write_event, write_steps};
+use event_text::{write_deeds, write_event};
 use policy_model::Event;
 use state_journal::StateJournal;
 use std::alloc::{AllocError, Global};
@@ -232,7 +232,7 @@ impl World {
             self.sent.len(),
             me,
             &mut None,
-            sealed.entries().steps.as_slice(),
+            sealed.entries().deeds.as_slice(),
             sealed.entries().drops.as_slice(),
             sealed.sends().as_slice(),
             sealed.replies().as_slice(),
@@ -799,8 +799,8 @@ fn over_journal(alloc: Global) -> Result<OverJournal, Fail>
 // Whether the steps of these entries show this line and no other.
 fn shows_only(alloc: Global, entries: &Entries, line: &str) -> Result<bool, Fail> {
     let mut text = Text::new(alloc);
-    let steps = entries.steps.as_slice();
-    write_steps(&mut text, alloc, NodeId::parse("a")?, &mut None, steps)?;
+    let steps = entries.deeds.as_slice();
+    write_deeds(&mut text, alloc, NodeId::parse("a")?, &mut None, steps)?;
     Ok(shows(str::from_utf8(text.as_bytes())?, &[line]))
 }
 

@@ -25,7 +25,7 @@ use Rattle.journal_inspection.specs.Shows.{LeavesRecord}
 use Rattle.journal_inspection.specs.declared.showing.Shown.TheVariants as shown
 use Rattle.journal_inspection.proofs.Ends.{opens_first}
 use Rattle.node_tool.specs.Tools.{state_by, made_by, refusal_of}
-use Rattle.node_tool.specs.Uses.{Uses, IsOldOrNew, IsUnhurt, Wrote, OnlyUses, TellsError, TellsWhy, UsesOn, WroteOn, WritesOn, LeavesOldOrNew}
+use Rattle.node_tool.specs.Uses.{Uses, IsOldOrNew, IsUnhurt, Wrote, OnlyUses, NamesError, NamesWhy, UsesOn, WroteOn, WritesOn, LeavesOldOrNew}
 use Rattle.node_tool.specs.declared.tool.Tool.{Tool}
 use Rattle.node_tool.specs.declared.using.Tooled.{Tooled}
 use Rattle.node_tool.specs.declared.using.Tooled.TheVariants as tooled
@@ -80,7 +80,7 @@ module _ {D : Type 0} (d : Disks D) (tool : Tool) (given : D) (j new : StateJour
       either c (inr made) = inr (j.kept, found told, made.0, made.1)
 
   -- ---- the device calls
-  wrote : (ok : Bool) → d.told → j.log.stopped ≡ false → CallsMade d.steps (both_opening_calls (d.seen given)) given j.log.disk true → WroteOn d tool j new ok → Wrote d tool given new.log.disk ok
+  wrote : (ok : Bool) → d.told → j.log.stopped ≡ false → CallsMade d.moves (both_opening_calls (d.seen given)) given j.log.disk true → WroteOn d tool j new ok → Wrote d tool given new.log.disk ok
   wrote ok told running opens w =
       let there : place j.log ≡ place_of (standing_in (d.seen j.log.disk)) = place_is d j.log told running in
       let due : j.due ≡ holds_old (in_use (standing_in (d.seen j.log.disk))) = j.aged told running in
@@ -89,41 +89,41 @@ module _ {D : Type 0} (d : Disks D) (tool : Tool) (given : D) (j new : StateJour
         opens = opens;
         kept = j.kept;
         found = found told;
-        writes = subst (λ (calls : List _). CallsMade d.steps calls j.log.disk new.log.disk ok) (λ i. keeping_calls (due i) (there i) j.kept (Accepted (state_by tool j.kept))) w;
+        writes = subst (λ (calls : List _). CallsMade d.moves calls j.log.disk new.log.disk ok) (λ i. keeping_calls (due i) (there i) j.kept (Accepted (state_by tool j.kept))) w;
       }
 
-  pub only_uses : (t : Tooled) → d.told → j.log.stopped ≡ false → CallsMade d.steps (both_opening_calls (d.seen given)) given j.log.disk true → WritesOn d tool j new t → OnlyUses d tool given new.log.disk t
+  pub only_uses : (t : Tooled) → d.told → j.log.stopped ≡ false → CallsMade d.moves (both_opening_calls (d.seen given)) given j.log.disk true → WritesOn d tool j new t → OnlyUses d tool given new.log.disk t
   only_uses (tooled.Report text) told running opens w = wrote true told running opens w
-  only_uses (tooled.Refused text) told running opens w = subst (λ (k : StateJournal D d). CallsMade d.steps (both_opening_calls (d.seen given)) given k.log.disk true) (sym w) opens
+  only_uses (tooled.Refused text) told running opens w = subst (λ (k : StateJournal D d). CallsMade d.moves (both_opening_calls (d.seen given)) given k.log.disk true) (sym w) opens
   only_uses (tooled.NotAJournal text) told running opens w = absurd w
   only_uses tooled.Disk told running opens w = inr (wrote false told running opens w)
   only_uses tooled.Memory told running opens (inl same) =
-      inl (both_opening_calls (d.seen given), [], append-nil (both_opening_calls (d.seen given)), subst (λ (k : StateJournal D d). CallsMade d.steps (both_opening_calls (d.seen given)) given k.log.disk true) (sym same) opens)
+      inl (both_opening_calls (d.seen given), [], append-nil (both_opening_calls (d.seen given)), subst (λ (k : StateJournal D d). CallsMade d.moves (both_opening_calls (d.seen given)) given k.log.disk true) (sym same) opens)
   only_uses tooled.Memory told running opens (inr w) = inr (wrote true told running opens w)
 
 -- ---- the journal was not opened
 
 module _ {D : Type 0} (d : Disks D) (tool : Tool) (given : D) where
-  tells_none : (why : Why) (back : D) (t : Tooled) → TellsWhy why t → (d.told → found_of (d.seen given) ≡ Err why) → Uses d tool given back t
+  tells_none : (why : Why) (back : D) (t : Tooled) → NamesWhy why t → (d.told → found_of (d.seen given) ≡ Err why) → Uses d tool given back t
   tells_none why back (tooled.Report text) is found = absurd is
   tells_none why back (tooled.Refused text) is found = absurd is
   tells_none why back (tooled.NotAJournal text) is found = record { why = why; line = is; found = found }
   tells_none why back tooled.Disk is found = absurd is
   tells_none why back tooled.Memory is found = tt
 
-  opens_none : (why : Why) (back : D) (t : Tooled) → TellsWhy why t → CallsMade d.steps (calls_until (generations_of (d.seen given)) (d.seen given)) given back true → OnlyUses d tool given back t
+  opens_none : (why : Why) (back : D) (t : Tooled) → NamesWhy why t → CallsMade d.moves (calls_until (generations_of (d.seen given)) (d.seen given)) given back true → OnlyUses d tool given back t
   opens_none why back (tooled.Report text) is ran = absurd is
   opens_none why back (tooled.Refused text) is ran = absurd is
   opens_none why back (tooled.NotAJournal text) is ran = ran
   opens_none why back tooled.Disk is ran = absurd is
   opens_none why back tooled.Memory is ran = inl (opens_first d given back why shown.Memory tt ran)
 
-  pub uses_unopened : (e : OpenError D) (t : Tooled) → TellsError e t → (d.told → IsWhyOf (d.seen given) e) → RoseIfDisk d.faults (d.faults given) e → Uses d tool given (handed_back e) t
+  pub uses_unopened : (e : OpenError D) (t : Tooled) → NamesError e t → (d.told → IsWhyOf (d.seen given) e) → RoseIfDisk d.faults (d.faults given) e → Uses d tool given (handed_back e) t
   uses_unopened (refused.NotAJournal why back) t is why_is rose = tells_none why back t is why_is
   uses_unopened (refused.Disk back) t is why_is rose = subst (Uses d tool given back) (sym is) rose
   uses_unopened (refused.Memory back) t is why_is rose = subst (Uses d tool given back) (sym is) tt
 
-  pub opens_unopened : (e : OpenError D) (t : Tooled) → TellsError e t → RanUntil d.steps (d.seen given) given e → OnlyUses d tool given (handed_back e) t
+  pub opens_unopened : (e : OpenError D) (t : Tooled) → NamesError e t → RanUntil d.moves (d.seen given) given e → OnlyUses d tool given (handed_back e) t
   opens_unopened (refused.NotAJournal why back) t is ran = opens_none why back t is ran
   opens_unopened (refused.Disk back) t is ran = subst (OnlyUses d tool given back) (sym is) (inl ran)
   opens_unopened (refused.Memory back) t is ran = subst (OnlyUses d tool given back) (sym is) (inl ran)

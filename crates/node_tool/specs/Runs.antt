@@ -3,7 +3,7 @@ use Rattle.std.specs.Prelude.{◌≡◌, ℕ, ◌⊎◌, true, false, Option, No
 use Rattle.zen_disk.specs.Faults.{Rose}
 use Rattle.zen_disk.specs.declared.disks.Disks.{Ghosts as Disks}
 use Rattle.zen_host.specs.HostCalls.{HostCall, OpensDisk, and_call}
-use Rattle.zen_link.specs.Streams.{Appended, AppendedFront}
+use Rattle.zen_link.specs.Streams.{Appended, AppendedPrefix}
 use Rattle.cluster_state.specs.declared.state.Kept.{Kept}
 use Rattle.state_journal.specs.Journal.{found_of}
 use Rattle.zen_host.specs.Views.{HostView}
@@ -42,7 +42,7 @@ module _ {D L : Type 0} (d : Disks D) (tool : Tool) (host host_now : HostView D 
   EndsWith was now wrote wrote_now end.NotAJournal = (text : List ℕ) × Used (tooled.NotAJournal text) × Appended was now text
   EndsWith was now wrote wrote_now end.WriteFault =
       (text : List ℕ) × (Used (tooled.Report text) ⊎ (Used (tooled.Refused text) ⊎ Used (tooled.NotAJournal text)))
-      × AppendedFront was now text × Rose wrote wrote_now
+      × AppendedPrefix was now text × Rose wrote wrote_now
   EndsWith was now wrote wrote_now end.DiskFault = Used tooled.Disk × Appended was now []
   EndsWith was now wrote wrote_now end.HostFault = Rose host.faults host_now.faults × Appended was now []
   EndsWith was now wrote wrote_now end.NoMemory = (Undisked d host host_now ⊎ Used tooled.Memory) × Appended was now []

@@ -75,15 +75,15 @@ module _ {D : Type 0} (d : Disks D) (tool : Tool) (given back : D) where
   -- the journal was opened, and the device calls were made that accept a state, with one change
   pub record Wrote (ok : Bool) : Type 0 where
     pub opened : D
-    pub opens : CallsMade d.steps (both_opening_calls (d.seen given)) given opened true
+    pub opens : CallsMade d.moves (both_opening_calls (d.seen given)) given opened true
     pub kept : Kept
     pub found : found_of (d.seen given) ≡ Ok kept
-    pub writes : CallsMade d.steps (keeping_calls_in (standing_in (d.seen opened)) kept (Accepted (state_by tool kept))) opened back ok
+    pub writes : CallsMade d.moves (keeping_calls_in (standing_in (d.seen opened)) kept (Accepted (state_by tool kept))) opened back ok
 
   -- The device calls of an opening were made and, where the tool did not refuse, those that accept a state; no others.
   abbrev pub OnlyUses : Tooled → Type 0
   OnlyUses (tooled.Report text) = Wrote true
-  OnlyUses (tooled.Refused text) = CallsMade d.steps (both_opening_calls (d.seen given)) given back true
+  OnlyUses (tooled.Refused text) = CallsMade d.moves (both_opening_calls (d.seen given)) given back true
   OnlyUses (tooled.NotAJournal text) = OnlyOpens d given back (shown.NotAJournal text)
   OnlyUses tooled.Disk = OnlyOpens d given back shown.Disk ⊎ Wrote false
   OnlyUses tooled.Memory = OnlyOpens d given back shown.Memory ⊎ Wrote true
@@ -101,16 +101,16 @@ Refuses cause (tooled.Refused text) = text ≡ refusal_line cause
 Refuses cause tooled.Memory = Unit {0}
 Refuses cause other = ⊥
 
-abbrev pub TellsWhy : Why → Tooled → Type 0
-TellsWhy why (tooled.NotAJournal text) = text ≡ not_a_journal why
-TellsWhy why tooled.Memory = Unit {0}
-TellsWhy why other = ⊥
+abbrev pub NamesWhy : Why → Tooled → Type 0
+NamesWhy why (tooled.NotAJournal text) = text ≡ not_a_journal why
+NamesWhy why tooled.Memory = Unit {0}
+NamesWhy why other = ⊥
 
 -- what is made of a disk whose journal was not opened
-abbrev pub TellsError : {D : Type 0} → OpenError D → Tooled → Type 0
-TellsError (refused.NotAJournal why back) t = TellsWhy why t
-TellsError (refused.Disk back) t = t ≡ tooled.Disk
-TellsError (refused.Memory back) t = t ≡ tooled.Memory
+abbrev pub NamesError : {D : Type 0} → OpenError D → Tooled → Type 0
+NamesError (refused.NotAJournal why back) t = NamesWhy why t
+NamesError (refused.Disk back) t = t ≡ tooled.Disk
+NamesError (refused.Memory back) t = t ≡ tooled.Memory
 
 module _ {D : Type 0} (d : Disks D) (tool : Tool) (old new : StateJournal D d) where
   -- what a tool does on an opened journal
@@ -123,7 +123,7 @@ module _ {D : Type 0} (d : Disks D) (tool : Tool) (old new : StateJournal D d) w
   UsesOn tooled.Memory = Unit {0}
 
   abbrev pub WroteOn : Bool → Type 0
-  WroteOn ok = CallsMade d.steps (keeping_calls old.due (place old.log) old.kept (Accepted (state_by tool old.kept))) old.log.disk
+  WroteOn ok = CallsMade d.moves (keeping_calls old.due (place old.log) old.kept (Accepted (state_by tool old.kept))) old.log.disk
       new.log.disk ok
 
   abbrev pub WritesOn : Tooled → Type 0

@@ -1,11 +1,11 @@
 //! The tools for a cluster whose quorum is lost for good. They are used on the journal of a node that does not run.
 #![tactic(auto)]
 
-pub mod error;
-pub mod laws;
-pub mod running;
-pub mod tool;
-pub mod using;
+mod error;
+mod laws;
+mod running;
+mod tool;
+mod using;
 
 pub use error::ToolError;
 pub use running::{ToolEnd, run_tool};

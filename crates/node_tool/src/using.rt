@@ -2,7 +2,7 @@
 ghost use Rattle.std.specs.Prelude.{◌≡◌, ◌≤◌, ◌++◌, false, OnOk};
 ghost use Rattle.cluster_state.specs.States.{IsFit};
 ghost use Rattle.state_journal.specs.Opening.{handed_back};
-ghost use Rattle.node_tool.specs.Uses.{Uses, UsesOn, UsesOpened, WritesOn, LeavesOldOrNew, OnlyUses, Reports, Refuses, TellsError, TellsWhy, IsUnhurt, refusal_line};
+ghost use Rattle.node_tool.specs.Uses.{Uses, UsesOn, UsesOpened, WritesOn, LeavesOldOrNew, OnlyUses, Reports, Refuses, NamesError, NamesWhy, IsUnhurt, refusal_line};
 ghost use Rattle.node_tool.specs.declared.error.ToolError.TheVariants as error;
 
 use crate::{Tool, ToolError};
@@ -40,7 +40,7 @@ fn report_of(alloc: Global, kept: &Kept, records: u64) -> Tooled
 }
 
 fn no_journal(alloc: Global, why: Why) -> Tooled
-    ensures { TellsWhy why result }
+    ensures { NamesWhy why result }
 {
     let mut text = Text::new(alloc);
     match write_not_a_journal(&mut text, why) {
@@ -110,7 +110,7 @@ fn use_opened<D: Disks>(alloc: Global, tool: Tool, journal: StateJournal<D>) -> 
 // Hands a disk back whose journal was not opened, and says why where its files are none.
 fn unopened<D: Disks>(alloc: Global, error: OpenError<D>) -> (D, Tooled)
     ensures back { result.0 ≡ handed_back error }
-    ensures tells { TellsError error result.1 }
+    ensures tells { NamesError error result.1 }
 {
     match error {
         OpenError::NotAJournal(why, disk) => (disk, no_journal(alloc, why)),

@@ -3,7 +3,7 @@ use Rattle.std.specs.Prelude.{◌≡◌, ◌⊎◌, ℕ, Bool, true, false, Opti
 use Rattle.zen_host.specs.HostCalls.{HostCall, Spawns, WaitsFor, Kills, ToldEnd, and_call, IsNumber}
 use Rattle.zen_host.specs.declared.host.HostError.{HostError}
 use Rattle.zen_host.specs.declared.host.HostError.TheVariants as host
-use Rattle.zen_link.specs.Streams.{Appended, AppendedFront}
+use Rattle.zen_link.specs.Streams.{Appended, AppendedPrefix}
 use Rattle.node_trial.specs.declared.node.TrialNode.{TrialNode}
 use Rattle.node_trial.specs.declared.running.TrialEnd.{TrialEnd}
 use Rattle.node_trial.specs.declared.running.TrialEnd.TheVariants as end
@@ -84,12 +84,12 @@ has_waited end.NoMemory = false
 has_waited end.HostFault = false
 
 -- what is written where each child was waited for, and the end of the trial
-abbrev pub Tells : ToldEnds → (was now : Option (List ℕ)) → TrialEnd → Type 0
-Tells ends was now end.Done = Appended was now (text_of ends) × (have_passed ends ≡ true)
-Tells ends was now end.TrialFailed = Appended was now (text_of ends) × (have_passed ends ≡ false)
-Tells ends was now end.WriteFault = AppendedFront was now (text_of ends)
-Tells ends was now end.NoMemory = Appended was now []
-Tells ends was now end.HostFault = ⊥
+abbrev pub WritesEnds : ToldEnds → (was now : Option (List ℕ)) → TrialEnd → Type 0
+WritesEnds ends was now end.Done = Appended was now (text_of ends) × (have_passed ends ≡ true)
+WritesEnds ends was now end.TrialFailed = Appended was now (text_of ends) × (have_passed ends ≡ false)
+WritesEnds ends was now end.WriteFault = AppendedPrefix was now (text_of ends)
+WritesEnds ends was now end.NoMemory = Appended was now []
+WritesEnds ends was now end.HostFault = ⊥
 
 module _ (t : ToldTrial) (was now : Option (List HostCall)) (written written_now : Option (List ℕ)) (e : TrialEnd) where
   -- not every node was started
@@ -116,7 +116,7 @@ module _ (t : ToldTrial) (was now : Option (List HostCall)) (written written_now
     pub starts : Starts t nodes children was begun
     pub ends : ToldEnds
     pub waits : Waits children (ends.a ∷ ends.b ∷ ends.c ∷ []) begun now
-    pub tells : Tells ends written written_now e
+    pub tells : WritesEnds ends written written_now e
 
   -- The whole trial: of the calls told before it and after it, of what was written before it and after it, and of its end.
   abbrev pub Tried : Type 0

@@ -4,7 +4,7 @@ ghost use Rattle.zen_disk.specs.Faults.{Rose};
 ghost use Rattle.zen_host.specs.HostCalls.{Spawns, Notes, IsNumber};
 ghost use Rattle.node_trial.specs.Nodes.{told_trial, words_of};
 ghost use Rattle.node_trial.specs.Ends.{told_ends};
-ghost use Rattle.node_trial.specs.Trials.{IsKilled, AreKilled, Begins, Awaits, Tells, Tried, end_by, has_waited};
+ghost use Rattle.node_trial.specs.Trials.{IsKilled, AreKilled, Begins, Awaits, WritesEnds, Tried, end_by, has_waited};
 
 use crate::ends::{have_passed, write_ends};
 use crate::node::node_words;
@@ -162,8 +162,8 @@ fn wait_for_all<H: Host>(host: &mut H, children: Children<H::Child>) -> Result<T
 }
 
 // Writes how the nodes ended.
-fn tell<S: Sink>(alloc: Global, ends: &TrialEnds, out: &mut S) -> TrialEnd
-    ensures tells { Tells (told_ends ends.now) (S.written out.old) (S.written out.new) result }
+fn report_ends<S: Sink>(alloc: Global, ends: &TrialEnds, out: &mut S) -> TrialEnd
+    ensures tells { WritesEnds (told_ends ends.now) (S.written out.old) (S.written out.new) result }
     ensures write_fault { result ≡ TrialEnd.WriteFault → Rose (S.faults out.old) (S.faults out.new) }
     ensures wrote_later { S.faults out.old ≤ S.faults out.new }
 {
@@ -218,7 +218,7 @@ pub fn run_trial<H: Host>(
         Err(error) => return cut_short(error),
     };
     match wait_for_all(host, children) {
-        Ok(ends) => tell(alloc, &ends, out),
+        Ok(ends) => report_ends(alloc, &ends, out),
         Err(error) => cut_short(error),
     }
 }

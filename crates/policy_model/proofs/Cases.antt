@@ -15,7 +15,7 @@ use Rattle.master_tasks.specs.declared.waiting.Waiting.{Waiting}
 use Rattle.master_tasks.specs.Queue.{no_tasks}
 use Rattle.pre_vote.specs.Rounds.{started}
 use Rattle.policy_model.specs.declared.settings.Settings.{Settings}
-use Rattle.policy_model.specs.Events.{Candidate, Leader, Follower, Checks, Lag, Item, Turns, Drops, Sends, Replies, Notes, Met, Heard, RoundAnswered, RoundEnded, Joined, FollowersChecked, LeaderChecked, ExclusionsTimedOut, CommitAcked, ExclusionsAcked, HandedOver}
+use Rattle.policy_model.specs.Events.{Candidate, Leader, Follower, Checks, Lag, Item, ChangesMode, Drops, Sends, Replies, Notes, Met, Heard, RoundAnswered, RoundEnded, Joined, FollowersChecked, LeaderChecked, ExclusionsTimedOut, CommitAcked, ExclusionsAcked, HandedOver}
 use Rattle.policy_model.specs.Parts.{no_peers, no_followers, published_at}
 use Rattle.policy_model.specs.Views.{View}
 use Rattle.policy_model.specs.Moves.{moved}
@@ -161,7 +161,7 @@ module _ (v : View) where
     leader_check = Some (record { leader = b; check = record (unchecked 4000) { failures = failures } });
   }
 
-  leader_is_lost : checks_leader three (following 3) b (following 3).leader_check ≡ Notes LeaderChecked ∷ Turns Candidate v.node.term ∷ []
+  leader_is_lost : checks_leader three (following 3) b (following 3).leader_check ≡ Notes LeaderChecked ∷ ChangesMode Candidate v.node.term ∷ []
   leader_is_lost = refl
 
   leader_is_asked : checks_leader three (following 2) b (following 2).leader_check ≡ Notes LeaderChecked ∷ to b (message.LeaderCheck v.node.term) ∷ []

@@ -4,11 +4,11 @@ use Rattle.std.proofs.lemmas.Bool.{or_parts}
 use Rattle.std.specs.Option.{option_map}
 use Rattle.world_model.specs.declared.acts.Outcome.{Outcome}
 use Rattle.policy_model.specs.declared.settings.Settings.{Settings}
-use Rattle.policy_model.specs.Events.{Event, Begins, Item, Opens, Acts, Turns, Drops, Sends, Replies, Notes, And}
+use Rattle.policy_model.specs.Events.{Event, Begins, Item, Opens, Acts, ChangesMode, Drops, Sends, Replies, Notes, And}
 use Rattle.policy_model.specs.Entries.{Did, Life, NotBegun, Opened, Lived, log_of}
 use Rattle.policy_model.specs.Views.{view_of}
 use Rattle.policy_model.specs.Follows.{Follows, items_of, is_fault, has_fault, without_output, IsStruck, Here, Later, IsNext}
-use Rattle.policy_model.specs.Told.{Fault, one_later, fault_in, Told, NothingTold, Found, Came, Passed, told_of}
+use Rattle.policy_model.specs.Witnessed.{Fault, one_later, fault_in, Witnessed, NothingWitnessed, Found, Came, Passed, witnessed_of}
 use Rattle.policy_model.proofs.Faults.{next-fault}
 
 -- what stays of some items where a fault struck the act after so many
@@ -45,7 +45,7 @@ later (Acts act o) rest left h more =
     struck out = record { acts_before = 0; outcome = out }
 later (Opens found) rest left h more = let m : IsLeft rest left = more h in record { fault = m.fault; found = m.found; left_is = ap (λ (t : List Item). Opens found ∷ t) m.left_is }
 later (Begins event) rest left h more = let m : IsLeft rest left = more h in record { fault = m.fault; found = m.found; left_is = ap (λ (t : List Item). Begins event ∷ t) m.left_is }
-later (Turns mode term) rest left h more = let m : IsLeft rest left = more h in record { fault = m.fault; found = m.found; left_is = ap (λ (t : List Item). Turns mode term ∷ t) m.left_is }
+later (ChangesMode mode term) rest left h more = let m : IsLeft rest left = more h in record { fault = m.fault; found = m.found; left_is = ap (λ (t : List Item). ChangesMode mode term ∷ t) m.left_is }
 later (Drops member cause) rest left h more = let m : IsLeft rest left = more h in record { fault = m.fault; found = m.found; left_is = ap (λ (t : List Item). Drops member cause ∷ t) m.left_is }
 later (Notes note) rest left h more = let m : IsLeft rest left = more h in record { fault = m.fault; found = m.found; left_is = ap (λ (t : List Item). Notes note ∷ t) m.left_is }
 later (Sends frame) rest left h more = let m : IsLeft rest left = more h in record { fault = m.fault; found = m.found; left_is = m.left_is }
@@ -81,21 +81,21 @@ items-determined s life event items next = by_way next.does
     by_way (inl e) = e ∙ ap (λ (f : Option Fault). left_by whole f) (sym (ap (λ (is : List Item). fault_in is) e ∙ no-fault whole sound))
     by_way (inr d) = let m : IsLeft whole items = struck-left whole items d sound in m.left_is ∙ ap (λ (f : Option Fault). left_by whole f) (sym m.found)
 
-abbrev made : Settings → Told → Life
-made s NothingTold = NotBegun
+abbrev made : Settings → Witnessed → Life
+made s NothingWitnessed = NotBegun
 made s (Found t found) = Opened (made s t) found
 made s (Came t event fault) = Lived (made s t) (Did event (left_by (items_of s (log_of (made s t)) event) fault))
 made s (Passed t entry) = Lived (made s t) entry
 
-is-made : (s : Settings) (life : Life) → Follows s life → life ≡ made s (told_of life)
+is-made : (s : Settings) (life : Life) → Follows s life → life ≡ made s (witnessed_of life)
 is-made s NotBegun f = refl
 is-made s (Opened life found) f = ap (λ (l : Life). Opened l found) (is-made s life f.0)
 is-made s (Lived life (Did event items)) f =
-    let before : life ≡ made s (told_of life) = is-made s life f.0 in
+    let before : life ≡ made s (witnessed_of life) = is-made s life f.0 in
     ap (λ (l : Life). Lived l (Did event items)) before
-    ∙ ap (λ (is : List Item). Lived (made s (told_of life)) (Did event is))
+    ∙ ap (λ (is : List Item). Lived (made s (witnessed_of life)) (Did event is))
     (items-determined s life event items f.1 ∙ ap (λ (l : Life). left_by (items_of s (log_of l) event) (fault_in items)) before)
 is-made s (Lived life entry) f = ap (λ (l : Life). Lived l entry) (is-made s life f.0)
 
-pub determined : (s : Settings) (life other : Life) → Follows s life → Follows s other → told_of life ≡ told_of other → life ≡ other
-determined s life other f g same = is-made s life f ∙ ap (λ (t : Told). made s t) same ∙ sym (is-made s other g)
+pub determined : (s : Settings) (life other : Life) → Follows s life → Follows s other → witnessed_of life ≡ witnessed_of other → life ≡ other
+determined s life other f g same = is-made s life f ∙ ap (λ (t : Witnessed). made s t) same ∙ sym (is-made s other g)

@@ -19,7 +19,7 @@ use Rattle.world_model.specs.declared.acts.Act.TheVariants.{Bootstrap}
 use Rattle.world_model.specs.declared.acts.ActReply.TheVariants.{Taken}
 use Rattle.world_model.specs.declared.acts.Outcome.TheVariants.{Answered}
 use Rattle.policy_model.specs.declared.settings.Settings.{Settings}
-use Rattle.policy_model.specs.Events.{Candidate, Leader, Follower, Event, Start, Tick, FrameCame, Item, Acts, Turns, Sends, Replies, Notes, Met, PeersAsked, ElectionSet, RoundBegun, RoundEnded, CommitAcked, HandedOver, Begins, Log, NoItems, And, added}
+use Rattle.policy_model.specs.Events.{Candidate, Leader, Follower, Event, Start, Tick, FrameCame, Item, Acts, ChangesMode, Sends, Replies, Notes, Met, PeersAsked, ElectionSet, RoundBegun, RoundEnded, CommitAcked, HandedOver, Begins, Log, NoItems, And, added}
 use Rattle.policy_model.specs.Entries.{frames_of}
 use Rattle.policy_model.specs.LookBacks.{mode_of, applied_of}
 use Rattle.policy_model.specs.Parts.{published_at}
@@ -133,16 +133,16 @@ module _ (s : Settings) (v : View) where
   -- 30 seconds after its start a publication has failed, and nothing else is done at this tick
   publication_times_out : (id : StateId) (targets : List Id)
       → ticks_leader s (record v { mode = Leader; moment = 30008; publication = Some (published_at id targets 8); tasks = no_tasks })
-      ≡ Turns Candidate v.node.term ∷ []
+      ≡ ChangesMode Candidate v.node.term ∷ []
   publication_times_out id targets = refl
 
   -- a leader that follows another node becomes a candidate first
-  leader_turns_twice : becomes_follower s (record v { mode = Leader; tasks = no_tasks }) b ≡ Turns Candidate v.node.term ∷ Turns (Follower b) v.node.term ∷ []
+  leader_turns_twice : becomes_follower s (record v { mode = Leader; tasks = no_tasks }) b ≡ ChangesMode Candidate v.node.term ∷ ChangesMode (Follower b) v.node.term ∷ []
   leader_turns_twice = refl
 
   -- the requests of a leader fail with the term in which it led
   requests_fail : (w : Waiting) → becomes_candidate s (record v { mode = Leader; leader_term = 3; tasks = record no_tasks { waiting = w ∷ [] } })
-      ≡ Replies (record { conn = w.conn; reply = reply.To w.request.id (answer.FailedToCommit 3) }) ∷ Turns Candidate v.node.term ∷ []
+      ≡ Replies (record { conn = w.conn; reply = reply.To w.request.id (answer.FailedToCommit 3) }) ∷ ChangesMode Candidate v.node.term ∷ []
   requests_fail w = refl
 
   -- the first commit acknowledges what the state has

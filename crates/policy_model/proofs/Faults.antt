@@ -2,7 +2,7 @@
 use Rattle.std.proofs.Common.{◌≡◌, true, false, List, [], ◌∷◌, refl, ◌∙◌}
 use Rattle.std.specs.List.{flat_map}
 use Rattle.policy_model.specs.declared.settings.Settings.{Settings}
-use Rattle.policy_model.specs.Events.{Event, Item, Opens, Begins, Acts, Turns, Drops, Sends, Replies, Notes}
+use Rattle.policy_model.specs.Events.{Event, Item, Opens, Begins, Acts, ChangesMode, Drops, Sends, Replies, Notes}
 use Rattle.policy_model.specs.Entries.{frames_in, replies_of}
 use Rattle.policy_model.specs.Views.{View}
 use Rattle.policy_model.specs.Local.{IsAnswered, Ended, ByAct, ByQuiet, is_quiet}
@@ -14,7 +14,7 @@ quiet-fault : (i : Item) (is : List Item) → is_quiet i ≡ true → has_fault 
 quiet-fault (Opens found) is h = refl
 quiet-fault (Begins event) is h = refl
 quiet-fault (Acts act o) is h = absurd (cc)
-quiet-fault (Turns mode term) is h = refl
+quiet-fault (ChangesMode mode term) is h = refl
 quiet-fault (Drops member cause) is h = refl
 quiet-fault (Sends frame) is h = refl
 quiet-fault (Replies answer) is h = refl
@@ -33,7 +33,7 @@ struck-frames is left (Here act sends wins rest fault w f) = refl
 struck-frames is left (Later (Opens found) rest some q) = struck-frames rest some q
 struck-frames is left (Later (Begins event) rest some q) = struck-frames rest some q
 struck-frames is left (Later (Acts act o) rest some q) = struck-frames rest some q
-struck-frames is left (Later (Turns mode term) rest some q) = struck-frames rest some q
+struck-frames is left (Later (ChangesMode mode term) rest some q) = struck-frames rest some q
 struck-frames is left (Later (Drops member cause) rest some q) = struck-frames rest some q
 struck-frames is left (Later (Sends frame) rest some q) = struck-frames rest some q
 struck-frames is left (Later (Replies answer) rest some q) = struck-frames rest some q
@@ -44,7 +44,7 @@ struck-replies is left (Here act sends wins rest fault w f) = refl
 struck-replies is left (Later (Opens found) rest some q) = struck-replies rest some q
 struck-replies is left (Later (Begins event) rest some q) = struck-replies rest some q
 struck-replies is left (Later (Acts act o) rest some q) = struck-replies rest some q
-struck-replies is left (Later (Turns mode term) rest some q) = struck-replies rest some q
+struck-replies is left (Later (ChangesMode mode term) rest some q) = struck-replies rest some q
 struck-replies is left (Later (Drops member cause) rest some q) = struck-replies rest some q
 struck-replies is left (Later (Sends frame) rest some q) = struck-replies rest some q
 struck-replies is left (Later (Replies answer) rest some q) = struck-replies rest some q

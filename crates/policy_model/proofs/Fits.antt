@@ -58,7 +58,7 @@ use Rattle.world_model.specs.Acts.{is_effective}
 use Rattle.world_model.specs.NodeState.{NodeState}
 use Rattle.world_model.specs.Replies.{reply_at, is_taken, after_check, start_checked, start_reply, value_reply, publish_reply}
 use Rattle.policy_model.specs.declared.settings.Settings.{Settings}
-use Rattle.policy_model.specs.Events.{Mode, Candidate, Leader, Follower, Event, Start, Tick, FrameCame, LineCame, DropCause, Note, Met, Heard, PeersAsked, ElectionOff, ElectionSet, RoundBegun, RoundAnswered, RoundEnded, Joined, FollowersChecked, FollowerAnswered, LeaderChecked, LeaderAnswered, Queued, ExclusionsTimedOut, CommitAcked, ExclusionsAcked, StateMade, HandedOver, Item, Opens, Begins, Acts, Turns, Drops, Sends, Replies, Notes}
+use Rattle.policy_model.specs.Events.{Mode, Candidate, Leader, Follower, Event, Start, Tick, FrameCame, LineCame, DropCause, Note, Met, Heard, PeersAsked, ElectionOff, ElectionSet, RoundBegun, RoundAnswered, RoundEnded, Joined, FollowersChecked, FollowerAnswered, LeaderChecked, LeaderAnswered, Queued, ExclusionsTimedOut, CommitAcked, ExclusionsAcked, StateMade, HandedOver, Item, Opens, Begins, Acts, ChangesMode, Drops, Sends, Replies, Notes}
 use Rattle.policy_model.specs.Entries.{frames_in, put_frame, by_receiver}
 use Rattle.policy_model.specs.Parts.{as_master, all_to_be_added, round_answered, published_id}
 use Rattle.policy_model.specs.Views.{View}
@@ -84,7 +84,7 @@ FitNote (Queued conn request) = bad_setting_of request.ask ≡ None
 FitNote n = Unit {0}
 
 abbrev FitItem : Item → Type 0
-FitItem (Turns mode term) = Unit {0}
+FitItem (ChangesMode mode term) = Unit {0}
 FitItem (Drops member cause) = Unit {0}
 FitItem (Sends frame) = IsFitFrame frame
 FitItem (Replies answer) = Unit {0}
@@ -152,9 +152,9 @@ module _ (s : Settings) where
   note-fits v HandedOver f e = f
 
   item-fits : (v : View) (i : Item) → IsFitView v → FitItem i → IsFitView (moved s v i)
-  item-fits v (Turns Candidate term) f e = record { term = f.term; accepted = f.accepted; older = f.older; settings = f.settings; applied_id = f.applied_id; terms = tt; good = tt }
-  item-fits v (Turns Leader term) f e = f
-  item-fits v (Turns (Follower leader) term) f e = f
+  item-fits v (ChangesMode Candidate term) f e = record { term = f.term; accepted = f.accepted; older = f.older; settings = f.settings; applied_id = f.applied_id; terms = tt; good = tt }
+  item-fits v (ChangesMode Leader term) f e = f
+  item-fits v (ChangesMode (Follower leader) term) f e = f
   item-fits v (Drops member cause) f e = f
   item-fits v (Sends frame) f e = f
   item-fits v (Replies answer) f e = f
@@ -320,7 +320,7 @@ module _ (s : Settings) where
 
   sent-item : (i : Item) → FitItem i → SentFit i
   sent-item (Sends frame) e = e
-  sent-item (Turns mode term) e = tt
+  sent-item (ChangesMode mode term) e = tt
   sent-item (Drops member cause) e = tt
   sent-item (Replies answer) e = tt
   sent-item (Notes note) e = tt
@@ -641,7 +641,7 @@ module _ (s : Settings) where
   frames-fit (Opens found ∷ is) h = frames-fit is h.1
   frames-fit (Begins event ∷ is) h = frames-fit is h.1
   frames-fit (Acts act o ∷ is) h = frames-fit is h.1
-  frames-fit (Turns mode term ∷ is) h = frames-fit is h.1
+  frames-fit (ChangesMode mode term ∷ is) h = frames-fit is h.1
   frames-fit (Drops member cause ∷ is) h = frames-fit is h.1
   frames-fit (Replies answer ∷ is) h = frames-fit is h.1
   frames-fit (Notes note ∷ is) h = frames-fit is h.1

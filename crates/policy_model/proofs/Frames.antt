@@ -53,7 +53,7 @@ use Rattle.world_model.specs.declared.acts.Act.{Act}
 use Rattle.world_model.specs.declared.acts.Act.TheVariants.{Bootstrap, StartJoin, TakeJoin, Value, Publish, Response, Commit, Open}
 use Rattle.voting_config.proofs.Sets.{same_self, length-with_id-le, length-set_of}
 use Rattle.policy_model.specs.declared.settings.Settings.{Settings}
-use Rattle.policy_model.specs.Events.{Mode, Candidate, Leader, Follower, Event, Start, Tick, FrameCame, LineCame, DropCause, Checks, Lag, Note, Met, Heard, PeersAsked, ElectionOff, ElectionSet, RoundBegun, RoundAnswered, RoundEnded, Joined, FollowersChecked, FollowerAnswered, LeaderChecked, LeaderAnswered, Queued, ExclusionsTimedOut, CommitAcked, ExclusionsAcked, StateMade, HandedOver, Item, Opens, Begins, Acts, Turns, Drops, Sends, Replies, Notes}
+use Rattle.policy_model.specs.Events.{Mode, Candidate, Leader, Follower, Event, Start, Tick, FrameCame, LineCame, DropCause, Checks, Lag, Note, Met, Heard, PeersAsked, ElectionOff, ElectionSet, RoundBegun, RoundAnswered, RoundEnded, Joined, FollowersChecked, FollowerAnswered, LeaderChecked, LeaderAnswered, Queued, ExclusionsTimedOut, CommitAcked, ExclusionsAcked, StateMade, HandedOver, Item, Opens, Begins, Acts, ChangesMode, Drops, Sends, Replies, Notes}
 use Rattle.policy_model.specs.Entries.{frames_in, put_frame, by_receiver}
 use Rattle.policy_model.specs.Parts.{as_master, met, published_at, responded, after_response, finished, watched, state_finished}
 use Rattle.policy_model.specs.Views.{View}
@@ -245,7 +245,7 @@ one-silent : (i : Item) (is : List Item) → silent i ≡ true → length (flat_
 one-silent (Opens found) is e = refl
 one-silent (Begins event) is e = refl
 one-silent (Acts act o) is e = refl
-one-silent (Turns mode term) is e = refl
+one-silent (ChangesMode mode term) is e = refl
 one-silent (Drops member cause) is e = refl
 one-silent (Sends frame) is e = cc
 one-silent (Replies answer) is e = refl
@@ -255,7 +255,7 @@ mild-silent : (i : Item) → silent i ≡ true → is_mild i ≡ true
 mild-silent (Opens found) e = e
 mild-silent (Begins event) e = e
 mild-silent (Acts act o) e = e
-mild-silent (Turns mode term) e = e
+mild-silent (ChangesMode mode term) e = e
 mild-silent (Drops member cause) e = e
 mild-silent (Sends frame) e = refl
 mild-silent (Replies answer) e = e
@@ -286,9 +286,9 @@ module _ (s : Settings) where
   note-small v HandedOver f = f
 
   item-small : (v : View) (i : Item) → is_mild i ≡ true → IsSmallView v → IsSmallView (moved s v i)
-  item-small v (Turns Candidate term) e f = record { members = f.members; peers = rw (length-map v.finder.peers _) f.peers; watched = omega arith; targets = omega arith; responders = omega arith }
-  item-small v (Turns Leader term) e f = f
-  item-small v (Turns (Follower leader) term) e f = f
+  item-small v (ChangesMode Candidate term) e f = record { members = f.members; peers = rw (length-map v.finder.peers _) f.peers; watched = omega arith; targets = omega arith; responders = omega arith }
+  item-small v (ChangesMode Leader term) e f = f
+  item-small v (ChangesMode (Follower leader) term) e f = f
   item-small v (Drops member cause) e f = f
   item-small v (Sends frame) e f = f
   item-small v (Replies answer) e f = f

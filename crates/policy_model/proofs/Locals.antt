@@ -10,11 +10,11 @@ use Rattle.world_model.specs.declared.acts.Outcome.TheVariants.{Answered, Disk, 
 use Rattle.world_model.specs.Acts.{Then, is_ok}
 use Rattle.world_model.specs.NodeState.{NodeState}
 use Rattle.world_model.specs.Replies.{reply_at, is_taken, writes, IsOutcomeAt}
-use Rattle.world_model.specs.Steps.{is_opening}
+use Rattle.world_model.specs.Moves.{is_opening}
 use Rattle.world_model.specs.Histories.{IsLocal, is_down}
 use Rattle.world_model.proofs.Assemble.{goes_on_always}
 use Rattle.policy_model.specs.declared.settings.Settings.{Settings}
-use Rattle.policy_model.specs.Events.{Event, Item, Log, Opens, Begins, Acts, Turns, Drops, Sends, Replies, Notes, And, added, acts_of}
+use Rattle.policy_model.specs.Events.{Event, Item, Log, Opens, Begins, Acts, ChangesMode, Drops, Sends, Replies, Notes, And, added, acts_of}
 use Rattle.policy_model.specs.Entries.{Life, NotBegun, Opened, Lived, Did, Gone, Bad, NoMemory, Unread, log_of}
 use Rattle.policy_model.specs.Views.{View, view_of}
 use Rattle.policy_model.specs.Moves.{moved, view_of-And}
@@ -29,7 +29,7 @@ AreAnswered s v (Opens found ∷ is) = ⊥
 AreAnswered s v (Begins event ∷ is) = ⊥
 AreAnswered s v (Acts act o ∷ is) =
     (o ≡ Answered (reply_at s.me v.node act)) × (is_opening act ≡ false) × AreAnswered s (moved s v (Acts act o)) is
-AreAnswered s v (Turns mode term ∷ is) = AreAnswered s (moved s v (Turns mode term)) is
+AreAnswered s v (ChangesMode mode term ∷ is) = AreAnswered s (moved s v (ChangesMode mode term)) is
 AreAnswered s v (Drops member cause ∷ is) = AreAnswered s (moved s v (Drops member cause)) is
 AreAnswered s v (Sends frame ∷ is) = AreAnswered s v is
 AreAnswered s v (Replies answer ∷ is) = AreAnswered s v is
@@ -39,7 +39,7 @@ quietly : (s : Settings) (v : View) (i : Item) (is : List Item) → is_quiet i �
 quietly s v (Opens found) is e a = cc
 quietly s v (Begins event) is e a = cc
 quietly s v (Acts act o) is e a = cc
-quietly s v (Turns mode term) is e a = a
+quietly s v (ChangesMode mode term) is e a = a
 quietly s v (Drops member cause) is e a = a
 quietly s v (Sends frame) is e a = a
 quietly s v (Replies answer) is e a = a
@@ -69,8 +69,8 @@ fine_after s l v (Acts act o ∷ is) h a f =
     let follows : IsOutcomeAt s.me (view_of s l).node act o = subst (λ (x : Outcome). IsOutcomeAt s.me (view_of s l).node act x) (sym a.0) (ap (λ (u : View). reply_at s.me u.node act) h) in
     fine_after s (And l (Acts act o)) (moved s v (Acts act o)) is (ap (λ (u : View). moved s u (Acts act o)) h ∙ sym (view_of-And s l (Acts act o) own)) a.2
     (record { local = acted_local s l act o f a.1 follows; up = subst (λ (x : Outcome). is_down (Then (acts_of l) act x) ≡ false) (sym a.0) refl })
-fine_after s l v (Turns mode term ∷ is) h a f =
-    fine_after s (And l (Turns mode term)) (moved s v (Turns mode term)) is (ap (λ (u : View). moved s u (Turns mode term)) h ∙ sym (view_of-And s l (Turns mode term) refl)) a
+fine_after s l v (ChangesMode mode term ∷ is) h a f =
+    fine_after s (And l (ChangesMode mode term)) (moved s v (ChangesMode mode term)) is (ap (λ (u : View). moved s u (ChangesMode mode term)) h ∙ sym (view_of-And s l (ChangesMode mode term) refl)) a
     (record { local = f.local; up = f.up })
 fine_after s l v (Drops member cause ∷ is) h a f =
     fine_after s (And l (Drops member cause)) (moved s v (Drops member cause)) is (ap (λ (u : View). moved s u (Drops member cause)) h ∙ sym (view_of-And s l (Drops member cause) refl)) a
@@ -105,8 +105,8 @@ struck_local s l v is left h a (Later (Acts act o) rest left' q) f =
     let follows : IsOutcomeAt s.me (view_of s l).node act o = subst (λ (x : Outcome). IsOutcomeAt s.me (view_of s l).node act x) (sym a.0) (ap (λ (u : View). reply_at s.me u.node act) h) in
     struck_local s (And l (Acts act o)) (moved s v (Acts act o)) rest left' (ap (λ (u : View). moved s u (Acts act o)) h ∙ sym (view_of-And s l (Acts act o) own)) a.2 q
     (record { local = acted_local s l act o f a.1 follows; up = subst (λ (x : Outcome). is_down (Then (acts_of l) act x) ≡ false) (sym a.0) refl })
-struck_local s l v is left h a (Later (Turns mode term) rest left' q) f =
-    struck_local s (And l (Turns mode term)) (moved s v (Turns mode term)) rest left' (ap (λ (u : View). moved s u (Turns mode term)) h ∙ sym (view_of-And s l (Turns mode term) refl)) a q
+struck_local s l v is left h a (Later (ChangesMode mode term) rest left' q) f =
+    struck_local s (And l (ChangesMode mode term)) (moved s v (ChangesMode mode term)) rest left' (ap (λ (u : View). moved s u (ChangesMode mode term)) h ∙ sym (view_of-And s l (ChangesMode mode term) refl)) a q
     (record { local = f.local; up = f.up })
 struck_local s l v is left h a (Later (Drops member cause) rest left' q) f =
     struck_local s (And l (Drops member cause)) (moved s v (Drops member cause)) rest left' (ap (λ (u : View). moved s u (Drops member cause)) h ∙ sym (view_of-And s l (Drops member cause) refl)) a q
@@ -121,7 +121,7 @@ pub fault_later : (i : Item) (left : List Item) → has_fault left ≡ true → 
 fault_later (Opens found) left h = h
 fault_later (Begins event) left h = h
 fault_later (Acts act o) left h = rw h (or-true (is_fault o))
-fault_later (Turns mode term) left h = h
+fault_later (ChangesMode mode term) left h = h
 fault_later (Drops member cause) left h = h
 fault_later (Sends frame) left h = h
 fault_later (Replies answer) left h = h

@@ -15,7 +15,7 @@ use Rattle.fault_checks.specs.Leaders as leaders
 use Rattle.world_model.specs.declared.acts.Act.TheVariants.{Value, Response, Commit}
 use Rattle.world_model.specs.Acts.{is_ok}
 use Rattle.policy_model.specs.declared.settings.Settings.{Settings}
-use Rattle.policy_model.specs.Events.{Candidate, Leader, Follower, Log, NoItems, And, Opens, Acts, Turns, Notes, Met, Heard, PeersAsked, RoundBegun, RoundAnswered, RoundEnded, FollowersChecked, FollowerAnswered, LeaderChecked, LeaderAnswered}
+use Rattle.policy_model.specs.Events.{Candidate, Leader, Follower, Log, NoItems, And, Opens, Acts, ChangesMode, Notes, Met, Heard, PeersAsked, RoundBegun, RoundAnswered, RoundEnded, FollowersChecked, FollowerAnswered, LeaderChecked, LeaderAnswered}
 use Rattle.policy_model.specs.Parts.{met, round_answered, responded, finished, state_finished, leader_ticked, leader_answered}
 use Rattle.policy_model.specs.LookBacks.{node_of, moment_of, sends_one, finder_of, round_of, publication_of, followers_of, leader_check_of}
 use Rattle.policy_model.specs.PartCalls.{with_added, finder_calls, round_calls, with_response, publication_calls, is_open, follower_calls, leader_calls}
@@ -35,7 +35,7 @@ finder_looks_back s (And l (Opens found)) = refl
 finder_looks_back s (And l (Notes (Met ids))) = met-all (finder_of s l) (finder_calls s l) ids (finder_looks_back s l)
 finder_looks_back s (And l (Notes (Heard peer master))) = told (finder_of s l) (finder_calls s l) (finder.Answered peer master) (finder_looks_back s l)
 finder_looks_back s (And l (Notes PeersAsked)) = told (finder_of s l) (finder_calls s l) (finder.Asked (moment_of l)) (finder_looks_back s l)
-finder_looks_back s (And l (Turns Candidate term)) = told (finder_of s l) (finder_calls s l) (finder.AnswersForgotten (moment_of l)) (finder_looks_back s l)
+finder_looks_back s (And l (ChangesMode Candidate term)) = told (finder_of s l) (finder_calls s l) (finder.AnswersForgotten (moment_of l)) (finder_looks_back s l)
 finder_looks_back s (And l i) = finder_looks_back s l
 
 -- The round of pre-votes.
@@ -51,7 +51,7 @@ round_looks_back s (And l (Notes (RoundBegun word))) = refl
 round_looks_back s (And l (Notes (RoundAnswered source term last))) =
     ap (λ (r : Option Round). round_answered r source term last) (round_looks_back s l) ∙ answered-one (round_calls s l) source term last
 round_looks_back s (And l (Notes RoundEnded)) = refl
-round_looks_back s (And l (Turns Candidate term)) = refl
+round_looks_back s (And l (ChangesMode Candidate term)) = refl
 round_looks_back s (And l i) = round_looks_back s l
 
 -- The publication.
@@ -82,7 +82,7 @@ publication_looks_back (And l (Acts (Commit commit) o)) =
     by-choice (is_ok o) _ _ _ _
     (ap (λ (p : Option publication.Publication). finished p) (publication_looks_back l) ∙ finished-one (publication_calls l))
     (publication_looks_back l)
-publication_looks_back (And l (Turns Candidate term)) = refl
+publication_looks_back (And l (ChangesMode Candidate term)) = refl
 publication_looks_back (And l i) = publication_looks_back l
 
 -- The followers.
@@ -117,7 +117,7 @@ followers_look_back s (And l (Acts (Commit commit) o)) =
 followers_look_back s (And l (Notes FollowersChecked)) = follower-told (followers_of s l) (follower_calls s l) (followers.Ticked (moment_of l)) (followers_look_back s l)
 followers_look_back s (And l (Notes (FollowerAnswered from good applied))) =
     follower-told (followers_of s l) (follower_calls s l) (followers.Answered from good applied (moment_of l)) (followers_look_back s l)
-followers_look_back s (And l (Turns Candidate term)) = refl
+followers_look_back s (And l (ChangesMode Candidate term)) = refl
 followers_look_back s (And l i) = followers_look_back s l
 
 -- The leader.
@@ -133,9 +133,9 @@ leader-answered-one (Some calls) good now = refl
 pub leader_check_looks_back : (l : Log) → leader_check_of l ≡ option_map leaders.leader_check_of (leader_calls l)
 leader_check_looks_back NoItems = refl
 leader_check_looks_back (And l (Opens found)) = refl
-leader_check_looks_back (And l (Turns Candidate term)) = refl
-leader_check_looks_back (And l (Turns Leader term)) = refl
-leader_check_looks_back (And l (Turns (Follower leader) term)) = refl
+leader_check_looks_back (And l (ChangesMode Candidate term)) = refl
+leader_check_looks_back (And l (ChangesMode Leader term)) = refl
+leader_check_looks_back (And l (ChangesMode (Follower leader) term)) = refl
 leader_check_looks_back (And l (Notes LeaderChecked)) =
     ap (λ (c : Option leaders.LeaderCheck). leader_ticked c (moment_of l)) (leader_check_looks_back l) ∙ ticked-one (leader_calls l) (moment_of l)
 leader_check_looks_back (And l (Notes (LeaderAnswered good))) =

@@ -7,7 +7,7 @@ use Rattle.master_tasks.specs.declared.waiting.Waiting.{Waiting}
 use Rattle.master_tasks.specs.declared.waiting.Outgoing.{Outgoing}
 use Rattle.master_tasks.specs.Queue.{arriving}
 use Rattle.policy_model.specs.declared.settings.Settings.{Settings}
-use Rattle.policy_model.specs.Events.{Mode, Candidate, Leader, Follower, Event, Start, Tick, FrameCame, LineCame, Begins, Note, Met, Heard, PeersAsked, ElectionOff, ElectionSet, RoundBegun, RoundAnswered, RoundEnded, Joined, FollowersChecked, FollowerAnswered, LeaderChecked, LeaderAnswered, Queued, ExclusionsTimedOut, CommitAcked, ExclusionsAcked, StateMade, HandedOver, Item, Opens, Acts, Turns, Drops, Sends, Replies, Notes, Log, And, added}
+use Rattle.policy_model.specs.Events.{Mode, Candidate, Leader, Follower, Event, Start, Tick, FrameCame, LineCame, Begins, Note, Met, Heard, PeersAsked, ElectionOff, ElectionSet, RoundBegun, RoundAnswered, RoundEnded, Joined, FollowersChecked, FollowerAnswered, LeaderChecked, LeaderAnswered, Queued, ExclusionsTimedOut, CommitAcked, ExclusionsAcked, StateMade, HandedOver, Item, Opens, Acts, ChangesMode, Drops, Sends, Replies, Notes, Log, And, added}
 use Rattle.policy_model.specs.Entries.{Did, Life, NotBegun, Opened, Lived, log_of}
 use Rattle.policy_model.specs.LookBacks.{mode_of, moment_of, tasks_of}
 use Rattle.policy_model.specs.Views.{View, view_of}
@@ -41,9 +41,9 @@ aside-same : (s : Settings) (l : Log) (i : Item) → is_aside i ≡ true → IsS
 aside-same s l (Opens found) h = absurd (cc)
 aside-same s l (Begins event) h = record { own = refl; queued = refl; waiting = refl; replied = refl }
 aside-same s l (Acts act o) h = record { own = h; queued = refl; waiting = refl; replied = refl }
-aside-same s l (Turns Candidate term) h = absurd (cc)
-aside-same s l (Turns Leader term) h = record { own = refl; queued = refl; waiting = refl; replied = refl }
-aside-same s l (Turns (Follower leader) term) h = absurd (cc)
+aside-same s l (ChangesMode Candidate term) h = absurd (cc)
+aside-same s l (ChangesMode Leader term) h = record { own = refl; queued = refl; waiting = refl; replied = refl }
+aside-same s l (ChangesMode (Follower leader) term) h = absurd (cc)
 aside-same s l (Drops member cause) h = record { own = refl; queued = refl; waiting = refl; replied = refl }
 aside-same s l (Sends frame) h = record { own = refl; queued = refl; waiting = refl; replied = refl }
 aside-same s l (Replies out) h = record {
@@ -110,9 +110,9 @@ aside-idle s v (Acts (Publish request) o) h idle = idle
 aside-idle s v (Acts (Response response) o) h idle = idle
 aside-idle s v (Acts (Commit commit) o) h idle = idle
 aside-idle s v (Acts (Open found) o) h idle = absurd (cc)
-aside-idle s v (Turns Candidate term) h idle = absurd (cc)
-aside-idle s v (Turns Leader term) h idle = λ k. absurd (cc)
-aside-idle s v (Turns (Follower leader) term) h idle = absurd (cc)
+aside-idle s v (ChangesMode Candidate term) h idle = absurd (cc)
+aside-idle s v (ChangesMode Leader term) h idle = λ k. absurd (cc)
+aside-idle s v (ChangesMode (Follower leader) term) h idle = absurd (cc)
 aside-idle s v (Drops member cause) h idle = idle
 aside-idle s v (Sends frame) h idle = idle
 aside-idle s v (Replies out) h idle = idle
@@ -200,14 +200,14 @@ served-stands s l v is (Answers u answers note more k step a) h =
     (stands-behind s l u answers (Notes note) more refl (λ g. note-queued g note k) (λ g. refl) (λ idle. step)
     (λ idle q. among-nothing _ u.tasks.waiting step.queue.in_order (idle (ap (λ (m : Mode). is_leader m) (sym (note-mode s u note)) ∙ q))) h b))
 served-stands s l v is (Fails u answers term more step a) h =
-    let b : AreBehind s l answers (Turns Candidate term ∷ more) = behind s l answers (Turns Candidate term ∷ more) in
+    let b : AreBehind s l answers (ChangesMode Candidate term ∷ more) = behind s l answers (ChangesMode Candidate term ∷ more) in
     subst (λ (g : Log). StandsSomehow s g) (sym b.items)
-    (served-stands s (And b.after (Turns Candidate term)) (moved s u (Turns Candidate term)) more a
-    (stands-behind s l u answers (Turns Candidate term) more refl (λ g. refl) (λ g. refl) step (λ idle q. refl) h b))
+    (served-stands s (And b.after (ChangesMode Candidate term)) (moved s u (ChangesMode Candidate term)) more a
+    (stands-behind s l u answers (ChangesMode Candidate term) more refl (λ g. refl) (λ g. refl) step (λ idle q. refl) h b))
 served-stands s l v is (FollowsNext u leader term more e a) h =
-    served-stands s (And l (Turns (Follower leader) term)) (moved s u (Turns (Follower leader) term)) more a
+    served-stands s (And l (ChangesMode (Follower leader) term)) (moved s u (ChangesMode (Follower leader) term)) more a
     (record {
-      seen = view_of-And s l (Turns (Follower leader) term) refl ∙ ap (λ (w : View). moved s w (Turns (Follower leader) term)) h.seen;
+      seen = view_of-And s l (ChangesMode (Follower leader) term) refl ∙ ap (λ (w : View). moved s w (ChangesMode (Follower leader) term)) h.seen;
       holds = h.holds;
       idle = λ k. h.idle e;
     })

@@ -30,10 +30,10 @@ use Rattle.master_tasks.specs.Answering.{answers_by, committed_in, failed}
 use Rattle.cluster_state.specs.States.{id_of}
 use Rattle.master_tasks.specs.NextState.{next_answers, is_nothing_new}
 use Rattle.world_model.specs.declared.acts.Act.{Act}
-use Rattle.world_model.specs.Steps.{is_opening}
+use Rattle.world_model.specs.Moves.{is_opening}
 use Rattle.world_model.specs.declared.acts.Act.TheVariants.{StartJoin, TakeJoin, Publish, Response, Commit}
 use Rattle.policy_model.specs.declared.settings.Settings.{Settings}
-use Rattle.policy_model.specs.Events.{Mode, Candidate, Leader, Follower, Event, Start, Tick, FrameCame, LineCame, DropCause, Note, Item, Opens, Acts, Turns, Replies, Notes, LeaderChecked, Queued, ExclusionsTimedOut, CommitAcked, ExclusionsAcked, StateMade}
+use Rattle.policy_model.specs.Events.{Mode, Candidate, Leader, Follower, Event, Start, Tick, FrameCame, LineCame, DropCause, Note, Item, Opens, Acts, ChangesMode, Replies, Notes, LeaderChecked, Queued, ExclusionsTimedOut, CommitAcked, ExclusionsAcked, StateMade}
 use Rattle.policy_model.specs.Parts.{as_master, published_id}
 use Rattle.policy_model.specs.Views.{View}
 use Rattle.policy_model.specs.Moves.{moved, moved_all}
@@ -54,8 +54,8 @@ use Rattle.policy_model.proofs.Settled.{IsStep, step-none, failed-step, next-ste
 abbrev pub is_aside : Item → Bool
 is_aside (Opens found) = false
 is_aside (Acts act o) = not (is_opening act)
-is_aside (Turns Candidate term) = false
-is_aside (Turns (Follower leader) term) = false
+is_aside (ChangesMode Candidate term) = false
+is_aside (ChangesMode (Follower leader) term) = false
 is_aside (Replies out) = answers_line out.reply
 is_aside (Notes (Queued conn request)) = false
 is_aside (Notes ExclusionsTimedOut) = false
@@ -91,10 +91,10 @@ pub data IsServed (s : Settings) : View → List Item → Type 0 where
       → IsServed s (moved s v (Notes note)) is → IsServed s v (doing.reply_all s answers ++ (Notes note ∷ is))
   Fails : (v : View) (answers : List Outgoing) (term : ℕ) (is : List Item)
       → (IsIdle v → IsStep v.tasks.waiting [] answers)
-      → IsServed s (moved s v (Turns Candidate term)) is → IsServed s v (doing.reply_all s answers ++ (Turns Candidate term ∷ is))
+      → IsServed s (moved s v (ChangesMode Candidate term)) is → IsServed s v (doing.reply_all s answers ++ (ChangesMode Candidate term ∷ is))
   Follows : (v : View) (leader : Id) (term : ℕ) (is : List Item)
       → doing.is_leader v.mode ≡ false
-      → IsServed s (moved s v (Turns (Follower leader) term)) is → IsServed s v (Turns (Follower leader) term ∷ is)
+      → IsServed s (moved s v (ChangesMode (Follower leader) term)) is → IsServed s v (ChangesMode (Follower leader) term ∷ is)
 
 aside-append : (xs ys : List Item) → AreAside xs → AreAside ys → AreAside (xs ++ ys)
 aside-append xs ys Nothing r = r
@@ -132,10 +132,10 @@ module _ (s : Settings) where
       rw (append_assoc (doing.reply_all s answers) (Notes note ∷ is) ys)
       (Answers u answers note (is ++ ys) e k (served-append (moved s u (Notes note)) is ys a c))
   served-append v xs ys (Fails u answers term is k a) b =
-      let c = subst (λ (w : View). IsServed s w ys) (behind-replies u answers (Turns Candidate term) is) b in
-      rw (append_assoc (doing.reply_all s answers) (Turns Candidate term ∷ is) ys)
-      (Fails u answers term (is ++ ys) k (served-append (moved s u (Turns Candidate term)) is ys a c))
-  served-append v xs ys (Follows u leader term is e a) b = Follows u leader term (is ++ ys) e (served-append (moved s u (Turns (Follower leader) term)) is ys a b)
+      let c = subst (λ (w : View). IsServed s w ys) (behind-replies u answers (ChangesMode Candidate term) is) b in
+      rw (append_assoc (doing.reply_all s answers) (ChangesMode Candidate term ∷ is) ys)
+      (Fails u answers term (is ++ ys) k (served-append (moved s u (ChangesMode Candidate term)) is ys a c))
+  served-append v xs ys (Follows u leader term is e a) b = Follows u leader term (is ++ ys) e (served-append (moved s u (ChangesMode (Follower leader) term)) is ys a b)
 
   served-if : (v : View) (b : Bool) (xs ys : List Item) → IsServed s v xs → IsServed s v ys → IsServed s v (if b then xs else ys)
   served-if v true xs ys q r = q
@@ -145,21 +145,21 @@ module _ (s : Settings) where
   served-then v xs rule a b = served-append v xs (rule (moved_all s v xs)) a (b (moved_all s v xs))
 
   -- changes of mode
-  served-fails : (v : View) (b : Bool) → doing.is_leader v.mode ≡ b → IsServed s v ((if b then doing.reply_all s (answers_by (failed v.leader_term) v.tasks.waiting) else []) ++ Turns Candidate v.node.term ∷ [])
+  served-fails : (v : View) (b : Bool) → doing.is_leader v.mode ≡ b → IsServed s v ((if b then doing.reply_all s (answers_by (failed v.leader_term) v.tasks.waiting) else []) ++ ChangesMode Candidate v.node.term ∷ [])
   served-fails v true e = Fails v (answers_by (failed v.leader_term) v.tasks.waiting) v.node.term [] (λ idle. failed-step v.leader_term v.tasks.waiting) (Ended _)
   served-fails v false e = Fails v [] v.node.term [] (λ idle. subst (λ (ws : List Waiting). IsStep ws [] []) (sym (idle e)) (step-none [])) (Ended _)
 
   served-becomes_candidate : (v : View) → IsServed s v (doing.becomes_candidate s v)
   served-becomes_candidate v = served-fails v (doing.is_leader v.mode) refl
 
-  leads-no_more : (v : View) (b : Bool) (answers : List Outgoing) (term : ℕ) → doing.is_leader (moved_all s v ((if b then doing.reply_all s answers else []) ++ Turns Candidate term ∷ [])).mode ≡ false
-  leads-no_more v true answers term = ap (λ (u : View). doing.is_leader u.mode) (behind-replies v answers (Turns Candidate term) [])
+  leads-no_more : (v : View) (b : Bool) (answers : List Outgoing) (term : ℕ) → doing.is_leader (moved_all s v ((if b then doing.reply_all s answers else []) ++ ChangesMode Candidate term ∷ [])).mode ≡ false
+  leads-no_more v true answers term = ap (λ (u : View). doing.is_leader u.mode) (behind-replies v answers (ChangesMode Candidate term) [])
   leads-no_more v false answers term = refl
 
   served-becomes_candidate_once : (v : View) → IsServed s v (doing.becomes_candidate_once s v)
   served-becomes_candidate_once v = served-if v (doing.is_candidate v.mode) _ _ (Ended v) (served-becomes_candidate v)
 
-  served-turns : (v : View) (p : Id) (b : Bool) → doing.is_leader v.mode ≡ b → IsServed s v ((if b then doing.becomes_candidate s v else []) ++ Turns (Follower p) v.node.term ∷ [])
+  served-turns : (v : View) (p : Id) (b : Bool) → doing.is_leader v.mode ≡ b → IsServed s v ((if b then doing.becomes_candidate s v else []) ++ ChangesMode (Follower p) v.node.term ∷ [])
   served-turns v p true e =
       served-append v (doing.becomes_candidate s v) _ (served-becomes_candidate v)
       (Follows _ p v.node.term [] (leads-no_more v (doing.is_leader v.mode) (answers_by (failed v.leader_term) v.tasks.waiting) v.node.term) (Ended _))

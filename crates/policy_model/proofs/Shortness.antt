@@ -1,4 +1,4 @@
--- An event has three acts and six steps at most.
+-- An event has three acts and six deeds at most.
 use Rattle.std.proofs.Common.{◌≡◌, ℕ, ◌+◌, ◌≤◌, Bool, true, false, not, ◌&&◌, Option, None, Some, Result, Ok, Err, List, [], ◌∷◌, ◌++◌, length, refl, arith}
 use Rattle.std.specs.Prelude.{if◌then◌else◌, is_some, nat_le, nat_lt}
 use Rattle.std.proofs.lemmas.List.{length-append}
@@ -29,8 +29,8 @@ use Rattle.world_model.specs.declared.acts.Act.{Act}
 use Rattle.world_model.specs.declared.acts.Act.TheVariants.{Bootstrap, StartJoin, TakeJoin, Publish, Response, Commit}
 use Rattle.world_model.specs.declared.acts.Outcome.{Outcome}
 use Rattle.policy_model.specs.declared.settings.Settings.{Settings}
-use Rattle.policy_model.specs.Events.{Mode, Candidate, Leader, Follower, Event, Start, Tick, FrameCame, LineCame, DropCause, Met, Heard, Joined, LeaderChecked, Queued, StateMade, Item, Opens, Begins, Acts, Turns, Drops, Sends, Replies, Notes}
-use Rattle.policy_model.specs.Entries.{steps_of}
+use Rattle.policy_model.specs.Events.{Mode, Candidate, Leader, Follower, Event, Start, Tick, FrameCame, LineCame, DropCause, Met, Heard, Joined, LeaderChecked, Queued, StateMade, Item, Opens, Begins, Acts, ChangesMode, Drops, Sends, Replies, Notes}
+use Rattle.policy_model.specs.Entries.{deeds_of}
 use Rattle.policy_model.specs.Parts.{as_master}
 use Rattle.policy_model.specs.Views.{View}
 use Rattle.policy_model.specs.Moves.{moved, moved_all}
@@ -45,13 +45,13 @@ use Rattle.policy_model.specs.Checks as checks
 use Rattle.policy_model.specs.Requests as requests
 use Rattle.policy_model.specs.Rules as rules
 use Rattle.policy_model.specs.Bounds.{count_acts, IsShort}
-use Rattle.policy_model.proofs.Sweeps.{steps-append}
+use Rattle.policy_model.proofs.Sweeps.{deeds-append}
 
 -- ---- items that show no step
 
 abbrev is_silent : Item → Bool
 is_silent (Acts act o) = false
-is_silent (Turns mode term) = false
+is_silent (ChangesMode mode term) = false
 is_silent i = true
 
 data AreSilent : List Item → Type 0 where
@@ -66,11 +66,11 @@ silent-if : (b : Bool) (xs ys : List Item) → AreSilent xs → AreSilent ys →
 silent-if true xs ys q r = q
 silent-if false xs ys q r = r
 
--- ---- how many acts and steps
+-- ---- how many acts and deeds
 
-record AtMost (acts steps : ℕ) (is : List Item) : Type 0 where
+record AtMost (acts deeds : ℕ) (is : List Item) : Type 0 where
   pub of_acts : count_acts is ≤ acts
-  pub of_steps : length (steps_of is) ≤ steps
+  pub of_steps : length (deeds_of is) ≤ deeds
 
 most-none : (a m : ℕ) → AtMost a m []
 most-none a m = record { of_acts = omega arith; of_steps = omega arith }
@@ -81,7 +81,7 @@ most-more a m b n is h k l = record { of_acts = omega (arith, h.of_acts, k); of_
 most-act : (a m : ℕ) (act : Act) (o : Outcome) (is : List Item) → AtMost a m is → AtMost (a + 1) (m + 1) (Acts act o ∷ is)
 most-act a m act o is h = record { of_acts = omega (arith, h.of_acts); of_steps = omega (arith, h.of_steps) }
 
-most-turn : (a m : ℕ) (mode : Mode) (term : ℕ) (is : List Item) → AtMost a m is → AtMost a (m + 1) (Turns mode term ∷ is)
+most-turn : (a m : ℕ) (mode : Mode) (term : ℕ) (is : List Item) → AtMost a m is → AtMost a (m + 1) (ChangesMode mode term ∷ is)
 most-turn a m mode term is h = record { of_acts = h.of_acts; of_steps = omega (arith, h.of_steps) }
 
 most-silent : (a m : ℕ) (i : Item) (is : List Item) → is_silent i ≡ true → AtMost a m is → AtMost a m (i ∷ is)
@@ -92,7 +92,7 @@ most-silent a m (Sends frame) is e h = record { of_acts = h.of_acts; of_steps = 
 most-silent a m (Replies answer) is e h = record { of_acts = h.of_acts; of_steps = h.of_steps }
 most-silent a m (Notes note) is e h = record { of_acts = h.of_acts; of_steps = h.of_steps }
 most-silent a m (Acts act o) is e h = absurd (cc)
-most-silent a m (Turns mode term) is e h = absurd (cc)
+most-silent a m (ChangesMode mode term) is e h = absurd (cc)
 
 most-quiet : (a m : ℕ) (is : List Item) → AreSilent is → AtMost a m is
 most-quiet a m xs Silent = most-none a m
@@ -103,7 +103,7 @@ acts-append [] ys = omega arith
 acts-append (Acts act o ∷ xs) ys = let rest = acts-append xs ys in omega (arith, rest)
 acts-append (Opens found ∷ xs) ys = acts-append xs ys
 acts-append (Begins event ∷ xs) ys = acts-append xs ys
-acts-append (Turns mode term ∷ xs) ys = acts-append xs ys
+acts-append (ChangesMode mode term ∷ xs) ys = acts-append xs ys
 acts-append (Drops member cause ∷ xs) ys = acts-append xs ys
 acts-append (Sends frame ∷ xs) ys = acts-append xs ys
 acts-append (Replies answer ∷ xs) ys = acts-append xs ys
@@ -112,8 +112,8 @@ acts-append (Notes note ∷ xs) ys = acts-append xs ys
 most-append : (a m b n : ℕ) (xs ys : List Item) → AtMost a m xs → AtMost b n ys → AtMost (a + b) (m + n) (xs ++ ys)
 most-append a m b n xs ys h k =
     let acts = acts-append xs ys in
-    let steps : length (steps_of (xs ++ ys)) ≡ length (steps_of xs) + length (steps_of ys) = rw (steps-append xs ys) (length-append (steps_of xs) (steps_of ys)) in
-    record { of_acts = omega (arith, h.of_acts, k.of_acts, acts); of_steps = omega (arith, h.of_steps, k.of_steps, steps) }
+    let deeds : length (deeds_of (xs ++ ys)) ≡ length (deeds_of xs) + length (deeds_of ys) = rw (deeds-append xs ys) (length-append (deeds_of xs) (deeds_of ys)) in
+    record { of_acts = omega (arith, h.of_acts, k.of_acts, acts); of_steps = omega (arith, h.of_steps, k.of_steps, deeds) }
 
 most-if : (a m : ℕ) (b : Bool) (xs ys : List Item) → AtMost a m xs → AtMost a m ys → AtMost a m (if b then xs else ys)
 most-if a m true xs ys h k = h
@@ -238,7 +238,7 @@ module _ (s : Settings) where
   most-leads : (v : View) → AtMost 1 3 (joins.leads s v)
   most-leads v =
       most-turn 1 2 Leader v.node.term _
-      (most-silent 1 2 _ _ refl (most-goes_on (moved_all s v (Turns Leader v.node.term ∷ Notes (Joined (s.me ∷ v.node.join_votes)) ∷ []))))
+      (most-silent 1 2 _ _ refl (most-goes_on (moved_all s v (ChangesMode Leader v.node.term ∷ Notes (Joined (s.me ∷ v.node.join_votes)) ∷ []))))
 
   most-takes_member : (v : View) (p : Id) → AtMost 1 2 (joins.takes_member s v p)
   most-takes_member v p = most-silent 1 2 _ _ refl (most-goes_on (moved s v (Notes (Joined (p ∷ [])))))
@@ -383,28 +383,28 @@ module _ (s : Settings) where
 
 -- ---- events that do not come to their end
 
-one-more : (a m : ℕ) (i : Item) (rest left : List Item) → count_acts left ≤ count_acts rest → length (steps_of left) ≤ length (steps_of rest) → AtMost a m (i ∷ rest) → AtMost a m (without_output i ++ left)
+one-more : (a m : ℕ) (i : Item) (rest left : List Item) → count_acts left ≤ count_acts rest → length (deeds_of left) ≤ length (deeds_of rest) → AtMost a m (i ∷ rest) → AtMost a m (without_output i ++ left)
 one-more a m (Opens found) rest left h k f = record { of_acts = omega (arith, h, f.of_acts); of_steps = omega (arith, k, f.of_steps) }
 one-more a m (Begins event) rest left h k f = record { of_acts = omega (arith, h, f.of_acts); of_steps = omega (arith, k, f.of_steps) }
 one-more a m (Acts act o) rest left h k f = record { of_acts = omega (arith, h, f.of_acts); of_steps = omega (arith, k, f.of_steps) }
-one-more a m (Turns mode term) rest left h k f = record { of_acts = omega (arith, h, f.of_acts); of_steps = omega (arith, k, f.of_steps) }
+one-more a m (ChangesMode mode term) rest left h k f = record { of_acts = omega (arith, h, f.of_acts); of_steps = omega (arith, k, f.of_steps) }
 one-more a m (Drops member cause) rest left h k f = record { of_acts = omega (arith, h, f.of_acts); of_steps = omega (arith, k, f.of_steps) }
 one-more a m (Sends frame) rest left h k f = record { of_acts = omega (arith, h, f.of_acts); of_steps = omega (arith, k, f.of_steps) }
 one-more a m (Replies answer) rest left h k f = record { of_acts = omega (arith, h, f.of_acts); of_steps = omega (arith, k, f.of_steps) }
 one-more a m (Notes note) rest left h k f = record { of_acts = omega (arith, h, f.of_acts); of_steps = omega (arith, k, f.of_steps) }
 
 -- of what is left no more than of all
-most-left : (is left : List Item) → IsStruck is left → AtMost (count_acts is) (length (steps_of is)) left
+most-left : (is left : List Item) → IsStruck is left → AtMost (count_acts is) (length (deeds_of is)) left
 most-left is left (Here act sends wins rest o w e) = record { of_acts = omega arith; of_steps = omega arith }
 most-left is left (Later i rest left' q) =
     let h = most-left rest left' q in
-    one-more (count_acts (i ∷ rest)) (length (steps_of (i ∷ rest))) i rest left' h.of_acts h.of_steps (record { of_acts = omega arith; of_steps = omega arith })
+    one-more (count_acts (i ∷ rest)) (length (deeds_of (i ∷ rest))) i rest left' h.of_acts h.of_steps (record { of_acts = omega arith; of_steps = omega arith })
 
 pub event_short : (s : Settings) (v : View) (event : Event) → IsShort (rules.next_of s v event)
-event_short s v event = let h = most-next s v event in record { acts = h.of_acts; steps = h.of_steps }
+event_short s v event = let h = most-next s v event in record { acts = h.of_acts; deeds = h.of_steps }
 
 pub struck_short : (s : Settings) (v : View) (event : Event) (left : List Item) → IsStruck (rules.next_of s v event) left → IsShort left
 struck_short s v event left q =
     let h = most-next s v event in
     let k = most-left (rules.next_of s v event) left q in
-    record { acts = omega (arith, h.of_acts, k.of_acts); steps = omega (arith, h.of_steps, k.of_steps) }
+    record { acts = omega (arith, h.of_acts, k.of_acts); deeds = omega (arith, h.of_steps, k.of_steps) }

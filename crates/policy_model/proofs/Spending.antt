@@ -39,7 +39,7 @@ use Rattle.master_tasks.specs.declared.waiting.Waiting.{Waiting}
 use Rattle.master_tasks.specs.Answering.{answers_by, left_by, failed, timed_out, committed_in, exclusion_done}
 use Rattle.master_tasks.specs.Queue.{Tasks, most_open, is_full_of, arriving, to_be_added}
 use Rattle.master_tasks.proofs.Counting.{counted, counted_next}
-use Rattle.policy_model.specs.Events.{Mode, Candidate, Leader, Follower, Event, Start, Tick, FrameCame, LineCame, DropCause, Note, Met, Heard, PeersAsked, ElectionOff, ElectionSet, RoundBegun, RoundAnswered, RoundEnded, Joined, FollowersChecked, FollowerAnswered, LeaderChecked, LeaderAnswered, Queued, ExclusionsTimedOut, CommitAcked, ExclusionsAcked, StateMade, HandedOver, Item, Opens, Begins, Acts, Turns, Drops, Sends, Replies, Notes}
+use Rattle.policy_model.specs.Events.{Mode, Candidate, Leader, Follower, Event, Start, Tick, FrameCame, LineCame, DropCause, Note, Met, Heard, PeersAsked, ElectionOff, ElectionSet, RoundBegun, RoundAnswered, RoundEnded, Joined, FollowersChecked, FollowerAnswered, LeaderChecked, LeaderAnswered, Queued, ExclusionsTimedOut, CommitAcked, ExclusionsAcked, StateMade, HandedOver, Item, Opens, Begins, Acts, ChangesMode, Drops, Sends, Replies, Notes}
 use Rattle.policy_model.specs.Entries.{replies_of}
 use Rattle.policy_model.specs.Parts.{as_master, all_to_be_added, published_id}
 use Rattle.policy_model.specs.Views.{View}
@@ -126,9 +126,9 @@ module _ (s : Settings) where
 
   item-calm : (v : View) (i : Item) → is_calm i ≡ true → open_in (moved s v i) ≤ open_in v
   item-calm v (Acts act o) e = act-calm v act o
-  item-calm v (Turns Candidate term) e = omega arith
-  item-calm v (Turns Leader term) e = omega arith
-  item-calm v (Turns (Follower leader) term) e = omega arith
+  item-calm v (ChangesMode Candidate term) e = omega arith
+  item-calm v (ChangesMode Leader term) e = omega arith
+  item-calm v (ChangesMode (Follower leader) term) e = omega arith
   item-calm v (Drops member cause) e = omega arith
   item-calm v (Sends frame) e = omega arith
   item-calm v (Notes note) e = note-calm v note e
@@ -144,7 +144,7 @@ record Spends (s : Settings) (v : View) (is : List Item) : Type 0 where
 
 no-reply : (i : Item) (is : List Item) → is_calm i ≡ true → replies_of (i ∷ is) ≡ replies_of is
 no-reply (Acts act o) is e = refl
-no-reply (Turns mode term) is e = refl
+no-reply (ChangesMode mode term) is e = refl
 no-reply (Drops member cause) is e = refl
 no-reply (Sends frame) is e = refl
 no-reply (Notes note) is e = refl
@@ -203,8 +203,8 @@ module _ (s : Settings) where
 
   spends-becomes_candidate : (v : View) → Spends s v (doing.becomes_candidate s v)
   spends-becomes_candidate v =
-      elim (doing.is_leader v.mode) as (λ b. Spends s v ((if b then doing.reply_all s (answers_by (failed v.leader_term) v.tasks.waiting) else []) ++ Turns Candidate v.node.term ∷ [])) [
-        | true ↦ spends-replies v (answers_by (failed v.leader_term) v.tasks.waiting) (Turns Candidate v.node.term ∷ []) (let all = counted (failed v.leader_term) v.tasks.waiting in omega (arith, all))
+      elim (doing.is_leader v.mode) as (λ b. Spends s v ((if b then doing.reply_all s (answers_by (failed v.leader_term) v.tasks.waiting) else []) ++ ChangesMode Candidate v.node.term ∷ [])) [
+        | true ↦ spends-replies v (answers_by (failed v.leader_term) v.tasks.waiting) (ChangesMode Candidate v.node.term ∷ []) (let all = counted (failed v.leader_term) v.tasks.waiting in omega (arith, all))
         | false ↦ spends-calm v _ (Also _ _ refl Silent)
       ]
 
@@ -304,8 +304,8 @@ module _ (s : Settings) where
 
   spends-leads : (v : View) → Spends s v (joins.leads s v)
   spends-leads v =
-      spends-item v (Turns Leader v.node.term) _ refl
-      (spends-item _ (Notes (Joined (s.me ∷ v.node.join_votes))) _ refl (spends-goes_on (moved_all s v (Turns Leader v.node.term ∷ Notes (Joined (s.me ∷ v.node.join_votes)) ∷ []))))
+      spends-item v (ChangesMode Leader v.node.term) _ refl
+      (spends-item _ (Notes (Joined (s.me ∷ v.node.join_votes))) _ refl (spends-goes_on (moved_all s v (ChangesMode Leader v.node.term ∷ Notes (Joined (s.me ∷ v.node.join_votes)) ∷ []))))
 
   spends-takes_member : (v : View) (p : Id) → Spends s v (joins.takes_member s v p)
   spends-takes_member v p = spends-item v (Notes (Joined (p ∷ []))) _ refl (spends-goes_on (moved s v (Notes (Joined (p ∷ [])))))

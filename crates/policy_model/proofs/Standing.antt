@@ -9,7 +9,7 @@ use Rattle.world_model.specs.Acts.{NodeHistory, NoActs, Then}
 use Rattle.world_model.specs.NodeState.{NodeState, node_state, opened as opened_acts}
 use Rattle.world_model.specs.Histories.{ContinuesUnlessFirst}
 use Rattle.policy_model.specs.declared.settings.Settings.{Settings}
-use Rattle.policy_model.specs.Events.{Event, Item, Log, And, added, acts_of, Opens, Begins, Acts, Turns, Drops, Sends, Replies, Notes}
+use Rattle.policy_model.specs.Events.{Event, Item, Log, And, added, acts_of, Opens, Begins, Acts, ChangesMode, Drops, Sends, Replies, Notes}
 use Rattle.policy_model.specs.Entries.{Life, Lived, Did, log_of}
 use Rattle.policy_model.specs.Views.{View, view_of}
 use Rattle.policy_model.specs.Moves.{opened, moved, moved_all, is_own, are_own, view_of-And}
@@ -28,7 +28,7 @@ pub own-quiet : (i : Item) → is_quiet i ≡ true → is_own i ≡ true
 own-quiet (Opens found) h = h
 own-quiet (Begins event) h = refl
 own-quiet (Acts act o) h = cc
-own-quiet (Turns mode term) h = refl
+own-quiet (ChangesMode mode term) h = refl
 own-quiet (Drops member cause) h = refl
 own-quiet (Sends frame) h = refl
 own-quiet (Replies answer) h = refl

@@ -8,8 +8,8 @@ use Rattle.wire_frames.specs.declared.frame.WireMessage.{WireMessage}
 use Rattle.master_tasks.specs.declared.waiting.Outgoing.{Outgoing}
 use Rattle.policy_model.specs.declared.settings.Settings.{Settings}
 use Rattle.policy_model.specs.Events.{Item}
-use Rattle.policy_model.specs.declared.events.Step.{Step}
-use Rattle.policy_model.specs.Entries.{steps_in, steps_of, frames_in, replies_in}
+use Rattle.policy_model.specs.declared.events.Deed.{Deed}
+use Rattle.policy_model.specs.Entries.{deeds_in, deeds_of, frames_in, replies_in}
 use Rattle.policy_model.specs.Views.{View}
 use Rattle.policy_model.specs.Moves.{moved, moved_all}
 use Rattle.policy_model.specs.Doing.{send_all, reply_all}
@@ -26,9 +26,9 @@ pub moved_all-sends : (s : Settings) (v : View) (ids : List Id) (m : WireMessage
 moved_all-sends s v [] m = refl
 moved_all-sends s v (x ∷ xs) m = moved_all-sends s v xs m
 
-pub steps-append : (xs ys : List Item) → steps_of (xs ++ ys) ≡ steps_of xs ++ steps_of ys
-steps-append [] ys = refl
-steps-append (x ∷ xs) ys = ap (λ (l : List Step). steps_in x ++ l) (steps-append xs ys) ∙ sym (append_assoc (steps_in x) (steps_of xs) (steps_of ys))
+pub deeds-append : (xs ys : List Item) → deeds_of (xs ++ ys) ≡ deeds_of xs ++ deeds_of ys
+deeds-append [] ys = refl
+deeds-append (x ∷ xs) ys = ap (λ (l : List Deed). deeds_in x ++ l) (deeds-append xs ys) ∙ sym (append_assoc (deeds_in x) (deeds_of xs) (deeds_of ys))
 
 pub frames-append : (xs ys : List Item) → flat_map frames_in (xs ++ ys) ≡ flat_map frames_in xs ++ flat_map frames_in ys
 frames-append [] ys = refl

@@ -11,7 +11,7 @@ use Rattle.master_tasks.specs.Queue.{most_open}
 use Rattle.world_model.specs.NodeState.{NodeState}
 use Rattle.policy_model.specs.declared.settings.Settings.{Settings}
 use Rattle.policy_model.specs.Events.{Event, Start, Tick, FrameCame, LineCame, Item, Acts}
-use Rattle.policy_model.specs.Entries.{steps_of, frames_of, replies_of}
+use Rattle.policy_model.specs.Entries.{deeds_of, frames_of, replies_of}
 use Rattle.policy_model.specs.Views.{View}
 use Rattle.policy_model.specs.Moves.{opened, moved_all}
 use Rattle.policy_model.specs.NextState.{targets_of, responders_of}
@@ -23,10 +23,10 @@ count_acts [] = 0
 count_acts (Acts act outcome ∷ is) = count_acts is + 1
 count_acts (i ∷ is) = count_acts is
 
--- three acts, and six steps with the changes of mode: a join by which the term rises, which wins, and whose state is refused
+-- three acts, and six deeds with the changes of mode: a join by which the term rises, which wins, and whose state is refused
 pub record IsShort (items : List Item) : Type 0 where
   pub acts : count_acts items ≤ 3
-  pub steps : length (steps_of items) ≤ 6
+  pub deeds : length (deeds_of items) ≤ 6
 
 -- an event is short, also where it doesn't come to its end
 abbrev pub LawEventIsShort : Type 0

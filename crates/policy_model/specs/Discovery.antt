@@ -26,11 +26,11 @@ module _ (s : Settings) where
       else []
 
   -- who asks for peers is met, with those that it knows, and is answered with the leader, the term and all peers
-  abbrev pub tells_peers : View → Id → List Item
-  tells_peers v p = send s p (message.PeersAnswer (leader_of s.me v.mode) v.node.term (with_id s.me (known_set v.finder))) ∷ []
+  abbrev pub answers_peers : View → Id → List Item
+  answers_peers v p = send s p (message.PeersAnswer (leader_of s.me v.mode) v.node.term (with_id s.me (known_set v.finder))) ∷ []
 
   abbrev pub on_peers_ask : View → Id → List Id → List Item
-  on_peers_ask v p known = then_rule s v (Notes (Met (p ∷ known)) ∷ []) (λ v'. tells_peers v' p)
+  on_peers_ask v p known = then_rule s v (Notes (Met (p ∷ known)) ∷ []) (λ v'. answers_peers v' p)
 
   -- a candidate that hears of a master from that master joins it: at once where its term is greater, else it asks for a join
   abbrev pub seeks_master : View → Id → Option Id → ℕ → List Item

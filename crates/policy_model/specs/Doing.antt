@@ -14,7 +14,7 @@ use Rattle.world_model.specs.declared.acts.ActReply.{ActReply}
 use Rattle.cluster_state.specs.States.{id_of}
 use Rattle.world_model.specs.Replies.{reply_at, is_taken}
 use Rattle.policy_model.specs.declared.settings.Settings.{Settings}
-use Rattle.policy_model.specs.Events.{Mode, Candidate, Leader, Follower, Item, Acts, Turns, Sends, Replies}
+use Rattle.policy_model.specs.Events.{Mode, Candidate, Leader, Follower, Item, Acts, ChangesMode, Sends, Replies}
 use Rattle.policy_model.specs.Views.{View}
 use Rattle.policy_model.specs.Moves.{moved, moved_all}
 
@@ -78,7 +78,7 @@ module _ (s : Settings) where
   abbrev pub becomes_candidate : View → List Item
   becomes_candidate v =
       (if is_leader v.mode then reply_all (answers_by (failed v.leader_term) v.tasks.waiting) else [])
-      ++ Turns Candidate v.node.term ∷ []
+      ++ ChangesMode Candidate v.node.term ∷ []
 
   -- becoming one where it is none
   abbrev pub becomes_candidate_once : View → List Item
@@ -100,4 +100,4 @@ module _ (s : Settings) where
   abbrev pub becomes_follower : View → Id → List Item
   becomes_follower v p =
       if follows_node v.mode p then []
-      else (if is_leader v.mode then becomes_candidate v else []) ++ Turns (Follower p) v.node.term ∷ []
+      else (if is_leader v.mode then becomes_candidate v else []) ++ ChangesMode (Follower p) v.node.term ∷ []

@@ -7,9 +7,9 @@ use Rattle.wire_frames.specs.declared.fault.FrameError.{FrameError}
 use Rattle.wire_frames.specs.declared.frame.Frame.{Frame}
 use Rattle.master_tasks.specs.declared.waiting.Outgoing.{Outgoing}
 use Rattle.policy_model.specs.declared.events.MemberDrop.{MemberDrop}
-use Rattle.policy_model.specs.declared.events.Step.{Step}
-use Rattle.policy_model.specs.declared.events.Step.TheVariants as step
-use Rattle.policy_model.specs.Events.{Event, Item, Log, Opens, Begins, Acts, Turns, Drops, Sends, Replies, NoItems, And, added}
+use Rattle.policy_model.specs.declared.events.Deed.{Deed}
+use Rattle.policy_model.specs.declared.events.Deed.TheVariants as deed
+use Rattle.policy_model.specs.Events.{Event, Item, Log, Opens, Begins, Acts, ChangesMode, Drops, Sends, Replies, NoItems, And, added}
 
 pub data Entry : Type 0 where
   -- an event, and what the node did at it, in the order of the rules
@@ -36,13 +36,13 @@ log_of (Lived life entry) = log_of life
 -- An event shows its acts and mode lines in order, then drops by ascending member, then frames by ascending receiver, then replies in
 -- order.
 
-abbrev pub steps_in : Item → List Step
-steps_in (Acts act outcome) = step.Act act outcome ∷ []
-steps_in (Turns mode term) = step.Mode mode term ∷ []
-steps_in i = []
+abbrev pub deeds_in : Item → List Deed
+deeds_in (Acts act outcome) = deed.Act act outcome ∷ []
+deeds_in (ChangesMode mode term) = deed.Mode mode term ∷ []
+deeds_in i = []
 
-abbrev pub steps_of : List Item → List Step
-steps_of items = flat_map steps_in items
+abbrev pub deeds_of : List Item → List Deed
+deeds_of items = flat_map deeds_in items
 
 abbrev pub drops_in : Item → List MemberDrop
 drops_in (Drops member cause) = record { member = member; cause = cause } ∷ []

@@ -55,7 +55,7 @@ pub data Item : Type 0 where
   Begins : (event : Event) → Item
   Acts : (act : Act) → (outcome : Outcome) → Item
   -- the mode changed, in this term
-  Turns : (mode : Mode) → (term : ℕ) → Item
+  ChangesMode : (mode : Mode) → (term : ℕ) → Item
   -- a member is to be removed
   Drops : (member : Id) → (cause : DropCause) → Item
   Sends : (frame : Frame) → Item

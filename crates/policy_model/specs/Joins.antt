@@ -8,7 +8,7 @@ use Rattle.world_model.specs.declared.acts.Act.TheVariants.{TakeJoin}
 use Rattle.world_model.specs.declared.acts.ActReply.{ActReply}
 use Rattle.world_model.specs.declared.acts.ActReply.TheVariants.{Taken, Refused, Stopped}
 use Rattle.policy_model.specs.declared.settings.Settings.{Settings}
-use Rattle.policy_model.specs.Events.{Leader, Item, Turns, Notes, Joined}
+use Rattle.policy_model.specs.Events.{Leader, Item, ChangesMode, Notes, Joined}
 use Rattle.policy_model.specs.Views.{View}
 use Rattle.policy_model.specs.Doing.{is_leader, is_voting_only, then_rule, reply_now, act_now, after_act, takes, on_start_join, raises_term}
 use Rattle.policy_model.specs.NextState.{goes_on}
@@ -25,7 +25,7 @@ join_from p me term last = record { source = p; target = me; term = term; last_t
 module _ (s : Settings) where
   -- the winner leads, with all who voted as members
   abbrev pub leads : View → List Item
-  leads v = then_rule s v (Turns Leader v.node.term ∷ Notes (Joined (s.me ∷ v.node.join_votes)) ∷ []) (goes_on s)
+  leads v = then_rule s v (ChangesMode Leader v.node.term ∷ Notes (Joined (s.me ∷ v.node.join_votes)) ∷ []) (goes_on s)
 
   -- a node is to become a member
   abbrev pub takes_member : View → Id → List Item

@@ -21,5 +21,5 @@ pub mod Local
 pub mod Laws
 pub mod PartCalls
 pub mod PartLaws
-pub mod Told
+pub mod Witnessed
 pub mod Queues

@@ -3,7 +3,7 @@ use Rattle.std.specs.Prelude.{◌≡◌, Bool, true, false, List, [], ◌∷◌}
 use Rattle.world_model.specs.declared.acts.Act.{Act}
 use Rattle.world_model.specs.declared.acts.Outcome.TheVariants.{Answered}
 use Rattle.world_model.specs.Replies.{reply_at}
-use Rattle.world_model.specs.Steps.{is_opening}
+use Rattle.world_model.specs.Moves.{is_opening}
 use Rattle.policy_model.specs.declared.settings.Settings.{Settings}
 use Rattle.policy_model.specs.Events.{Item, Opens, Begins, Acts}
 use Rattle.policy_model.specs.Views.{View}

@@ -17,7 +17,7 @@ use Rattle.master_tasks.specs.Queue.{Tasks, no_tasks, to_be_removed}
 use Rattle.master_tasks.specs.Answering.{without_answered, timed_out, committed_in, exclusion_done}
 use Rattle.master_tasks.specs.NextState.{tasks_after}
 use Rattle.policy_model.specs.declared.settings.Settings.{Settings}
-use Rattle.policy_model.specs.Events.{Mode, Candidate, Leader, Tick, Log, NoItems, And, acts_of, Opens, Begins, Acts, Turns, Drops, Notes, Met, Heard, PeersAsked, ElectionOff, ElectionSet, RoundBegun, RoundAnswered, RoundEnded, Joined, FollowersChecked, FollowerAnswered, LeaderChecked, LeaderAnswered, Queued, ExclusionsTimedOut, CommitAcked, ExclusionsAcked, StateMade, HandedOver}
+use Rattle.policy_model.specs.Events.{Mode, Candidate, Leader, Tick, Log, NoItems, And, acts_of, Opens, Begins, Acts, ChangesMode, Drops, Notes, Met, Heard, PeersAsked, ElectionOff, ElectionSet, RoundBegun, RoundAnswered, RoundEnded, Joined, FollowersChecked, FollowerAnswered, LeaderChecked, LeaderAnswered, Queued, ExclusionsTimedOut, CommitAcked, ExclusionsAcked, StateMade, HandedOver}
 use Rattle.policy_model.specs.Parts.{last_moment, handover_interval, no_peers, met, peers_asked, heard, answers_forgotten, next_attempt, first_deadline, next_deadline, round_begun, round_answered, published_at, responded, finished, no_followers, watched, state_finished, followers_ticked, follower_answered, check_from, leader_ticked, leader_answered, arrived, all_to_be_added, as_master, published_id}
 
 -- what the seven acts know
@@ -28,14 +28,14 @@ node_of l = node_state (acts_of l)
 abbrev pub mode_of : Log → Mode
 mode_of NoItems = Candidate
 mode_of (And l (Opens found)) = Candidate
-mode_of (And l (Turns mode term)) = mode
+mode_of (And l (ChangesMode mode term)) = mode
 mode_of (And l i) = mode_of l
 
 -- the term of the last mode line of a leader
 abbrev pub leader_term_of : Log → ℕ
 leader_term_of NoItems = 0
 leader_term_of (And l (Opens found)) = 0
-leader_term_of (And l (Turns Leader term)) = term
+leader_term_of (And l (ChangesMode Leader term)) = term
 leader_term_of (And l i) = leader_term_of l
 
 -- the greatest moment that was given, in ms
@@ -52,7 +52,7 @@ finder_of s (And l (Opens found)) = no_peers s.me
 finder_of s (And l (Notes (Met ids))) = met (finder_of s l) ids
 finder_of s (And l (Notes (Heard peer master))) = heard (finder_of s l) peer master
 finder_of s (And l (Notes PeersAsked)) = peers_asked (finder_of s l) (moment_of l)
-finder_of s (And l (Turns Candidate term)) = answers_forgotten (finder_of s l) (moment_of l)
+finder_of s (And l (ChangesMode Candidate term)) = answers_forgotten (finder_of s l) (moment_of l)
 finder_of s (And l i) = finder_of s l
 
 -- how many rounds of pre-votes began since the first deadline was set
@@ -61,7 +61,7 @@ attempt_of NoItems = 0
 attempt_of (And l (Opens found)) = 0
 attempt_of (And l (Notes (ElectionSet word))) = 0
 attempt_of (And l (Notes (RoundBegun word))) = next_attempt (attempt_of l)
-attempt_of (And l (Turns Candidate term)) = 0
+attempt_of (And l (ChangesMode Candidate term)) = 0
 attempt_of (And l i) = attempt_of l
 
 -- when the next round of pre-votes begins, in ms, where an election is waited for
@@ -71,7 +71,7 @@ deadline_of (And l (Opens found)) = None
 deadline_of (And l (Notes (ElectionSet word))) = Some (first_deadline (moment_of l) word)
 deadline_of (And l (Notes (RoundBegun word))) = Some (next_deadline (moment_of l) (next_attempt (attempt_of l)) word)
 deadline_of (And l (Notes ElectionOff)) = None
-deadline_of (And l (Turns Candidate term)) = None
+deadline_of (And l (ChangesMode Candidate term)) = None
 deadline_of (And l i) = deadline_of l
 
 -- the round of pre-votes that began last, with its answers, unless it ended
@@ -81,7 +81,7 @@ round_of s (And l (Opens found)) = None
 round_of s (And l (Notes (RoundBegun word))) = Some (round_begun s.me (node_of l))
 round_of s (And l (Notes (RoundAnswered source term last))) = round_answered (round_of s l) source term last
 round_of s (And l (Notes RoundEnded)) = None
-round_of s (And l (Turns Candidate term)) = None
+round_of s (And l (ChangesMode Candidate term)) = None
 round_of s (And l i) = round_of s l
 
 -- whether an act sends something
@@ -100,7 +100,7 @@ publication_of (And l (Acts (Value version config value) o)) =
 publication_of (And l (Acts (Response response) o)) = if is_ok o then responded (publication_of l) response.source (sends_one o)
     else publication_of l
 publication_of (And l (Acts (Commit commit) o)) = if is_ok o then finished (publication_of l) else publication_of l
-publication_of (And l (Turns Candidate term)) = None
+publication_of (And l (ChangesMode Candidate term)) = None
 publication_of (And l i) = publication_of l
 
 -- the state that was accepted when the node took a commit last
@@ -120,14 +120,14 @@ followers_of s (And l (Acts (Commit commit) o)) =
     if is_ok o then state_finished (publication_of l) (followers_of s l) (id_of (node_of l).accepted) (moment_of l) else followers_of s l
 followers_of s (And l (Notes FollowersChecked)) = followers_ticked (followers_of s l) (moment_of l)
 followers_of s (And l (Notes (FollowerAnswered from good applied))) = follower_answered (followers_of s l) from good applied (moment_of l)
-followers_of s (And l (Turns Candidate term)) = no_followers
+followers_of s (And l (ChangesMode Candidate term)) = no_followers
 followers_of s (And l i) = followers_of s l
 
 -- the checks of the leader since the node follows it
 abbrev pub leader_check_of : Log → Option LeaderCheck
 leader_check_of NoItems = None
 leader_check_of (And l (Opens found)) = None
-leader_check_of (And l (Turns mode term)) = check_from mode (moment_of l)
+leader_check_of (And l (ChangesMode mode term)) = check_from mode (moment_of l)
 leader_check_of (And l (Notes LeaderChecked)) = leader_ticked (leader_check_of l) (moment_of l)
 leader_check_of (And l (Notes (LeaderAnswered good))) = leader_answered (leader_check_of l) good (moment_of l)
 leader_check_of (And l i) = leader_check_of l
@@ -144,7 +144,7 @@ tasks_of s (And l (Notes CommitAcked)) = without_answered (committed_in (publish
 tasks_of s (And l (Notes ExclusionsAcked)) =
     without_answered (exclusion_done (node_of l).committed (id_of (node_of l).accepted)) (tasks_of s l)
 tasks_of s (And l (Notes StateMade)) = tasks_after (as_master s (node_of l)) (tasks_of s l)
-tasks_of s (And l (Turns Candidate term)) = no_tasks
+tasks_of s (And l (ChangesMode Candidate term)) = no_tasks
 tasks_of s (And l i) = tasks_of s l
 
 -- from when on a hand-over may come, in ms

@@ -7,13 +7,13 @@ use Rattle.world_model.specs.declared.acts.Outcome.{Outcome}
 use Rattle.world_model.specs.Acts.{is_ok}
 use Rattle.world_model.specs.NodeState.{node_state, opened as opened_acts}
 use Rattle.cluster_state.specs.States.{id_of}
-use Rattle.world_model.specs.Steps.{node_state_after, is_opening}
+use Rattle.world_model.specs.Moves.{node_state_after, is_opening}
 use Rattle.fault_checks.specs.Followers.{no_state}
 use Rattle.master_tasks.specs.Queue.{no_tasks, to_be_removed}
 use Rattle.master_tasks.specs.Answering.{without_answered, timed_out, committed_in, exclusion_done}
 use Rattle.master_tasks.specs.NextState.{tasks_after}
 use Rattle.policy_model.specs.declared.settings.Settings.{Settings}
-use Rattle.policy_model.specs.Events.{Mode, Candidate, Leader, Follower, Event, Start, Tick, FrameCame, LineCame, Note, Met, Heard, PeersAsked, ElectionOff, ElectionSet, RoundBegun, RoundAnswered, RoundEnded, Joined, FollowersChecked, FollowerAnswered, LeaderChecked, LeaderAnswered, Queued, ExclusionsTimedOut, CommitAcked, ExclusionsAcked, StateMade, HandedOver, Item, Opens, Begins, Acts, Turns, Drops, Sends, Replies, Notes, Log, And}
+use Rattle.policy_model.specs.Events.{Mode, Candidate, Leader, Follower, Event, Start, Tick, FrameCame, LineCame, Note, Met, Heard, PeersAsked, ElectionOff, ElectionSet, RoundBegun, RoundAnswered, RoundEnded, Joined, FollowersChecked, FollowerAnswered, LeaderChecked, LeaderAnswered, Queued, ExclusionsTimedOut, CommitAcked, ExclusionsAcked, StateMade, HandedOver, Item, Opens, Begins, Acts, ChangesMode, Drops, Sends, Replies, Notes, Log, And}
 use Rattle.policy_model.specs.Parts.{last_moment, handover_interval, no_peers, met, peers_asked, heard, answers_forgotten, next_attempt, first_deadline, next_deadline, round_begun, round_answered, published_at, responded, finished, no_followers, watched, state_finished, followers_ticked, follower_answered, check_from, leader_ticked, leader_answered, arrived, all_to_be_added, as_master, published_id}
 use Rattle.policy_model.specs.LookBacks.{sends_one}
 use Rattle.policy_model.specs.Views.{View, view_of}
@@ -63,8 +63,8 @@ acted s v (Commit commit) o = record v {
 acted s v act o = record v { node = node_state_after v.node act o }
 
 -- the mode changed: a candidate drops what it did as leader, as follower and in earlier elections
-abbrev pub turned : View → Mode → ℕ → View
-turned v Candidate term = record v {
+abbrev pub mode_changed : View → Mode → ℕ → View
+mode_changed v Candidate term = record v {
   mode = Candidate;
   finder = answers_forgotten v.finder v.moment;
   deadline = None;
@@ -75,8 +75,8 @@ turned v Candidate term = record v {
   leader_check = None;
   tasks = no_tasks;
 }
-turned v Leader term = record v { mode = Leader; leader_term = term; leader_check = None }
-turned v (Follower leader) term = record v { mode = Follower leader; leader_check = check_from (Follower leader) v.moment }
+mode_changed v Leader term = record v { mode = Leader; leader_term = term; leader_check = None }
+mode_changed v (Follower leader) term = record v { mode = Follower leader; leader_check = check_from (Follower leader) v.moment }
 
 abbrev pub noted : Settings → View → Note → View
 noted s v (Met ids) = record v { finder = met v.finder ids }
@@ -107,7 +107,7 @@ abbrev pub moved : Settings → View → Item → View
 moved s v (Opens found) = opened s found
 moved s v (Begins event) = begun v event
 moved s v (Acts act o) = acted s v act o
-moved s v (Turns mode term) = turned v mode term
+moved s v (ChangesMode mode term) = mode_changed v mode term
 moved s v (Drops member cause) = record v { tasks = to_be_removed v.tasks member }
 moved s v (Sends frame) = v
 moved s v (Replies answer) = v
@@ -142,9 +142,9 @@ view_of-And s l (Acts (Publish request) o) h = refl
 view_of-And s l (Acts (Response response) o) h = refl
 view_of-And s l (Acts (Commit commit) o) h = refl
 view_of-And s l (Acts (Open found) o) h = cc
-view_of-And s l (Turns Candidate term) h = refl
-view_of-And s l (Turns Leader term) h = refl
-view_of-And s l (Turns (Follower leader) term) h = refl
+view_of-And s l (ChangesMode Candidate term) h = refl
+view_of-And s l (ChangesMode Leader term) h = refl
+view_of-And s l (ChangesMode (Follower leader) term) h = refl
 view_of-And s l (Drops member cause) h = refl
 view_of-And s l (Sends frame) h = refl
 view_of-And s l (Replies answer) h = refl

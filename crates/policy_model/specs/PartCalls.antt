@@ -11,7 +11,7 @@ use Rattle.fault_checks.specs.Leaders as leaders
 use Rattle.world_model.specs.declared.acts.Act.TheVariants.{Value, Response, Commit}
 use Rattle.world_model.specs.Acts.{is_ok}
 use Rattle.policy_model.specs.declared.settings.Settings.{Settings}
-use Rattle.policy_model.specs.Events.{Candidate, Follower, Log, NoItems, And, Opens, Acts, Turns, Notes, Met, Heard, PeersAsked, RoundBegun, RoundAnswered, RoundEnded, FollowersChecked, FollowerAnswered, LeaderChecked, LeaderAnswered}
+use Rattle.policy_model.specs.Events.{Candidate, Follower, Log, NoItems, And, Opens, Acts, ChangesMode, Notes, Met, Heard, PeersAsked, RoundBegun, RoundAnswered, RoundEnded, FollowersChecked, FollowerAnswered, LeaderChecked, LeaderAnswered}
 use Rattle.policy_model.specs.LookBacks.{node_of, moment_of, sends_one}
 
 -- of the peer finder, since the opening: who was met, who answered, when peers were asked, when the node became a candidate
@@ -25,7 +25,7 @@ finder_calls s (And l (Opens found)) = finder.Started s.me
 finder_calls s (And l (Notes (Met ids))) = with_added (finder_calls s l) ids
 finder_calls s (And l (Notes (Heard peer master))) = finder.Then (finder_calls s l) (finder.Answered peer master)
 finder_calls s (And l (Notes PeersAsked)) = finder.Then (finder_calls s l) (finder.Asked (moment_of l))
-finder_calls s (And l (Turns Candidate term)) = finder.Then (finder_calls s l) (finder.AnswersForgotten (moment_of l))
+finder_calls s (And l (ChangesMode Candidate term)) = finder.Then (finder_calls s l) (finder.AnswersForgotten (moment_of l))
 finder_calls s (And l i) = finder_calls s l
 
 -- of the round of pre-votes that began last, unless it ended
@@ -36,7 +36,7 @@ round_calls s (And l (Notes (RoundBegun word))) = Some (pre_vote.Start s.me (id_
 round_calls s (And l (Notes (RoundAnswered source term last))) =
     option_map (λ calls. pre_vote.Add calls source term last) (round_calls s l)
 round_calls s (And l (Notes RoundEnded)) = None
-round_calls s (And l (Turns Candidate term)) = None
+round_calls s (And l (ChangesMode Candidate term)) = None
 round_calls s (And l i) = round_calls s l
 
 -- of the publication of the last value since the node became leader: who responded, that its commit was sent, that it was finished
@@ -55,7 +55,7 @@ publication_calls (And l (Acts (Response response) o)) =
     if is_ok o then option_map (with_response response.source (sends_one o)) (publication_calls l) else publication_calls l
 publication_calls (And l (Acts (Commit commit) o)) =
     if is_ok o then option_map (λ calls. publication.Then calls publication.Finished) (publication_calls l) else publication_calls l
-publication_calls (And l (Turns Candidate term)) = None
+publication_calls (And l (ChangesMode Candidate term)) = None
 publication_calls (And l i) = publication_calls l
 
 -- a publication that is not finished yet
@@ -78,15 +78,15 @@ follower_calls s (And l (Acts (Commit commit) o)) =
 follower_calls s (And l (Notes FollowersChecked)) = followers.Then (follower_calls s l) (followers.Ticked (moment_of l))
 follower_calls s (And l (Notes (FollowerAnswered from good applied))) =
     followers.Then (follower_calls s l) (followers.Answered from good applied (moment_of l))
-follower_calls s (And l (Turns Candidate term)) = followers.Started
+follower_calls s (And l (ChangesMode Candidate term)) = followers.Started
 follower_calls s (And l i) = follower_calls s l
 
 -- of the checks of the leader, since the node follows it
 abbrev pub leader_calls : Log → Option leaders.LeaderCalls
 leader_calls NoItems = None
 leader_calls (And l (Opens found)) = None
-leader_calls (And l (Turns (Follower leader) term)) = Some (leaders.LeaderStarted leader (moment_of l))
-leader_calls (And l (Turns mode term)) = None
+leader_calls (And l (ChangesMode (Follower leader) term)) = Some (leaders.LeaderStarted leader (moment_of l))
+leader_calls (And l (ChangesMode mode term)) = None
 leader_calls (And l (Notes LeaderChecked)) =
     option_map (λ calls. leaders.LeaderThen calls (leaders.LeaderTicked (moment_of l))) (leader_calls l)
 leader_calls (And l (Notes (LeaderAnswered good))) =

@@ -44,7 +44,7 @@ pub struct MemberDrop {
 
 /// What a node does at an event, one after the other.
 #[derive(Drop)]
-pub enum Step {
+pub enum Deed {
     /// An act, and how it ended.
     Act(Act, Outcome),
     /// The mode changed, in this term.

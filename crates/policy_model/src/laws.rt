@@ -51,7 +51,7 @@ pub fn law_event_holds_settings(event: &Event)
     }
 }
 
-/// At an event a node does three acts at most, and shows six steps at most: acts and changes of mode.
+/// At an event a node does three acts at most, and shows six deeds at most: acts and changes of mode.
 pub fn law_event_is_short()
     ensures { LawEventIsShort }
 {}

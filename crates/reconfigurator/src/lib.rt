@@ -54,7 +54,7 @@ fn chosen(
     let voters = config.without(excluded);
     let size = size(allowed.len(), members, voters.len(), shrink);
     let candidates = candidates(&allowed, &voters, master);
-    NodeSet::of(front(candidates.as_slice(), size))
+    NodeSet::of(prefix(candidates.as_slice(), size))
 }
 
 // How many candidates are taken, if there are as many.
@@ -142,7 +142,7 @@ fn append(all: &mut ArrayVec<NodeId, MAX_CANDIDATES>, ids: &NodeSet)
 }
 
 // The first of the ids, as many as there are.
-fn front(ids: &[NodeId], count: usize) -> &[NodeId]
+fn prefix(ids: &[NodeId], count: usize) -> &[NodeId]
     ensures value { result.now ≡ take count ids.now }
     ensures fits { length result.now ≤ count }
 {

@@ -12,7 +12,7 @@ use Rattle.recorded_trace.specs.declared.fault.BadTrace.{BadTrace}
 use Rattle.recorded_trace.specs.declared.fault.Why.{Why}
 use Rattle.recorded_trace.specs.declared.fault.Why.TheVariants as bad
 use Rattle.recorded_trace.specs.declared.progress.Progress.{Progress}
-use Rattle.recorded_trace.specs.Lines.{header_at, told_at}
+use Rattle.recorded_trace.specs.Lines.{header_at, shown_at}
 use Rattle.recorded_trace.specs.Reading.{Numbered, Recording, ◌>>>◌, most_bytes, first_progress, after_line, sized, in_line, with_entry, lines_at, parts_read, recording_of}
 
 sized_within : {A : Type 0} (p : Progress) (line : List ℕ) (read : Result A Why) (x : A) → in_line p (sized p line read) ≡ Ok x → p.before + length line + 1 ≤ most_bytes
@@ -27,14 +27,14 @@ lines_within p front [] xs k e = omega (arith, k)
 lines_within p front ([] ∷ []) xs k e = omega (arith, k)
 lines_within p front ((b ∷ bs) ∷ []) xs k e = absurd cc
 lines_within p front (line ∷ next ∷ more) xs k e =
-    from (in_line p (sized p line (told_at line))) refl e (λ told room rest. lines_within (after_line p line) (with_entry p front told) (next ∷ more) xs room rest)
+    from (in_line p (sized p line (shown_at line))) refl e (λ told room rest. lines_within (after_line p line) (with_entry p front told) (next ∷ more) xs room rest)
   where
-    from : (r : Result (Option Entry) BadTrace) → in_line p (sized p line (told_at line)) ≡ r → (r >>> λ told. lines_at (after_line p line) (with_entry p front told) (next ∷ more)) ≡ Ok xs
+    from : (r : Result (Option Entry) BadTrace) → in_line p (sized p line (shown_at line)) ≡ r → (r >>> λ told. lines_at (after_line p line) (with_entry p front told) (next ∷ more)) ≡ Ok xs
         → ((told : Option Entry) → (after_line p line).before ≤ most_bytes → lines_at (after_line p line) (with_entry p front told) (next ∷ more) ≡ Ok xs → (after_line p line).before + length (join_with_byte 10 (next ∷ more)) ≤ most_bytes)
         → p.before + length (line ++ 10 ∷ join_with_byte 10 (next ∷ more)) ≤ most_bytes
     from (Err f) is e again = absurd cc
     from (Ok told) is e again =
-        let rest = again told (sized_within p line (told_at line) told is) e in
+        let rest = again told (sized_within p line (shown_at line) told is) e in
         omega (arith, length-append line (10 ∷ join_with_byte 10 (next ∷ more)), rest)
 
 parts_within : (parts : List (List ℕ)) (r : Recording) → parts_read parts ≡ Ok r → length (join_with_byte 10 parts) ≤ most_bytes

@@ -34,8 +34,8 @@ id_in d = as_str d >>? λ text. if is_id text then Some text else None
 
 -- the ids of an array, after these, in their order
 abbrev pub ids_after : List Id → Items → Option (List Id)
-ids_after front no_items = Some front
-ids_after front (item d ds) = id_in d >>? λ id. if may_follow front id then ids_after (front ++ id ∷ []) ds else None
+ids_after prefix no_items = Some prefix
+ids_after prefix (item d ds) = id_in d >>? λ id. if may_follow prefix id then ids_after (prefix ++ id ∷ []) ds else None
 
 abbrev pub ids_in : Data → Option (List Id)
 ids_in d = as_array d >>? λ ds. ids_after [] ds
@@ -52,8 +52,8 @@ master_of d = get (codes "master") d >>? master_in
 -- ---- settings
 
 abbrev pub settings_after : List Setting → Members → Option (List Setting)
-settings_after front no_members = Some front
-settings_after front (member key d more) = as_str d >>? λ text. settings_after (put_setting (key, text) front) more
+settings_after prefix no_members = Some prefix
+settings_after prefix (member key d more) = as_str d >>? λ text. settings_after (put_setting (key, text) prefix) more
 
 abbrev pub settings_in : Data → Option (List Setting)
 settings_in d = as_object d >>? λ members. settings_after [] members

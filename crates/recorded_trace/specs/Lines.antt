@@ -27,17 +27,17 @@ abbrev pub shaped : Result Entry WhyBad → Result (Option Entry) Why
 shaped (Ok entry) = Ok (Some entry)
 shaped (Err e) = Err bad.Shape
 
-abbrev pub words_told : List (List ℕ) → Result (Option Entry) Why
-words_told [] = Err bad.Word
-words_told (verb ∷ ws) =
+abbrev pub words_shown : List (List ℕ) → Result (Option Entry) Why
+words_shown [] = Err bad.Word
+words_shown (verb ∷ ws) =
     if bytes_eq verb (codes "act") then shaped (act_at ws)
     else (if bytes_eq verb (codes "record") then shaped (record_at ws)
     else (if is_skipped verb then Ok None
     else Err bad.Word))
 
 -- what a line shows
-abbrev pub told_at : List ℕ → Result (Option Entry) Why
-told_at line = words_told (words_of line)
+abbrev pub shown_at : List ℕ → Result (Option Entry) Why
+shown_at line = words_shown (words_of line)
 
 -- the ids that are listed, where there are some
 abbrev pub some_ids : Option (List Id) → Result (List Id) Why

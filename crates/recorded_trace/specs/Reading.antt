@@ -7,7 +7,7 @@ use Rattle.recorded_trace.specs.declared.fault.BadTrace.{BadTrace}
 use Rattle.recorded_trace.specs.declared.fault.Why.{Why}
 use Rattle.recorded_trace.specs.declared.fault.Why.TheVariants as bad
 use Rattle.recorded_trace.specs.declared.progress.Progress.{Progress}
-use Rattle.recorded_trace.specs.Lines.{header_at, told_at}
+use Rattle.recorded_trace.specs.Lines.{header_at, shown_at}
 
 -- the greatest size of a recorded trace, in bytes
 abbrev pub most_bytes : ℕ
@@ -48,8 +48,8 @@ abbrev pub ◌>>>◌ : {A B : Type 0} → Result A BadTrace → (A → Result B 
 (Err e) >>> f = Err e
 
 abbrev pub with_entry : Progress → List Numbered → Option Entry → List Numbered
-with_entry p front None = front
-with_entry p front (Some entry) = front ++ record { line = p.number; entry = entry } ∷ []
+with_entry p prefix None = prefix
+with_entry p prefix (Some entry) = prefix ++ record { line = p.number; entry = entry } ∷ []
 
 -- what stands after the last line feed: nothing, or a line without one
 abbrev pub end_at : {A : Type 0} → Progress → List ℕ → A → Result A BadTrace
@@ -58,10 +58,10 @@ end_at p (b ∷ bs) x = Err (record { line = p.number; why = why_cut p (b ∷ bs
 
 -- the entries from here on, after those that were read, of what stands between line feeds
 abbrev pub lines_at : Progress → List Numbered → List (List ℕ) → Result (List Numbered) BadTrace
-lines_at p front [] = Ok front
-lines_at p front (line ∷ []) = end_at p line front
-lines_at p front (line ∷ next ∷ more) =
-    in_line p (sized p line (told_at line)) >>> λ told. lines_at (after_line p line) (with_entry p front told) (next ∷ more)
+lines_at p prefix [] = Ok prefix
+lines_at p prefix (line ∷ []) = end_at p line prefix
+lines_at p prefix (line ∷ next ∷ more) =
+    in_line p (sized p line (shown_at line)) >>> λ told. lines_at (after_line p line) (with_entry p prefix told) (next ∷ more)
 
 -- the first line, which is no line where there are no bytes
 abbrev pub no_header : List ℕ → Why

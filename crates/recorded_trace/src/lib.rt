@@ -1,18 +1,18 @@
 //! Recorded traces as text: what each line shows, and which line is the first bad one.
 #![tactic(auto)]
 
-pub mod acts;
-pub mod causes;
-pub mod entry;
-pub mod fault;
-pub mod json;
-pub mod kind;
-pub mod lines;
-pub mod progress;
-pub mod reading;
-pub mod words;
+mod acts;
+mod causes;
+mod entry;
+mod fault;
+mod json;
+mod kind;
+mod lines;
+mod progress;
+mod reading;
+mod words;
 
 pub use entry::Entry;
 pub use fault::{BadTrace, Why};
-pub use progress::{MAX_BYTES, Progress};
+pub use progress::{MAX_BYTES, Progress, no_header};
 pub use reading::{check_end, entry_at, header};

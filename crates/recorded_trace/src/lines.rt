@@ -5,7 +5,7 @@ ghost use Rattle.recorded_trace.specs.Entries.{IsEntry};
 ghost use Rattle.voting_config.specs.Lists.{parts_in, space};
 ghost use Rattle.schedule_text.specs.Answers.{Answers};
 ghost use Rattle.recorded_trace.specs.declared.entry.Entry.{Entry as TheEntry};
-ghost use Rattle.recorded_trace.specs.Lines.{is_numbered as is_numbered_of, is_skipped as is_skipped_of, shaped as shaped_of, told_at as told_at_of, some_ids as some_ids_of, initial_of, header_at as header_at_of};
+ghost use Rattle.recorded_trace.specs.Lines.{is_numbered as is_numbered_of, is_skipped as is_skipped_of, shaped as shaped_of, shown_at as shown_at_of, some_ids as some_ids_of, initial_of, header_at as header_at_of};
 
 use crate::acts::{act, record};
 use crate::entry::Entry;
@@ -55,8 +55,8 @@ fn shaped(read: Result<Entry, ReadError<WhyBad>>) -> Result<Option<Entry>, ReadE
 }
 
 /// What a line shows: an entry, or nothing that an audit looks at.
-pub fn told_at(alloc: Global, line: &[u8]) -> Result<Option<Entry>, ReadError<Why>>
-    ensures read { Answers result (told_at_of line.now) }
+pub fn shown_at(alloc: Global, line: &[u8]) -> Result<Option<Entry>, ReadError<Why>>
+    ensures read { Answers result (shown_at_of line.now) }
     ensures entry { IfOk result (λ told. IfSome told IsEntry) }
 {
     let (verb, rest) = cut(line, b' ');

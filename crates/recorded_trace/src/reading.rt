@@ -2,12 +2,12 @@
 ghost use Rattle.std.specs.Prelude.{◌≡◌, ◌+◌, ◌<◌, ◌^◌, IfOk, IfSome, length};
 ghost use Rattle.schedule_text.specs.Answers.{Answers};
 ghost use Rattle.recorded_trace.specs.Entries.{IsEntry};
-ghost use Rattle.recorded_trace.specs.Lines.{told_at as told_at_of, header_at as header_at_of};
+ghost use Rattle.recorded_trace.specs.Lines.{shown_at as shown_at_of, header_at as header_at_of};
 ghost use Rattle.recorded_trace.specs.Reading.{first_progress, in_line, sized, end_at};
 
 use crate::entry::Entry;
 use crate::fault::{BadTrace, Why};
-use crate::lines::{header_at, told_at};
+use crate::lines::{header_at, shown_at};
 use crate::progress::Progress;
 use schedule_text::ReadError;
 use std::alloc::Global;
@@ -20,13 +20,13 @@ pub fn entry_at(
     line: &[u8],
 ) -> Result<Option<Entry>, ReadError<BadTrace>>
     requires { progress.now.before + length line.now + 1 < 2 ^ 64 }
-    ensures read { Answers result (in_line progress.now (sized progress.now line.now (told_at_of line.now))) }
+    ensures read { Answers result (in_line progress.now (sized progress.now line.now (shown_at_of line.now))) }
     ensures entry { IfOk result (λ told. IfSome told IsEntry) }
 {
     if !progress.has_room(line) {
         return Err(ReadError::Bad(progress.bad(Why::TooBig)));
     }
-    match told_at(alloc, line) {
+    match shown_at(alloc, line) {
         Ok(told) => Ok(told),
         Err(ReadError::Bad(why)) => Err(ReadError::Bad(progress.bad(why))),
         Err(ReadError::Memory) => Err(ReadError::Memory),

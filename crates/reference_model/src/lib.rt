@@ -1,14 +1,14 @@
 //! The definitions of what a node answers, as a plain program: it looks through all acts of the node so far, and keeps nothing.
 #![tactic(auto)]
 
-pub mod answer;
-pub mod disk;
-pub mod durable;
-pub mod entry;
-pub mod no_answer;
-pub mod node_now;
-pub mod replies;
-pub mod round;
+mod answer;
+mod disk;
+mod durable;
+mod entry;
+mod no_answer;
+mod node_now;
+mod replies;
+mod round;
 
 pub use answer::reply;
 pub use disk::stopped;

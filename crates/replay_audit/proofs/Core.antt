@@ -33,8 +33,8 @@ use Rattle.replay_node.specs.Worlds.{World, fresh_world, node_world}
 use Rattle.schedule_replay.specs.Legal.{IsWellFormed}
 use Rattle.schedule_replay.specs.Levels.{trace_at}
 use Rattle.schedule_replay.specs.Replayed.{after, message_at, replayed, value_with}
-use Rattle.schedule_replay.specs.Steps.{Step, WasDown, WasUp, WentDown, Unsent, text_of}
-use Rattle.schedule_replay.specs.TraceSteps.{act_step, act_steps, delivery_steps, opening_step, line_steps, steps_from, steps}
+use Rattle.schedule_replay.specs.Parts.{TracePart, WasDown, WasUp, WentDown, Unsent, text_of}
+use Rattle.schedule_replay.specs.TraceParts.{act_part, act_parts, delivery_parts, opening_part, line_parts, parts_from, trace_parts}
 use Rattle.schedule_replay.proofs.FitLines.{config_fits, text_fits}
 use Rattle.schedule_replay.proofs.Right.{schedule_legal, schedule_sound}
 use Rattle.schedule_replay.proofs.TraceLaws.{tells}
@@ -46,12 +46,12 @@ use Rattle.replay_audit.proofs.Steps.{IsGiven, counts_of, steps_show}
 
 -- ---- what the lines of a schedule give
 
-if_given : (nodes : List Id) (b : Bool) (x y : Step) → IsGiven Core nodes x → IsGiven Core nodes y → IsGiven Core nodes (if b then x else y)
+if_given : (nodes : List Id) (b : Bool) (x y : TracePart) → IsGiven Core nodes x → IsGiven Core nodes y → IsGiven Core nodes (if b then x else y)
 if_given nodes true x y p q = p
 if_given nodes false x y p q = q
 
-act_given : (nodes : List Id) (w : World) (n : Id) (act : Act) → IsTrue (is_id n) → IsGivenAct act → AllByRecursion (IsGiven Core nodes) (act_steps w n act)
-act_given nodes w n act good g = (if_given nodes (w.down n) (WasDown n) (act_step w n act) good (good, g), tt)
+act_given : (nodes : List Id) (w : World) (n : Id) (act : Act) → IsTrue (is_id n) → IsGivenAct act → AllByRecursion (IsGiven Core nodes) (act_parts w n act)
+act_given nodes w n act good g = (if_given nodes (w.down n) (WasDown n) (act_part w n act) good (good, g), tt)
 
 taken_given : (m : Message) → IsGivenAct (taking m)
 taken_given (JoinMessage join) = tt
@@ -59,17 +59,17 @@ taken_given (PublishMessage request) = tt
 taken_given (ResponseMessage response) = tt
 taken_given (CommitMessage commit) = tt
 
-delivery_given : (nodes : List Id) (w : World) (n : Id) (m : Option Message) → IsTrue (is_id n) → AllByRecursion (IsGiven Core nodes) (delivery_steps w n m)
+delivery_given : (nodes : List Id) (w : World) (n : Id) (m : Option Message) → IsTrue (is_id n) → AllByRecursion (IsGiven Core nodes) (delivery_parts w n m)
 delivery_given nodes w n None good = (if_given nodes (w.down n) (WasDown n) Unsent good tt, tt)
 delivery_given nodes w n (Some m) good = act_given nodes w n (taking m) good (taken_given m)
 
-opening_given : (nodes : List Id) (end : CallsEnd) (n : Id) (found : Kept) → IsTrue (is_id n) → IsGiven Core nodes (opening_step end n found)
+opening_given : (nodes : List Id) (end : CallsEnd) (n : Id) (found : Kept) → IsTrue (is_id n) → IsGiven Core nodes (opening_part end n found)
 opening_given nodes Done n found good = good
 opening_given nodes Failed n found good = good
 opening_given nodes (CrashedIn way) n found good = good
 
 module _ (nodes initial : List Id) (each : IsTrue (list_all is_id nodes)) where
-  line_given : (w : World) (l : Line) → FitsCore nodes l → AllByRecursion (IsGiven Core nodes) (line_steps initial w l)
+  line_given : (w : World) (l : Line) → FitsCore nodes l → AllByRecursion (IsGiven Core nodes) (line_parts initial w l)
   line_given w (line.Boot n) f = act_given nodes w n (Bootstrap initial) (has_id n nodes each f) tt
   line_given w (line.StartJoin n candidate term) f = act_given nodes w n (StartJoin candidate term) (has_id n nodes each f.0) (has_id candidate nodes each f.1, omega (arith, f.2.1))
   line_given w (line.Value n version text config) f =
@@ -84,13 +84,13 @@ module _ (nodes initial : List Id) (each : IsTrue (list_all is_id nodes)) where
   line_given w (line.Tick n now word) f = absurd f
   line_given w (line.Client n bytes) f = absurd f
 
-  all_given : (xs ys : List Step) → AllByRecursion (IsGiven Core nodes) xs → AllByRecursion (IsGiven Core nodes) ys → AllByRecursion (IsGiven Core nodes) (xs ++ ys)
+  all_given : (xs ys : List TracePart) → AllByRecursion (IsGiven Core nodes) xs → AllByRecursion (IsGiven Core nodes) ys → AllByRecursion (IsGiven Core nodes) (xs ++ ys)
   all_given [] ys a b = b
   all_given (x ∷ xs) ys a b = (a.0, all_given xs ys a.1 b)
 
-  lines_given : (w : World) (ls : List Line) → AllByRecursion (FitsLine Core nodes) ls → AllByRecursion (IsGiven Core nodes) (steps_from initial w ls)
+  lines_given : (w : World) (ls : List Line) → AllByRecursion (FitsLine Core nodes) ls → AllByRecursion (IsGiven Core nodes) (parts_from initial w ls)
   lines_given w [] f = tt
-  lines_given w (l ∷ ls) f = (f.0, all_given (line_steps initial w l) (steps_from initial (after initial w l) ls) (line_given w l f.0) (lines_given (after initial w l) ls f.1))
+  lines_given w (l ∷ ls) f = (f.0, all_given (line_parts initial w l) (parts_from initial (after initial w l) ls) (line_given w l f.0) (lines_given (after initial w l) ls f.1))
 
 -- ---- what is read
 
@@ -100,20 +100,20 @@ read_as initial text entries h set some short shows is =
     let r = trace_read initial text entries set some shows short in
     record { trace = r.trace; read = r.read; from = r.from; history = with_numbered NoEntries r.trace.entries ∙ ap (λ (xs : List Entry). after_entries NoEntries xs) r.shows ∙ is }
 
--- the trace by its steps
-pub trace_reads : (s : Schedule) → IsWellFormed s → CanBeAudited Core s → Reads (trace_at Core s) (entries_of (steps s)) (counts_of (steps s))
+-- the trace by its trace_parts
+pub trace_reads : (s : Schedule) → IsWellFormed s → CanBeAudited Core s → Reads (trace_at Core s) (entries_of (trace_parts s)) (counts_of (trace_parts s))
 trace_reads s formed can =
     let t = tells s in
     let sound = schedule_sound s formed in
     let listed = fits_ids most_ids s.initial can.initial can.initial.fits in
-    let short : 0 + length (text_of (steps s)) ≤ most_bytes = omega (arith, can.short, length-append (header s.initial) (trace_at Core s), ap (λ (xs : List ℕ). length xs) t.text) in
-    subst (λ (xs : List ℕ). Reads xs (entries_of (steps s)) (counts_of (steps s))) (sym t.text)
-    (steps_show s.initial listed Core s.nodes NoEntries (steps s) can.nodes sound (lines_given s.nodes s.initial can.nodes.each fresh_world s.lines formed.fit) tt short)
+    let short : 0 + length (text_of (trace_parts s)) ≤ most_bytes = omega (arith, can.short, length-append (header s.initial) (trace_at Core s), ap (λ (xs : List ℕ). length xs) t.text) in
+    subst (λ (xs : List ℕ). Reads xs (entries_of (trace_parts s)) (counts_of (trace_parts s))) (sym t.text)
+    (steps_show s.initial listed Core s.nodes NoEntries (trace_parts s) can.nodes sound (lines_given s.nodes s.initial can.nodes.each fresh_world s.lines formed.fit) tt short)
 
 pub replay_read : LawReplayIsRead
 replay_read s formed can =
-    read_as s.initial (trace_at Core s) (entries_of (steps s)) (replayed s) can.initial can.some_initial can.short (shows _ _ _ (trace_reads s formed can))
-    (steps_entries s.initial NoEntries (steps s) (schedule_sound s formed) ∙ (tells s).history)
+    read_as s.initial (trace_at Core s) (entries_of (trace_parts s)) (replayed s) can.initial can.some_initial can.short (shows _ _ _ (trace_reads s formed can))
+    (steps_entries s.initial NoEntries (trace_parts s) (schedule_sound s formed) ∙ (tells s).history)
 
 -- ---- what an audit finds
 

@@ -13,7 +13,7 @@ use Rattle.trace_text.specs.Trace.{ending_text}
 use Rattle.trace_summary.specs.declared.counts.Counts.{Counts}
 use Rattle.trace_summary.specs.Counted.{counts_in, is_act, is_committed, is_crash, is_refused, is_step, is_won, lines_of, no_counts}
 use Rattle.recorded_trace.specs.declared.entry.Entry.{Entry}
-use Rattle.recorded_trace.specs.Lines.{told_at}
+use Rattle.recorded_trace.specs.Lines.{shown_at}
 use Rattle.line_laws.specs.Read.{IsRead, Shows}
 use Rattle.line_laws.specs.Read.Shows.{Nothing, Skip, Show}
 use Rattle.line_laws.proofs.Traces.{entries_in}
@@ -21,7 +21,7 @@ use Rattle.line_laws.proofs.Traces.{entries_in}
 -- ---- counts of lines
 
 abbrev pub plus : Counts → Counts → Counts
-plus c d = record { steps = c.steps + d.steps; acts = c.acts + d.acts; refused = c.refused + d.refused; won = c.won + d.won; committed = c.committed + d.committed; crashes = c.crashes + d.crashes }
+plus c d = record { steps = c.steps + d.moves; acts = c.acts + d.acts; refused = c.refused + d.refused; won = c.won + d.won; committed = c.committed + d.committed; crashes = c.crashes + d.crashes }
 
 -- what a line counts for, by its words
 abbrev pub counted : List (List ℕ) → Counts
@@ -63,7 +63,7 @@ plus_end c = λ i. record { steps = none c.steps i; acts = none c.acts i; refuse
 
 pub plus_assoc : (b c d : Counts) → plus (plus b c) d ≡ plus b (plus c d)
 plus_assoc b c d = λ i. record {
-  steps = assoc b.steps c.steps d.steps i;
+  steps = assoc b.moves c.steps d.moves i;
   acts = assoc b.acts c.acts d.acts i;
   refused = assoc b.refused c.refused d.refused i;
   won = assoc b.won c.won d.won i;
@@ -78,8 +78,8 @@ plus_assoc b c d = λ i. record {
 
 pub data Reads : List ℕ → List Entry → Counts → Type 0 where
   NoLine : Reads [] [] no_counts
-  Passed : (line more : List ℕ) (es : List Entry) (c : Counts) → IsTrue (is_one_line line) → told_at line ≡ Ok None → Reads more es c → Reads (line ++ 10 ∷ more) es (plus (counted (words_of line)) c)
-  Taken : (line more : List ℕ) (e : Entry) (es : List Entry) (c : Counts) → IsTrue (is_one_line line) → told_at line ≡ Ok (Some e) → Reads more es c → Reads (line ++ 10 ∷ more) (e ∷ es) (plus (counted (words_of line)) c)
+  Passed : (line more : List ℕ) (es : List Entry) (c : Counts) → IsTrue (is_one_line line) → shown_at line ≡ Ok None → Reads more es c → Reads (line ++ 10 ∷ more) es (plus (counted (words_of line)) c)
+  Taken : (line more : List ℕ) (e : Entry) (es : List Entry) (c : Counts) → IsTrue (is_one_line line) → shown_at line ≡ Ok (Some e) → Reads more es c → Reads (line ++ 10 ∷ more) (e ∷ es) (plus (counted (words_of line)) c)
 
 pub shows : (text : List ℕ) (es : List Entry) (c : Counts) → Reads text es c → Shows text es
 shows _ _ _ NoLine = Nothing

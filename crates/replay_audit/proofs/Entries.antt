@@ -24,18 +24,18 @@ use Rattle.recorded_trace.specs.Acts.{shown_record}
 use Rattle.recorded_trace.specs.Reading.{Numbered}
 use Rattle.trace_audit.specs.Traced.{found_as, with_entry, with_entries, traced}
 use Rattle.line_laws.specs.Read.{recorded}
-use Rattle.schedule_replay.specs.Steps.{NumberedMessage, ActShown, Step, Echo, Did, Opened, WasDown, WasUp, WentDown, DiskFailed, Unsent}
-use Rattle.schedule_replay.specs.Told.{outcome_shown as outcome_told, told_by, told_from}
+use Rattle.schedule_replay.specs.Parts.{NumberedMessage, ActShown, TracePart, Echo, Did, Opened, WasDown, WasUp, WentDown, DiskFailed, Unsent}
+use Rattle.schedule_replay.specs.HistoryShown.{outcome_shown as outcome_told, history_shown_by, history_shown_from}
 use Rattle.schedule_replay.proofs.Along.{Along, IsSound, RightAct}
 use Rattle.replay_audit.specs.Audits.{entry_count}
 
 -- what a step shows to an audit
-abbrev pub entry_in : Step → List Entry
+abbrev pub entry_in : TracePart → List Entry
 entry_in (Did x) = Acted x.node x.ending x.act ∷ []
 entry_in (Opened n found) = recorded n found ∷ []
 entry_in other = []
 
-abbrev pub entries_of : List Step → List Entry
+abbrev pub entries_of : List TracePart → List Entry
 entries_of steps = flat_map entry_in steps
 
 abbrev pub after_entries : History → List Entry → History
@@ -54,7 +54,7 @@ outcome_again n h act (Disk kept) won sends is told = told
 outcome_again n h act (Crashed kept) won sends is told = told
 
 act_entry : (h : History) (x : ActShown) → RightAct h x → IsOutcome x.node (node_history h x.node) x.act (outcome_told x.ending x.won x.sends)
-    → Next h x.node x.act (outcome_shown (reply_of x.node (node_history h x.node) x.act) x.ending) ≡ told_by h (Did x)
+    → Next h x.node x.act (outcome_shown (reply_of x.node (node_history h x.node) x.act) x.ending) ≡ history_shown_by h (Did x)
 act_entry h x r follows =
     let ends : x.ending ≡ ending_of r.outcome = ap (λ (y : ActShown). y.ending) r.is_shown in
     let is : IsOutcome x.node (node_history h x.node) x.act r.outcome = subst (λ (o : Outcome). IsOutcome x.node (node_history h x.node) x.act o) r.tells follows in
@@ -70,14 +70,14 @@ found_again found kept is =
     let shows : shows_as found kept ≡ true = subst (λ (k : Kept). shows_as found k ≡ true) is (shows_self found) in
     ap (λ (b : Bool). if b then kept else shown_record found.term (record { term = found.accepted.term; version = found.accepted.version }) found.accepted.config found.committed) shows ∙ sym is
 
-opening_entry : (h : History) (n : Id) (found : Kept) → found ≡ durable_of (node_history (settled_for n (is_kept (node_history h n) found) h) n) → with_entry h (recorded n found) ≡ told_by h (Opened n found)
+opening_entry : (h : History) (n : Id) (found : Kept) → found ≡ durable_of (node_history (settled_for n (is_kept (node_history h n) found) h) n) → with_entry h (recorded n found) ≡ history_shown_by h (Opened n found)
 opening_entry h n found continues =
     let before = settled_for n (is_kept (node_history h n) found) h in
     ap (λ (k : Kept). Next before n (Open k) (Answered (Taken None false))) (found_again found (durable_of (node_history before n)) continues)
 
 -- ---- steps
 
-step_entries : (initial : List Id) (h : History) (x : Step) → IsSound initial h x → after_entries h (entry_in x) ≡ told_by h x
+step_entries : (initial : List Id) (h : History) (x : TracePart) → IsSound initial h x → after_entries h (entry_in x) ≡ history_shown_by h x
 step_entries initial h (Did x) s = act_entry h x s.right s.behind.1.follows.follows
 step_entries initial h (Opened n found) s = opening_entry h n found s.behind.1.continues
 step_entries initial h (Echo line) s = refl
@@ -91,12 +91,12 @@ more_entries : (h : History) (xs ys : List Entry) → after_entries h (xs ++ ys)
 more_entries h [] ys = refl
 more_entries h (x ∷ xs) ys = more_entries (with_entry h x) xs ys
 
-pub steps_entries : (initial : List Id) (h : History) (xs : List Step) → Along (IsSound initial) h xs → after_entries h (entries_of xs) ≡ told_from h xs
+pub steps_entries : (initial : List Id) (h : History) (xs : List TracePart) → Along (IsSound initial) h xs → after_entries h (entries_of xs) ≡ history_shown_from h xs
 steps_entries initial h [] a = refl
 steps_entries initial h (x ∷ xs) a =
     more_entries h (entry_in x) (entries_of xs)
     ∙ ap (λ (g : History). after_entries g (entries_of xs)) (step_entries initial h x a.0)
-    ∙ steps_entries initial (told_by h x) xs a.1
+    ∙ steps_entries initial (history_shown_by h x) xs a.1
 
 -- ---- numbered entries
 

@@ -20,19 +20,19 @@ use Rattle.policy_model.specs.declared.events.Event.TheVariants.{Start, Tick, Fr
 use Rattle.policy_model.specs.declared.events.MemberDrop.{MemberDrop}
 use Rattle.policy_model.specs.declared.events.Mode.{Mode}
 use Rattle.policy_model.specs.declared.events.Mode.TheVariants.{Candidate, Leader, Follower}
-use Rattle.policy_model.specs.declared.events.Step.{Step as NodeStep}
-use Rattle.policy_model.specs.declared.events.Step.TheVariants as step
-use Rattle.policy_model.specs.Events.{Item, Opens, Begins, Acts, Turns, Drops, Sends, Replies, Notes}
-use Rattle.policy_model.specs.Entries.{by_member, drops_in, drops_of, frames_in, frames_of, put_drop, replies_of, steps_of}
+use Rattle.policy_model.specs.declared.events.Deed.{Deed as NodeStep}
+use Rattle.policy_model.specs.declared.events.Deed.TheVariants as deed
+use Rattle.policy_model.specs.Events.{Item, Opens, Begins, Acts, ChangesMode, Drops, Sends, Replies, Notes}
+use Rattle.policy_model.specs.Entries.{by_member, drops_in, drops_of, frames_in, frames_of, put_drop, replies_of, deeds_of}
 use Rattle.replay_node.specs.NodeDisk.{CallsEnd, Done, Failed, CrashedIn, opening}
 use Rattle.replay_node.specs.NodeWorld.{found_at, needs_opening}
 use Rattle.replay_node.specs.Worlds.{node_world}
 use Rattle.replay_node.specs.Clusters.{Cluster, after, event_course, frame_at, settings_of, with_opened}
-use Rattle.schedule_replay.specs.Steps.{Step, Did, WasDown, WentDown, Unsent}
-use Rattle.schedule_replay.specs.TraceSteps.{opening_step}
-use Rattle.schedule_replay.specs.ClusterSteps.{ClusterStep, Shared, Turned, Dropped, Framed, Replied}
-use Rattle.schedule_replay.specs.ClusterTold.{numbered_frames}
-use Rattle.schedule_replay.specs.ClusterTraceSteps.{event_steps_if_up, frame_steps, items_steps, line_steps, policy_steps, restart_steps, start_steps, steps_from}
+use Rattle.schedule_replay.specs.Parts.{TracePart, Did, WasDown, WentDown, Unsent}
+use Rattle.schedule_replay.specs.TraceParts.{opening_part}
+use Rattle.schedule_replay.specs.ClusterParts.{ClusterPart, Shared, ModeChanged, Dropped, Framed, Replied}
+use Rattle.schedule_replay.specs.ClusterShown.{numbered_frames}
+use Rattle.schedule_replay.specs.ClusterTraceParts.{event_parts_if_up, frame_parts, items_parts, line_parts, policy_parts, restart_parts, start_parts, parts_from}
 use Rattle.cluster_replay.specs.Laws.{node_of}
 use Rattle.cluster_replay.proofs.Naming.{frames-sorted, NamesAct, NamesFrame, NamesItem, NamesMaster, NamesMessage, NamesMode}
 use Rattle.cluster_replay.proofs.Allowing.{IsGoodFrame}
@@ -47,14 +47,14 @@ IsNamedAct (Value version config value) = IsReadable (Value version config value
 IsNamedAct other = Unit {0}
 
 -- what a step names are ids: who leads, who is dropped, and whom a frame names
-abbrev pub IsNamed : ClusterStep → Type 0
+abbrev pub IsNamed : ClusterPart → Type 0
 IsNamed (Shared (Did x)) = IsNamedAct x.act
-IsNamed (Turned n mode term) = FitsMode mode
+IsNamed (ModeChanged n mode term) = FitsMode mode
 IsNamed (Dropped n d) = IsTrue (is_id d.member)
 IsNamed (Framed f) = FitsFrame f.frame
 IsNamed other = Unit {0}
 
-abbrev pub AreNamed : List ClusterStep → Type 0
+abbrev pub AreNamed : List ClusterPart → Type 0
 AreNamed xs = AllByRecursion IsNamed xs
 
 -- ---- of items
@@ -96,24 +96,24 @@ named_message (message.LeaderCheck term) h = tt
 named_message (message.LeaderAnswer good) h = tt
 
 abbrev NamesStep : NodeStep → Type 0
-NamesStep (step.Act act o) = NamesAct act
-NamesStep (step.Mode mode term) = NamesMode mode
+NamesStep (deed.Act act o) = NamesAct act
+NamesStep (deed.Mode mode term) = NamesMode mode
 
-steps_named : (is : List Item) → AllByRecursion NamesItem is → AllByRecursion NamesStep (steps_of is)
+steps_named : (is : List Item) → AllByRecursion NamesItem is → AllByRecursion NamesStep (deeds_of is)
 steps_named [] h = tt
 steps_named (Opens found ∷ is) h = steps_named is h.1
 steps_named (Begins event ∷ is) h = steps_named is h.1
 steps_named (Acts act outcome ∷ is) h = (h.0, steps_named is h.1)
-steps_named (Turns mode term ∷ is) h = (h.0, steps_named is h.1)
+steps_named (ChangesMode mode term ∷ is) h = (h.0, steps_named is h.1)
 steps_named (Drops member cause ∷ is) h = steps_named is h.1
 steps_named (Sends frame ∷ is) h = steps_named is h.1
 steps_named (Replies answer ∷ is) h = steps_named is h.1
 steps_named (Notes note ∷ is) h = steps_named is h.1
 
-policy_named : (h : History) (n : Id) (ss : List NodeStep) → AllByRecursion NamesStep ss → AreNamed (policy_steps h n ss)
+policy_named : (h : History) (n : Id) (ss : List NodeStep) → AllByRecursion NamesStep ss → AreNamed (policy_parts h n ss)
 policy_named h n [] k = tt
-policy_named h n (step.Act act o ∷ ss) k = (named_act act k.0, policy_named (Next h n act o) n ss k.1)
-policy_named h n (step.Mode mode term ∷ ss) k = (named_mode mode k.0, policy_named h n ss k.1)
+policy_named h n (deed.Act act o ∷ ss) k = (named_act act k.0, policy_named (Next h n act o) n ss k.1)
+policy_named h n (deed.Mode mode term ∷ ss) k = (named_mode mode k.0, policy_named h n ss k.1)
 
 abbrev NamesDrop : MemberDrop → Type 0
 NamesDrop d = IsTrue (is_id d.member)
@@ -123,7 +123,7 @@ drops_named [] h = tt
 drops_named (Opens found ∷ is) h = drops_named is h.1
 drops_named (Begins event ∷ is) h = drops_named is h.1
 drops_named (Acts act outcome ∷ is) h = drops_named is h.1
-drops_named (Turns mode term ∷ is) h = drops_named is h.1
+drops_named (ChangesMode mode term ∷ is) h = drops_named is h.1
 drops_named (Drops member cause ∷ is) h = (h.0, drops_named is h.1)
 drops_named (Sends frame ∷ is) h = drops_named is h.1
 drops_named (Replies answer ∷ is) h = drops_named is h.1
@@ -150,7 +150,7 @@ frames_named [] h = tt
 frames_named (Opens found ∷ is) h = frames_named is h.1
 frames_named (Begins event ∷ is) h = frames_named is h.1
 frames_named (Acts act outcome ∷ is) h = frames_named is h.1
-frames_named (Turns mode term ∷ is) h = frames_named is h.1
+frames_named (ChangesMode mode term ∷ is) h = frames_named is h.1
 frames_named (Drops member cause ∷ is) h = frames_named is h.1
 frames_named (Sends frame ∷ is) h = (h.0, frames_named is h.1)
 frames_named (Replies answer ∷ is) h = frames_named is h.1
@@ -164,33 +164,33 @@ replied_named : (n : Id) (rs : List Outgoing) → AreNamed (map (Replied n) rs)
 replied_named n [] = tt
 replied_named n (r ∷ rs) = (tt, replied_named n rs)
 
-items_named : (h : History) (count : ℕ) (n : Id) (is : List Item) → AllByRecursion NamesItem is → AreNamed (items_steps h count n is)
+items_named : (h : History) (count : ℕ) (n : Id) (is : List Item) → AllByRecursion NamesItem is → AreNamed (items_parts h count n is)
 items_named h count n is k =
     each_append IsNamed _ (map (Replied n) (replies_of is))
     (each_append IsNamed _ (map Framed (numbered_frames count (frames_of is)))
-    (each_append IsNamed (policy_steps h n (steps_of is)) (map (Dropped n) (drops_of is)) (policy_named h n (steps_of is) (steps_named is k)) (dropped_named n (drops_of is) (drops_sorted (flat_map drops_in is) (drops_named is k))))
+    (each_append IsNamed (policy_parts h n (deeds_of is)) (map (Dropped n) (drops_of is)) (policy_named h n (deeds_of is) (steps_named is k)) (dropped_named n (drops_of is) (drops_sorted (flat_map drops_in is) (drops_named is k))))
     (framed_named count (frames_of is) (frames-sorted (flat_map frames_in is) (frames_named is k))))
     (replied_named n (replies_of is))
 
 -- ---- of lines
 
-named_if : (b c : Bool) (xs ys : List ClusterStep) → b ≡ c → (c ≡ true → AreNamed xs) → (c ≡ false → AreNamed ys) → AreNamed (if b then xs else ys)
+named_if : (b c : Bool) (xs ys : List ClusterPart) → b ≡ c → (c ≡ true → AreNamed xs) → (c ≡ false → AreNamed ys) → AreNamed (if b then xs else ys)
 named_if true true xs ys e p q = p refl
 named_if false false xs ys e p q = q refl
 named_if true false xs ys e p q = absurd (cc)
 named_if false true xs ys e p q = absurd (cc)
 
-named_one : (b : Bool) (x y : ClusterStep) → IsNamed x → IsNamed y → AreNamed ((if b then x else y) ∷ [])
+named_one : (b : Bool) (x y : ClusterPart) → IsNamed x → IsNamed y → AreNamed ((if b then x else y) ∷ [])
 named_one true x y p q = (p, tt)
 named_one false x y p q = (q, tt)
 
 module _ (nodes initial voting_only : List Id) (ids : IsIdSet nodes) (set : IsIdSet initial) where
   named_event_if_up : (n : Id) (e : Event) (c : Cluster) → has n nodes ≡ true → (needs_opening (node_world c.world n) ≡ false → AllByRecursion NamesItem (event_course (settings_of nodes initial voting_only n) c e).items)
-      → AreNamed (event_steps_if_up (settings_of nodes initial voting_only n) c e)
+      → AreNamed (event_parts_if_up (settings_of nodes initial voting_only n) c e)
   named_event_if_up n e c listed names =
       named_if (needs_opening (node_world c.world n)) (needs_opening (node_world c.world n)) _ _ refl (λ t. (tt, tt)) (λ runs. items_named c.world.history (length c.frames) n _ (names runs))
 
-  named_frame : (n : Id) (k : ℕ) (o : Option Frame) (c : Cluster) → has n nodes ≡ true → slice_get c.frames k ≡ o → SoundCluster nodes initial voting_only c → AreNamed (frame_steps (settings_of nodes initial voting_only n) c o)
+  named_frame : (n : Id) (k : ℕ) (o : Option Frame) (c : Cluster) → has n nodes ≡ true → slice_get c.frames k ≡ o → SoundCluster nodes initial voting_only c → AreNamed (frame_parts (settings_of nodes initial voting_only n) c o)
   named_frame n k None c listed e h = named_one (needs_opening (node_world c.world n)) (Shared (WasDown n)) (Shared Unsent) tt tt
   named_frame n k (Some f) c listed e h =
       named_if (needs_opening (node_world c.world n)) (needs_opening (node_world c.world n)) _ _ refl (λ t. (tt, tt))
@@ -198,28 +198,28 @@ module _ (nodes initial voting_only : List Id) (ids : IsIdSet nodes) (set : IsId
       (λ t. items_named c.world.history (length c.frames) n _ (event_named nodes initial voting_only ids set n (FrameCame f) c listed refl (frame_comes nodes initial voting_only ids set (sent c.world.history) f h.world.messages (each_at (IsGoodFrame (sent c.world.history)) c.frames k f h.frames e)) h runs))
       (λ t. (tt, tt)))
 
-  named_opening : (end : CallsEnd) (n : Id) (found : Kept) → IsNamed (Shared (opening_step end n found))
+  named_opening : (end : CallsEnd) (n : Id) (found : Kept) → IsNamed (Shared (opening_part end n found))
   named_opening Done n found = tt
   named_opening Failed n found = tt
   named_opening (CrashedIn way) n found = tt
 
-  named_restart_step : (b : Bool) (x y : Step) → IsNamed (Shared x) → IsNamed (Shared y) → IsNamed (Shared (if b then x else y))
+  named_restart_step : (b : Bool) (x y : TracePart) → IsNamed (Shared x) → IsNamed (Shared y) → IsNamed (Shared (if b then x else y))
   named_restart_step true x y p q = p
   named_restart_step false x y p q = q
 
-  named_start : (n : Id) (end : CallsEnd) (c : Cluster) → (end ≡ Done → AllByRecursion NamesItem (event_course (settings_of nodes initial voting_only n) (with_opened (settings_of nodes initial voting_only n) c) Start).items) → AreNamed (start_steps (settings_of nodes initial voting_only n) end c)
+  named_start : (n : Id) (end : CallsEnd) (c : Cluster) → (end ≡ Done → AllByRecursion NamesItem (event_course (settings_of nodes initial voting_only n) (with_opened (settings_of nodes initial voting_only n) c) Start).items) → AreNamed (start_parts (settings_of nodes initial voting_only n) end c)
   named_start n Done c names = items_named (with_opened (settings_of nodes initial voting_only n) c).world.history (length c.frames) n ((event_course (settings_of nodes initial voting_only n) (with_opened (settings_of nodes initial voting_only n) c) Start).items) (names refl)
   named_start n Failed c names = tt
   named_start n (CrashedIn way) c names = tt
 
-  named_restart : (n : Id) (c : Cluster) → has n nodes ≡ true → SoundCluster nodes initial voting_only c → AreNamed (restart_steps (settings_of nodes initial voting_only n) c)
+  named_restart : (n : Id) (c : Cluster) → has n nodes ≡ true → SoundCluster nodes initial voting_only c → AreNamed (restart_parts (settings_of nodes initial voting_only n) c)
   named_restart n c listed h = (
     named_restart_step (needs_opening (node_world c.world n)) _ _ (named_opening (opening (c.world.disks n)).ended n (found_at (node_world c.world n))) tt,
     named_if (needs_opening (node_world c.world n)) (needs_opening (node_world c.world n)) _ _ refl
         (λ needs. named_start n (opening (node_world c.world n).disk).ended c ((line_restart nodes initial voting_only ids set n c listed h).1 needs)) (λ t. tt),
   )
 
-  named_line : (c : Cluster) (l : Line) → has (node_of l) nodes ≡ true → SoundCluster nodes initial voting_only c → AreNamed (line_steps nodes initial voting_only c l)
+  named_line : (c : Cluster) (l : Line) → has (node_of l) nodes ≡ true → SoundCluster nodes initial voting_only c → AreNamed (line_parts nodes initial voting_only c l)
   named_line c (line.Tick n now word) f h = named_event_if_up n (Tick now word) c f (λ runs. event_named nodes initial voting_only ids set n (Tick now word) c f refl tt h runs)
   named_line c (line.Client n bytes) f h = named_event_if_up n (LineCame 0 bytes) c f (λ runs. event_named nodes initial voting_only ids set n (LineCame 0 bytes) c f refl (good-asks bytes) h runs)
   named_line c (line.Deliver n number) f h = named_frame n (number - 1) (frame_at c number) c f refl h
@@ -231,7 +231,7 @@ module _ (nodes initial voting_only : List Id) (ids : IsIdSet nodes) (set : IsId
   named_line c (line.StartJoin n candidate term) f h = tt
   named_line c (line.Value n version text config) f h = tt
 
-  pub named_lines : (c : Cluster) (ls : List Line) → AllByRecursion (λ (l : Line). has (node_of l) nodes ≡ true) ls → SoundCluster nodes initial voting_only c → AreNamed (steps_from nodes initial voting_only c ls)
+  pub named_lines : (c : Cluster) (ls : List Line) → AllByRecursion (λ (l : Line). has (node_of l) nodes ≡ true) ls → SoundCluster nodes initial voting_only c → AreNamed (parts_from nodes initial voting_only c ls)
   named_lines c [] f h = tt
   named_lines c (l ∷ ls) f h =
-      (tt, each_append IsNamed (line_steps nodes initial voting_only c l) _ (named_line c l f.0 h) (named_lines (after nodes initial voting_only c l) ls f.1 (line_sound nodes initial voting_only ids set c l f.0 h)))
+      (tt, each_append IsNamed (line_parts nodes initial voting_only c l) _ (named_line c l f.0 h) (named_lines (after nodes initial voting_only c l) ls f.1 (line_sound nodes initial voting_only ids set c l f.0 h)))

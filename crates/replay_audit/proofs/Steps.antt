@@ -31,8 +31,8 @@ use Rattle.line_laws.proofs.Skips.{echo_read, shown_read, node_read}
 use Rattle.replay_node.specs.Did.{won_by}
 use Rattle.replay_node.specs.Sent.{taking}
 use Rattle.schedule_replay.specs.ActShown.{act_shown, won_term, state_committed, message_sent}
-use Rattle.schedule_replay.specs.Steps.{ActShown, Step, Echo, Did, Opened, WasDown, WasUp, WentDown, DiskFailed, Unsent, sends_text, shown_text, step_text, text_of}
-use Rattle.schedule_replay.specs.Told.{outcome_shown, told_by}
+use Rattle.schedule_replay.specs.Parts.{ActShown, TracePart, Echo, Did, Opened, WasDown, WasUp, WentDown, DiskFailed, Unsent, sends_text, shown_text, part_text, text_of}
+use Rattle.schedule_replay.specs.HistoryShown.{outcome_shown, history_shown_by}
 use Rattle.schedule_replay.proofs.Along.{Along, IsSound}
 use Rattle.trace_summary.specs.declared.counts.Counts.{Counts}
 use Rattle.trace_summary.specs.Counted.{no_counts}
@@ -113,7 +113,7 @@ act_shows count published n act o k =
 -- ---- what is given with a step
 
 -- its node has an id, what the node does of its own accord can be read, and the line of the schedule is one of these nodes
-abbrev pub IsGiven : Level → List Id → Step → Type 0
+abbrev pub IsGiven : Level → List Id → TracePart → Type 0
 IsGiven level nodes (Echo l) = FitsLine level nodes l
 IsGiven level nodes (Did x) = IsTrue (is_id x.node) × IsGivenAct x.act
 IsGiven level nodes (Opened n found) = IsTrue (is_id n)
@@ -123,18 +123,18 @@ IsGiven level nodes (WentDown n) = IsTrue (is_id n)
 IsGiven level nodes (DiskFailed n) = IsTrue (is_id n)
 IsGiven level nodes Unsent = Unit {0}
 
-abbrev pub is_act : Step → Bool
+abbrev pub is_act : TracePart → Bool
 is_act (Did x) = true
 is_act other = false
 
 -- what its lines count for, and those of all steps
-abbrev pub step_counts : Step → Counts
+abbrev pub step_counts : TracePart → Counts
 step_counts (Did x) = did_counts x
 step_counts (Echo l) = one_step
 step_counts (WentDown n) = one_crash
 step_counts other = no_counts
 
-abbrev pub counts_of : List Step → Counts
+abbrev pub counts_of : List TracePart → Counts
 counts_of [] = no_counts
 counts_of (x ∷ xs) = plus (step_counts x) (counts_of xs)
 
@@ -151,7 +151,7 @@ sends_one (Crashed kept) = omega arith
 some_text : (x : ActShown) → 1 ≤ length (shown_text x)
 some_text x = omega arith
 
-sent_grows : (h : History) (x : Step) → length (sent (told_by h x)) ≤ length (sent h) + length (step_text x)
+sent_grows : (h : History) (x : TracePart) → length (sent (history_shown_by h x)) ≤ length (sent h) + length (part_text x)
 sent_grows h (Did x) = omega (arith, length-append (sent h) (sent_by (outcome_shown x.ending x.won x.sends)), sends_one (outcome_shown x.ending x.won x.sends), some_text x)
 sent_grows h (Opened n found) = omega (arith, length-append (sent (settled_for n (is_kept (node_history h n) found) h)) [], ap (λ (ms : List Message). length ms) (settled_sent n (is_kept (node_history h n) found) h))
 sent_grows h (Echo l) = omega arith
@@ -172,7 +172,7 @@ module _ (initial : List Id) (set : IsListed initial) where
       let before = settled_for n (is_kept (node_history h n) found) h in
       subst IsReadableRecord (sym s.behind.1.continues) (durable_readable (node_history before n) (own_readable before n (settled_readable n (is_kept (node_history h n) found) h r)))
 
-  pub told_readable : (level : Level) (nodes : List Id) (h : History) (x : Step) → IsSound initial h x → IsGiven level nodes x → AllReadable h → AllReadable (told_by h x)
+  pub told_readable : (level : Level) (nodes : List Id) (h : History) (x : TracePart) → IsSound initial h x → IsGiven level nodes x → AllReadable h → AllReadable (history_shown_by h x)
   told_readable level nodes h (Did x) s g r = (r, g.0, did_readable h x s g.1 r)
   told_readable level nodes h (Opened n found) s g r = (settled_readable n (is_kept (node_history h n) found) h r, g, found_readable h n found s r)
   told_readable level nodes h (Echo l) s g r = r
@@ -201,7 +201,7 @@ module _ (initial : List Id) (set : IsListed initial) where
       (act_shows (length (sent h)) (last_published (node_history h x.node)) x.node x.act s.right.outcome (can_be_shown h x s good given r few))
 
   -- a step that shows no act
-  pub quiet_shows : (level : Level) (nodes : List Id) (h : History) (x : Step) → is_act x ≡ false → IsIdSet nodes → IsSound initial h x → IsGiven level nodes x → AllReadable h → Reads (step_text x) (entry_in x) (step_counts x)
+  pub quiet_shows : (level : Level) (nodes : List Id) (h : History) (x : TracePart) → is_act x ≡ false → IsIdSet nodes → IsSound initial h x → IsGiven level nodes x → AllReadable h → Reads (part_text x) (entry_in x) (step_counts x)
   quiet_shows level nodes h (Did x) q ids s g r = absurd cc
   quiet_shows level nodes h (Opened n found) q ids s g r = line_reads _ (codes "record" ∷ []) (Some (recorded n found)) no_counts (record_read n found g (found_readable h n found s r)) (λ rest. refl)
   quiet_shows level nodes h (Echo l) q ids s g r = line_reads _ (codes ">" ∷ []) None one_step (echo_read level nodes l ids g) (λ rest. refl)
@@ -211,7 +211,7 @@ module _ (initial : List Id) (set : IsListed initial) where
   quiet_shows level nodes h (DiskFailed n) q ids s g r = line_reads _ (codes "disk" ∷ []) None no_counts (node_read.disk n g) (λ rest. refl)
   quiet_shows level nodes h Unsent q ids s g r = line_reads _ (codes "unsent" ∷ []) None no_counts node_read.unsent (λ rest. refl)
 
-  step_shows : (level : Level) (nodes : List Id) (h : History) (x : Step) → IsIdSet nodes → IsSound initial h x → IsGiven level nodes x → AllReadable h → IsSmall (length (sent h) + 1) → Reads (step_text x) (entry_in x) (step_counts x)
+  step_shows : (level : Level) (nodes : List Id) (h : History) (x : TracePart) → IsIdSet nodes → IsSound initial h x → IsGiven level nodes x → AllReadable h → IsSmall (length (sent h) + 1) → Reads (part_text x) (entry_in x) (step_counts x)
   step_shows level nodes h (Did x) ids s g r few = did_shows h x s g.0 g.1 r few
   step_shows level nodes h (Opened n found) ids s g r few = quiet_shows level nodes h (Opened n found) refl ids s g r
   step_shows level nodes h (Echo l) ids s g r few = quiet_shows level nodes h (Echo l) refl ids s g r
@@ -223,9 +223,9 @@ module _ (initial : List Id) (set : IsListed initial) where
 
   -- ---- all steps
 
-  pub steps_show : (level : Level) (nodes : List Id) (h : History) (xs : List Step) → IsIdSet nodes → Along (IsSound initial) h xs → AllByRecursion (IsGiven level nodes) xs → AllReadable h → length (sent h) + length (text_of xs) ≤ most_bytes
+  pub steps_show : (level : Level) (nodes : List Id) (h : History) (xs : List TracePart) → IsIdSet nodes → Along (IsSound initial) h xs → AllByRecursion (IsGiven level nodes) xs → AllReadable h → length (sent h) + length (text_of xs) ≤ most_bytes
       → Reads (text_of xs) (entries_of xs) (counts_of xs)
   steps_show level nodes h [] ids a g r few = NoLine
   steps_show level nodes h (x ∷ xs) ids a g r few =
-      both_read (step_text x) (text_of xs) (entry_in x) (entries_of xs) (step_counts x) (counts_of xs) (step_shows level nodes h x ids a.0 g.0 r (omega (arith, few)))
-      (steps_show level nodes (told_by h x) xs ids a.1 g.1 (told_readable level nodes h x a.0 g.0 r) (omega (arith, few, sent_grows h x, length-append (step_text x) (text_of xs))))
+      both_read (part_text x) (text_of xs) (entry_in x) (entries_of xs) (step_counts x) (counts_of xs) (step_shows level nodes h x ids a.0 g.0 r (omega (arith, few)))
+      (steps_show level nodes (history_shown_by h x) xs ids a.1 g.1 (told_readable level nodes h x a.0 g.0 r) (omega (arith, few, sent_grows h x, length-append (part_text x) (text_of xs))))

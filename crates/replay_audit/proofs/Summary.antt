@@ -29,11 +29,11 @@ use Rattle.schedule_replay.specs.ActShown.{act_shown, message_sent, state_commit
 use Rattle.schedule_replay.specs.Levels.{trace_at}
 use Rattle.schedule_replay.specs.Replayed.{replayed}
 use Rattle.schedule_replay.specs.Showing.{Shows}
-use Rattle.schedule_replay.specs.Steps.{ActShown, NumberedMessage, Step, Echo, Did, Opened, WasDown, WasUp, WentDown, DiskFailed, Unsent}
-use Rattle.schedule_replay.specs.Told.{ShowsCommit, commit_of, if_commit, lines_of as lines_told, message_in, outcome_shown, some_win, told_by, told_from, wins_of}
-use Rattle.schedule_replay.specs.ClusterTold.{core_of}
-use Rattle.schedule_replay.specs.ClusterTraceSteps.{cluster_steps}
-use Rattle.schedule_replay.specs.TraceSteps.{steps}
+use Rattle.schedule_replay.specs.Parts.{ActShown, NumberedMessage, TracePart, Echo, Did, Opened, WasDown, WasUp, WentDown, DiskFailed, Unsent}
+use Rattle.schedule_replay.specs.HistoryShown.{ShowsCommit, commit_of, if_commit, lines_of as lines_told, message_in, outcome_shown, some_win, history_shown_by, history_shown_from, wins_of}
+use Rattle.schedule_replay.specs.ClusterShown.{core_of}
+use Rattle.schedule_replay.specs.ClusterTraceParts.{cluster_parts}
+use Rattle.schedule_replay.specs.TraceParts.{trace_parts}
 use Rattle.schedule_replay.proofs.Along.{Along, IsSound, RightAct}
 use Rattle.schedule_replay.proofs.Right.{schedule_sound}
 use Rattle.schedule_replay.proofs.TraceLaws as core
@@ -64,7 +64,7 @@ committed_is (Some state) = (refl, refl, refl, refl)
 
 -- ---- lines and wins
 
-echoes : (xs : List Step) → (counts_of xs).steps ≡ length (lines_told xs)
+echoes : (xs : List TracePart) → (counts_of xs).steps ≡ length (lines_told xs)
 echoes [] = refl
 echoes (Echo l ∷ xs) = omega (arith, echoes xs)
 echoes (Did x ∷ xs) = omega (arith, echoes xs, (ended_is x.ending).0, (won_is x.node x.won).0, (committed_is x.committed).0)
@@ -75,7 +75,7 @@ echoes (WentDown n ∷ xs) = omega (arith, echoes xs)
 echoes (DiskFailed n ∷ xs) = omega (arith, echoes xs)
 echoes (Unsent ∷ xs) = omega (arith, echoes xs)
 
-wins : (xs : List Step) → (counts_of xs).won ≡ length (wins_of xs)
+wins : (xs : List TracePart) → (counts_of xs).won ≡ length (wins_of xs)
 wins [] = refl
 wins (Did x ∷ xs) = omega (arith, wins xs, (ended_is x.ending).2, (won_is x.node x.won).3, (committed_is x.committed).3, length-append (some_win x.node x.won) (wins_of xs))
 wins (Echo l ∷ xs) = omega (arith, wins xs)
@@ -123,13 +123,13 @@ refused_told ending.Stopped won sends k = omega arith
 refused_told ending.Disk won sends k = omega arith
 refused_told ending.Crashed won sends k = omega arith
 
-act_told : (h : History) (x : ActShown) → is_opening x.act ≡ false → act_count (told_by h (Did x)) ≡ act_count h + (did_counts x).acts
+act_told : (h : History) (x : ActShown) → is_opening x.act ≡ false → act_count (history_shown_by h (Did x)) ≡ act_count h + (did_counts x).acts
 act_told h x shut =
     let one : cond (is_opening x.act) (act_count h) (act_count h + 1) ≡ act_count h + 1 = ap (λ (b : Bool). cond b (act_count h) (act_count h + 1)) shut in
     omega (arith, one, (ended_is x.ending).1, (won_is x.node x.won).1, (committed_is x.committed).1)
 
 module _ (initial : List Id) where
-  acts_told : (h : History) (x : Step) → IsSound initial h x → act_count (told_by h x) ≡ act_count h + (step_counts x).acts
+  acts_told : (h : History) (x : TracePart) → IsSound initial h x → act_count (history_shown_by h x) ≡ act_count h + (step_counts x).acts
   acts_told h (Did x) s = act_told h x s.right.shut
   acts_told h (Opened n found) s = omega (arith, acts_settled n (is_kept (node_history h n) found) h)
   acts_told h (Echo l) s = omega arith
@@ -139,7 +139,7 @@ module _ (initial : List Id) where
   acts_told h (DiskFailed n) s = omega arith
   acts_told h Unsent s = omega arith
 
-  refusals_told : (h : History) (x : Step) → refusal_count (told_by h x) ≡ refusal_count h + (step_counts x).refused
+  refusals_told : (h : History) (x : TracePart) → refusal_count (history_shown_by h x) ≡ refusal_count h + (step_counts x).refused
   refusals_told h (Did x) = omega (arith, refused_told x.ending x.won x.sends (refusal_count h), (won_is x.node x.won).2, (committed_is x.committed).2)
   refusals_told h (Opened n found) = omega (arith, refusals_settled n (is_kept (node_history h n) found) h)
   refusals_told h (Echo l) = omega arith
@@ -175,7 +175,7 @@ module _ (initial : List Id) where
       ∙ commit_counts x.node (length (sent h) + 1) published r.outcome shown
       ∙ ap (λ (z : ActShown). (committed_counts z.committed).committed) (sym r.is_shown)
 
-  commits_told : (h : History) (x : Step) → IsSound initial h x → ShowsCommit x → count_by is_commit (sent (told_by h x)) ≡ count_by is_commit (sent h) + (step_counts x).committed
+  commits_told : (h : History) (x : TracePart) → IsSound initial h x → ShowsCommit x → count_by is_commit (sent (history_shown_by h x)) ≡ count_by is_commit (sent h) + (step_counts x).committed
   commits_told h (Did x) s c = omega (arith, more_commits (sent h) (sent_by (outcome_shown x.ending x.won x.sends)), commit_told h x s.right c, (ended_is x.ending).3, (won_is x.node x.won).4)
   commits_told h (Opened n found) s c =
       omega (arith, more_commits (sent (settled_for n (is_kept (node_history h n) found) h)) [], ap (λ (ms : List Message). count_by is_commit ms) (settled_sent n (is_kept (node_history h n) found) h))
@@ -186,25 +186,25 @@ module _ (initial : List Id) where
   commits_told h (DiskFailed n) s c = omega arith
   commits_told h Unsent s c = omega arith
 
-  -- ---- all steps
+  -- ---- all trace_parts
 
-  acts : (h : History) (xs : List Step) → Along (IsSound initial) h xs → act_count (told_from h xs) ≡ act_count h + (counts_of xs).acts
+  acts : (h : History) (xs : List TracePart) → Along (IsSound initial) h xs → act_count (history_shown_from h xs) ≡ act_count h + (counts_of xs).acts
   acts h [] a = omega arith
-  acts h (x ∷ xs) a = omega (arith, acts_told h x a.0, acts (told_by h x) xs a.1)
+  acts h (x ∷ xs) a = omega (arith, acts_told h x a.0, acts (history_shown_by h x) xs a.1)
 
-  refusals : (h : History) (xs : List Step) → refusal_count (told_from h xs) ≡ refusal_count h + (counts_of xs).refused
+  refusals : (h : History) (xs : List TracePart) → refusal_count (history_shown_from h xs) ≡ refusal_count h + (counts_of xs).refused
   refusals h [] = omega arith
-  refusals h (x ∷ xs) = omega (arith, refusals_told h x, refusals (told_by h x) xs)
+  refusals h (x ∷ xs) = omega (arith, refusals_told h x, refusals (history_shown_by h x) xs)
 
-  commits : (h : History) (xs : List Step) → Along (IsSound initial) h xs → AllByRecursion ShowsCommit xs → count_by is_commit (sent (told_from h xs)) ≡ count_by is_commit (sent h) + (counts_of xs).committed
+  commits : (h : History) (xs : List TracePart) → Along (IsSound initial) h xs → AllByRecursion ShowsCommit xs → count_by is_commit (sent (history_shown_from h xs)) ≡ count_by is_commit (sent h) + (counts_of xs).committed
   commits h [] a c = omega arith
-  commits h (x ∷ xs) a c = omega (arith, commits_told h x a.0 c.0, commits (told_by h x) xs a.1 c.1)
+  commits h (x ∷ xs) a c = omega (arith, commits_told h x a.0 c.0, commits (history_shown_by h x) xs a.1 c.1)
 
-  -- the numbers of sound steps that show the wins and the commits of the history that they tell
-  numbers : (s : Schedule) (h : History) (xs : List Step) (c : Counts) → c ≡ counts_of xs → lines_told xs ≡ s.lines → told_from NoEntries xs ≡ h → Along (IsSound initial) NoEntries xs → Shows h xs → AreOf c s h
+  -- the numbers of sound trace_parts that show the wins and the commits of the history that they tell
+  numbers : (s : Schedule) (h : History) (xs : List TracePart) (c : Counts) → c ≡ counts_of xs → lines_told xs ≡ s.lines → history_shown_from NoEntries xs ≡ h → Along (IsSound initial) NoEntries xs → Shows h xs → AreOf c s h
   numbers s h xs c is lines told sound shown =
       subst (λ (k : Counts). AreOf k s h) (sym is) (record {
-        steps = echoes xs ∙ ap (λ (ls : List Line). length ls) lines;
+        trace_parts = echoes xs ∙ ap (λ (ls : List Line). length ls) lines;
         acts = omega (arith, acts NoEntries xs sound, ap act_count told);
         refused = omega (arith, refusals NoEntries xs, ap refusal_count told);
         won = wins xs ∙ ap (λ (ws : List Win). length ws) shown.wins;
@@ -217,10 +217,10 @@ pub summary : LawSummary
 unfolding summary_of
 summary s formed can =
     let t = core.tells s in
-    numbers s.initial s (replayed s) (steps s) _ (sums (trace_at Core s) _ _ (core_trace.trace_reads s formed can)) t.lines t.history (schedule_sound s formed) (core.shows s formed)
+    numbers s.initial s (replayed s) (trace_parts s) _ (sums (trace_at Core s) _ _ (core_trace.trace_reads s formed can)) t.lines t.history (schedule_sound s formed) (core.shows s formed)
 
 pub whole_summary : LawWholeSummary
 unfolding summary_of
 whole_summary s w =
     let t = whole.tells s in
-    numbers s.initial s (replayed_history s) (core_of (cluster_steps s)) _ (sums (trace_at Node s) _ _ (whole_trace.trace_reads s w)) t.lines t.history (whole_trace.whole_sound s w) (whole.shows s (cluster_replay_is_legal s (whole_trace.formed s w)))
+    numbers s.initial s (replayed_history s) (core_of (cluster_parts s)) _ (sums (trace_at Node s) _ _ (whole_trace.trace_reads s w)) t.lines t.history (whole_trace.whole_sound s w) (whole.shows s (cluster_replay_is_legal s (whole_trace.formed s w)))

@@ -1,7 +1,7 @@
 //! What an audit finds in the trace of a replay. No call of this crate does anything: what it promises is proved.
 #![tactic(auto)]
 
-pub mod laws;
+mod laws;
 
 pub use laws::{
     law_replay_is_audited, law_replay_is_read, law_summary, law_whole_replay_is_audited,

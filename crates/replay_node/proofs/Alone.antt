@@ -6,7 +6,7 @@ use Rattle.replay_node.specs.NodeDisk.{CallsEnd, Done, Failed, CrashedIn}
 use Rattle.replay_node.specs.NodeWorld.{NodeWorld, act_called, after_act, outcome_at}
 use Rattle.replay_node.specs.Worlds.{World, node_world, did}
 use Rattle.replay_node.proofs.Moves.{NodeMoves, moves_did}
-use Rattle.policy_model.specs.Events.{Item, Opens, Begins, Acts, Turns, Drops, Sends, Replies, Notes}
+use Rattle.policy_model.specs.Events.{Item, Opens, Begins, Acts, ChangesMode, Drops, Sends, Replies, Notes}
 use Rattle.policy_model.specs.Follows.{without_output}
 use Rattle.replay_node.specs.Course.{Course, NodeCourse, act_then, behind, played, node_act_then, node_behind, node_played}
 
@@ -49,7 +49,7 @@ plays_alone n w (Acts act outcome ∷ is) =
     act_alone n w act (λ (v : World). played n v is) (λ (y : NodeWorld). node_played n y is) (act_called n (node_world w n) act).ended (plays_alone n (did w n act) is)
 plays_alone n w (Opens found ∷ is) = in_front n w (Opens found) (played n w is) (node_played n (node_world w n) is) (plays_alone n w is)
 plays_alone n w (Begins event ∷ is) = in_front n w (Begins event) (played n w is) (node_played n (node_world w n) is) (plays_alone n w is)
-plays_alone n w (Turns mode term ∷ is) = in_front n w (Turns mode term) (played n w is) (node_played n (node_world w n) is) (plays_alone n w is)
+plays_alone n w (ChangesMode mode term ∷ is) = in_front n w (ChangesMode mode term) (played n w is) (node_played n (node_world w n) is) (plays_alone n w is)
 plays_alone n w (Drops member cause ∷ is) = in_front n w (Drops member cause) (played n w is) (node_played n (node_world w n) is) (plays_alone n w is)
 plays_alone n w (Sends frame ∷ is) = in_front n w (Sends frame) (played n w is) (node_played n (node_world w n) is) (plays_alone n w is)
 plays_alone n w (Replies answer ∷ is) = in_front n w (Replies answer) (played n w is) (node_played n (node_world w n) is) (plays_alone n w is)

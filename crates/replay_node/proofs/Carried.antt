@@ -14,11 +14,11 @@ use Rattle.replay_node.specs.Did.{outcome_of}
 use Rattle.replay_node.specs.NodeDisk.{CallsEnd, Done, Failed, CrashedIn}
 use Rattle.replay_node.specs.NodeWorld.{NodeWorld, act_called, after_act, outcome_at, outcome_by}
 use Rattle.replay_node.specs.Stands.{Journal, OpenStands}
-use Rattle.replay_node.specs.StateDoes.{IsToldBy, StandsAfter, StateDid}
+use Rattle.replay_node.specs.StateDoes.{IsReportedBy, StandsAfter, StateDid}
 use Rattle.replay_node.specs.declared.did.Did.{Did}
 use Rattle.replay_node.specs.declared.did.Did.TheVariants as did
 use Rattle.replay_node.proofs.StateSteps.{Step, answered_at, answered_stands, ended_does}
-use Rattle.policy_model.specs.Events.{Item, Opens, Begins, Acts, Turns, Drops, Sends, Replies, Notes}
+use Rattle.policy_model.specs.Events.{Item, Opens, Begins, Acts, ChangesMode, Drops, Sends, Replies, Notes}
 use Rattle.policy_model.specs.Local.{is_quiet}
 use Rattle.policy_model.specs.Follows.{without_output}
 use Rattle.replay_node.specs.Course.{NodeCourse, node_act_then, node_behind, node_played}
@@ -37,7 +37,7 @@ pub data Carries : CoordState Journal → CoordState Journal → List Item → L
   Nothing : (c : CoordState Journal) → Carries c c [] [] All
   ByAct : (old mid new : CoordState Journal) (act : Act) (o : Outcome) (reply : ActReply) (is done : List Item) (e : Ending) → is_opening act ≡ false → Step old mid act (Answered reply) → Carries mid new is done e
       → Carries old new (Acts act o ∷ is) (Acts act (Answered reply) ∷ done) e
-  ByFault : (old new : CoordState Journal) (act : Act) (o f : Outcome) (is : List Item) (d : Did) → is_opening act ≡ false → Step old new act (Disk false) → IsToldBy new untaken.Disk d → outcome_of d ≡ Some f
+  ByFault : (old new : CoordState Journal) (act : Act) (o f : Outcome) (is : List Item) (d : Did) → is_opening act ≡ false → Step old new act (Disk false) → IsReportedBy new untaken.Disk d → outcome_of d ≡ Some f
       → Carries old new (Acts act o ∷ is) (Acts act f ∷ []) (Struck d)
   ByOther : (old new : CoordState Journal) (i : Item) (is done : List Item) (e : Ending) → is_quiet i ≡ true → Carries old new is done e
       → Carries old new (i ∷ is) ((if is_struck e then without_output i else i ∷ []) ++ done) e
@@ -56,7 +56,7 @@ pub quiet_played : (me : Id) (x : NodeWorld) (i : Item) (is : List Item) → is_
 quiet_played me x (Opens found) is q = refl
 quiet_played me x (Begins event) is q = refl
 quiet_played me x (Acts act o) is q = absurd (cc)
-quiet_played me x (Turns mode term) is q = refl
+quiet_played me x (ChangesMode mode term) is q = refl
 quiet_played me x (Drops member cause) is q = refl
 quiet_played me x (Sends frame) is q = refl
 quiet_played me x (Replies answer) is q = refl
@@ -85,7 +85,7 @@ done_is Failed r reply h = absurd (cc)
 done_is (CrashedIn way) r reply h = absurd (cc)
 
 -- one that the disk struck did not
-struck_course : (me : Id) (new : CoordState Journal) (x : NodeWorld) (act : Act) (rest : NodeWorld → NodeCourse) (d : Did) (end : CallsEnd) (r : ActReply) → IsToldBy new untaken.Disk d → outcome_of d ≡ Some (outcome_by end r) → StandsAfter me new x d
+struck_course : (me : Id) (new : CoordState Journal) (x : NodeWorld) (act : Act) (rest : NodeWorld → NodeCourse) (d : Did) (end : CallsEnd) (r : ActReply) → IsReportedBy new untaken.Disk d → outcome_of d ≡ Some (outcome_by end r) → StandsAfter me new x d
     → Carried me new (node_act_then end (Acts act (outcome_by end r)) x rest) (Acts act (outcome_by end r) ∷ []) (Struck d)
 struck_course me new x act rest d Failed r told is stands = record { items = refl; struck = refl; stands = stands }
 struck_course me new x act rest d (CrashedIn way) r told is stands = record { items = refl; struck = refl; stands = stands }

@@ -12,7 +12,7 @@ use Rattle.world_model.specs.Settled.{settled, IsUnstruck}
 use Rattle.world_model.proofs.Settling.{unstruck, unstruck_then}
 use Rattle.policy_model.specs.declared.settings.Settings.{Settings}
 use Rattle.policy_model.specs.declared.events.Event.{Event}
-use Rattle.policy_model.specs.Events.{Item, Opens, Begins, Acts, Turns, Drops, Sends, Replies, Notes, Log, And, added, acts_of}
+use Rattle.policy_model.specs.Events.{Item, Opens, Begins, Acts, ChangesMode, Drops, Sends, Replies, Notes, Log, And, added, acts_of}
 use Rattle.policy_model.specs.Entries.{Life, NotBegun, Opened, Lived, Did, Gone, Bad, NoMemory, Unread, log_of}
 use Rattle.policy_model.specs.Views.{view_of}
 use Rattle.policy_model.specs.Follows.{Follows, IsNext, IsStruck, Here, Later, is_fault, has_fault, is_struck, items_of}
@@ -38,7 +38,7 @@ unstruck_items l [] e u = u
 unstruck_items l (Opens found ∷ is) e u = unstruck_items (And l (Opens found)) is e tt
 unstruck_items l (Begins event ∷ is) e u = unstruck_items (And l (Begins event)) is e u
 unstruck_items l (Acts act o ∷ is) e u = let parts = or_parts (is_fault o) (has_fault is) e in unstruck_items (And l (Acts act o)) is parts.1 (unstruck_act (acts_of l) act o parts.0 u)
-unstruck_items l (Turns mode term ∷ is) e u = unstruck_items (And l (Turns mode term)) is e u
+unstruck_items l (ChangesMode mode term ∷ is) e u = unstruck_items (And l (ChangesMode mode term)) is e u
 unstruck_items l (Drops member cause ∷ is) e u = unstruck_items (And l (Drops member cause)) is e u
 unstruck_items l (Sends frame ∷ is) e u = unstruck_items (And l (Sends frame)) is e u
 unstruck_items l (Replies answer ∷ is) e u = unstruck_items (And l (Replies answer)) is e u
@@ -80,7 +80,7 @@ faultless_ends [] e = tt
 faultless_ends (Opens found ∷ is) e = faultless_ends is e
 faultless_ends (Begins event ∷ is) e = faultless_ends is e
 faultless_ends (Acts act o ∷ is) e = let parts = or_parts (is_fault o) (has_fault is) e in (last_answered o is parts.0, faultless_ends is parts.1)
-faultless_ends (Turns mode term ∷ is) e = faultless_ends is e
+faultless_ends (ChangesMode mode term ∷ is) e = faultless_ends is e
 faultless_ends (Drops member cause ∷ is) e = faultless_ends is e
 faultless_ends (Sends frame ∷ is) e = faultless_ends is e
 faultless_ends (Replies answer ∷ is) e = faultless_ends is e
@@ -91,7 +91,7 @@ struck_ends full left (Here act sends wins rest fault w f) e = (last_nothing fau
 struck_ends full left (Later (Acts act o) rest left' q) e = let parts = or_parts (is_fault o) (has_fault rest) e in (last_answered o left' parts.0, struck_ends rest left' q parts.1)
 struck_ends full left (Later (Opens found) rest left' q) e = struck_ends rest left' q e
 struck_ends full left (Later (Begins event) rest left' q) e = struck_ends rest left' q e
-struck_ends full left (Later (Turns mode term) rest left' q) e = struck_ends rest left' q e
+struck_ends full left (Later (ChangesMode mode term) rest left' q) e = struck_ends rest left' q e
 struck_ends full left (Later (Drops member cause) rest left' q) e = struck_ends rest left' q e
 struck_ends full left (Later (Sends frame) rest left' q) e = struck_ends rest left' q e
 struck_ends full left (Later (Replies answer) rest left' q) e = struck_ends rest left' q e
@@ -106,7 +106,7 @@ settled_last k l (Begins event ∷ is) e u = settled_last k (And l (Begins event
 settled_last k l (Acts act (Answered reply) ∷ is) e u = settled_last k (And l (Acts act (Answered reply))) is e.1 (unstruck_then (acts_of l) act reply u)
 settled_last k l (Acts act (Disk was) ∷ is) e u = subst (λ (xs : List Item). acts_of (added (And l (Acts act (Disk k))) (map (settled_item k) xs)) ≡ settled k (acts_of (added (And l (Acts act (Disk was))) xs))) (sym e.0) refl
 settled_last k l (Acts act (Crashed was) ∷ is) e u = subst (λ (xs : List Item). acts_of (added (And l (Acts act (Crashed k))) (map (settled_item k) xs)) ≡ settled k (acts_of (added (And l (Acts act (Crashed was))) xs))) (sym e.0) refl
-settled_last k l (Turns mode term ∷ is) e u = settled_last k (And l (Turns mode term)) is e u
+settled_last k l (ChangesMode mode term ∷ is) e u = settled_last k (And l (ChangesMode mode term)) is e u
 settled_last k l (Drops member cause ∷ is) e u = settled_last k (And l (Drops member cause)) is e u
 settled_last k l (Sends frame ∷ is) e u = settled_last k (And l (Sends frame)) is e u
 settled_last k l (Replies answer ∷ is) e u = settled_last k (And l (Replies answer)) is e u
@@ -137,7 +137,7 @@ settled_none k (Acts act (Disk was) ∷ is) e = absurd (cc)
 settled_none k (Acts act (Crashed was) ∷ is) e = absurd (cc)
 settled_none k (Opens found ∷ is) e = ap (λ (xs : List Item). Opens found ∷ xs) (settled_none k is e)
 settled_none k (Begins event ∷ is) e = ap (λ (xs : List Item). Begins event ∷ xs) (settled_none k is e)
-settled_none k (Turns mode term ∷ is) e = ap (λ (xs : List Item). Turns mode term ∷ xs) (settled_none k is e)
+settled_none k (ChangesMode mode term ∷ is) e = ap (λ (xs : List Item). ChangesMode mode term ∷ xs) (settled_none k is e)
 settled_none k (Drops member cause ∷ is) e = ap (λ (xs : List Item). Drops member cause ∷ xs) (settled_none k is e)
 settled_none k (Sends frame ∷ is) e = ap (λ (xs : List Item). Sends frame ∷ xs) (settled_none k is e)
 settled_none k (Replies answer ∷ is) e = ap (λ (xs : List Item). Replies answer ∷ xs) (settled_none k is e)
@@ -160,7 +160,7 @@ settled_struck k full left (Later (Acts act o) rest left' q) e =
     subst (λ (i : Item). IsStruck (Acts act o ∷ rest) (i ∷ map (settled_item k) left')) (settled_answered k act o parts.0) (Later (Acts act o) rest _ (settled_struck k rest left' q parts.1))
 settled_struck k full left (Later (Opens found) rest left' q) e = Later (Opens found) rest _ (settled_struck k rest left' q e)
 settled_struck k full left (Later (Begins event) rest left' q) e = Later (Begins event) rest _ (settled_struck k rest left' q e)
-settled_struck k full left (Later (Turns mode term) rest left' q) e = Later (Turns mode term) rest _ (settled_struck k rest left' q e)
+settled_struck k full left (Later (ChangesMode mode term) rest left' q) e = Later (ChangesMode mode term) rest _ (settled_struck k rest left' q e)
 settled_struck k full left (Later (Drops member cause) rest left' q) e = Later (Drops member cause) rest _ (settled_struck k rest left' q e)
 settled_struck k full left (Later (Sends frame) rest left' q) e = Later (Sends frame) rest _ (settled_struck k rest left' q e)
 settled_struck k full left (Later (Replies answer) rest left' q) e = Later (Replies answer) rest _ (settled_struck k rest left' q e)

@@ -6,8 +6,8 @@ use Rattle.voting_config.specs.Ids.{Id}
 use Rattle.cluster_state.specs.Initial.{empty_record}
 use Rattle.cluster_state.specs.declared.state.Kept.{Kept}
 use Rattle.zen_disk.specs.Armed.{nothing_armed}
-use Rattle.zen_disk.specs.Fuse.{FuseSteps}
-use Rattle.zen_disk.specs.MemDisks.{MemSteps, files_of, past_of, read_of}
+use Rattle.zen_disk.specs.Fuse.{FuseMoves}
+use Rattle.zen_disk.specs.MemDisks.{MemMoves, files_of, past_of, read_of}
 use Rattle.zen_disk.specs.Moments.{LeavesOnly}
 use Rattle.zen_disk.specs.Runs.{CallsMade}
 use Rattle.zen_disk.specs.Sides.{Files}
@@ -71,7 +71,7 @@ none_either a b found is (inr e) = cc
 pub record JustOpened (fuse : MemFuse) (j : Journal) : Type 0 where
   pub found : found_of (read_of fuse.disk) ≡ Ok j.kept
   pub runs : j.log.stopped ≡ false
-  pub ran : CallsMade (FuseSteps MemSteps) (both_opening_calls (read_of fuse.disk)) fuse j.log.disk true
+  pub ran : CallsMade (FuseMoves MemMoves) (both_opening_calls (read_of fuse.disk)) fuse j.log.disk true
 
 -- a node that was just opened over this journal
 pub record JustOver (me : Id) (j : Journal) (s : CoordState Journal) : Type 0 where
@@ -141,7 +141,7 @@ module _ (me : Id) (fuse : MemFuse) (w : NodeWorld) (c : ClosedStands fuse w) wh
       leaves : (files : Files) → MayLeave g files → IsEither (durable_of (settled false w.acts)) (durable_of (settled true w.acts)) (record_of_files files)
       leaves files may = found_before files (run.since (moment_of fuse) files (omega arith) (were-are (reverse g.disk.order.items) (past_of g.disk) (read_of g.disk) (moment_of fuse) files may))
 
-  module _ (g : MemFuse) (run : LeavesOnly moment_of left_of fuse g (FoundAsSome (MayLeave fuse))) (ran : CallsMade (FuseSteps MemSteps) (both_opening_calls (read_of fuse.disk)) fuse g false) (was now : List ℕ) where
+  module _ (g : MemFuse) (run : LeavesOnly moment_of left_of fuse g (FoundAsSome (MayLeave fuse))) (ran : CallsMade (FuseMoves MemMoves) (both_opening_calls (read_of fuse.disk)) fuse g false) (was now : List ℕ) where
     failed : g.struck ≡ Some Fault → now ≡ was ++ disk_line me → Opens me fuse (Down g) was now w
     failed struck text =
         let made = subst (λ (files : Files). ((calls_made w.disk (both_opening_calls files)).ended ≡ Failed) × DiskStands g (calls_made w.disk (both_opening_calls files)).disk) read_is (said_failed (both_opening_calls (read_of fuse.disk)) fuse g w.disk false c.disk ran refl struck) in
@@ -190,7 +190,7 @@ pub new_stands : (me : Id) (f : MemFuse) (j : Journal) (s : CoordState Journal) 
 new_stands me f j s empty is over =
     let disk : NodeDisk = record { files = no_files; armed = nothing_armed } in
     let began : DiskStands f disk = record { files = empty.files; armed = empty.armed; up = empty.up } in
-    let ran = subst (λ (files : Files). CallsMade (FuseSteps MemSteps) (both_opening_calls files) f j.log.disk true) empty.seen is.ran in
+    let ran = subst (λ (files : Files). CallsMade (FuseMoves MemMoves) (both_opening_calls files) f j.log.disk true) empty.seen is.ran in
     let made = said_done (both_opening_calls (bytes_read no_files)) f j.log.disk disk true began ran refl in
     just_stands me j s NoActs (opening disk).disk over is.runs refl tt (ap (λ (x : Kept). node_state (opened x)) (empty_found (read_of f.disk) j.kept empty.seen is.found)) made.1
 

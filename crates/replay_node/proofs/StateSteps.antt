@@ -9,8 +9,8 @@ use Rattle.cluster_state.specs.declared.messages.PublishRequest.{PublishRequest}
 use Rattle.cluster_state.specs.declared.state.Kept.{Kept}
 use Rattle.zen_disk.specs.DeviceCall.{DeviceCall}
 use Rattle.zen_disk.specs.FileState.{FileState}
-use Rattle.zen_disk.specs.Fuse.{FuseSteps}
-use Rattle.zen_disk.specs.MemDisks.{MemSteps, past_of, read_of}
+use Rattle.zen_disk.specs.Fuse.{FuseMoves}
+use Rattle.zen_disk.specs.MemDisks.{MemMoves, past_of, read_of}
 use Rattle.zen_disk.specs.Moments.{LeavesOnly, quiet}
 use Rattle.zen_disk.specs.Runs.{CallsMade}
 use Rattle.zen_disk.specs.Sides.{Sides, Files}
@@ -52,7 +52,7 @@ use Rattle.replay_node.specs.NodeDisk.{NodeDisk, CallsEnd, Done, Failed, Crashed
 use Rattle.replay_node.specs.NodeWorld.{NodeWorld, act_calls, act_called, after_act, ends_in_a_crash, outcome_at, outcome_by}
 use Rattle.world_model.specs.Settled.{settled, IsUnstruck}
 use Rattle.replay_node.specs.Stands.{Journal, LeavesActs, OpenStands, CrashedStands, fuse_ghosts, journal_ghosts}
-use Rattle.replay_node.specs.StateDoes.{IsToldBy, StandsAfter, StateDid, StateDoes}
+use Rattle.replay_node.specs.StateDoes.{IsReportedBy, StandsAfter, StateDid, StateDoes}
 use Rattle.replay_node.specs.declared.did.Did.{Did}
 use Rattle.replay_node.specs.declared.did.Did.TheVariants as did
 use Rattle.replay_node.proofs.AsSaid.{said_done, said_failed, said_crashed, StopLeaves}
@@ -82,7 +82,7 @@ CallsDone new called = (called.ended ≡ Done) × DiskStands new.log.disk called
 module _ (old new : Journal) (d : NodeDisk) (kept : Kept) (stands : DiskStands old.log.disk d) (same : old.kept ≡ kept) where
   taken_done : (change : Option Change) (sends : Option Message) (wins : Bool) → old.log.stopped ≡ false → Wrote journal_ghosts old change new true → CallsDone new (calls_made d (act_calls (Taken sends wins) change kept (bytes_read d.files)))
   taken_done (Some change) sends wins running wrote =
-      let ran = subst (λ (calls : List DeviceCall). CallsMade (FuseSteps MemSteps) calls old.log.disk new.log.disk true) (calls_are old d kept change stands running same) wrote in
+      let ran = subst (λ (calls : List DeviceCall). CallsMade (FuseMoves MemMoves) calls old.log.disk new.log.disk true) (calls_are old d kept change stands running same) wrote in
       said_done (keeping_calls_in (standing_in (bytes_read d.files)) kept change) old.log.disk new.log.disk d true stands ran refl
   taken_done None sends wins running wrote = (refl, subst (λ (j : Journal). DiskStands j.log.disk d) (sym wrote) stands)
 
@@ -210,10 +210,10 @@ module _ (old new : CoordState Journal) (act : Act) (step : Step old new act (Di
   abbrev calls : List DeviceCall
   calls = keeping_calls_in (standing_in (bytes_read w.disk.files)) (durable_of w.acts) change.0
 
-  struck_ran : CallsMade (FuseSteps MemSteps) calls old.keeper.log.disk new.keeper.log.disk false
+  struck_ran : CallsMade (FuseMoves MemMoves) calls old.keeper.log.disk new.keeper.log.disk false
   struck_ran =
       let wrote : Wrote journal_ghosts old.keeper (Some change.0) new.keeper false = subst (λ (c : Option Change). Wrote journal_ghosts old.keeper c new.keeper false) change.1 step.wrote in
-      subst (λ (made : List DeviceCall). CallsMade (FuseSteps MemSteps) made old.keeper.log.disk new.keeper.log.disk false) (calls_are old.keeper w.disk (durable_of w.acts) change.0 stands.disk struck_runs (stands_durable journal_ghosts old w.acts stands.acts)) wrote
+      subst (λ (made : List DeviceCall). CallsMade (FuseMoves MemMoves) made old.keeper.log.disk new.keeper.log.disk false) (calls_are old.keeper w.disk (durable_of w.acts) change.0 stands.disk struck_runs (stands_durable journal_ghosts old w.acts stands.acts)) wrote
 
   struck_calls : act_called old.me w act ≡ calls_made w.disk calls
   struck_calls =
@@ -278,12 +278,12 @@ module _ (old new : CoordState Journal) (act : Act) (closed : is_opening act ≡
     stands = answered_after old.me new (after_act old.me w act) d reply is (answered_stands old new act reply step closed w stands);
   }
 
-  struck_did : (d : Did) → Step old new act (Disk false) → IsToldBy new untaken.Disk d → StateDid old.me new w act d
+  struck_did : (d : Did) → Step old new act (Disk false) → IsReportedBy new untaken.Disk d → StateDid old.me new w act d
   struck_did did.Disk step told = record { outcome = ap Some (failed_at old new act step w stands told); stands = failed_stands old new act step w stands told }
   struck_did did.Crashed step told = record { outcome = ap Some (crashed_at old new act step w stands told); stands = crashed_stands old new act step w stands told }
   struck_did d step told = absurd told
 
-  ended_did : (why : NotTaken) (d : Did) → Step old new act (ending why) → IsToldBy new why d → StateDid old.me new w act d
+  ended_did : (why : NotTaken) (d : Did) → Step old new act (ending why) → IsReportedBy new why d → StateDid old.me new w act d
   ended_did untaken.Stopped d step told = answered_did d Stopped (ap outcome_of told) step
   ended_did (untaken.Refused cause) d step told = answered_did d (Refused cause) (ap outcome_of told) step
   ended_did untaken.Disk d step told = struck_did d step told
@@ -293,13 +293,13 @@ pub taken_does : (old new : CoordState Journal) (act : Act) (reply : ActReply) (
 taken_does old new act reply d closed step is = record { me = step.acts.at.me; does = λ w stands. answered_did old new act closed w stands d reply is step }
 
 -- one that was not
-pub ended_does : (old new : CoordState Journal) (act : Act) (why : NotTaken) (d : Did) → is_opening act ≡ false → Step old new act (ending why) → IsToldBy new why d → StateDoes old new act d
+pub ended_does : (old new : CoordState Journal) (act : Act) (why : NotTaken) (d : Did) → is_opening act ≡ false → Step old new act (ending why) → IsReportedBy new why d → StateDoes old new act d
 ended_does old new act why d closed step told = record { me = step.acts.at.me; does = λ w stands. ended_did old new act closed w stands why d step told }
 
 pub told_does : (old new : CoordState Journal) (act : Act) (why same_why : NotTaken) → is_opening act ≡ false → why ≡ same_why → Step old new act (ending same_why)
-    → (r : Result Did AllocError) → IfOk r (IsToldBy new why) → IfOk r (StateDoes old new act)
+    → (r : Result Did AllocError) → IfOk r (IsReportedBy new why) → IfOk r (StateDoes old new act)
 told_does old new act why same_why closed same step r told =
-    IfOk-weaker r (IsToldBy new why) (StateDoes old new act) (λ d. ended_does old new act why d closed (subst (λ (x : NotTaken). Step old new act (ending x)) (sym same) step)) told
+    IfOk-weaker r (IsReportedBy new why) (StateDoes old new act) (λ d. ended_does old new act why d closed (subst (λ (x : NotTaken). Step old new act (ending x)) (sym same) step)) told
 
 -- ---- a publication that is refused before it is copied
 

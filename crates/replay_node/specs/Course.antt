@@ -4,7 +4,7 @@ use Rattle.voting_config.specs.Ids.{Id}
 use Rattle.replay_node.specs.NodeDisk.{CallsEnd, Done, Failed, CrashedIn}
 use Rattle.replay_node.specs.NodeWorld.{NodeWorld, act_called, after_act, outcome_at}
 use Rattle.replay_node.specs.Worlds.{World, node_world, did}
-use Rattle.policy_model.specs.Events.{Item, Opens, Begins, Acts, Turns, Drops, Sends, Replies, Notes}
+use Rattle.policy_model.specs.Events.{Item, Opens, Begins, Acts, ChangesMode, Drops, Sends, Replies, Notes}
 use Rattle.policy_model.specs.Entries.{Life, NotBegun, Opened, Lived, Entry, Did}
 use Rattle.policy_model.specs.Follows.{without_output}
 use Rattle.policy_model.specs.Struck.{settled_items}
@@ -32,7 +32,7 @@ played n w (Acts act outcome ∷ is) = act_then (act_called n (node_world w n) a
     (did w n act) (λ (v : World). played n v is)
 played n w (Opens found ∷ is) = behind (Opens found) (played n w is)
 played n w (Begins event ∷ is) = behind (Begins event) (played n w is)
-played n w (Turns mode term ∷ is) = behind (Turns mode term) (played n w is)
+played n w (ChangesMode mode term ∷ is) = behind (ChangesMode mode term) (played n w is)
 played n w (Drops member cause ∷ is) = behind (Drops member cause) (played n w is)
 played n w (Sends frame ∷ is) = behind (Sends frame) (played n w is)
 played n w (Replies answer ∷ is) = behind (Replies answer) (played n w is)
@@ -59,7 +59,7 @@ node_played n x (Acts act outcome ∷ is) =
     node_act_then (act_called n x act).ended (Acts act (outcome_at n x act)) (after_act n x act) (λ (y : NodeWorld). node_played n y is)
 node_played n x (Opens found ∷ is) = node_behind (Opens found) (node_played n x is)
 node_played n x (Begins event ∷ is) = node_behind (Begins event) (node_played n x is)
-node_played n x (Turns mode term ∷ is) = node_behind (Turns mode term) (node_played n x is)
+node_played n x (ChangesMode mode term ∷ is) = node_behind (ChangesMode mode term) (node_played n x is)
 node_played n x (Drops member cause ∷ is) = node_behind (Drops member cause) (node_played n x is)
 node_played n x (Sends frame ∷ is) = node_behind (Sends frame) (node_played n x is)
 node_played n x (Replies answer ∷ is) = node_behind (Replies answer) (node_played n x is)

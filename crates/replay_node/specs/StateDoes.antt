@@ -19,12 +19,12 @@ use Rattle.replay_node.specs.declared.node.Slot.{Slot}
 use Rattle.replay_node.specs.declared.node.Slot.TheVariants.{Open, Down}
 
 -- what an act did that was not taken: after a fault of the disk the fuse says what struck it
-abbrev pub IsToldBy : CoordState Journal → NotTaken → Did → Type 0
-IsToldBy state untaken.Stopped d = d ≡ did.Stopped
-IsToldBy state (untaken.Refused cause) d = d ≡ did.Refused cause
-IsToldBy state untaken.Disk did.Disk = state.keeper.log.disk.struck ≡ Some struck.Fault
-IsToldBy state untaken.Disk did.Crashed = state.keeper.log.disk.struck ≡ Some struck.Stop
-IsToldBy state untaken.Disk other = ⊥
+abbrev pub IsReportedBy : CoordState Journal → NotTaken → Did → Type 0
+IsReportedBy state untaken.Stopped d = d ≡ did.Stopped
+IsReportedBy state (untaken.Refused cause) d = d ≡ did.Refused cause
+IsReportedBy state untaken.Disk did.Disk = state.keeper.log.disk.struck ≡ Some struck.Fault
+IsReportedBy state untaken.Disk did.Crashed = state.keeper.log.disk.struck ≡ Some struck.Stop
+IsReportedBy state untaken.Disk other = ⊥
 
 -- the node stands for w, open or with its disk stopped
 abbrev pub StandsAfter : Id → CoordState Journal → NodeWorld → Did → Type 0

@@ -1,14 +1,15 @@
 //! One node of a replay: its acts over a journal on a memory disk, crashes inside them, and openings.
 #![tactic(auto)]
 
-pub mod did;
-pub mod disk;
-pub mod message;
-pub mod node;
-pub mod state;
-pub mod writing;
+mod did;
+mod disk;
+mod message;
+mod node;
+mod state;
+mod writing;
 
 pub use did::{Did, Effects};
+pub use disk::{crashed, empty_disk, restarted, stay_down};
 pub use message::{FitPublishRequest, Publication, SentMessage};
 pub use node::{ReplayNode, Slot};
 pub use state::OpenNode;

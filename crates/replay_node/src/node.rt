@@ -28,7 +28,7 @@ use std::alloc::{AllocError, Global};
 use std::mem;
 use std::rc::Rc;
 use text::Text;
-use trace_text::{write_crashed, write_down, write_record, write_up};
+use trace_text::{write_crashed, write_down_line, write_record, write_up_line};
 use voting_config::{NodeId, NodeSet, VotingConfig};
 use zen_disk::{Armable, Fuse, MemDisks, Order, Way};
 
@@ -229,7 +229,7 @@ impl ReplayNode {
         match take_slot(&mut self.slot, alloc) {
             Slot::Down(fuse) => {
                 self.slot = Slot::Down(fuse);
-                write_down(text, self.me)
+                write_down_line(text, self.me)
             }
             Slot::Open(state) => {
                 self.slot = Slot::Down(crashed(state.into_keeper().into_disk(), way));
@@ -260,7 +260,7 @@ impl ReplayNode {
             Slot::Open(state) => {
                 if !state.keeper().stopped() {
                     self.slot = Slot::Open(state);
-                    return write_up(text, self.me);
+                    return write_up_line(text, self.me);
                 }
                 self.open(alloc, state.into_keeper().into_disk(), text)
             }

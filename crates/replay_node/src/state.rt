@@ -12,7 +12,7 @@ ghost use Rattle.replay_node.specs.Did.{outcome_of, WinsIn, CommitsLast};
 ghost use Rattle.replay_node.specs.Published.{state_published};
 ghost use Rattle.replay_node.specs.Sent.{message_of, taking};
 ghost use Rattle.replay_node.specs.Stands.{HasRoomIn, journal_ghosts};
-ghost use Rattle.replay_node.specs.StateDoes.{IsToldBy, StateDoes, WritesText};
+ghost use Rattle.replay_node.specs.StateDoes.{IsReportedBy, StateDoes, WritesText};
 
 use crate::did::{Did, Effects};
 use crate::message::{FitPublishRequest, Publication, SentMessage};
@@ -32,7 +32,7 @@ pub type OpenNode = CoordState<StateJournal<Fuse<MemDisks>>>;
 // What an act did that was not taken: after a fault of the disk the fuse says what struck it. A fault that no order has made means that
 // memory ran out.
 fn ended(state: &OpenNode, error: NotTaken) -> Result<Did, AllocError>
-    ensures { IfOk result (λ d. IsToldBy state.now error d) }
+    ensures { IfOk result (λ d. IsReportedBy state.now error d) }
 {
     match error {
         NotTaken::Stopped => Ok(Did::Stopped),

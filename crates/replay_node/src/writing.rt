@@ -11,7 +11,7 @@ use std::alloc::AllocError;
 use std::rc::Rc;
 use text::Text;
 use trace_text::{
-    write_act_head, write_commit, write_commit_message, write_committed_shown, write_down,
+    write_act_head, write_commit, write_commit_message, write_committed_shown, write_down_line,
     write_join, write_join_message, write_publish_message, write_publish_shown, write_response,
     write_response_message, write_taken_head, write_won,
 };
@@ -100,7 +100,7 @@ pub fn write_did(
         return write_effects(text, count, &n, effects);
     }
     let Some(ending) = did.ending() else {
-        return write_down(text, n);
+        return write_down_line(text, n);
     };
     write_act_head(text, n, ending)?;
     text.bytes(act.as_bytes())?;
@@ -125,7 +125,7 @@ pub fn write_delivery(
         return write_effects(text, count, n, effects);
     }
     let Some(ending) = did.ending() else {
-        return write_down(text, *n);
+        return write_down_line(text, *n);
     };
     write_act_head(text, *n, ending)?;
     write_taking(text, message)?;

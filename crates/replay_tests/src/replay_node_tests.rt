@@ -4,7 +4,7 @@ ghost use Rattle.std.specs.Prelude.{◌≡◌};
 ghost use Rattle.zen_disk.specs.MemDisks.{read_of};
 ghost use Rattle.replay_node.specs.NodeDisk.{bytes_read, no_files};
 
-use replay_node::disk::{crashed, empty_disk, restarted};
+use replay_node::{crashed, empty_disk, restarted};
 use std::alloc::Global;
 use zen_disk::{Armable, Armed, Disks, Failed, Fuse, MemDisks, Order, Side, Way};
 

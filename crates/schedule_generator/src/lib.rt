@@ -2,8 +2,8 @@
 #![tactic(auto)]
 
 mod drawing;
-pub mod generator;
-pub mod laws;
+mod generator;
+mod laws;
 
 pub use generator::{Generator, MAX_STEPS, empty_schedule};
 pub use laws::law_generated_is_spelled;

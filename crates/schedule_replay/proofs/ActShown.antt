@@ -15,15 +15,15 @@ use Rattle.world_model.specs.Replies.{reply_of}
 use Rattle.world_model.specs.Histories.{is_opening}
 use Rattle.world_model.proofs.Guards.{boot_guard, start_guard, value_guard, publish_guard, response_guard, commit_guard}
 use Rattle.trace_text.specs.Endings.{ending_of}
-use Rattle.event_text.specs.Steps.{act_lines}
+use Rattle.event_text.specs.Deeds.{act_lines}
 use Rattle.trace_text.specs.Trace.{act_line, outcome_line, won_line, won_text, committed_line, committed_text, sent_line, results}
 use Rattle.replay_node.specs.Did.{is_won, won_by}
 use Rattle.replay_node.specs.NodeDisk.{CallsEnd, Done, Failed, CrashedIn}
 use Rattle.replay_node.specs.NodeWorld.{outcome_by}
-use Rattle.schedule_replay.specs.Steps.{sends_text, shown_text}
-use Rattle.schedule_replay.specs.Told.{message_in, outcome_shown}
+use Rattle.schedule_replay.specs.Parts.{sends_text, shown_text}
+use Rattle.schedule_replay.specs.HistoryShown.{message_in, outcome_shown}
 use Rattle.schedule_replay.specs.ActShown.{won_term, state_committed, message_sent, act_shown}
-use Rattle.schedule_replay.specs.ClusterSteps.{act_text}
+use Rattle.schedule_replay.specs.ClusterParts.{act_text}
 
 -- ---- the text of an act
 

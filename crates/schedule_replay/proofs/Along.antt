@@ -10,27 +10,27 @@ use Rattle.world_model.specs.Histories.{History, node_history, sent, sent_by, is
 use Rattle.trace_text.specs.Published.{last_published}
 use Rattle.world_model.specs.Settled.{is_kept, settled_for}
 use Rattle.world_model.proofs.AllSettled.{settled_sent}
-use Rattle.schedule_replay.specs.Steps.{ActShown, Step, Echo, Did, Opened, WasDown, WasUp, WentDown, DiskFailed, Unsent}
-use Rattle.schedule_replay.specs.Told.{outcome_shown, told_by, told_from, some_numbered, numbered_in, messages_of, numbered}
+use Rattle.schedule_replay.specs.Parts.{ActShown, TracePart, Echo, Did, Opened, WasDown, WasUp, WentDown, DiskFailed, Unsent}
+use Rattle.schedule_replay.specs.HistoryShown.{outcome_shown, history_shown_by, history_shown_from, some_numbered, numbered_in, messages_of, numbered}
 use Rattle.schedule_replay.specs.ActShown.{message_sent, act_shown}
 
 -- P holds of each step after the history that the steps before it tell
-abbrev pub Along : (History → Step → Type 0) → History → List Step → Type 0
+abbrev pub Along : (History → TracePart → Type 0) → History → List TracePart → Type 0
 Along P h [] = Unit {0}
-Along P h (x ∷ xs) = P h x × Along P (told_by h x) xs
+Along P h (x ∷ xs) = P h x × Along P (history_shown_by h x) xs
 
-pub along_append : (P : History → Step → Type 0) (h : History) (xs ys : List Step) → Along P h xs → Along P (told_from h xs) ys → Along P h (xs ++ ys)
+pub along_append : (P : History → TracePart → Type 0) (h : History) (xs ys : List TracePart) → Along P h xs → Along P (history_shown_from h xs) ys → Along P h (xs ++ ys)
 along_append P h [] ys a b = b
-along_append P h (x ∷ xs) ys a b = (a.0, along_append P (told_by h x) xs ys a.1 b)
+along_append P h (x ∷ xs) ys a b = (a.0, along_append P (history_shown_by h x) xs ys a.1 b)
 
 -- a list that each step lengthens by what it shows
-pub grows : {X : Type 0} (list : History → List X) (show : Step → List X) (P : History → Step → Type 0) → ((h : History) (x : Step) → P h x → list h ++ show x ≡ list (told_by h x))
-    → (h : History) (xs : List Step) → Along P h xs → list h ++ flat_map show xs ≡ list (told_from h xs)
+pub grows : {X : Type 0} (list : History → List X) (show : TracePart → List X) (P : History → TracePart → Type 0) → ((h : History) (x : TracePart) → P h x → list h ++ show x ≡ list (history_shown_by h x))
+    → (h : History) (xs : List TracePart) → Along P h xs → list h ++ flat_map show xs ≡ list (history_shown_from h xs)
 grows list show P step h [] a = append-nil (list h)
 grows list show P step h (x ∷ xs) a =
     sym (append_assoc (list h) (show x) (flat_map show xs))
     ∙ ap (λ l. l ++ flat_map show xs) (step h x a.0)
-    ∙ grows list show P step (told_by h x) xs a.1
+    ∙ grows list show P step (history_shown_by h x) xs a.1
 
 -- the step of an act shows what the act did, after this history
 pub record RightAct (h : History) (x : ActShown) : Type 0 where
@@ -39,15 +39,15 @@ pub record RightAct (h : History) (x : ActShown) : Type 0 where
   pub tells : outcome_shown x.ending x.won x.sends ≡ outcome
   pub shut : is_opening x.act ≡ false
 
-abbrev pub IsRight : History → Step → Type 0
+abbrev pub IsRight : History → TracePart → Type 0
 IsRight h (Did x) = RightAct h x
 IsRight h other = Unit {0}
 
 -- the step is right, and the history is legal before it and after it
-pub record IsSound (initial : List Id) (h : History) (x : Step) : Type 0 where
+pub record IsSound (initial : List Id) (h : History) (x : TracePart) : Type 0 where
   pub right : IsRight h x
   pub before : IsLegal initial h
-  pub behind : IsLegal initial (told_by h x)
+  pub behind : IsLegal initial (history_shown_by h x)
 
 -- ---- the numbers of the messages
 
@@ -65,7 +65,7 @@ sends_is count (Answered Stopped) = refl
 sends_is count (Disk k) = refl
 sends_is count (Crashed k) = refl
 
-step_numbers : (h : History) (x : Step) → IsRight h x → numbered 0 (sent h) ++ numbered_in x ≡ numbered 0 (sent (told_by h x))
+step_numbers : (h : History) (x : TracePart) → IsRight h x → numbered 0 (sent h) ++ numbered_in x ≡ numbered 0 (sent (history_shown_by h x))
 step_numbers h (Did x) r =
     ap (λ (y : ActShown). numbered 0 (sent h) ++ some_numbered y.sends) r.is_shown
     ∙ ap (λ l. numbered 0 (sent h) ++ l) (sends_is (length (sent h)) r.outcome)
@@ -82,5 +82,5 @@ step_numbers h (WentDown n) r = append-nil (numbered 0 (sent h))
 step_numbers h (DiskFailed n) r = append-nil (numbered 0 (sent h))
 step_numbers h Unsent r = append-nil (numbered 0 (sent h))
 
-pub numbers : (h : History) (xs : List Step) → Along IsRight h xs → numbered 0 (sent h) ++ messages_of xs ≡ numbered 0 (sent (told_from h xs))
+pub numbers : (h : History) (xs : List TracePart) → Along IsRight h xs → numbered 0 (sent h) ++ messages_of xs ≡ numbered 0 (sent (history_shown_from h xs))
 numbers h xs a = grows (λ (h : History). numbered 0 (sent h)) numbered_in IsRight step_numbers h xs a

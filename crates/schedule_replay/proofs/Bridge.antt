@@ -7,32 +7,32 @@ use Rattle.world_model.specs.declared.acts.Outcome.{Outcome}
 use Rattle.world_model.specs.declared.acts.Outcome.TheVariants.{Answered, Disk, Crashed}
 use Rattle.replay_node.specs.Did.{outcome_of}
 use Rattle.replay_node.specs.Stands.{Journal}
-use Rattle.replay_node.specs.StateDoes.{IsToldBy}
+use Rattle.replay_node.specs.StateDoes.{IsReportedBy}
 use Rattle.coord_state.specs.declared.ending.NotTaken.TheVariants as untaken
 use Rattle.replay_node.specs.declared.did.Did.{Did}
 use Rattle.replay_node.specs.declared.did.Did.TheVariants as did
 use Rattle.replay_node.proofs.StateSteps.{Step}
 use Rattle.world_model.proofs.Struck.{closed_of_writes}
 use Rattle.policy_model.specs.declared.settings.Settings.{Settings}
-use Rattle.policy_model.specs.declared.events.Step.{Step as Shown}
+use Rattle.policy_model.specs.declared.events.Deed.{Deed as Shown}
 use Rattle.policy_model.specs.Views.{View}
-use Rattle.policy_model.specs.Events.{Item, Opens, Begins, Acts, Turns, Drops, Sends, Replies, Notes}
+use Rattle.policy_model.specs.Events.{Item, Opens, Begins, Acts, ChangesMode, Drops, Sends, Replies, Notes}
 use Rattle.policy_model.specs.Local.{IsAnswered, Ended, ByAct as AnsweredAct, ByQuiet}
 use Rattle.policy_model.specs.Follows.{IsStruck, Here, Later, is_fault}
 use Rattle.world_model.specs.Replies.{writes}
 use Rattle.world_model.specs.declared.acts.ActReply.TheVariants.{Taken}
-use Rattle.policy_model.specs.declared.events.Step.TheVariants as step
+use Rattle.policy_model.specs.declared.events.Deed.TheVariants as deed
 use Rattle.policy_model.specs.declared.events.MemberDrop.{MemberDrop}
 use Rattle.zen_disk.specs.declared.orders.Struck.TheVariants.{Stop, Fault}
 use Rattle.coordinator.specs.Lives.{StandsForLife}
 use Rattle.coordinator.specs.Steps.{IsSealed}
-use Rattle.coordinator.specs.Turns.{Acted, CoreDid}
+use Rattle.coordinator.specs.CoreActs.{Acted, CoreDid}
 use Rattle.std.specs.List.{flat_map}
 use Rattle.world_model.specs.NodeState.{halted_of}
 use Rattle.replay_node.specs.NodeWorld.{NodeWorld, needs_opening}
 use Rattle.replay_node.specs.Stands.{OpenStands}
 use Rattle.policy_model.specs.declared.events.Event.{Event}
-use Rattle.policy_model.specs.Entries.{Life, Lived, Did as DidEvent, log_of, steps_of, drops_of, frames_of, replies_of, drops_in, by_receiver, by_member}
+use Rattle.policy_model.specs.Entries.{Life, Lived, Did as DidEvent, log_of, deeds_of, drops_of, frames_of, replies_of, drops_in, by_receiver, by_member}
 use Rattle.policy_model.specs.Events.{And}
 use Rattle.policy_model.specs.Views.{view_of}
 use Rattle.policy_model.specs.Follows.{items_of}
@@ -44,7 +44,7 @@ use Rattle.coordinator.specs.Views.{IsReady}
 use Rattle.coordinator.specs.declared.step.Entries.{Entries}
 use Rattle.coordinator.specs.declared.step.Sealed.{Sealed}
 use Rattle.replay_node.specs.Course.{node_played}
-use Rattle.event_text.specs.Steps.{outcome_told, told_as}
+use Rattle.event_text.specs.Deeds.{outcome_left, as_left}
 use Rattle.replay_node.specs.Stands.{CrashedStands}
 use Rattle.schedule_replay.specs.EventEnds.{WholeEvent, StruckEvent, own_course, own_life}
 use Rattle.schedule_replay.specs.OpenNodes.{Node, OpenFor, keeper}
@@ -63,7 +63,7 @@ whole_carries s v old new is (AnsweredAct u act rest shut a) d =
 whole_carries s v old new is (ByQuiet u (Opens found) rest q a) d = absurd (cc)
 whole_carries s v old new is (ByQuiet u (Begins event) rest q a) d = absurd (cc)
 whole_carries s v old new is (ByQuiet u (Acts act o) rest q a) d = absurd (cc)
-whole_carries s v old new is (ByQuiet u (Turns mode term) rest q a) d = ByOther old new (Turns mode term) rest rest All q (whole_carries s _ old new rest a d)
+whole_carries s v old new is (ByQuiet u (ChangesMode mode term) rest q a) d = ByOther old new (ChangesMode mode term) rest rest All q (whole_carries s _ old new rest a d)
 whole_carries s v old new is (ByQuiet u (Drops member cause) rest q a) d = ByOther old new (Drops member cause) rest rest All q (whole_carries s _ old new rest a d)
 whole_carries s v old new is (ByQuiet u (Sends frame) rest q a) d = ByOther old new (Sends frame) rest rest All q (whole_carries s _ old new rest a d)
 whole_carries s v old new is (ByQuiet u (Replies answer) rest q a) d = ByOther old new (Replies answer) rest rest All q (whole_carries s _ old new rest a d)
@@ -76,7 +76,7 @@ as_told f i = i
 
 -- it did those up to an act that was struck
 pub struck_carries : (s : Settings) (old new : CoordState Journal) (is left : List Item) (v : View) (d : Did) (f : Outcome) → IsAnswered s v is → IsStruck is left → CoreDid keeper old new left
-    → IsToldBy new untaken.Disk d → outcome_of d ≡ Some f → Carries old new is (map (as_told f) left) (Struck d)
+    → IsReportedBy new untaken.Disk d → outcome_of d ≡ Some f → Carries old new is (map (as_told f) left) (Struck d)
 struck_carries s old new is left v d f a (Here act sends wins rest (Disk kept) w fault) c told is_f =
     let lost : kept ≡ false = c.1.told in
     let step : Step old c.0 act (Disk false) = subst (λ (b : Bool). Step old c.0 act (Disk b)) lost (step_of old c.0 act (Disk kept) c.1) in
@@ -88,8 +88,8 @@ struck_carries s old new is left v d f (AnsweredAct u act rest shut a) (Later i 
 struck_carries s old new is left v d f (ByQuiet u (Opens found) rest quiet a) (Later i rest' left' q) c told is_f = absurd (cc)
 struck_carries s old new is left v d f (ByQuiet u (Begins event) rest quiet a) (Later i rest' left' q) c told is_f = absurd (cc)
 struck_carries s old new is left v d f (ByQuiet u (Acts act o) rest quiet a) (Later i rest' left' q) c told is_f = absurd (cc)
-struck_carries s old new is left v d f (ByQuiet u (Turns mode term) rest quiet a) (Later i rest' left' q) c told is_f =
-    ByOther old new (Turns mode term) rest (map (as_told f) left') (Struck d) quiet (struck_carries s old new rest left' _ d f a q c told is_f)
+struck_carries s old new is left v d f (ByQuiet u (ChangesMode mode term) rest quiet a) (Later i rest' left' q) c told is_f =
+    ByOther old new (ChangesMode mode term) rest (map (as_told f) left') (Struck d) quiet (struck_carries s old new rest left' _ d f a q c told is_f)
 struck_carries s old new is left v d f (ByQuiet u (Drops member cause) rest quiet a) (Later i rest' left' q) c told is_f =
     ByOther old new (Drops member cause) rest (map (as_told f) left') (Struck d) quiet (struck_carries s old new rest left' _ d f a q c told is_f)
 struck_carries s old new is left v d f (ByQuiet u (Sends frame) rest quiet a) (Later i rest' left' q) c told is_f =
@@ -108,7 +108,7 @@ told_same old new (Acts act (Answered reply) ∷ is) d = ap (λ (xs : List Item)
 told_same old new (Acts act (Disk kept) ∷ is) d =
     ap (λ (b : Bool). Acts act (Disk b) ∷ map (as_told (Disk false)) is) (sym d.1.told) ∙ ap (λ (xs : List Item). Acts act (Disk kept) ∷ xs) (told_same d.0 new is d.2)
 told_same old new (Acts act (Crashed kept) ∷ is) d = absurd d.1.told
-told_same old new (Turns mode term ∷ is) d = ap (λ (xs : List Item). Turns mode term ∷ xs) (told_same old new is d)
+told_same old new (ChangesMode mode term ∷ is) d = ap (λ (xs : List Item). ChangesMode mode term ∷ xs) (told_same old new is d)
 told_same old new (Drops member cause ∷ is) d = ap (λ (xs : List Item). Drops member cause ∷ xs) (told_same old new is d)
 told_same old new (Sends frame ∷ is) d = ap (λ (xs : List Item). Sends frame ∷ xs) (told_same old new is d)
 told_same old new (Replies answer ∷ is) d = ap (λ (xs : List Item). Replies answer ∷ xs) (told_same old new is d)
@@ -126,7 +126,7 @@ crashed_struck s is left v (AnsweredAct u act rest shut a) (Later i rest' left' 
 crashed_struck s is left v (ByQuiet u (Opens found) rest quiet a) (Later i rest' left' q) = absurd (cc)
 crashed_struck s is left v (ByQuiet u (Begins event) rest quiet a) (Later i rest' left' q) = absurd (cc)
 crashed_struck s is left v (ByQuiet u (Acts act o) rest quiet a) (Later i rest' left' q) = absurd (cc)
-crashed_struck s is left v (ByQuiet u (Turns mode term) rest quiet a) (Later i rest' left' q) = Later (Turns mode term) rest _ (crashed_struck s rest left' _ a q)
+crashed_struck s is left v (ByQuiet u (ChangesMode mode term) rest quiet a) (Later i rest' left' q) = Later (ChangesMode mode term) rest _ (crashed_struck s rest left' _ a q)
 crashed_struck s is left v (ByQuiet u (Drops member cause) rest quiet a) (Later i rest' left' q) = Later (Drops member cause) rest _ (crashed_struck s rest left' _ a q)
 crashed_struck s is left v (ByQuiet u (Sends frame) rest quiet a) (Later i rest' left' q) = Later (Sends frame) rest _ (crashed_struck s rest left' _ a q)
 crashed_struck s is left v (ByQuiet u (Replies answer) rest quiet a) (Later i rest' left' q) = Later (Replies answer) rest _ (crashed_struck s rest left' _ a q)
@@ -137,19 +137,19 @@ abbrev pub fault_told : Bool → Outcome
 fault_told true = Crashed false
 fault_told false = Disk false
 
-told_fault : (crashed kept : Bool) → kept ≡ false → outcome_told crashed (Disk kept) ≡ fault_told crashed
+told_fault : (crashed kept : Bool) → kept ≡ false → outcome_left crashed (Disk kept) ≡ fault_told crashed
 told_fault true kept lost = ap (λ (b : Bool). Crashed b) lost
 told_fault false kept lost = ap (λ (b : Bool). Disk b) lost
 
-pub told_steps : (crashed : Bool) (old new : CoordState Journal) (left : List Item) → CoreDid keeper old new left → told_as crashed (steps_of left) ≡ steps_of (map (as_told (fault_told crashed)) left)
+pub told_steps : (crashed : Bool) (old new : CoordState Journal) (left : List Item) → CoreDid keeper old new left → as_left crashed (deeds_of left) ≡ deeds_of (map (as_told (fault_told crashed)) left)
 told_steps crashed old new [] d = refl
 told_steps crashed old new (Opens found ∷ is) d = absurd d
 told_steps crashed old new (Begins event ∷ is) d = absurd d
-told_steps crashed old new (Acts act (Answered reply) ∷ is) d = ap (λ (xs : List Shown). step.Act act (Answered reply) ∷ xs) (told_steps crashed d.0 new is d.2)
+told_steps crashed old new (Acts act (Answered reply) ∷ is) d = ap (λ (xs : List Shown). deed.Act act (Answered reply) ∷ xs) (told_steps crashed d.0 new is d.2)
 told_steps crashed old new (Acts act (Disk kept) ∷ is) d =
-    ap (λ (o : Outcome). step.Act act o ∷ told_as crashed (steps_of is)) (told_fault crashed kept d.1.told) ∙ ap (λ (xs : List Shown). step.Act act (fault_told crashed) ∷ xs) (told_steps crashed d.0 new is d.2)
+    ap (λ (o : Outcome). deed.Act act o ∷ as_left crashed (deeds_of is)) (told_fault crashed kept d.1.told) ∙ ap (λ (xs : List Shown). deed.Act act (fault_told crashed) ∷ xs) (told_steps crashed d.0 new is d.2)
 told_steps crashed old new (Acts act (Crashed kept) ∷ is) d = absurd d.1.told
-told_steps crashed old new (Turns mode term ∷ is) d = ap (λ (xs : List Shown). step.Mode mode term ∷ xs) (told_steps crashed old new is d)
+told_steps crashed old new (ChangesMode mode term ∷ is) d = ap (λ (xs : List Shown). deed.Mode mode term ∷ xs) (told_steps crashed old new is d)
 told_steps crashed old new (Drops member cause ∷ is) d = told_steps crashed old new is d
 told_steps crashed old new (Sends frame ∷ is) d = told_steps crashed old new is d
 told_steps crashed old new (Replies answer ∷ is) d = told_steps crashed old new is d
@@ -162,7 +162,7 @@ crashed_drops f (Begins event ∷ is) = crashed_drops f is
 crashed_drops f (Acts act (Answered reply) ∷ is) = crashed_drops f is
 crashed_drops f (Acts act (Disk kept) ∷ is) = crashed_drops f is
 crashed_drops f (Acts act (Crashed kept) ∷ is) = crashed_drops f is
-crashed_drops f (Turns mode term ∷ is) = crashed_drops f is
+crashed_drops f (ChangesMode mode term ∷ is) = crashed_drops f is
 crashed_drops f (Drops member cause ∷ is) = ap (λ (xs : List MemberDrop). record { member = member; cause = cause } ∷ xs) (crashed_drops f is)
 crashed_drops f (Sends frame ∷ is) = crashed_drops f is
 crashed_drops f (Replies answer ∷ is) = crashed_drops f is
@@ -216,7 +216,7 @@ module _ (s : Settings) (life : Life) (x : NodeWorld) (event : Event) (old new :
     struck_event crashed done told_is is struck waits = record {
       runs = runs;
       struck = subst (λ (l : List Item). IsStruck items l) is struck;
-      steps = ap (λ (l : List Shown). told_as crashed l) failed.entries.steps ∙ told_steps crashed old.core new.core failed.left failed.enters.core ∙ ap (λ (l : List Item). steps_of l) (told_is ∙ is);
+      steps = ap (λ (l : List Shown). as_left crashed l) failed.entries.deeds ∙ told_steps crashed old.core new.core failed.left failed.enters.core ∙ ap (λ (l : List Item). deeds_of l) (told_is ∙ is);
       drops = failed.entries.drops ∙ ap by_member (crashed_drops (fault_told crashed) failed.left) ∙ ap (λ (l : List Item). drops_of l) (told_is ∙ is);
       frames = ap (λ (l : List Item). frames_of l) (sym is) ∙ ap by_receiver (struck-frames items done struck);
       replies = ap (λ (l : List Item). replies_of l) (sym is) ∙ struck-replies items done struck;

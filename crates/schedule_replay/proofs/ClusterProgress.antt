@@ -3,7 +3,7 @@ use Rattle.std.proofs.Common.{◌≡◌, ℕ, ◌+◌, ◌<◌, Option, List, []
 use Rattle.voting_config.specs.Ids.{Id}
 use Rattle.wire_frames.specs.declared.frame.Frame.{Frame}
 use Rattle.schedule_text.specs.declared.schedule.Line.{Line}
-use Rattle.zen_link.specs.Streams.{Appended, AppendedFront}
+use Rattle.zen_link.specs.Streams.{Appended, AppendedPrefix}
 use Rattle.zen_link.proofs.Appending.{appended_more, front_after, front_within}
 use Rattle.replay_node.specs.Clusters.{after}
 use Rattle.schedule_replay.specs.ClusterStands.{WritesLine}
@@ -40,17 +40,17 @@ module _ (ids initial voting_only : List Id) (nodes more : List ClusterNode) (fr
             ∙ whole_is;
       }
 
-  pub fails : AppendedFront now later (held ++ text) → AppendedFront was later all
+  pub fails : AppendedPrefix now later (held ++ text) → AppendedPrefix was later all
   fails h =
       let front = front_within now later (held ++ text) tail (held ++ (text ++ tail)) (append_assoc held text tail) h in
-      subst (λ (t : List ℕ). AppendedFront was later t) whole_is (front_after was now later m.front (held ++ (text ++ tail)) m.written front)
+      subst (λ (t : List ℕ). AppendedPrefix was later t) whole_is (front_after was now later m.front (held ++ (text ++ tail)) m.written front)
 
 module _ (ids initial voting_only : List Id) (nodes : List ClusterNode) (frames : List Frame) (was now later : Option (List ℕ)) (held bytes : List ℕ) (left : List Line) (all : List ℕ) where
-  pub stops : bytes ≡ held → ClusterSoFar ids initial voting_only nodes frames was now held left all → AppendedFront now later bytes → AppendedFront was later all
+  pub stops : bytes ≡ held → ClusterSoFar ids initial voting_only nodes frames was now held left all → AppendedPrefix now later bytes → AppendedPrefix was later all
   stops e m h =
       let tail : List ℕ = trace_from ids initial voting_only m.cluster left in
       let front = front_within now later bytes tail (held ++ tail) (ap (λ (t : List ℕ). t ++ tail) e) h in
-      subst (λ (t : List ℕ). AppendedFront was later t) m.whole (front_after was now later m.front (held ++ tail) m.written front)
+      subst (λ (t : List ℕ). AppendedPrefix was later t) m.whole (front_after was now later m.front (held ++ tail) m.written front)
 
   pub ends : left ≡ [] → bytes ≡ held → ClusterSoFar ids initial voting_only nodes frames was now held left all → Appended now later bytes → Appended was later all
   ends none e m h =

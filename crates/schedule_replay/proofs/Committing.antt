@@ -27,8 +27,8 @@ use Rattle.world_model.proofs.Legal.{system_of_legal, own_deeds, moment, is_list
 use Rattle.trace_text.specs.Published.{last_published}
 use Rattle.world_model.specs.Settled.{settled_for}
 use Rattle.world_model.proofs.AllSettled.{settled_sent}
-use Rattle.schedule_replay.specs.Steps.{NumberedMessage, ActShown, Step, Echo, Did, Opened, WasDown, WasUp, WentDown, DiskFailed, Unsent}
-use Rattle.schedule_replay.specs.Told.{message_in, outcome_shown, told_by, told_from, state_in, states_of, some_state, commit_of, if_commit, ShowsCommit}
+use Rattle.schedule_replay.specs.Parts.{NumberedMessage, ActShown, TracePart, Echo, Did, Opened, WasDown, WasUp, WentDown, DiskFailed, Unsent}
+use Rattle.schedule_replay.specs.HistoryShown.{message_in, outcome_shown, history_shown_by, history_shown_from, state_in, states_of, some_state, commit_of, if_commit, ShowsCommit}
 use Rattle.schedule_replay.specs.ActShown.{state_committed, message_sent, act_shown}
 use Rattle.schedule_replay.specs.Showing.{HasCommitted}
 use Rattle.schedule_replay.proofs.Along.{Along, IsSound}
@@ -121,13 +121,13 @@ shows_so : (initial : List Id) (h : History) (n : Id) (act : Act) (o : Outcome) 
 shows_so initial h n act (Answered (Taken (Some (CommitMessage c)) w)) l = shows_commit n (node_history h n) _ c w (commits_in initial h n act c w l)
 shows_so initial h n act o l = ((λ count. refl), (λ state x. none_of state x))
 
-act_shows : (initial : List Id) (h : History) (x : ActShown) (p : IsSound initial h (Did x)) → ShowsSo x.node (last_published (node_history h x.node)) (told_by h (Did x)) p.right.outcome
+act_shows : (initial : List Id) (h : History) (x : ActShown) (p : IsSound initial h (Did x)) → ShowsSo x.node (last_published (node_history h x.node)) (history_shown_by h (Did x)) p.right.outcome
 act_shows initial h x p =
     let r = p.right in
     subst (λ (o : Outcome). ShowsSo x.node (last_published (node_history h x.node)) (Next h x.node x.act o) r.outcome) (sym r.tells)
     (shows_so initial h x.node x.act r.outcome (subst (λ (o : Outcome). IsLegal initial (Next h x.node x.act o)) r.tells p.behind))
 
-step_commit : (initial : List Id) (h : History) (x : Step) → IsSound initial h x → ShowsCommit x
+step_commit : (initial : List Id) (h : History) (x : TracePart) → IsSound initial h x → ShowsCommit x
 step_commit initial h (Did x) p =
     let r = p.right in
     ap (λ (y : Option NumberedMessage). if_commit (message_in y)) (ap (λ (y : ActShown). y.sends) r.is_shown)
@@ -135,11 +135,11 @@ step_commit initial h (Did x) p =
     ∙ ap (λ (y : Option ClusterState). commit_of x.node y) (ap (λ (y : ActShown). y.committed) (sym r.is_shown))
 step_commit initial h other p = tt
 
-pub all_commits : (initial : List Id) (h : History) (xs : List Step) → Along (IsSound initial) h xs → AllByRecursion ShowsCommit xs
+pub all_commits : (initial : List Id) (h : History) (xs : List TracePart) → Along (IsSound initial) h xs → AllByRecursion ShowsCommit xs
 all_commits initial h [] a = tt
-all_commits initial h (x ∷ xs) a = (step_commit initial h x a.0, all_commits initial (told_by h x) xs a.1)
+all_commits initial h (x ∷ xs) a = (step_commit initial h x a.0, all_commits initial (history_shown_by h x) xs a.1)
 
-step_committed : (initial : List Id) (h : History) (x : Step) → IsSound initial h x → (state : ClusterState) → Contains (state_in x) state → HasCommitted (told_by h x) state
+step_committed : (initial : List Id) (h : History) (x : TracePart) → IsSound initial h x → (state : ClusterState) → Contains (state_in x) state → HasCommitted (history_shown_by h x) state
 step_committed initial h (Did x) p state c =
     (act_shows initial h x p).1 state (subst (λ (y : Option ClusterState). Contains (some_state y) state) (ap (λ (y : ActShown). y.committed) p.right.is_shown) c)
 step_committed initial h other p state c = none_of state c
@@ -155,10 +155,10 @@ opened_publications initial h n k l = sym (append-nil (published (settled_for n 
 opened_messages : (h : History) (n : Id) (k : Bool) → sent h ≡ sent (settled_for n k h) ++ []
 opened_messages h n k = sym (append-nil (sent (settled_for n k h)) ∙ settled_sent n k h)
 
-step_stays : (initial : List Id) (h : History) (x : Step) → IsSound initial h x → (state : ClusterState) → HasCommitted h state → HasCommitted (told_by h x) state
-step_stays initial h (Did x) p state k = committed_by h (told_by h (Did x)) state (λ q c. Contains-append_left (published h) _ q c) (λ m c. Contains-append_left (sent h) _ m c) k
+step_stays : (initial : List Id) (h : History) (x : TracePart) → IsSound initial h x → (state : ClusterState) → HasCommitted h state → HasCommitted (history_shown_by h x) state
+step_stays initial h (Did x) p state k = committed_by h (history_shown_by h (Did x)) state (λ q c. Contains-append_left (published h) _ q c) (λ m c. Contains-append_left (sent h) _ m c) k
 step_stays initial h (Opened n found) p state k =
-    committed_by h (told_by h (Opened n found)) state (λ q c. subst (λ (l : List Published). Contains l q) (opened_publications initial h n _ p.before) c)
+    committed_by h (history_shown_by h (Opened n found)) state (λ q c. subst (λ (l : List Published). Contains l q) (opened_publications initial h n _ p.before) c)
     (λ m c. subst (λ (l : List Message). Contains l m) (opened_messages h n _) c) k
 step_stays initial h (Echo l) p state k = k
 step_stays initial h (WasDown n) p state k = k
@@ -167,22 +167,22 @@ step_stays initial h (WentDown n) p state k = k
 step_stays initial h (DiskFailed n) p state k = k
 step_stays initial h Unsent p state k = k
 
-stays : (initial : List Id) (h : History) (xs : List Step) → Along (IsSound initial) h xs → (state : ClusterState) → HasCommitted h state → HasCommitted (told_from h xs) state
+stays : (initial : List Id) (h : History) (xs : List TracePart) → Along (IsSound initial) h xs → (state : ClusterState) → HasCommitted h state → HasCommitted (history_shown_from h xs) state
 stays initial h [] a state k = k
-stays initial h (x ∷ xs) a state k = stays initial (told_by h x) xs a.1 state (step_stays initial h x a.0 state k)
+stays initial h (x ∷ xs) a state k = stays initial (history_shown_by h x) xs a.1 state (step_stays initial h x a.0 state k)
 
-pub all_committed : (initial : List Id) (h : History) (xs : List Step) → Along (IsSound initial) h xs → (state : ClusterState) → Contains (states_of xs) state → HasCommitted (told_from h xs) state
+pub all_committed : (initial : List Id) (h : History) (xs : List TracePart) → Along (IsSound initial) h xs → (state : ClusterState) → Contains (states_of xs) state → HasCommitted (history_shown_from h xs) state
 all_committed initial h [] a state c = none_of state c
-all_committed initial h (x ∷ xs) a state c = from (Contains-append_cases (state_in x) (states_of xs) state c) (all_committed initial (told_by h x) xs a.1 state)
+all_committed initial h (x ∷ xs) a state c = from (Contains-append_cases (state_in x) (states_of xs) state c) (all_committed initial (history_shown_by h x) xs a.1 state)
   where
-    from : Contains (state_in x) state ⊎ Contains (states_of xs) state → (Contains (states_of xs) state → HasCommitted (told_from h (x ∷ xs)) state) → HasCommitted (told_from h (x ∷ xs)) state
-    from (inl d) rest = stays initial (told_by h x) xs a.1 state (step_committed initial h x a.0 state d)
+    from : Contains (state_in x) state ⊎ Contains (states_of xs) state → (Contains (states_of xs) state → HasCommitted (history_shown_from h (x ∷ xs)) state) → HasCommitted (history_shown_from h (x ∷ xs)) state
+    from (inl d) rest = stays initial (history_shown_by h x) xs a.1 state (step_committed initial h x a.0 state d)
     from (inr d) rest = rest d
 
 -- ---- each commit is shown
 
 -- a state of this id is shown as committed
-pub record IsShown (xs : List Step) (c : ApplyCommit) : Type 0 where
+pub record IsShown (xs : List TracePart) (c : ApplyCommit) : Type 0 where
   pub state : ClusterState
   pub is_in : Contains (states_of xs) state
   pub has_version : state.version ≡ c.version
@@ -204,7 +204,7 @@ act_commit initial h x c p o is m =
     commit_shown x.node x.committed c (sym sends ∙ step_commit initial h (Did x) p)
 
 -- a commit that was sent was sent before, or its state is shown
-step_shows : (initial : List Id) (h : History) (x : Step) (c : ApplyCommit) → IsSound initial h x → Contains (sent (told_by h x)) (CommitMessage c)
+step_shows : (initial : List Id) (h : History) (x : TracePart) (c : ApplyCommit) → IsSound initial h x → Contains (sent (history_shown_by h x)) (CommitMessage c)
     → Contains (sent h) (CommitMessage c) ⊎ ((state : ClusterState) × Contains (state_in x) state × (state.version ≡ c.version))
 step_shows initial h (Did x) c p m = from (Contains-append_cases (sent h) _ (CommitMessage c) m)
   where
@@ -220,14 +220,14 @@ step_shows initial h (WentDown n) c p m = inl m
 step_shows initial h (DiskFailed n) c p m = inl m
 step_shows initial h Unsent c p m = inl m
 
-pub all_shown : (initial : List Id) (h : History) (xs : List Step) (c : ApplyCommit) → Along (IsSound initial) h xs → Contains (sent (told_from h xs)) (CommitMessage c) → Contains (sent h) (CommitMessage c) ⊎ IsShown xs c
+pub all_shown : (initial : List Id) (h : History) (xs : List TracePart) (c : ApplyCommit) → Along (IsSound initial) h xs → Contains (sent (history_shown_from h xs)) (CommitMessage c) → Contains (sent h) (CommitMessage c) ⊎ IsShown xs c
 all_shown initial h [] c a m = inl m
-all_shown initial h (x ∷ xs) c a m = from (all_shown initial (told_by h x) xs c a.1 m)
+all_shown initial h (x ∷ xs) c a m = from (all_shown initial (history_shown_by h x) xs c a.1 m)
   where
     here : Contains (sent h) (CommitMessage c) ⊎ ((state : ClusterState) × Contains (state_in x) state × (state.version ≡ c.version)) → Contains (sent h) (CommitMessage c) ⊎ IsShown (x ∷ xs) c
     here (inl k) = inl k
     here (inr k) = inr (record { state = k.0; is_in = Contains-append_left (state_in x) (states_of xs) k.0 k.1; has_version = k.2 })
 
-    from : Contains (sent (told_by h x)) (CommitMessage c) ⊎ IsShown xs c → Contains (sent h) (CommitMessage c) ⊎ IsShown (x ∷ xs) c
+    from : Contains (sent (history_shown_by h x)) (CommitMessage c) ⊎ IsShown xs c → Contains (sent h) (CommitMessage c) ⊎ IsShown (x ∷ xs) c
     from (inl k) = here (step_shows initial h x c a.0 k)
     from (inr k) = inr (record { state = k.state; is_in = Contains-append_right (state_in x) (states_of xs) k.state k.is_in; has_version = k.has_version })

@@ -14,8 +14,8 @@ use Rattle.replay_node.proofs.Nodes.{goes_down}
 use Rattle.policy_model.specs.declared.settings.Settings.{Settings}
 use Rattle.policy_model.specs.declared.events.Event.{Event}
 use Rattle.policy_model.specs.declared.events.MemberDrop.{MemberDrop}
-use Rattle.policy_model.specs.declared.events.Step.{Step}
-use Rattle.policy_model.specs.Entries.{log_of, steps_of, drops_of, frames_of}
+use Rattle.policy_model.specs.declared.events.Deed.{Deed}
+use Rattle.policy_model.specs.Entries.{log_of, deeds_of, drops_of, frames_of}
 use Rattle.policy_model.specs.Events.{Item, And, Begins, acts_of}
 use Rattle.policy_model.specs.Follows.{IsStruck, has_fault, is_start, items_of}
 use Rattle.policy_model.specs.Views.{view_of}
@@ -25,7 +25,7 @@ use Rattle.coordinator.specs.declared.step.Sealed.{Sealed}
 use Rattle.event_text.proofs.Histories.{published_along}
 use Rattle.event_text.specs.Events.{event_results}
 use Rattle.event_text.specs.Published.{published_after}
-use Rattle.event_text.specs.Steps.{told_as}
+use Rattle.event_text.specs.Deeds.{as_left}
 use Rattle.schedule_replay.specs.EventEnds.{Ends, WholeEvent, StruckEvent, own_course}
 use Rattle.schedule_replay.specs.OwnStands.{ClosesTo, LifeFor, NodeFor, OwnDoes, OwnDone, SlotFor}
 use Rattle.schedule_replay.specs.Own.{Own, own_event, own_event_if_up, own_frames_if_up, own_items, own_results, own_results_if_up}
@@ -72,11 +72,11 @@ module _ (s : Settings) (own : Own) (event : Event) (old new : ClusterNode) (sta
     opened = λ starts. absurd (cc);
   }
 
-  published_now : (xs : List Step) → xs ≡ steps_of items → new.published ≡ published_after old.published xs → LifeFor s after.life after.node false → new.published ≡ last_published after.node.acts
+  published_now : (xs : List Deed) → xs ≡ deeds_of items → new.published ≡ published_after old.published xs → LifeFor s after.life after.node false → new.published ≡ last_published after.node.acts
   published_now xs is told life =
       told
       ∙ ap (λ (p : Option ClusterState). published_after p xs) (stands.published ∙ ap last_published (sym stands.life.acts))
-      ∙ ap (λ (l : List Step). published_after (last_published (acts_of (log_of own.life))) l) is
+      ∙ ap (λ (l : List Deed). published_after (last_published (acts_of (log_of own.life))) l) is
       ∙ published_along (And (log_of own.life) (Begins event)) items
       ∙ ap last_published life.acts
 
@@ -91,50 +91,50 @@ module _ (s : Settings) (own : Own) (event : Event) (old new : ClusterNode) (sta
 
   -- all of it was done
   pub whole_done : (node : Node) (sealed : Sealed) (frames frames_now : List Frame) (was now : List ℕ) → new.slot ≡ Open node → WholeEvent s own.life own.node event node sealed
-      → now ≡ was ++ event_results (length frames) old.me old.published sealed.entries.steps.list sealed.entries.drops.list sealed.sends.list sealed.replies.sent
-      → new.published ≡ published_after old.published sealed.entries.steps.list → frames_now ≡ frames ++ sealed.sends.list
+      → now ≡ was ++ event_results (length frames) old.me old.published sealed.entries.deeds.list sealed.entries.drops.list sealed.sends.list sealed.replies.sent
+      → new.published ≡ published_after old.published sealed.entries.deeds.list → frames_now ≡ frames ++ sealed.sends.list
       → OwnDone s new (own_event_if_up s event own) frames frames_now (own_frames_if_up s event own) was now (own_results_if_up s event (length frames) own)
   whole_done node sealed frames frames_now was now slot is written published sent =
       let life : LifeFor s after.life after.node false = life_after is.runs (inl is.all) (λ runs. ap has_fault is.all ∙ no_fault s (log_of own.life) event) in
       let there : NodeFor s new after false = record {
         me_is = me ∙ stands.me_is;
         slot = subst (λ (x : Slot). SlotFor s x after) (sym slot) is.stands;
-        published = published_now sealed.entries.steps.list is.seals.entries.steps published life;
+        published = published_now sealed.entries.deeds.list is.seals.entries.deeds published life;
         life = life;
       } in
       run_done frames frames_now was now is.runs there
       (sent ∙ ap (λ (l : List Frame). frames ++ l) is.seals.sends)
       (written
-      ∙ ap (λ (n : Id). was ++ event_results (length frames) n old.published sealed.entries.steps.list sealed.entries.drops.list sealed.sends.list sealed.replies.sent) stands.me_is
-      ∙ ap (λ (p : Option ClusterState). was ++ event_results (length frames) s.me p sealed.entries.steps.list sealed.entries.drops.list sealed.sends.list sealed.replies.sent) stands.published
-      ∙ ap (λ (l : List Step). was ++ event_results (length frames) s.me (last_published own.node.acts) l sealed.entries.drops.list sealed.sends.list sealed.replies.sent) is.seals.entries.steps
-      ∙ ap (λ (l : List MemberDrop). was ++ event_results (length frames) s.me (last_published own.node.acts) (steps_of items) l sealed.sends.list sealed.replies.sent) is.seals.entries.drops
-      ∙ ap (λ (l : List Frame). was ++ event_results (length frames) s.me (last_published own.node.acts) (steps_of items) (drops_of items) l sealed.replies.sent) is.seals.sends
-      ∙ ap (λ (l : List Outgoing). was ++ event_results (length frames) s.me (last_published own.node.acts) (steps_of items) (drops_of items) (frames_of items) l) is.seals.replies)
+      ∙ ap (λ (n : Id). was ++ event_results (length frames) n old.published sealed.entries.deeds.list sealed.entries.drops.list sealed.sends.list sealed.replies.sent) stands.me_is
+      ∙ ap (λ (p : Option ClusterState). was ++ event_results (length frames) s.me p sealed.entries.deeds.list sealed.entries.drops.list sealed.sends.list sealed.replies.sent) stands.published
+      ∙ ap (λ (l : List Deed). was ++ event_results (length frames) s.me (last_published own.node.acts) l sealed.entries.drops.list sealed.sends.list sealed.replies.sent) is.seals.entries.deeds
+      ∙ ap (λ (l : List MemberDrop). was ++ event_results (length frames) s.me (last_published own.node.acts) (deeds_of items) l sealed.sends.list sealed.replies.sent) is.seals.entries.drops
+      ∙ ap (λ (l : List Frame). was ++ event_results (length frames) s.me (last_published own.node.acts) (deeds_of items) (drops_of items) l sealed.replies.sent) is.seals.sends
+      ∙ ap (λ (l : List Outgoing). was ++ event_results (length frames) s.me (last_published own.node.acts) (deeds_of items) (drops_of items) (frames_of items) l) is.seals.replies)
       (subst (λ (l : List Frame). AllByRecursion IsFitFrame l) is.seals.sends is.fit)
 
   -- it was struck
   pub struck_done : (crashed : Bool) (entries : Entries) (frames : List Frame) (was now : List ℕ) → StruckEvent s own.life own.node event crashed entries → SlotFor s new.slot after
-      → ((count : ℕ) → now ≡ was ++ event_results count old.me old.published (told_as crashed entries.steps.list) entries.drops.list [] [])
-      → new.published ≡ published_after old.published entries.steps.list
+      → ((count : ℕ) → now ≡ was ++ event_results count old.me old.published (as_left crashed entries.deeds.list) entries.drops.list [] [])
+      → new.published ≡ published_after old.published entries.deeds.list
       → OwnDone s new (own_event_if_up s event own) frames frames (own_frames_if_up s event own) was now (own_results_if_up s event (length frames) own)
   struck_done crashed entries frames was now is slot written published =
       let life : LifeFor s after.life after.node false = life_after is.runs (inr is.struck) (λ runs. absurd (let waits = is.waits in cc)) in
       let there : NodeFor s new after false = record {
         me_is = me ∙ stands.me_is;
         slot = slot;
-        published = published_now (told_as crashed entries.steps.list) is.steps (published ∙ sym (told_published crashed old.published entries.steps.list)) life;
+        published = published_now (as_left crashed entries.deeds.list) is.steps (published ∙ sym (told_published crashed old.published entries.deeds.list)) life;
         life = life;
       } in
       run_done frames frames was now is.runs there
       (sym (append-nil frames) ∙ ap (λ (l : List Frame). frames ++ l) (sym is.frames))
       (written (length frames)
-      ∙ ap (λ (n : Id). was ++ event_results (length frames) n old.published (told_as crashed entries.steps.list) entries.drops.list [] []) stands.me_is
-      ∙ ap (λ (p : Option ClusterState). was ++ event_results (length frames) s.me p (told_as crashed entries.steps.list) entries.drops.list [] []) stands.published
-      ∙ ap (λ (l : List Step). was ++ event_results (length frames) s.me (last_published own.node.acts) l entries.drops.list [] []) is.steps
-      ∙ ap (λ (l : List MemberDrop). was ++ event_results (length frames) s.me (last_published own.node.acts) (steps_of items) l [] []) is.drops
-      ∙ ap (λ (l : List Frame). was ++ event_results (length frames) s.me (last_published own.node.acts) (steps_of items) (drops_of items) l []) (sym is.frames)
-      ∙ ap (λ (l : List Outgoing). was ++ event_results (length frames) s.me (last_published own.node.acts) (steps_of items) (drops_of items) (frames_of items) l) (sym is.replies))
+      ∙ ap (λ (n : Id). was ++ event_results (length frames) n old.published (as_left crashed entries.deeds.list) entries.drops.list [] []) stands.me_is
+      ∙ ap (λ (p : Option ClusterState). was ++ event_results (length frames) s.me p (as_left crashed entries.deeds.list) entries.drops.list [] []) stands.published
+      ∙ ap (λ (l : List Deed). was ++ event_results (length frames) s.me (last_published own.node.acts) l entries.drops.list [] []) is.steps
+      ∙ ap (λ (l : List MemberDrop). was ++ event_results (length frames) s.me (last_published own.node.acts) (deeds_of items) l [] []) is.drops
+      ∙ ap (λ (l : List Frame). was ++ event_results (length frames) s.me (last_published own.node.acts) (deeds_of items) (drops_of items) l []) (sym is.frames)
+      ∙ ap (λ (l : List Outgoing). was ++ event_results (length frames) s.me (last_published own.node.acts) (deeds_of items) (drops_of items) (frames_of items) l) (sym is.replies))
       (subst (λ (l : List Frame). AllByRecursion IsFitFrame l) (sym is.frames) tt)
 
 -- a node whose disk has stopped is down
@@ -160,28 +160,28 @@ module _ (old : ClusterNode) (event : Event) (node node' : Node) (slot : old.slo
       (down_done s own event old frames was now stands stopped.0 written)
 
   pub does_whole : (sealed : Sealed) → Ends node node' event (ended.Whole sealed) → (published : Option ClusterState) (frames frames_now : List Frame) (was now : List ℕ)
-      → now ≡ was ++ event_results (length frames) old.me old.published sealed.entries.steps.list sealed.entries.drops.list sealed.sends.list sealed.replies.sent
-      → published ≡ published_after old.published sealed.entries.steps.list → frames_now ≡ frames ++ sealed.sends.list
+      → now ≡ was ++ event_results (length frames) old.me old.published sealed.entries.deeds.list sealed.entries.drops.list sealed.sends.list sealed.replies.sent
+      → published ≡ published_after old.published sealed.entries.deeds.list → frames_now ≡ frames ++ sealed.sends.list
       → Does (record old { slot = Open node'; published = published }) frames frames_now was now
   does_whole sealed ends published frames frames_now was now written told sent s own stands =
       whole_done s own event old (record old { slot = Open node'; published = published }) stands refl node' sealed frames frames_now was now refl (ends s own.life own.node (open_for s own stands)) written told sent
 
   pub does_failed : (entries : Entries) → Ends node node' event (ended.Failed entries) → (published : Option ClusterState) (frames : List Frame) (was now : List ℕ)
-      → ((count : ℕ) → now ≡ was ++ event_results count old.me old.published (told_as false entries.steps.list) entries.drops.list [] [])
-      → published ≡ published_after old.published entries.steps.list
+      → ((count : ℕ) → now ≡ was ++ event_results count old.me old.published (as_left false entries.deeds.list) entries.drops.list [] [])
+      → published ≡ published_after old.published entries.deeds.list
       → Does (record old { slot = Open node'; published = published }) frames frames was now
   does_failed entries ends published frames was now written told s own stands =
       let failed = ends s own.life own.node (open_for s own stands) in
       struck_done s own event old (record old { slot = Open node'; published = published }) stands refl false entries frames was now failed.0 failed.1 written told
 
   pub does_crashed : (entries : Entries) → Ends node node' event (ended.Crashed entries) → (mid new : ClusterNode) → mid.me ≡ old.me → mid.published ≡ old.published → new.me ≡ mid.me → new.slot ≡ mid.slot → ClosesTo (Open node') mid.slot → (frames : List Frame) (was now : List ℕ)
-      → ((count : ℕ) → now ≡ was ++ event_results count mid.me mid.published (told_as true entries.steps.list) entries.drops.list [] [])
-      → new.published ≡ published_after mid.published entries.steps.list
+      → ((count : ℕ) → now ≡ was ++ event_results count mid.me mid.published (as_left true entries.deeds.list) entries.drops.list [] [])
+      → new.published ≡ published_after mid.published entries.deeds.list
       → Does new frames frames was now
   does_crashed entries ends mid new me published new_me slot_is closes frames was now written told s own stands =
       let crashed = ends s own.life own.node (open_for s own stands) in
       struck_done s own event old new stands (new_me ∙ me) true entries frames was now crashed.0 (subst (λ (x : Slot). SlotFor s x (own_event s own event)) (sym slot_is) (down_slot s own event node' mid.slot closes crashed.1))
       (λ count. written count
-      ∙ ap (λ (n : Id). was ++ event_results count n mid.published (told_as true entries.steps.list) entries.drops.list [] []) me
-      ∙ ap (λ (p : Option ClusterState). was ++ event_results count old.me p (told_as true entries.steps.list) entries.drops.list [] []) published)
-      (told ∙ ap (λ (p : Option ClusterState). published_after p entries.steps.list) published)
+      ∙ ap (λ (n : Id). was ++ event_results count n mid.published (as_left true entries.deeds.list) entries.drops.list [] []) me
+      ∙ ap (λ (p : Option ClusterState). was ++ event_results count old.me p (as_left true entries.deeds.list) entries.drops.list [] []) published)
+      (told ∙ ap (λ (p : Option ClusterState). published_after p entries.deeds.list) published)

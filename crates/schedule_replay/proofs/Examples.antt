@@ -1,4 +1,4 @@
--- What the steps of two schedules show.
+-- What the trace_parts of two schedules show.
 use Rattle.std.proofs.Common.{◌≡◌, false, true, None, Some, List, [], ◌∷◌, ◌++◌, refl}
 use Rattle.std.specs.Prelude.{codes}
 use Rattle.voting_config.specs.Ids.{Id}
@@ -21,8 +21,8 @@ use Rattle.schedule_text.specs.declared.schedule.Line.{Line}
 use Rattle.schedule_text.specs.declared.schedule.Line.TheVariants.{Boot, StartJoin, Value, Deliver, Restart, Fuse}
 use Rattle.schedule_text.specs.declared.schedule.Schedule.{Schedule}
 use Rattle.schedule_replay.specs.Replayed.{value_with}
-use Rattle.schedule_replay.specs.TraceSteps.{steps}
-use Rattle.schedule_replay.specs.Told.{told, wins_of, states_of}
+use Rattle.schedule_replay.specs.TraceParts.{trace_parts}
+use Rattle.schedule_replay.specs.HistoryShown.{history_shown, wins_of, states_of}
 
 abbrev a : Id
 a = codes "a"
@@ -31,11 +31,11 @@ a = codes "a"
 abbrev alone : Schedule
 alone = record { nodes = a ∷ []; initial = a ∷ []; voting_only = []; lines = Boot a ∷ StartJoin a a 1 ∷ Deliver a 1 ∷ Value a 1 (codes "x") (a ∷ []) ∷ Deliver a 2 ∷ Deliver a 3 ∷ Deliver a 4 ∷ [] }
 
-one_win : wins_of (steps alone) ≡ record { node = a; term = 1 } ∷ []
+one_win : wins_of (trace_parts alone) ≡ record { node = a; term = 1 } ∷ []
 unfolding join_checked eight_bytes two_bytes sized framed laid size_at bodies_from bodies_of generations_of misplaced_from epoch_in first_words schedule rounds compress hash_after digest_bytes sha256 guarded guard_fault body_of change_tagged with_change folded_from
 one_win = refl
 
-one_commit : states_of (steps alone) ≡ record { term = 1; version = 1; parent = Some (record { term = 0; version = 0 }); config = a ∷ []; committed = a ∷ []; value = value_with (codes "x") } ∷ []
+one_commit : states_of (trace_parts alone) ≡ record { term = 1; version = 1; parent = Some (record { term = 0; version = 0 }); config = a ∷ []; committed = a ∷ []; value = value_with (codes "x") } ∷ []
 unfolding join_checked eight_bytes two_bytes sized framed laid size_at bodies_from bodies_of generations_of misplaced_from epoch_in first_words schedule rounds compress hash_after digest_bytes sha256 guarded guard_fault body_of change_tagged with_change folded_from
 one_commit = refl
 
@@ -49,13 +49,13 @@ struck more = record { nodes = a ∷ []; initial = a ∷ []; voting_only = []; l
 abbrev booted : History
 booted = Next NoEntries a (Bootstrap (a ∷ [])) (Answered (Taken None false))
 
-not_yet : told (steps (struck [])) ≡ Next booted a (act.StartJoin a 1) (Crashed false)
+not_yet : history_shown (trace_parts (struck [])) ≡ Next booted a (act.StartJoin a 1) (Crashed false)
 unfolding join_checked eight_bytes two_bytes sized framed laid size_at bodies_from bodies_of generations_of misplaced_from epoch_in first_words schedule rounds compress hash_after digest_bytes sha256 guarded guard_fault body_of change_tagged with_change folded_from
 not_yet = refl
 
 abbrev found : KeptRecord
 found = record { term = 1; accepted = initial_state (a ∷ []); committed = a ∷ [] }
 
-settled : told (steps (struck (Restart a ∷ []))) ≡ Next (Next booted a (act.StartJoin a 1) (Crashed true)) a (Open found) (Answered (Taken None false))
+settled : history_shown (trace_parts (struck (Restart a ∷ []))) ≡ Next (Next booted a (act.StartJoin a 1) (Crashed true)) a (Open found) (Answered (Taken None false))
 unfolding join_checked eight_bytes two_bytes sized framed laid size_at bodies_from bodies_of generations_of misplaced_from epoch_in first_words schedule rounds compress hash_after digest_bytes sha256 guarded guard_fault body_of change_tagged with_change folded_from
 settled = refl

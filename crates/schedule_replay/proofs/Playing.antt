@@ -11,13 +11,13 @@ use Rattle.replay_node.specs.NodeDisk.{CallsEnd, Done, Failed, CrashedIn}
 use Rattle.replay_node.specs.NodeWorld.{NodeWorld, act_called, after_act, outcome_at}
 use Rattle.trace_text.specs.Published.{published_by}
 use Rattle.policy_model.specs.declared.settings.Settings.{Settings}
-use Rattle.policy_model.specs.declared.events.Step.{Step}
-use Rattle.policy_model.specs.declared.events.Step.TheVariants as step
-use Rattle.policy_model.specs.Events.{Item, Opens, Begins, Acts, Turns, Drops, Sends, Replies, Notes, Log, And, added, acts_of}
+use Rattle.policy_model.specs.declared.events.Deed.{Deed}
+use Rattle.policy_model.specs.declared.events.Deed.TheVariants as deed
+use Rattle.policy_model.specs.Events.{Item, Opens, Begins, Acts, ChangesMode, Drops, Sends, Replies, Notes, Log, And, added, acts_of}
 use Rattle.policy_model.specs.Local.{IsAnswered, Ended, ByAct, ByQuiet, is_quiet}
 use Rattle.policy_model.specs.Views.{View}
 use Rattle.event_text.specs.Published.{published_after, published_in}
-use Rattle.event_text.specs.Steps.{outcome_told, step_told, told_as}
+use Rattle.event_text.specs.Deeds.{outcome_left, deed_left, as_left}
 use Rattle.replay_node.specs.Course.{NodeCourse, node_act_then, node_behind, node_played}
 use Rattle.replay_node.proofs.Carried.{quiet_played}
 
@@ -29,11 +29,11 @@ quiet_front : (g : NodeHistory) (i : Item) (d : NodeCourse) → is_quiet i ≡ t
 quiet_front g (Opens found) d q h l e = absurd (cc)
 quiet_front g (Begins event) d q h l e = absurd (cc)
 quiet_front g (Acts act o) d q h l e = absurd (cc)
-quiet_front g (Turns mode term) d q h l e = from d.struck
+quiet_front g (ChangesMode mode term) d q h l e = from d.struck
   where
-    from : (b : Bool) → acts_of (added l ((if b then Turns mode term ∷ [] else Turns mode term ∷ []) ++ d.items)) ≡ d.node.acts
-    from true = h (And l (Turns mode term)) e
-    from false = h (And l (Turns mode term)) e
+    from : (b : Bool) → acts_of (added l ((if b then ChangesMode mode term ∷ [] else ChangesMode mode term ∷ []) ++ d.items)) ≡ d.node.acts
+    from true = h (And l (ChangesMode mode term)) e
+    from false = h (And l (ChangesMode mode term)) e
 quiet_front g (Drops member cause) d q h l e = from d.struck
   where
     from : (b : Bool) → acts_of (added l ((if b then Drops member cause ∷ [] else Drops member cause ∷ []) ++ d.items)) ≡ d.node.acts
@@ -74,24 +74,24 @@ played_acts s v me x is (ByQuiet u i rest q a) l e =
 
 -- ---- the state that was published last
 
-told_by : (crashed : Bool) (before : Option ClusterState) (o : Outcome) → published_by (outcome_told crashed o) before ≡ published_by o before
+told_by : (crashed : Bool) (before : Option ClusterState) (o : Outcome) → published_by (outcome_left crashed o) before ≡ published_by o before
 told_by crashed before (Answered reply) = refl
 told_by true before (Disk kept) = refl
 told_by false before (Disk kept) = refl
 told_by crashed before (Crashed kept) = refl
 
-told_in : (crashed : Bool) (before : Option ClusterState) (x : Step) → published_in before (step_told crashed x) ≡ published_in before x
-told_in crashed before (step.Act (Bootstrap config) o) = refl
-told_in crashed before (step.Act (StartJoin candidate term) o) = refl
-told_in crashed before (step.Act (TakeJoin join) o) = refl
-told_in crashed before (step.Act (Value version config value) o) = told_by crashed before o
-told_in crashed before (step.Act (Publish request) o) = refl
-told_in crashed before (step.Act (Response response) o) = refl
-told_in crashed before (step.Act (Commit commit) o) = refl
-told_in crashed before (step.Act (Open found) o) = refl
-told_in crashed before (step.Mode mode term) = refl
+told_in : (crashed : Bool) (before : Option ClusterState) (x : Deed) → published_in before (deed_left crashed x) ≡ published_in before x
+told_in crashed before (deed.Act (Bootstrap config) o) = refl
+told_in crashed before (deed.Act (StartJoin candidate term) o) = refl
+told_in crashed before (deed.Act (TakeJoin join) o) = refl
+told_in crashed before (deed.Act (Value version config value) o) = told_by crashed before o
+told_in crashed before (deed.Act (Publish request) o) = refl
+told_in crashed before (deed.Act (Response response) o) = refl
+told_in crashed before (deed.Act (Commit commit) o) = refl
+told_in crashed before (deed.Act (Open found) o) = refl
+told_in crashed before (deed.Mode mode term) = refl
 
 -- how an act that the disk struck is shown does not matter here
-pub told_published : (crashed : Bool) (before : Option ClusterState) (xs : List Step) → published_after before (told_as crashed xs) ≡ published_after before xs
+pub told_published : (crashed : Bool) (before : Option ClusterState) (xs : List Deed) → published_after before (as_left crashed xs) ≡ published_after before xs
 told_published crashed before [] = refl
-told_published crashed before (x ∷ xs) = ap (λ (p : Option ClusterState). published_after p (told_as crashed xs)) (told_in crashed before x) ∙ told_published crashed (published_in before x) xs
+told_published crashed before (x ∷ xs) = ap (λ (p : Option ClusterState). published_after p (as_left crashed xs)) (told_in crashed before x) ∙ told_published crashed (published_in before x) xs

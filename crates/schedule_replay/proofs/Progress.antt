@@ -6,7 +6,7 @@ use Rattle.std.proofs.Math.Seq.{drop-cons}
 use Rattle.voting_config.specs.Ids.{Id}
 use Rattle.schedule_text.specs.declared.schedule.Line.{Line}
 use Rattle.schedule_text.specs.declared.schedule.Schedule.{Schedule}
-use Rattle.zen_link.specs.Streams.{Appended, AppendedFront}
+use Rattle.zen_link.specs.Streams.{Appended, AppendedPrefix}
 use Rattle.zen_link.proofs.Appending.{appended_more, front_after, front_within}
 use Rattle.replay_node.specs.declared.message.SentMessage.{SentMessage}
 use Rattle.replay_node.specs.declared.node.ReplayNode.{ReplayNode}
@@ -51,17 +51,17 @@ module _ (ids initial : List Id) (nodes more : List ReplayNode) (messages sent :
         ends = sym (ap (λ (l : List Line). replayed_from initial m.world l) (left_is lines i line within is)) ∙ m.ends;
       }
 
-  pub fails : AppendedFront now later (held ++ text) → AppendedFront was later all
+  pub fails : AppendedPrefix now later (held ++ text) → AppendedPrefix was later all
   fails h =
       let front = front_within now later (held ++ text) tail (held ++ (text ++ tail)) (append_assoc held text tail) h in
-      subst (λ (t : List ℕ). AppendedFront was later t) whole_is (front_after was now later m.front (held ++ (text ++ tail)) m.written front)
+      subst (λ (t : List ℕ). AppendedPrefix was later t) whole_is (front_after was now later m.front (held ++ (text ++ tail)) m.written front)
 
 module _ (ids initial : List Id) (nodes : List ReplayNode) (messages : List SentMessage) (was now later : Option (List ℕ)) (held bytes : List ℕ) (left : List Line) (all : List ℕ) (end : World) where
-  pub stops : bytes ≡ held → SoFar ids initial nodes messages was now held left all end → AppendedFront now later bytes → AppendedFront was later all
+  pub stops : bytes ≡ held → SoFar ids initial nodes messages was now held left all end → AppendedPrefix now later bytes → AppendedPrefix was later all
   stops e m h =
       let tail : List ℕ = trace_from initial m.world left in
       let front = front_within now later bytes tail (held ++ tail) (ap (λ (t : List ℕ). t ++ tail) e) h in
-      subst (λ (t : List ℕ). AppendedFront was later t) m.whole (front_after was now later m.front (held ++ tail) m.written front)
+      subst (λ (t : List ℕ). AppendedPrefix was later t) m.whole (front_after was now later m.front (held ++ tail) m.written front)
 
   pub ends : left ≡ [] → bytes ≡ held → SoFar ids initial nodes messages was now held left all end → Appended now later bytes → Appended was later all
   ends none e m h =
@@ -73,7 +73,7 @@ module _ (ids initial : List Id) (nodes : List ReplayNode) (messages : List Sent
       subst (λ (t : List ℕ). Appended was later t) whole (appended_more was now later m.front bytes m.written h)
 
 -- an error says no more than that a prefix was written
-pub front_at_err : {A E : Type 0} (r : Result A E) (was now : Option (List ℕ)) (all : List ℕ) → IsErr r → AppendedFront was now all → WritesTrace was now all r
+pub front_at_err : {A E : Type 0} (r : Result A E) (was now : Option (List ℕ)) (all : List ℕ) → IsErr r → AppendedPrefix was now all → WritesTrace was now all r
 front_at_err (Ok x) was now all is f = absurd (cc)
 front_at_err (Err e) was now all is f = f
 

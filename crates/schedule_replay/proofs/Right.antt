@@ -19,18 +19,18 @@ use Rattle.replay_node.specs.Worlds.{World, fresh_world, node_world}
 use Rattle.schedule_replay.specs.Replayed.{after, message_at, replayed_from, value_with}
 use Rattle.replay_node.proofs.MayAct.{taking_shut}
 use Rattle.schedule_replay.proofs.WorldLegal.{replay_is_legal}
-use Rattle.schedule_replay.specs.Steps.{Step, WasDown, WasUp, WentDown, Unsent}
-use Rattle.schedule_replay.specs.Told.{told_from}
-use Rattle.schedule_replay.specs.TraceSteps.{act_step, delivery_steps, opening_step, line_steps, steps_from, steps}
+use Rattle.schedule_replay.specs.Parts.{TracePart, WasDown, WasUp, WentDown, Unsent}
+use Rattle.schedule_replay.specs.HistoryShown.{history_shown_from}
+use Rattle.schedule_replay.specs.TraceParts.{act_part, delivery_parts, opening_part, line_parts, parts_from, trace_parts}
 use Rattle.schedule_replay.specs.Legal.{IsWellFormed}
 use Rattle.schedule_replay.proofs.Along.{Along, along_append, IsRight, IsSound}
 use Rattle.schedule_replay.proofs.Telling.{line_told}
 use Rattle.schedule_replay.proofs.ActShown.{outcome_shows}
 
-act_right : (w : World) (n : Id) (act : Act) → is_opening act ≡ false → IsRight w.history (if w.down n then WasDown n else act_step w n act)
+act_right : (w : World) (n : Id) (act : Act) → is_opening act ≡ false → IsRight w.history (if w.down n then WasDown n else act_part w n act)
 act_right w n act shut = from (w.down n)
   where
-    from : (b : Bool) → IsRight w.history (if b then WasDown n else act_step w n act)
+    from : (b : Bool) → IsRight w.history (if b then WasDown n else act_part w n act)
     from true = tt
     from false = record {
       outcome = outcome_at n (node_world w n) act;
@@ -39,25 +39,25 @@ act_right w n act shut = from (w.down n)
       shut = shut;
     }
 
-pub opening_right : (h : History) (n : Id) (end : CallsEnd) (found : Kept) → IsRight h (opening_step end n found)
+pub opening_right : (h : History) (n : Id) (end : CallsEnd) (found : Kept) → IsRight h (opening_part end n found)
 opening_right h n Done found = tt
 opening_right h n Failed found = tt
 opening_right h n (CrashedIn way) found = tt
 
-if_right : (h : History) (b : Bool) (x y : Step) → IsRight h x → IsRight h y → IsRight h (if b then x else y)
+if_right : (h : History) (b : Bool) (x y : TracePart) → IsRight h x → IsRight h y → IsRight h (if b then x else y)
 if_right h true x y p q = p
 if_right h false x y p q = q
 
 -- a line shows one step that is right, or none
-data IsOne (h : History) : List Step → Type 0 where
+data IsOne (h : History) : List TracePart → Type 0 where
   NoStep : IsOne h []
-  OneStep : (x : Step) → IsRight h x → IsOne h (x ∷ [])
+  OneStep : (x : TracePart) → IsRight h x → IsOne h (x ∷ [])
 
-delivery_one : (w : World) (n : Id) (m : Option Message) → IsOne w.history (delivery_steps w n m)
+delivery_one : (w : World) (n : Id) (m : Option Message) → IsOne w.history (delivery_parts w n m)
 delivery_one w n None = OneStep _ (if_right w.history (w.down n) (WasDown n) Unsent tt tt)
 delivery_one w n (Some m) = OneStep _ (act_right w n (taking m) (taking_shut m))
 
-line_one : (initial : List Id) (w : World) (l : Line) → IsOne w.history (line_steps initial w l)
+line_one : (initial : List Id) (w : World) (l : Line) → IsOne w.history (line_parts initial w l)
 line_one initial w (line.Boot n) = OneStep _ (act_right w n (Bootstrap initial) refl)
 line_one initial w (line.StartJoin n candidate term) = OneStep _ (act_right w n (StartJoin candidate term) refl)
 line_one initial w (line.Value n version text config) = OneStep _ (act_right w n (Value version config (value_with text)) refl)
@@ -69,21 +69,21 @@ line_one initial w (line.Fail n count) = NoStep
 line_one initial w (line.Tick n now word) = NoStep
 line_one initial w (line.Client n bytes) = NoStep
 
-right_one : (h : History) (xs : List Step) → IsOne h xs → Along IsRight h xs
+right_one : (h : History) (xs : List TracePart) → IsOne h xs → Along IsRight h xs
 right_one h _ NoStep = tt
 right_one h _ (OneStep x r) = (r, tt)
 
-pub steps_right : (initial : List Id) (w : World) (ls : List Line) → Along IsRight w.history (steps_from initial w ls)
+pub steps_right : (initial : List Id) (w : World) (ls : List Line) → Along IsRight w.history (parts_from initial w ls)
 steps_right initial w [] = tt
 steps_right initial w (l ∷ ls) = (
   tt,
-  along_append IsRight w.history (line_steps initial w l) (steps_from initial (after initial w l) ls) (right_one w.history _ (line_one initial w l))
-      (subst (λ (h : History). Along IsRight h (steps_from initial (after initial w l) ls)) (sym (line_told initial w l)) (steps_right initial (after initial w l) ls)),
+  along_append IsRight w.history (line_parts initial w l) (parts_from initial (after initial w l) ls) (right_one w.history _ (line_one initial w l))
+      (subst (λ (h : History). Along IsRight h (parts_from initial (after initial w l) ls)) (sym (line_told initial w l)) (steps_right initial (after initial w l) ls)),
 )
 
 -- ---- legality
 
-sound_one : (initial : List Id) (h : History) (xs : List Step) → IsOne h xs → IsLegal initial h → IsLegal initial (told_from h xs) → Along (IsSound initial) h xs
+sound_one : (initial : List Id) (h : History) (xs : List TracePart) → IsOne h xs → IsLegal initial h → IsLegal initial (history_shown_from h xs) → Along (IsSound initial) h xs
 sound_one initial h _ NoStep l m = tt
 sound_one initial h _ (OneStep x r) l m = (record { right = r; before = l; behind = m }, tt)
 
@@ -91,13 +91,13 @@ sound_one initial h _ (OneStep x r) l m = (record { right = r; before = l; behin
 abbrev IsLegalAll : List Id → World → List Line → Type 0
 IsLegalAll initial w ls = (front back : List Line) → ls ≡ front ++ back → IsLegal initial (replayed_from initial w front).history
 
-steps_sound : (initial : List Id) (w : World) (ls : List Line) → IsLegalAll initial w ls → Along (IsSound initial) w.history (steps_from initial w ls)
+steps_sound : (initial : List Id) (w : World) (ls : List Line) → IsLegalAll initial w ls → Along (IsSound initial) w.history (parts_from initial w ls)
 steps_sound initial w [] all = tt
 steps_sound initial w (l ∷ ls) all = (
   record { right = tt; before = here; behind = here },
-  along_append (IsSound initial) w.history (line_steps initial w l) (steps_from initial (after initial w l) ls)
+  along_append (IsSound initial) w.history (line_parts initial w l) (parts_from initial (after initial w l) ls)
       (sound_one initial w.history _ (line_one initial w l) here (subst (λ (h : History). IsLegal initial h) (sym (line_told initial w l)) next))
-      (subst (λ (h : History). Along (IsSound initial) h (steps_from initial (after initial w l) ls)) (sym (line_told initial w l))
+      (subst (λ (h : History). Along (IsSound initial) h (parts_from initial (after initial w l) ls)) (sym (line_told initial w l))
       (steps_sound initial (after initial w l) ls (λ front back e. all (l ∷ front) back (ap (λ x. l ∷ x) e)))),
 )
   where
@@ -115,7 +115,7 @@ front_none : (front back : List Line) → front ++ back ≡ [] → front ≡ []
 front_none [] back e = refl
 front_none (l ∷ front) back e = cc
 
-pub schedule_sound : (s : Schedule) → IsWellFormed s → Along (IsSound s.initial) fresh_world.history (steps s)
+pub schedule_sound : (s : Schedule) → IsWellFormed s → Along (IsSound s.initial) fresh_world.history (trace_parts s)
 schedule_sound s i = steps_sound s.initial fresh_world s.lines all
   where
     all : IsLegalAll s.initial fresh_world s.lines

@@ -10,14 +10,14 @@ use Rattle.world_model.specs.Safety.{Win, Published, IsCommitted, IsSafe}
 use Rattle.world_model.proofs.Legal.{none_of}
 use Rattle.agreement.proofs.Laws.{safe_of_legal}
 use Rattle.schedule_replay.specs.Showing.{Shows, Agrees}
-use Rattle.schedule_replay.specs.Steps.{Step}
-use Rattle.schedule_replay.specs.Told.{told, states_of, wins_of}
+use Rattle.schedule_replay.specs.Parts.{TracePart}
+use Rattle.schedule_replay.specs.HistoryShown.{history_shown, states_of, wins_of}
 use Rattle.schedule_replay.proofs.Along.{Along, IsSound}
 use Rattle.schedule_replay.proofs.Winning.{wins_shown}
 use Rattle.schedule_replay.proofs.Committing.{all_commits, all_committed, IsShown, all_shown}
 
-module _ (initial : List Id) (xs : List Step) (a : Along (IsSound initial) NoEntries xs) where
-  is_shown : (c : ApplyCommit) → Contains (sent (told xs)) (CommitMessage c) → IsShown xs c
+module _ (initial : List Id) (xs : List TracePart) (a : Along (IsSound initial) NoEntries xs) where
+  is_shown : (c : ApplyCommit) → Contains (sent (history_shown xs)) (CommitMessage c) → IsShown xs c
   is_shown c m = from (all_shown initial NoEntries xs c a m)
     where
       from : Contains (sent NoEntries) (CommitMessage c) ⊎ IsShown xs c → IsShown xs c
@@ -25,23 +25,23 @@ module _ (initial : List Id) (xs : List Step) (a : Along (IsSound initial) NoEnt
       from (inr k) = k
 
   -- the state that is shown for a commit is the one that is committed
-  all_states : IsSafe initial (told xs) → (p : Published) → IsCommitted (told xs) p → Contains (states_of xs) p.state
+  all_states : IsSafe initial (history_shown xs) → (p : Published) → IsCommitted (history_shown xs) p → Contains (states_of xs) p.state
   all_states safe p c =
       let k = is_shown (record { source = p.publisher; term = p.state.term; version = p.state.version }) c.1 in
       let q = all_committed initial NoEntries xs a k.state k.is_in in
       let same = safe.one_state q.as_published p q.is_committed c (ap (λ (x : ClusterState). x.version) q.is_state ∙ k.has_version) in
       subst (λ (x : ClusterState). Contains (states_of xs) x) (sym q.is_state ∙ same) k.is_in
 
-  pub sound_shows : IsLegal initial (told xs) → Shows (told xs) xs
+  pub sound_shows : IsLegal initial (history_shown xs) → Shows (history_shown xs) xs
   sound_shows l = record {
     wins = wins_shown initial NoEntries xs a;
     commits = all_commits initial NoEntries xs a;
     committed = all_committed initial NoEntries xs a;
-    all_committed = all_states (safe_of_legal initial (told xs) l).0;
+    all_committed = all_states (safe_of_legal initial (history_shown xs) l).0;
   }
 
 -- and what a legal history shows agrees
-pub shown_agrees : (initial : List Id) (h : History) (xs : List Step) → IsLegal initial h → Shows h xs → Agrees xs
+pub shown_agrees : (initial : List Id) (h : History) (xs : List TracePart) → IsLegal initial h → Shows h xs → Agrees xs
 shown_agrees initial h xs l shows = record { one_winner = one_winner; one_state = one_state }
   where
     safe : IsSafe initial h

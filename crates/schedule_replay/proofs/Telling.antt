@@ -19,41 +19,41 @@ use Rattle.replay_node.specs.Worlds.{World, did, did_unless_down, history_opened
 use Rattle.schedule_replay.specs.Replayed.{after, message_at, replayed_from, took_some, value_with}
 use Rattle.schedule_replay.specs.Trace.{trace_from, line_results, results_of, delivery_results}
 use Rattle.replay_node.proofs.MayAct.{taking_shut}
-use Rattle.schedule_replay.specs.Steps.{Step, Echo, WasDown, WasUp, WentDown, Unsent, step_text, text_of}
-use Rattle.schedule_replay.specs.Told.{told_by, told_from, line_in, lines_of}
-use Rattle.schedule_replay.specs.TraceSteps.{act_step, act_steps, delivery_steps, opening_step, line_steps, steps_from}
+use Rattle.schedule_replay.specs.Parts.{TracePart, Echo, WasDown, WasUp, WentDown, Unsent, part_text, text_of}
+use Rattle.schedule_replay.specs.HistoryShown.{history_shown_by, history_shown_from, line_in, lines_of}
+use Rattle.schedule_replay.specs.TraceParts.{act_part, act_parts, delivery_parts, opening_part, line_parts, parts_from}
 use Rattle.schedule_replay.proofs.ActShown.{results_shown, outcome_shows}
 
 -- ---- each line
 
-taking_is_act : (w : World) (n : Id) (act : Act) → is_opening act ≡ false → told_by w.history (act_step w n act) ≡ (did w n act).history
+taking_is_act : (w : World) (n : Id) (act : Act) → is_opening act ≡ false → history_shown_by w.history (act_part w n act) ≡ (did w n act).history
 taking_is_act w n act shut =
     ap (λ (o : Outcome). Next w.history n act o) (outcome_shows n (node_history w.history n) act (act_called n (node_world w n) act).ended shut (length (sent w.history) + 1))
 
-act_told : (w : World) (n : Id) (act : Act) → is_opening act ≡ false → told_from w.history (act_steps w n act) ≡ (did_unless_down w n act).history
+act_told : (w : World) (n : Id) (act : Act) → is_opening act ≡ false → history_shown_from w.history (act_parts w n act) ≡ (did_unless_down w n act).history
 act_told w n act shut = from (w.down n)
   where
-    from : (b : Bool) → told_by w.history (if b then WasDown n else act_step w n act) ≡ (if b then w else did w n act).history
+    from : (b : Bool) → history_shown_by w.history (if b then WasDown n else act_part w n act) ≡ (if b then w else did w n act).history
     from true = refl
     from false = taking_is_act w n act shut
 
-quiet_told : (h : History) (b : Bool) (x y : Step) → told_by h x ≡ h → told_by h y ≡ h → told_by h (if b then x else y) ≡ h
+quiet_told : (h : History) (b : Bool) (x y : TracePart) → history_shown_by h x ≡ h → history_shown_by h y ≡ h → history_shown_by h (if b then x else y) ≡ h
 quiet_told h true x y p q = p
 quiet_told h false x y p q = q
 
-taken_told : (w : World) (n : Id) (m : Option Message) → told_from w.history (delivery_steps w n m) ≡ (took_some w n m).history
+taken_told : (w : World) (n : Id) (m : Option Message) → history_shown_from w.history (delivery_parts w n m) ≡ (took_some w n m).history
 taken_told w n None = quiet_told w.history (w.down n) (WasDown n) Unsent refl refl
 taken_told w n (Some m) = act_told w n (taking m) (taking_shut m)
 
-pub opening_told : (h : History) (n : Id) (end : CallsEnd) (found : Kept) → told_by h (opening_step end n found) ≡ history_opened end h n found
+pub opening_told : (h : History) (n : Id) (end : CallsEnd) (found : Kept) → history_shown_by h (opening_part end n found) ≡ history_opened end h n found
 opening_told h n Done found = refl
 opening_told h n Failed found = refl
 opening_told h n (CrashedIn way) found = refl
 
-restart_told : (initial : List Id) (w : World) (n : Id) → told_from w.history (line_steps initial w (line.Restart n)) ≡ (after initial w (line.Restart n)).history
+restart_told : (initial : List Id) (w : World) (n : Id) → history_shown_from w.history (line_parts initial w (line.Restart n)) ≡ (after initial w (line.Restart n)).history
 restart_told initial w n = from (needs_opening (node_world w n))
   where
-    from : (b : Bool) → told_by w.history (if b then opening_step (opening (w.disks n)).ended n (found_at (node_world w n)) else WasUp n) ≡ (if b then opened w n else w).history
+    from : (b : Bool) → history_shown_by w.history (if b then opening_part (opening (w.disks n)).ended n (found_at (node_world w n)) else WasUp n) ≡ (if b then opened w n else w).history
     from true = opening_told w.history n (opening (w.disks n)).ended (found_at (node_world w n))
     from false = refl
 
@@ -61,7 +61,7 @@ crash_history : (w v : World) (b : Bool) → v.history ≡ w.history → w.histo
 crash_history w v true e = refl
 crash_history w v false e = sym e
 
-pub line_told : (initial : List Id) (w : World) (l : Line) → told_from w.history (line_steps initial w l) ≡ (after initial w l).history
+pub line_told : (initial : List Id) (w : World) (l : Line) → history_shown_from w.history (line_parts initial w l) ≡ (after initial w l).history
 line_told initial w (line.Boot n) = act_told w n (Bootstrap initial) refl
 line_told initial w (line.StartJoin n candidate term) = act_told w n (StartJoin candidate term) refl
 line_told initial w (line.Value n version text config) = act_told w n (Value version config (value_with text)) refl
@@ -75,51 +75,51 @@ line_told initial w (line.Client n bytes) = refl
 
 -- ---- the history
 
-pub told_append : (h : History) (xs ys : List Step) → told_from h (xs ++ ys) ≡ told_from (told_from h xs) ys
+pub told_append : (h : History) (xs ys : List TracePart) → history_shown_from h (xs ++ ys) ≡ history_shown_from (history_shown_from h xs) ys
 told_append h [] ys = refl
-told_append h (x ∷ xs) ys = told_append (told_by h x) xs ys
+told_append h (x ∷ xs) ys = told_append (history_shown_by h x) xs ys
 
-pub steps_told : (initial : List Id) (w : World) (ls : List Line) → told_from w.history (steps_from initial w ls) ≡ (replayed_from initial w ls).history
+pub steps_told : (initial : List Id) (w : World) (ls : List Line) → history_shown_from w.history (parts_from initial w ls) ≡ (replayed_from initial w ls).history
 steps_told initial w [] = refl
 steps_told initial w (l ∷ ls) =
-    told_append w.history (line_steps initial w l) (steps_from initial (after initial w l) ls)
-    ∙ ap (λ (h : History). told_from h (steps_from initial (after initial w l) ls)) (line_told initial w l)
+    told_append w.history (line_parts initial w l) (parts_from initial (after initial w l) ls)
+    ∙ ap (λ (h : History). history_shown_from h (parts_from initial (after initial w l) ls)) (line_told initial w l)
     ∙ steps_told initial (after initial w l) ls
 
 -- ---- the text
 
-one_text : (x : Step) → text_of (x ∷ []) ≡ step_text x
-one_text x = append-nil (step_text x)
+one_text : (x : TracePart) → text_of (x ∷ []) ≡ part_text x
+one_text x = append-nil (part_text x)
 
-act_text_is : (w : World) (n : Id) (act : Act) → is_opening act ≡ false → results_of w n act ≡ text_of (act_steps w n act)
+act_text_is : (w : World) (n : Id) (act : Act) → is_opening act ≡ false → results_of w n act ≡ text_of (act_parts w n act)
 act_text_is w n act shut = from (w.down n) ∙ sym (one_text _)
   where
-    from : (b : Bool) → (if b then down_line n else results (length (sent w.history)) (last_published (node_history w.history n)) n act (outcome_at n (node_world w n) act)) ≡ step_text (if b then WasDown n else act_step w n act)
+    from : (b : Bool) → (if b then down_line n else results (length (sent w.history)) (last_published (node_history w.history n)) n act (outcome_at n (node_world w n) act)) ≡ part_text (if b then WasDown n else act_part w n act)
     from true = refl
     from false = results_shown (length (sent w.history)) (last_published (node_history w.history n)) n act (outcome_at n (node_world w n) act) shut
 
-if_text : (b : Bool) (x y : Step) → (if b then step_text x else step_text y) ≡ step_text (if b then x else y)
+if_text : (b : Bool) (x y : TracePart) → (if b then part_text x else part_text y) ≡ part_text (if b then x else y)
 if_text true x y = refl
 if_text false x y = refl
 
-taken_text : (w : World) (n : Id) (m : Option Message) → delivery_results w n m ≡ text_of (delivery_steps w n m)
+taken_text : (w : World) (n : Id) (m : Option Message) → delivery_results w n m ≡ text_of (delivery_parts w n m)
 taken_text w n None = if_text (w.down n) (WasDown n) Unsent ∙ sym (one_text _)
 taken_text w n (Some m) = act_text_is w n (taking m) (taking_shut m)
 
-opening_text_is : (n : Id) (end : CallsEnd) (found : Kept) → opening_text end n found ≡ step_text (opening_step end n found)
+opening_text_is : (n : Id) (end : CallsEnd) (found : Kept) → opening_text end n found ≡ part_text (opening_part end n found)
 opening_text_is n Done found = refl
 opening_text_is n Failed found = refl
 opening_text_is n (CrashedIn way) found = refl
 
-restart_text_is : (initial : List Id) (w : World) (n : Id) → line_results initial w (line.Restart n) ≡ text_of (line_steps initial w (line.Restart n))
+restart_text_is : (initial : List Id) (w : World) (n : Id) → line_results initial w (line.Restart n) ≡ text_of (line_parts initial w (line.Restart n))
 restart_text_is initial w n = from (needs_opening (node_world w n)) ∙ sym (one_text _)
   where
     from : (b : Bool) → (if b then opening_text (opening (w.disks n)).ended n (found_at (node_world w n)) else up_line n)
-        ≡ step_text (if b then opening_step (opening (w.disks n)).ended n (found_at (node_world w n)) else WasUp n)
+        ≡ part_text (if b then opening_part (opening (w.disks n)).ended n (found_at (node_world w n)) else WasUp n)
     from true = opening_text_is n (opening (w.disks n)).ended (found_at (node_world w n))
     from false = refl
 
-line_text_is : (initial : List Id) (w : World) (l : Line) → line_results initial w l ≡ text_of (line_steps initial w l)
+line_text_is : (initial : List Id) (w : World) (l : Line) → line_results initial w l ≡ text_of (line_parts initial w l)
 line_text_is initial w (line.Boot n) = act_text_is w n (Bootstrap initial) refl
 line_text_is initial w (line.StartJoin n candidate term) = act_text_is w n (StartJoin candidate term) refl
 line_text_is initial w (line.Value n version text config) = act_text_is w n (Value version config (value_with text)) refl
@@ -131,30 +131,30 @@ line_text_is initial w (line.Fail n count) = refl
 line_text_is initial w (line.Tick n now word) = refl
 line_text_is initial w (line.Client n bytes) = refl
 
-pub steps_text : (initial : List Id) (w : World) (ls : List Line) → trace_from initial w ls ≡ text_of (steps_from initial w ls)
+pub steps_text : (initial : List Id) (w : World) (ls : List Line) → trace_from initial w ls ≡ text_of (parts_from initial w ls)
 steps_text initial w [] = refl
 steps_text initial w (l ∷ ls) =
-    ap (λ (x : List ℕ). (step_text (Echo l) ++ x) ++ trace_from initial (after initial w l) ls) (line_text_is initial w l)
-    ∙ ap (λ (x : List ℕ). (step_text (Echo l) ++ text_of (line_steps initial w l)) ++ x) (steps_text initial (after initial w l) ls)
-    ∙ append_assoc (step_text (Echo l)) (text_of (line_steps initial w l)) (text_of (steps_from initial (after initial w l) ls))
-    ∙ ap (λ (x : List ℕ). step_text (Echo l) ++ x) (sym (flat_map-append step_text (line_steps initial w l) (steps_from initial (after initial w l) ls)))
+    ap (λ (x : List ℕ). (part_text (Echo l) ++ x) ++ trace_from initial (after initial w l) ls) (line_text_is initial w l)
+    ∙ ap (λ (x : List ℕ). (part_text (Echo l) ++ text_of (line_parts initial w l)) ++ x) (steps_text initial (after initial w l) ls)
+    ∙ append_assoc (part_text (Echo l)) (text_of (line_parts initial w l)) (text_of (parts_from initial (after initial w l) ls))
+    ∙ ap (λ (x : List ℕ). part_text (Echo l) ++ x) (sym (flat_map-append part_text (line_parts initial w l) (parts_from initial (after initial w l) ls)))
 
 -- ---- the lines
 
-if_no_line : (b : Bool) (x y : Step) → line_in x ≡ [] → line_in y ≡ [] → lines_of ((if b then x else y) ∷ []) ≡ []
+if_no_line : (b : Bool) (x y : TracePart) → line_in x ≡ [] → line_in y ≡ [] → lines_of ((if b then x else y) ∷ []) ≡ []
 if_no_line true x y p q = append-nil (line_in x) ∙ p
 if_no_line false x y p q = append-nil (line_in y) ∙ q
 
-pub opening_no_line : (end : CallsEnd) (n : Id) (found : Kept) → line_in (opening_step end n found) ≡ []
+pub opening_no_line : (end : CallsEnd) (n : Id) (found : Kept) → line_in (opening_part end n found) ≡ []
 opening_no_line Done n found = refl
 opening_no_line Failed n found = refl
 opening_no_line (CrashedIn way) n found = refl
 
-delivery_no_line : (w : World) (n : Id) (m : Option Message) → lines_of (delivery_steps w n m) ≡ []
+delivery_no_line : (w : World) (n : Id) (m : Option Message) → lines_of (delivery_parts w n m) ≡ []
 delivery_no_line w n None = if_no_line (w.down n) _ _ refl refl
 delivery_no_line w n (Some m) = if_no_line (w.down n) _ _ refl refl
 
-no_line : (initial : List Id) (w : World) (l : Line) → lines_of (line_steps initial w l) ≡ []
+no_line : (initial : List Id) (w : World) (l : Line) → lines_of (line_parts initial w l) ≡ []
 no_line initial w (line.Boot n) = if_no_line (w.down n) _ _ refl refl
 no_line initial w (line.StartJoin n candidate term) = if_no_line (w.down n) _ _ refl refl
 no_line initial w (line.Value n version text config) = if_no_line (w.down n) _ _ refl refl
@@ -166,22 +166,22 @@ no_line initial w (line.Fail n count) = refl
 no_line initial w (line.Tick n now word) = refl
 no_line initial w (line.Client n bytes) = refl
 
-pub steps_lines : (initial : List Id) (w : World) (ls : List Line) → lines_of (steps_from initial w ls) ≡ ls
+pub steps_lines : (initial : List Id) (w : World) (ls : List Line) → lines_of (parts_from initial w ls) ≡ ls
 steps_lines initial w [] = refl
 steps_lines initial w (l ∷ ls) =
     ap (λ (x : List Line). l ∷ x)
-    (flat_map-append line_in (line_steps initial w l) (steps_from initial (after initial w l) ls)
-    ∙ ap (λ (x : List Line). x ++ lines_of (steps_from initial (after initial w l) ls)) (no_line initial w l)
+    (flat_map-append line_in (line_parts initial w l) (parts_from initial (after initial w l) ls)
+    ∙ ap (λ (x : List Line). x ++ lines_of (parts_from initial (after initial w l) ls)) (no_line initial w l)
     ∙ steps_lines initial (after initial w l) ls)
 
 -- ---- more lines
 
-abbrev GoesOn : List Step → List Step → Type 0
-GoesOn old new = (rest : List Step) × (new ≡ old ++ rest)
+abbrev GoesOn : List TracePart → List TracePart → Type 0
+GoesOn old new = (rest : List TracePart) × (new ≡ old ++ rest)
 
-behind : (front old new : List Step) → GoesOn old new → GoesOn (front ++ old) (front ++ new)
+behind : (front old new : List TracePart) → GoesOn old new → GoesOn (front ++ old) (front ++ new)
 behind front old new g = (g.0, ap (λ x. front ++ x) g.1 ∙ sym (append_assoc front old g.0))
 
-pub go_on : (initial : List Id) (w : World) (ls more : List Line) → GoesOn (steps_from initial w ls) (steps_from initial w (ls ++ more))
-go_on initial w [] more = (steps_from initial w more, refl)
-go_on initial w (l ∷ ls) more = behind (Echo l ∷ line_steps initial w l) _ _ (go_on initial (after initial w l) ls more)
+pub go_on : (initial : List Id) (w : World) (ls more : List Line) → GoesOn (parts_from initial w ls) (parts_from initial w (ls ++ more))
+go_on initial w [] more = (parts_from initial w more, refl)
+go_on initial w (l ∷ ls) more = behind (Echo l ∷ line_parts initial w l) _ _ (go_on initial (after initial w l) ls more)

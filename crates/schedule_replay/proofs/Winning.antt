@@ -15,8 +15,8 @@ use Rattle.world_model.specs.Safety.{winners}
 use Rattle.world_model.proofs.Guards.{join_guard}
 use Rattle.replay_node.specs.Did.{is_won}
 use Rattle.world_model.specs.Settled.{is_kept}
-use Rattle.schedule_replay.specs.Steps.{ActShown, Step, Echo, Did, Opened, WasDown, WasUp, WentDown, DiskFailed, Unsent}
-use Rattle.schedule_replay.specs.Told.{told_by, told_from, some_win, win_in, wins_of}
+use Rattle.schedule_replay.specs.Parts.{ActShown, TracePart, Echo, Did, Opened, WasDown, WasUp, WentDown, DiskFailed, Unsent}
+use Rattle.schedule_replay.specs.HistoryShown.{history_shown_by, history_shown_from, some_win, win_in, wins_of}
 use Rattle.schedule_replay.specs.ActShown.{won_term}
 use Rattle.schedule_replay.proofs.Along.{Along, grows, IsSound}
 use Rattle.world_model.proofs.SettledLists.{win_added, winners_more, settled_winners}
@@ -44,7 +44,7 @@ win_is n g act (Answered Stopped) shut h = lost_win n act (Answered Stopped) ref
 win_is n g act (Disk k) shut h = lost_win n act (Disk k) refl
 win_is n g act (Crashed k) shut h = lost_win n act (Crashed k) refl
 
-step_wins : (initial : List Id) (h : History) (x : Step) → IsSound initial h x → winners h ++ win_in x ≡ winners (told_by h x)
+step_wins : (initial : List Id) (h : History) (x : TracePart) → IsSound initial h x → winners h ++ win_in x ≡ winners (history_shown_by h x)
 step_wins initial h (Did x) p =
     let r = p.right in
     let follows = subst (λ (o : Outcome). IsOutcome x.node (node_history h x.node) x.act o) r.tells p.behind.1.follows.follows in
@@ -60,5 +60,5 @@ step_wins initial h (WentDown n) p = append-nil (winners h)
 step_wins initial h (DiskFailed n) p = append-nil (winners h)
 step_wins initial h Unsent p = append-nil (winners h)
 
-pub wins_shown : (initial : List Id) (h : History) (xs : List Step) → Along (IsSound initial) h xs → winners h ++ wins_of xs ≡ winners (told_from h xs)
+pub wins_shown : (initial : List Id) (h : History) (xs : List TracePart) → Along (IsSound initial) h xs → winners h ++ wins_of xs ≡ winners (history_shown_from h xs)
 wins_shown initial h xs a = grows winners win_in (IsSound initial) (step_wins initial) h xs a

@@ -11,7 +11,7 @@ use Rattle.world_model.specs.declared.acts.Outcome.{Outcome}
 use Rattle.world_model.specs.declared.acts.Outcome.TheVariants.{Answered}
 use Rattle.world_model.specs.Acts.{wins}
 use Rattle.trace_text.specs.Endings.{ending_of}
-use Rattle.schedule_replay.specs.Steps.{NumberedMessage, ActShown}
+use Rattle.schedule_replay.specs.Parts.{NumberedMessage, ActShown}
 
 abbrev pub won_term : Act → Outcome → Option ℕ
 won_term (TakeJoin j) o = cond (wins o) (Some j.term) None

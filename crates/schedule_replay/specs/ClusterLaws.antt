@@ -6,35 +6,35 @@ use Rattle.schedule_text.specs.declared.schedule.Line.{Line}
 use Rattle.schedule_text.specs.declared.schedule.Schedule.{Schedule}
 use Rattle.replay_node.specs.Clusters.{replayed, replayed_history, replayed_life}
 use Rattle.schedule_replay.specs.Showing.{Shows, Agrees}
-use Rattle.schedule_replay.specs.Told.{told, lines_of, messages_of, numbered}
+use Rattle.schedule_replay.specs.HistoryShown.{history_shown, lines_of, messages_of, numbered}
 use Rattle.schedule_replay.specs.ClusterTrace.{trace}
-use Rattle.schedule_replay.specs.ClusterSteps.{ClusterStep, cluster_text}
-use Rattle.schedule_replay.specs.ClusterTold.{core_of, frames_in, numbered_frames, replies_shown, life_replies}
-use Rattle.schedule_replay.specs.ClusterTraceSteps.{cluster_steps}
+use Rattle.schedule_replay.specs.ClusterParts.{ClusterPart, cluster_text}
+use Rattle.schedule_replay.specs.ClusterShown.{core_of, frames_in, numbered_frames, replies_shown, life_replies}
+use Rattle.schedule_replay.specs.ClusterTraceParts.{cluster_parts}
 
 -- The trace is the text of these steps, which echo the lines in order. The history is read off them. They show just the frames that were
 -- sent, in order and numbered from 1, and of each node just the replies of its life, in order.
-pub record ClusterTells (s : Schedule) (xs : List ClusterStep) : Type 0 where
+pub record ClusterGivesHistory (s : Schedule) (xs : List ClusterPart) : Type 0 where
   pub text : trace s ≡ cluster_text xs
   pub lines : lines_of (core_of xs) ≡ s.lines
-  pub history : told (core_of xs) ≡ replayed_history s
+  pub history : history_shown (core_of xs) ≡ replayed_history s
   pub messages : messages_of (core_of xs) ≡ numbered 0 (sent (replayed_history s))
   pub frames : frames_in xs ≡ numbered_frames 0 (replayed s).frames
   pub replies : (n : Id) → replies_shown n xs ≡ life_replies (replayed_life s n)
 
 -- so it is for each schedule
-abbrev pub LawClusterTraceTells : Type 0
-LawClusterTraceTells = (s : Schedule) → ClusterTells s (cluster_steps s)
+abbrev pub LawClusterTraceGivesHistory : Type 0
+LawClusterTraceGivesHistory = (s : Schedule) → ClusterGivesHistory s (cluster_parts s)
 
 -- more lines leave the steps of the lines before as they are
-abbrev pub LawClusterStepsGoOn : Type 0
-LawClusterStepsGoOn = (s : Schedule) (more : List Line)
-    → (rest : List ClusterStep) × (cluster_steps (record s { lines = s.lines ++ more }) ≡ cluster_steps s ++ rest)
+abbrev pub LawClusterPartsGoOn : Type 0
+LawClusterPartsGoOn = (s : Schedule) (more : List Line)
+    → (rest : List ClusterPart) × (cluster_parts (record s { lines = s.lines ++ more }) ≡ cluster_parts s ++ rest)
 
 -- where the history is legal, the `won` lines are its wins, and the `committed` lines show just the states committed in it
 abbrev pub LawClusterTraceShows : Type 0
-LawClusterTraceShows = (s : Schedule) → IsLegal s.initial (replayed_history s) → Shows (replayed_history s) (core_of (cluster_steps s))
+LawClusterTraceShows = (s : Schedule) → IsLegal s.initial (replayed_history s) → Shows (replayed_history s) (core_of (cluster_parts s))
 
 -- then two `won` lines of one term name one node, and two `committed` lines of one version show one state
 abbrev pub LawClusterTraceAgrees : Type 0
-LawClusterTraceAgrees = (s : Schedule) → IsLegal s.initial (replayed_history s) → Agrees (core_of (cluster_steps s))
+LawClusterTraceAgrees = (s : Schedule) → IsLegal s.initial (replayed_history s) → Agrees (core_of (cluster_parts s))

@@ -15,6 +15,6 @@ pub record ClusterSoFar (ids initial voting_only : List Id) (nodes : List Cluste
     (pending : List ℕ) (left : List Line) (all : List ℕ) : Type 0 where
   pub cluster : Cluster
   pub stands : ClusterFor ids initial voting_only nodes frames cluster
-  pub front : List ℕ
-  pub written : Appended was now front
-  pub whole : front ++ (pending ++ trace_from ids initial voting_only cluster left) ≡ all
+  pub prefix : List ℕ
+  pub written : Appended was now prefix
+  pub whole : prefix ++ (pending ++ trace_from ids initial voting_only cluster left) ≡ all

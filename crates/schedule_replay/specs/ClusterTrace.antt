@@ -18,12 +18,12 @@ use Rattle.policy_model.specs.declared.settings.Settings.{Settings}
 use Rattle.policy_model.specs.declared.events.Event.{Event}
 use Rattle.policy_model.specs.declared.events.Event.TheVariants.{Start, Tick, Frame as FrameCame, Client as LineCame}
 use Rattle.policy_model.specs.Events.{Item}
-use Rattle.policy_model.specs.Entries.{steps_of, drops_of, frames_of, replies_of}
+use Rattle.policy_model.specs.Entries.{deeds_of, drops_of, frames_of, replies_of}
 use Rattle.event_text.specs.Events.{event_results}
 
 -- what a node that did these acts before shows of the items of an event, after so many frames
 abbrev pub items_text : (count : ℕ) → Id → NodeHistory → List Item → List ℕ
-items_text count n g items = event_results count n (last_published g) (steps_of items) (drops_of items) (frames_of items) (replies_of items)
+items_text count n g items = event_results count n (last_published g) (deeds_of items) (drops_of items) (frames_of items) (replies_of items)
 
 module _ (s : Settings) where
   abbrev pub event_shown : Cluster → Event → List ℕ

@@ -6,12 +6,12 @@ use Rattle.replay_node.specs.NodeWorld.{NodeWorld, needs_opening}
 use Rattle.replay_node.specs.Stands.{CrashedStands}
 use Rattle.policy_model.specs.declared.settings.Settings.{Settings}
 use Rattle.policy_model.specs.declared.events.Event.{Event}
-use Rattle.policy_model.specs.Entries.{Life, Lived, Did, log_of, steps_of, drops_of, frames_of, replies_of}
+use Rattle.policy_model.specs.Entries.{Life, Lived, Did, log_of, deeds_of, drops_of, frames_of, replies_of}
 use Rattle.policy_model.specs.Follows.{IsStruck, items_of}
 use Rattle.coordinator.specs.Steps.{IsSealed}
 use Rattle.coordinator.specs.declared.step.Sealed.{Sealed}
 use Rattle.coordinator.specs.declared.step.Entries.{Entries}
-use Rattle.event_text.specs.Steps.{told_as}
+use Rattle.event_text.specs.Deeds.{as_left}
 use Rattle.replay_node.specs.Course.{NodeCourse, node_played}
 use Rattle.schedule_replay.specs.OpenNodes.{Node, OpenFor}
 use Rattle.schedule_replay.specs.declared.cluster.stepping.Ended.{Ended}
@@ -38,7 +38,7 @@ module _ (s : Settings) (life : Life) (x : NodeWorld) (event : Event) where
   pub record StruckEvent (crashed : Bool) (entries : Entries) : Type 0 where
     pub runs : needs_opening x ≡ false
     pub struck : IsStruck (items_of s (log_of life) event) own_course.items
-    pub steps : told_as crashed entries.steps.list ≡ steps_of own_course.items
+    pub steps : as_left crashed entries.deeds.list ≡ deeds_of own_course.items
     pub drops : entries.drops.list ≡ drops_of own_course.items
     pub frames : frames_of own_course.items ≡ []
     pub replies : replies_of own_course.items ≡ []

@@ -2,7 +2,7 @@
 use Rattle.std.specs.Prelude.{◌≡◌, ℕ, Option, Result, Ok, Err, List, ◌++◌}
 use Rattle.voting_config.specs.Ids.{Id}
 use Rattle.schedule_text.specs.declared.schedule.Line.{Line}
-use Rattle.zen_link.specs.Streams.{Appended, AppendedFront}
+use Rattle.zen_link.specs.Streams.{Appended, AppendedPrefix}
 use Rattle.replay_node.specs.declared.message.SentMessage.{SentMessage}
 use Rattle.replay_node.specs.declared.node.ReplayNode.{ReplayNode}
 use Rattle.replay_node.specs.Worlds.{World}
@@ -16,17 +16,17 @@ pub record SoFar (ids initial : List Id) (nodes : List ReplayNode) (messages : L
     (pending : List ℕ) (left : List Line) (all : List ℕ) (end : World) : Type 0 where
   pub world : World
   pub stands : Stands ids nodes messages world
-  pub front : List ℕ
-  pub written : Appended was now front
-  pub whole : front ++ (pending ++ trace_from initial world left) ≡ all
+  pub prefix : List ℕ
+  pub written : Appended was now prefix
+  pub whole : prefix ++ (pending ++ trace_from initial world left) ≡ all
   pub ends : replayed_from initial world left ≡ end
 
 -- a piece was added to what is held back, and a prefix of it all was written; at an error a prefix of it was
 pub record HoldsBack (was now : Option (List ℕ)) (before after piece : List ℕ) : Type 0 where
-  pub front : List ℕ
-  pub written : Appended was now front
-  pub whole : front ++ after ≡ before ++ piece
+  pub prefix : List ℕ
+  pub written : Appended was now prefix
+  pub whole : prefix ++ after ≡ before ++ piece
 
 abbrev pub Holds : {E : Type 0} → Option (List ℕ) → Option (List ℕ) → (before after piece : List ℕ) → Result (Unit {0}) E → Type 0
 Holds was now before after piece (Ok u) = HoldsBack was now before after piece
-Holds was now before after piece (Err e) = AppendedFront was now (before ++ piece)
+Holds was now before after piece (Err e) = AppendedPrefix was now (before ++ piece)

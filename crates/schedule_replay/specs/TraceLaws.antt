@@ -7,34 +7,34 @@ use Rattle.schedule_replay.specs.Legal.{IsWellFormed}
 use Rattle.schedule_replay.specs.Replayed.{replayed}
 use Rattle.schedule_replay.specs.Trace.{trace}
 use Rattle.schedule_replay.specs.LineByLine.{ShowsLines}
-use Rattle.schedule_replay.specs.TraceSteps.{steps}
+use Rattle.schedule_replay.specs.TraceParts.{trace_parts}
 use Rattle.schedule_replay.specs.Showing.{Shows, Agrees}
-use Rattle.schedule_replay.specs.Steps.{Step, text_of}
-use Rattle.schedule_replay.specs.Told.{told, lines_of, messages_of, numbered}
+use Rattle.schedule_replay.specs.Parts.{TracePart, text_of}
+use Rattle.schedule_replay.specs.HistoryShown.{history_shown, lines_of, messages_of, numbered}
 
--- the trace is the text of these steps, which echo the lines in order, and the history is read off them
-pub record Tells (s : Schedule) (xs : List Step) : Type 0 where
+-- the trace is the text of these trace_parts, which echo the lines in order, and the history is read off them
+pub record GivesHistory (s : Schedule) (xs : List TracePart) : Type 0 where
   pub text : trace s ≡ text_of xs
   pub lines : lines_of xs ≡ s.lines
-  pub history : told xs ≡ replayed s
+  pub history : history_shown xs ≡ replayed s
   pub messages : messages_of xs ≡ numbered 0 (sent (replayed s))
 
 -- so it is for each schedule
-abbrev pub LawTraceTells : Type 0
-LawTraceTells = (s : Schedule) → Tells s (steps s)
+abbrev pub LawTraceGivesHistory : Type 0
+LawTraceGivesHistory = (s : Schedule) → GivesHistory s (trace_parts s)
 
--- more lines leave the steps of the lines before as they are
-abbrev pub LawStepsGoOn : Type 0
-LawStepsGoOn = (s : Schedule) (more : List Line) → (rest : List Step) × (steps (record s { lines = s.lines ++ more }) ≡ steps s ++ rest)
+-- more lines leave the trace_parts of the lines before as they are
+abbrev pub LawPartsGoOn : Type 0
+LawPartsGoOn = (s : Schedule) (more : List Line) → (rest : List TracePart) × (trace_parts (record s { lines = s.lines ++ more }) ≡ trace_parts s ++ rest)
 
 -- after the echo of each line stands what the line asks for; at first all nodes are up, and none has done anything
 abbrev pub LawTraceFollows : Type 0
-LawTraceFollows = (s : Schedule) → ShowsLines s.initial NoEntries (λ n. false) s.lines (steps s)
+LawTraceFollows = (s : Schedule) → ShowsLines s.initial NoEntries (λ n. false) s.lines (trace_parts s)
 
--- the steps show the wins and the committed states of the history, and no others
+-- the trace_parts show the wins and the committed states of the history, and no others
 abbrev pub LawTraceShows : Type 0
-LawTraceShows = (s : Schedule) → IsWellFormed s → Shows (replayed s) (steps s)
+LawTraceShows = (s : Schedule) → IsWellFormed s → Shows (replayed s) (trace_parts s)
 
 -- two `won` lines of one term name one node, and two `committed` lines of one version show one state
 abbrev pub LawTraceAgrees : Type 0
-LawTraceAgrees = (s : Schedule) → IsWellFormed s → Agrees (steps s)
+LawTraceAgrees = (s : Schedule) → IsWellFormed s → Agrees (trace_parts s)

@@ -1,9 +1,9 @@
 //! What holds of the history and the trace of every schedule. The calls do nothing: what they promise is proved.
-ghost use Rattle.schedule_replay.specs.ClusterLaws.{LawClusterStepsGoOn, LawClusterTraceAgrees, LawClusterTraceShows, LawClusterTraceTells};
+ghost use Rattle.schedule_replay.specs.ClusterLaws.{LawClusterPartsGoOn, LawClusterTraceAgrees, LawClusterTraceShows, LawClusterTraceGivesHistory};
 ghost use Rattle.schedule_replay.specs.Generated.{LawGenerated};
 ghost use Rattle.schedule_replay.specs.GoesOn.{LawGoesOn};
 ghost use Rattle.schedule_replay.specs.Legal.{LawReplayIsLegal};
-ghost use Rattle.schedule_replay.specs.TraceLaws.{LawStepsGoOn, LawTraceAgrees, LawTraceFollows, LawTraceShows, LawTraceTells};
+ghost use Rattle.schedule_replay.specs.TraceLaws.{LawPartsGoOn, LawTraceAgrees, LawTraceFollows, LawTraceShows, LawTraceGivesHistory};
 
 /// The history of a schedule is legal, wherever its nodes crash and their disks fail: of each schedule whose lines are of
 /// level core and of its nodes, and whose initial configuration is a set of ids, which is not empty unless there is no line.
@@ -13,13 +13,13 @@ pub fn law_replay_is_legal()
 
 /// The trace of each schedule is the text of its steps, and the history of the schedule is read off these steps: its acts and
 /// openings, with their outcomes, in order. The steps echo the lines, and number the messages in the order in which they were sent.
-pub fn law_trace_tells()
-    ensures { LawTraceTells }
+pub fn law_trace_gives_history()
+    ensures { LawTraceGivesHistory }
 {}
 
 /// More lines leave the steps of the lines before as they are, so the trace tells the history at each moment.
-pub fn law_steps_go_on()
-    ensures { LawStepsGoOn }
+pub fn law_parts_go_on()
+    ensures { LawPartsGoOn }
 {}
 
 /// After the echo of each line stands what the line asks for, as told by the steps before it.
@@ -40,13 +40,13 @@ pub fn law_trace_agrees()
 /// The trace of each schedule of whole nodes is the text of its steps, and the history of the schedule is read off these steps.
 /// The steps echo the lines. They show just the frames that were sent, in order and numbered from 1, and of each node just the
 /// replies of its life, in order.
-pub fn law_cluster_trace_tells()
-    ensures { LawClusterTraceTells }
+pub fn law_cluster_trace_gives_history()
+    ensures { LawClusterTraceGivesHistory }
 {}
 
 /// More lines leave the steps of the lines before as they are, also of whole nodes.
-pub fn law_cluster_steps_go_on()
-    ensures { LawClusterStepsGoOn }
+pub fn law_cluster_parts_go_on()
+    ensures { LawClusterPartsGoOn }
 {}
 
 /// Where the history of a schedule of whole nodes is legal, the `won` lines of its trace are the wins of the history, and its

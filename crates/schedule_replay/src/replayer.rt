@@ -22,7 +22,7 @@ use schedule_text::{IdList, Line, Schedule, SettingText, write_echo};
 use std::alloc::{AllocError, Global};
 use std::mem;
 use text::Text;
-use trace_text::{write_boot, write_down, write_start_join, write_value};
+use trace_text::{write_boot, write_down_line, write_start_join, write_value};
 use voting_config::{NodeId, NodeSet, VotingConfig};
 use zen_disk::{Order, Way};
 
@@ -311,7 +311,7 @@ fn unsent(node: &ReplayNode, n: &NodeId, text: &mut Text) -> Result<(), AllocErr
     ensures { OnOk result ((w : World) → NodeStands node.now (node_world w n.now) → text.new ≡ text.old ++ delivery_results w n.now None) }
 {
     if node.is_down() {
-        return write_down(text, *n);
+        return write_down_line(text, *n);
     }
     text.word("unsent\n")
 }

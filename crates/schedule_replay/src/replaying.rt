@@ -2,7 +2,7 @@
 ghost use Rattle.std.specs.Prelude.{◌≡◌, ◌≤◌, ◌++◌, ℕ, List, [], IfOk, OnOk};
 ghost use Rattle.std.specs.List.{AllByRecursion};
 ghost use Rattle.zen_disk.specs.Faults.{Rose};
-ghost use Rattle.zen_link.specs.Streams.{AppendedFront};
+ghost use Rattle.zen_link.specs.Streams.{AppendedPrefix};
 ghost use Rattle.schedule_text.specs.declared.level.Level.TheVariants.{Core, Node};
 ghost use Rattle.schedule_text.specs.Lines.{FitsLine};
 ghost use Rattle.schedule_replay.specs.SoFar.{Holds};
@@ -53,7 +53,7 @@ fn hold<S: Sink>(out: &mut S, held: &mut Text, piece: &Text) -> Result<(), Repla
 
 // Writes what is held back, where memory has run out.
 fn out_of_memory<S: Sink>(out: &mut S, held: &Text) -> ReplayError
-    ensures written { AppendedFront (S.written out.old) (S.written out.new) held.now }
+    ensures written { AppendedPrefix (S.written out.old) (S.written out.new) held.now }
     ensures later { S.faults out.old ≤ S.faults out.new }
     ensures fault { result ≡ ReplayError.Write → Rose (S.faults out.old) (S.faults out.new) }
 {

@@ -102,10 +102,10 @@ end_at p (b ∷ bs) x = Err (record { line = p.number; why = why_cut p (b ∷ bs
 
 -- the lines from this place on, after those before it, of what stands between line feeds
 abbrev pub lines_at : Level → List Id → Place → List Line → List (List ℕ) → Result (List Line) BadSchedule
-lines_at level ids p front [] = Ok front
-lines_at level ids p front (line ∷ []) = end_at p line front
-lines_at level ids p front (line ∷ next ∷ more) =
-    one_line_at level ids p line >>> λ l. lines_at level ids (after_line p line) (front ++ l ∷ []) (next ∷ more)
+lines_at level ids p prefix [] = Ok prefix
+lines_at level ids p prefix (line ∷ []) = end_at p line prefix
+lines_at level ids p prefix (line ∷ next ∷ more) =
+    one_line_at level ids p line >>> λ l. lines_at level ids (after_line p line) (prefix ++ l ∷ []) (next ∷ more)
 
 abbrev pub pieces : List ℕ → List (List ℕ)
 pieces bytes = parts_of line_feed bytes

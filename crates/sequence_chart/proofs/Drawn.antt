@@ -1,7 +1,7 @@
 -- What stands in a picture after all its parts are written.
 use Rattle.std.proofs.Common.{◌≡◌, ℕ, ◌+◌, Bool, List, [], ◌++◌, ap, ◌∙◌}
 use Rattle.std.specs.List.{flat_map}
-use Rattle.trace_reader.specs.declared.told.TraceLine.{TraceLine}
+use Rattle.trace_reader.specs.declared.said.TraceLine.{TraceLine}
 use Rattle.sequence_chart.specs.declared.columns.Column.{Column}
 use Rattle.sequence_chart.specs.declared.messages.Origin.{Origin}
 use Rattle.sequence_chart.specs.Rows.{first_cursor, walk, y_of}

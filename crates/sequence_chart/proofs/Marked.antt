@@ -1,7 +1,7 @@
 -- What stands in a text after a label.
 use Rattle.std.proofs.Common.{◌≡◌, ℕ, ◌+◌, ◌-◌, Result, OnOk, List, ◌++◌, length, subst, ap, ◌∙◌}
 use Rattle.text.proofs.Written.{three_written}
-use Rattle.trace_reader.specs.declared.told.TraceLine.{TraceLine}
+use Rattle.trace_reader.specs.declared.said.TraceLine.{TraceLine}
 use Rattle.sequence_chart.specs.Elements.{label, label_text, line_of, mark, paper}
 use Rattle.sequence_chart.specs.Labels.{label_of}
 use Rattle.sequence_chart.specs.Rows.{y_of}

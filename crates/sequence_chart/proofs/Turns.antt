@@ -2,7 +2,7 @@
 use Rattle.std.proofs.Common.{◌≡◌, ℕ, ◌+◌, ◌<◌, Result, OnOk, List, ◌++◌, length, drop, get_or, sym, ap, ◌∙◌, subst, append_assoc}
 use Rattle.std.specs.List.{flat_map}
 use Rattle.std.proofs.lemmas.List.{at_drop_more}
-use Rattle.trace_reader.specs.declared.told.TraceLine.{TraceLine}
+use Rattle.trace_reader.specs.declared.said.TraceLine.{TraceLine}
 use Rattle.sequence_chart.specs.declared.rows.Cursor.{Cursor}
 use Rattle.sequence_chart.specs.Rows.{after, walk}
 
@@ -27,7 +27,7 @@ item_written {A} f xs i x old new whole inside is before writes =
 
 -- a turn that writes what a line gives at its place
 pub line_written : (f : Cursor → TraceLine → List ℕ) (c next : Cursor) (lines : List TraceLine) (i : ℕ) (l : TraceLine) (old new whole : List ℕ)
-    → i < length lines → l ≡ get_or lines i l → next ≡ after c l.told → old ++ walk f c (drop i lines) ≡ whole → new ≡ old ++ f next l
+    → i < length lines → l ≡ get_or lines i l → next ≡ after c l.said → old ++ walk f c (drop i lines) ≡ whole → new ≡ old ++ f next l
     → new ++ walk f next (drop (i + 1) lines) ≡ whole
 line_written f c next lines i l old new whole inside is place before writes =
     let rest : Cursor → List ℕ = λ d. walk f d (drop (i + 1) lines) in
@@ -35,6 +35,6 @@ line_written f c next lines i l old new whole inside is place before writes =
     ap (λ (t : List ℕ). t ++ rest next) writes
     ∙ append_assoc old (f next l) (rest next)
     ∙ ap (λ (d : Cursor). at d l) place
-    ∙ ap (λ (m : TraceLine). at (after c m.told) m) is
+    ∙ ap (λ (m : TraceLine). at (after c m.said) m) is
     ∙ sym (at_drop_more (λ (ms : List TraceLine). old ++ walk f c ms) lines i l inside)
     ∙ before

@@ -5,9 +5,9 @@ use Rattle.std.specs.List.{slice_get}
 use Rattle.std.proofs.lemmas.Bool.{le-leb}
 use Rattle.std.proofs.lemmas.List.{length-append}
 use Rattle.voting_config.specs.Ids.{Id}
-use Rattle.trace_reader.specs.declared.told.Told.{Told}
-use Rattle.trace_reader.specs.declared.told.Told.TheVariants as told
-use Rattle.trace_reader.specs.declared.told.TraceLine.{TraceLine}
+use Rattle.trace_reader.specs.declared.said.Said.{Said}
+use Rattle.trace_reader.specs.declared.said.Said.TheVariants as said
+use Rattle.trace_reader.specs.declared.said.TraceLine.{TraceLine}
 use Rattle.sequence_chart.specs.declared.columns.Column.{Column}
 use Rattle.sequence_chart.specs.declared.messages.Origin.{Origin}
 use Rattle.sequence_chart.specs.declared.rows.Cursor.{Cursor}
@@ -42,15 +42,15 @@ in_fifth a b c d e f part has = in_rest a (b ++ (c ++ (d ++ (e ++ f)))) part (in
 pub walk_join : {A : Type 0} (f : Cursor → TraceLine → List A) (c : Cursor) (xs ys : List TraceLine) → walk f c (xs ++ ys) ≡ walk f c xs ++ walk f (cursor_after c xs) ys
 walk_join f c [] ys = refl
 walk_join {A} f c (x ∷ xs) ys =
-    ap (λ (t : List A). f (after c x.told) x ++ t) (walk_join f (after c x.told) xs ys)
-    ∙ sym (append_assoc (f (after c x.told) x) (walk f (after c x.told) xs) (walk f (cursor_after (after c x.told) xs) ys))
+    ap (λ (t : List A). f (after c x.said) x ++ t) (walk_join f (after c x.said) xs ys)
+    ∙ sym (append_assoc (f (after c x.said) x) (walk f (after c x.said) xs) (walk f (cursor_after (after c x.said) xs) ys))
 
 walk_has : (f : Cursor → TraceLine → List ℕ) (front rest : List TraceLine) (l : TraceLine) → HasPart (walk f first_cursor (front ++ (l ∷ rest))) (f (place_behind front l) l)
 walk_has f front rest l = (walk f first_cursor front, walk f (place_behind front l) rest, walk_join f first_cursor front (l ∷ rest))
 
 cursor_join : (c : Cursor) (xs ys : List TraceLine) → cursor_after c (xs ++ ys) ≡ cursor_after (cursor_after c xs) ys
 cursor_join c [] ys = refl
-cursor_join c (x ∷ xs) ys = cursor_join (after c x.told) xs ys
+cursor_join c (x ∷ xs) ys = cursor_join (after c x.said) xs ys
 
 -- ---- messages
 
@@ -61,28 +61,28 @@ row_keeps false c = refl
 label_keeps : (c : Cursor) → (next_label c).sent ≡ c.sent
 label_keeps c = row_keeps c.is_free c
 
-one_more : (c : Cursor) (text : List ℕ) (t : Told) → length (origin_by (after c t) text t) + c.sent ≡ (after c t).sent
-one_more c text (told.Delivery n k) = omega arith
-one_more c text (told.Event n) = omega arith
-one_more c text (told.Sent from to) = omega arith
-one_more c text (told.Act n e) = omega (arith, label_keeps c)
-one_more c text (told.Won n t) = omega (arith, label_keeps c)
-one_more c text (told.Committed n) = omega (arith, label_keeps c)
-one_more c text (told.Unsent n) = omega (arith, label_keeps c)
-one_more c text (told.Misrouted n) = omega (arith, label_keeps c)
-one_more c text (told.Crashed n) = omega (arith, label_keeps c)
-one_more c text (told.Disk n) = omega (arith, label_keeps c)
-one_more c text (told.Opened n) = omega (arith, label_keeps c)
-one_more c text (told.Down n) = omega (arith, label_keeps c)
-one_more c text (told.Up n) = omega (arith, label_keeps c)
-one_more c text (told.Mode n m t) = omega (arith, label_keeps c)
-one_more c text (told.Dropped n) = omega (arith, label_keeps c)
-one_more c text (told.Replied n) = omega (arith, label_keeps c)
+one_more : (c : Cursor) (text : List ℕ) (t : Said) → length (origin_by (after c t) text t) + c.sent ≡ (after c t).sent
+one_more c text (said.Delivery n k) = omega arith
+one_more c text (said.Event n) = omega arith
+one_more c text (said.Sent from to) = omega arith
+one_more c text (said.Act n e) = omega (arith, label_keeps c)
+one_more c text (said.Won n t) = omega (arith, label_keeps c)
+one_more c text (said.Committed n) = omega (arith, label_keeps c)
+one_more c text (said.Unsent n) = omega (arith, label_keeps c)
+one_more c text (said.Misrouted n) = omega (arith, label_keeps c)
+one_more c text (said.Crashed n) = omega (arith, label_keeps c)
+one_more c text (said.Disk n) = omega (arith, label_keeps c)
+one_more c text (said.Opened n) = omega (arith, label_keeps c)
+one_more c text (said.Down n) = omega (arith, label_keeps c)
+one_more c text (said.Up n) = omega (arith, label_keeps c)
+one_more c text (said.Mode n m t) = omega (arith, label_keeps c)
+one_more c text (said.Dropped n) = omega (arith, label_keeps c)
+one_more c text (said.Replied n) = omega (arith, label_keeps c)
 
 sent_along : (c : Cursor) (xs : List TraceLine) → length (walk origin_in c xs) + c.sent ≡ (cursor_after c xs).sent
 sent_along c [] = omega arith
 sent_along c (x ∷ xs) =
-    omega (arith, length-append (origin_in (after c x.told) x) (walk origin_in (after c x.told) xs), one_more c x.text x.told, sent_along (after c x.told) xs)
+    omega (arith, length-append (origin_in (after c x.said) x) (walk origin_in (after c x.said) xs), one_more c x.text x.said, sent_along (after c x.said) xs)
 
 get_seam : {A : Type 0} (xs : List A) (y : A) (ys : List A) → slice_get (xs ++ (y ∷ ys)) (length xs) ≡ Some y
 get_seam [] y ys = refl
@@ -90,7 +90,7 @@ get_seam (x ∷ xs) y ys = get_seam xs y ys
 
 -- the message of a line has its number
 message_is : (front rest : List TraceLine) (m : TraceLine) (from : Id) (to : Option Id) (sent k : ℕ)
-    → m.told ≡ told.Sent from to → k ≡ (place_behind front m).sent → k ≤ sent
+    → m.said ≡ said.Sent from to → k ≡ (place_behind front m).sent → k ≤ sent
     → message_at (origins_of (front ++ (m ∷ rest))) sent k ≡ Some (record { from = from; row = (place_behind front m).row; text = m.text })
 message_is front rest m from to sent k is number within =
     let place = place_behind front m in
@@ -99,7 +99,7 @@ message_is front rest m from to sent k is number within =
     let behind = walk origin_in place rest in
     let one : origin_in place m ≡ o ∷ [] = ap (origin_by place m.text) is in
     let all : origins_of (front ++ (m ∷ rest)) ≡ before ++ (o ∷ behind) = walk_join origin_in first_cursor front (m ∷ rest) ∙ ap (λ (t : List Origin). before ++ (t ++ behind)) one in
-    let more : place.sent ≡ (cursor_after first_cursor front).sent + 1 = ap (λ (t : Told). (after (cursor_after first_cursor front) t).sent) is in
+    let more : place.sent ≡ (cursor_after first_cursor front).sent + 1 = ap (λ (t : Said). (after (cursor_after first_cursor front) t).sent) is in
     let count : k ≡ length before + 1 = omega (arith, sent_along first_cursor front, more, number) in
     let at : k - 1 ≡ length before = omega (arith, count) in
     let low : nat_le 1 k ≡ true = le-leb 1 k (omega (arith, count)) in
@@ -120,7 +120,7 @@ pub each_label : LawEachLabel
 each_label left front rest l has =
     let lines = front ++ (l ∷ rest) in
     let columns = columns_of left lines in
-    let part = label (left_of columns (node_of l.told)) (place_behind front l).row l in
+    let part = label (left_of columns (node_of l.said)) (place_behind front l).row l in
     let shown : label_in columns (place_behind front l) l ≡ part = ap (λ (b : Bool). if b then part else []) has in
     let here : HasPart (walk (label_in columns) first_cursor lines) part = subst (λ (t : List ℕ). HasPart (walk (label_in columns) first_cursor lines) t) shown (walk_has (label_in columns) front rest l) in
     in_fifth (walk (step_in (origins_of lines)) first_cursor lines) (lifelines lines columns) (walk (arrow_in columns (origins_of lines)) first_cursor lines)
@@ -134,7 +134,7 @@ each_delivery left front between rest m l from n to k sends hands number =
     let o : Origin = record { from = from; row = (place_behind front m).row; text = m.text } in
     let place = place_behind (front ++ (m ∷ between)) l in
     let here : cursor_after first_cursor (front ++ (m ∷ between)) ≡ cursor_after (place_behind front m) between = cursor_join first_cursor front (m ∷ between) in
-    let same : place.sent ≡ (cursor_after first_cursor (front ++ (m ∷ between))).sent = ap (λ (t : Told). (after (cursor_after first_cursor (front ++ (m ∷ between))) t).sent) hands in
+    let same : place.sent ≡ (cursor_after first_cursor (front ++ (m ∷ between))).sent = ap (λ (t : Said). (after (cursor_after first_cursor (front ++ (m ∷ between))) t).sent) hands in
     let within : k ≤ place.sent = omega (arith, sent_grows (place_behind front m) between, ap (λ (c : Cursor). c.sent) here, same, number) in
     let message = message_is front (between ++ (l ∷ rest)) m from to place.sent k sends number within in
     let part : arrow_in columns origins place l ≡ arrow columns o n place.row = ap (arrow_by columns origins place) hands ∙ ap (λ (x : Option Origin). arrow_from columns x n place.row) message in

@@ -5,9 +5,9 @@ use Rattle.schedule_text.specs.declared.fault.ReadError.{ReadError}
 use Rattle.schedule_text.specs.declared.fault.ReadError.TheVariants.{Bad, Memory}
 use Rattle.trace_reader.specs.declared.fault.BadTrace.{BadTrace}
 use Rattle.trace_reader.specs.Reading.{trace_at}
-use Rattle.trace_reader.specs.declared.told.Told.{Told}
-use Rattle.trace_reader.specs.declared.told.Told.TheVariants as told
-use Rattle.trace_reader.specs.declared.told.TraceLine.{TraceLine}
+use Rattle.trace_reader.specs.declared.said.Said.{Said}
+use Rattle.trace_reader.specs.declared.said.Said.TheVariants as said
+use Rattle.trace_reader.specs.declared.said.TraceLine.{TraceLine}
 use Rattle.sequence_chart.specs.declared.columns.Column.{Column}
 use Rattle.sequence_chart.specs.declared.messages.Origin.{Origin}
 use Rattle.sequence_chart.specs.declared.rows.Cursor.{Cursor}
@@ -20,16 +20,16 @@ use Rattle.sequence_chart.specs.Frame.{frame, last}
 
 abbrev pub last_row : Cursor → List TraceLine → ℕ
 last_row c [] = c.row
-last_row c (l ∷ ls) = last_row (after c l.told) ls
+last_row c (l ∷ ls) = last_row (after c l.said) ls
 
 -- where a message is sent that no line hands over
-abbrev pub lost_by : List Column → List Bool → Cursor → List ℕ → Told → List ℕ
-lost_by columns handed c line (told.Sent from to) = if get_or handed (c.sent - 1) true then []
+abbrev pub lost_by : List Column → List Bool → Cursor → List ℕ → Said → List ℕ
+lost_by columns handed c line (said.Sent from to) = if get_or handed (c.sent - 1) true then []
     else lost (left_of columns from) (y_of c.row + 4) c.sent line
 lost_by columns handed c line other = []
 
 abbrev pub lost_in : List Column → List Bool → Cursor → TraceLine → List ℕ
-lost_in columns handed c l = lost_by columns handed c l.text l.told
+lost_in columns handed c l = lost_by columns handed c l.text l.said
 
 abbrev pub columns_of : ℕ → List TraceLine → List Column
 columns_of left lines = columns_from left (nodes_from [] lines) lines
@@ -42,7 +42,7 @@ abbrev pub heads : List TraceLine → List Column → List ℕ
 heads lines columns = flat_map (head 28) columns ++ flat_map (head (y_of (last_row first_cursor lines + 1) + 14)) columns
 
 -- What is drawn, where the first column begins so far to the right: the steps, then the lifelines, the arrows, the messages that were lost,
--- the labels and the names. What comes later stands in front.
+-- the labels and the names. What comes later stands in prefix.
 abbrev pub drawing : ℕ → List TraceLine → List ℕ
 drawing left lines =
     walk (step_in (origins_of lines)) first_cursor lines

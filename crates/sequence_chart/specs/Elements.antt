@@ -4,11 +4,11 @@ use Rattle.voting_config.specs.Lists.{space}
 use Rattle.voting_config.specs.Ids.{Id}
 use Rattle.schedule_text.specs.declared.fault.WhyBad.{WhyBad}
 use Rattle.schedule_text.specs.Lines.{any_number}
-use Rattle.trace_reader.specs.declared.told.Ending.{Ending}
-use Rattle.trace_reader.specs.declared.told.Ending.TheVariants as ending
-use Rattle.trace_reader.specs.declared.told.Told.{Told}
-use Rattle.trace_reader.specs.declared.told.Told.TheVariants as told
-use Rattle.trace_reader.specs.declared.told.TraceLine.{TraceLine}
+use Rattle.trace_reader.specs.declared.said.Ending.{Ending}
+use Rattle.trace_reader.specs.declared.said.Ending.TheVariants as ending
+use Rattle.trace_reader.specs.declared.said.Said.{Said}
+use Rattle.trace_reader.specs.declared.said.Said.TheVariants as said
+use Rattle.trace_reader.specs.declared.said.TraceLine.{TraceLine}
 use Rattle.sequence_chart.specs.declared.columns.Column.{Column}
 use Rattle.sequence_chart.specs.declared.messages.Origin.{Origin}
 use Rattle.sequence_chart.specs.declared.rows.Cursor.{Cursor}
@@ -52,15 +52,15 @@ ending_class ending.Stopped = codes "fault"
 ending_class ending.Disk = codes "fault"
 ending_class ending.Crashed = codes "fault"
 
-unfoldable pub class_of : List ℕ → Told → List ℕ
-class_of line (told.Act n e) = ending_class e
-class_of line (told.Won n t) = codes "won " ++ term_class t
-class_of line (told.Committed n) = codes "won " ++ class_by (any_number.at (term_word line))
-class_of line (told.Mode n m t) = term_class t
-class_of line (told.Crashed n) = codes "fault"
-class_of line (told.Disk n) = codes "fault"
-class_of line (told.Down n) = codes "fault"
-class_of line (told.Opened n) = codes "taken"
+unfoldable pub class_of : List ℕ → Said → List ℕ
+class_of line (said.Act n e) = ending_class e
+class_of line (said.Won n t) = codes "won " ++ term_class t
+class_of line (said.Committed n) = codes "won " ++ class_by (any_number.at (term_word line))
+class_of line (said.Mode n m t) = term_class t
+class_of line (said.Crashed n) = codes "fault"
+class_of line (said.Disk n) = codes "fault"
+class_of line (said.Down n) = codes "fault"
+class_of line (said.Opened n) = codes "taken"
 class_of line other = codes "other"
 
 abbrev pub ending_mark : Ending → List ℕ
@@ -70,30 +70,30 @@ ending_mark ending.Stopped = codes "frame"
 ending_mark ending.Disk = codes "square"
 ending_mark ending.Crashed = codes "square"
 
-unfoldable pub mark_of : Told → List ℕ
-mark_of (told.Act n e) = ending_mark e
-mark_of (told.Won n t) = codes "star"
-mark_of (told.Committed n) = codes "diamond"
-mark_of (told.Mode n m t) = codes "bar"
-mark_of (told.Crashed n) = codes "square"
-mark_of (told.Disk n) = codes "square"
-mark_of (told.Down n) = codes "frame"
-mark_of (told.Opened n) = codes "triangle"
+unfoldable pub mark_of : Said → List ℕ
+mark_of (said.Act n e) = ending_mark e
+mark_of (said.Won n t) = codes "star"
+mark_of (said.Committed n) = codes "diamond"
+mark_of (said.Mode n m t) = codes "bar"
+mark_of (said.Crashed n) = codes "square"
+mark_of (said.Disk n) = codes "square"
+mark_of (said.Down n) = codes "frame"
+mark_of (said.Opened n) = codes "triangle"
 mark_of other = codes "ring"
 
 -- ---- labels
 
 -- the class of a line in a tag, and its place
 unfoldable pub look : ℕ → ℕ → TraceLine → List ℕ
-look x y l = codes " class='" ++ class_of l.text l.told ++ at_place x y
+look x y l = codes " class='" ++ class_of l.text l.said ++ at_place x y
 
 -- the form of a mark, by its name
-unfoldable pub form : Told → List ℕ
-form told = codes "<use href='#" ++ mark_of told ++ codes "'"
+unfoldable pub form : Said → List ℕ
+form said = codes "<use href='#" ++ mark_of said ++ codes "'"
 
 -- the mark of a line at its lifeline
 unfoldable pub mark : ℕ → ℕ → TraceLine → List ℕ
-mark x y l = form l.told ++ look x y l ++ codes "/>"
+mark x y l = form l.said ++ look x y l ++ codes "/>"
 
 -- what hides the arrows behind so many characters
 unfoldable pub paper : ℕ → ℕ → ℕ → List ℕ
@@ -107,14 +107,14 @@ abbrev pub label : ℕ → ℕ → TraceLine → List ℕ
 label left row l = mark (line_of left) (y_of row) l
     ++ (paper (left + 37) (y_of row - 6) (length (label_of l)) ++ label_text (left + 38) (y_of row + 3) l)
 
-abbrev pub has_label : Told → Bool
-has_label (told.Delivery n k) = false
-has_label (told.Event n) = false
-has_label (told.Sent from to) = false
+abbrev pub has_label : Said → Bool
+has_label (said.Delivery n k) = false
+has_label (said.Event n) = false
+has_label (said.Sent from to) = false
 has_label other = true
 
 abbrev pub label_in : List Column → Cursor → TraceLine → List ℕ
-label_in columns c l = if has_label l.told then label (left_of columns (node_of l.told)) c.row l else []
+label_in columns c l = if has_label l.said then label (left_of columns (node_of l.said)) c.row l else []
 
 -- ---- steps
 
@@ -139,13 +139,13 @@ handed message = codes "<tspan class='message'>  " ++ escaped message ++ codes "
 abbrev pub step : ℕ → List ℕ → List ℕ → List ℕ
 step y line message = rule (y - 7) ++ (schedule (y + 3) line ++ handed message)
 
-abbrev pub step_by : List Origin → Cursor → List ℕ → Told → List ℕ
-step_by origins c line (told.Delivery n k) = step (y_of c.row) line (message_words (message_at origins c.sent k))
-step_by origins c line (told.Event n) = step (y_of c.row) line []
+abbrev pub step_by : List Origin → Cursor → List ℕ → Said → List ℕ
+step_by origins c line (said.Delivery n k) = step (y_of c.row) line (message_words (message_at origins c.sent k))
+step_by origins c line (said.Event n) = step (y_of c.row) line []
 step_by origins c line other = []
 
 abbrev pub step_in : List Origin → Cursor → TraceLine → List ℕ
-step_in origins c l = step_by origins c l.text l.told
+step_in origins c l = step_by origins c l.text l.said
 
 -- ---- messages
 
@@ -176,12 +176,12 @@ abbrev pub arrow_from : List Column → Option Origin → Id → ℕ → List �
 arrow_from columns None n row = []
 arrow_from columns (Some o) n row = arrow columns o n row
 
-abbrev pub arrow_by : List Column → List Origin → Cursor → Told → List ℕ
-arrow_by columns origins c (told.Delivery n k) = arrow_from columns (message_at origins c.sent k) n c.row
+abbrev pub arrow_by : List Column → List Origin → Cursor → Said → List ℕ
+arrow_by columns origins c (said.Delivery n k) = arrow_from columns (message_at origins c.sent k) n c.row
 arrow_by columns origins c other = []
 
 abbrev pub arrow_in : List Column → List Origin → Cursor → TraceLine → List ℕ
-arrow_in columns origins c l = arrow_by columns origins c l.told
+arrow_in columns origins c l = arrow_by columns origins c l.said
 
 -- a short stroke to where a message is lost
 unfoldable pub stub : ℕ → ℕ → ℕ → ℕ → List ℕ

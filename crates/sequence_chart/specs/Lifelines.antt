@@ -3,13 +3,13 @@ use Rattle.std.specs.Prelude.{ℕ, ◌-◌, Bool, true, false, Option, None, Som
 use Rattle.std.specs.List.{flat_map}
 use Rattle.std.specs.Str.{bytes_eq}
 use Rattle.voting_config.specs.Ids.{Id}
-use Rattle.trace_reader.specs.declared.told.Ending.{Ending}
-use Rattle.trace_reader.specs.declared.told.Ending.TheVariants as ending
-use Rattle.trace_reader.specs.declared.told.Mode.{Mode}
-use Rattle.trace_reader.specs.declared.told.Mode.TheVariants as mode
-use Rattle.trace_reader.specs.declared.told.Told.{Told}
-use Rattle.trace_reader.specs.declared.told.Told.TheVariants as told
-use Rattle.trace_reader.specs.declared.told.TraceLine.{TraceLine}
+use Rattle.trace_reader.specs.declared.said.Ending.{Ending}
+use Rattle.trace_reader.specs.declared.said.Ending.TheVariants as ending
+use Rattle.trace_reader.specs.declared.said.Mode.{Mode}
+use Rattle.trace_reader.specs.declared.said.Mode.TheVariants as mode
+use Rattle.trace_reader.specs.declared.said.Said.{Said}
+use Rattle.trace_reader.specs.declared.said.Said.TheVariants as said
+use Rattle.trace_reader.specs.declared.said.TraceLine.{TraceLine}
 use Rattle.sequence_chart.specs.declared.columns.Column.{Column}
 use Rattle.sequence_chart.specs.declared.lifelines.Pen.{Pen}
 use Rattle.sequence_chart.specs.declared.lifelines.Stroke.{Stroke}
@@ -30,16 +30,16 @@ ending_stroke ending.Stopped = None
 ending_stroke ending.Disk = Some drawn.Gap
 ending_stroke ending.Crashed = Some drawn.Gap
 
-abbrev pub stroke_by : Told → Option Stroke
-stroke_by (told.Mode n m t) = Some (drawn.Mode m t)
-stroke_by (told.Crashed n) = Some drawn.Gap
-stroke_by (told.Disk n) = Some drawn.Gap
-stroke_by (told.Act n e) = ending_stroke e
-stroke_by (told.Opened n) = Some drawn.Plain
+abbrev pub stroke_by : Said → Option Stroke
+stroke_by (said.Mode n m t) = Some (drawn.Mode m t)
+stroke_by (said.Crashed n) = Some drawn.Gap
+stroke_by (said.Disk n) = Some drawn.Gap
+stroke_by (said.Act n e) = ending_stroke e
+stroke_by (said.Opened n) = Some drawn.Plain
 stroke_by other = None
 
 -- how a line of the trace changes the lifeline of this node, if it does
-abbrev pub turn : Id → Told → Option Stroke
+abbrev pub turn : Id → Said → Option Stroke
 turn n t = if bytes_eq (node_of t) n then stroke_by t else None
 
 abbrev pub mode_class : Mode → List ℕ
@@ -72,8 +72,8 @@ pen_after pen row (Some s) = record { top = row; stroke = s }
 abbrev pub lifeline_from : ℕ → Id → ℕ → Pen → Cursor → List TraceLine → List ℕ
 lifeline_from left n bottom pen c [] = piece left pen bottom
 lifeline_from left n bottom pen c (l ∷ ls) =
-    piece_at left pen (after c l.told).row (turn n l.told)
-    ++ lifeline_from left n bottom (pen_after pen (after c l.told).row (turn n l.told)) (after c l.told) ls
+    piece_at left pen (after c l.said).row (turn n l.said)
+    ++ lifeline_from left n bottom (pen_after pen (after c l.said).row (turn n l.said)) (after c l.said) ls
 
 abbrev pub lifeline : List TraceLine → ℕ → Column → List ℕ
 lifeline lines bottom column = lifeline_from column.left column.node bottom first_pen first_cursor lines

@@ -1,8 +1,8 @@
 -- Part of the statement of `zen_chart`: where the lines of a trace stand. Each line of the schedule begins a row.
 use Rattle.std.specs.Prelude.{ℕ, ◌+◌, ◌*◌, Bool, true, false, List, [], ◌∷◌, ◌++◌}
-use Rattle.trace_reader.specs.declared.told.Told.{Told}
-use Rattle.trace_reader.specs.declared.told.Told.TheVariants as told
-use Rattle.trace_reader.specs.declared.told.TraceLine.{TraceLine}
+use Rattle.trace_reader.specs.declared.said.Said.{Said}
+use Rattle.trace_reader.specs.declared.said.Said.TheVariants as said
+use Rattle.trace_reader.specs.declared.said.TraceLine.{TraceLine}
 use Rattle.sequence_chart.specs.declared.rows.Cursor.{Cursor}
 
 -- how many units down the middle of a row is
@@ -31,13 +31,13 @@ abbrev pub next_message : Cursor → Cursor
 next_message c = record { row = c.row; is_free = c.is_free; sent = c.sent + 1 }
 
 -- the row of a line, and how many messages were sent up to it
-abbrev pub after : Cursor → Told → Cursor
-after c (told.Delivery n k) = next_step c
-after c (told.Event n) = next_step c
-after c (told.Sent from to) = next_message c
+abbrev pub after : Cursor → Said → Cursor
+after c (said.Delivery n k) = next_step c
+after c (said.Event n) = next_step c
+after c (said.Sent from to) = next_message c
 after c other = next_label c
 
 -- what each line gives at its row, in order
 abbrev pub walk : {A : Type 0} → (Cursor → TraceLine → List A) → Cursor → List TraceLine → List A
 walk f c [] = []
-walk f c (l ∷ ls) = f (after c l.told) l ++ walk f (after c l.told) ls
+walk f c (l ∷ ls) = f (after c l.said) l ++ walk f (after c l.said) ls

@@ -11,7 +11,7 @@ use crate::messages::{Origin, message};
 use crate::rows::{Cursor, MAX_LINES, y_of};
 use std::alloc::AllocError;
 use text::Text;
-use trace_reader::{Told, TraceLine};
+use trace_reader::{Said, TraceLine};
 use voting_config::NodeId;
 
 #[tactic(auto, unfolding(crate::specs::Elements::point))]
@@ -119,8 +119,8 @@ fn write_arrow_in(
 ) -> Result<(), AllocError>
     ensures { OnOk result (text.new ≡ text.old ++ arrow_in columns.now origins.now cursor line.now) }
 {
-    match &line.told {
-        Told::Delivery(node, number) => {
+    match &line.said {
+        Said::Delivery(node, number) => {
             write_delivery(text, columns, origins, cursor, *node, *number)
         }
         _ => Ok(()),
@@ -139,7 +139,7 @@ pub fn write_arrows(
 {
     let mut cursor = Cursor::first();
     for line in lines {
-        cursor = cursor.after(&line.told);
+        cursor = cursor.after(&line.said);
         write_arrow_in(text, columns, origins, cursor, line)?;
     }
     Ok(())
@@ -205,7 +205,7 @@ fn write_lost_in(
 ) -> Result<(), AllocError>
     ensures { OnOk result (text.new ≡ text.old ++ lost_in columns.now handed.now cursor line.now) }
 {
-    let Told::Sent(from, _) = &line.told else {
+    let Said::Sent(from, _) = &line.said else {
         return Ok(());
     };
     if is_handed(handed, cursor.sent) {
@@ -233,7 +233,7 @@ pub fn write_all_lost(
 {
     let mut cursor = Cursor::first();
     for line in lines {
-        cursor = cursor.after(&line.told);
+        cursor = cursor.after(&line.said);
         write_lost_in(text, columns, handed, cursor, line)?;
     }
     Ok(())

@@ -1,10 +1,10 @@
 //! Columns: which nodes have a lifeline, and where it stands.
 ghost use Rattle.std.specs.Prelude.{◌≡◌, ◌+◌, ◌*◌, ◌≤◌, length, IfOk, []};
-ghost use Rattle.sequence_chart.specs.Columns.{node_of as node_of_told, with_receiver as with_receiver_of, nodes_from, widest_from, columns_from, left_of as left_of_columns};
+ghost use Rattle.sequence_chart.specs.Columns.{node_of as node_said, with_receiver as with_receiver_of, nodes_from, widest_from, columns_from, left_of as left_of_columns};
 
 use crate::labels::label;
 use std::alloc::{AllocError, Global};
-use trace_reader::{Told, TraceLine};
+use trace_reader::{Said, TraceLine};
 use voting_config::{NodeId, NodeSet};
 
 /// A lifeline: its node, and how many units to the right its column begins. The line itself stands 24 units further.
@@ -15,33 +15,33 @@ pub struct Column {
 }
 
 /// The node that a line tells of.
-pub fn node_of(told: &Told) -> NodeId
-    ensures { result ≡ node_of_told told.now }
+pub fn node_of(said: &Said) -> NodeId
+    ensures { result ≡ node_said said.now }
 {
-    match told {
-        Told::Delivery(node, _) => *node,
-        Told::Event(node) => *node,
-        Told::Act(node, _) => *node,
-        Told::Won(node, _) => *node,
-        Told::Committed(node) => *node,
-        Told::Sent(node, _) => *node,
-        Told::Unsent(node) => *node,
-        Told::Misrouted(node) => *node,
-        Told::Crashed(node) => *node,
-        Told::Disk(node) => *node,
-        Told::Opened(node) => *node,
-        Told::Down(node) => *node,
-        Told::Up(node) => *node,
-        Told::Mode(node, _, _) => *node,
-        Told::Dropped(node) => *node,
-        Told::Replied(node) => *node,
+    match said {
+        Said::Delivery(node, _) => *node,
+        Said::Event(node) => *node,
+        Said::Act(node, _) => *node,
+        Said::Won(node, _) => *node,
+        Said::Committed(node) => *node,
+        Said::Sent(node, _) => *node,
+        Said::Unsent(node) => *node,
+        Said::Misrouted(node) => *node,
+        Said::Crashed(node) => *node,
+        Said::Disk(node) => *node,
+        Said::Opened(node) => *node,
+        Said::Down(node) => *node,
+        Said::Up(node) => *node,
+        Said::Mode(node, _, _) => *node,
+        Said::Dropped(node) => *node,
+        Said::Replied(node) => *node,
     }
 }
 
-fn add_receiver(nodes: &mut NodeSet, told: &Told)
-    ensures { nodes.new ≡ with_receiver_of told.now nodes.old }
+fn add_receiver(nodes: &mut NodeSet, said: &Said)
+    ensures { nodes.new ≡ with_receiver_of said.now nodes.old }
 {
-    let Told::Sent(_, to) = told else {
+    let Said::Sent(_, to) = said else {
         return;
     };
     let Some(to) = to else {
@@ -56,8 +56,8 @@ pub fn nodes_of(lines: &[TraceLine]) -> NodeSet
 {
     let mut nodes = NodeSet::new();
     for line in lines {
-        nodes.put_if_room(node_of(&line.told));
-        add_receiver(&mut nodes, &line.told);
+        nodes.put_if_room(node_of(&line.said));
+        add_receiver(&mut nodes, &line.said);
     }
     nodes
 }
@@ -70,7 +70,7 @@ fn widest(alloc: Global, node: NodeId, lines: &[TraceLine]) -> Result<u32, Alloc
 {
     let mut most = node.as_bytes().len();
     for line in lines {
-        if node_of(&line.told).as_bytes() == node.as_bytes() {
+        if node_of(&line.said).as_bytes() == node.as_bytes() {
             let text = label(alloc, line)?;
             most = most.max(text.len().min(48));
         }

@@ -5,7 +5,7 @@ ghost use Rattle.sequence_chart.specs.Labels.{fields as fields_of, without_node 
 use crate::words::{before, behind, short_words, write_capped};
 use std::alloc::{AllocError, Global};
 use text::Text;
-use trace_reader::{Told, TraceLine};
+use trace_reader::{Said, TraceLine};
 
 /// How many bytes of a label are shown at most.
 pub const MAX_LABEL: usize = 46;
@@ -25,20 +25,20 @@ fn without_node(text: &mut Text, line: &[u8]) -> Result<(), AllocError>
     text.bytes(fields(line))
 }
 
-fn write_words(text: &mut Text, line: &[u8], told: &Told) -> Result<(), AllocError>
-    ensures { OnOk result (text.new ≡ text.old ++ label_words line.now told.now) }
+fn write_words(text: &mut Text, line: &[u8], said: &Said) -> Result<(), AllocError>
+    ensures { OnOk result (text.new ≡ text.old ++ label_words line.now said.now) }
 {
-    match told {
-        Told::Delivery(_, _) => Ok(()),
-        Told::Event(_) => Ok(()),
-        Told::Sent(_, _) => Ok(()),
-        Told::Act(_, _) => short_words(text, fields(line)),
-        Told::Mode(_, _, _) => text.bytes(fields(line)),
-        Told::Committed(_) => short_words(text, line),
-        Told::Won(_, _) => without_node(text, line),
-        Told::Opened(_) => without_node(text, line),
-        Told::Dropped(_) => without_node(text, line),
-        Told::Replied(_) => without_node(text, line),
+    match said {
+        Said::Delivery(_, _) => Ok(()),
+        Said::Event(_) => Ok(()),
+        Said::Sent(_, _) => Ok(()),
+        Said::Act(_, _) => short_words(text, fields(line)),
+        Said::Mode(_, _, _) => text.bytes(fields(line)),
+        Said::Committed(_) => short_words(text, line),
+        Said::Won(_, _) => without_node(text, line),
+        Said::Opened(_) => without_node(text, line),
+        Said::Dropped(_) => without_node(text, line),
+        Said::Replied(_) => without_node(text, line),
         _ => text.bytes(before(line, b' ')),
     }
 }
@@ -48,7 +48,7 @@ pub fn label(alloc: Global, line: &TraceLine) -> Result<Text, AllocError>
     ensures { IfOk result (λ t. t ≡ label_of line.now) }
 {
     let mut words = Text::new(alloc);
-    write_words(&mut words, line.text.as_slice(), &line.told)?;
+    write_words(&mut words, line.text.as_slice(), &line.said)?;
     let mut label = Text::new(alloc);
     write_capped(&mut label, MAX_LABEL, words.as_bytes())?;
     Ok(label)

@@ -9,13 +9,13 @@ use crate::marks::term_class;
 use crate::rows::{Cursor, MAX_LINES, y_of};
 use std::alloc::AllocError;
 use text::Text;
-use trace_reader::{Ending, Mode, Told, TraceLine};
+use trace_reader::{Ending, Mode, Said, TraceLine};
 use voting_config::NodeId;
 
 /// How a lifeline looks.
 #[derive(Clone, Copy)]
 pub enum Stroke {
-    /// The node's mode is not told.
+    /// The node's mode is not said.
     Plain,
     /// The node is that, in this term.
     Mode(Mode, u64),
@@ -62,25 +62,25 @@ fn ending_stroke(ending: Ending) -> Option<Stroke>
     }
 }
 
-fn stroke_after(told: &Told) -> Option<Stroke>
-    ensures { result ≡ stroke_by told.now }
+fn stroke_after(said: &Said) -> Option<Stroke>
+    ensures { result ≡ stroke_by said.now }
 {
-    match told {
-        Told::Mode(_, mode, term) => Some(Stroke::Mode(*mode, *term)),
-        Told::Crashed(_) => Some(Stroke::Gap),
-        Told::Disk(_) => Some(Stroke::Gap),
-        Told::Act(_, ending) => ending_stroke(*ending),
-        Told::Opened(_) => Some(Stroke::Plain),
+    match said {
+        Said::Mode(_, mode, term) => Some(Stroke::Mode(*mode, *term)),
+        Said::Crashed(_) => Some(Stroke::Gap),
+        Said::Disk(_) => Some(Stroke::Gap),
+        Said::Act(_, ending) => ending_stroke(*ending),
+        Said::Opened(_) => Some(Stroke::Plain),
         _ => None,
     }
 }
 
 // How a line changes the lifeline of a node, if it does.
-fn turn(node: NodeId, told: &Told) -> Option<Stroke>
-    ensures { result ≡ turn_of node told.now }
+fn turn(node: NodeId, said: &Said) -> Option<Stroke>
+    ensures { result ≡ turn_of node said.now }
 {
-    if node_of(told).as_bytes() == node.as_bytes() {
-        return stroke_after(told);
+    if node_of(said).as_bytes() == node.as_bytes() {
+        return stroke_after(said);
     }
     None
 }
@@ -152,8 +152,8 @@ fn write_lifeline(
     let mut cursor = Cursor::first();
     let mut pen = Pen::first();
     for line in lines {
-        cursor = cursor.after(&line.told);
-        let turn = turn(column.node, &line.told);
+        cursor = cursor.after(&line.said);
+        let turn = turn(column.node, &line.said);
         write_piece_at(text, column.left, pen, cursor.row, turn)?;
         pen = pen.after(cursor.row, turn);
     }

@@ -1,6 +1,6 @@
 //! The mark of a line at its lifeline, with its colour and its words.
 ghost use Rattle.std.specs.Prelude.{◌≡◌, ◌≤◌, ◌<◌, ◌^◌, ◌+◌, ◌*◌, ◌++◌, length, OnOk};
-ghost use Rattle.sequence_chart.specs.Elements.{at_place, class_by, class_of, ending_class as ending_class_of, ending_mark as ending_mark_of, form, paper, has_label as has_label_of, label as label_of_line, label_in, label_text, look, mark, mark_of as mark_of_told, term_class as term_class_of, title};
+ghost use Rattle.sequence_chart.specs.Elements.{at_place, class_by, class_of, ending_class as ending_class_of, ending_mark as ending_mark_of, form, paper, has_label as has_label_of, label as label_of_line, label_in, label_text, look, mark, mark_of as mark_said, term_class as term_class_of, title};
 ghost use Rattle.schedule_text.specs.Lines.{any_number};
 ghost use Rattle.sequence_chart.specs.Labels.{label_of};
 ghost use Rattle.sequence_chart.specs.Rows.{first_cursor, walk};
@@ -14,7 +14,7 @@ use crate::words::term_word;
 use schedule_text::number_at;
 use std::alloc::{AllocError, Global};
 use text::Text;
-use trace_reader::{Ending, Told, TraceLine};
+use trace_reader::{Ending, Said, TraceLine};
 
 /// The class that gives a term its colour.
 pub fn term_class(term: u64) -> &'static str
@@ -59,24 +59,24 @@ fn committed_class(line: &[u8]) -> &'static str
 
 // The class of the mark and the label of a line, which gives them their colour.
 #[tactic(auto, unfolding(crate::specs::Elements::class_of))]
-fn write_class(text: &mut Text, line: &[u8], told: &Told) -> Result<(), AllocError>
-    ensures { OnOk result (text.new ≡ text.old ++ class_of line.now told.now) }
+fn write_class(text: &mut Text, line: &[u8], said: &Said) -> Result<(), AllocError>
+    ensures { OnOk result (text.new ≡ text.old ++ class_of line.now said.now) }
 {
-    match told {
-        Told::Act(_, ending) => text.word(ending_class(*ending)),
-        Told::Won(_, term) => {
+    match said {
+        Said::Act(_, ending) => text.word(ending_class(*ending)),
+        Said::Won(_, term) => {
             text.word("won ")?;
             text.word(term_class(*term))
         }
-        Told::Committed(_) => {
+        Said::Committed(_) => {
             text.word("won ")?;
             text.word(committed_class(line))
         }
-        Told::Mode(_, _, term) => text.word(term_class(*term)),
-        Told::Crashed(_) => text.word("fault"),
-        Told::Disk(_) => text.word("fault"),
-        Told::Down(_) => text.word("fault"),
-        Told::Opened(_) => text.word("taken"),
+        Said::Mode(_, _, term) => text.word(term_class(*term)),
+        Said::Crashed(_) => text.word("fault"),
+        Said::Disk(_) => text.word("fault"),
+        Said::Down(_) => text.word("fault"),
+        Said::Opened(_) => text.word("taken"),
         _ => text.word("other"),
     }
 }
@@ -94,18 +94,18 @@ fn ending_mark(ending: Ending) -> &'static str
 }
 
 #[tactic(auto, unfolding(crate::specs::Elements::mark_of))]
-fn mark_of(told: &Told) -> &'static str
-    ensures { result.now ≡ mark_of_told told.now }
+fn mark_of(said: &Said) -> &'static str
+    ensures { result.now ≡ mark_said said.now }
 {
-    match told {
-        Told::Act(_, ending) => ending_mark(*ending),
-        Told::Won(_, _) => "star",
-        Told::Committed(_) => "diamond",
-        Told::Mode(_, _, _) => "bar",
-        Told::Crashed(_) => "square",
-        Told::Disk(_) => "square",
-        Told::Down(_) => "frame",
-        Told::Opened(_) => "triangle",
+    match said {
+        Said::Act(_, ending) => ending_mark(*ending),
+        Said::Won(_, _) => "star",
+        Said::Committed(_) => "diamond",
+        Said::Mode(_, _, _) => "bar",
+        Said::Crashed(_) => "square",
+        Said::Disk(_) => "square",
+        Said::Down(_) => "frame",
+        Said::Opened(_) => "triangle",
         _ => "ring",
     }
 }
@@ -138,17 +138,17 @@ fn write_look(text: &mut Text, x: u64, y: u64, line: &TraceLine) -> Result<(), A
     ensures { OnOk result (text.new ≡ text.old ++ look x y line.now) }
 {
     text.word(" class='")?;
-    write_class(text, line.text.as_slice(), &line.told)?;
+    write_class(text, line.text.as_slice(), &line.said)?;
     write_place(text, x, y)
 }
 
 // The form of a mark, by its name.
 #[tactic(auto, unfolding(crate::specs::Elements::form))]
-fn write_form(text: &mut Text, told: &Told) -> Result<(), AllocError>
-    ensures { OnOk result (text.new ≡ text.old ++ form told.now) }
+fn write_form(text: &mut Text, said: &Said) -> Result<(), AllocError>
+    ensures { OnOk result (text.new ≡ text.old ++ form said.now) }
 {
     text.word("<use href='#")?;
-    text.word(mark_of(told))?;
+    text.word(mark_of(said))?;
     text.word("'")
 }
 
@@ -156,7 +156,7 @@ fn write_form(text: &mut Text, told: &Told) -> Result<(), AllocError>
 fn write_mark(text: &mut Text, x: u64, y: u64, line: &TraceLine) -> Result<(), AllocError>
     ensures { OnOk result (text.new ≡ text.old ++ mark x y line.now) }
 {
-    write_form(text, &line.told)?;
+    write_form(text, &line.said)?;
     write_look(text, x, y, line)?;
     text.word("/>")
 }
@@ -212,13 +212,13 @@ fn write_label(
     write_label_text(text, left + 38, y + 3, line, &label)
 }
 
-fn has_label(told: &Told) -> bool
-    ensures { result ≡ has_label_of told.now }
+fn has_label(said: &Said) -> bool
+    ensures { result ≡ has_label_of said.now }
 {
-    match told {
-        Told::Delivery(_, _) => false,
-        Told::Event(_) => false,
-        Told::Sent(_, _) => false,
+    match said {
+        Said::Delivery(_, _) => false,
+        Said::Event(_) => false,
+        Said::Sent(_, _) => false,
         _ => true,
     }
 }
@@ -232,10 +232,10 @@ fn write_label_in(
 ) -> Result<(), AllocError>
     ensures { OnOk result (text.new ≡ text.old ++ label_in columns.now cursor line.now) }
 {
-    if !has_label(&line.told) {
+    if !has_label(&line.said) {
         return Ok(());
     }
-    let left = left_of(columns, node_of(&line.told));
+    let left = left_of(columns, node_of(&line.said));
     write_label(text, alloc, left, cursor.row, line)
 }
 
@@ -251,7 +251,7 @@ pub fn write_labels(
 {
     let mut cursor = Cursor::first();
     for line in lines {
-        cursor = cursor.after(&line.told);
+        cursor = cursor.after(&line.said);
         write_label_in(text, alloc, columns, cursor, line)?;
     }
     Ok(())

@@ -5,7 +5,7 @@ ghost use Rattle.sequence_chart.specs.Messages.{handed_by, handed_from, message_
 use crate::rows::{Cursor, MAX_LINES};
 use schedule_text::LineBytes;
 use std::alloc::{AllocError, Global};
-use trace_reader::{Told, TraceLine};
+use trace_reader::{Said, TraceLine};
 use voting_config::NodeId;
 
 /// Where a message was sent.
@@ -27,7 +27,7 @@ fn add_origin(
 ) -> Result<(), AllocError>
     ensures { OnOk result (origins.new.items ≡ origins.old.items ++ origin_in cursor line.now) }
 {
-    let Told::Sent(from, _) = &line.told else {
+    let Said::Sent(from, _) = &line.said else {
         return Ok(());
     };
     let text = LineBytes::of(alloc, line.text.as_slice())?;
@@ -47,7 +47,7 @@ pub fn origins_of(alloc: Global, lines: &[TraceLine]) -> Result<Vec<Origin>, All
     let mut origins = Vec::new(alloc);
     let mut cursor = Cursor::first();
     for line in lines {
-        cursor = cursor.after(&line.told);
+        cursor = cursor.after(&line.said);
         add_origin(alloc, &mut origins, cursor, line)?;
     }
     Ok(origins)
@@ -65,15 +65,15 @@ pub fn message(origins: &[Origin], sent: u32, number: u64) -> Option<&Origin>
 }
 
 // Notes what a line sends or hands over.
-fn hand(flags: &mut Vec<bool>, told: &Told) -> Result<(), AllocError>
-    ensures { OnOk result (flags.new.items ≡ handed_by flags.old.items told.now) }
+fn hand(flags: &mut Vec<bool>, said: &Said) -> Result<(), AllocError>
+    ensures { OnOk result (flags.new.items ≡ handed_by flags.old.items said.now) }
 {
-    match told {
-        Told::Sent(_, _) => {
+    match said {
+        Said::Sent(_, _) => {
             flags.push(false)?;
             Ok(())
         }
-        Told::Delivery(_, number) => {
+        Said::Delivery(_, number) => {
             if *number >= 1 && *number <= flags.len() as u64 {
                 flags[(*number - 1) as usize] = true;
             }
@@ -89,7 +89,7 @@ pub fn handed_of(alloc: Global, lines: &[TraceLine]) -> Result<Vec<bool>, AllocE
 {
     let mut flags = Vec::new(alloc);
     for line in lines {
-        hand(&mut flags, &line.told)?;
+        hand(&mut flags, &line.said)?;
     }
     Ok(flags)
 }

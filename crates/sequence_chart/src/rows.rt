@@ -1,9 +1,9 @@
 //! Rows: where the lines of a trace stand.
 ghost use Rattle.std.specs.Prelude.{◌≡◌, ◌+◌, ◌<◌, ◌≤◌, ◌^◌, length};
-ghost use Rattle.sequence_chart.specs.Rows.{after as after_told, first_cursor, next_step, next_label, next_message, y_of as y_of_row};
+ghost use Rattle.sequence_chart.specs.Rows.{after as after_said, first_cursor, next_step, next_label, next_message, y_of as y_of_row};
 ghost use Rattle.sequence_chart.specs.Chart.{last_row as last_row_of};
 
-use trace_reader::{Told, TraceLine};
+use trace_reader::{Said, TraceLine};
 
 /// How many lines a chart has at most.
 pub const MAX_LINES: usize = 1000000;
@@ -77,17 +77,17 @@ impl Cursor {
     }
 
     /// Where the next line stands.
-    pub fn after(self, told: &Told) -> Cursor
+    pub fn after(self, said: &Said) -> Cursor
         requires row { self.row + 1 < 2 ^ 32 }
         requires sent { self.sent + 1 < 2 ^ 32 }
-        ensures is { result ≡ after_told self told.now }
+        ensures is { result ≡ after_said self said.now }
         ensures row { result.row ≤ self.row + 1 }
         ensures sent { result.sent ≤ self.sent + 1 }
     {
-        match told {
-            Told::Delivery(_, _) => self.next_step(),
-            Told::Event(_) => self.next_step(),
-            Told::Sent(_, _) => self.next_message(),
+        match said {
+            Said::Delivery(_, _) => self.next_step(),
+            Said::Event(_) => self.next_step(),
+            Said::Sent(_, _) => self.next_message(),
             _ => self.next_label(),
         }
     }
@@ -101,7 +101,7 @@ pub fn last_row(lines: &[TraceLine]) -> u32
 {
     let mut cursor = Cursor::first();
     for line in lines {
-        cursor = cursor.after(&line.told);
+        cursor = cursor.after(&line.said);
     }
     cursor.row
 }

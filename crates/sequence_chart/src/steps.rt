@@ -14,7 +14,7 @@ use crate::rows::{Cursor, MAX_LINES, y_of};
 use crate::words::{behind, short_words, write_capped};
 use std::alloc::{AllocError, Global};
 use text::Text;
-use trace_reader::{Told, TraceLine};
+use trace_reader::{Said, TraceLine};
 
 /// How many bytes are shown of a line of the schedule, and of the message after it.
 pub const MAX_STEP: usize = 40;
@@ -103,8 +103,8 @@ fn write_step_in(
 ) -> Result<(), AllocError>
     ensures { OnOk result (text.new ≡ text.old ++ step_in origins.now cursor line.now) }
 {
-    match &line.told {
-        Told::Delivery(_, number) => {
+    match &line.said {
+        Said::Delivery(_, number) => {
             let message = message_text(alloc, origins, cursor.sent, *number)?;
             write_step(
                 text,
@@ -114,7 +114,7 @@ fn write_step_in(
                 message.as_bytes(),
             )
         }
-        Told::Event(_) => write_step(text, alloc, cursor.row, line.text.as_slice(), &[]),
+        Said::Event(_) => write_step(text, alloc, cursor.row, line.text.as_slice(), &[]),
         _ => Ok(()),
     }
 }
@@ -131,7 +131,7 @@ pub fn write_steps(
 {
     let mut cursor = Cursor::first();
     for line in lines {
-        cursor = cursor.after(&line.told);
+        cursor = cursor.after(&line.said);
         write_step_in(text, alloc, origins, cursor, line)?;
     }
     Ok(())
@@ -147,12 +147,12 @@ fn step_cells(
     ensures { IfOk result (λ c. c ≤ 100) }
 {
     let schedule = behind(line.text.as_slice(), b' ').len().min(42);
-    match &line.told {
-        Told::Delivery(_, number) => {
+    match &line.said {
+        Said::Delivery(_, number) => {
             let message = message_text(alloc, origins, sent, *number)?;
             Ok((schedule + 2 + message.len().min(42)) as u32)
         }
-        Told::Event(_) => Ok(schedule as u32),
+        Said::Event(_) => Ok(schedule as u32),
         _ => Ok(0),
     }
 }
@@ -165,7 +165,7 @@ pub fn margin(alloc: Global, origins: &[Origin], lines: &[TraceLine]) -> Result<
     let mut cursor = Cursor::first();
     let mut most: u32 = 0;
     for line in lines {
-        cursor = cursor.after(&line.told);
+        cursor = cursor.after(&line.said);
         most = most.max(step_cells(alloc, origins, cursor.sent, line)?);
     }
     Ok(20 + 6 * most)

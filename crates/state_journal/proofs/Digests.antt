@@ -9,7 +9,7 @@ use Rattle.std.proofs.lemmas.Slice.Eq.{bytes_eq-Decides}
 use Rattle.sha2.specs.Sha256.{sha256}
 use Rattle.cluster_state.specs.Initial.{empty_record}
 use Rattle.cluster_state.specs.declared.state.Kept.{Kept}
-use Rattle.state_journal.specs.Bodies.{guarded, is_guarded, front_of, stored_in, digest_fault, guard_fault}
+use Rattle.state_journal.specs.Bodies.{guarded, is_guarded, prefix_of, stored_in, digest_fault, guard_fault}
 use Rattle.state_journal.specs.Journal.{with_body, unless, goes_on_with, folded_from}
 use Rattle.state_journal.specs.Laws.{IsSound, LawDigests}
 use Rattle.state_journal.specs.declared.why.Fault.{Fault}
@@ -29,9 +29,9 @@ module _ (p : ℕ) (body : List ℕ) where
   unfolding guard_fault guarded
   sound none is =
       let fault : digest_fault p body ≡ None = sym (cond-true (is_guarded body) (digest_fault p body) None is) ∙ none in
-      let same : bytes_eq (sha256 (front_of body)) (stored_in body) ≡ true = right _ _ _ _ fault in
-      let stored : sha256 (front_of body) ≡ stored_in body = (bytes_eq-Decides (sha256 (front_of body)) (stored_in body)).0 same in
-      sym (take-append-drop (length body - 32) body) ∙ ap (λ (d : List ℕ). front_of body ++ d) (sym stored)
+      let same : bytes_eq (sha256 (prefix_of body)) (stored_in body) ≡ true = right _ _ _ _ fault in
+      let stored : sha256 (prefix_of body) ≡ stored_in body = (bytes_eq-Decides (sha256 (prefix_of body)) (stored_in body)).0 same in
+      sym (take-append-drop (length body - 32) body) ∙ ap (λ (d : List ℕ). prefix_of body ++ d) (sym stored)
 
 goes : (r : Result Kept Fault) (more : Kept → Result Kept Fault) (kept : Kept) → goes_on_with more r ≡ Ok kept → (k : Kept) × (r ≡ Ok k) × (more k ≡ Ok kept)
 goes (Ok k) more kept e = (k, refl, e)

@@ -58,5 +58,5 @@ pub ages : (files : Files) (g : Generations) → generations_of files ≡ Ok g �
 ages files g is = ap (λ (r : Result Generations LogWhy). holds_old (in_use (result_unwrap_or r no_generations))) (sym is)
 
 -- all the calls were made
-pub ran_all : {D : Type 0} (steps : D → DeviceCall → D → Bool → Type 0) (calls : List DeviceCall) (old new now : D) → now ≡ new → CallsMade steps calls old new true → RanPartly steps calls old now
-ran_all steps calls old new now same ran = (calls, [], append-nil calls, subst (λ d. CallsMade steps calls old d true) (sym same) ran)
+pub ran_all : {D : Type 0} (moves : D → DeviceCall → D → Bool → Type 0) (calls : List DeviceCall) (old new now : D) → now ≡ new → CallsMade moves calls old new true → RanPartly moves calls old now
+ran_all moves calls old new now same ran = (calls, [], append-nil calls, subst (λ d. CallsMade moves calls old d true) (sym same) ran)

@@ -8,7 +8,7 @@ use Rattle.cluster_state.specs.Field.{eight_bytes}
 use Rattle.cluster_state.specs.Fields.{ids}
 use Rattle.gate_log.specs.Journal.{framed, sized}
 use Rattle.state_journal.specs.Bodies.{guarded}
-use Rattle.state_journal.specs.Drafts.{generation_front}
+use Rattle.state_journal.specs.Drafts.{generation_prefix}
 use Rattle.state_journal.proofs.Spelled.{length-body}
 
 -- the parts of a frame, grouped as they are laid and as they are spelled
@@ -33,10 +33,10 @@ abbrev at8 : List ℕ → List ℕ → List ℕ
 at8 n rest = get_or n 0 0 ∷ get_or n 1 0 ∷ get_or n 2 0 ∷ get_or n 3 0 ∷ get_or n 4 0 ∷ get_or n 5 0 ∷ get_or n 6 0 ∷ get_or n 7 0 ∷ rest
 
 pub generation_frame : (e t state after frame : List ℕ) (epoch term : ℕ) (committed : List Id) → e ≡ to_be_bytes w64 epoch → t ≡ to_be_bytes w64 term → after ≡ (ids most_ids).spelling committed
-    → frame ≡ framed (guarded (132 ∷ at8 e (at8 t (state ++ after)))) → frame ≡ framed (guarded (generation_front epoch term state committed))
+    → frame ≡ framed (guarded (132 ∷ at8 e (at8 t (state ++ after)))) → frame ≡ framed (guarded (generation_prefix epoch term state committed))
 unfolding eight_bytes
 generation_frame e t state after frame epoch term committed e_is t_is after_is is = is ∙ (λ i. framed (guarded (132 ∷ at8 (e_is i) (at8 (t_is i) (state ++ after_is i)))))
 
 -- the state alone behind its tag
-pub accepted_front : (state frame : List ℕ) → frame ≡ framed (guarded (130 ∷ (state ++ []))) → frame ≡ framed (guarded (130 ∷ state))
-accepted_front state frame is = is ∙ ap (λ (l : List ℕ). framed (guarded (130 ∷ l))) (append-nil state)
+pub accepted_prefix : (state frame : List ℕ) → frame ≡ framed (guarded (130 ∷ (state ++ []))) → frame ≡ framed (guarded (130 ∷ state))
+accepted_prefix state frame is = is ∙ ap (λ (l : List ℕ). framed (guarded (130 ∷ l))) (append-nil state)

@@ -17,8 +17,8 @@ use Rattle.cluster_state.proofs.Laws.{IsField, bind_ok, ok_is, then_law, shaped_
 use Rattle.cluster_state.proofs.StateLaws.{term_law, version_law, ids_law, value_law, state_law}
 use Rattle.cluster_state.proofs.Whole.{whole_again}
 use Rattle.gate_log.specs.Generations.{is_generation}
-use Rattle.state_journal.specs.Bodies.{guarded, is_guarded, front_of, stored_in, guard_fault, body_of, change_in, change_at, change_by, change_tagged, generation_of, generation, old_fields, without_parent, old_state, old_generation}
-use Rattle.state_journal.specs.Drafts.{Drafted, HasSpelling, IsDraft, MayBegin, generation_front, most_state_bytes}
+use Rattle.state_journal.specs.Bodies.{guarded, is_guarded, prefix_of, stored_in, guard_fault, body_of, change_in, change_at, change_by, change_tagged, generation_of, generation, old_fields, without_parent, old_state, old_generation}
+use Rattle.state_journal.specs.Drafts.{Drafted, HasSpelling, IsDraft, MayBegin, generation_prefix, most_state_bytes}
 use Rattle.cluster_state.proofs.Sizes.{state_short}
 use Rattle.state_journal.specs.declared.change.Change.{Change}
 use Rattle.state_journal.specs.declared.change.Generation.{Generation}
@@ -53,7 +53,7 @@ old_generation_law = generation_of_law old_state old_state_law
 length-guarded : (front : List ℕ) → length (front ++ sha256 front) ≡ length front + 32
 length-guarded front = omega (arith, length-append front (sha256 front), length-sha256 front)
 
-front_is : (front : List ℕ) → front_of (front ++ sha256 front) ≡ front
+front_is : (front : List ℕ) → prefix_of (front ++ sha256 front) ≡ front
 front_is front = take_at front (sha256 front) (length (front ++ sha256 front) - 32) (omega (arith, length-guarded front))
 
 stored_is : (front : List ℕ) → stored_in (front ++ sha256 front) ≡ sha256 front
@@ -65,9 +65,9 @@ sound p tag fields is =
     let front = tag ∷ fields in
     let body = front ++ sha256 front in
     let long : nat_le (length body) 32 ≡ false = lt-leb _ _ (omega (arith, length-guarded front)) in
-    let same : bytes_eq (sha256 (front_of body)) (stored_in body) ≡ true =
+    let same : bytes_eq (sha256 (prefix_of body)) (stored_in body) ≡ true =
     (λ i. bytes_eq (sha256 (front_is front i)) (stored_is front i)) ∙ (bytes_eq-Decides (sha256 front) (sha256 front)).1 refl in
-    cond-true (is_guarded body) _ _ is ∙ cond-false (nat_le (length body) 32) _ _ long ∙ cond-true (bytes_eq (sha256 (front_of body)) (stored_in body)) _ _ same
+    cond-true (is_guarded body) _ _ is ∙ cond-false (nat_le (length body) 32) _ _ long ∙ cond-true (bytes_eq (sha256 (prefix_of body)) (stored_in body)) _ _ same
 
 -- the digest of a change is right
 pub body_sound : (p : ℕ) (change : Change) → guard_fault p (body_of change) ≡ None
@@ -123,7 +123,7 @@ state_is s = refl
 pub drafted_is : (s : ClusterState) (draft : Drafted) → IsDraft s draft → guarded (130 ∷ draft.state) ≡ body_of (Accepted s)
 drafted_is s draft is = ap (λ (l : List ℕ). guarded (130 ∷ l)) is.spelled ∙ state_is s
 
-pub renewed_is : (epoch t : ℕ) (s : ClusterState) (committed : List Id) → guarded (generation_front epoch t (state.spelling s) committed) ≡ body_of (Renewed (record { epoch = epoch; kept = record { term = t; accepted = s; committed = committed } }))
+pub renewed_is : (epoch t : ℕ) (s : ClusterState) (committed : List Id) → guarded (generation_prefix epoch t (state.spelling s) committed) ≡ body_of (Renewed (record { epoch = epoch; kept = record { term = t; accepted = s; committed = committed } }))
 unfolding body_of
 renewed_is epoch t s committed = refl
 

@@ -38,7 +38,7 @@ digest_bytes = 32
 
 -- a tag and fields, and the SHA-256 of both
 unfoldable pub guarded : List ℕ → List ℕ
-guarded front = front ++ sha256 front
+guarded prefix = prefix ++ sha256 prefix
 
 -- the one spelling of a change
 unfoldable pub body_of : Change → List ℕ
@@ -57,8 +57,8 @@ abbrev pub holds_old : List (List ℕ) → Bool
 holds_old bodies = list_any (λ (body : List ℕ). not (is_guarded body)) bodies
 
 -- what stands before the digest, and the digest that stands there
-abbrev pub front_of : List ℕ → List ℕ
-front_of body = take (length body - digest_bytes) body
+abbrev pub prefix_of : List ℕ → List ℕ
+prefix_of body = take (length body - digest_bytes) body
 
 abbrev pub stored_in : List ℕ → List ℕ
 stored_in body = drop (length body - digest_bytes) body
@@ -67,8 +67,8 @@ stored_in body = drop (length body - digest_bytes) body
 abbrev pub digest_fault : ℕ → List ℕ → Option Fault
 digest_fault p body =
     if nat_le (length body) digest_bytes then Some (Body p (Field Short))
-    else if bytes_eq (sha256 (front_of body)) (stored_in body) then None
-    else Some (Damaged p (stored_in body) (sha256 (front_of body)))
+    else if bytes_eq (sha256 (prefix_of body)) (stored_in body) then None
+    else Some (Damaged p (stored_in body) (sha256 (prefix_of body)))
 
 -- a body of version 1 has none
 unfoldable pub guard_fault : ℕ → List ℕ → Option Fault
@@ -121,4 +121,4 @@ change_in (tag ∷ fields) = change_tagged tag fields
 
 -- the change that a body spells, or its first fault; that of its digest comes before these
 abbrev pub change_at : List ℕ → Result Change BodyFault
-change_at body = change_in (if is_guarded body then front_of body else body)
+change_at body = change_in (if is_guarded body then prefix_of body else body)

@@ -46,6 +46,6 @@ pub record MayBegin (kept : Kept) : Type 0 where
 
 -- what stands before the digest in the body of a generation with this epoch and this term, a state of these bytes and this committed
 -- configuration
-abbrev pub generation_front : ℕ → ℕ → List ℕ → List Id → List ℕ
-generation_front epoch t accepted committed = 132
+abbrev pub generation_prefix : ℕ → ℕ → List ℕ → List Id → List ℕ
+generation_prefix epoch t accepted committed = 132
     ∷ (version.spelling epoch ++ (term.spelling t ++ (accepted ++ (ids most_ids).spelling committed)))

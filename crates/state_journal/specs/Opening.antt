@@ -43,9 +43,9 @@ calls_until (Ok generations) files = both_opening_calls files
 
 -- The calls of an opening were made up to the one that failed. Memory may be wanting before each read or after it.
 abbrev pub RanUntil : {D : Type 0} → (D → DeviceCall → D → Bool → Type 0) → Files → D → OpenError D → Type 0
-RanUntil steps files disk (NotAJournal why d) = CallsMade steps (calls_until (generations_of files) files) disk d true
-RanUntil steps files disk (Disk d) = CallsMade steps (both_opening_calls files) disk d false
-RanUntil steps files disk (Memory d) = RanPartly steps (both_opening_calls files) disk d
+RanUntil moves files disk (NotAJournal why d) = CallsMade moves (calls_until (generations_of files) files) disk d true
+RanUntil moves files disk (Disk d) = CallsMade moves (both_opening_calls files) disk d false
+RanUntil moves files disk (Memory d) = RanPartly moves (both_opening_calls files) disk d
 
 -- the same refusal
 abbrev pub error_by : {D : Type 0} → LogError D → OpenError D

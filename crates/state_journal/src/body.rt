@@ -81,13 +81,13 @@ impl From<DecodeError> for BodyError {
 
 // A body of version 2: a tag and fields, and the SHA-256 of both.
 #[tactic(auto, unfolding(crate::specs::Bodies::guarded))]
-fn guard(front: &[u8]) -> ArrayVec<u8, 64>
-    requires { length front.now ≤ 32 }
-    ensures { result.items ≡ guarded front.now }
+fn guard(prefix: &[u8]) -> ArrayVec<u8, 64>
+    requires { length prefix.now ≤ 32 }
+    ensures { result.items ≡ guarded prefix.now }
 {
-    let digest = Sha256::digest(front);
+    let digest = Sha256::digest(prefix);
     let mut out: ArrayVec<u8, 64> = ArrayVec::new();
-    match out.try_extend_from_slice(front) {
+    match out.try_extend_from_slice(prefix) {
         Ok(()) => {}
         Err(_) => unreachable!(),
     }
@@ -322,11 +322,11 @@ fn read_tagged(alloc: Global, tag: u8, fields: &[u8]) -> Result<Change, BodyErro
 }
 
 // The change that a tag and fields spell, all of them.
-fn read_front(alloc: Global, front: &[u8]) -> Result<Change, BodyError>
-    ensures reads { ReadsChange result (change_in front.now) }
+fn read_prefix(alloc: Global, prefix: &[u8]) -> Result<Change, BodyError>
+    ensures reads { ReadsChange result (change_in prefix.now) }
     ensures fit { IfOk result IsFitChange }
 {
-    match front {
+    match prefix {
         [] => Err(BodyError::Fault(BodyFault::Tag)),
         [tag, fields @ ..] => read_tagged(alloc, *tag, fields),
     }
@@ -338,7 +338,7 @@ pub(crate) fn read_body(alloc: Global, body: &[u8]) -> Result<Change, BodyError>
     ensures fit { IfOk result IsFitChange }
 {
     if is_guarded(body) {
-        return read_front(alloc, &body[..body.len().saturating_sub(DIGEST)]);
+        return read_prefix(alloc, &body[..body.len().saturating_sub(DIGEST)]);
     }
-    read_front(alloc, body)
+    read_prefix(alloc, body)
 }

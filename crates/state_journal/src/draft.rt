@@ -7,14 +7,13 @@ ghost use Rattle.cluster_state.specs.States.{IsFit};
 ghost use Rattle.gate_log.specs.Journal.{framed};
 ghost use Rattle.sha2.specs.Sha256.{sha256};
 ghost use Rattle.state_journal.specs.Bodies.{guarded};
-ghost use Rattle.state_journal.specs.Drafts.{IsDraft, generation_front, room_before, room_behind, most_state_bytes};
+ghost use Rattle.state_journal.specs.Drafts.{IsDraft, generation_prefix, room_before, room_behind, most_state_bytes};
 ghost use Rattle.voting_config.specs.Ids.{most_ids};
 ghost use Rattle.zen_disk.specs.Disk.{part, written};
 
 use crate::body::DIGEST;
 use arrayvec::ArrayVec;
-use cluster_state::encoding::write_state;
-use cluster_state::{ClusterState, SharedState, StateView};
+use cluster_state::{ClusterState, SharedState, StateView, write_state};
 use sha2::{Digest, Sha256};
 use std::alloc::{AllocError, Global};
 use std::marker::Model;
@@ -254,7 +253,7 @@ impl Draft {
     }
 
     // Lays the body that accepts the state, with its length and a closed gate.
-    #[tactic(auto, using(crate::proofs::Frames::accepted_front))]
+    #[tactic(auto, using(crate::proofs::Frames::accepted_prefix))]
     pub(crate) fn lay_accepted(&mut self)
         requires { length self.old.state ≤ most_state_bytes }
         ensures frame { self.new.frame ≡ framed (guarded (130 ∷ self.old.state)) }
@@ -268,7 +267,7 @@ impl Draft {
     #[tactic(auto, unfolding(cluster_state::specs::Field::eight_bytes))]
     pub(crate) fn lay_generation(&mut self, epoch: u64, term: u64, committed: &VotingConfig)
         requires { length self.old.state ≤ most_state_bytes }
-        ensures frame { self.new.frame ≡ framed (guarded (generation_front epoch term self.old.state committed.now)) }
+        ensures frame { self.new.frame ≡ framed (guarded (generation_prefix epoch term self.old.state committed.now)) }
         ensures fits { (ids most_ids).Fits committed.now }
         ensures same { self.new.state ≡ self.old.state }
     {

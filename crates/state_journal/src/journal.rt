@@ -104,8 +104,8 @@ impl<D: Disks> StateJournal<D> {
         ensures any_moment_err { D.told → IfErr result (λ e. LeavesOnly D.moment D.left_since disk (handed_back e) (FoundAsSome (D.may_leave disk))) }
 
         // These device calls and no others.
-        ensures ran { D.told → IfOk result (λ j. CallsMade D.steps (both_opening_calls (D.seen disk)) disk j.log.disk true) }
-        ensures ran_err { D.told → IfErr result (RanUntil D.steps (D.seen disk) disk) }
+        ensures ran { D.told → IfOk result (λ j. CallsMade D.moves (both_opening_calls (D.seen disk)) disk j.log.disk true) }
+        ensures ran_err { D.told → IfErr result (RanUntil D.moves (D.seen disk) disk) }
     {
         let opened = match GateLog::open(alloc, disk) {
             Ok(opened) => opened,
@@ -167,7 +167,7 @@ impl<D: Disks> Keeper for StateJournal<D> {
 
     ghost left_since = { λ j. StoodFor (D.left_since j.log.disk) };
 
-    ghost writes = { λ j change k ok. CallsMade D.steps (keeping_calls j.due (place j.log) j.kept change) j.log.disk k.log.disk ok };
+    ghost writes = { λ j change k ok. CallsMade D.moves (keeping_calls j.due (place j.log) j.kept change) j.log.disk k.log.disk ok };
 
     ghost only_kept = { λ j found told running left.
         only_record (D.seen j.log.disk) (D.left_since j.log.disk (D.moment j.log.disk)) (D.may_leave j.log.disk) j.kept found (D.only_now j.log.disk) (j.log.settled told running).durable (j.stands told running) left };

@@ -1,20 +1,20 @@
 //! What a node keeps durably, and what keeps it.
 #![tactic(auto)]
 
-pub mod arm_keeper;
+mod arm_keeper;
 mod body;
-pub mod change;
+mod change;
 mod draft;
-pub mod error;
+mod error;
 mod fold;
-pub mod journal;
+mod journal;
 mod keep;
-pub mod keeper;
-pub mod laws;
-pub mod plain;
-pub mod ready;
+mod keeper;
+mod laws;
+mod plain;
+mod ready;
 mod refusal;
-pub mod why;
+mod why;
 
 pub use arm_keeper::ArmKeeper;
 pub use change::{Change, Generation};

@@ -1,17 +1,11 @@
 //! States with their bytes and their JSON, and which settings and values a state may have. Bytes and JSON are those of
 //! docs/formats.md.
-use cluster_state::checking::check_state;
-use cluster_state::decoding::decode_state;
-use cluster_state::encoding::encode_state;
-use cluster_state::fault::StateFault::{Field, Trailing};
-use cluster_state::fault::{DecodeError, FieldError, StateFault};
-use cluster_state::json::to_json;
-use cluster_state::request::Ask;
-use cluster_state::settings::Settings;
-use cluster_state::shared::{SharedConfig, SharedState, SharedValue};
-use cluster_state::state::{ClusterState, ClusterValue, Kept, StateId};
-use cluster_state::text::Text;
-use cluster_state::view::StateView;
+use cluster_state::StateFault::{Field, Trailing};
+use cluster_state::{
+    Ask, ClusterState, ClusterValue, DecodeError, FieldError, Kept, Settings, SharedConfig,
+    SharedState, SharedValue, StateFault, StateId, StateView, Text, check_state, decode_state,
+    encode_state, to_json,
+};
 use std::alloc::{AllocError, Global};
 use std::test::*;
 use voting_config::{NodeSet, VotingConfig};

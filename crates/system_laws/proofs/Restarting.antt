@@ -15,10 +15,10 @@ use Rattle.world_model.specs.Acts.{NodeHistory, Then, is_ok}
 use Rattle.world_model.specs.NodeState.{NodeState, durable_of}
 use Rattle.world_model.specs.Replies.{writes}
 use Rattle.world_model.specs.Histories.{node_history, sent_by}
-use Rattle.world_model.specs.Steps.{is_opening}
+use Rattle.world_model.specs.Moves.{is_opening}
 use Rattle.policy_model.specs.declared.settings.Settings.{Settings}
 use Rattle.policy_model.specs.declared.events.Event.{Event}
-use Rattle.policy_model.specs.Events.{Item, Opens, Begins, Acts, Turns, Drops, Sends, Replies, Notes, Log, And, added, acts_of}
+use Rattle.policy_model.specs.Events.{Item, Opens, Begins, Acts, ChangesMode, Drops, Sends, Replies, Notes, Log, And, added, acts_of}
 use Rattle.policy_model.specs.Entries.{Did, Life, Lived, log_of, frames_in, by_receiver, replies_of}
 use Rattle.policy_model.specs.Views.{View, view_of}
 use Rattle.policy_model.specs.Moves.{moved}
@@ -60,7 +60,7 @@ settled-struck kept s came ms v is left a (Later (Begins event) rest some q) = a
 settled-struck kept s came ms v is left a (Later (Acts act o) rest some q) =
     subst (λ (i : Item). IsStruck (Acts act o ∷ rest) (i ∷ settled_items kept some)) (sym (settled-answered kept act o _ a.0.answered))
     (Later (Acts act o) rest (settled_items kept some) (settled-struck kept s came (ms ++ sent_by o) (moved s v (Acts act o)) rest some a.1 q))
-settled-struck kept s came ms v is left a (Later (Turns mode term) rest some q) = Later (Turns mode term) rest (settled_items kept some) (settled-struck kept s came ms (moved s v (Turns mode term)) rest some a q)
+settled-struck kept s came ms v is left a (Later (ChangesMode mode term) rest some q) = Later (ChangesMode mode term) rest (settled_items kept some) (settled-struck kept s came ms (moved s v (ChangesMode mode term)) rest some a q)
 settled-struck kept s came ms v is left a (Later (Drops member cause) rest some q) = Later (Drops member cause) rest (settled_items kept some) (settled-struck kept s came ms (moved s v (Drops member cause)) rest some a q)
 settled-struck kept s came ms v is left a (Later (Sends frame) rest some q) = Later (Sends frame) rest (settled_items kept some) (settled-struck kept s came ms v rest some a.1 q)
 settled-struck kept s came ms v is left a (Later (Replies answer) rest some q) = Later (Replies answer) rest (settled_items kept some) (settled-struck kept s came ms v rest some a q)
@@ -86,7 +86,7 @@ settled-acts kept s came ms v l is left a (Later (Begins event) rest some q) = a
 settled-acts kept s came ms v l is left a (Later (Acts act o) rest some q) =
     ap (λ (i : Item). acts_of (added l (i ∷ settled_items kept some))) (settled-answered kept act o _ a.0.answered)
     ∙ settled-acts kept s came (ms ++ sent_by o) (moved s v (Acts act o)) (And l (Acts act o)) rest some a.1 q
-settled-acts kept s came ms v l is left a (Later (Turns mode term) rest some q) = settled-acts kept s came ms (moved s v (Turns mode term)) (And l (Turns mode term)) rest some a q
+settled-acts kept s came ms v l is left a (Later (ChangesMode mode term) rest some q) = settled-acts kept s came ms (moved s v (ChangesMode mode term)) (And l (ChangesMode mode term)) rest some a q
 settled-acts kept s came ms v l is left a (Later (Drops member cause) rest some q) = settled-acts kept s came ms (moved s v (Drops member cause)) (And l (Drops member cause)) rest some a q
 settled-acts kept s came ms v l is left a (Later (Sends frame) rest some q) = settled-acts kept s came ms v l rest some a.1 q
 settled-acts kept s came ms v l is left a (Later (Replies answer) rest some q) = settled-acts kept s came ms v l rest some a q
@@ -152,9 +152,9 @@ cut-to s came ms v l (Acts act o ∷ is) found a (inl (inr e)) = with-act l act 
 cut-to s came ms v l (Acts act o ∷ is) found a (inr k) =
     let r = cut-to s came (ms ++ sent_by o) (moved s v (Acts act o)) (And l (Acts act o)) is found a.1 k in
     record { done = Acts act o ∷ r.done; did = Also (Acts act o) is r.done r.did; silent = r.silent; unanswered = r.unanswered; is_left = r.is_left }
-cut-to s came ms v l (Turns mode term ∷ is) found a k =
-    let r = cut-to s came ms (moved s v (Turns mode term)) (And l (Turns mode term)) is found a k in
-    record { done = Turns mode term ∷ r.done; did = Also (Turns mode term) is r.done r.did; silent = r.silent; unanswered = r.unanswered; is_left = r.is_left }
+cut-to s came ms v l (ChangesMode mode term ∷ is) found a k =
+    let r = cut-to s came ms (moved s v (ChangesMode mode term)) (And l (ChangesMode mode term)) is found a k in
+    record { done = ChangesMode mode term ∷ r.done; did = Also (ChangesMode mode term) is r.done r.did; silent = r.silent; unanswered = r.unanswered; is_left = r.is_left }
 cut-to s came ms v l (Drops member cause ∷ is) found a k =
     let r = cut-to s came ms (moved s v (Drops member cause)) (And l (Drops member cause)) is found a k in
     record { done = Drops member cause ∷ r.done; did = Also (Drops member cause) is r.done r.did; silent = r.silent; unanswered = r.unanswered; is_left = r.is_left }

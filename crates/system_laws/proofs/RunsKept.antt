@@ -17,7 +17,7 @@ use Rattle.world_model.proofs.Moments.{Begins as IsBeginning, begins_self, begin
 use Rattle.world_model.proofs.Legal.{own_deeds, deeds_begin, prefix_self, prefix_trans}
 use Rattle.policy_model.specs.declared.settings.Settings.{Settings}
 use Rattle.policy_model.specs.declared.events.Event.{Event}
-use Rattle.policy_model.specs.Events.{Item, Opens, Begins, Acts, Turns, Drops, Sends, Replies, Notes, Log, And, added, acts_of}
+use Rattle.policy_model.specs.Events.{Item, Opens, Begins, Acts, ChangesMode, Drops, Sends, Replies, Notes, Log, And, added, acts_of}
 use Rattle.policy_model.specs.Entries.{Entry, Did, Gone, Bad, NoMemory, Unread, Life, NotBegun, Opened, Lived, log_of}
 use Rattle.policy_model.specs.Moves.{are_own}
 use Rattle.policy_model.specs.Follows.{Follows, is_struck, is_start, starts_next, items_of}
@@ -36,7 +36,7 @@ own-acts h n b l (Acts act o ∷ is) own e =
     own-acts (Next h n act o) n b (And l (Acts act o)) is parts.1 (own_deeds h n act o ∙ ap (λ (g : NodeHistory). Then g act o) e)
 own-acts h n b l (Opens found ∷ is) own e = absurd (cc)
 own-acts h n b l (Begins event ∷ is) own e = own-acts h n b (And l (Begins event)) is own e
-own-acts h n b l (Turns mode term ∷ is) own e = own-acts h n b (And l (Turns mode term)) is own e
+own-acts h n b l (ChangesMode mode term ∷ is) own e = own-acts h n b (And l (ChangesMode mode term)) is own e
 own-acts h n b l (Drops member cause ∷ is) own e = own-acts h n b (And l (Drops member cause)) is own e
 own-acts h n b l (Sends frame ∷ is) own e = own-acts h n b (And l (Sends frame)) is own e
 own-acts h n b l (Replies answer ∷ is) own e = own-acts h n b (And l (Replies answer)) is own e
@@ -51,7 +51,7 @@ opens-added k l [] w = w
 opens-added k l (Opens found ∷ is) w = opens-added k (And l (Opens found)) is (opens-then k (acts_of l) (Open found) (Answered (Taken None false)) w)
 opens-added k l (Begins event ∷ is) w = opens-added k (And l (Begins event)) is w
 opens-added k l (Acts act o ∷ is) w = opens-added k (And l (Acts act o)) is (opens-then k (acts_of l) act o w)
-opens-added k l (Turns mode term ∷ is) w = opens-added k (And l (Turns mode term)) is w
+opens-added k l (ChangesMode mode term ∷ is) w = opens-added k (And l (ChangesMode mode term)) is w
 opens-added k l (Drops member cause ∷ is) w = opens-added k (And l (Drops member cause)) is w
 opens-added k l (Sends frame ∷ is) w = opens-added k (And l (Sends frame)) is w
 opens-added k l (Replies answer ∷ is) w = opens-added k (And l (Replies answer)) is w
@@ -162,7 +162,7 @@ then-acts_prefix h n [] = prefix_self h
 then-acts_prefix h n (Acts act o ∷ is) = prefix_trans h (Next h n act o) (then_acts (Next h n act o) n is) (inr (prefix_self h)) (then-acts_prefix (Next h n act o) n is)
 then-acts_prefix h n (Opens found ∷ is) = then-acts_prefix h n is
 then-acts_prefix h n (Begins event ∷ is) = then-acts_prefix h n is
-then-acts_prefix h n (Turns mode term ∷ is) = then-acts_prefix h n is
+then-acts_prefix h n (ChangesMode mode term ∷ is) = then-acts_prefix h n is
 then-acts_prefix h n (Drops member cause ∷ is) = then-acts_prefix h n is
 then-acts_prefix h n (Sends frame ∷ is) = then-acts_prefix h n is
 then-acts_prefix h n (Replies answer ∷ is) = then-acts_prefix h n is

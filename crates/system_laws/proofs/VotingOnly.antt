@@ -21,7 +21,7 @@ use Rattle.world_model.proofs.Guards.{boot_guard, start_guard, value_guard, publ
 use Rattle.policy_model.specs.declared.settings.Settings.{Settings}
 use Rattle.policy_model.specs.declared.events.Event.{Event}
 use Rattle.policy_model.specs.Doing.{is_voting_only}
-use Rattle.policy_model.specs.Events.{Item, Opens, Begins, Acts, Turns, Drops, Sends, Replies, Notes, Log, And, added, acts_of}
+use Rattle.policy_model.specs.Events.{Item, Opens, Begins, Acts, ChangesMode, Drops, Sends, Replies, Notes, Log, And, added, acts_of}
 use Rattle.policy_model.specs.Entries.{Entry, Did, Gone, Bad, NoMemory, Unread, Life, NotBegun, Opened, Lived, log_of}
 use Rattle.policy_model.specs.Follows.{Follows, items_of}
 use Rattle.policy_model.proofs.Locals.{life_local}
@@ -50,7 +50,7 @@ item-more : (s : Settings) (came : Option Message) (l : Log) (i : Item) → is_v
 item-more s came l (Acts act o) listed called none = act-more s came (acts_of l) act o listed called none
 item-more s came l (Opens found) listed called none = none
 item-more s came l (Begins event) listed called none = none
-item-more s came l (Turns mode term) listed called none = none
+item-more s came l (ChangesMode mode term) listed called none = none
 item-more s came l (Drops member cause) listed called none = none
 item-more s came l (Sends frame) listed called none = none
 item-more s came l (Replies answer) listed called none = none
@@ -172,7 +172,7 @@ acts-more s came h m n [] listed called none = none
 acts-more s came h m n (Acts act o ∷ is) listed called none = acts-more s came (Next h m act o) m n is listed called.1 (entry-more s came (node_history h n) act o (same m n) listed called.0 none)
 acts-more s came h m n (Opens found ∷ is) listed called none = acts-more s came h m n is listed called.1 none
 acts-more s came h m n (Begins event ∷ is) listed called none = acts-more s came h m n is listed called.1 none
-acts-more s came h m n (Turns mode term ∷ is) listed called none = acts-more s came h m n is listed called.1 none
+acts-more s came h m n (ChangesMode mode term ∷ is) listed called none = acts-more s came h m n is listed called.1 none
 acts-more s came h m n (Drops member cause ∷ is) listed called none = acts-more s came h m n is listed called.1 none
 acts-more s came h m n (Sends frame ∷ is) listed called none = acts-more s came h m n is listed called.1 none
 acts-more s came h m n (Replies answer ∷ is) listed called none = acts-more s came h m n is listed called.1 none

@@ -1,7 +1,6 @@
 //! Words that are commands, and words that are none. Which words are commands follows from docs/formats.md.
 use clap::error::ErrorKind;
-use command_line::program::program;
-use command_line::{NodeWords, ProgramCommand, WordsError, read_words};
+use command_line::{NodeWords, ProgramCommand, WordsError, program, read_words};
 use schedule_text::Level;
 use std::alloc::{AllocError, Global};
 use std::test::Fail;

@@ -7,7 +7,7 @@ use cluster_state::{
 };
 use event_text::*;
 use master_tasks::Outgoing;
-use policy_model::{DropCause, MemberDrop, Mode, Step};
+use policy_model::{Deed, DropCause, MemberDrop, Mode};
 use std::alloc::{AllocError, Global};
 use std::test::*;
 use text::Text;
@@ -234,16 +234,16 @@ fn taken(sends: Option<Sent>, wins: bool) -> Outcome {
     Outcome::Answered(ActReply::Taken(sends, wins))
 }
 
-fn publishing(alloc: Global) -> Result<Step, AllocError> {
+fn publishing(alloc: Global) -> Result<Deed, AllocError> {
     let request = request(alloc)?;
     let config = SharedConfig::of(request.state.share()?);
     let value = SharedValue::of(request.state.share()?);
     let sent = Some(Sent::Publish(request));
-    Ok(Step::Act(Act::Value(1, config, value), taken(sent, false)))
+    Ok(Deed::Act(Act::Value(1, config, value), taken(sent, false)))
 }
 
 // The node wins an election and publishes.
-fn winning(alloc: Global) -> Result<[Step; 3], AllocError> {
+fn winning(alloc: Global) -> Result<[Deed; 3], AllocError> {
     let publishing = publishing(alloc)?;
     let join = Join {
         source: id("b"),
@@ -253,8 +253,8 @@ fn winning(alloc: Global) -> Result<[Step; 3], AllocError> {
         last_version: 0,
     };
     Ok([
-        Step::Act(Act::TakeJoin(join), taken(None, true)),
-        Step::Mode(Mode::Leader, 2),
+        Deed::Act(Act::TakeJoin(join), taken(None, true)),
+        Deed::Mode(Mode::Leader, 2),
         publishing,
     ])
 }
@@ -303,14 +303,14 @@ fn an_event_shows_steps_then_drops_then_frames_then_replies(rt: HostRuntime) -> 
     Ok(())
 }
 
-fn response() -> Step {
+fn response() -> Deed {
     let response = PublishResponse {
         source: id("b"),
         target: id("a"),
         term: 2,
         version: 1,
     };
-    Step::Act(
+    Deed::Act(
         Act::Response(response),
         taken(Some(Sent::Commit(commit())), false),
     )
@@ -324,30 +324,30 @@ fn commit() -> ApplyCommit {
     }
 }
 
-fn accepting(alloc: Global, outcome: Outcome) -> Result<Step, AllocError> {
-    Ok(Step::Act(Act::Publish(request(alloc)?), outcome))
+fn accepting(alloc: Global, outcome: Outcome) -> Result<Deed, AllocError> {
+    Ok(Deed::Act(Act::Publish(request(alloc)?), outcome))
 }
 
-fn booting(alloc: Global) -> Result<Step, AllocError> {
+fn booting(alloc: Global) -> Result<Deed, AllocError> {
     let initial = SharedState::of(alloc, ClusterState::initial(alloc, &both()))?;
-    Ok(Step::Act(
+    Ok(Deed::Act(
         Act::Bootstrap(SharedConfig::of(initial)),
         Outcome::Disk(true),
     ))
 }
 
 // Each other act, and each way in which one ends.
-fn responding(alloc: Global) -> Result<[Step; 5], AllocError> {
+fn responding(alloc: Global) -> Result<[Deed; 5], AllocError> {
     let accepting = accepting(alloc, Outcome::Crashed(true))?;
     let booting = booting(alloc)?;
     let late = Cause::Start(StartCause::TermNotGreater(2, 2));
     Ok([
         response(),
-        Step::Act(
+        Deed::Act(
             Act::StartJoin(id("b"), 2),
             Outcome::Answered(ActReply::Refused(late)),
         ),
-        Step::Act(Act::Commit(commit()), Outcome::Answered(ActReply::Stopped)),
+        Deed::Act(Act::Commit(commit()), Outcome::Answered(ActReply::Stopped)),
         accepting,
         booting,
     ])
@@ -363,10 +363,10 @@ const RESPONDING: &str = "act a ok response b a 2/1\n\
 fn steps_text(
     alloc: Global,
     published: &mut Option<SharedState>,
-    steps: &[Step],
+    steps: &[Deed],
 ) -> Result<Text, AllocError> {
     let mut text = Text::new(alloc);
-    write_steps(&mut text, alloc, id("a"), published, steps)?;
+    write_deeds(&mut text, alloc, id("a"), published, steps)?;
     Ok(text)
 }
 
@@ -393,17 +393,17 @@ fn a_state_that_was_accepted_was_not_published(rt: HostRuntime) -> Result<(), Fa
     Ok(())
 }
 
-fn struck() -> [Step; 2] {
+fn struck() -> [Deed; 2] {
     [
-        Step::Mode(Mode::Candidate, 2),
-        Step::Act(Act::StartJoin(id("b"), 3), Outcome::Disk(false)),
+        Deed::Mode(Mode::Candidate, 2),
+        Deed::Act(Act::StartJoin(id("b"), 3), Outcome::Disk(false)),
     ]
 }
 
 fn struck_text(alloc: Global, last: &mut Option<SharedState>) -> Result<Text, AllocError> {
     let steps = struck();
     let mut text = Text::new(alloc);
-    write_struck_steps(&mut text, alloc, id("a"), last, &steps, false)?;
+    write_struck_deeds(&mut text, alloc, id("a"), last, &steps, false)?;
     write_struck_event(&mut text, alloc, id("a"), last, &steps, &drops(), true)?;
     Ok(text)
 }

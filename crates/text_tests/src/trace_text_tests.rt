@@ -10,9 +10,9 @@ use std::test::Fail;
 use text::Text;
 use trace_text::{
     Ending, write_act_head, write_boot, write_cause, write_commit, write_commit_message,
-    write_committed, write_crashed, write_disk, write_down, write_join, write_join_message,
+    write_committed, write_crashed, write_disk, write_down_line, write_join, write_join_message,
     write_publish, write_publish_message, write_record, write_response, write_response_message,
-    write_start_join, write_up, write_value, write_won,
+    write_start_join, write_up_line, write_value, write_won,
 };
 use voting_config::{NodeId, NodeSet, VotingConfig};
 use world_model::Cause;
@@ -353,10 +353,10 @@ fn write_found(text: &mut Text, alloc: Global) -> Result<(), AllocError> {
 fn write_stop(text: &mut Text, alloc: Global, stop: Stop) -> Result<(), AllocError> {
     match stop {
         Stop::Crashed => write_crashed(text, a()),
-        Stop::Down => write_down(text, a()),
+        Stop::Down => write_down_line(text, a()),
         Stop::Disk => write_disk(text, a()),
         Stop::Record => write_found(text, alloc),
-        Stop::Up => write_up(text, a()),
+        Stop::Up => write_up_line(text, a()),
     }
 }
 

@@ -3,7 +3,7 @@ use Rattle.std.proofs.Common.{◌≡◌, ℕ, ◌≤◌, Option, Some, Result, O
 use Rattle.std.proofs.lemmas.List.{take_all, length-take}
 use Rattle.agreement.proofs.Laws.{safe_of_legal}
 use Rattle.zen_disk.specs.Faults.{Rose}
-use Rattle.zen_link.specs.Streams.{Appended, AppendedFront}
+use Rattle.zen_link.specs.Streams.{Appended, AppendedPrefix}
 use Rattle.zen_link.specs.Reading.{ReadsAtMost, IsInput}
 use Rattle.zen_link.proofs.Inputs.{none_left}
 use Rattle.world_model.specs.Safety.{IsSafe}
@@ -102,15 +102,15 @@ module _ (left left_now : Option (List ℕ)) (read read_now : ℕ) (was now : Op
     -- ---- a prefix of it was written
 
     abbrev Cut : List ℕ → Type 0
-    Cut bs = FoundLegal bs (AppendedFront was now) ⊎ (FoundBroken bs (AppendedFront was now) ⊎ FoundBad bs (AppendedFront was now))
+    Cut bs = FoundLegal bs (AppendedPrefix was now) ⊎ (FoundBroken bs (AppendedPrefix was now) ⊎ FoundBad bs (AppendedPrefix was now))
 
-    cut_verdict : (bs : List ℕ) (trace : Recording) (v : Verdict) → IsInput most_audited (Some bs) left_now bytes → recording_of bytes ≡ Ok trace → IsRight trace v → AppendedFront was now (verdict_text v) → Cut bs
-    cut_verdict bs trace (Legal n ws c) i e right w = inl (found bs trace (Legal n ws c) (AppendedFront was now) (all_read bs left_now bytes trace i e).0 right w)
-    cut_verdict bs trace (NotLegal line clause) i e right w = inr (inl (found bs trace (NotLegal line clause) (AppendedFront was now) (all_read bs left_now bytes trace i e).0 right w))
+    cut_verdict : (bs : List ℕ) (trace : Recording) (v : Verdict) → IsInput most_audited (Some bs) left_now bytes → recording_of bytes ≡ Ok trace → IsRight trace v → AppendedPrefix was now (verdict_text v) → Cut bs
+    cut_verdict bs trace (Legal n ws c) i e right w = inl (found bs trace (Legal n ws c) (AppendedPrefix was now) (all_read bs left_now bytes trace i e).0 right w)
+    cut_verdict bs trace (NotLegal line clause) i e right w = inr (inl (found bs trace (NotLegal line clause) (AppendedPrefix was now) (all_read bs left_now bytes trace i e).0 right w))
 
-    cut_report : (bs : List ℕ) (answer : Result Recording BadTrace) → IsInput most_audited (Some bs) left_now bytes → recording_of bytes ≡ answer → IsReport r answer → AppendedFront was now r.text → Cut bs
-    cut_report bs (Ok trace) i e k w = cut_verdict bs trace k.0 i e k.1 (subst (λ (x : Report). AppendedFront was now x.text) k.2 w)
-    cut_report bs (Err bad) i e is w = inr (inr (found_bad bs left_now bytes bad (AppendedFront was now) i e (subst (λ (x : Report). AppendedFront was now x.text) is w)))
+    cut_report : (bs : List ℕ) (answer : Result Recording BadTrace) → IsInput most_audited (Some bs) left_now bytes → recording_of bytes ≡ answer → IsReport r answer → AppendedPrefix was now r.text → Cut bs
+    cut_report bs (Ok trace) i e k w = cut_verdict bs trace k.0 i e k.1 (subst (λ (x : Report). AppendedPrefix was now x.text) k.2 w)
+    cut_report bs (Err bad) i e is w = inr (inr (found_bad bs left_now bytes bad (AppendedPrefix was now) i e (subst (λ (x : Report). AppendedPrefix was now x.text) is w)))
 
-    pub audit_cut : IsReport r (recording_of bytes) → AppendedFront was now r.text → Rose wrote wrote_now → Audited left left_now read read_now was now wrote wrote_now end.WriteFault
+    pub audit_cut : IsReport r (recording_of bytes) → AppendedPrefix was now r.text → Rose wrote wrote_now → Audited left left_now read read_now was now wrote wrote_now end.WriteFault
     audit_cut is w rose = ended end.WriteFault (λ e. absurd cc) (λ e. rose) (λ bs e. ((told bs e).1, cut_report bs (recording_of bytes) (told bs e) refl is w))

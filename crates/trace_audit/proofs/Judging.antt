@@ -18,8 +18,8 @@ use Rattle.recorded_trace.specs.declared.entry.Entry.{Entry}
 use Rattle.recorded_trace.specs.declared.fault.BadTrace.{BadTrace}
 use Rattle.recorded_trace.specs.declared.progress.Progress.{Progress}
 use Rattle.trace_audit.specs.declared.verdict.Verdict.{Verdict}
-use Rattle.recorded_trace.specs.Lines.{told_at, header_at}
-use Rattle.recorded_trace.specs.Reading.{Numbered, ◌>>>◌, after_line, end_at, first_progress, parts_read, in_line, lines_at, sized, with_entry as with_told}
+use Rattle.recorded_trace.specs.Lines.{shown_at, header_at}
+use Rattle.recorded_trace.specs.Reading.{Numbered, ◌>>>◌, after_line, end_at, first_progress, parts_read, in_line, lines_at, sized, with_entry as with_shown}
 use Rattle.trace_audit.specs.Traced.{traced, with_entry}
 use Rattle.trace_audit.specs.Clauses.{BreaksFirst}
 use Rattle.trace_audit.specs.Verdicts.{IsRight, Judges}
@@ -42,24 +42,24 @@ stopped_so initial old new xs x (stop.Broken c) a t = now_broken initial new xs 
 stopped_so initial old new xs x stop.Memory a t = tt
 
 -- a line that shows nothing
-pub same_line : (initial : List Id) (a : Auditor) (p : Progress) (line : List ℕ) (xs : List Numbered) (j : Judgement) → in_line p (sized p line (told_at line)) ≡ Ok None → SoFar initial a j.broken xs → j.entries ≡ length xs → TakesLine initial a p line xs (Ok j)
+pub same_line : (initial : List Id) (a : Auditor) (p : Progress) (line : List ℕ) (xs : List Numbered) (j : Judgement) → in_line p (sized p line (shown_at line)) ≡ Ok None → SoFar initial a j.broken xs → j.entries ≡ length xs → TakesLine initial a p line xs (Ok j)
 same_line initial a p line xs j e s n = (None, e, s, n)
 
 -- a line that shows an entry
-pub next_line : (initial : List Id) (a : Auditor) (p : Progress) (line : List ℕ) (xs : List Numbered) (x : Entry) (r : Result Judgement (ReadError BadTrace)) → in_line p (sized p line (told_at line)) ≡ Ok (Some x) → Counted initial a r (xs ++ record { line = p.number; entry = x } ∷ []) → TakesLine initial a p line xs r
+pub next_line : (initial : List Id) (a : Auditor) (p : Progress) (line : List ℕ) (xs : List Numbered) (x : Entry) (r : Result Judgement (ReadError BadTrace)) → in_line p (sized p line (shown_at line)) ≡ Ok (Some x) → Counted initial a r (xs ++ record { line = p.number; entry = x } ∷ []) → TakesLine initial a p line xs r
 next_line initial a p line xs x (Ok j) e c = (Some x, e, c.0, c.1)
 next_line initial a p line xs x (Err (Bad bad)) e c = absurd c
 next_line initial a p line xs x (Err Memory) e c = tt
 
-pub bad_line : (initial : List Id) (a : Auditor) (p : Progress) (line : List ℕ) (xs : List Numbered) (f : ReadError BadTrace) → Answers {A = Option Entry} (Err f) (in_line p (sized p line (told_at line))) → TakesLine initial a p line xs (Err f)
+pub bad_line : (initial : List Id) (a : Auditor) (p : Progress) (line : List ℕ) (xs : List Numbered) (f : ReadError BadTrace) → Answers {A = Option Entry} (Err f) (in_line p (sized p line (shown_at line))) → TakesLine initial a p line xs (Err f)
 bad_line initial a p line xs (Bad bad) e = e
 bad_line initial a p line xs Memory e = tt
 
-longer : (p : Progress) (xs : List Numbered) (told : Option Entry) → length (with_told p xs told) ≤ length xs + 1
+longer : (p : Progress) (xs : List Numbered) (told : Option Entry) → length (with_shown p xs told) ≤ length xs + 1
 longer p xs None = omega arith
 longer p xs (Some x) = omega (arith, length-append xs (record { line = p.number; entry = x } ∷ []))
 
-pub few_more : (p : Progress) (xs : List Numbered) (told : Option Entry) → length xs ≤ p.number → length (with_told p xs told) ≤ p.number + 1
+pub few_more : (p : Progress) (xs : List Numbered) (told : Option Entry) → length xs ≤ p.number → length (with_shown p xs told) ≤ p.number + 1
 few_more p xs told few = omega (arith, longer p xs told, few)
 
 -- ---- the first line
@@ -84,47 +84,47 @@ whole : {A : Type 0} → A → Result A BadTrace
 whole x = Ok x
 
 behind : Progress → List Numbered → List ℕ → List (List ℕ) → Option Entry → Result (List Numbered) BadTrace
-behind p front line parts told = lines_at (after_line p line) (with_told p front told) parts
+behind p prefix line parts told = lines_at (after_line p line) (with_shown p prefix told) parts
 
-line_by_line : (p : Progress) (front : List Numbered) (line : List ℕ) (parts : List (List ℕ)) → parts ≢ [] → lines_at p front (line ∷ parts) ≡ (in_line p (sized p line (told_at line)) >>> behind p front line parts)
+line_by_line : (p : Progress) (prefix : List Numbered) (line : List ℕ) (parts : List (List ℕ)) → parts ≢ [] → lines_at p prefix (line ∷ parts) ≡ (in_line p (sized p line (shown_at line)) >>> behind p prefix line parts)
 unfolding behind
-line_by_line p front line [] some = absurd (some refl)
-line_by_line p front line (w ∷ ws) some = refl
+line_by_line p prefix line [] some = absurd (some refl)
+line_by_line p prefix line (w ∷ ws) some = refl
 
 -- a line that shows this is read, and the rest is left
-pub read_one : (p : Progress) (front : List Numbered) (line rest : List ℕ) (told : Option Entry) → in_line p (sized p line (told_at line)) ≡ Ok told
-    → lines_at p front (line ∷ parts_of 10 rest) ≡ lines_at (after_line p line) (with_told p front told) (parts_of 10 rest)
+pub read_one : (p : Progress) (prefix : List Numbered) (line rest : List ℕ) (told : Option Entry) → in_line p (sized p line (shown_at line)) ≡ Ok told
+    → lines_at p prefix (line ∷ parts_of 10 rest) ≡ lines_at (after_line p line) (with_shown p prefix told) (parts_of 10 rest)
 unfolding behind
-read_one p front line rest told e =
-    line_by_line p front line (parts_of 10 rest) (parts_not_empty 10 rest)
-    ∙ ap (λ (r : Result (Option Entry) BadTrace). r >>> behind p front line (parts_of 10 rest)) e
+read_one p prefix line rest told e =
+    line_by_line p prefix line (parts_of 10 rest) (parts_not_empty 10 rest)
+    ∙ ap (λ (r : Result (Option Entry) BadTrace). r >>> behind p prefix line (parts_of 10 rest)) e
 
 -- a bad line is the first one
-pub bad_one : (p : Progress) (front : List Numbered) (line rest : List ℕ) (bad : BadTrace) → in_line p (sized p line (told_at line)) ≡ Err bad
-    → lines_at p front (line ∷ parts_of 10 rest) ≡ Err bad
+pub bad_one : (p : Progress) (prefix : List Numbered) (line rest : List ℕ) (bad : BadTrace) → in_line p (sized p line (shown_at line)) ≡ Err bad
+    → lines_at p prefix (line ∷ parts_of 10 rest) ≡ Err bad
 unfolding behind
-bad_one p front line rest bad e =
-    line_by_line p front line (parts_of 10 rest) (parts_not_empty 10 rest)
-    ∙ ap (λ (r : Result (Option Entry) BadTrace). r >>> behind p front line (parts_of 10 rest)) e
+bad_one p prefix line rest bad e =
+    line_by_line p prefix line (parts_of 10 rest) (parts_not_empty 10 rest)
+    ∙ ap (λ (r : Result (Option Entry) BadTrace). r >>> behind p prefix line (parts_of 10 rest)) e
 
 -- ---- the end
 
-ends : (p : Progress) (line : List ℕ) (front : List Numbered) → end_at {A = Unit {0}} p line tt ≡ Ok tt → end_at p line front ≡ Ok front
-ends p [] front e = refl
-ends p (b ∷ bs) front e = absurd cc
+ends : (p : Progress) (line : List ℕ) (prefix : List Numbered) → end_at {A = Unit {0}} p line tt ≡ Ok tt → end_at p line prefix ≡ Ok prefix
+ends p [] prefix e = refl
+ends p (b ∷ bs) prefix e = absurd cc
 
-ends_bad : (p : Progress) (line : List ℕ) (front : List Numbered) (bad : BadTrace) → end_at {A = Unit {0}} p line tt ≡ Err bad → end_at p line front ≡ Err bad
-ends_bad p [] front bad e = absurd cc
-ends_bad p (b ∷ bs) front bad e = ap (λ (r : Result (Unit {0}) BadTrace). r >>> λ u. whole front) e
+ends_bad : (p : Progress) (line : List ℕ) (prefix : List Numbered) (bad : BadTrace) → end_at {A = Unit {0}} p line tt ≡ Err bad → end_at p line prefix ≡ Err bad
+ends_bad p [] prefix bad e = absurd cc
+ends_bad p (b ∷ bs) prefix bad e = ap (λ (r : Result (Unit {0}) BadTrace). r >>> λ u. whole prefix) e
 
 pub judged_bad : (initial : List Id) (read : Result (List Numbered) BadTrace) (bad : BadTrace) → read ≡ Err bad → Judges (Err (Bad bad)) (recorded_with initial read)
 judged_bad initial read bad e = ap (recorded_with initial) e
 
-pub judged_end : (initial : List Id) (p : Progress) (line : List ℕ) (front : List Numbered) (read : Result (List Numbered) BadTrace) (v : Verdict)
-    → lines_at p front (line ∷ []) ≡ read → end_at {A = Unit {0}} p line tt ≡ Ok tt → IsRight (record { initial = initial; entries = front }) v → Judges (Ok v) (recorded_with initial read)
-judged_end initial p line front read v same e right =
-    (record { initial = initial; entries = front }, ap (recorded_with initial) (sym same ∙ ends p line front e), right)
+pub judged_end : (initial : List Id) (p : Progress) (line : List ℕ) (prefix : List Numbered) (read : Result (List Numbered) BadTrace) (v : Verdict)
+    → lines_at p prefix (line ∷ []) ≡ read → end_at {A = Unit {0}} p line tt ≡ Ok tt → IsRight (record { initial = initial; entries = prefix }) v → Judges (Ok v) (recorded_with initial read)
+judged_end initial p line prefix read v same e right =
+    (record { initial = initial; entries = prefix }, ap (recorded_with initial) (sym same ∙ ends p line prefix e), right)
 
-pub judged_cut : (initial : List Id) (p : Progress) (line : List ℕ) (front : List Numbered) (read : Result (List Numbered) BadTrace) (bad : BadTrace)
-    → lines_at p front (line ∷ []) ≡ read → end_at {A = Unit {0}} p line tt ≡ Err bad → Judges (Err (Bad bad)) (recorded_with initial read)
-judged_cut initial p line front read bad same e = judged_bad initial read bad (sym same ∙ ends_bad p line front bad e)
+pub judged_cut : (initial : List Id) (p : Progress) (line : List ℕ) (prefix : List Numbered) (read : Result (List Numbered) BadTrace) (bad : BadTrace)
+    → lines_at p prefix (line ∷ []) ≡ read → end_at {A = Unit {0}} p line tt ≡ Err bad → Judges (Err (Bad bad)) (recorded_with initial read)
+judged_cut initial p line prefix read bad same e = judged_bad initial read bad (sym same ∙ ends_bad p line prefix bad e)

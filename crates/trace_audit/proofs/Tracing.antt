@@ -76,17 +76,17 @@ not_legal c initial (Next h n act o) b l = b.1 (keeps c initial h n act o l.1)
 pub breaks : (initial : List Id) (xs : List Numbered) (x : Numbered) (c : Clause) → IsLegal initial (traced xs) → BreaksFirst c initial (with_entry (traced xs) x.entry) → IsRight (record { initial = initial; entries = xs ++ x ∷ [] }) (NotLegal x.line c)
 breaks initial xs x c l b = (
   λ k. not_legal c initial (with_entry (traced xs) x.entry) b (subst (λ (h : History). IsLegal initial h) (traced_more xs x) k),
-  record { front = xs; broken = x; back = []; split = refl; number = refl; before = l; breaks = b },
+  record { prefix = xs; broken = x; back = []; split = refl; number = refl; before = l; breaks = b },
 )
 
 pub broken_more : (initial : List Id) (xs ys : List Numbered) (line : ℕ) (c : Clause) → IsRight (record { initial = initial; entries = xs }) (NotLegal line c) → IsRight (record { initial = initial; entries = xs ++ ys }) (NotLegal line c)
 broken_more initial xs ys line c r = (
   λ k. r.0 (legal_less initial xs ys k),
   record {
-    front = r.1.front;
+    prefix = r.1.prefix;
     broken = r.1.broken;
     back = r.1.back ++ ys;
-    split = ap (λ (l : List Numbered). l ++ ys) r.1.split ∙ append_assoc r.1.front (r.1.broken ∷ r.1.back) ys;
+    split = ap (λ (l : List Numbered). l ++ ys) r.1.split ∙ append_assoc r.1.prefix (r.1.broken ∷ r.1.back) ys;
     number = r.1.number;
     before = r.1.before;
     breaks = r.1.breaks;

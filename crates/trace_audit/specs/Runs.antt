@@ -2,7 +2,7 @@
 use Rattle.std.specs.Prelude.{◌≡◌, ◌⊎◌, ℕ, ◌+◌, ◌≤◌, Option, Some, Ok, Err, List, [], take, drop}
 use Rattle.zen_disk.specs.Faults.{Rose}
 use Rattle.zen_link.specs.Reading.{ReadsAtMost}
-use Rattle.zen_link.specs.Streams.{Appended, AppendedFront}
+use Rattle.zen_link.specs.Streams.{Appended, AppendedPrefix}
 use Rattle.world_model.specs.Safety.{IsSafe}
 use Rattle.recorded_trace.specs.declared.fault.BadTrace.{BadTrace}
 use Rattle.recorded_trace.specs.Reading.{Recording, most_bytes, recording_of}
@@ -54,7 +54,7 @@ EndsWith end.NotLegal bytes left_now was now = (left_now ≡ Some []) × FoundBr
 EndsWith end.BadTrace bytes left_now was now = (left_now ≡ Some (drop most_audited bytes)) × FoundBad bytes (Appended was now)
 EndsWith end.WriteFault bytes left_now was now =
     (left_now ≡ Some (drop most_audited bytes))
-    × (FoundLegal bytes (AppendedFront was now) ⊎ (FoundBroken bytes (AppendedFront was now) ⊎ FoundBad bytes (AppendedFront was now)))
+    × (FoundLegal bytes (AppendedPrefix was now) ⊎ (FoundBroken bytes (AppendedPrefix was now) ⊎ FoundBad bytes (AppendedPrefix was now)))
 EndsWith end.NoMemory bytes left_now was now = Appended was now []
 EndsWith end.ReadFault bytes left_now was now = Appended was now []
 

@@ -18,7 +18,7 @@ use Rattle.trace_audit.specs.declared.auditing.Broken.{Broken}
 use Rattle.trace_audit.specs.declared.auditing.Judgement.{Judgement}
 use Rattle.recorded_trace.specs.declared.progress.Progress.{Progress}
 use Rattle.recorded_trace.specs.declared.entry.Entry.{Entry}
-use Rattle.recorded_trace.specs.Lines.{told_at}
+use Rattle.recorded_trace.specs.Lines.{shown_at}
 use Rattle.recorded_trace.specs.declared.fault.BadTrace.{BadTrace}
 use Rattle.trace_audit.specs.declared.verdict.Verdict.TheVariants.{NotLegal}
 use Rattle.trace_audit.specs.declared.notes.Notes.{Notes}
@@ -27,7 +27,7 @@ use Rattle.trace_audit.specs.declared.auditor.Stop.{Stop}
 use Rattle.trace_audit.specs.declared.auditor.Stop.TheVariants as stop
 use Rattle.trace_audit.specs.Clauses.{BreaksFirst}
 use Rattle.trace_audit.specs.Places.{IsSentOf}
-use Rattle.recorded_trace.specs.Reading.{Numbered, Recording, ◌>>>◌, in_line, sized, with_entry as with_told}
+use Rattle.recorded_trace.specs.Reading.{Numbered, Recording, ◌>>>◌, in_line, sized, with_entry as with_shown}
 use Rattle.trace_audit.specs.Traced.{traced}
 use Rattle.trace_audit.specs.Verdicts.{winners_of, commit_of, IsRight}
 use Rattle.schedule_text.specs.declared.fault.ReadError.{ReadError}
@@ -109,9 +109,9 @@ Counted initial new (Err OutOfMemory) xs = Unit {0}
 
 -- what one more line makes of it, or why the line is bad
 abbrev pub TakesLine : List Id → Auditor → Progress → List ℕ → List Numbered → Result Judgement (ReadError BadTrace) → Type 0
-TakesLine initial new p line xs (Ok j) = (told : Option Entry) × (in_line p (sized p line (told_at line)) ≡ Ok told)
-    × SoFar initial new j.broken (with_told p xs told) × (j.entries ≡ length (with_told p xs told))
-TakesLine initial new p line xs (Err (Bad bad)) = in_line p (sized p line (told_at line)) ≡ Err bad
+TakesLine initial new p line xs (Ok j) = (told : Option Entry) × (in_line p (sized p line (shown_at line)) ≡ Ok told)
+    × SoFar initial new j.broken (with_shown p xs told) × (j.entries ≡ length (with_shown p xs told))
+TakesLine initial new p line xs (Err (Bad bad)) = in_line p (sized p line (shown_at line)) ≡ Err bad
 TakesLine initial new p line xs (Err OutOfMemory) = Unit {0}
 
 abbrev pub stopped_as : Stop → ℕ → Result (Option Broken) (ReadError BadTrace)

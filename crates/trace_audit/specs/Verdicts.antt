@@ -45,13 +45,13 @@ pub record Counts (xs : List Numbered) (entries : ℕ) (won : List Winner) (comm
 
 -- the entry of a line is the first that is not legal, and this is the first clause that it breaks
 pub record IsFirstBroken (initial : List Id) (xs : List Numbered) (line : ℕ) (clause : Clause) : Type 0 where
-  pub front : List Numbered
+  pub prefix : List Numbered
   pub broken : Numbered
   pub back : List Numbered
-  pub split : xs ≡ front ++ broken ∷ back
+  pub split : xs ≡ prefix ++ broken ∷ back
   pub number : broken.line ≡ line
-  pub before : IsLegal initial (traced front)
-  pub breaks : BreaksFirst clause initial (with_entry (traced front) broken.entry)
+  pub before : IsLegal initial (traced prefix)
+  pub breaks : BreaksFirst clause initial (with_entry (traced prefix) broken.entry)
 
 -- the verdict on a recording
 abbrev pub IsRight : Recording → Verdict → Type 0

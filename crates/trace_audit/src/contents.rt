@@ -5,8 +5,7 @@ ghost use Rattle.std.specs.List.{flat_map};
 ghost use Rattle.cluster_state.specs.Settings.{setting_of};
 ghost use Rattle.trace_audit.specs.Contents.{number_bytes, text_bytes, setting_bytes, settings_bytes, parent_bytes, contents_bytes};
 
-use cluster_state::writing::{write_ids, write_optional_id};
-use cluster_state::{ClusterState, Settings, StateId};
+use cluster_state::{ClusterState, Settings, StateId, write_ids, write_optional_id};
 use std::alloc::{AllocError, Global};
 use std::collections::BTreeMap;
 

@@ -1,18 +1,18 @@
 //! The audit of recorded traces: whether what nodes did is a legal history, and else which line is the first that is not.
 #![tactic(auto)]
 
-pub mod auditing;
-pub mod auditor;
-pub mod clause;
-pub mod contents;
-pub mod notes;
-pub mod printing;
-pub mod reporting;
-pub mod requests;
-pub mod running;
-pub mod sent;
-pub mod sent_by;
-pub mod verdict;
+mod auditing;
+mod auditor;
+mod clause;
+mod contents;
+mod notes;
+mod printing;
+mod reporting;
+mod requests;
+mod running;
+mod sent;
+mod sent_by;
+mod verdict;
 
 pub use auditing::audit;
 pub use clause::Clause;

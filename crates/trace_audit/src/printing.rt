@@ -8,7 +8,7 @@ use crate::verdict::{Verdict, Winner};
 use recorded_trace::{BadTrace, Why};
 use std::alloc::AllocError;
 use text::Text;
-use trace_text::messages::write_won;
+use trace_text::write_won;
 
 impl Clause {
     /// Its name.

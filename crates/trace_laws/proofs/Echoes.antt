@@ -20,8 +20,8 @@ use Rattle.voting_config.specs.Ids.{are_among}
 use Rattle.schedule_text.specs.Lines.{FitsLine, line_at, line_text, words_of}
 use Rattle.schedule_text.proofs.WordLaws.{lacks, ids_each, has_id, split_first, split_alone, parts_not_empty, join_split, list_law, want_ok, ok_is}
 use Rattle.schedule_text.proofs.LineLaws.{line_again, line_lacks}
-use Rattle.trace_reader.specs.Echoes.{echo_at, ids_in, level_of, named_in, told_by, with_word, word_at}
-use Rattle.trace_reader.specs.Reading.{rest_of, words_told}
+use Rattle.trace_reader.specs.Echoes.{echo_at, ids_in, level_of, named_in, said_by, with_word, word_at}
+use Rattle.trace_reader.specs.Reading.{rest_of, words_said}
 use Rattle.trace_laws.specs.Laws.{LawEcho}
 use Rattle.line_laws.proofs.Plain.{spaceless, number_plain}
 use Rattle.line_laws.proofs.Cuts.{done, id_lacks}
@@ -86,12 +86,12 @@ first_named n w good = kept n w (with_word n []) (named n [] good (λ e. omega a
 
 -- ---- a line by its words
 
-echo_by : (l : Line) (ws : List (List ℕ)) → words_of (line_text l) ≡ ws → FitsLine (level_of (get_or ws 0 [])) (named_by ws) l → echo_at (line_text l) ≡ Ok (told_by l)
+echo_by : (l : Line) (ws : List (List ℕ)) → words_of (line_text l) ≡ ws → FitsLine (level_of (get_or ws 0 [])) (named_by ws) l → echo_at (line_text l) ≡ Ok (said_by l)
 echo_by l ws e fits =
     let again : line_at (level_of (get_or ws 0 [])) (named_by ws) (line_text l) ≡ Ok l = line_again (level_of (get_or ws 0 [])) {ids = named_by ws} (record { each = all_named ws }) l fits in
     let read : line_at (level_of (word_at 0 (line_text l))) (named_in (line_text l)) (line_text l) ≡ Ok l =
     ap (λ (us : List (List ℕ)). line_at (level_of (get_or us 0 [])) (named_by us) (line_text l)) e ∙ again in
-    ap (λ (r : Result Line WhyBad). r >>= λ (x : Line). done (told_by x)) read
+    ap (λ (r : Result Line WhyBad). r >>= λ (x : Line). done (said_by x)) read
 
 -- a verb and a node, and what stands behind them
 two_cut : (v n : List ℕ) → lacks 32 v ≡ true → lacks 32 n ≡ true → words_of (v ++ 32 ∷ n) ≡ v ∷ n ∷ []
@@ -111,7 +111,7 @@ module _ {ids : List Id} (set : IsIdSet ids) where
   clear : (n : Id) → has n ids ≡ true → lacks 32 n ≡ true
   clear n h = id_lacks n (is_one n h)
 
-  by_more : (l : Line) (v n rest : List ℕ) → line_text l ≡ v ++ 32 ∷ (n ++ 32 ∷ rest) → lacks 32 v ≡ true → has n ids ≡ true → FitsLine (level_of v) (named_by (v ∷ n ∷ words_of rest)) l → echo_at (line_text l) ≡ Ok (told_by l)
+  by_more : (l : Line) (v n rest : List ℕ) → line_text l ≡ v ++ 32 ∷ (n ++ 32 ∷ rest) → lacks 32 v ≡ true → has n ids ≡ true → FitsLine (level_of v) (named_by (v ∷ n ∷ words_of rest)) l → echo_at (line_text l) ≡ Ok (said_by l)
   by_more l v n rest e h k fits = echo_by l (v ∷ n ∷ words_of rest) (ap words_of e ∙ more_cut v n rest h (clear n k)) fits
 
   -- the list of a line `value` is read again
@@ -123,7 +123,7 @@ module _ {ids : List Id} (set : IsIdSet ids) where
       let good = (and_parts (are_ids_after [] (items_of (list_text cfg))) true got.0).0 in
       rw good (ok_is (items_of (list_text cfg)) cfg got.1)
 
-  value_again : (n : Id) (v : ℕ) (x : List ℕ) (cfg : List Id) → has n ids ≡ true → v ≤ 2 ^ 64 - 1 → is_id x ≡ true → (are_ids_after [] cfg && are_among ids cfg) ≡ true → echo_at (line_text (line.Value n v x cfg)) ≡ Ok (told_by (line.Value n v x cfg))
+  value_again : (n : Id) (v : ℕ) (x : List ℕ) (cfg : List Id) → has n ids ≡ true → v ≤ 2 ^ 64 - 1 → is_id x ≡ true → (are_ids_after [] cfg && are_among ids cfg) ≡ true → echo_at (line_text (line.Value n v x cfg)) ≡ Ok (said_by (line.Value n v x cfg))
   value_again n v x cfg inside small text listed =
       let parts = and_parts (are_ids_after [] cfg) (are_among ids cfg) listed in
       let list = list_text cfg in
@@ -144,7 +144,7 @@ module _ {ids : List Id} (set : IsIdSet ids) where
       (kept n (decimal v) front first, (omega arith, small), text, and_from _ _ parts.0 each) in
       echo_by (line.Value n v x cfg) ws words (subst (λ (t : List Id). FitsLine Core t (line.Value n v x cfg)) (sym all) good)
 
-  echo_again : (level : Level) (l : Line) → FitsLine level ids l → echo_at (line_text l) ≡ Ok (told_by l)
+  echo_again : (level : Level) (l : Line) → FitsLine level ids l → echo_at (line_text l) ≡ Ok (said_by l)
   echo_again Core (line.Boot n) f = echo_by (line.Boot n) (codes "boot" ∷ n ∷ []) (two_cut (codes "boot") n refl (clear n f)) (first_named n [] (is_one n f))
   echo_again Core (line.StartJoin n c t) f =
       let rest = c ++ 32 ∷ decimal t in
@@ -183,6 +183,6 @@ rest_again text = rest_by (words_of text) (parts_not_empty 32 text) ∙ ap done 
 pub echo_read : LawEcho
 echo_read p level ids l set fits =
     let words : words_of (codes ">" ++ 32 ∷ line_text l) ≡ codes ">" ∷ words_of (line_text l) = split_first 32 (codes ">") (line_text l) refl in
-    let read : (rest_of (words_of (line_text l)) >>= echo_at) ≡ Ok (told_by l) =
+    let read : (rest_of (words_of (line_text l)) >>= echo_at) ≡ Ok (said_by l) =
     ap (λ (r : Result (List ℕ) WhyBad). r >>= echo_at) (rest_again (line_text l)) ∙ echo_again set level l fits in
-    read_by p (codes ">" ++ 32 ∷ line_text l) (told_by l) (line_lacks level (record { each = set.each }) l fits) (ap (words_told p) words ∙ read)
+    read_by p (codes ">" ++ 32 ∷ line_text l) (said_by l) (line_lacks level (record { each = set.each }) l fits) (ap (words_said p) words ∙ read)

@@ -6,9 +6,9 @@ use Rattle.voting_config.specs.Lists.{parts_of}
 use Rattle.schedule_text.proofs.WordLaws.{split_first, parts_not_empty}
 use Rattle.trace_reader.specs.declared.fault.BadTrace.{BadTrace}
 use Rattle.trace_reader.specs.declared.progress.Progress.{Progress}
-use Rattle.trace_reader.specs.declared.told.Told.{Told}
-use Rattle.trace_reader.specs.declared.told.TraceLine.{TraceLine}
-use Rattle.trace_reader.specs.Reading.{◌>>>◌, after_line, in_line, line_at, lines_at, told_at}
+use Rattle.trace_reader.specs.declared.said.Said.{Said}
+use Rattle.trace_reader.specs.declared.said.TraceLine.{TraceLine}
+use Rattle.trace_reader.specs.Reading.{◌>>>◌, after_line, in_line, line_at, lines_at, said_at}
 use Rattle.trace_laws.specs.Laws.{AreRead, LawTrace}
 use Rattle.trace_laws.specs.Laws.AreRead.{Nothing, Read}
 use Rattle.line_laws.proofs.Cuts.{done}
@@ -18,21 +18,21 @@ whole x = Ok x
 
 -- the lines behind a line
 behind : Progress → List TraceLine → List ℕ → List (List ℕ) → TraceLine → Result (List TraceLine) BadTrace
-behind p front line parts l = lines_at (after_line p line l.told) (front ++ l ∷ []) parts
+behind p front line parts l = lines_at (after_line p line l.said) (front ++ l ∷ []) parts
 
 line_by_line : (p : Progress) (front : List TraceLine) (line : List ℕ) (parts : List (List ℕ)) → parts ≢ [] → lines_at p front (line ∷ parts) ≡ (line_at p line >>> behind p front line parts)
 unfolding behind
 line_by_line p front line [] some = absurd (some refl)
 line_by_line p front line (w ∷ ws) some = refl
 
-line_told : (p : Progress) (line : List ℕ) (t : Told) → told_at p line ≡ Ok t → line_at p line ≡ whole (record { text = line; told = t })
-line_told p line t e = ap (λ (r : Result Told WhyBad). in_line p (r >>= λ (u : Told). done {A = TraceLine} (record { text = line; told = u }))) e
+line_told : (p : Progress) (line : List ℕ) (t : Said) → said_at p line ≡ Ok t → line_at p line ≡ whole (record { text = line; said = t })
+line_told p line t e = ap (λ (r : Result Said WhyBad). in_line p (r >>= λ (u : Said). done {A = TraceLine} (record { text = line; said = u }))) e
 
 lines_read : {p : Progress} (front : List TraceLine) {bytes : List ℕ} {lines : List TraceLine} → AreRead p bytes lines → lines_at p front (parts_of 10 bytes) ≡ whole (front ++ lines)
 unfolding behind
 lines_read front (Nothing p) = ap (λ (t : List TraceLine). whole t) (sym (append-nil front))
 lines_read front (Read p line more t rest alone tells others) =
-    let l : TraceLine = record { text = line; told = t } in
+    let l : TraceLine = record { text = line; said = t } in
     ap (lines_at p front) (split_first 10 line more alone)
     ∙ line_by_line p front line (parts_of 10 more) (parts_not_empty 10 more)
     ∙ ap (λ (r : Result TraceLine BadTrace). r >>> behind p front line (parts_of 10 more)) (line_told p line t tells)

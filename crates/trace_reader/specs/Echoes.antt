@@ -10,8 +10,8 @@ use Rattle.schedule_text.specs.declared.schedule.Line.TheVariants as line
 use Rattle.schedule_text.specs.Words.{◌>>=◌}
 use Rattle.voting_config.specs.Lists.{parts_of, items_of, are_ids_after, space}
 use Rattle.schedule_text.specs.Lines.{line_at}
-use Rattle.trace_reader.specs.declared.told.Told.{Told}
-use Rattle.trace_reader.specs.declared.told.Told.TheVariants as told
+use Rattle.trace_reader.specs.declared.said.Said.{Said}
+use Rattle.trace_reader.specs.declared.said.Said.TheVariants as said
 
 -- the word of a line at this place, counted from 0, and nothing where there are fewer
 abbrev pub word_at : (place : ℕ) → (line : List ℕ) → List ℕ
@@ -38,18 +38,18 @@ list_at l = if bytes_eq (word_at 0 l) (codes "value") then word_at 4 l else []
 abbrev pub named_in : List ℕ → List Id
 named_in l = with_word (word_at 2 l) (with_word (word_at 1 l) (ids_in (list_at l)))
 
-abbrev pub told_by : Line → Told
-told_by (line.Boot n) = told.Event n
-told_by (line.StartJoin n c t) = told.Event n
-told_by (line.Value n v x cfg) = told.Event n
-told_by (line.Deliver n k) = told.Delivery n k
-told_by (line.Crash n w) = told.Event n
-told_by (line.Restart n) = told.Event n
-told_by (line.Fuse n k w) = told.Event n
-told_by (line.Fail n k) = told.Event n
-told_by (line.Tick n m w) = told.Event n
-told_by (line.Client n r) = told.Event n
+abbrev pub said_by : Line → Said
+said_by (line.Boot n) = said.Event n
+said_by (line.StartJoin n c t) = said.Event n
+said_by (line.Value n v x cfg) = said.Event n
+said_by (line.Deliver n k) = said.Delivery n k
+said_by (line.Crash n w) = said.Event n
+said_by (line.Restart n) = said.Event n
+said_by (line.Fuse n k w) = said.Event n
+said_by (line.Fail n k) = said.Event n
+said_by (line.Tick n m w) = said.Event n
+said_by (line.Client n r) = said.Event n
 
 -- What is echoed must be a line of the schedules of the nodes that it names.
-abbrev pub echo_at : List ℕ → Result Told WhyBad
-echo_at bytes = line_at (level_of (word_at 0 bytes)) (named_in bytes) bytes >>= λ l. Ok (told_by l)
+abbrev pub echo_at : List ℕ → Result Said WhyBad
+echo_at bytes = line_at (level_of (word_at 0 bytes)) (named_in bytes) bytes >>= λ l. Ok (said_by l)

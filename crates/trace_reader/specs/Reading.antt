@@ -10,9 +10,9 @@ use Rattle.voting_config.specs.Lists.{parts_of, space, line_feed}
 use Rattle.schedule_text.specs.Lines.{words_of}
 use Rattle.trace_reader.specs.declared.fault.BadTrace.{BadTrace}
 use Rattle.trace_reader.specs.declared.progress.Progress.{Progress}
-use Rattle.trace_reader.specs.declared.told.Told.{Told}
-use Rattle.trace_reader.specs.declared.told.Told.TheVariants as told
-use Rattle.trace_reader.specs.declared.told.TraceLine.{TraceLine}
+use Rattle.trace_reader.specs.declared.said.Said.{Said}
+use Rattle.trace_reader.specs.declared.said.Said.TheVariants as said
+use Rattle.trace_reader.specs.declared.said.TraceLine.{TraceLine}
 use Rattle.trace_reader.specs.Limits.{most_trace_bytes, most_trace_lines}
 use Rattle.trace_reader.specs.Echoes.{echo_at}
 use Rattle.trace_reader.specs.Results.{result_at}
@@ -23,17 +23,17 @@ abbrev pub first_progress : Progress
 first_progress = record { number = 1; before = 0; actor = None; next = 1 }
 
 -- the node of the last line of the schedule
-abbrev pub actor_after : Option Id → Told → Option Id
-actor_after before (told.Delivery n k) = Some n
-actor_after before (told.Event n) = Some n
+abbrev pub actor_after : Option Id → Said → Option Id
+actor_after before (said.Delivery n k) = Some n
+actor_after before (said.Event n) = Some n
 actor_after before other = before
 
 -- the number of the next message
-abbrev pub next_after : ℕ → Told → ℕ
-next_after next (told.Sent from to) = next + 1
+abbrev pub next_after : ℕ → Said → ℕ
+next_after next (said.Sent from to) = next + 1
 next_after next other = next
 
-abbrev pub after_line : Progress → List ℕ → Told → Progress
+abbrev pub after_line : Progress → List ℕ → Said → Progress
 after_line p line t = record
     { number = p.number + 1; before = p.before + length line + 1; actor = actor_after p.actor t; next = next_after p.next t }
 
@@ -59,17 +59,17 @@ rest_of [] = Err why.Arity
 rest_of (w ∷ ws) = Ok (join_with_byte space (w ∷ ws))
 
 -- a result stands after a line of the schedule
-abbrev pub result_behind : Option Id → ℕ → List ℕ → List (List ℕ) → Result Told WhyBad
+abbrev pub result_behind : Option Id → ℕ → List ℕ → List (List ℕ) → Result Said WhyBad
 result_behind None next verb ws = Err why.Header
 result_behind (Some actor) next verb ws = result_at actor next verb ws
 
-abbrev pub words_told : Progress → List (List ℕ) → Result Told WhyBad
-words_told p [] = Err why.Verb
-words_told p (verb ∷ ws) = if bytes_eq verb (codes ">") then rest_of ws >>= echo_at else result_behind p.actor p.next verb ws
+abbrev pub words_said : Progress → List (List ℕ) → Result Said WhyBad
+words_said p [] = Err why.Verb
+words_said p (verb ∷ ws) = if bytes_eq verb (codes ">") then rest_of ws >>= echo_at else result_behind p.actor p.next verb ws
 
 -- what a line tells
-abbrev pub told_at : Progress → List ℕ → Result Told WhyBad
-told_at p line = sized_at p line >>= λ u. words_told p (words_of line)
+abbrev pub said_at : Progress → List ℕ → Result Said WhyBad
+said_at p line = sized_at p line >>= λ u. words_said p (words_of line)
 
 -- ---- the lines
 
@@ -85,7 +85,7 @@ abbrev pub ◌>>>◌ : {A B : Type 0} → Result A BadTrace → (A → Result B 
 
 -- a line with what it tells
 abbrev pub line_at : Progress → List ℕ → Result TraceLine BadTrace
-line_at p line = in_line p (told_at p line >>= λ t. Ok (record { text = line; told = t }))
+line_at p line = in_line p (said_at p line >>= λ t. Ok (record { text = line; said = t }))
 
 -- what the bytes after the last line feed are: nothing, or a line without one
 abbrev pub end_at : {A : Type 0} → Progress → List ℕ → A → Result A BadTrace
@@ -94,9 +94,9 @@ end_at p (b ∷ bs) x = Err (record { line = p.number; why = why_cut p (b ∷ bs
 
 -- the lines from here on, after those that were read, of what stands between line feeds
 abbrev pub lines_at : Progress → List TraceLine → List (List ℕ) → Result (List TraceLine) BadTrace
-lines_at p front [] = Ok front
-lines_at p front (line ∷ []) = end_at p line front
-lines_at p front (line ∷ next ∷ more) = line_at p line >>> λ l. lines_at (after_line p line l.told) (front ++ l ∷ []) (next ∷ more)
+lines_at p prefix [] = Ok prefix
+lines_at p prefix (line ∷ []) = end_at p line prefix
+lines_at p prefix (line ∷ next ∷ more) = line_at p line >>> λ l. lines_at (after_line p line l.said) (prefix ++ l ∷ []) (next ∷ more)
 
 -- The lines of the trace that the bytes are, or the first bad line and why it is bad.
 abbrev pub trace_at : List ℕ → Result (List TraceLine) BadTrace

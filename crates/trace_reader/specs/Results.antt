@@ -8,11 +8,11 @@ use Rattle.schedule_text.specs.declared.fault.WhyBad.TheVariants as why
 use Rattle.schedule_text.specs.Words.{◌>>=◌, Word, itself}
 use Rattle.voting_config.specs.Lists.{parts_of}
 use Rattle.schedule_text.specs.Lines.{one, two, word_and_rest, words_of, any_number}
-use Rattle.trace_reader.specs.declared.told.Ending.{Ending}
-use Rattle.trace_reader.specs.declared.told.Ending.TheVariants as ending
-use Rattle.trace_reader.specs.declared.told.Mode.TheVariants as mode
-use Rattle.trace_reader.specs.declared.told.Told.{Told}
-use Rattle.trace_reader.specs.declared.told.Told.TheVariants as told
+use Rattle.trace_reader.specs.declared.said.Ending.{Ending}
+use Rattle.trace_reader.specs.declared.said.Ending.TheVariants as ending
+use Rattle.trace_reader.specs.declared.said.Mode.TheVariants as mode
+use Rattle.trace_reader.specs.declared.said.Said.{Said}
+use Rattle.trace_reader.specs.declared.said.Said.TheVariants as said
 
 -- a node's id
 abbrev pub node : Word Id
@@ -60,28 +60,28 @@ abbrev pub act_words : List (List ℕ) → Result (Unit {0}) WhyBad
 act_words ws = word_and_rest ws >>= λ w. if is_act_word w.0 then Ok tt else Err why.Verb
 
 -- how an act ended, and the act
-abbrev pub ended_act : Id → List (List ℕ) → Result Told WhyBad
-ended_act n ws = word_and_rest ws >>= λ w. ending_at w.0 >>= λ e. act_words (words_of w.1) >>= λ u. Ok (told.Act n e)
+abbrev pub ended_act : Id → List (List ℕ) → Result Said WhyBad
+ended_act n ws = word_and_rest ws >>= λ w. ending_at w.0 >>= λ e. act_words (words_of w.1) >>= λ u. Ok (said.Act n e)
 
-abbrev pub act_at : List (List ℕ) → Result Told WhyBad
+abbrev pub act_at : List (List ℕ) → Result Said WhyBad
 act_at ws = word_and_rest ws >>= λ w. node.at w.0 >>= λ n. ended_act n (words_of w.1)
 
-abbrev pub won_at : List (List ℕ) → Result Told WhyBad
-won_at ws = (two node any_number).at ws >>= λ x. Ok (told.Won x.0 x.1)
+abbrev pub won_at : List (List ℕ) → Result Said WhyBad
+won_at ws = (two node any_number).at ws >>= λ x. Ok (said.Won x.0 x.1)
 
-abbrev pub committed_at : Id → List (List ℕ) → Result Told WhyBad
-committed_at actor ws = some_word ws >>= λ u. Ok (told.Committed actor)
+abbrev pub committed_at : Id → List (List ℕ) → Result Said WhyBad
+committed_at actor ws = some_word ws >>= λ u. Ok (said.Committed actor)
 
 -- ---- modes
 
-abbrev pub mode_words : Id → List ℕ → List ℕ → Result Told WhyBad
+abbrev pub mode_words : Id → List ℕ → List ℕ → Result Said WhyBad
 mode_words n w rest =
-    if bytes_eq w (codes "follower") then ((two node any_number).at (words_of rest) >>= λ x. Ok (told.Mode n mode.Follower x.1))
-    else (if bytes_eq w (codes "candidate") then (any_number.at rest >>= λ t. Ok (told.Mode n mode.Candidate t))
-    else (if bytes_eq w (codes "leader") then (any_number.at rest >>= λ t. Ok (told.Mode n mode.Leader t))
+    if bytes_eq w (codes "follower") then ((two node any_number).at (words_of rest) >>= λ x. Ok (said.Mode n mode.Follower x.1))
+    else (if bytes_eq w (codes "candidate") then (any_number.at rest >>= λ t. Ok (said.Mode n mode.Candidate t))
+    else (if bytes_eq w (codes "leader") then (any_number.at rest >>= λ t. Ok (said.Mode n mode.Leader t))
     else Err why.Verb))
 
-abbrev pub mode_at : List (List ℕ) → Result Told WhyBad
+abbrev pub mode_at : List (List ℕ) → Result Said WhyBad
 mode_at ws = word_and_rest ws >>= λ w. node.at w.0 >>= λ n. word_and_rest (words_of w.1) >>= λ v. mode_words n v.0 v.1
 
 -- ---- messages
@@ -100,46 +100,46 @@ sender_at w = if bytes_eq (drop (length w - 1) w) (codes "-") then node.at (take
 abbrev pub receiver_at : List ℕ → Result (Option Id) WhyBad
 receiver_at w = if bytes_eq w (codes "*") then Ok None else (node.at w >>= λ n. Ok (Some n))
 
-abbrev pub ends_of : List (List ℕ) → Result Told WhyBad
+abbrev pub ends_of : List (List ℕ) → Result Said WhyBad
 ends_of [] = Err why.Id
-ends_of (f ∷ ts) = only_part ts >>= λ t. sender_at f >>= λ from. receiver_at t >>= λ to. Ok (told.Sent from to)
+ends_of (f ∷ ts) = only_part ts >>= λ t. sender_at f >>= λ from. receiver_at t >>= λ to. Ok (said.Sent from to)
 
 -- the ends of a message
-abbrev pub ends_at : List ℕ → Result Told WhyBad
+abbrev pub ends_at : List ℕ → Result Said WhyBad
 ends_at w = ends_of (parts_of 62 w)
 
 -- a message by its number, which is the next one
-abbrev pub sent_at : ℕ → List ℕ → List (List ℕ) → Result Told WhyBad
+abbrev pub sent_at : ℕ → List ℕ → List (List ℕ) → Result Said WhyBad
 sent_at next digits ws = any_number.at digits >>= λ k. if k == next then (word_and_rest ws >>= λ w. ends_at w.0) else Err why.Number
 
-abbrev pub message_at : ℕ → List ℕ → List (List ℕ) → Result Told WhyBad
+abbrev pub message_at : ℕ → List ℕ → List (List ℕ) → Result Said WhyBad
 message_at next verb ws = if bytes_eq (take 1 verb) (codes "m") then sent_at next (drop 1 verb) ws else Err why.Verb
 
 -- ---- all lines, by their first words
 
-abbrev pub state_at : ℕ → List ℕ → List (List ℕ) → Result Told WhyBad
+abbrev pub state_at : ℕ → List ℕ → List (List ℕ) → Result Said WhyBad
 state_at next verb ws =
-    if bytes_eq verb (codes "crashed") then (node_alone ws >>= λ n. Ok (told.Crashed n))
-    else (if bytes_eq verb (codes "disk") then (node_alone ws >>= λ n. Ok (told.Disk n))
-    else (if bytes_eq verb (codes "down") then (node_alone ws >>= λ n. Ok (told.Down n))
-    else (if bytes_eq verb (codes "up") then (node_alone ws >>= λ n. Ok (told.Up n))
+    if bytes_eq verb (codes "crashed") then (node_alone ws >>= λ n. Ok (said.Crashed n))
+    else (if bytes_eq verb (codes "disk") then (node_alone ws >>= λ n. Ok (said.Disk n))
+    else (if bytes_eq verb (codes "down") then (node_alone ws >>= λ n. Ok (said.Down n))
+    else (if bytes_eq verb (codes "up") then (node_alone ws >>= λ n. Ok (said.Up n))
     else message_at next verb ws)))
 
-abbrev pub note_at : ℕ → List ℕ → List (List ℕ) → Result Told WhyBad
+abbrev pub note_at : ℕ → List ℕ → List (List ℕ) → Result Said WhyBad
 note_at next verb ws =
-    if bytes_eq verb (codes "record") then (node_with_rest ws >>= λ n. Ok (told.Opened n))
-    else (if bytes_eq verb (codes "drop") then (node_with_rest ws >>= λ n. Ok (told.Dropped n))
-    else (if bytes_eq verb (codes "reply") then (node_with_rest ws >>= λ n. Ok (told.Replied n))
+    if bytes_eq verb (codes "record") then (node_with_rest ws >>= λ n. Ok (said.Opened n))
+    else (if bytes_eq verb (codes "drop") then (node_with_rest ws >>= λ n. Ok (said.Dropped n))
+    else (if bytes_eq verb (codes "reply") then (node_with_rest ws >>= λ n. Ok (said.Replied n))
     else state_at next verb ws))
 
-abbrev pub delivery_at : Id → ℕ → List ℕ → List (List ℕ) → Result Told WhyBad
+abbrev pub delivery_at : Id → ℕ → List ℕ → List (List ℕ) → Result Said WhyBad
 delivery_at actor next verb ws =
-    if bytes_eq verb (codes "unsent") then (no_word ws >>= λ u. Ok (told.Unsent actor))
-    else (if bytes_eq verb (codes "misrouted") then (no_word ws >>= λ u. Ok (told.Misrouted actor))
+    if bytes_eq verb (codes "unsent") then (no_word ws >>= λ u. Ok (said.Unsent actor))
+    else (if bytes_eq verb (codes "misrouted") then (no_word ws >>= λ u. Ok (said.Misrouted actor))
     else note_at next verb ws)
 
 -- The line of a result after a line of the schedule of this node, where the next message has this number.
-abbrev pub result_at : Id → ℕ → List ℕ → List (List ℕ) → Result Told WhyBad
+abbrev pub result_at : Id → ℕ → List ℕ → List (List ℕ) → Result Said WhyBad
 result_at actor next verb ws =
     if bytes_eq verb (codes "act") then act_at ws
     else (if bytes_eq verb (codes "won") then won_at ws

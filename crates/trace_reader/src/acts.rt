@@ -4,7 +4,7 @@ ghost use Rattle.voting_config.specs.Lists.{parts_in, space};
 ghost use Rattle.schedule_text.specs.Lines.{words_of};
 ghost use Rattle.trace_reader.specs.Results.{ending_at as ending_at_of, is_act_word as is_act_word_of, act_words as act_words_of, ended_act as ended_act_of, act_at, won_at, committed_at, mode_words as mode_words_of, mode_at};
 
-use crate::told::{Ending, Mode, Told};
+use crate::said::{Ending, Mode, Said};
 use crate::words::{any_number_at, id_at, node_and_number, some_word, word_and_rest};
 use schedule_text::WhyBad;
 use voting_config::NodeId;
@@ -53,17 +53,17 @@ fn act_words(rest: Option<&[u8]>) -> Result<(), WhyBad>
     Ok(())
 }
 
-fn ended_act(node: NodeId, rest: Option<&[u8]>) -> Result<Told, WhyBad>
+fn ended_act(node: NodeId, rest: Option<&[u8]>) -> Result<Said, WhyBad>
     ensures { result ≡ ended_act_of node (parts_in space rest.entry) }
 {
     let (ending, act) = word_and_rest(rest)?;
     let ending = ending_at(ending)?;
     act_words(Some(act))?;
-    Ok(Told::Act(node, ending))
+    Ok(Said::Act(node, ending))
 }
 
 /// What a line `act` tells, by the words after its first one.
-pub fn act(rest: Option<&[u8]>) -> Result<Told, WhyBad>
+pub fn act(rest: Option<&[u8]>) -> Result<Said, WhyBad>
     ensures { result ≡ act_at (parts_in space rest.entry) }
 {
     let (word, rest) = word_and_rest(rest)?;
@@ -72,41 +72,41 @@ pub fn act(rest: Option<&[u8]>) -> Result<Told, WhyBad>
 }
 
 /// What a line `won` tells.
-pub fn won(rest: Option<&[u8]>) -> Result<Told, WhyBad>
+pub fn won(rest: Option<&[u8]>) -> Result<Said, WhyBad>
     ensures { result ≡ won_at (parts_in space rest.entry) }
 {
     let (node, term) = node_and_number(rest)?;
-    Ok(Told::Won(node, term))
+    Ok(Said::Won(node, term))
 }
 
 /// What a line `committed` tells of the node of the last line of the schedule.
-pub fn committed(actor: NodeId, rest: Option<&[u8]>) -> Result<Told, WhyBad>
+pub fn committed(actor: NodeId, rest: Option<&[u8]>) -> Result<Said, WhyBad>
     ensures { result ≡ committed_at actor (parts_in space rest.entry) }
 {
     some_word(rest)?;
-    Ok(Told::Committed(actor))
+    Ok(Said::Committed(actor))
 }
 
-fn mode_words(node: NodeId, word: &[u8], rest: &[u8]) -> Result<Told, WhyBad>
+fn mode_words(node: NodeId, word: &[u8], rest: &[u8]) -> Result<Said, WhyBad>
     ensures { result ≡ mode_words_of node word.now rest.now }
 {
     if word == b"follower".as_slice() {
         let (_, term) = node_and_number(Some(rest))?;
-        return Ok(Told::Mode(node, Mode::Follower, term));
+        return Ok(Said::Mode(node, Mode::Follower, term));
     }
     if word == b"candidate".as_slice() {
         let term = any_number_at(rest)?;
-        return Ok(Told::Mode(node, Mode::Candidate, term));
+        return Ok(Said::Mode(node, Mode::Candidate, term));
     }
     if word == b"leader".as_slice() {
         let term = any_number_at(rest)?;
-        return Ok(Told::Mode(node, Mode::Leader, term));
+        return Ok(Said::Mode(node, Mode::Leader, term));
     }
     Err(WhyBad::Verb)
 }
 
 /// What a line `mode` tells.
-pub fn mode(rest: Option<&[u8]>) -> Result<Told, WhyBad>
+pub fn mode(rest: Option<&[u8]>) -> Result<Said, WhyBad>
     ensures { result ≡ mode_at (parts_in space rest.entry) }
 {
     let (word, rest) = word_and_rest(rest)?;

@@ -1,9 +1,9 @@
 //! The echo of a line of a schedule.
 ghost use Rattle.std.specs.Prelude.{◌≡◌};
 ghost use Rattle.schedule_text.specs.Answers.{Answers};
-ghost use Rattle.trace_reader.specs.Echoes.{word_at, level_of as level_of_verb, with_word, list_at, ids_in, named_in, told_by as told_by_line, echo_at};
+ghost use Rattle.trace_reader.specs.Echoes.{word_at, level_of as level_of_verb, with_word, list_at, ids_in, named_in, said_by as said_by_line, echo_at};
 
-use crate::told::Told;
+use crate::said::Said;
 use schedule_text::{Level, Line, ReadError, WhyBad, read_line};
 use std::alloc::Global;
 use voting_config::{NodeId, NodeSet, cut};
@@ -104,30 +104,30 @@ fn named(line: &[u8]) -> NodeSet
     ids
 }
 
-fn told_by(line: &Line) -> Told
-    ensures { result ≡ told_by_line line.now }
+fn said_by(line: &Line) -> Said
+    ensures { result ≡ said_by_line line.now }
 {
     match line {
-        Line::Boot(node) => Told::Event(*node),
-        Line::StartJoin(node, _, _) => Told::Event(*node),
-        Line::Value(node, _, _, _) => Told::Event(*node),
-        Line::Deliver(node, number) => Told::Delivery(*node, *number),
-        Line::Crash(node, _) => Told::Event(*node),
-        Line::Restart(node) => Told::Event(*node),
-        Line::Fuse(node, _, _) => Told::Event(*node),
-        Line::Fail(node, _) => Told::Event(*node),
-        Line::Tick(node, _, _) => Told::Event(*node),
-        Line::Client(node, _) => Told::Event(*node),
+        Line::Boot(node) => Said::Event(*node),
+        Line::StartJoin(node, _, _) => Said::Event(*node),
+        Line::Value(node, _, _, _) => Said::Event(*node),
+        Line::Deliver(node, number) => Said::Delivery(*node, *number),
+        Line::Crash(node, _) => Said::Event(*node),
+        Line::Restart(node) => Said::Event(*node),
+        Line::Fuse(node, _, _) => Said::Event(*node),
+        Line::Fail(node, _) => Said::Event(*node),
+        Line::Tick(node, _, _) => Said::Event(*node),
+        Line::Client(node, _) => Said::Event(*node),
     }
 }
 
 /// What the echo of a line of a schedule tells, whose bytes stand after `> `, or why it is no such line.
-pub fn read_echo(alloc: Global, bytes: &[u8]) -> Result<Told, ReadError<WhyBad>>
+pub fn read_echo(alloc: Global, bytes: &[u8]) -> Result<Said, ReadError<WhyBad>>
     ensures { Answers result (echo_at bytes.now) }
 {
     let ids = named(bytes);
     match read_line(alloc, level_of(first_word(bytes)), &ids, bytes) {
-        Ok(line) => Ok(told_by(&line)),
+        Ok(line) => Ok(said_by(&line)),
         Err(ReadError::Memory) => Err(ReadError::Memory),
         Err(ReadError::Bad(why)) => Err(ReadError::Bad(why)),
     }

@@ -5,7 +5,7 @@ ghost use Rattle.trace_reader.specs.Limits.{most_trace_lines};
 ghost use Rattle.trace_reader.specs.Reading.{first_progress, actor_after, next_after, after_line, sized_at, why_cut};
 
 use crate::fault::BadTrace;
-use crate::told::Told;
+use crate::said::Said;
 use schedule_text::WhyBad;
 use voting_config::NodeId;
 
@@ -28,22 +28,22 @@ pub struct Progress {
     pub next: u64,
 }
 
-fn next_behind(next: u64, told: &Told) -> u64
+fn next_behind(next: u64, said: &Said) -> u64
     requires { next + 1 < 2 ^ 64 }
-    ensures { result ≡ next_after next told.now }
+    ensures { result ≡ next_after next said.now }
 {
-    match told {
-        Told::Sent(_, _) => next + 1,
+    match said {
+        Said::Sent(_, _) => next + 1,
         _ => next,
     }
 }
 
-fn actor_behind(actor: Option<NodeId>, told: &Told) -> Option<NodeId>
-    ensures { result ≡ actor_after actor told.now }
+fn actor_behind(actor: Option<NodeId>, said: &Said) -> Option<NodeId>
+    ensures { result ≡ actor_after actor said.now }
 {
-    match told {
-        Told::Delivery(node, _) => Some(*node),
-        Told::Event(node) => Some(*node),
+    match said {
+        Said::Delivery(node, _) => Some(*node),
+        Said::Event(node) => Some(*node),
         _ => actor,
     }
 }
@@ -72,17 +72,17 @@ impl Progress {
     }
 
     /// What the lines up to this one come to.
-    pub fn after(&self, line: &[u8], told: &Told) -> Progress
+    pub fn after(&self, line: &[u8], said: &Said) -> Progress
         requires bytes { self.now.before + length line.now + 1 < 2 ^ 64 }
         requires lines { self.now.number + 1 < 2 ^ 64 }
         requires messages { self.now.next + 1 < 2 ^ 64 }
-        ensures { result ≡ after_line self.now line.now told.now }
+        ensures { result ≡ after_line self.now line.now said.now }
     {
         Progress {
             number: self.number + 1,
             before: self.before + line.len() + 1,
-            actor: actor_behind(self.actor, told),
-            next: next_behind(self.next, told),
+            actor: actor_behind(self.actor, said),
+            next: next_behind(self.next, said),
         }
     }
 

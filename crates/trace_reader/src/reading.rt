@@ -3,19 +3,19 @@ ghost use Rattle.std.specs.Prelude.{◌≡◌, ◌+◌, ◌<◌, ◌≤◌, ◌^
 ghost use Rattle.voting_config.specs.Lists.{parts_of, parts_in, space};
 ghost use Rattle.schedule_text.specs.Answers.{Answers};
 ghost use Rattle.trace_reader.specs.Limits.{most_trace_lines};
-ghost use Rattle.trace_reader.specs.Reading.{result_behind, told_at as told_at_of, words_told, line_at, end_at, trace_at, lines_at, first_progress};
+ghost use Rattle.trace_reader.specs.Reading.{result_behind, said_at as said_at_of, words_said, line_at, end_at, trace_at, lines_at, first_progress};
 
 use crate::echoes::read_echo;
 use crate::fault::BadTrace;
 use crate::progress::Progress;
 use crate::results::read_result;
-use crate::told::{Told, Trace, TraceLine};
+use crate::said::{Said, Trace, TraceLine};
 use crate::words::rest_of;
 use schedule_text::{LineBytes, ReadError, WhyBad};
 use std::alloc::Global;
 use voting_config::cut;
 
-fn result(progress: &Progress, verb: &[u8], rest: Option<&[u8]>) -> Result<Told, WhyBad>
+fn result(progress: &Progress, verb: &[u8], rest: Option<&[u8]>) -> Result<Said, WhyBad>
     ensures { result ≡ result_behind progress.now.actor progress.now.next verb.now (parts_in space rest.entry) }
 {
     let Some(actor) = progress.actor else {
@@ -24,9 +24,9 @@ fn result(progress: &Progress, verb: &[u8], rest: Option<&[u8]>) -> Result<Told,
     read_result(actor, progress.next, verb, rest)
 }
 
-fn told_at(alloc: Global, progress: &Progress, line: &[u8]) -> Result<Told, ReadError<WhyBad>>
+fn said_at(alloc: Global, progress: &Progress, line: &[u8]) -> Result<Said, ReadError<WhyBad>>
     requires { progress.now.before + length line.now + 1 < 2 ^ 64 }
-    ensures read { Answers result (told_at_of progress.now line.now) }
+    ensures read { Answers result (said_at_of progress.now line.now) }
     ensures counted { OnOk result (progress.now.number ≤ most_trace_lines) }
 {
     if let Err(why) = progress.check_size(line) {
@@ -41,7 +41,7 @@ fn told_at(alloc: Global, progress: &Progress, line: &[u8]) -> Result<Told, Read
         return read_echo(alloc, echo);
     }
     match result(progress, verb, rest) {
-        Ok(told) => Ok(told),
+        Ok(said) => Ok(said),
         Err(why) => Err(ReadError::Bad(why)),
     }
 }
@@ -55,15 +55,15 @@ fn one_line(
     ensures read { Answers result (line_at progress.now line.now) }
     ensures counted { OnOk result (progress.now.number ≤ most_trace_lines) }
 {
-    let told = match told_at(alloc, progress, line) {
-        Ok(told) => told,
+    let said = match said_at(alloc, progress, line) {
+        Ok(said) => said,
         Err(ReadError::Bad(why)) => return Err(ReadError::Bad(progress.bad(why))),
         Err(ReadError::Memory) => return Err(ReadError::Memory),
     };
     let Ok(text) = LineBytes::of(alloc, line) else {
         return Err(ReadError::Memory);
     };
-    Ok(TraceLine { text, told })
+    Ok(TraceLine { text, said })
 }
 
 // What stands after the last line feed must be nothing.
@@ -91,7 +91,7 @@ pub fn read_trace(alloc: Global, bytes: &[u8]) -> Result<Trace, ReadError<BadTra
             Ok(read) => read,
             Err(fault) => return Err(fault),
         };
-        progress = progress.after(line, &read.told);
+        progress = progress.after(line, &read.said);
         if lines.push(read).is_err() {
             return Err(ReadError::Memory);
         }

@@ -5,7 +5,7 @@ ghost use Rattle.schedule_text.specs.Answers.{Gives};
 ghost use Rattle.trace_reader.specs.Results.{only_part as only_part_of, sender_at as sender_at_of, receiver_at as receiver_at_of, ends_at as ends_at_of, sent_at, message_at, state_at, note_at, delivery_at, result_at};
 
 use crate::acts::{act, committed, mode, won};
-use crate::told::Told;
+use crate::said::Said;
 use crate::words::{any_number_at, id_at, no_word, node_alone, node_with_rest, word_and_rest};
 use schedule_text::WhyBad;
 use voting_config::{NodeId, cut};
@@ -46,17 +46,17 @@ fn receiver_at(word: &[u8]) -> Result<Option<NodeId>, WhyBad>
     Ok(Some(id))
 }
 
-fn ends_at(word: &[u8]) -> Result<Told, WhyBad>
+fn ends_at(word: &[u8]) -> Result<Said, WhyBad>
     ensures { result ≡ ends_at_of word.now }
 {
     let (from, to) = cut(word, b'>');
     let to = only_part(to)?;
     let from = sender_at(from)?;
     let to = receiver_at(to)?;
-    Ok(Told::Sent(from, to))
+    Ok(Said::Sent(from, to))
 }
 
-fn sent(next: u64, digits: &[u8], rest: Option<&[u8]>) -> Result<Told, WhyBad>
+fn sent(next: u64, digits: &[u8], rest: Option<&[u8]>) -> Result<Said, WhyBad>
     ensures { result ≡ sent_at next digits.now (parts_in space rest.entry) }
 {
     let number = any_number_at(digits)?;
@@ -67,7 +67,7 @@ fn sent(next: u64, digits: &[u8], rest: Option<&[u8]>) -> Result<Told, WhyBad>
     ends_at(ends)
 }
 
-fn message(next: u64, verb: &[u8], rest: Option<&[u8]>) -> Result<Told, WhyBad>
+fn message(next: u64, verb: &[u8], rest: Option<&[u8]>) -> Result<Said, WhyBad>
     ensures { result ≡ message_at next verb.now (parts_in space rest.entry) }
 {
     let first = verb.len().min(1);
@@ -77,56 +77,56 @@ fn message(next: u64, verb: &[u8], rest: Option<&[u8]>) -> Result<Told, WhyBad>
     sent(next, &verb[first..], rest)
 }
 
-fn state(next: u64, verb: &[u8], rest: Option<&[u8]>) -> Result<Told, WhyBad>
+fn state(next: u64, verb: &[u8], rest: Option<&[u8]>) -> Result<Said, WhyBad>
     ensures { result ≡ state_at next verb.now (parts_in space rest.entry) }
 {
     if verb == b"crashed".as_slice() {
         let node = node_alone(rest)?;
-        return Ok(Told::Crashed(node));
+        return Ok(Said::Crashed(node));
     }
     if verb == b"disk".as_slice() {
         let node = node_alone(rest)?;
-        return Ok(Told::Disk(node));
+        return Ok(Said::Disk(node));
     }
     if verb == b"down".as_slice() {
         let node = node_alone(rest)?;
-        return Ok(Told::Down(node));
+        return Ok(Said::Down(node));
     }
     if verb == b"up".as_slice() {
         let node = node_alone(rest)?;
-        return Ok(Told::Up(node));
+        return Ok(Said::Up(node));
     }
     message(next, verb, rest)
 }
 
-fn note(next: u64, verb: &[u8], rest: Option<&[u8]>) -> Result<Told, WhyBad>
+fn note(next: u64, verb: &[u8], rest: Option<&[u8]>) -> Result<Said, WhyBad>
     ensures { result ≡ note_at next verb.now (parts_in space rest.entry) }
 {
     if verb == b"record".as_slice() {
         let node = node_with_rest(rest)?;
-        return Ok(Told::Opened(node));
+        return Ok(Said::Opened(node));
     }
     if verb == b"drop".as_slice() {
         let node = node_with_rest(rest)?;
-        return Ok(Told::Dropped(node));
+        return Ok(Said::Dropped(node));
     }
     if verb == b"reply".as_slice() {
         let node = node_with_rest(rest)?;
-        return Ok(Told::Replied(node));
+        return Ok(Said::Replied(node));
     }
     state(next, verb, rest)
 }
 
-fn delivery(actor: NodeId, next: u64, verb: &[u8], rest: Option<&[u8]>) -> Result<Told, WhyBad>
+fn delivery(actor: NodeId, next: u64, verb: &[u8], rest: Option<&[u8]>) -> Result<Said, WhyBad>
     ensures { result ≡ delivery_at actor next verb.now (parts_in space rest.entry) }
 {
     if verb == b"unsent".as_slice() {
         no_word(rest)?;
-        return Ok(Told::Unsent(actor));
+        return Ok(Said::Unsent(actor));
     }
     if verb == b"misrouted".as_slice() {
         no_word(rest)?;
-        return Ok(Told::Misrouted(actor));
+        return Ok(Said::Misrouted(actor));
     }
     note(next, verb, rest)
 }
@@ -138,7 +138,7 @@ pub fn read_result(
     next: u64,
     verb: &[u8],
     rest: Option<&[u8]>,
-) -> Result<Told, WhyBad>
+) -> Result<Said, WhyBad>
     ensures { result ≡ result_at actor next verb.now (parts_in space rest.entry) }
 {
     if verb == b"act".as_slice() {

@@ -8,7 +8,7 @@ use Rattle.trace_summary.specs.declared.summary.Tally.{Tally}
 -- the text is empty, or ends with a line feed
 pub data EndsLine : List ℕ → Type 0 where
   Empty : EndsLine []
-  Fed : (front : List ℕ) → EndsLine (front ++ line_feed ∷ [])
+  Fed : (prefix : List ℕ) → EndsLine (prefix ++ line_feed ∷ [])
 
 -- the tally is that of the text
 pub record Tallies (tally : Tally) (text : List ℕ) : Type 0 where

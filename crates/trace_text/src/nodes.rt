@@ -9,7 +9,7 @@ use text::Text;
 use voting_config::NodeId;
 
 /// Writes that a node is down, and so takes nothing.
-pub fn write_down(text: &mut Text, node: NodeId) -> Result<(), AllocError>
+pub fn write_down_line(text: &mut Text, node: NodeId) -> Result<(), AllocError>
     ensures { OnOk result (text.new ≡ text.old ++ down_line node) }
 {
     text.word("down ")?;
@@ -17,7 +17,7 @@ pub fn write_down(text: &mut Text, node: NodeId) -> Result<(), AllocError>
 }
 
 /// Writes that a node is up already.
-pub fn write_up(text: &mut Text, node: NodeId) -> Result<(), AllocError>
+pub fn write_up_line(text: &mut Text, node: NodeId) -> Result<(), AllocError>
     ensures { OnOk result (text.new ≡ text.old ++ up_line node) }
 {
     text.word("up ")?;

@@ -31,12 +31,12 @@ left_in (Some rest) = 1 + length rest.now
 
 -- an id that comes after these, and there is room for it
 abbrev pub may_follow : List Id → List ℕ → Bool
-may_follow front x = is_id x && nat_lt (length front) most_ids && comes_after x front
+may_follow prefix x = is_id x && nat_lt (length prefix) most_ids && comes_after x prefix
 
 -- each is an id that comes after those before it, and no set has more ids
 abbrev pub are_ids_after : List Id → List (List ℕ) → Bool
-are_ids_after front [] = true
-are_ids_after front (x ∷ xs) = may_follow front x && are_ids_after (front ++ x ∷ []) xs
+are_ids_after prefix [] = true
+are_ids_after prefix (x ∷ xs) = may_follow prefix x && are_ids_after (prefix ++ x ∷ []) xs
 
 -- what stands between the commas of a list
 abbrev pub items_of : List ℕ → List (List ℕ)

@@ -9,7 +9,7 @@ use Rattle.wire_frames.specs.declared.buffer.Buffer.{Buffer}
 use Rattle.wire_frames.specs.declared.buffer.BodyLength.TheVariants as body
 use Rattle.wire_frames.specs.Frames.{frame_of}
 use Rattle.wire_frames.specs.Measures.{IsFramed, Measures}
-use Rattle.wire_frames.specs.Streams.{Unfinished, Faulty, Whole, front_with, front_of, Ending, Rest, Fault, Stream, prepend, stream, stream_after, next_in, next_of, after_next, pushed, frames_in, fault_in, read_up, IsCarried}
+use Rattle.wire_frames.specs.Streams.{Unfinished, Faulty, Whole, prefix_with, prefix_of, Ending, Rest, Fault, Stream, prepend, stream, stream_after, next_in, next_of, after_next, pushed, frames_in, fault_in, read_up, IsCarried}
 use Rattle.wire_frames.specs.declared.lent.FrameView.{FrameView}
 use Rattle.wire_frames.specs.Buffers.{left_in, Gives}
 use Rattle.wire_frames.specs.Views.{shown}
@@ -58,25 +58,25 @@ framed bytes part size frame m is read =
       long = omega arith;
       within = omega (arith, m.0, m.1, length-drop 4 bytes);
       body = ap frame_of (drop-take 4 size bytes) ∙ whole;
-      front = m.2 ∙ ap (λ r. front_with r (drop size (drop 4 bytes))) whole ∙ ap (Whole frame) (drop-drop size 4 bytes ∙ ap (λ n. drop n bytes) (omega arith));
+      front = m.2 ∙ ap (λ r. prefix_with r (drop size (drop 4 bytes))) whole ∙ ap (Whole frame) (drop-drop size 4 bytes ∙ ap (λ n. drop n bytes) (omega arith));
     }
 
 -- ---- what stands at the front is given next
 
 module _ (was bytes now : List ℕ) (gone : now ≡ was) (same : bytes ≡ now) where
-  front_is : front_of was ≡ front_of bytes
-  front_is = ap front_of (sym gone ∙ sym same)
+  front_is : prefix_of was ≡ prefix_of bytes
+  front_is = ap prefix_of (sym gone ∙ sym same)
 
-  pub nothing_next : front_of bytes ≡ Unfinished → (next_of (stream was) ≡ None) × (stream now ≡ stream was)
+  pub nothing_next : prefix_of bytes ≡ Unfinished → (next_of (stream was) ≡ None) × (stream now ≡ stream was)
   nothing_next e = (ap next_of (stream-front was Unfinished (front_is ∙ e)), ap stream gone)
 
-  pub fault_next : (fault : FrameError) → front_of bytes ≡ Faulty fault → (next_of (stream was) ≡ Some (Err fault)) × (stream now ≡ stream was)
+  pub fault_next : (fault : FrameError) → prefix_of bytes ≡ Faulty fault → (next_of (stream was) ≡ Some (Err fault)) × (stream now ≡ stream was)
   fault_next fault e = (ap next_of (stream-front was (Faulty fault) (front_is ∙ e)), ap stream gone)
 
 pub frame_next : (now : Buffer) (was bytes : List ℕ) → now.bytes.items ≡ was → bytes ≡ now.bytes.items → IsFramed bytes now.given → Gives now (stream was)
 frame_next now was bytes gone same h =
     let here : IsFramed now.bytes.items now.given = subst (λ l. IsFramed l now.given) same h in
-    let next = stream-front was (Whole here.frame (drop now.given now.bytes.items)) (ap front_of (sym gone) ∙ here.front) in
+    let next = stream-front was (Whole here.frame (drop now.given now.bytes.items)) (ap prefix_of (sym gone) ∙ here.front) in
     record { frame = here.frame; long = here.long; body = here.body; next = ap next_of next; left = sym (ap after_next next) }
 
 -- what is lent is the frame that stood next

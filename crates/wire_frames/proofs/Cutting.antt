@@ -7,10 +7,10 @@ use Rattle.wire_frames.specs.declared.fault.FrameError.{FrameError}
 use Rattle.wire_frames.specs.declared.fault.FrameError.TheVariants.{TooLong}
 use Rattle.wire_frames.specs.declared.frame.Frame.{Frame}
 use Rattle.wire_frames.specs.Frames.{frame_of}
-use Rattle.wire_frames.specs.Streams.{Front, Unfinished, Faulty, Whole, said_length, front_with, front_of, Rest, Stream, prepend, stream_with_front, stream_within, stream, stream_after, IsStream}
+use Rattle.wire_frames.specs.Streams.{Prefix, Unfinished, Faulty, Whole, said_length, prefix_with, prefix_of, Rest, Stream, prepend, stream_with_prefix, stream_within, stream, stream_after, IsStream}
 
 -- what stands at the start, by its three tests
-abbrev pub front_by : (short too_long unfinished : Bool) → Front → Front
+abbrev pub front_by : (short too_long unfinished : Bool) → Prefix → Prefix
 front_by a b c front = cond a Unfinished (cond b (Faulty TooLong) (cond c Unfinished front))
 
 -- what a whole frame at the start says of the tests
@@ -21,14 +21,14 @@ pub record IsWholeBy (a b c : Bool) (read : Result Frame FrameError) (rest : Lis
   pub body : read ≡ Ok frame
   pub next : rest ≡ after
 
-pub whole_by : (a b c : Bool) (r : Result Frame FrameError) (rest : List ℕ) (frame : Frame) (after : List ℕ) → front_by a b c (front_with r rest) ≡ Whole frame after → IsWholeBy a b c r rest frame after
+pub whole_by : (a b c : Bool) (r : Result Frame FrameError) (rest : List ℕ) (frame : Frame) (after : List ℕ) → front_by a b c (prefix_with r rest) ≡ Whole frame after → IsWholeBy a b c r rest frame after
 whole_by true b c r rest frame after e = absurd cc
 whole_by false true c r rest frame after e = absurd cc
 whole_by false false true r rest frame after e = absurd cc
 whole_by false false false (Err x) rest frame after e = absurd cc
 whole_by false false false (Ok f) rest frame after e = record { four = refl; fits = refl; there = refl; body = cc; next = cc }
 
-by_whole : (a b c : Bool) (r : Result Frame FrameError) (rest : List ℕ) (frame : Frame) (after : List ℕ) → IsWholeBy a b c r rest frame after → front_by a b c (front_with r rest) ≡ Whole frame after
+by_whole : (a b c : Bool) (r : Result Frame FrameError) (rest : List ℕ) (frame : Frame) (after : List ℕ) → IsWholeBy a b c r rest frame after → front_by a b c (prefix_with r rest) ≡ Whole frame after
 by_whole a b c r rest frame after h = rw (h.four, h.fits, h.there, h.body, h.next) refl
 
 -- what a fault at the start says of the tests
@@ -41,7 +41,7 @@ pub record IsFaultyBy (a b c : Bool) (read : Result Frame FrameError) (fault : F
   pub four : a ≡ false
   pub cause : ((b ≡ true) × (TooLong ≡ fault)) ⊎ (IsBadBody b c read fault)
 
-pub faulty_by : (a b c : Bool) (r : Result Frame FrameError) (rest : List ℕ) (fault : FrameError) → front_by a b c (front_with r rest) ≡ Faulty fault → IsFaultyBy a b c r fault
+pub faulty_by : (a b c : Bool) (r : Result Frame FrameError) (rest : List ℕ) (fault : FrameError) → front_by a b c (prefix_with r rest) ≡ Faulty fault → IsFaultyBy a b c r fault
 faulty_by true b c r rest fault e = absurd cc
 faulty_by false true c r rest fault e = record { four = refl; cause = inl (refl, cc) }
 faulty_by false false true r rest fault e = absurd cc
@@ -72,7 +72,7 @@ module _ (bytes more : List ℕ) (four : nat_lt (length bytes) 4 ≡ false) wher
   after-append there = rw (said-append, rest-append) (drop-append-le (said_length bytes) (drop 4 bytes) more (ltb-false (length (drop 4 bytes)) (said_length bytes) there))
 
 -- a frame at the start stays there, whatever follows
-pub whole-append : (bytes more : List ℕ) (frame : Frame) (after : List ℕ) → front_of bytes ≡ Whole frame after → front_of (bytes ++ more) ≡ Whole frame (after ++ more)
+pub whole-append : (bytes more : List ℕ) (frame : Frame) (after : List ℕ) → prefix_of bytes ≡ Whole frame after → prefix_of (bytes ++ more) ≡ Whole frame (after ++ more)
 whole-append bytes more frame after e =
     let h = whole_by _ _ _ (frame_of (take (said_length bytes) (drop 4 bytes))) (drop (said_length bytes) (drop 4 bytes)) frame after e in
     by_whole _ _ _ (frame_of (take (said_length (bytes ++ more)) (drop 4 (bytes ++ more)))) (drop (said_length (bytes ++ more)) (drop 4 (bytes ++ more))) frame (after ++ more) (record {
@@ -84,7 +84,7 @@ whole-append bytes more frame after e =
     })
 
 -- so does a fault
-pub faulty-append : (bytes more : List ℕ) (fault : FrameError) → front_of bytes ≡ Faulty fault → front_of (bytes ++ more) ≡ Faulty fault
+pub faulty-append : (bytes more : List ℕ) (fault : FrameError) → prefix_of bytes ≡ Faulty fault → prefix_of (bytes ++ more) ≡ Faulty fault
 faulty-append bytes more fault e =
     let h = faulty_by _ _ _ (frame_of (take (said_length bytes) (drop 4 bytes))) (drop (said_length bytes) (drop 4 bytes)) fault e in
     elim h.cause [
@@ -93,14 +93,14 @@ faulty-append bytes more fault e =
     ]
 
 -- a frame takes four bytes and more
-pub whole-shorter : (bytes : List ℕ) (frame : Frame) (after : List ℕ) → front_of bytes ≡ Whole frame after → length after < length bytes
+pub whole-shorter : (bytes : List ℕ) (frame : Frame) (after : List ℕ) → prefix_of bytes ≡ Whole frame after → length after < length bytes
 whole-shorter bytes frame after e =
     let h = whole_by _ _ _ (frame_of (take (said_length bytes) (drop 4 bytes))) (drop (said_length bytes) (drop 4 bytes)) frame after e in
     let four : 4 ≤ length bytes = ltb-false (length bytes) 4 h.four in
     let size : length after ≡ length bytes - 4 - said_length bytes = rw (sym h.next, length-drop, length-drop) refl in
     omega arith
 
-with_front-same : (front : Front) (bytes : List ℕ) (f g : List ℕ → Stream) → ((frame : Frame) (after : List ℕ) → front ≡ Whole frame after → f after ≡ g after) → stream_with_front front bytes f ≡ stream_with_front front bytes g
+with_front-same : (front : Prefix) (bytes : List ℕ) (f g : List ℕ → Stream) → ((frame : Frame) (after : List ℕ) → front ≡ Whole frame after → f after ≡ g after) → stream_with_prefix front bytes f ≡ stream_with_prefix front bytes g
 with_front-same Unfinished bytes f g h = refl
 with_front-same (Faulty e) bytes f g h = refl
 with_front-same (Whole frame rest) bytes f g h = ap (prepend (frame ∷ [])) (h frame rest refl)
@@ -113,21 +113,21 @@ within-enough zero (suc m) (b ∷ bytes) p q = absurd (omega arith)
 within-enough (suc n) zero [] p q = refl
 within-enough (suc n) zero (b ∷ bytes) p q = absurd (omega arith)
 within-enough (suc n) (suc m) bytes p q =
-    with_front-same (front_of bytes) bytes (stream_within n) (stream_within m) (λ frame after e.
+    with_front-same (prefix_of bytes) bytes (stream_within n) (stream_within m) (λ frame after e.
     let shorter = whole-shorter bytes frame after e in
     within-enough n m after (omega arith) (omega arith))
 
 -- the stream is what its start says
-pub stream-with_front : (bytes : List ℕ) → stream bytes ≡ stream_with_front (front_of bytes) bytes stream
+pub stream-with_front : (bytes : List ℕ) → stream bytes ≡ stream_with_prefix (prefix_of bytes) bytes stream
 unfolding stream
 stream-with_front bytes =
     within-enough (length bytes) (suc (length bytes)) bytes (omega arith) (omega arith)
-    ∙ with_front-same (front_of bytes) bytes (stream_within (length bytes)) (λ after. stream_within (length after) after) (λ frame after e.
+    ∙ with_front-same (prefix_of bytes) bytes (stream_within (length bytes)) (λ after. stream_within (length after) after) (λ frame after e.
     let shorter = whole-shorter bytes frame after e in
     within-enough (length bytes) (length after) after (omega arith) (omega arith))
 
-pub stream-front : (bytes : List ℕ) (front : Front) → front_of bytes ≡ front → stream bytes ≡ stream_with_front front bytes stream
-stream-front bytes front e = stream-with_front bytes ∙ ap (λ f. stream_with_front f bytes stream) e
+pub stream-front : (bytes : List ℕ) (front : Prefix) → prefix_of bytes ≡ front → stream bytes ≡ stream_with_prefix front bytes stream
+stream-front bytes front e = stream-with_front bytes ∙ ap (λ f. stream_with_prefix f bytes stream) e
 
 pub stream-empty : IsStream [] [] (Rest [])
 unfolding stream
@@ -136,14 +136,14 @@ stream-empty = refl
 pub prepend-prepend : (a b : List Frame) (s : Stream) → prepend a (prepend b s) ≡ prepend (a ++ b) s
 prepend-prepend a b s = ap (λ xs. let r : Stream = record { frames = xs; ending = s.ending } in r) (sym (append_assoc a b s.frames))
 
-append_within : (n : ℕ) (bytes more : List ℕ) (front : Front) → length bytes ≤ n → front_of bytes ≡ front
-    → stream (bytes ++ more) ≡ prepend (stream_with_front front bytes stream).frames (stream_after (stream_with_front front bytes stream).ending more)
+append_within : (n : ℕ) (bytes more : List ℕ) (front : Prefix) → length bytes ≤ n → prefix_of bytes ≡ front
+    → stream (bytes ++ more) ≡ prepend (stream_with_prefix front bytes stream).frames (stream_after (stream_with_prefix front bytes stream).ending more)
 append_within n bytes more Unfinished p e = refl
 append_within n bytes more (Faulty x) p e = stream-front (bytes ++ more) (Faulty x) (faulty-append bytes more x e)
 append_within zero bytes more (Whole frame after) p e = let shorter = whole-shorter bytes frame after e in absurd (omega arith)
 append_within (suc n) bytes more (Whole frame after) p e =
     let shorter = whole-shorter bytes frame after e in
-    let later = append_within n after more (front_of after) (omega arith) refl in
+    let later = append_within n after more (prefix_of after) (omega arith) refl in
     stream-front (bytes ++ more) (Whole frame (after ++ more)) (whole-append bytes more frame after e)
     ∙ ap (prepend (frame ∷ [])) (later ∙ ap (λ s. prepend s.frames (stream_after s.ending more)) (sym (stream-with_front after)))
     ∙ prepend-prepend (frame ∷ []) (stream after).frames _
@@ -151,5 +151,5 @@ append_within (suc n) bytes more (Whole frame after) p e =
 -- what follows goes on from what stands after the frames
 pub stream-append : (bytes more : List ℕ) → stream (bytes ++ more) ≡ prepend (stream bytes).frames (stream_after (stream bytes).ending more)
 stream-append bytes more =
-    append_within (length bytes) bytes more (front_of bytes) (omega arith) refl
+    append_within (length bytes) bytes more (prefix_of bytes) (omega arith) refl
     ∙ ap (λ s. prepend s.frames (stream_after s.ending more)) (sym (stream-with_front bytes))

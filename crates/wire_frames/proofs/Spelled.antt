@@ -6,7 +6,7 @@ use Rattle.std.proofs.lemmas.Nat.{from_be_bytes-to_be_bytes_4}
 use Rattle.std.specs.Int.{w32, from_be_bytes}
 use Rattle.wire_frames.specs.declared.frame.Frame.{Frame}
 use Rattle.wire_frames.specs.Frames.{most_body, four_bytes, SpellsBody, SpellsFrame, frame_of}
-use Rattle.wire_frames.specs.Streams.{Whole, said_length, front_with, front_of, prepend, stream}
+use Rattle.wire_frames.specs.Streams.{Whole, said_length, prefix_with, prefix_of, prepend, stream}
 use Rattle.wire_frames.proofs.FrameLaws.{frame_again, one_body}
 use Rattle.wire_frames.proofs.Sizes.{body_short}
 use Rattle.wire_frames.proofs.Cutting.{stream-front}
@@ -36,7 +36,7 @@ one_frame f g bytes s t =
     one_body f g s.body s.spelled (subst P (body_is g bytes t ∙ sym (body_is f bytes s)) t.spelled)
 
 -- a body after its length, and bytes after it
-pub front-read : (body more : List ℕ) → length body ≤ most_body → front_of (four_bytes (length body) ++ (body ++ more)) ≡ front_with (frame_of body) more
+pub front-read : (body more : List ℕ) → length body ≤ most_body → prefix_of (four_bytes (length body) ++ (body ++ more)) ≡ prefix_with (frame_of body) more
 front-read body more fits =
     let size = length body in
     let all = four_bytes size ++ (body ++ more) in
@@ -51,4 +51,4 @@ pub first_frame : (f : Frame) (bytes more : List ℕ) → SpellsFrame f bytes �
 first_frame f bytes more s =
     let regrouped : bytes ++ more ≡ four_bytes (length s.body) ++ (s.body ++ more) = ap (λ l. l ++ more) s.whole ∙ append_assoc (four_bytes (length s.body)) s.body more in
     let front = front-read s.body more (omega (arith, body_short f s.body s.spelled)) in
-    stream-front (bytes ++ more) (Whole f more) (ap front_of regrouped ∙ front ∙ ap (λ r. front_with r more) (frame_again s.body f s.spelled))
+    stream-front (bytes ++ more) (Whole f more) (ap prefix_of regrouped ∙ front ∙ ap (λ r. prefix_with r more) (frame_again s.body f s.spelled))

@@ -21,7 +21,7 @@ use Rattle.wire_frames.specs.Frames.{frame_at, as_frame, frame_of}
 use Rattle.wire_frames.specs.declared.fault.FrameError.{FrameError}
 use Rattle.wire_frames.specs.declared.lent.FrameView.{FrameView}
 use Rattle.wire_frames.specs.Views.{frame_in, shown, shown_read}
-use Rattle.wire_frames.specs.Parts.{ArePartsOf, TellsParts}
+use Rattle.wire_frames.specs.Parts.{ArePartsOf, GivesParts}
 
 pub all_passed : (k : Kind) (bytes a b rest : List ℕ) (from to : Id) (m : WireMessage) → id.at bytes ≡ Ok (from, a) → id.at a ≡ Ok (to, b) → message_at k b ≡ Ok (m, rest) → (length rest == 0) ≡ true
     → (frame : Frame) × (as_frame (whole (frame_at k bytes)) ≡ Ok frame)
@@ -54,25 +54,25 @@ kind_made kind.LeaderAnswer bytes m rest e = made kind.LeaderAnswer (λ x. messa
 abbrev frame_by : Parts → WireMessage → Bool → Result Frame StateFault
 frame_by p m b = if b then Ok (record { from = p.from; to = p.to; message = m }) else Err whole_fault.Trailing
 
-told_by : (p : Parts) (m : WireMessage) (rest : List ℕ) (b : Bool) → (length rest == 0) ≡ b → message_at p.kind p.fields.now ≡ Ok (m, rest) → TellsParts (Some p) (as_frame (frame_by p m b))
+told_by : (p : Parts) (m : WireMessage) (rest : List ℕ) (b : Bool) → (length rest == 0) ≡ b → message_at p.kind p.fields.now ≡ Ok (m, rest) → GivesParts (Some p) (as_frame (frame_by p m b))
 told_by p m rest true is e = record { from = refl; to = refl; kind = sym (kind_made p.kind p.fields.now m rest e); message = rw (e, is) refl }
 told_by p m rest false is e = tt
 
 told : (p : Parts) (read : Result (WireMessage × List ℕ) FieldError) → message_at p.kind p.fields.now ≡ read
-    → TellsParts (Some p) (as_frame (whole (read >>= λ m. Ok (record { from = p.from; to = p.to; message = m.0 }, m.1))))
+    → GivesParts (Some p) (as_frame (whole (read >>= λ m. Ok (record { from = p.from; to = p.to; message = m.0 }, m.1))))
 told p (Err f) e = tt
 told p (Ok (m, rest)) e = told_by p m rest (length rest == 0) refl e
 
-pub parts_told : (p : Parts) (body rest a : List ℕ) (byte : ℕ) → byte_at body ≡ Ok (byte, rest) → kind_of byte ≡ Some p.kind → id.at rest ≡ Ok (p.from, a) → id.at a ≡ Ok (p.to, p.fields.now) → TellsParts (Some p) (frame_of body)
+pub parts_told : (p : Parts) (body rest a : List ℕ) (byte : ℕ) → byte_at body ≡ Ok (byte, rest) → kind_of byte ≡ Some p.kind → id.at rest ≡ Ok (p.from, a) → id.at a ≡ Ok (p.to, p.fields.now) → GivesParts (Some p) (frame_of body)
 parts_told p body rest a byte first is from to = rw (first, is, from, to) (told p (message_at p.kind p.fields.now) refl)
 
 -- ---- the parts of a lent frame
 
-pub parts_known : (p : Parts) (frame : Frame) (read : Result Frame FrameError) → IsOk read → frame_in read ≡ frame → TellsParts (Some p) read → ArePartsOf p frame
+pub parts_known : (p : Parts) (frame : Frame) (read : Result Frame FrameError) → IsOk read → frame_in read ≡ frame → GivesParts (Some p) read → ArePartsOf p frame
 parts_known p frame (Ok f) ok is told = subst (ArePartsOf p) is told
 parts_known p frame (Err fault) ok is told = absurd cc
 
-pub never_untold : (o : Option Parts) (read : Result Frame FrameError) → o ≡ None → IsOk read → TellsParts o read → ⊥
+pub never_untold : (o : Option Parts) (read : Result Frame FrameError) → o ≡ None → IsOk read → GivesParts o read → ⊥
 never_untold None (Ok f) e ok told = told
 never_untold None (Err fault) e ok told = cc
 never_untold (Some p) read e ok told = cc

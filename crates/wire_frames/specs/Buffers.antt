@@ -10,7 +10,7 @@ use Rattle.wire_frames.specs.Streams.{Stream, stream, next_of, after_next}
 abbrev pub left_in : Buffer → Stream
 left_in b = stream (drop b.given b.bytes.items)
 
--- a frame stands at the front, and is given
+-- a frame stands at the prefix, and is given
 pub record Gives (now : Buffer) (was : Stream) : Type 0 where
   pub frame : Frame
   pub long : 4 ≤ now.given
@@ -19,7 +19,7 @@ pub record Gives (now : Buffer) (was : Stream) : Type 0 where
   pub left : left_in now ≡ after_next was
 
 -- what a step found, and what is left now
-abbrev pub Steps : {U : Type 0} → Option (Result U FrameError) → (now : Buffer) → (was : Stream) → Type 0
-Steps {U} None now was = (next_of was ≡ None) × (left_in now ≡ was)
-Steps {U} (Some (Err fault)) now was = (next_of was ≡ Some (Err fault)) × (left_in now ≡ was)
-Steps {U} (Some (Ok u)) now was = Gives now was
+abbrev pub Advances : {U : Type 0} → Option (Result U FrameError) → (now : Buffer) → (was : Stream) → Type 0
+Advances {U} None now was = (next_of was ≡ None) × (left_in now ≡ was)
+Advances {U} (Some (Err fault)) now was = (next_of was ≡ Some (Err fault)) × (left_in now ≡ was)
+Advances {U} (Some (Ok u)) now was = Gives now was

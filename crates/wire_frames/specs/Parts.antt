@@ -30,10 +30,10 @@ pub record ArePartsOf (p : Parts) (frame : Frame) : Type 0 where
   pub message : whole (message_at p.kind p.fields.now) ≡ Ok frame.message
 
 -- where a frame was found, its parts are told
-abbrev pub TellsParts : Option Parts → Result Frame FrameError → Type 0
-TellsParts (Some p) (Ok frame) = ArePartsOf p frame
-TellsParts None (Ok frame) = ⊥
-TellsParts told (Err fault) = Unit {0}
+abbrev pub GivesParts : Option Parts → Result Frame FrameError → Type 0
+GivesParts (Some p) (Ok frame) = ArePartsOf p frame
+GivesParts None (Ok frame) = ⊥
+GivesParts told (Err fault) = Unit {0}
 
 -- a frame was found, or this is the first fault
 abbrev pub Checks : {U : Type 0} → Result U FrameError → Result Frame FrameError → Type 0

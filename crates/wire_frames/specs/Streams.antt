@@ -7,28 +7,28 @@ use Rattle.wire_frames.specs.declared.frame.Frame.{Frame}
 use Rattle.wire_frames.specs.Frames.{most_body, frame_of}
 
 -- what stands at the start of bytes: less than a frame, a fault, or a frame with the bytes after it
-pub data Front : Type 0 where
-  Unfinished : Front
-  Faulty : FrameError → Front
-  Whole : Frame → List ℕ → Front
+pub data Prefix : Type 0 where
+  Unfinished : Prefix
+  Faulty : FrameError → Prefix
+  Whole : Frame → List ℕ → Prefix
 
 -- the length that the first four bytes say
 abbrev pub said_length : List ℕ → ℕ
 said_length bytes = from_be_bytes w32 (take 4 bytes)
 
 -- a body that is read, before the bytes after it
-abbrev pub front_with : Result Frame FrameError → List ℕ → Front
-front_with (Ok frame) rest = Whole frame rest
-front_with (Err fault) rest = Faulty fault
+abbrev pub prefix_with : Result Frame FrameError → List ℕ → Prefix
+prefix_with (Ok frame) rest = Whole frame rest
+prefix_with (Err fault) rest = Faulty fault
 
 -- what stands at the start of the bytes: nothing whole before the four bytes of the length, then too long a length, then nothing
 -- whole before as many bytes of body, then what the body is
-abbrev pub front_of : List ℕ → Front
-front_of bytes =
+abbrev pub prefix_of : List ℕ → Prefix
+prefix_of bytes =
     if nat_lt (length bytes) 4 then Unfinished
     else (if nat_lt most_body (said_length bytes) then Faulty TooLong
     else (if nat_lt (length (drop 4 bytes)) (said_length bytes) then Unfinished
-    else front_with (frame_of (take (said_length bytes) (drop 4 bytes))) (drop (said_length bytes) (drop 4 bytes))))
+    else prefix_with (frame_of (take (said_length bytes) (drop 4 bytes))) (drop (said_length bytes) (drop 4 bytes))))
 
 -- what stands after the frames of a stream: less than a frame, or a fault
 pub data Ending : Type 0 where
@@ -45,15 +45,15 @@ abbrev pub prepend : List Frame → Stream → Stream
 prepend frames stream = record { frames = frames ++ stream.frames; ending = stream.ending }
 
 -- the stream with this prefix, where the bytes after a frame are read as given
-abbrev pub stream_with_front : Front → List ℕ → (List ℕ → Stream) → Stream
-stream_with_front Unfinished bytes after = record { frames = []; ending = Rest bytes }
-stream_with_front (Faulty fault) bytes after = record { frames = []; ending = Fault fault }
-stream_with_front (Whole frame rest) bytes after = prepend (frame ∷ []) (after rest)
+abbrev pub stream_with_prefix : Prefix → List ℕ → (List ℕ → Stream) → Stream
+stream_with_prefix Unfinished bytes after = record { frames = []; ending = Rest bytes }
+stream_with_prefix (Faulty fault) bytes after = record { frames = []; ending = Fault fault }
+stream_with_prefix (Whole frame rest) bytes after = prepend (frame ∷ []) (after rest)
 
 -- the stream, as far as so many frames
 abbrev pub stream_within : ℕ → List ℕ → Stream
 stream_within zero bytes = record { frames = []; ending = Rest bytes }
-stream_within (suc n) bytes = stream_with_front (front_of bytes) bytes (stream_within n)
+stream_within (suc n) bytes = stream_with_prefix (prefix_of bytes) bytes (stream_within n)
 
 -- the stream that the bytes are
 unfoldable pub stream : List ℕ → Stream

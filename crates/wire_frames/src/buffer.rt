@@ -16,14 +16,14 @@ use std::alloc::{AllocError, Global};
 #[derive(Drop)]
 pub struct Buffer {
     bytes: BytesMut,
-    // So many bytes at the front are the frame that was given last, which may still be lent.
+    // So many bytes at the prefix are the frame that was given last, which may still be lent.
     given: usize,
     ghost fits: { given ≤ length bytes.items },
 }
 
 impl Buffer {
     ghost use Rattle.wire_frames.specs.Streams.{stream, pushed};
-    ghost use Rattle.wire_frames.specs.Buffers.{left_in, Steps};
+    ghost use Rattle.wire_frames.specs.Buffers.{left_in, Advances};
     ghost use Rattle.wire_frames.specs.Views.{shown};
 
     pub(crate) fn new(alloc: Global) -> Buffer
@@ -42,9 +42,9 @@ impl Buffer {
         self.bytes.extend_from_slice(bytes)
     }
 
-    // Goes past the frame that was given last, and looks at what stands at the front.
-    pub(crate) fn step(&mut self) -> Option<Result<(), FrameError>>
-        ensures { Steps result self.new (left_in self.old) }
+    // Goes past the frame that was given last, and looks at what stands at the prefix.
+    pub(crate) fn advance(&mut self) -> Option<Result<(), FrameError>>
+        ensures { Advances result self.new (left_in self.old) }
     {
         self.bytes.advance(self.given);
         self.given = 0;
@@ -65,8 +65,8 @@ impl Buffer {
         ensures { frame_of (drop 4 (take self.now.given self.now.bytes.items)) ≡ Ok (shown result) }
     {
         let whole = self.bytes.as_slice();
-        let front = &whole[..self.given];
-        FrameView::of_checked(&front[4..])
+        let prefix = &whole[..self.given];
+        FrameView::of_checked(&prefix[4..])
     }
 }
 
@@ -84,8 +84,8 @@ fn body_length(bytes: &[u8]) -> BodyLength
     if bytes.len() < 4 {
         return BodyLength::Unfinished;
     }
-    let (front, rest) = bytes.split_at(4);
-    let size = u32::from_be_bytes([front[0], front[1], front[2], front[3]]);
+    let (prefix, rest) = bytes.split_at(4);
+    let size = u32::from_be_bytes([prefix[0], prefix[1], prefix[2], prefix[3]]);
     if size > MAX_BODY {
         return BodyLength::TooLong;
     }
@@ -96,7 +96,7 @@ fn body_length(bytes: &[u8]) -> BodyLength
     BodyLength::Whole(size)
 }
 
-// What stands at the front of bytes: nothing whole, a fault, or a frame of so many bytes.
+// What stands at the prefix of bytes: nothing whole, a fault, or a frame of so many bytes.
 fn look(bytes: &[u8]) -> Option<Result<usize, FrameError>>
     ensures { Looks result bytes.now }
 {

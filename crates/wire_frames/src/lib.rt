@@ -1,15 +1,15 @@
 //! Frames: the messages between nodes, as types and as bytes.
 #![tactic(auto)]
 
-pub mod buffer;
-pub mod fault;
-pub mod frame;
-pub mod laws;
-pub mod lent;
-pub mod reader;
-pub mod reading;
-pub mod view;
-pub mod writing;
+mod buffer;
+mod fault;
+mod frame;
+mod laws;
+mod lent;
+mod reader;
+mod reading;
+mod view;
+mod writing;
 
 pub use fault::FrameError;
 pub use frame::{Frame, Kind, MAX_BODY, WireMessage};

@@ -71,7 +71,7 @@ impl FrameReader {
         ensures carried { (came : List ℕ) (given : List Frame) → IsCarried came given self.old
             → IsCarried came (given ++ frames_in (next_of self.old)) (after_next self.old) }
     {
-        match self.buffer.step() {
+        match self.buffer.advance() {
             None => None,
             Some(Err(fault)) => Some(Err(fault)),
             Some(Ok(())) => Some(Ok(self.buffer.current())),
@@ -84,7 +84,7 @@ impl FrameReader {
         ensures left { self.new ≡ read_up self.old.ending }
     {
         loop {
-            match self.buffer.step() {
+            match self.buffer.advance() {
                 None => return None,
                 Some(Err(fault)) => return Some(fault),
                 Some(Ok(())) => {}

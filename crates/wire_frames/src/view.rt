@@ -8,7 +8,7 @@ ghost use Rattle.wire_frames.specs.declared.frame.Kind.TheVariants as kind;
 ghost use Rattle.wire_frames.specs.Plain.{IsPlain};
 ghost use Rattle.wire_frames.specs.Messages.{message_at};
 ghost use Rattle.wire_frames.specs.Frames.{frame_at, as_frame, frame_of, SpellsBody, IsFitFrame};
-ghost use Rattle.wire_frames.specs.Parts.{ArePartsOf, Checks, TellsParts, said, IsOther};
+ghost use Rattle.wire_frames.specs.Parts.{ArePartsOf, Checks, GivesParts, said, IsOther};
 ghost use Rattle.wire_frames.specs.Views.{shown, shown_read};
 
 use crate::fault::FrameError;
@@ -142,7 +142,7 @@ fn own(alloc: Global, message: MessageView) -> Result<WireMessage, AllocError>
 
 // The parts of a body that is a frame.
 fn parts_of(body: &[u8]) -> Option<Parts<'_>>
-    ensures { TellsParts result (frame_of body.now) }
+    ensures { GivesParts result (frame_of body.now) }
 {
     let mut reader = Reader::new(body);
     let Ok(byte) = reader.byte() else {

@@ -6,10 +6,9 @@ ghost use Rattle.wire_frames.specs.Frames.{SpellsBody, SpellsFrame, IsFitFrame, 
 
 use crate::frame::{Frame, WireMessage};
 use bytes::{BufMut, Bytes, BytesMut};
-use cluster_state::StateId;
-use cluster_state::encoding::write_shared_state;
-use cluster_state::writing::{
-    write_flag, write_id, write_ids, write_optional_id, write_state_id, write_term,
+use cluster_state::{
+    StateId, write_flag, write_id, write_ids, write_optional_id, write_shared_state,
+    write_state_id, write_term,
 };
 use std::alloc::{AllocError, Global};
 

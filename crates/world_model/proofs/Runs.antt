@@ -5,7 +5,7 @@ use Rattle.cluster_state.specs.declared.state.Kept.{Kept}
 use Rattle.world_model.specs.Acts.{Act, Outcome, NodeHistory, Bootstrap, StartJoin, TakeJoin, Value, Publish, Response, Commit, Open, NoActs, Then, Answered, Disk, Crashed}
 use Rattle.world_model.specs.NodeState.{NodeState, node_state, durable_of}
 use Rattle.world_model.specs.Replies.{IsOutcomeAt}
-use Rattle.world_model.specs.Steps.{node_state_after}
+use Rattle.world_model.specs.Moves.{node_state_after}
 use Rattle.world_model.specs.Histories.{History, node_history, is_down, Continues, ContinuesUnlessFirst, MayFollow, IsLocal, IsLegal}
 use Rattle.world_model.specs.Local.{BeginsEmpty, IsSourcedAll, then_run, OpensWith, then_runs, AreRuns}
 use Rattle.world_model.proofs.Assemble.{assembled}

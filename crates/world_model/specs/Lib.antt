@@ -9,4 +9,4 @@ pub mod Replies
 pub mod Restarts
 pub mod Safety
 pub mod Settled
-pub mod Steps
+pub mod Moves

@@ -1,8 +1,8 @@
 //! The model: what nodes do, what follows from it, when a history is legal, and what a legal history promises.
 #![tactic(auto)]
 
-pub mod acts;
-pub mod laws;
+mod acts;
+mod laws;
 
 pub use acts::{Act, ActReply, Cause, Message, Outcome};
 pub use laws::{

@@ -2,7 +2,7 @@
 use Rattle.std.proofs.Common.{◌≡◌, ℕ, ◌≤◌, Option, Some, List, [], length, take, refl, sym, ◌∙◌, ap, subst, arith, inl, inr, ◌⊎◌, append-nil}
 use Rattle.std.proofs.lemmas.List.{take_all, length-take}
 use Rattle.zen_disk.specs.Faults.{Rose}
-use Rattle.zen_link.specs.Streams.{Appended, AppendedFront}
+use Rattle.zen_link.specs.Streams.{Appended, AppendedPrefix}
 use Rattle.schedule_text.specs.declared.fault.BadSchedule.{BadSchedule}
 use Rattle.schedule_text.specs.declared.level.Level.{Level}
 use Rattle.schedule_text.specs.declared.schedule.Schedule.{Schedule}
@@ -50,19 +50,19 @@ module _ (level : Level) where
 
 -- ---- of what was written
 
-whole_front : (was now : Option (List ℕ)) (bytes : List ℕ) → Appended was now bytes → AppendedFront was now bytes
+whole_front : (was now : Option (List ℕ)) (bytes : List ℕ) → Appended was now bytes → AppendedPrefix was now bytes
 whole_front was now bytes written = record { front = bytes; rest = []; whole = append-nil bytes; appended = written }
 
-no_front : (was now : Option (List ℕ)) (bytes : List ℕ) → Appended was now [] → AppendedFront was now bytes
+no_front : (was now : Option (List ℕ)) (bytes : List ℕ) → Appended was now [] → AppendedPrefix was now bytes
 no_front was now bytes written = record { front = []; rest = bytes; whole = refl; appended = written }
 
 module _ (level : Level) where
   -- a prefix of the trace of the schedule that the bytes spell, where they spell one
   abbrev IsTraced : List ℕ → (was now : Option (List ℕ)) → Type 0
-  IsTraced bytes was now = (s : Schedule) → Spells level bytes s → AppendedFront was now (trace_at level s) × IsSafeTraceAt level s
+  IsTraced bytes was now = (s : Schedule) → Spells level bytes s → AppendedPrefix was now (trace_at level s) × IsSafeTraceAt level s
 
-  traced : (bytes : List ℕ) (was now : Option (List ℕ)) (s : Schedule) → Spells level bytes s → AppendedFront was now (trace_at level s) → IsTraced bytes was now
-  traced bytes was now s spelled written t other = (subst (λ (x : Schedule). AppendedFront was now (trace_at level x)) (one_schedule level bytes s t spelled other) written, spells_safe_trace level bytes t other)
+  traced : (bytes : List ℕ) (was now : Option (List ℕ)) (s : Schedule) → Spells level bytes s → AppendedPrefix was now (trace_at level s) → IsTraced bytes was now
+  traced bytes was now s spelled written t other = (subst (λ (x : Schedule). AppendedPrefix was now (trace_at level x)) (one_schedule level bytes s t spelled other) written, spells_safe_trace level bytes t other)
 
   traced_nothing : (bytes : List ℕ) (was now : Option (List ℕ)) → Appended was now [] → IsTraced bytes was now
   traced_nothing bytes was now written s spelled = (no_front was now (trace_at level s) written, spells_safe_trace level bytes s spelled)
@@ -111,14 +111,14 @@ module _ (level : Level) (source source_now : SourceView) (sink sink_now : SinkV
       complete = λ t sp r w. inl refl;
     })
 
-    pub cut_short : (s : Schedule) → Spells level bytes s → AppendedFront sink.written sink_now.written (trace_at level s) → Rose sink.faults sink_now.faults → ReplayEnded level source source_now sink sink_now exit.WriteFault
+    pub cut_short : (s : Schedule) → Spells level bytes s → AppendedPrefix sink.written sink_now.written (trace_at level s) → Rose sink.faults sink_now.faults → ReplayEnded level source source_now sink sink_now exit.WriteFault
     cut_short s spelled written rose = ended exit.WriteFault tt (λ e. absurd cc) (λ _. rose) (λ bs e. let l = left_of bs s e spelled in record {
       ended = ((told bs e).1, inl (record { schedule = s; spelled = l.0; written = written; safe_trace = spells_safe_trace level bs s l.0 }));
       traced = traced level bs sink.written sink_now.written s l.0 written;
       complete = λ t sp r w. absurd (w rose);
     })
 
-    pub out_of_memory : (s : Schedule) → Spells level bytes s → AppendedFront sink.written sink_now.written (trace_at level s) → ReplayEnded level source source_now sink sink_now exit.NoMemory
+    pub out_of_memory : (s : Schedule) → Spells level bytes s → AppendedPrefix sink.written sink_now.written (trace_at level s) → ReplayEnded level source source_now sink sink_now exit.NoMemory
     out_of_memory s spelled written = ended exit.NoMemory tt (λ e. absurd cc) (λ e. absurd cc) (λ bs e. let l = left_of bs s e spelled in record {
       ended = inl (record { schedule = s; spelled = l.0; written = written; safe_trace = spells_safe_trace level bs s l.0 });
       traced = traced level bs sink.written sink_now.written s l.0 written;

@@ -17,7 +17,7 @@ use Rattle.state_journal.specs.Journal.{found_of, FoundAsSome}
 use Rattle.state_journal.specs.Opening.{handed_back, IsWhyOf, RanUntil, RoseIfDisk}
 use Rattle.node_loop.specs.declared.node.End.{End}
 use Rattle.node_loop.specs.declared.node.End.TheVariants as ends
-use Rattle.node_loop.specs.Tells.{HasCauses}
+use Rattle.node_loop.specs.Reported.{HasCauses}
 use Rattle.command_line.specs.declared.command.NodeWords.{NodeWords}
 use Rattle.zen_host.specs.Views.{HostView}
 use Rattle.journal_inspection.specs.Inspects.{LeavesLinks}
@@ -111,7 +111,7 @@ module _ {D L : Type 0} (d : Disks D) (l : Links L Sealed) (w : NodeWords) (host
   refused_complete given (refused.Memory back) status kept said is_why found cause quiet = inr (inr said.0)
 
   pub unopened : (given : D) (error : OpenError D) (status : Status) → IsGiven d.faults host.disk_ready given → (d.told → IsWhyOf (d.seen given) error)
-      → (d.told → LeavesOnly d.moment d.left_since given (handed_back error) (FoundAsSome (d.may_leave given))) → (d.told → RanUntil d.steps (d.seen given) given error) → RefusedBy error sink.written sink_now.written status
+      → (d.told → LeavesOnly d.moment d.left_since given (handed_back error) (FoundAsSome (d.may_leave given))) → (d.told → RanUntil d.moves (d.seen given) given error) → RefusedBy error sink.written sink_now.written status
       → host_now.calls ≡ and_call host.calls (OpensDisk w.dir false) → host_now.disk_back ≡ Some (handed_back error) → LeavesLinks host host_now → RoseIfDisk d.faults (d.faults given) error
       → NodeRun d l w host host_now sink sink_now status
   unopened given error status is_given why any_moment calls said asked back links cause = record {

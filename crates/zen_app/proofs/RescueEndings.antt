@@ -4,7 +4,7 @@ use Rattle.std.specs.List.{AllByRecursion}
 use Rattle.voting_config.specs.Ids.{Id, IsIdSet}
 use Rattle.zen_disk.specs.Faults.{Rose}
 use Rattle.zen_link.specs.Reading.{ReadsAtMost, IsInput}
-use Rattle.zen_link.specs.Streams.{Appended, AppendedFront}
+use Rattle.zen_link.specs.Streams.{Appended, AppendedPrefix}
 use Rattle.schedule_text.specs.Limits.{most_lines}
 use Rattle.schedule_text.specs.Lines.{FitsLine}
 use Rattle.schedule_text.specs.Printed.{bad_line}
@@ -101,11 +101,11 @@ module _ (ids : List Id) (source source_now : SourceView) (sink sink_now : SinkV
               (subst (λ (x : Schedule). rescue_of (length bs) x ids ≡ Ok p.0.plan) (one_schedule Core bs p.0.schedule s p.0.spelled sp) p.0.planned) (inl refl);
         })
 
-    pub cut : (text : List ℕ) → HasPlan bytes ids text → AppendedFront sink.written sink_now.written text → Rose sink.faults sink_now.faults → Ended exit.WriteFault
+    pub cut : (text : List ℕ) → HasPlan bytes ids text → AppendedPrefix sink.written sink_now.written text → Rose sink.faults sink_now.faults → Ended exit.WriteFault
     cut text r written rose = ended exit.WriteFault tt (λ e. absurd cc) (λ _. rose) (λ bs e.
         let p = planned_by text bs e r in
         record {
-          ended = ((told bs e).1, inl (p.0, subst (AppendedFront sink.written sink_now.written) p.1 written));
+          ended = ((told bs e).1, inl (p.0, subst (AppendedPrefix sink.written sink_now.written) p.1 written));
           complete = λ s sp no_read no_write. absurd (no_write rose);
         })
 
@@ -137,7 +137,7 @@ module _ (ids : List Id) (source source_now : SourceView) (sink sink_now : SinkV
         from (inr (inl is)) = subst Ended (sym is) (ended exit.WriteFault tt (λ e. absurd cc) (λ _. (w.cut is).1) (λ bs e.
             let u = unplanned bs e in
             record {
-              ended = ((told bs e).1, inr (inl (u.0, subst (λ (x : NoRescue). AppendedFront sink.written sink_now.written (no_rescue_line x)) (sym u.1) (w.cut is).0)));
+              ended = ((told bs e).1, inr (inl (u.0, subst (λ (x : NoRescue). AppendedPrefix sink.written sink_now.written (no_rescue_line x)) (sym u.1) (w.cut is).0)));
               complete = λ s sp no_read no_write. absurd (no_write (w.cut is).1);
             }))
         from (inr (inr is)) = subst Ended (sym is) (no_memory (w.nothing is))

@@ -42,10 +42,10 @@ abbrev pub one_up : Id → Option UpNode → Result UpNode NoRescue
 one_up id None = Err (NotUp id)
 one_up id (Some node) = Ok node
 
--- what is known of the nodes, each of which must be up, after those of `front`
-abbrev pub all_up : List SurveyedNode → (front : List UpNode) → List Id → Result (List UpNode) NoRescue
-all_up nodes front [] = Ok front
-all_up nodes front (id ∷ ids) = one_up id (up_of (found_in nodes id)) >>= λ node. all_up nodes (front ++ node ∷ []) ids
+-- what is known of the nodes, each of which must be up, after those of `prefix`
+abbrev pub all_up : List SurveyedNode → (prefix : List UpNode) → List Id → Result (List UpNode) NoRescue
+all_up nodes prefix [] = Ok prefix
+all_up nodes prefix (id ∷ ids) = one_up id (up_of (found_in nodes id)) >>= λ node. all_up nodes (prefix ++ node ∷ []) ids
 
 -- no node has an order left
 abbrev pub all_free : List SurveyedNode → List Id → Result (Unit {0}) NoRescue

@@ -1,6 +1,6 @@
 -- Part of the statement: what is written where the bytes that were read are no schedule.
 use Rattle.std.specs.Prelude.{◌≡◌, ℕ, Option, Some, List}
-use Rattle.zen_link.specs.Streams.{Appended, AppendedFront}
+use Rattle.zen_link.specs.Streams.{Appended, AppendedPrefix}
 use Rattle.schedule_text.specs.declared.fault.BadSchedule.{BadSchedule}
 use Rattle.schedule_text.specs.declared.level.Level.{Level}
 use Rattle.schedule_text.specs.Reading.{fault_of}
@@ -21,4 +21,4 @@ pub record RefusedPrefix (level : Level) (bytes : List ℕ) (was now : Option (L
   pub bad : BadSchedule
   pub fault : fault_of level (read_of bytes) ≡ Some bad
   pub first : IsFirstBad level bad.line (read_of bytes)
-  pub written : AppendedFront was now (bad_line bad)
+  pub written : AppendedPrefix was now (bad_line bad)

@@ -5,7 +5,7 @@ use Rattle.zen_disk.specs.Moments.{LeavesOnly}
 use Rattle.zen_disk.specs.Sides.{Files}
 use Rattle.zen_disk.specs.declared.disks.Disks.{Ghosts as Disks}
 use Rattle.zen_link.specs.declared.link.Link.{Ghosts as Links}
-use Rattle.zen_link.specs.Streams.{Appended, AppendedFront}
+use Rattle.zen_link.specs.Streams.{Appended, AppendedPrefix}
 use Rattle.zen_host.specs.HostCalls.{ToldPeer, OpensDisk, OpensLink, and_call}
 use Rattle.cluster_state.specs.declared.state.Kept.{Kept}
 use Rattle.world_model.specs.Histories.{IsLocal}
@@ -23,7 +23,7 @@ use Rattle.coordinator.specs.declared.step.Sealed.{Sealed}
 use Rattle.node_loop.specs.Crashes.{IsLastRecord, has_crashed}
 use Rattle.node_loop.specs.Reporting.{sent_of}
 use Rattle.node_loop.specs.Running.{HoldsOn}
-use Rattle.node_loop.specs.Tells.{HasCauses}
+use Rattle.node_loop.specs.Reported.{HasCauses}
 use Rattle.node_loop.specs.Texts.{entry_text, opening_text}
 use Rattle.node_loop.specs.Turns.{Serves}
 use Rattle.command_line.specs.declared.command.NodeWords.{NodeWords}
@@ -58,7 +58,7 @@ status_after ends.Memory = exit.NoMemory
 
 -- a line was written whole, with this status, or a prefix of it
 abbrev pub SaysLine : List ℕ → Status → (was now : Option (List ℕ)) → Status → Type 0
-SaysLine line whole was now exit.WriteFault = AppendedFront was now line
+SaysLine line whole was now exit.WriteFault = AppendedPrefix was now line
 SaysLine line whole was now exit.NoMemory = Appended was now []
 SaysLine line whole was now status = (status ≡ whole) × Appended was now line
 
@@ -121,7 +121,7 @@ module _ {D L : Type 0} (d : Disks D) (l : Links L Sealed) (w : NodeWords) (host
     pub error : OpenError D
     pub why : d.told → IsWhyOf (d.seen given) error
     pub any_moment : d.told → LeavesOnly d.moment d.left_since given (handed_back error) (FoundAsSome (d.may_leave given))
-    pub calls : d.told → RanUntil d.steps (d.seen given) given error
+    pub calls : d.told → RanUntil d.moves (d.seen given) given error
     pub refused : RefusedBy error sink.written sink_now.written status
     pub asked : host_now.calls ≡ and_call host.calls (OpensDisk w.dir false)
     pub back : host_now.disk_back ≡ Some (handed_back error)

@@ -3,7 +3,7 @@ use Rattle.std.specs.Prelude.{◌≡◌, ℕ, ◌≤◌, ◌⊎◌, Option, None
 use Rattle.zen_disk.specs.Faults.{Rose}
 use Rattle.zen_disk.specs.declared.disks.Disks.{Ghosts as Disks}
 use Rattle.zen_link.specs.declared.link.Link.{Ghosts as Links}
-use Rattle.zen_link.specs.Streams.{Appended, AppendedFront}
+use Rattle.zen_link.specs.Streams.{Appended, AppendedPrefix}
 use Rattle.schedule_text.specs.declared.level.Level.{Level}
 use Rattle.schedule_text.specs.declared.schedule.Schedule.{Schedule}
 use Rattle.schedule_text.specs.Spelled.{Spells}
@@ -52,7 +52,7 @@ pub record Replayed (level : Level) (bytes : List ℕ) (was now : Option (List �
 pub record ReplayedPrefix (level : Level) (bytes : List ℕ) (was now : Option (List ℕ)) : Type 0 where
   pub schedule : Schedule
   pub spelled : Spells level bytes schedule
-  pub written : AppendedFront was now (trace_at level schedule)
+  pub written : AppendedPrefix was now (trace_at level schedule)
   pub safe_trace : IsSafeTraceAt level schedule
 
 -- ---- how a run ends
@@ -73,7 +73,7 @@ pub record Replays (level : Level) (bytes : List ℕ) (source source_now : Sourc
   pub ended : ReplayEnds level bytes source_now.left sink.written sink_now.written status
   -- whatever the status: of a schedule a prefix of its trace was written, and the history that the trace tells is legal and safe
   pub traced : (s : Schedule) → Spells level bytes s
-      → AppendedFront sink.written sink_now.written (trace_at level s) × IsSafeTraceAt level s
+      → AppendedPrefix sink.written sink_now.written (trace_at level s) × IsSafeTraceAt level s
   -- a schedule, with no fault counted, is replayed to the end, unless memory runs out
   pub complete : (s : Schedule) → Spells level bytes s → (Rose source.faults source_now.faults → ⊥) → (Rose sink.faults sink_now.faults → ⊥)
       → (status ≡ exit.Ok) ⊎ (status ≡ exit.NoMemory)
@@ -125,7 +125,7 @@ pub record AuditRun (source source_now : SourceView) (sink sink_now : SinkView) 
 -- how a run ends whose words are no command
 abbrev pub RefusesWords : (was now : Option (List ℕ)) → Status → Type 0
 RefusesWords was now exit.Usage = Appended was now usage_line
-RefusesWords was now exit.WriteFault = AppendedFront was now usage_line
+RefusesWords was now exit.WriteFault = AppendedPrefix was now usage_line
 RefusesWords was now exit.NoMemory = Appended was now []
 RefusesWords was now other = ⊥
 

@@ -2,7 +2,7 @@
 use Rattle.std.specs.Prelude.{◌≡◌, ℕ, ◌⊎◌, Option, Some, Result, Ok, Err, List, [], length}
 use Rattle.voting_config.specs.Ids.{Id}
 use Rattle.zen_disk.specs.Faults.{Rose}
-use Rattle.zen_link.specs.Streams.{Appended, AppendedFront}
+use Rattle.zen_link.specs.Streams.{Appended, AppendedPrefix}
 use Rattle.schedule_text.specs.Spelled.{Spells}
 use Rattle.schedule_text.specs.declared.level.Level.TheVariants.{Core}
 use Rattle.schedule_text.specs.declared.schedule.Schedule.{Schedule}
@@ -42,8 +42,8 @@ RescueEnds ids bytes left_now was now exit.BadSchedule = (left_now ≡ Some (unr
 RescueEnds ids bytes left_now was now exit.NoMemory = Appended was now []
 RescueEnds ids bytes left_now was now exit.WriteFault =
     (left_now ≡ Some (unread_of bytes))
-    × (((p : Planned bytes ids) × AppendedFront was now (lines_text p.plan.lines))
-    ⊎ (((u : Unplanned bytes ids) × AppendedFront was now (no_rescue_line u.why))
+    × (((p : Planned bytes ids) × AppendedPrefix was now (lines_text p.plan.lines))
+    ⊎ (((u : Unplanned bytes ids) × AppendedPrefix was now (no_rescue_line u.why))
     ⊎ RefusedPrefix Core bytes was now))
 RescueEnds ids bytes left_now was now exit.ReadFault = Appended was now []
 RescueEnds ids bytes left_now was now other = ⊥

@@ -9,12 +9,12 @@ use Rattle.schedule_text.specs.declared.schedule.Line.{Line}
 use Rattle.schedule_text.specs.declared.schedule.Schedule.{Schedule}
 use Rattle.schedule_replay.specs.Replayed.{replayed}
 use Rattle.schedule_replay.specs.Showing.{Shows, Agrees}
-use Rattle.schedule_replay.specs.Told.{wins_of}
-use Rattle.schedule_replay.specs.TraceLaws.{Tells}
-use Rattle.schedule_replay.specs.TraceSteps.{steps}
-use Rattle.schedule_replay.specs.ClusterLaws.{ClusterTells}
-use Rattle.schedule_replay.specs.ClusterTold.{core_of}
-use Rattle.schedule_replay.specs.ClusterTraceSteps.{cluster_steps}
+use Rattle.schedule_replay.specs.HistoryShown.{wins_of}
+use Rattle.schedule_replay.specs.TraceLaws.{GivesHistory}
+use Rattle.schedule_replay.specs.TraceParts.{trace_parts}
+use Rattle.schedule_replay.specs.ClusterLaws.{ClusterGivesHistory}
+use Rattle.schedule_replay.specs.ClusterShown.{core_of}
+use Rattle.schedule_replay.specs.ClusterTraceParts.{cluster_parts}
 use Rattle.replay_node.specs.Clusters.{settings_of, replayed_history, replayed_life}
 use Rattle.client_guarantees.specs.Laws.{IsLifeIn}
 use Rattle.client_guarantees.specs.Replies.{RepliesTruly}
@@ -26,12 +26,12 @@ use Rattle.client_guarantees.specs.Replies.{RepliesTruly}
 pub record IsSafeTrace (s : Schedule) : Type 0 where
   pub legal : IsLegal s.initial (replayed s)
   pub safe : IsSafe s.initial (replayed s)
-  -- the trace is the text of its steps, and this history is read off these steps
-  pub tells : Tells s (steps s)
+  -- the trace is the text of its trace_parts, and this history is read off these trace_parts
+  pub tells : GivesHistory s (trace_parts s)
   -- the `won` lines are the wins of this history, and the `committed` lines show the states committed in it
-  pub shows : Shows (replayed s) (steps s)
+  pub shows : Shows (replayed s) (trace_parts s)
   -- no two `won` lines of one term name two nodes, and no two `committed` lines of one version differ
-  pub agrees : Agrees (steps s)
+  pub agrees : Agrees (trace_parts s)
 
 -- ---- level node: the lines are what reaches whole nodes, which elect masters, publish states and answer clients by the policy
 
@@ -54,14 +54,14 @@ pub record IsSafeClusterTrace (s : Schedule) : Type 0 where
   pub safe : IsSafe s.initial (replayed_history s)
   -- at the end of each line, so each reply is true of the history up to the end of its event
   pub nodes : (first rest : List Line) → s.lines ≡ first ++ rest → (n : Id) → has n s.nodes ≡ true → LivesByPolicy (up_to s first) n
-  -- the trace is the text of its steps; this history, the frames that were sent and the replies of each node are read off these steps
-  pub tells : ClusterTells s (cluster_steps s)
+  -- the trace is the text of its trace_parts; this history, the frames that were sent and the replies of each node are read off these trace_parts
+  pub tells : ClusterGivesHistory s (cluster_parts s)
   -- the `won` lines are the wins of this history, and the `committed` lines show the states committed in it
-  pub shows : Shows (replayed_history s) (core_of (cluster_steps s))
+  pub shows : Shows (replayed_history s) (core_of (cluster_parts s))
   -- no two `won` lines of one term name two nodes, and no two `committed` lines of one version differ
-  pub agrees : Agrees (core_of (cluster_steps s))
+  pub agrees : Agrees (core_of (cluster_parts s))
   -- no `won` line names a node that the header lists as voting-only
-  pub voting_only : (w : Win) → Contains (wins_of (core_of (cluster_steps s))) w → has w.node s.voting_only ≡ false
+  pub voting_only : (w : Win) → Contains (wins_of (core_of (cluster_parts s))) w → has w.node s.voting_only ≡ false
 
 -- ---- by level
 

@@ -1,17 +1,17 @@
 //! The program: its words, its commands, and how it ends.
 #![tactic(auto)]
 
-pub mod choosing;
-pub mod generating;
-pub mod refusals;
-pub mod replaying;
-pub mod rescue_text;
-pub mod rescuing;
-pub mod running;
-pub mod serving;
-pub mod status;
-pub mod tooling;
-pub mod trying;
+mod choosing;
+mod generating;
+mod refusals;
+mod replaying;
+mod rescue_text;
+mod rescuing;
+mod running;
+mod serving;
+mod status;
+mod tooling;
+mod trying;
 
 pub use running::run;
 pub use status::Status;

@@ -1,7 +1,7 @@
 -- How a run ends, from how its parts ended.
 use Rattle.std.proofs.Common.{◌≡◌, ℕ, ◌≤◌, Option, None, Some, Result, Ok, Err, List, [], length, refl, sym, ◌∙◌, ap, subst, inl, inr, ◌⊎◌, arith}
 use Rattle.zen_disk.specs.Faults.{Rose}
-use Rattle.zen_link.specs.Streams.{Appended, AppendedFront}
+use Rattle.zen_link.specs.Streams.{Appended, AppendedPrefix}
 use Rattle.trace_reader.specs.declared.fault.BadTrace.{BadTrace}
 use Rattle.trace_reader.specs.declared.told.TraceLine.{TraceLine}
 use Rattle.trace_reader.specs.Printed.{bad_line}
@@ -44,7 +44,7 @@ module _ (source source_now : SourceView) (sink sink_now : SinkView) (at_most : 
         record { lines = lines; read = is; picture = picture; draws = draws; written = written },
       ))
 
-  pub cut_short : (lines : List TraceLine) (picture : List ℕ) → trace_at bytes ≡ Ok lines → Draws lines picture → AppendedFront sink.written sink_now.written picture → Rose sink.faults sink_now.faults
+  pub cut_short : (lines : List TraceLine) (picture : List ℕ) → trace_at bytes ≡ Ok lines → Draws lines picture → AppendedPrefix sink.written sink_now.written picture → Rose sink.faults sink_now.faults
       → DrawEnded source source_now sink sink_now exit.WriteFault
   cut_short lines picture read draws written rose = ended exit.WriteFault tt (λ e. absurd cc) (λ _. rose) (λ bs e. (
     (told bs e).1,

@@ -1,7 +1,7 @@
 -- Part of the statement of `zen_chart`: how a run of the program ends. `Ran` is the contract of `run`.
 use Rattle.std.specs.Prelude.{◌≡◌, ℕ, ◌≤◌, ◌⊎◌, Bool, true, false, Option, Some, Result, Ok, Err, List, [], codes}
 use Rattle.zen_disk.specs.Faults.{Rose}
-use Rattle.zen_link.specs.Streams.{Appended, AppendedFront}
+use Rattle.zen_link.specs.Streams.{Appended, AppendedPrefix}
 use Rattle.trace_reader.specs.declared.fault.BadTrace.{BadTrace}
 use Rattle.trace_reader.specs.declared.told.TraceLine.{TraceLine}
 use Rattle.trace_reader.specs.Printed.{bad_line}
@@ -32,7 +32,7 @@ pub record DrawnPrefix (bytes : List ℕ) (was now : Option (List ℕ)) : Type 0
   pub read : trace_at bytes ≡ Ok lines
   pub picture : List ℕ
   pub draws : Draws lines picture
-  pub written : AppendedFront was now picture
+  pub written : AppendedPrefix was now picture
 
 -- the bytes are no trace, and which line is the first bad one and why was written
 pub record Refused (bytes : List ℕ) (was now : Option (List ℕ)) : Type 0 where
@@ -44,7 +44,7 @@ pub record Refused (bytes : List ℕ) (was now : Option (List ℕ)) : Type 0 whe
 pub record RefusedPrefix (bytes : List ℕ) (was now : Option (List ℕ)) : Type 0 where
   pub bad : BadTrace
   pub fault : trace_at bytes ≡ Err bad
-  pub written : AppendedFront was now (bad_line bad)
+  pub written : AppendedPrefix was now (bad_line bad)
 
 -- ---- how a run ends
 
@@ -73,7 +73,7 @@ pub record DrawRun (source source_now : SourceView) (sink sink_now : SinkView) (
 -- how a run ends that was given words
 abbrev pub RefusesWords : (was now : Option (List ℕ)) → Status → Type 0
 RefusesWords was now exit.Usage = Appended was now usage_line
-RefusesWords was now exit.WriteFault = AppendedFront was now usage_line
+RefusesWords was now exit.WriteFault = AppendedPrefix was now usage_line
 RefusesWords was now other = ⊥
 
 -- What a run does, by whether there are words. Where there are, it leaves the source as it was.

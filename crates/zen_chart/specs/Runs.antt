@@ -1,7 +1,7 @@
 -- For the contracts inside: what the parts of `run` say.
 use Rattle.std.specs.Prelude.{◌≡◌, ℕ, ◌≤◌, ◌⊎◌, Option, List, []}
 use Rattle.zen_disk.specs.Faults.{Rose}
-use Rattle.zen_link.specs.Streams.{Appended, AppendedFront}
+use Rattle.zen_link.specs.Streams.{Appended, AppendedPrefix}
 use Rattle.zen_chart.specs.Ran.{DrawRun, RefusesWords}
 use Rattle.zen_link.specs.Reading.{ReadsAtMost}
 use Rattle.zen_chart.specs.Reading.{most_read}
@@ -20,7 +20,7 @@ pub record UsageRun (was now : Option (List ℕ)) (wrote wrote_now : ℕ) (statu
 pub record Refusal (was now : Option (List ℕ)) (wrote wrote_now : ℕ) (line : List ℕ) (status : Status) : Type 0 where
   pub refused : (status ≡ exit.BadTrace) ⊎ ((status ≡ exit.WriteFault) ⊎ (status ≡ exit.NoMemory))
   pub whole : status ≡ exit.BadTrace → Appended was now line
-  pub cut : status ≡ exit.WriteFault → AppendedFront was now line × Rose wrote wrote_now
+  pub cut : status ≡ exit.WriteFault → AppendedPrefix was now line × Rose wrote wrote_now
   pub nothing : status ≡ exit.NoMemory → Appended was now []
   pub later : wrote ≤ wrote_now
 

@@ -1,8 +1,8 @@
 //! The program `zen_chart`: it reads a trace from the standard input and writes its picture to the standard output.
 #![tactic(auto)]
 
-pub mod running;
-pub mod status;
+mod running;
+mod status;
 #[cfg(test)]
 mod tests;
 

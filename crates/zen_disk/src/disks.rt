@@ -37,7 +37,7 @@ pub trait Disks {
     ghost faults: { Self → ℕ };
 
     /// Whether this call with this answer leads from one to the other, as far as that is told.
-    ghost steps: { Self → DeviceCall → Self → Bool → Type 0 };
+    ghost moves: { Self → DeviceCall → Self → Bool → Type 0 };
 
     /// How many bytes a side has.
     fn len(&mut self, side: Side) -> Result<u64, Failed>
@@ -45,7 +45,7 @@ pub trait Disks {
         ensures seen { seen self.new ≡ seen self.old }
         ensures crash { Within (may_leave self.old) (may_leave self.new) }
         ensures time { Elapses (moment self.old) (moment self.new) (left_since self.old) (left_since self.new) (may_leave self.new) }
-        ensures step { steps self.old (Len side) self.new (is_ok result) }
+        ensures moves { moves self.old (Len side) self.new (is_ok result) }
         ensures cause { HasCause (faults self.old) (faults self.new) result };
 
     /// Reads the bytes at an offset of a side.
@@ -55,7 +55,7 @@ pub trait Disks {
         ensures seen { seen self.new ≡ seen self.old }
         ensures crash { Within (may_leave self.old) (may_leave self.new) }
         ensures time { Elapses (moment self.old) (moment self.new) (left_since self.old) (left_since self.new) (may_leave self.new) }
-        ensures step { steps self.old (Read side at (length into.old)) self.new (is_ok result) }
+        ensures moves { moves self.old (Read side at (length into.old)) self.new (is_ok result) }
         ensures cause { HasCause (faults self.old) (faults self.new) result };
 
     /// Writes on one side over what is there, and past the end. Until a sync of that side, a crash may leave any bytes
@@ -67,7 +67,7 @@ pub trait Disks {
         ensures limit { OnOk result (at + length bytes.now ≤ most_file_bytes) }
         ensures crash { Follows (OnSide side (Torn at (length bytes.now))) (may_leave self.old) (may_leave self.new) }
         ensures time { Elapses (moment self.old) (moment self.new) (left_since self.old) (left_since self.new) (may_leave self.new) }
-        ensures step { steps self.old (Write side at bytes.now) self.new (is_ok result) }
+        ensures moves { moves self.old (Write side at bytes.now) self.new (is_ok result) }
         ensures cause { HasCause (faults self.old) (faults self.new) result };
 
     /// After it, a crash leaves on this side what a read gives.
@@ -76,7 +76,7 @@ pub trait Disks {
         ensures seen { seen self.new ≡ seen self.old }
         ensures crash { Within (may_leave self.old) (may_leave self.new) }
         ensures time { Elapses (moment self.old) (moment self.new) (left_since self.old) (left_since self.new) (may_leave self.new) }
-        ensures step { steps self.old (Sync side) self.new (is_ok result) }
+        ensures moves { moves self.old (Sync side) self.new (is_ok result) }
         ensures cause { HasCause (faults self.old) (faults self.new) result };
 
     /// A disk as it reads is one of the outcomes of a crash.

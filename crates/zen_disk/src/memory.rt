@@ -76,10 +76,10 @@ impl MemFile {
         ensures err_log { OnErr result (past_in self.new.log ≡ past_in self.old.log) }
         ensures err_order { OnErr result (order.new.items ≡ order.old.items) }
     {
-        let turn = order.len();
+        let before = order.len();
         order.push(side)?;
         let Ok(()) = write_over(&mut self.bytes, &mut self.log, at, bytes) else {
-            order.truncate(turn);
+            order.truncate(before);
             return Err(AllocError);
         };
         Ok(())
@@ -94,10 +94,10 @@ impl MemFile {
         ensures err_log { OnErr result (past_in self.new.log ≡ past_in self.old.log) }
         ensures err_order { OnErr result (order.new.items ≡ order.old.items) }
     {
-        let turn = order.len();
+        let before = order.len();
         order.push(side)?;
         let Ok(()) = self.log.note_sync() else {
-            order.truncate(turn);
+            order.truncate(before);
             return Err(AllocError);
         };
         Ok(())
@@ -143,7 +143,7 @@ fn write_over(
 }
 
 impl Disks for MemDisks {
-    ghost use Rattle.zen_disk.specs.MemDisks.{MemSteps, past_of, read_of};
+    ghost use Rattle.zen_disk.specs.MemDisks.{MemMoves, past_of, read_of};
 
     ghost told = { ⊤ };
 
@@ -157,7 +157,7 @@ impl Disks for MemDisks {
 
     ghost faults = { λ m. m.faults };
 
-    ghost steps = { MemSteps };
+    ghost moves = { MemMoves };
 
     ghost seen_may_stay = { λ m told. images-read (past_of m) (read_of m) };
 

@@ -73,19 +73,19 @@ pub trait Host {
     ghost faults: { Self → ℕ };
 
     /// Whether opening a disk with this result leads from one to the other, as far as the host tells.
-    ghost steps: { Self → Self → Result Self.Disk HostError → Type 0 };
+    ghost moves: { Self → Self → Result Self.Disk HostError → Type 0 };
 
     /// Whether opening a link with this result leads from one to the other, as far as the host tells.
-    ghost link_steps: { Self → Self → Result Self.Link HostError → Type 0 };
+    ghost link_moves: { Self → Self → Result Self.Link HostError → Type 0 };
 
     /// Whether spawning with this result leads from one to the other, as far as the host tells.
-    ghost spawn_steps: { Self → Self → Result Self.Child HostError → Type 0 };
+    ghost spawn_moves: { Self → Self → Result Self.Child HostError → Type 0 };
 
     /// Whether waiting for this child with this result leads from one to the other, as far as the host tells.
-    ghost wait_steps: { Self → Self → Self.Child → Result Ended HostError → Type 0 };
+    ghost wait_moves: { Self → Self → Self.Child → Result Ended HostError → Type 0 };
 
     /// Whether a killing with this result leads from one to the other, as far as the host tells.
-    ghost kill_steps: { Self → Self → Result (Unit {0}) HostError → Type 0 };
+    ghost kill_moves: { Self → Self → Result (Unit {0}) HostError → Type 0 };
 
     /// Opens the disk in a folder, whose count of faults is 0. `Failed` only where the host's count of faults rose.
     fn open_disk(&mut self, dir: &str) -> Result<Self::Disk, HostError>
@@ -99,7 +99,7 @@ pub trait Host {
         ensures running { running self.new ≡ running self.old }
         ensures later { faults self.old ≤ faults self.new }
         ensures failed { IsErrOf result HostError.Failed → Rose (faults self.old) (faults self.new) }
-        ensures steps { steps self.old self.new result };
+        ensures moves { moves self.old self.new result };
 
     /// Opens a link with these settings, whose count of faults is 0. `Failed` only where the host's count of faults rose.
     fn open_link(&mut self, settings: &LinkSettings) -> Result<Self::Link, HostError>
@@ -113,7 +113,7 @@ pub trait Host {
         ensures running { running self.new ≡ running self.old }
         ensures later { faults self.old ≤ faults self.new }
         ensures failed { IsErrOf result HostError.Failed → Rose (faults self.old) (faults self.new) }
-        ensures steps { link_steps self.old self.new result };
+        ensures moves { link_moves self.old self.new result };
 
     /// Takes a disk back.
     fn close_disk(&mut self, disk: Self::Disk)
@@ -150,7 +150,7 @@ pub trait Host {
         ensures link_back { link_back self.new ≡ link_back self.old }
         ensures later { faults self.old ≤ faults self.new }
         ensures failed { IsErrOf result HostError.Failed → Rose (faults self.old) (faults self.new) }
-        ensures steps { spawn_steps self.old self.new result };
+        ensures moves { spawn_moves self.old self.new result };
 
     /// Waits until a child has ended. The other children go on meanwhile, however much they write. `Failed` only where the
     /// host's count of faults rose. The host ends the child then, and where memory ran out; where it can't, the child runs on.
@@ -165,7 +165,7 @@ pub trait Host {
         ensures link_back { link_back self.new ≡ link_back self.old }
         ensures later { faults self.old ≤ faults self.new }
         ensures failed { IsErrOf result HostError.Failed → Rose (faults self.old) (faults self.new) }
-        ensures steps { wait_steps self.old self.new child result };
+        ensures moves { wait_moves self.old self.new child result };
 
     /// Ends a child at once. `Failed` only where the host's count of faults rose. Where it is refused, the child runs on.
     fn kill(&mut self, child: Self::Child) -> Result<(), HostError>
@@ -179,5 +179,5 @@ pub trait Host {
         ensures link_back { link_back self.new ≡ link_back self.old }
         ensures later { faults self.old ≤ faults self.new }
         ensures failed { IsErrOf result HostError.Failed → Rose (faults self.old) (faults self.new) }
-        ensures steps { kill_steps self.old self.new result };
+        ensures moves { kill_moves self.old self.new result };
 }

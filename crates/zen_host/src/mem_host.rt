@@ -199,7 +199,12 @@ fn note(asked: &mut Vec<Asked>, call: Asked) -> Result<(), AllocError>
 }
 
 // Notes a call to open the disk in a folder.
-fn tell(alloc: Global, asked: &mut Vec<Asked>, dir: &str, refused: bool) -> Result<(), AllocError>
+fn note_disk(
+    alloc: Global,
+    asked: &mut Vec<Asked>,
+    dir: &str,
+    refused: bool,
+) -> Result<(), AllocError>
     ensures told { OnOk result (map call_of asked.new.items ≡ map call_of asked.old.items ++ OpensDisk dir.now refused ∷ []) }
     ensures kept { OnErr result (asked.new.items ≡ asked.old.items) }
 {
@@ -215,7 +220,7 @@ fn refuse(alloc: Global, asked: &mut Vec<Asked>, faults: &mut u64, dir: &str) ->
     ensures same { result ≡ HostError.Memory → faults.new ≡ faults.old }
     ensures later { faults.old ≤ faults.new }
 {
-    let Ok(()) = tell(alloc, asked, dir, true) else {
+    let Ok(()) = note_disk(alloc, asked, dir, true) else {
         return HostError::Memory;
     };
     count_refusal(faults)
@@ -248,7 +253,7 @@ fn copy_settings(alloc: Global, settings: &LinkSettings) -> Result<LinkSettings,
 }
 
 // Notes a call to open a link with these settings.
-fn tell_link(
+fn note_link(
     alloc: Global,
     asked: &mut Vec<Asked>,
     settings: &LinkSettings,
@@ -276,7 +281,7 @@ fn refuse_link(
     ensures same { result ≡ HostError.Memory → faults.new ≡ faults.old }
     ensures later { faults.old ≤ faults.new }
 {
-    let Ok(()) = tell_link(alloc, asked, settings, true) else {
+    let Ok(()) = note_link(alloc, asked, settings, true) else {
         return HostError::Memory;
     };
     count_refusal(faults)
@@ -293,7 +298,7 @@ fn copy_words(alloc: Global, words: &[String]) -> Result<Vec<String>, AllocError
 }
 
 // Notes a call to run a program with these words.
-fn tell_spawn(
+fn note_spawn(
     alloc: Global,
     asked: &mut Vec<Asked>,
     program: &str,
@@ -331,7 +336,7 @@ fn refuse_spawn(
     ensures same { result ≡ HostError.Memory → faults.new ≡ faults.old }
     ensures later { faults.old ≤ faults.new }
 {
-    let Ok(()) = tell_spawn(alloc, asked, program, words, true) else {
+    let Ok(()) = note_spawn(alloc, asked, program, words, true) else {
         return HostError::Memory;
     };
     count_refusal(faults)
@@ -348,7 +353,7 @@ fn copy_end(alloc: Global, ended: &Ended) -> Result<Ended, AllocError>
 }
 
 // Notes a wait for the child that this call spawned, which ended so.
-fn tell_end(
+fn note_end(
     alloc: Global,
     asked: &mut Vec<Asked>,
     child: usize,
@@ -369,7 +374,7 @@ fn tell_end(
 }
 
 // Refuses a call that was noted so, and counts a fault.
-fn refuse_told(asked: &mut Vec<Asked>, faults: &mut u64, call: Asked) -> HostError
+fn refuse_noted(asked: &mut Vec<Asked>, faults: &mut u64, call: Asked) -> HostError
     ensures told { result ≡ HostError.Failed → map call_of asked.new.items ≡ map call_of asked.old.items ++ call_of call ∷ [] }
     ensures kept { result ≡ HostError.Memory → asked.new.items ≡ asked.old.items }
     ensures rose { result ≡ HostError.Failed → Rose faults.old faults.new }
@@ -413,19 +418,19 @@ impl<D: Disks + Drop, L: Link + Drop> Host for MemHost<D, L> {
 
     ghost faults = { λ host. host.faults };
 
-    ghost steps = { λ old new result. MemOpens old.fails.items new.fails.items old.number new.number old.disk new.disk old.faults new.faults
+    ghost moves = { λ old new result. MemOpens old.fails.items new.fails.items old.number new.number old.disk new.disk old.faults new.faults
         result };
 
-    ghost link_steps = { λ old new result. MemOpens old.fails.items new.fails.items old.number new.number old.link new.link old.faults
+    ghost link_moves = { λ old new result. MemOpens old.fails.items new.fails.items old.number new.number old.link new.link old.faults
         new.faults result };
 
-    ghost spawn_steps = { λ old new result. MemSpawns old.fails.items new.fails.items old.number new.number old.ends.items new.ends.items
+    ghost spawn_moves = { λ old new result. MemSpawns old.fails.items new.fails.items old.number new.number old.ends.items new.ends.items
         old.running old.faults new.faults result };
 
-    ghost wait_steps = { λ old new child result. MemWaits old.fails.items new.fails.items old.number new.number old.ends new.ends child
+    ghost wait_moves = { λ old new child result. MemWaits old.fails.items new.fails.items old.number new.number old.ends new.ends child
         old.faults new.faults result };
 
-    ghost kill_steps = { λ old new result. MemKills old.fails.items new.fails.items old.number new.number old.ends new.ends old.faults
+    ghost kill_moves = { λ old new result. MemKills old.fails.items new.fails.items old.number new.number old.ends new.ends old.faults
         new.faults result };
 
     fn open_disk(&mut self, dir: &str) -> Result<D, HostError> {
@@ -436,7 +441,7 @@ impl<D: Disks + Drop, L: Link + Drop> Host for MemHost<D, L> {
         let Some(disk) = self.disk.take() else {
             return Err(refuse(self.alloc, &mut self.asked, &mut self.faults, dir));
         };
-        let Ok(()) = tell(self.alloc, &mut self.asked, dir, false) else {
+        let Ok(()) = note_disk(self.alloc, &mut self.asked, dir, false) else {
             self.disk = Some(disk);
             return Err(HostError::Memory);
         };
@@ -451,7 +456,7 @@ impl<D: Disks + Drop, L: Link + Drop> Host for MemHost<D, L> {
         let Some(link) = self.link.take() else {
             return Err(refuse_link(self.alloc, &mut self.asked, &mut self.faults, settings));
         };
-        let Ok(()) = tell_link(self.alloc, &mut self.asked, settings, false) else {
+        let Ok(()) = note_link(self.alloc, &mut self.asked, settings, false) else {
             self.link = Some(link);
             return Err(HostError::Memory);
         };
@@ -480,7 +485,7 @@ impl<D: Disks + Drop, L: Link + Drop> Host for MemHost<D, L> {
                 words,
             ));
         }
-        let Ok(()) = tell_spawn(self.alloc, &mut self.asked, program, words, false) else {
+        let Ok(()) = note_spawn(self.alloc, &mut self.asked, program, words, false) else {
             return Err(HostError::Memory);
         };
         self.running += 1;
@@ -502,9 +507,9 @@ impl<D: Disks + Drop, L: Link + Drop> Host for MemHost<D, L> {
                 child: number,
                 ended: None,
             };
-            return Err(refuse_told(&mut self.asked, &mut self.faults, call));
+            return Err(refuse_noted(&mut self.asked, &mut self.faults, call));
         }
-        let Ok(()) = tell_end(self.alloc, &mut self.asked, number, &ended) else {
+        let Ok(()) = note_end(self.alloc, &mut self.asked, number, &ended) else {
             return Err(HostError::Memory);
         };
         Ok(ended)
@@ -519,7 +524,7 @@ impl<D: Disks + Drop, L: Link + Drop> Host for MemHost<D, L> {
             refused,
         };
         if refused {
-            return Err(refuse_told(&mut self.asked, &mut self.faults, call));
+            return Err(refuse_noted(&mut self.asked, &mut self.faults, call));
         }
         let Ok(()) = note(&mut self.asked, call) else {
             return Err(HostError::Memory);

@@ -2,7 +2,7 @@
 use Rattle.std.proofs.Common.{◌≡◌, ℕ, ◌+◌, ◌<◌, Option, None, Some, List, [], ◌++◌, length, take, drop, sym, ◌∙◌, ap, subst, arith, append_assoc, append-nil}
 use Rattle.std.proofs.Math.Seq.{take-add}
 use Rattle.std.proofs.lemmas.List.{length-drop, take-append-drop}
-use Rattle.zen_link.specs.Streams.{Appended, AppendedFront, AppendedPart}
+use Rattle.zen_link.specs.Streams.{Appended, AppendedPrefix, AppendedPart}
 
 pub appended_more : (a b c : Option (List ℕ)) (xs ys : List ℕ) → Appended a b xs → Appended b c ys → Appended a c (xs ++ ys)
 appended_more None b c xs ys g h = subst (λ (x : Option (List ℕ)). Appended x c ys) g h
@@ -18,7 +18,7 @@ appended_none None = λ i. None
 appended_none (Some was) = ap (λ (l : List ℕ). Some l) (sym (append-nil was))
 
 -- a piece, and then a prefix of what follows it
-pub front_after : (a b c : Option (List ℕ)) (piece rest : List ℕ) → Appended a b piece → AppendedFront b c rest → AppendedFront a c (piece ++ rest)
+pub front_after : (a b c : Option (List ℕ)) (piece rest : List ℕ) → Appended a b piece → AppendedPrefix b c rest → AppendedPrefix a c (piece ++ rest)
 front_after a b c piece rest g h = record {
   front = piece ++ h.front;
   rest = h.rest;
@@ -27,7 +27,7 @@ front_after a b c piece rest g h = record {
 }
 
 -- a prefix of a prefix
-pub front_within : (a b : Option (List ℕ)) (piece rest all : List ℕ) → piece ++ rest ≡ all → AppendedFront a b piece → AppendedFront a b all
+pub front_within : (a b : Option (List ℕ)) (piece rest all : List ℕ) → piece ++ rest ≡ all → AppendedPrefix a b piece → AppendedPrefix a b all
 front_within a b piece rest all e h = record {
   front = h.front;
   rest = h.rest ++ rest;

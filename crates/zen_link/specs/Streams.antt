@@ -8,16 +8,16 @@ Appended None now bytes = now ≡ None
 Appended (Some was) now bytes = now ≡ Some (was ++ bytes)
 
 -- a prefix of the bytes was added
-pub record AppendedFront (was now : Option (List ℕ)) (bytes : List ℕ) : Type 0 where
-  pub front : List ℕ
+pub record AppendedPrefix (was now : Option (List ℕ)) (bytes : List ℕ) : Type 0 where
+  pub prefix : List ℕ
   pub rest : List ℕ
-  pub whole : front ++ rest ≡ bytes
-  pub appended : Appended was now front
+  pub whole : prefix ++ rest ≡ bytes
+  pub appended : Appended was now prefix
 
 -- a prefix of the bytes was added, and not all of them
 pub record AppendedPart (was now : Option (List ℕ)) (bytes : List ℕ) : Type 0 where
-  pub front : AppendedFront was now bytes
-  pub unwritten : front.rest ≡ [] → ⊥
+  pub prefix : AppendedPrefix was now bytes
+  pub unwritten : prefix.rest ≡ [] → ⊥
 
 -- a write takes a prefix of the bytes, which is not empty where they are not; a refused one takes none
 abbrev pub Writes : Option (List ℕ) → Option (List ℕ) → List ℕ → Result ℕ Failed → Type 0
@@ -27,7 +27,7 @@ Writes was now bytes (Err e) = Appended was now []
 -- all of the bytes were written, or at an error a prefix of them
 abbrev pub WritesAll : {E : Type 0} → Option (List ℕ) → Option (List ℕ) → List ℕ → Result (Unit {0}) E → Type 0
 WritesAll was now bytes (Ok u) = Appended was now bytes
-WritesAll was now bytes (Err e) = AppendedFront was now bytes
+WritesAll was now bytes (Err e) = AppendedPrefix was now bytes
 
 -- where the source tells what is left, the read took a prefix of it, and nothing only at its end
 abbrev pub Left : Option (List ℕ) → Option (List ℕ) → (into : List ℕ) → (count : ℕ) → Type 0

@@ -1,11 +1,11 @@
 //! What a program has outside itself: a source and a sink of text, and a node's link to its peers and clients.
 #![tactic(auto)]
 
-pub mod link;
-pub mod mem_link;
-pub mod mem_stream;
-pub mod reading;
-pub mod stream;
+mod link;
+mod mem_link;
+mod mem_stream;
+mod reading;
+mod stream;
 
 pub use link::{CONNECTIONS, Input, Link, LinkError, LinkSettings, Peer, Traffic};
 pub use mem_link::MemLink;

@@ -102,7 +102,7 @@ pub trait Link {
     ghost faults: { Self → ℕ };
 
     /// Whether a `next` with this result leads from one to the other, as far as the link tells.
-    ghost steps: { Self → Self → Result Taken LinkError → Type 0 };
+    ghost moves: { Self → Self → Result Taken LinkError → Type 0 };
 
     /// Gives the next input; the number of its connection is below 64. `Failed` only where the count of faults rose. At an
     /// `Err` no input was taken.
@@ -112,7 +112,7 @@ pub trait Link {
         ensures conn { IfOk result (λ input. IsTrue (has_low_conn input)) }
         ensures later { faults self.old ≤ faults self.new }
         ensures failed { IsErrOf result LinkError.Failed → Rose (faults self.old) (faults self.new) }
-        ensures steps { steps self.old self.new result };
+        ensures moves { moves self.old self.new result };
 
     /// Sends. What is sent may be lost, and no answer says so.
     fn send(&mut self, out: Self::Out)

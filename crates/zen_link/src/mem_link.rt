@@ -83,7 +83,7 @@ impl<O: Drop> MemLink<O> {
     }
 
     // Tells what went over it, or nothing from now on.
-    fn tell(&mut self, traffic: Traffic<O>)
+    fn note(&mut self, traffic: Traffic<O>)
         ensures told { Adds (told_of self.old) (told_of self.new) traffic self.old.faults self.new.faults }
         ensures same { self.new.calls ≡ self.old.calls }
         ensures later { self.old.faults ≤ self.new.faults }
@@ -106,7 +106,7 @@ impl<O: Drop> Link for MemLink<O> {
 
     ghost faults = { λ link. link.faults };
 
-    ghost steps = { MemNexts };
+    ghost moves = { MemNexts };
 
     fn next(&mut self) -> Result<Input, LinkError> {
         self.calls = self.calls.saturating_add(1);
@@ -125,10 +125,10 @@ impl<O: Drop> Link for MemLink<O> {
     }
 
     fn send(&mut self, out: O) {
-        self.tell(Traffic::Gave(out));
+        self.note(Traffic::Gave(out));
     }
 
     fn drop_conn(&mut self, conn: u64) {
-        self.tell(Traffic::Dropped(conn));
+        self.note(Traffic::Dropped(conn));
     }
 }

@@ -48,7 +48,7 @@ impl Source for MemSource {
 
     ghost faults = { λ source. source.faults };
 
-    ghost steps = { MemReads };
+    ghost moves = { MemReads };
 
     fn read(&mut self, into: &mut [u8]) -> Result<usize, Failed> {
         self.calls = self.calls.saturating_add(1);
@@ -111,7 +111,7 @@ impl Sink for MemSink {
 
     ghost faults = { λ sink. sink.faults };
 
-    ghost steps = { MemWrites };
+    ghost moves = { MemWrites };
 
     fn write(&mut self, bytes: &[u8]) -> Result<usize, Failed> {
         self.calls = self.calls.saturating_add(1);

@@ -21,14 +21,14 @@ pub trait Source {
     ghost faults: { Self → ℕ };
 
     /// Whether a read with this result leads from one to the other, as far as the source tells.
-    ghost steps: { Self → Self → Result ℕ Failed → Type 0 };
+    ghost moves: { Self → Self → Result ℕ Failed → Type 0 };
 
     /// Reads the next bytes into a prefix of the buffer, and says how many. Zero into a buffer that is not empty is
     /// the end of input. `Failed` only where the count of faults rose; nothing is taken then.
     fn read(&mut self, into: &mut [u8]) -> Result<usize, Failed>
         ensures reads { Reads (left self.old) (left self.new) into.new result }
         ensures cause { HasCause (faults self.old) (faults self.new) result }
-        ensures steps { steps self.old self.new result };
+        ensures moves { moves self.old self.new result };
 }
 
 /// What text is written to.
@@ -42,14 +42,14 @@ pub trait Sink {
     ghost faults: { Self → ℕ };
 
     /// Whether a write of these bytes with this result leads from one to the other, as far as the sink tells.
-    ghost steps: { Self → List ℕ → Self → Result ℕ Failed → Type 0 };
+    ghost moves: { Self → List ℕ → Self → Result ℕ Failed → Type 0 };
 
     /// Writes a prefix of the bytes, and says how many: at least one of a piece that is not empty. `Failed` only where
     /// the count of faults rose; nothing is written then.
     fn write(&mut self, bytes: &[u8]) -> Result<usize, Failed>
         ensures writes { Writes (written self.old) (written self.new) bytes.now result }
         ensures cause { HasCause (faults self.old) (faults self.new) result }
-        ensures steps { steps self.old bytes.now self.new result };
+        ensures moves { moves self.old bytes.now self.new result };
 }
 
 /// Writes all of the bytes. `Failed` only where the sink's count of faults rose; a prefix of them is written then, and not all.

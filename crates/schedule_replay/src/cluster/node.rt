@@ -9,7 +9,7 @@ ghost use Rattle.replay_node.specs.NodeWorld.{fresh_node, needs_opening};
 ghost use Rattle.policy_model.specs.Entries.{NotBegun};
 ghost use Rattle.event_text.specs.Events.{event_results};
 ghost use Rattle.event_text.specs.Published.{published_after};
-ghost use Rattle.event_text.specs.Steps.{told_as};
+ghost use Rattle.event_text.specs.Deeds.{as_left};
 ghost use Rattle.schedule_replay.specs.OwnStands.{ClosesTo, NodeFor, OwnDoes};
 ghost use Rattle.schedule_replay.specs.Own.{Own, own_crash, own_event_if_up, own_frames_if_up, own_order, own_results_if_up};
 ghost use Rattle.replay_node.specs.Clusters.{first_life, settings_of as settings_in};
@@ -22,12 +22,12 @@ use cluster_state::SharedState;
 use coordinator::{Coordinator, Entries, Sealed};
 use event_text::{write_event, write_struck_event};
 use policy_model::{Event, NodeIds, Settings};
-use replay_node::disk::{crashed, empty_disk, restarted, stay_down};
+use replay_node::{crashed, empty_disk, restarted, stay_down};
 use state_journal::{Keeper, OpenError, StateJournal};
 use std::alloc::{AllocError, Global};
 use std::mem;
 use text::Text;
-use trace_text::{write_crashed, write_down, write_record, write_up};
+use trace_text::{write_crashed, write_down_line, write_record, write_up_line};
 use voting_config::{NodeId, NodeSet};
 use wire_frames::Frame;
 use zen_disk::{Armable, Fuse, MemDisks, Order, Way};
@@ -81,9 +81,9 @@ fn show_whole(
     text: &mut Text,
 ) -> Result<(), AllocError>
     ensures text { OnOk result
-        (text.new ≡ text.old ++ event_results (length frames.old.items) me published.old sealed.now.entries.steps.list
+        (text.new ≡ text.old ++ event_results (length frames.old.items) me published.old sealed.now.entries.deeds.list
         sealed.now.entries.drops.list sealed.now.sends.list sealed.now.replies.sent) }
-    ensures published { OnOk result (published.new ≡ published_after published.old sealed.now.entries.steps.list) }
+    ensures published { OnOk result (published.new ≡ published_after published.old sealed.now.entries.deeds.list) }
     ensures frames { OnOk result (frames.new.items ≡ frames.old.items ++ sealed.now.sends.list) }
 {
     let entries = sealed.entries();
@@ -94,7 +94,7 @@ fn show_whole(
         frames.as_slice().len(),
         me,
         published,
-        entries.steps.as_slice(),
+        entries.deeds.as_slice(),
         entries.drops.as_slice(),
         sends,
         sealed.replies().as_slice(),
@@ -113,15 +113,15 @@ fn show_struck(
 ) -> Result<(), AllocError>
     ensures text { OnOk result
         ((count : ℕ) → text.new
-        ≡ text.old ++ event_results count me published.old (told_as crashed entries.now.steps.list) entries.now.drops.list [] []) }
-    ensures published { OnOk result (published.new ≡ published_after published.old entries.now.steps.list) }
+        ≡ text.old ++ event_results count me published.old (as_left crashed entries.now.deeds.list) entries.now.drops.list [] []) }
+    ensures published { OnOk result (published.new ≡ published_after published.old entries.now.deeds.list) }
 {
     write_struck_event(
         text,
         alloc,
         me,
         published,
-        entries.steps.as_slice(),
+        entries.deeds.as_slice(),
         entries.drops.as_slice(),
         crashed,
     )
@@ -145,10 +145,10 @@ impl ClusterNode {
             (λ s count own. own_results_if_up s event count own)) }
     {
         let Slot::Open(node) = &mut self.slot else {
-            return write_down(text, self.me);
+            return write_down_line(text, self.me);
         };
         match step(node, alloc, event)? {
-            Ended::Stopped => write_down(text, self.me),
+            Ended::Stopped => write_down_line(text, self.me),
             Ended::Whole(sealed) => {
                 show_whole(alloc, self.me, &mut self.published, &sealed, frames, text)
             }
@@ -219,7 +219,7 @@ impl ClusterNode {
         match take_slot(&mut self.slot, alloc) {
             Slot::Down(fuse) => {
                 self.slot = Slot::Down(fuse);
-                write_down(text, self.me)
+                write_down_line(text, self.me)
             }
             Slot::Open(node) => {
                 self.slot = Slot::Down(crashed(node.into_keeper().into_disk(), way));
@@ -259,7 +259,7 @@ impl ClusterNode {
             Slot::Open(node) => {
                 if !node.keeper().stopped() {
                     self.slot = Slot::Open(node);
-                    return write_up(text, self.me);
+                    return write_up_line(text, self.me);
                 }
                 let fuse = node.into_keeper().into_disk();
                 self.open(alloc, ids, initial, voting_only, fuse, frames, text)

@@ -21,7 +21,7 @@ use policy_model::Event;
 use schedule_text::{Line, LineBytes, Schedule, write_echo};
 use std::alloc::{AllocError, Global};
 use text::Text;
-use trace_text::write_down;
+use trace_text::write_down_line;
 use voting_config::{NodeId, NodeSet};
 use zen_disk::{Order, Way};
 
@@ -183,12 +183,12 @@ impl ClusterReplayer {
                 if runs {
                     text.word("unsent\n")
                 } else {
-                    write_down(text, n)
+                    write_down_line(text, n)
                 }
             }
             Some(frame) => {
                 if !runs {
-                    return write_down(text, n);
+                    return write_down_line(text, n);
                 }
                 if frame.to() != n {
                     return text.word("misrouted\n");

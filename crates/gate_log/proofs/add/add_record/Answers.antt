@@ -53,7 +53,7 @@ returns-in_err-write_through-2-clause-ran g c =
     let failed = c.in_err-write_through-2.ensures.ran in
     let error = c.from_residual-in_err-write_through-2.ensures in
     subst
-    (λ ok. CallsMade g.D.Disks.steps
+    (λ ok. CallsMade g.D.Disks.moves
     (Write side (c.args.gate + 1) c.args.frame.now ∷ Sync side ∷ Write side c.args.gate (1 ∷ []) ∷ Sync side ∷ []) c.args.disk.now
     c.write_through-2.new.disk ok) (err_is c.from_residual-in_err-write_through-2.result error.0)
-    (ran_on g.D.Disks.steps first then c.args.disk.now c.write_through.new.disk c.write_through-2.new.disk _ c.in_ok-write_through.ensures.ran failed)
+    (ran_on g.D.Disks.moves first then c.args.disk.now c.write_through.new.disk c.write_through-2.new.disk _ c.in_ok-write_through.ensures.ran failed)

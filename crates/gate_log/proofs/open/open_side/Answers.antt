@@ -49,8 +49,8 @@ returns-in-Ok-scan_side-clause-ran g c told =
     let file = on side (g.D.Disks.seen c.args.disk.now) in
     let long : 9 < length file = c.in-Ok.ensures.which told (omega (arith, c.if-len-le9.false)) in
     let size : c.in-Ok.len ≡ length file = c.in-Ok.ensures.length told ∙ ap length (c.in-Ok.ensures.same told long) in
-    read_ran g.D.Disks.steps side file c.args.disk.now c.prepare.new.disk c.read_all.new.disk true long (c.in-Ok.ensures.ran told)
-    (subst (λ (n : ℕ). g.D.Disks.steps c.prepare.new.disk (Read side 0 n) c.read_all.new.disk true) size c.in-Ok-read_all.ensures.step)
+    read_ran g.D.Disks.moves side file c.args.disk.now c.prepare.new.disk c.read_all.new.disk true long (c.in-Ok.ensures.ran told)
+    (subst (λ (n : ℕ). g.D.Disks.moves c.prepare.new.disk (Read side 0 n) c.read_all.new.disk true) size c.in-Ok-read_all.ensures.moves)
 
 pub returns-clause-ran_err : goal.returns-clause-ran_err
 returns-clause-ran_err g c told =
@@ -58,6 +58,6 @@ returns-clause-ran_err g c told =
     let file = on side (g.D.Disks.seen c.args.disk.now) in
     let long : 9 < length file = c.in-Ok.ensures.which told (omega (arith, c.if-len-le9.false)) in
     let size : c.in-Ok.len ≡ length file = c.in-Ok.ensures.length told ∙ ap length (c.in-Ok.ensures.same told long) in
-    refused_ran g.D.Disks.steps side file c.args.disk.now c.read_all.new.disk c.in-Err.error c.in-Err.ensures.reads
-    (read_ran g.D.Disks.steps side file c.args.disk.now c.prepare.new.disk c.read_all.new.disk true long (c.in-Ok.ensures.ran told)
-    (subst (λ (n : ℕ). g.D.Disks.steps c.prepare.new.disk (Read side 0 n) c.read_all.new.disk true) size c.in-Ok-read_all.ensures.step))
+    refused_ran g.D.Disks.moves side file c.args.disk.now c.read_all.new.disk c.in-Err.error c.in-Err.ensures.reads
+    (read_ran g.D.Disks.moves side file c.args.disk.now c.prepare.new.disk c.read_all.new.disk true long (c.in-Ok.ensures.ran told)
+    (subst (λ (n : ℕ). g.D.Disks.moves c.prepare.new.disk (Read side 0 n) c.read_all.new.disk true) size c.in-Ok-read_all.ensures.moves))

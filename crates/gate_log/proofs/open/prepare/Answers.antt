@@ -29,13 +29,13 @@ returns-clause-any_moment g c told =
 pub returns-in_default-write_through-clause-ran : goal.returns-in_default-write_through-clause-ran
 returns-in_default-write_through-clause-ran g c told =
     let short : length (on c.args.side (g.D.Disks.seen c.args.disk.now)) ≤ 9 = omega (arith, c.in-Ok.ensures.value told, c.if-len-gt9.false) in
-    fresh_ran g.D.Disks.steps c.args.side
+    fresh_ran g.D.Disks.moves c.args.side
     (on c.args.side (g.D.Disks.seen c.args.disk.now)) c.args.disk.now c.synced_len.new.disk c.write_through.new.disk false short c.in-Ok.ensures.ran
     c.in_default-write_through.ensures.ran
 
 pub returns-clause-ran : goal.returns-clause-ran
 returns-clause-ran g c told =
     let short : length (on c.args.side (g.D.Disks.seen c.args.disk.now)) ≤ 9 = omega (arith, c.in-Ok.ensures.value told, c.if-len-gt9.false) in
-    fresh_ran g.D.Disks.steps c.args.side
+    fresh_ran g.D.Disks.moves c.args.side
     (on c.args.side (g.D.Disks.seen c.args.disk.now)) c.args.disk.now c.synced_len.new.disk c.write_through.new.disk true short c.in-Ok.ensures.ran
     c.in-Ok-write_through.ensures.ran

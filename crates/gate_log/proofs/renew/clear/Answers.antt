@@ -20,7 +20,7 @@ returns-then-gate-le8-clause-emptied g c told =
 pub returns-then-gate-le8-clause-ran : goal.returns-then-gate-le8-clause-ran
 returns-then-gate-le8-clause-ran g c =
     let side = c.args.side in
-    subst (λ (calls : List DeviceCall). CallsMade g.D.Disks.steps calls c.args.disk.now c.args.disk.now true)
+    subst (λ (calls : List DeviceCall). CallsMade g.D.Disks.moves calls c.args.disk.now c.args.disk.now true)
     (sym (cond-false (nat_lt 8 c.args.gate) (Write side 8 (0 ∷ []) ∷ Sync side ∷ []) [] (le-ltb 8 c.args.gate (omega (arith, c.if-gate-le8.true)))))
     (refl, refl)
 
@@ -46,13 +46,13 @@ returns-clause-any_moment g c told bodies laid only =
 pub returns-in_default-clause-ran : goal.returns-in_default-clause-ran
 returns-in_default-clause-ran g c =
     let side = c.args.side in
-    subst (λ (calls : List DeviceCall). CallsMade g.D.Disks.steps calls c.args.disk.now c.close_first.new.disk false)
+    subst (λ (calls : List DeviceCall). CallsMade g.D.Disks.moves calls c.args.disk.now c.close_first.new.disk false)
     (sym (cond-true (nat_lt 8 c.args.gate) (Write side 8 (0 ∷ []) ∷ Sync side ∷ []) [] (lt-ltb 8 c.args.gate (omega (arith, c.if-gate-le8.false)))))
     c.in_default.ensures.ran
 
 pub returns-clause-ran : goal.returns-clause-ran
 returns-clause-ran g c =
     let side = c.args.side in
-    subst (λ (calls : List DeviceCall). CallsMade g.D.Disks.steps calls c.args.disk.now c.close_first.new.disk true)
+    subst (λ (calls : List DeviceCall). CallsMade g.D.Disks.moves calls c.args.disk.now c.close_first.new.disk true)
     (sym (cond-true (nat_lt 8 c.args.gate) (Write side 8 (0 ∷ []) ∷ Sync side ∷ []) [] (lt-ltb 8 c.args.gate (omega (arith, c.if-gate-le8.false)))))
     c.in-Ok.ensures.ran

@@ -20,18 +20,18 @@ returns-clause-added g c told body framing = c.in-Ok-add_record.ensures.added to
 
 pub returns-in_default-clause-ran : goal.returns-in_default-clause-ran
 returns-in_default-clause-ran g c =
-    ran_failed g.D.Disks.steps (closing_calls c.args.side c.args.gate)
+    ran_failed g.D.Disks.moves (closing_calls c.args.side c.args.gate)
     (append_calls c.args.side 8 c.args.frame.now) c.args.disk.now c.clear.new.disk c.in_default.ensures.ran
 
 pub returns-in_default-add_record-clause-ran : goal.returns-in_default-add_record-clause-ran
 returns-in_default-add_record-clause-ran g c =
-    ran_on g.D.Disks.steps (closing_calls c.args.side c.args.gate)
+    ran_on g.D.Disks.moves (closing_calls c.args.side c.args.gate)
     (append_calls c.args.side 8 c.args.frame.now) c.args.disk.now c.clear.new.disk c.add_record.new.disk false c.in-Ok.ensures.ran
     c.in_default-add_record.ensures.ran
 
 pub returns-clause-ran : goal.returns-clause-ran
 returns-clause-ran g c =
-    ran_on g.D.Disks.steps (closing_calls c.args.side c.args.gate)
+    ran_on g.D.Disks.moves (closing_calls c.args.side c.args.gate)
     (append_calls c.args.side 8 c.args.frame.now) c.args.disk.now c.clear.new.disk c.add_record.new.disk true c.in-Ok.ensures.ran
     c.in-Ok-add_record.ensures.ran
 

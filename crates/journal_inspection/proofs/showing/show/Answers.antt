@@ -7,7 +7,7 @@ use Rattle.journal_inspection.proofs.showing.show.Goals as goal
 pub returns-in-Ok-clause-calls : goal.returns-in-Ok-clause-calls
 returns-in-Ok-clause-calls g c t =
     opens_all g.D.Disks c.args.disk c.into_disk.result c.kept.result.now c.records.result c.report_of-shown.result c.report_of-shown.ensures
-    (subst (λ back. CallsMade g.D.Disks.steps (both_opening_calls (g.D.Disks.seen c.args.disk)) c.args.disk back true) (sym c.into_disk.ensures) (c.in-Ok.ensures.ran t))
+    (subst (λ back. CallsMade g.D.Disks.moves (both_opening_calls (g.D.Disks.seen c.args.disk)) c.args.disk back true) (sym c.into_disk.ensures) (c.in-Ok.ensures.ran t))
 
 pub returns-in-Err-NotAJournal-clause-calls : goal.returns-in-Err-NotAJournal-clause-calls
 returns-in-Err-NotAJournal-clause-calls g c t =

@@ -15,9 +15,9 @@ frames-init g c = record {
   given = [];
   whole = refl;
   ending = refl;
-  tells = λ s life stands up. nothing g.S.Steps.output (g.S.Steps.text s) s life (g.O.Sink.written c.args.out.now) (g.L.Link.told c.args.link.now)
-      (HoldsBy g.S.Steps c.args.steps.now c.args.steps.now s life)
-      (holds_still g.S.Steps s c.args.steps.now life stands) up;
+  tells = λ s life stands up. nothing g.S.EventNode.output (g.S.EventNode.text s) s life (g.O.Sink.written c.args.out.now) (g.L.Link.told c.args.link.now)
+      (HoldsBy g.S.EventNode c.args.inner.now c.args.inner.now s life)
+      (holds_still g.S.EventNode s c.args.inner.now life stands) up;
   causes = causes_none _ _ _;
   asked = refl;
 }
@@ -29,14 +29,14 @@ returns-in-Some-clause-tells g c s life stands up =
     let next : Some (Ok x) ≡ next_of at.reader = rw c.in-Some-Ok.field-0-is at c.in-Some-Ok.ensures.given in
     let rest = drop 1 at.reader.frames in
     let whole : at.invariant.given ++ x ∷ rest ≡ c.args.reader.now.frames = ap (λ l. at.invariant.given ++ l) (sym (first_left at.reader x next)) ∙ at.invariant.whole in
-    last_one g.S.Steps.output (g.S.Steps.text s) s (λ e. Comes (FrameCame e)) at.invariant.given x rest c.args.reader.now.frames life (Some c.in-Some.end)
+    last_one g.S.EventNode.output (g.S.EventNode.text s) s (λ e. Comes (FrameCame e)) at.invariant.given x rest c.args.reader.now.frames life (Some c.in-Some.end)
     (g.O.Sink.written c.args.out.now) (g.O.Sink.written at.out) (g.O.Sink.written c.do_frame.new.out) (g.L.Link.told c.args.link.now) (g.L.Link.told at.link)
     (g.L.Link.told c.do_frame.new.link)
-    (HoldsBy g.S.Steps c.args.steps.now at.steps s life)
-    (HoldsBy g.S.Steps c.args.steps.now c.do_frame.new.steps s life)
+    (HoldsBy g.S.EventNode c.args.inner.now at.inner s life)
+    (HoldsBy g.S.EventNode c.args.inner.now c.do_frame.new.inner s life)
     whole c.in-Some.ensures.within (at.invariant.tells s life stands up)
-    (λ mid lives on. carried g.S.Steps s g.S.Steps.output (g.S.Steps.text s)
-    c.args.steps.now at.steps c.do_frame.new.steps life mid _ _ _ _ _ _ lives (c.in-Some.ensures.tells s mid lives.stands on))
+    (λ mid lives on. carried g.S.EventNode s g.S.EventNode.output (g.S.EventNode.text s)
+    c.args.inner.now at.inner c.do_frame.new.inner life mid _ _ _ _ _ _ lives (c.in-Some.ensures.tells s mid lives.stands on))
 
 pub frames-smaller : goal.frames-smaller
 frames-smaller g c =
@@ -57,11 +57,11 @@ frames-preserved g c =
       given = at.invariant.given ++ x ∷ [];
       whole = append_assoc at.invariant.given (x ∷ []) left.frames ∙ ap (λ l. at.invariant.given ++ l) first ∙ at.invariant.whole;
       ending = ap (λ s. s.ending) after ∙ at.invariant.ending;
-      tells = λ s life stands up. then_one g.S.Steps.output (g.S.Steps.text s) s (λ e. Comes (FrameCame e)) at.invariant.given x life None
-          _ _ _ _ _ _ (HoldsBy g.S.Steps c.args.steps.now at.steps s life) (HoldsBy g.S.Steps c.args.steps.now c.do_frame.new.steps s life)
+      tells = λ s life stands up. then_one g.S.EventNode.output (g.S.EventNode.text s) s (λ e. Comes (FrameCame e)) at.invariant.given x life None
+          _ _ _ _ _ _ (HoldsBy g.S.EventNode c.args.inner.now at.inner s life) (HoldsBy g.S.EventNode c.args.inner.now c.do_frame.new.inner s life)
           (at.invariant.tells s life stands up)
-          (λ mid lives on. carried g.S.Steps s g.S.Steps.output (g.S.Steps.text s)
-          c.args.steps.now at.steps c.do_frame.new.steps life mid _ _ _ _ _ _ lives (c.in_default.ensures.tells s mid lives.stands on));
+          (λ mid lives on. carried g.S.EventNode s g.S.EventNode.output (g.S.EventNode.text s)
+          c.args.inner.now at.inner c.do_frame.new.inner life mid _ _ _ _ _ _ lives (c.in_default.ensures.tells s mid lives.stands on));
       causes = causes_more None _ _ _ _ _ _ _ _ _ at.invariant.causes c.in_default.ensures.causes;
       asked = c.do_frame.ensures.asked ∙ at.invariant.asked;
     }

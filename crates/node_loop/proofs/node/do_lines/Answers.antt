@@ -14,9 +14,9 @@ loop-line-init g c =
     record {
       whole = refl;
       count = count;
-      tells = λ s life stands up. nothing g.S.Steps.output (g.S.Steps.text s) s life (g.O.Sink.written c.args.out.now) (g.L.Link.told c.args.link.now)
-          (HoldsBy g.S.Steps c.args.steps.now c.args.steps.now s life)
-          (holds_still g.S.Steps s c.args.steps.now life stands) up;
+      tells = λ s life stands up. nothing g.S.EventNode.output (g.S.EventNode.text s) s life (g.O.Sink.written c.args.out.now) (g.L.Link.told c.args.link.now)
+          (HoldsBy g.S.EventNode c.args.inner.now c.args.inner.now s life)
+          (holds_still g.S.EventNode s c.args.inner.now life stands) up;
       causes = causes_none _ _ _;
       asked = refl;
     }
@@ -25,34 +25,34 @@ pub returns-in-Some-do_event-clause-tells : goal.returns-in-Some-do_event-clause
 returns-in-Some-do_event-clause-tells g c s life stands up =
     let at = c.loop-line in
     let x = c.in-Some.line in
-    let steps : into_iter_items at.line-iterator ≡ x ∷ into_iter_items c.next.new.self = c.in-Some.ensures.steps.0 in
-    let whole : at.yielded ++ x ∷ into_iter_items c.next.new.self ≡ c.args.lines.items = rw (← steps) (at.invariant.whole ∙ c.into_iter-line-iterator.ensures.into_iter_gives.0) in
-    last_one g.S.Steps.output (g.S.Steps.text s) s (λ e. Comes (LineCame c.args.conn e)) at.yielded x (into_iter_items c.next.new.self) c.args.lines.items life
+    let inner : into_iter_items at.line-iterator ≡ x ∷ into_iter_items c.next.new.self = c.in-Some.ensures.does.0 in
+    let whole : at.yielded ++ x ∷ into_iter_items c.next.new.self ≡ c.args.lines.items = rw (← inner) (at.invariant.whole ∙ c.into_iter-line-iterator.ensures.into_iter_gives.0) in
+    last_one g.S.EventNode.output (g.S.EventNode.text s) s (λ e. Comes (LineCame c.args.conn e)) at.yielded x (into_iter_items c.next.new.self) c.args.lines.items life
     (Some c.in-Some-do_event.end)
     (g.O.Sink.written c.args.out.now) (g.O.Sink.written at.out) (g.O.Sink.written c.do_event.new.out) (g.L.Link.told c.args.link.now) (g.L.Link.told at.link)
     (g.L.Link.told c.do_event.new.link)
-    (HoldsBy g.S.Steps c.args.steps.now at.steps s life)
-    (HoldsBy g.S.Steps c.args.steps.now c.do_event.new.steps s life)
+    (HoldsBy g.S.EventNode c.args.inner.now at.inner s life)
+    (HoldsBy g.S.EventNode c.args.inner.now c.do_event.new.inner s life)
     whole c.in-Some-do_event.ensures.within (at.invariant.tells s life stands up)
-    (λ mid lives on. carried g.S.Steps s g.S.Steps.output (g.S.Steps.text s)
-    c.args.steps.now at.steps c.do_event.new.steps life mid _ _ _ _ _ _ lives (c.in-Some-do_event.ensures.tells refl s mid lives.stands on))
+    (λ mid lives on. carried g.S.EventNode s g.S.EventNode.output (g.S.EventNode.text s)
+    c.args.inner.now at.inner c.do_event.new.inner life mid _ _ _ _ _ _ lives (c.in-Some-do_event.ensures.tells refl s mid lives.stands on))
 
 pub loop-line-preserved : goal.loop-line-preserved
 loop-line-preserved g c =
     let at = c.loop-line in
     let x = c.in-Some.line in
-    let steps : into_iter_items at.line-iterator ≡ x ∷ into_iter_items c.next.new.self = c.in-Some.ensures.steps.0 in
+    let inner : into_iter_items at.line-iterator ≡ x ∷ into_iter_items c.next.new.self = c.in-Some.ensures.does.0 in
     let was = at.invariant.count in
-    let gone = c.in-Some.ensures.steps.1 in
-    let short = ap length steps in
+    let gone = c.in-Some.ensures.does.1 in
+    let short = ap length inner in
     record {
-      whole = append_assoc at.yielded (x ∷ []) (into_iter_items c.next.new.self) ∙ rw (← steps) at.invariant.whole;
+      whole = append_assoc at.yielded (x ∷ []) (into_iter_items c.next.new.self) ∙ rw (← inner) at.invariant.whole;
       count = omega arith;
-      tells = λ s life stands up. then_one g.S.Steps.output (g.S.Steps.text s) s (λ e. Comes (LineCame c.args.conn e)) at.yielded x life None
-          _ _ _ _ _ _ (HoldsBy g.S.Steps c.args.steps.now at.steps s life) (HoldsBy g.S.Steps c.args.steps.now c.do_event.new.steps s life)
+      tells = λ s life stands up. then_one g.S.EventNode.output (g.S.EventNode.text s) s (λ e. Comes (LineCame c.args.conn e)) at.yielded x life None
+          _ _ _ _ _ _ (HoldsBy g.S.EventNode c.args.inner.now at.inner s life) (HoldsBy g.S.EventNode c.args.inner.now c.do_event.new.inner s life)
           (at.invariant.tells s life stands up)
-          (λ mid lives on. carried g.S.Steps s g.S.Steps.output (g.S.Steps.text s)
-          c.args.steps.now at.steps c.do_event.new.steps life mid _ _ _ _ _ _ lives (c.in_default.ensures.tells refl s mid lives.stands on));
+          (λ mid lives on. carried g.S.EventNode s g.S.EventNode.output (g.S.EventNode.text s)
+          c.args.inner.now at.inner c.do_event.new.inner life mid _ _ _ _ _ _ lives (c.in_default.ensures.tells refl s mid lives.stands on));
       causes = causes_more None _ _ _ _ _ _ _ _ _ at.invariant.causes c.in_default.ensures.causes;
       asked = c.do_event.ensures.asked ∙ at.invariant.asked;
     }

@@ -8,5 +8,5 @@ use Rattle.node_loop.proofs.node.report_unstarted.Goals as goal
 
 pub returns-in-Memory-clause-tells : goal.returns-in-Memory-clause-tells
 returns-in-Memory-clause-tells g c old s life told opened fails =
-    stops g.S.Steps.output (g.S.Steps.text s) s life (Comes Start ∷ []) ends.Memory (g.O.Sink.written c.args.out.now) told (HoldsBy g.S.Steps old c.args.steps.now s life) refl refl (λ is. absurd cc)
+    stops g.S.EventNode.output (g.S.EventNode.text s) s life (Comes Start ∷ []) ends.Memory (g.O.Sink.written c.args.out.now) told (HoldsBy g.S.EventNode old c.args.inner.now s life) refl refl (λ is. absurd cc)
     (rw c.in-Memory.is at fails)

@@ -4,4 +4,4 @@ use Rattle.node_loop.proofs.Leaving.{holds_still}
 use Rattle.node_loop.proofs.node.take_came.Goals as goal
 
 pub returns-in-Nothing-clause-tells : goal.returns-in-Nothing-clause-tells
-returns-in-Nothing-clause-tells g c s life stands up = rw c.in-Nothing.is (nothing g.S.Steps.output (g.S.Steps.text s) s life (g.O.Sink.written c.args.out.now) (g.L.Link.told c.args.link.now) (HoldsBy g.S.Steps c.args.steps.now c.args.steps.now s life) (holds_still g.S.Steps s c.args.steps.now life stands) up)
+returns-in-Nothing-clause-tells g c s life stands up = rw c.in-Nothing.is (nothing g.S.EventNode.output (g.S.EventNode.text s) s life (g.O.Sink.written c.args.out.now) (g.L.Link.told c.args.link.now) (HoldsBy g.S.EventNode c.args.inner.now c.args.inner.now s life) (holds_still g.S.EventNode s c.args.inner.now life stands) up)

@@ -19,6 +19,6 @@ pub returns-in-Stop-clause-takes : goal.returns-in-Stop-clause-takes
 returns-in-Stop-clause-takes g c s life intakes stands up reads = rw c.in-Stop.is (record {
   intake = Read Stop;
   is = refl;
-  tells = rests g.S.Steps.output (g.S.Steps.text s) s life (Some ends.Stop) (g.O.Sink.written c.args.out.now) (g.L.Link.told c.args.link.now) (g.L.Link.told c.args.link.now) (HoldsBy g.S.Steps c.args.steps.now c.args.steps.now s life) (λ is. absurd cc) (λ is. absurd cc) (holds_still g.S.Steps s c.args.steps.now life stands) up refl;
+  tells = rests g.S.EventNode.output (g.S.EventNode.text s) s life (Some ends.Stop) (g.O.Sink.written c.args.out.now) (g.L.Link.told c.args.link.now) (g.L.Link.told c.args.link.now) (HoldsBy g.S.EventNode c.args.inner.now c.args.inner.now s life) (λ is. absurd cc) (λ is. absurd cc) (holds_still g.S.EventNode s c.args.inner.now life stands) up refl;
   reads = λ conn low. reads conn low;
 })

@@ -9,5 +9,5 @@ returns-in-Ok-wait_for_all-clause-tried g c = inr (inr (record {
   starts = c.in-Ok.ensures.begins;
   ends = told_ends c.in-Ok-wait_for_all.ends;
   waits = c.in-Ok-wait_for_all.ensures.awaits;
-  tells = c.tell.ensures.tells;
+  tells = c.report_ends.ensures.tells;
 }))

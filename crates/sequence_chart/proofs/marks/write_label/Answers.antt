@@ -7,7 +7,7 @@ use Rattle.sequence_chart.proofs.marks.write_label.Goals as goal
 pub write_paper-requires : goal.write_paper-requires
 write_paper-requires c =
     let line = c.args.line.now in
-    let few : length (label_of line) ≤ 48 = capped_few 46 (label_words line.text line.told) in
+    let few : length (label_of line) ≤ 48 = capped_few 46 (label_words line.text line.said) in
     omega (arith, c.len.ensures, ap length c.in_ok-label.ensures, few)
 
 pub returns : goal.returns

@@ -75,7 +75,7 @@ returns-then-begins-clause-ran g c = λ s is.
     let size : length body ≡ c.len.result + 33 = omega (arith, c.len.ensures, length-accepted s, ap length is.spelled) in
     let renewing : renews c.args.due p body ≡ true = sym (c.begins.ensures body size) ∙ c.if-begins.true in
     subst
-    (λ (b : Bool). CallsMade g.D.Disks.steps (writing_calls b p body (generation_after p (record_with c.args.term s c.args.committed.now))) c.args.log.now.disk c.begin.new.log.disk (is_ok c.begin.result))
+    (λ (b : Bool). CallsMade g.D.Disks.moves (writing_calls b p body (generation_after p (record_with c.args.term s c.args.committed.now))) c.args.log.now.disk c.begin.new.log.disk (is_ok c.begin.result))
     (sym renewing) (c.begin.ensures.ran s is)
 
 pub returns-clause-ok : goal.returns-clause-ok
@@ -123,5 +123,5 @@ returns-clause-ran g c = λ s is.
     appends.ran
     (called c.append_framed.result (λ e. let stopped = appends.answers.stopped.0 e in absurd (cc (stopped, c.requires.runs))) (λ e. let long = c.append_framed.ensures.too_long.0 e in absurd (omega (arith, long.1, short))) c.append_framed.ensures.only) in
     subst
-    (λ (b : Bool). CallsMade g.D.Disks.steps (writing_calls b p body (generation_after p (record_with c.args.term s c.args.committed.now))) c.args.log.now.disk c.append_framed.new.self.disk (is_ok c.append_framed.result))
+    (λ (b : Bool). CallsMade g.D.Disks.moves (writing_calls b p body (generation_after p (record_with c.args.term s c.args.committed.now))) c.args.log.now.disk c.append_framed.new.self.disk (is_ok c.append_framed.result))
     (sym staying) ran

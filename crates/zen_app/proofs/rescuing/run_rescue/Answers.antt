@@ -1,6 +1,6 @@
 use Rattle.std.proofs.Common.{arith, refl, subst}
 use Rattle.zen_link.proofs.Appending.{appended_none}
-use Rattle.zen_link.specs.Streams.{Appended, AppendedFront}
+use Rattle.zen_link.specs.Streams.{Appended, AppendedPrefix}
 use Rattle.zen_app.proofs.RescueEndings.{bad, cut, done, no_memory, read_failed, refused}
 use Rattle.zen_app.proofs.rescuing.run_rescue.Goals as goal
 
@@ -27,7 +27,7 @@ returns-in-Err-Refused g c =
 pub returns-in_default : goal.returns-in_default
 returns-in_default g c =
     cut c.args.ids.now _ _ _ _ c.read_input.ensures.at_most c.read_input.ensures.later c.write_all.ensures.cause.later c.as_slice.ensures.is_set c.requires.some c.as_slice-2.result.now (rw c.as_slice-2.ensures.value c.in-Ok.ensures.read)
-    c.in-Ok-answer.text c.in-Ok-answer.ensures (subst (AppendedFront _ _) c.as_bytes.ensures c.in_default.ensures.writes) c.in_default.ensures.cause.rose
+    c.in-Ok-answer.text c.in-Ok-answer.ensures (subst (AppendedPrefix _ _) c.as_bytes.ensures c.in_default.ensures.writes) c.in_default.ensures.cause.rose
 
 pub returns : goal.returns
 returns g c =

@@ -29,11 +29,11 @@ returns-in-Err-open_link-clause-run g c =
     let gave = c.in-Ok-open_disk.ensures in
     let asked = gave.call ∙ ap (λ dir. and_call (g.H.Host.calls c.args.host.now) (OpensDisk dir false)) c.as_str.ensures in
     subst (λ status. NodeRun g.H.Disk.Disks g.L.Link c.args.words.now (view c.args.host.now) (view c.close_disk.new.self) sink sink status) (sym c.refusal-in-Err-open_link.ensures)
-    (unlinked g.H.Disk.Disks g.L.Link c.args.words.now (view c.args.host.now) (view c.close_disk.new.self) sink sink c.in-Ok-open_disk.disk c.in-Ok-open.node.steps.node.core.keeper.log.disk c.in-Ok-open.node.steps.node.core.keeper.kept c.in-Err-open_link.error
+    (unlinked g.H.Disk.Disks g.L.Link c.args.words.now (view c.args.host.now) (view c.close_disk.new.self) sink sink c.in-Ok-open_disk.disk c.in-Ok-open.node.inner.node.core.keeper.log.disk c.in-Ok-open.node.inner.node.core.keeper.kept c.in-Err-open_link.error
     (record { same = λ x is. gave.given x is; fresh = gave.fresh }) (record {
       found = c.in-Ok-open.ensures.found;
       any_moment = c.in-Ok-open.ensures.any_moment;
-      leaves = opened_leaves g.H.Disk.Disks g.met.H.Disk.Disks.counts_now c.in-Ok-open.node.steps.node.core.keeper.log.disk c.in-Ok-open.node.steps.node.core.keeper.kept (λ t. let last = (c.in-Ok-open.ensures.stands NotBegun tt).leaves t in record { since = last.since; past = last.past; at_once = last.at_once; only = last.only });
+      leaves = opened_leaves g.H.Disk.Disks g.met.H.Disk.Disks.counts_now c.in-Ok-open.node.inner.node.core.keeper.log.disk c.in-Ok-open.node.inner.node.core.keeper.kept (λ t. let last = (c.in-Ok-open.ensures.stands NotBegun tt).leaves t in record { since = last.since; past = last.past; at_once = last.at_once; only = last.only });
     })
     (link_noted g.row.L.Denot _ _ _ _ _ _ c.in-Err-open_link.error asked c.close_disk.ensures.calls c.settings-2.ensures c.in-Err-open_link.ensures.call)
     (λ is. rose_within _ _ _ _ gave.later (c.in-Err-open_link.ensures.failed (ap (λ e. Err e) is)) c.close_disk.ensures.faults)
@@ -46,8 +46,8 @@ returns-clause-run g c =
     let sink_now : SinkView = record { written = g.H.Out.Sink.written c.write_end.new.out; faults = g.H.Out.Sink.faults c.write_end.new.out } in
     let gave = c.in-Ok-open_disk.ensures in
     let node = c.in-Ok-open.node in
-    let kept = node.steps.node.core.keeper.kept in
-    let opened = node.steps.node.core.keeper.log.disk in
+    let kept = node.inner.node.core.keeper.kept in
+    let opened = node.inner.node.core.keeper.log.disk in
     let s = settings_by c.args.words.now in
     let life = Opened NotBegun kept in
     let stands = rw c.in-Ok.ensures at (c.in-Ok-open.ensures.stands NotBegun tt) in

@@ -13,4 +13,4 @@ returns-clause-does g c =
 
 pub returns-clause-uses : goal.returns-clause-uses
 returns-clause-uses g c =
-    let room = ap (λ (r : Replies). r.room) c.ack_committed.ensures.sent in record { steps = omega arith; frames = omega arith; replies = omega (arith, room, length-answers (committed_in (record { term = c.term.result; version = c.published-version.result.0 })) c.args.self.now.tasks.waiting) }
+    let room = ap (λ (r : Replies). r.room) c.ack_committed.ensures.sent in record { deeds = omega arith; frames = omega arith; replies = omega (arith, room, length-answers (committed_in (record { term = c.term.result; version = c.published-version.result.0 })) c.args.self.now.tasks.waiting) }

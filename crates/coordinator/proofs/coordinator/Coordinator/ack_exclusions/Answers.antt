@@ -14,4 +14,4 @@ returns-clause-does g c =
 
 pub returns-clause-uses : goal.returns-clause-uses
 returns-clause-uses g c =
-    let room = ap (λ (r : Replies). r.room) c.ack_exclusions.ensures.sent in record { steps = omega arith; frames = omega arith; replies = omega (arith, room, length-answers (exclusion_done c.committed.result.now c.id-id.result) c.args.self.now.tasks.waiting) }
+    let room = ap (λ (r : Replies). r.room) c.ack_exclusions.ensures.sent in record { deeds = omega arith; frames = omega arith; replies = omega (arith, room, length-answers (exclusion_done c.committed.result.now c.id-id.result) c.args.self.now.tasks.waiting) }

@@ -3,12 +3,12 @@ use Rattle.std.specs.Prelude.{Option}
 use Rattle.cluster_state.specs.declared.state.Kept.{Kept}
 use Rattle.coordinator.proofs.Entering.{event_ready, event_leaves, life_leaves}
 use Rattle.coordinator.proofs.Limiting.{within, few}
-use Rattle.coordinator.proofs.Sealing.{steps, stays, lasting, sealed_fine, sealed_not_halted}
+use Rattle.coordinator.proofs.Sealing.{deeds, stays, lasting, sealed_fine, sealed_not_halted}
 use Rattle.coordinator.proofs.coordinator.Coordinator.step.Goals as goal
 
-pub returns-clause-steps : goal.returns-clause-steps
-returns-clause-steps g c =
-    steps g.K.Keeper c.take_event-ended.result c.seal.result c.args.self.now c.take_event-ended.new.self c.args.event _ _ c.in-Ok.ensures.shown c.take_event-ended.ensures.does c.seal.ensures (ap (λ x. g.K.Keeper.has_stopped x) (sym c.keeper.ensures) ∙ sym c.stopped.ensures ∙ c.if-stopped.false)
+pub returns-clause-deeds : goal.returns-clause-deeds
+returns-clause-deeds g c =
+    deeds g.K.Keeper c.take_event-ended.result c.seal.result c.args.self.now c.take_event-ended.new.self c.args.event _ _ c.in-Ok.ensures.shown c.take_event-ended.ensures.does c.seal.ensures (ap (λ x. g.K.Keeper.has_stopped x) (sym c.keeper.ensures) ∙ sym c.stopped.ensures ∙ c.if-stopped.false)
 
 pub returns-clause-stays : goal.returns-clause-stays
 returns-clause-stays g c =

@@ -12,4 +12,4 @@ returns-clause-does g c =
 
 pub returns-clause-uses : goal.returns-clause-uses
 returns-clause-uses g c =
-    let room = ap (λ (r : Replies). r.room) c.time_out_exclusions.ensures.sent in record { steps = omega arith; frames = omega arith; replies = omega (arith, room, length-answers (timed_out c.committed.result.now c.args.self.now.moment) c.args.self.now.tasks.waiting) }
+    let room = ap (λ (r : Replies). r.room) c.time_out_exclusions.ensures.sent in record { deeds = omega arith; frames = omega arith; replies = omega (arith, room, length-answers (timed_out c.committed.result.now c.args.self.now.moment) c.args.self.now.tasks.waiting) }

@@ -63,7 +63,7 @@ returns-in_default-clause-appends g c body framing plain =
           (c.add_record.ensures.any_moment told (on self.side (standing_in seen).bodies) body framing was.here was.durable)
           (append_leaves (standing_in seen) seen (g.D.Disks.may_leave self.disk) self.side self.gate self.other_gate self.epoch was body plain);
       ran = λ called.
-          subst (λ (l : List ℕ). CallsMade g.D.Disks.steps (append_calls self.side self.gate l) self.disk c.add_record.new.disk false) framing.bytes
+          subst (λ (l : List ℕ). CallsMade g.D.Disks.moves (append_calls self.side self.gate l) self.disk c.add_record.new.disk false) framing.bytes
           c.in_default.ensures.ran;
     }
 
@@ -90,6 +90,6 @@ returns-clause-appends g c body framing plain =
           (c.add_record.ensures.any_moment told (on self.side before.bodies) body framing was.here was.durable)
           (append_leaves before seen (g.D.Disks.may_leave self.disk) self.side self.gate self.other_gate self.epoch was body plain);
       ran = λ called.
-          subst (λ (l : List ℕ). CallsMade g.D.Disks.steps (append_calls self.side self.gate l) self.disk c.add_record.new.disk true) framing.bytes
+          subst (λ (l : List ℕ). CallsMade g.D.Disks.moves (append_calls self.side self.gate l) self.disk c.add_record.new.disk true) framing.bytes
           c.in-Ok.ensures.ran;
     }

@@ -110,9 +110,9 @@ returns-in-Zero-clause-any_moment g c told =
 pub returns-in-Zero-clause-ran : goal.returns-in-Zero-clause-ran
 returns-in-Zero-clause-ran g c told =
     let files = g.D.Disks.seen c.args.disk in
-    ran_on g.D.Disks.steps (opening_calls Zero files.zero) (opening_calls One files.one) c.args.disk c.open_side.new.disk c.open_side-2.new.disk true
+    ran_on g.D.Disks.moves (opening_calls Zero files.zero) (opening_calls One files.one) c.args.disk c.open_side.new.disk c.open_side-2.new.disk true
     (c.in-Ok.ensures.ran told)
-    (subst (λ (l : List ℕ). CallsMade g.D.Disks.steps (opening_calls One l) c.open_side.new.disk c.open_side-2.new.disk true) c.open_side.ensures.elsewhere
+    (subst (λ (l : List ℕ). CallsMade g.D.Disks.moves (opening_calls One l) c.open_side.new.disk c.open_side-2.new.disk true) c.open_side.ensures.elsewhere
     (c.in-Ok-open_side.ensures.ran told))
 
 pub invariant_of-result-in-One : goal.invariant_of-result-in-One
@@ -167,34 +167,34 @@ returns-in-One-clause-any_moment g c told =
 pub returns-in-One-clause-ran : goal.returns-in-One-clause-ran
 returns-in-One-clause-ran g c told =
     let files = g.D.Disks.seen c.args.disk in
-    ran_on g.D.Disks.steps (opening_calls Zero files.zero) (opening_calls One files.one) c.args.disk c.open_side.new.disk c.open_side-2.new.disk true
+    ran_on g.D.Disks.moves (opening_calls Zero files.zero) (opening_calls One files.one) c.args.disk c.open_side.new.disk c.open_side-2.new.disk true
     (c.in-Ok.ensures.ran told)
-    (subst (λ (l : List ℕ). CallsMade g.D.Disks.steps (opening_calls One l) c.open_side.new.disk c.open_side-2.new.disk true) c.open_side.ensures.elsewhere
+    (subst (λ (l : List ℕ). CallsMade g.D.Disks.moves (opening_calls One l) c.open_side.new.disk c.open_side-2.new.disk true) c.open_side.ensures.elsewhere
     (c.in-Ok-open_side.ensures.ran told))
 
 pub returns-in-Err-clause-ran_err : goal.returns-in-Err-clause-ran_err
 returns-in-Err-clause-ran_err g c told =
     let files = g.D.Disks.seen c.args.disk in
-    subst (λ e. RanUntil g.D.Disks.steps files c.args.disk e) (sym c.refused.ensures.is)
-    (side_zero_ran g.D.Disks.steps files c.args.disk c.open_side.new.disk c.in-Err.error (c.in-Err.ensures.ran_err told))
+    subst (λ e. RanUntil g.D.Disks.moves files c.args.disk e) (sym c.refused.ensures.is)
+    (side_zero_ran g.D.Disks.moves files c.args.disk c.open_side.new.disk c.in-Err.error (c.in-Err.ensures.ran_err told))
 
 pub returns-in-Err-open_side-clause-ran_err : goal.returns-in-Err-open_side-clause-ran_err
 returns-in-Err-open_side-clause-ran_err g c told =
     let files = g.D.Disks.seen c.args.disk in
     let e = c.in-Err-open_side.error in
     let ran =
-    subst (λ (l : List ℕ). SideRan g.D.Disks.steps One l c.open_side.new.disk c.open_side-2.new.disk e) c.open_side.ensures.elsewhere
+    subst (λ (l : List ℕ). SideRan g.D.Disks.moves One l c.open_side.new.disk c.open_side-2.new.disk e) c.open_side.ensures.elsewhere
     (c.in-Err-open_side.ensures.ran_err told) in
-    subst (λ r. RanUntil g.D.Disks.steps files c.args.disk r) (sym c.refused-in-Err-open_side.ensures.is)
-    (side_one_ran g.D.Disks.steps files c.args.disk c.open_side.new.disk c.open_side-2.new.disk e (c.in-Ok.ensures.ran told) ran)
+    subst (λ r. RanUntil g.D.Disks.moves files c.args.disk r) (sym c.refused-in-Err-open_side.ensures.is)
+    (side_one_ran g.D.Disks.moves files c.args.disk c.open_side.new.disk c.open_side-2.new.disk e (c.in-Ok.ensures.ran told) ran)
 
 pub returns-in-Err-chosen-clause-ran_err : goal.returns-in-Err-chosen-clause-ran_err
 returns-in-Err-chosen-clause-ran_err g c told =
     let files = g.D.Disks.seen c.args.disk in
     let ran =
-    ran_on g.D.Disks.steps (opening_calls Zero files.zero) (opening_calls One files.one) c.args.disk c.open_side.new.disk c.open_side-2.new.disk true
+    ran_on g.D.Disks.moves (opening_calls Zero files.zero) (opening_calls One files.one) c.args.disk c.open_side.new.disk c.open_side-2.new.disk true
     (c.in-Ok.ensures.ran told)
-    (subst (λ (l : List ℕ). CallsMade g.D.Disks.steps (opening_calls One l) c.open_side.new.disk c.open_side-2.new.disk true) c.open_side.ensures.elsewhere
+    (subst (λ (l : List ℕ). CallsMade g.D.Disks.moves (opening_calls One l) c.open_side.new.disk c.open_side-2.new.disk true) c.open_side.ensures.elsewhere
     (c.in-Ok-open_side.ensures.ran told)) in
-    twin_ran g.D.Disks.steps files c.args.disk c.open_side-2.new.disk c.in-Err-chosen.why ran
+    twin_ran g.D.Disks.moves files c.args.disk c.open_side-2.new.disk c.in-Err-chosen.why ran
     (why_is_twin c.epoch_of-zero_epoch.result c.epoch_of-one_epoch.result c.in-Err-chosen.why (sym c.chosen.ensures ∙ c.in-Err-chosen.is))

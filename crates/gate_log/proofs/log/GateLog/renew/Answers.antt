@@ -113,12 +113,12 @@ pub returns-in_default-clause-ran : goal.returns-in_default-clause-ran
 returns-in_default-clause-ran g c called =
     let self = c.args.self.now in
     subst
-    (λ (s : Side). CallsMade g.D.Disks.steps (renewal_calls s self.other_gate c.args.frame.now) self.disk c.write_generation.new.disk false)
+    (λ (s : Side). CallsMade g.D.Disks.moves (renewal_calls s self.other_gate c.args.frame.now) self.disk c.write_generation.new.disk false)
     c.other-side.ensures c.in_default.ensures.ran
 
 pub returns-clause-ran : goal.returns-clause-ran
 returns-clause-ran g c called =
     let self = c.args.self.now in
     subst
-    (λ (s : Side). CallsMade g.D.Disks.steps (renewal_calls s self.other_gate c.args.frame.now) self.disk c.write_generation.new.disk true)
+    (λ (s : Side). CallsMade g.D.Disks.moves (renewal_calls s self.other_gate c.args.frame.now) self.disk c.write_generation.new.disk true)
     c.other-side.ensures c.in-Ok.ensures.ran

@@ -3,7 +3,7 @@ use Rattle.std.proofs.lemmas.Result.{on_ok_weaker}
 use Rattle.world_model.specs.declared.acts.Act.{Act}
 use Rattle.world_model.specs.declared.acts.ActReply.TheVariants.{Taken}
 use Rattle.world_model.specs.declared.acts.Outcome.TheVariants.{Answered}
-use Rattle.world_model.specs.Steps.{node_state_after}
+use Rattle.world_model.specs.Moves.{node_state_after}
 use Rattle.node_audit.specs.Standing.{seen}
 use Rattle.node_audit.proofs.running.Running.take.Goals as goal
 

@@ -23,4 +23,4 @@ returns-in-Err-clause-ran_err g c t =
     let calls = both_opening_calls (g.D.Disks.seen c.args.disk) in
     let same : c.in_ok-journal.journal.log.disk ≡ c.into_disk.result =
     sym (c.into_disk.ensures ∙ ap (λ j. j.log.disk) (c.into_keeper.ensures ∙ ap (λ r. r.node.core.keeper) c.in-Err.ensures.err ∙ c.open-2.ensures.keeper)) in
-    (calls, [], append-nil calls, subst (λ back. CallsMade g.D.Disks.steps calls c.args.disk back true) same (c.in_ok-journal.ensures.ran t))
+    (calls, [], append-nil calls, subst (λ back. CallsMade g.D.Disks.moves calls c.args.disk back true) same (c.in_ok-journal.ensures.ran t))

@@ -1,6 +1,6 @@
 use Rattle.std.proofs.Common.{sym, ap, subst, ◌∙◌, refl}
 use Rattle.std.proofs.lemmas.Bool.{false_from_ne_true}
-use Rattle.coordinator.specs.Steps.{AreEntries}
+use Rattle.coordinator.specs.EventNode.{AreEntries}
 use Rattle.node_loop.proofs.Stepping.{did, broke, stayed}
 use Rattle.node_loop.proofs.reporter.ReporterSteps.step.Goals as goal
 
@@ -34,22 +34,22 @@ invariant_of-self-in-Err-Stopped g c =
       own = c.args.self.now.own ∙ ap (λ n. n.settings.me) (sym same);
     }
 
-pub returns-in-Ok-clause-steps : goal.returns-in-Ok-clause-steps
-returns-in-Ok-clause-steps g c s life stands start =
+pub returns-in-Ok-clause-does : goal.returns-in-Ok-clause-does
+returns-in-Ok-clause-does g c s life stands start =
     did g.K.Keeper g.met.K.Keeper.only_kept (λ r. r.node) (λ r. r.told) c.args.self.now _ s life c.args.event c.in-Ok.sealed c.report-lines.result stands start
     (false_from_ne_true _ (λ stopped. absurd (let never = c.in-Ok.ensures.stopped.1 stopped in cc)))
-    (c.in-Ok.ensures.steps life stands.stands)
+    (c.in-Ok.ensures.does life stands.stands)
     (λ s2 life2 event items me right are sent answered. c.report-lines.ensures s2 life2 event items (c.args.self.now.own ∙ ap (λ x. x.me) stands.settings ∙ me) right
     (subst (λ e. AreEntries event items e) (sym c.entries.ensures) are)
     (c.as_slice.ensures ∙ ap (λ l. l.list) c.sends.ensures ∙ sent) (c.as_slice-in-Ok.ensures ∙ ap (λ l. l.sent) c.replies.ensures ∙ answered))
 
-pub returns-in-Err-Disk-clause-steps : goal.returns-in-Err-Disk-clause-steps
-returns-in-Err-Disk-clause-steps g c s life stands start =
+pub returns-in-Err-Disk-clause-does : goal.returns-in-Err-Disk-clause-does
+returns-in-Err-Disk-clause-does g c s life stands start =
     broke g.K.Keeper g.met.K.Keeper.only_kept (λ r. r.node) (λ r. r.told) c.args.self.now _ s life c.args.event c.in-Err-Disk.entries c.report.result stands start
     (false_from_ne_true _ (λ stopped. absurd (let never = c.in-Err-Disk.ensures.stopped.1 stopped in let is = c.in-Err-Disk.field-0-is in cc)))
-    (rw c.in-Err-Disk.field-0-is at (c.in-Err-Disk.ensures.steps life stands.stands))
+    (rw c.in-Err-Disk.field-0-is at (c.in-Err-Disk.ensures.does life stands.stands))
     (λ s2 life2 event items me. c.report.ensures s2 life2 event items (c.args.self.now.own ∙ ap (λ x. x.me) stands.settings ∙ me))
 
-pub returns-in-Err-Memory-clause-steps : goal.returns-in-Err-Memory-clause-steps
-returns-in-Err-Memory-clause-steps g c s life stands start =
+pub returns-in-Err-Memory-clause-does : goal.returns-in-Err-Memory-clause-does
+returns-in-Err-Memory-clause-does g c s life stands start =
     stayed g.K.Keeper g.met.K.Keeper.only_kept (λ r. r.node) (λ r. r.told) c.args.self.now _ s life (rw c.in-Err-Memory.field-0-is at c.in-Err-Memory.ensures.stays) refl stands

@@ -1,7 +1,7 @@
 use Rattle.std.proofs.Common.{◌++◌, ap, subst, ◌∙◌}
 use Rattle.cluster_state.specs.declared.state.Kept.{Kept}
-use Rattle.zen_disk.specs.Fuse.{FuseSteps}
-use Rattle.zen_disk.specs.MemDisks.{MemSteps, read_of}
+use Rattle.zen_disk.specs.Fuse.{FuseMoves}
+use Rattle.zen_disk.specs.MemDisks.{MemMoves, read_of}
 use Rattle.zen_disk.specs.Moments.{LeavesOnly}
 use Rattle.state_journal.specs.Journal.{FoundAsSome}
 use Rattle.state_journal.specs.Opening.{handed_back, IsWhyOf, RanUntil}
@@ -30,5 +30,5 @@ returns-clause-opens c =
     let fuse = c.args.fuse in
     let failed = c.in-Err-Disk.ensures in
     let run = subst (λ (e : OpenError MemFuse). LeavesOnly moment_of left_of fuse (handed_back e) (FoundAsSome (MayLeave fuse))) c.in-Err-Disk.field-0-is (failed.any_moment_err tt) in
-    let ran = subst (λ (e : OpenError MemFuse). RanUntil (FuseSteps MemSteps) (read_of fuse.disk) fuse e) c.in-Err-Disk.field-0-is (failed.ran_err tt) in
+    let ran = subst (λ (e : OpenError MemFuse). RanUntil (FuseMoves MemMoves) (read_of fuse.disk) fuse e) c.in-Err-Disk.field-0-is (failed.ran_err tt) in
     λ w closed. stays c.args.self.now.me fuse w closed c.in-Err-Disk.fuse run ran c.args.text.now c.stay_down.new.text c.in_ok-stay_down-in-Err-Disk.field-0 c.in_ok-stay_down-in-Err-Disk.ensures

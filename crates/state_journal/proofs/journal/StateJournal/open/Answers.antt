@@ -10,11 +10,11 @@ use Rattle.state_journal.proofs.journal.StateJournal.open.Goals as goal
 
 pub returns-in-Err-Memory-clause-ran_err : goal.returns-in-Err-Memory-clause-ran_err
 returns-in-Err-Memory-clause-ran_err g c =
-    λ told. ran_all g.D.Disks.steps (both_opening_calls (g.D.Disks.seen c.args.disk)) c.args.disk c.in-Ok.opened.log.disk c.into_disk.result c.into_disk.ensures (c.in-Ok.ensures.ran told)
+    λ told. ran_all g.D.Disks.moves (both_opening_calls (g.D.Disks.seen c.args.disk)) c.args.disk c.in-Ok.opened.log.disk c.into_disk.result c.into_disk.ensures (c.in-Ok.ensures.ran told)
 
 pub returns-in_default-clause-ran_err : goal.returns-in_default-clause-ran_err
 returns-in_default-clause-ran_err g c =
-    λ told. ran_all g.D.Disks.steps (both_opening_calls (g.D.Disks.seen c.args.disk)) c.args.disk c.in-Ok.opened.log.disk c.into_disk-in_default.result c.into_disk-in_default.ensures (c.in-Ok.ensures.ran told)
+    λ told. ran_all g.D.Disks.moves (both_opening_calls (g.D.Disks.seen c.args.disk)) c.args.disk c.in-Ok.opened.log.disk c.into_disk-in_default.result c.into_disk-in_default.ensures (c.in-Ok.ensures.ran told)
 
 pub invariant_of-result : goal.invariant_of-result
 invariant_of-result g c =

@@ -41,8 +41,8 @@ returns-in-Ok-clause-time c =
     placed_elapses Zero (reverse old.order.items) (reverse order) (past_of old) (read_of old) (past_in new.log) call new.bytes.items
     more past back
 
-pub returns-in-Ok-clause-step : goal.returns-in-Ok-clause-step
-returns-in-Ok-clause-step c =
+pub returns-in-Ok-clause-moves : goal.returns-in-Ok-clause-moves
+returns-in-Ok-clause-moves c =
     let old = c.args.self.now in
     let file = c.args.self.now.zero in
     let new = c.place.new.self in
@@ -96,8 +96,8 @@ returns-in-Ok-place-clause-time c =
     placed_elapses One (reverse old.order.items) (reverse order) (past_of old) (read_of old) (past_in new.log) call new.bytes.items
     more past back
 
-pub returns-in-Ok-place-clause-step : goal.returns-in-Ok-place-clause-step
-returns-in-Ok-place-clause-step c =
+pub returns-in-Ok-place-clause-moves : goal.returns-in-Ok-place-clause-moves
+returns-in-Ok-place-clause-moves c =
     let old = c.args.self.now in
     let file = c.args.self.now.one in
     let new = c.place-in-One.new.self in

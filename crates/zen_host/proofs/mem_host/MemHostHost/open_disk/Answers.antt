@@ -3,8 +3,8 @@ use Rattle.zen_disk.specs.Numbered.{next_number, is_listed}
 use Rattle.zen_host.proofs.Refusals.{refused_by_list}
 use Rattle.zen_host.proofs.mem_host.MemHostHost.open_disk.Goals as goal
 
-pub returns-then-is_to_fail-clause-steps : goal.returns-then-is_to_fail-clause-steps
-returns-then-is_to_fail-clause-steps g c =
+pub returns-then-is_to_fail-clause-moves : goal.returns-then-is_to_fail-clause-moves
+returns-then-is_to_fail-clause-moves g c =
     let next : c.saturating_add-self.result ≡ next_number c.args.self.now.number = search rules in
     let listed : is_listed c.args.self.now.fails.items c.saturating_add-self.result ≡ true = search rules in
     refused_by_list c.args.self.now.fails.items c.args.self.now.number c.saturating_add-self.result c.args.self.now.disk c.args.self.now.faults c.refuse.new.faults c.refuse.result next listed c.refuse.ensures.same

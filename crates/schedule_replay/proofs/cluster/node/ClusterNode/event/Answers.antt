@@ -17,9 +17,9 @@ three_ok (Err e) P Q R S f p q z = tt
 pub returns-in-Stopped : goal.returns-in-Stopped
 returns-in-Stopped c =
     let ends = subst (λ (e : Ended). Ends c.in-Open.node c.step.new.node c.args.event e) c.in-Stopped.is c.in_ok-step.ensures in
-    on_ok_weaker c.write_down-in-Stopped.result
-    (does_stopped c.args.self.now c.args.event c.in-Open.node c.step.new.node c.in-Open.is ends c.args.frames.now.items c.args.text.now c.write_down-in-Stopped.new.text)
-    c.write_down-in-Stopped.ensures
+    on_ok_weaker c.write_down_line-in-Stopped.result
+    (does_stopped c.args.self.now c.args.event c.in-Open.node c.step.new.node c.in-Open.is ends c.args.frames.now.items c.args.text.now c.write_down_line-in-Stopped.new.text)
+    c.write_down_line-in-Stopped.ensures
 
 pub returns-in-Whole : goal.returns-in-Whole
 returns-in-Whole c =

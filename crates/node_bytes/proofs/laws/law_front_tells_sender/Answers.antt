@@ -1,5 +1,0 @@
-use Rattle.node_bytes.proofs.Fronts.{front_tells_sender}
-use Rattle.node_bytes.proofs.laws.law_front_tells_sender.Goals as goal
-
-pub returns : goal.returns
-returns c = front_tells_sender

@@ -1,5 +1,0 @@
-use Rattle.policy_model.proofs.Determined.{determined}
-use Rattle.policy_model.proofs.told.law_determined.Goals as goal
-
-pub returns : goal.returns
-returns c s life other f g same = determined s life other f g same

@@ -1,0 +1,5 @@
+use Rattle.schedule_replay.proofs.ClusterLaws.{goes_on}
+use Rattle.schedule_replay.proofs.laws.law_cluster_parts_go_on.Goals as goal
+
+pub returns : goal.returns
+returns c = goes_on

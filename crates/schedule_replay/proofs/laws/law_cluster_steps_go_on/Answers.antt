@@ -1,5 +1,0 @@
-use Rattle.schedule_replay.proofs.ClusterLaws.{goes_on}
-use Rattle.schedule_replay.proofs.laws.law_cluster_steps_go_on.Goals as goal
-
-pub returns : goal.returns
-returns c = goes_on

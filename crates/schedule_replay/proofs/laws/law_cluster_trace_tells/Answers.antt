@@ -1,5 +1,0 @@
-use Rattle.schedule_replay.proofs.ClusterLaws.{tells}
-use Rattle.schedule_replay.proofs.laws.law_cluster_trace_tells.Goals as goal
-
-pub returns : goal.returns
-returns c = tells

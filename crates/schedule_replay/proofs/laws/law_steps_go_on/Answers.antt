@@ -1,5 +1,0 @@
-use Rattle.schedule_replay.proofs.TraceLaws.{goes_on}
-use Rattle.schedule_replay.proofs.laws.law_steps_go_on.Goals as goal
-
-pub returns : goal.returns
-returns c = goes_on
