@@ -5,7 +5,7 @@ use std::io;
 /// Why a run did not come to its end.
 #[derive(Clone, Copy)]
 pub enum Fault {
-    /// Memory was lacking outside a step and an opening.
+    /// Memory was lacking outside an event and an opening.
     Memory,
     /// What came is not what was to come.
     Unexpected(&'static str),

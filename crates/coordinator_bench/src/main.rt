@@ -1,5 +1,5 @@
 //! Coordinators in memory, whose frames are handed over at once: ticks of a follower, checks, puts, and a small cluster in
-//! which each step that finds no memory is given its event again.
+//! which each event that finds no memory is given its event again.
 #![tactic(auto)]
 
 mod counts;
@@ -28,7 +28,7 @@ fn main(rt: HostRuntime) -> ExitCode {
     match run_words(&rt) {
         Ok(()) => ExitCode::from(0),
         Err(fault) => {
-            // The status says it too, and tells want of memory outside a step from all other faults.
+            // The status says it too, and tells want of memory outside an event from all other faults.
             let _ = eprintln!(rt; "{}", fault.text());
             ExitCode::from(fault.status())
         }

@@ -72,7 +72,7 @@ impl<K: Keeper> Member<K> {
         }
     }
 
-    /// Gives it to the node, and once more where a step found no memory, since that changed nothing.
+    /// Gives it to the node, and once more where an event found no memory, since that changed nothing.
     pub fn give(&mut self, alloc: Global, given: Given) -> Result<Sealed, Fault> {
         for _ in 0..2 {
             match self.node.step(alloc, event(alloc, given)?) {

@@ -32,9 +32,9 @@ module _ {C S : Type 0} (stands_for : C → Settings → Life → Type 0) (outpu
   pub done_part : (lines : List ℕ) (o0 o1 : Option (List ℕ)) (w : Option (List (Traffic S))) → Does stands_for text s life event now output (record { sealed = sealed; lines = Some lines })
       → AppendedPart o0 o1 lines
       → Reported output text s life (Makes (Comes event) ∷ []) (Some ends.Write) o0 o1 w w (stands_for now s)
-  done_part lines o0 o1 w does front =
+  done_part lines o0 o1 w does prefix =
       says_part output text s life (Comes event) (Did event does.items) ends.Write o0 o1 w (stands_for now s)
-      refl refl does.next does.stands (cut_part o0 o1 (text life (Did event does.items)) (subst (λ l. AppendedPart o0 o1 l) does.said front))
+      refl refl does.next does.stands (cut_part o0 o1 (text life (Did event does.items)) (subst (λ l. AppendedPart o0 o1 l) does.said prefix))
 
   pub done_silent : (lines : Option (List ℕ)) (o : Option (List ℕ)) (w : Option (List (Traffic S))) → Does stands_for text s life event now output (record { sealed = sealed; lines = lines })
       → Reported output text s life (Makes (Comes event) ∷ []) (Some ends.Memory) o o w w (stands_for now s)
@@ -55,9 +55,9 @@ module _ {C S : Type 0} (stands_for : C → Settings → Life → Type 0) (outpu
   pub struck_part : (lines : List ℕ) (o0 o1 : Option (List ℕ)) → IsHalted stands_for text s life event now (Some lines)
       → AppendedPart o0 o1 lines
       → Reported output text s life (Makes (Comes event) ∷ []) (Some ends.Write) o0 o1 told told (stands_for now s)
-  struck_part lines o0 o1 does front =
+  struck_part lines o0 o1 does prefix =
       says_part output text s life (Comes event) (Did event does.items) ends.Write o0 o1 told (stands_for now s)
-      refl refl does.next does.stands (cut_part o0 o1 (text life (Did event does.items)) (subst (λ l. AppendedPart o0 o1 l) does.said front))
+      refl refl does.next does.stands (cut_part o0 o1 (text life (Did event does.items)) (subst (λ l. AppendedPart o0 o1 l) does.said prefix))
 
   pub struck_silent : (lines : Option (List ℕ)) (o : Option (List ℕ)) → IsHalted stands_for text s life event now lines
       → Reported output text s life (Makes (Comes event) ∷ []) (Some ends.Memory) o o told told (stands_for now s)

@@ -154,7 +154,7 @@ cut-within s life event items rest found next k =
     let c = cut-to s (comes_with event) [] (view_of s l) l (items_of s (log_of life) event) r.0 (event-meant s life event)
     (left-next s life event items r.0 next (subst (λ (f : Option Kept). IsAlong (acts_of (log_of life)) items f) r.1 k)) in
     record {
-      front = [];
+      prefix = [];
       event = event;
       items = items;
       rest = rest;
@@ -175,7 +175,7 @@ cut-by s life (Unread conn) rest found next k = absurd k
 
 cut-later : (s : Settings) (life : Life) (e : Entry) (new : Life) (found : Option Kept) → IsCutBetween s (Lived life e) new found → IsCutBetween s life new found
 cut-later s life e new found cut = record {
-  front = e ∷ cut.front;
+  prefix = e ∷ cut.prefix;
   event = cut.event;
   items = cut.items;
   rest = cut.rest;

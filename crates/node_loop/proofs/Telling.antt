@@ -260,8 +260,8 @@ module _ {X : Type 0} (output : X → Output) (text : Life → Entry → List �
     said = [];
     unsaid = r ∷ [];
     left = [];
-    part = cut.front.front;
-    rest = cut.front.rest;
+    part = cut.prefix.prefix;
+    rest = cut.prefix.rest;
     reports = (st, refl);
     follows = (follows, tt);
     lives = lives;
@@ -269,10 +269,10 @@ module _ {X : Type 0} (output : X → Output) (text : Life → Entry → List �
     all_done = λ e. refl;
     all_said = λ e. absurd cc;
     at_most_one = omega arith;
-    cut = cut.front.whole ∙ sym (append-nil (text life r));
+    cut = cut.prefix.whole ∙ sym (append-nil (text life r));
     silent = λ is. cut.silent (same_Some _ _ is);
     short = λ is. cut.short (same_Some _ _ is);
-    written = cut.front.appended;
+    written = cut.prefix.appended;
     told = grows_none output w w refl;
     struck = λ is. absurd (not_disk end ends is);
   }

@@ -1,4 +1,4 @@
--- For the contracts inside: what a step of a node does, and what it has to say of it.
+-- For the contracts inside: what an event of a node does, and what it has to say of it.
 use Rattle.std.specs.Prelude.{◌≡◌, ℕ, true, false, Option, Some, None, Result, Ok, Err, List}
 use Rattle.policy_model.specs.declared.events.Event.{Event}
 use Rattle.policy_model.specs.declared.settings.Settings.{Settings}

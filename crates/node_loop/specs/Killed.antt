@@ -28,16 +28,16 @@ LawCrashIsKill =
 -- From one life to another some entries were lived, and within the next one, an event, the node was killed: this was done of it, with no
 -- frame and no reply sent, and the record is what the node then kept.
 pub record IsCutBetween (s : Settings) (life new : Life) (found : Option Kept) : Type 0 where
-  pub front : List Entry
+  pub prefix : List Entry
   pub event : Event
   pub items : List Item
   pub rest : List Entry
-  pub goes : lived life (front ++ Did event items ∷ rest) ≡ new
+  pub goes : lived life (prefix ++ Did event items ∷ rest) ≡ new
   pub done : List Item
-  pub did : IsDoneOf (items_of s (log_of (lived life front)) event) done
+  pub did : IsDoneOf (items_of s (log_of (lived life prefix)) event) done
   pub silent : frames_of done ≡ []
   pub unanswered : replies_of done ≡ []
-  pub kept : found ≡ Some (durable_of (acts_of (added (And (log_of (lived life front)) (Begins event)) done)))
+  pub kept : found ≡ Some (durable_of (acts_of (added (And (log_of (lived life prefix)) (Begins event)) done)))
 
 -- What a crash leaves at a moment of a run: it might have left that before the run, or a node leaves it that was killed within the run.
 abbrev pub LawMomentIsCut : {D : Type 0} → Disks D → Type 0

@@ -92,9 +92,9 @@ pub record Reported {X : Type 0} (output : X → Output) (text : Life → Entry 
 
 -- A text was not written whole: nothing of it where memory ran out, and where the sink failed a prefix that is not all of it.
 pub record CutShort (end : End) (out_was out_now : Option (List ℕ)) (text : List ℕ) : Type 0 where
-  pub front : AppendedPrefix out_was out_now text
-  pub silent : end ≡ ends.Memory → front.front ≡ []
-  pub short : end ≡ ends.Write → front.rest ≡ [] → ⊥
+  pub prefix : AppendedPrefix out_was out_now text
+  pub silent : end ≡ ends.Memory → prefix.prefix ≡ []
+  pub short : end ≡ ends.Write → prefix.rest ≡ [] → ⊥
 
 -- An end comes only where the count of faults of its object rose; the counts never fall.
 pub record HasCauses (end : Option End) (disk_was disk_now out_was out_now link_was link_now : ℕ) : Type 0 where

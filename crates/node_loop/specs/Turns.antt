@@ -54,7 +54,7 @@ HasRisen was now more = counted now 0 ≡ counted was more
 
 -- the last part of these
 abbrev pub IsRestOf : List Happening → List Happening → Type 0
-IsRestOf rest whole = (front : List Happening) × (front ++ rest ≡ whole)
+IsRestOf rest whole = (prefix : List Happening) × (prefix ++ rest ≡ whole)
 
 module _ {X : Type 0} (output : X → Output) (text : Life → Entry → List ℕ) (s : Settings) (life : Life) (intakes : Intakes)
     (end : Option End) (out_was out_now : Option (List ℕ)) (was now : Option (List (Traffic X))) (stands : Life → Type 0)

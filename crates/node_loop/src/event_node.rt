@@ -24,10 +24,10 @@ pub struct Done<X: Drop> {
     pub lines: Option<Text>,
 }
 
-/// Why a step was not done, or not to its end.
+/// Why an event was not done, or not to its end.
 #[derive(Drop)]
 pub enum NotDone {
-    /// An earlier step answered Disk.
+    /// An earlier event answered Disk.
     Stopped,
     /// Memory was lacking, and nothing was done.
     Memory,

@@ -104,9 +104,9 @@ both_read _ ys _ fs _ d (Taken line more e es c alone tells rest) s =
     (Taken line (more ++ ys) e (es ++ fs) (plus c d) alone tells (both_read more ys es fs c d rest s))
 
 -- one line, by the words that it begins with
-pub line_reads : (text : List ℕ) (front : List (List ℕ)) (told : Option Entry) (c : Counts) → IsRead text front told → ((rest : List (List ℕ)) → counted (front ++ rest) ≡ c) → Reads text (entries_in told) c
-line_reads text front None c r k = moved (r.line ++ 10 ∷ []) text [] _ c (sym r.is) (plus_end (counted (words_of r.line)) ∙ ap counted r.words ∙ k r.rest) (Passed r.line [] [] no_counts r.alone r.tells NoLine)
-line_reads text front (Some e) c r k = moved (r.line ++ 10 ∷ []) text (e ∷ []) _ c (sym r.is) (plus_end (counted (words_of r.line)) ∙ ap counted r.words ∙ k r.rest) (Taken r.line [] e [] no_counts r.alone r.tells NoLine)
+pub line_reads : (text : List ℕ) (prefix : List (List ℕ)) (told : Option Entry) (c : Counts) → IsRead text prefix told → ((rest : List (List ℕ)) → counted (prefix ++ rest) ≡ c) → Reads text (entries_in told) c
+line_reads text prefix None c r k = moved (r.line ++ 10 ∷ []) text [] _ c (sym r.is) (plus_end (counted (words_of r.line)) ∙ ap counted r.words ∙ k r.rest) (Passed r.line [] [] no_counts r.alone r.tells NoLine)
+line_reads text prefix (Some e) c r k = moved (r.line ++ 10 ∷ []) text (e ∷ []) _ c (sym r.is) (plus_end (counted (words_of r.line)) ∙ ap counted r.words ∙ k r.rest) (Taken r.line [] e [] no_counts r.alone r.tells NoLine)
 
 -- ---- what the lines count for
 

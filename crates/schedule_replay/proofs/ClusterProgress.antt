@@ -19,11 +19,11 @@ module _ (ids initial voting_only : List Id) (nodes more : List ClusterNode) (fr
   tail = trace_from ids initial voting_only (after ids initial voting_only m.cluster line) (drop (i + 1) lines)
 
   -- the whole trace, with the text of the line in it
-  whole_is : m.front ++ (held ++ (text ++ tail)) ≡ all
+  whole_is : m.prefix ++ (held ++ (text ++ tail)) ≡ all
   whole_is =
       let step = (subst (λ (x : List ℕ). WritesLine ids initial voting_only nodes more frames sent x text line) empty writes) m.cluster m.stands in
-      ap (λ (t : List ℕ). m.front ++ (held ++ (t ++ tail))) step.written
-      ∙ sym (ap (λ (l : List Line). m.front ++ (held ++ trace_from ids initial voting_only m.cluster l)) (left_is lines i line within is))
+      ap (λ (t : List ℕ). m.prefix ++ (held ++ (t ++ tail))) step.written
+      ∙ sym (ap (λ (l : List Line). m.prefix ++ (held ++ trace_from ids initial voting_only m.cluster l)) (left_is lines i line within is))
       ∙ m.whole
 
   pub goes_on : HoldsBack now later held after_held text → ClusterSoFar ids initial voting_only more sent was later after_held (drop (i + 1) lines) all
@@ -32,31 +32,31 @@ module _ (ids initial voting_only : List Id) (nodes more : List ClusterNode) (fr
       record {
         cluster = after ids initial voting_only m.cluster line;
         stands = step.stands;
-        front = m.front ++ h.front;
-        written = appended_more was now later m.front h.front m.written h.written;
+        prefix = m.prefix ++ h.prefix;
+        written = appended_more was now later m.prefix h.prefix m.written h.written;
         whole =
-            append_assoc m.front h.front (after_held ++ tail)
-            ∙ ap (λ (t : List ℕ). m.front ++ t) (sym (append_assoc h.front after_held tail) ∙ ap (λ (t : List ℕ). t ++ tail) h.whole ∙ append_assoc held text tail)
+            append_assoc m.prefix h.prefix (after_held ++ tail)
+            ∙ ap (λ (t : List ℕ). m.prefix ++ t) (sym (append_assoc h.prefix after_held tail) ∙ ap (λ (t : List ℕ). t ++ tail) h.whole ∙ append_assoc held text tail)
             ∙ whole_is;
       }
 
   pub fails : AppendedPrefix now later (held ++ text) → AppendedPrefix was later all
   fails h =
-      let front = front_within now later (held ++ text) tail (held ++ (text ++ tail)) (append_assoc held text tail) h in
-      subst (λ (t : List ℕ). AppendedPrefix was later t) whole_is (front_after was now later m.front (held ++ (text ++ tail)) m.written front)
+      let prefix = front_within now later (held ++ text) tail (held ++ (text ++ tail)) (append_assoc held text tail) h in
+      subst (λ (t : List ℕ). AppendedPrefix was later t) whole_is (front_after was now later m.prefix (held ++ (text ++ tail)) m.written prefix)
 
 module _ (ids initial voting_only : List Id) (nodes : List ClusterNode) (frames : List Frame) (was now later : Option (List ℕ)) (held bytes : List ℕ) (left : List Line) (all : List ℕ) where
   pub stops : bytes ≡ held → ClusterSoFar ids initial voting_only nodes frames was now held left all → AppendedPrefix now later bytes → AppendedPrefix was later all
   stops e m h =
       let tail : List ℕ = trace_from ids initial voting_only m.cluster left in
-      let front = front_within now later bytes tail (held ++ tail) (ap (λ (t : List ℕ). t ++ tail) e) h in
-      subst (λ (t : List ℕ). AppendedPrefix was later t) m.whole (front_after was now later m.front (held ++ tail) m.written front)
+      let prefix = front_within now later bytes tail (held ++ tail) (ap (λ (t : List ℕ). t ++ tail) e) h in
+      subst (λ (t : List ℕ). AppendedPrefix was later t) m.whole (front_after was now later m.prefix (held ++ tail) m.written prefix)
 
   pub ends : left ≡ [] → bytes ≡ held → ClusterSoFar ids initial voting_only nodes frames was now held left all → Appended now later bytes → Appended was later all
   ends none e m h =
-      let whole : m.front ++ bytes ≡ all =
-      ap (λ (t : List ℕ). m.front ++ t) (e ∙ sym (append-nil held))
-      ∙ sym (ap (λ (l : List Line). m.front ++ (held ++ trace_from ids initial voting_only m.cluster l)) none)
+      let whole : m.prefix ++ bytes ≡ all =
+      ap (λ (t : List ℕ). m.prefix ++ t) (e ∙ sym (append-nil held))
+      ∙ sym (ap (λ (l : List Line). m.prefix ++ (held ++ trace_from ids initial voting_only m.cluster l)) none)
       ∙ m.whole
       in
-      subst (λ (t : List ℕ). Appended was later t) whole (appended_more was now later m.front bytes m.written h)
+      subst (λ (t : List ℕ). Appended was later t) whole (appended_more was now later m.prefix bytes m.written h)

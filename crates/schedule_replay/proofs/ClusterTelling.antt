@@ -150,8 +150,8 @@ module _ (nodes initial voting_only : List Id) where
   abbrev GoesOn : List ClusterPart → List ClusterPart → Type 0
   GoesOn old new = (rest : List ClusterPart) × (new ≡ old ++ rest)
 
-  behind : (front old new : List ClusterPart) → GoesOn old new → GoesOn (front ++ old) (front ++ new)
-  behind front old new g = (g.0, ap (λ x. front ++ x) g.1 ∙ sym (append_assoc front old g.0))
+  behind : (prefix old new : List ClusterPart) → GoesOn old new → GoesOn (prefix ++ old) (prefix ++ new)
+  behind prefix old new g = (g.0, ap (λ x. prefix ++ x) g.1 ∙ sym (append_assoc prefix old g.0))
 
   pub go_on : (c : Cluster) (ls more : List Line) → GoesOn (parts_from nodes initial voting_only c ls) (parts_from nodes initial voting_only c (ls ++ more))
   go_on c [] more = (parts_from nodes initial voting_only c more, refl)

@@ -26,7 +26,7 @@ use Rattle.schedule_replay.proofs.ClusterTelling.{lines_piece}
 
 both_end : (t u : List ℕ) → EndsLine t → EndsLine u → EndsLine (t ++ u)
 both_end t u e Empty = subst EndsLine (sym (append-nil t)) e
-both_end t u e (Fed front) = subst EndsLine (append_assoc t front (10 ∷ [])) (Fed (t ++ front))
+both_end t u e (Fed prefix) = subst EndsLine (append_assoc t prefix (10 ∷ [])) (Fed (t ++ prefix))
 
 -- ---- steps
 

@@ -40,11 +40,11 @@ unfolding join_checked eight_bytes two_bytes sized framed laid size_at bodies_fr
 one_commit = refl
 
 -- a node crashes inside the write that keeps a term; its record shows that it was kept, and settles it
-abbrev front : List Line
-front = Boot a ∷ Fuse a 3 Kept ∷ StartJoin a a 1 ∷ []
+abbrev prefix : List Line
+prefix = Boot a ∷ Fuse a 3 Kept ∷ StartJoin a a 1 ∷ []
 
 abbrev struck : List Line → Schedule
-struck more = record { nodes = a ∷ []; initial = a ∷ []; voting_only = []; lines = front ++ more }
+struck more = record { nodes = a ∷ []; initial = a ∷ []; voting_only = []; lines = prefix ++ more }
 
 abbrev booted : History
 booted = Next NoEntries a (Bootstrap (a ∷ [])) (Answered (Taken None false))

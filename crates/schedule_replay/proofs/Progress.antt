@@ -29,11 +29,11 @@ module _ (ids initial : List Id) (nodes more : List ReplayNode) (messages sent :
   tail = trace_from initial (after initial m.world line) (drop (i + 1) lines)
 
   -- the whole trace, with the text of the line in it
-  whole_is : m.front ++ (held ++ (text ++ tail)) ≡ all
+  whole_is : m.prefix ++ (held ++ (text ++ tail)) ≡ all
   whole_is =
       let step = (subst (λ (x : List ℕ). WritesLine ids initial nodes more messages sent x text line) empty writes) m.world m.stands in
-      ap (λ (t : List ℕ). m.front ++ (held ++ (t ++ tail))) step.written
-      ∙ sym (ap (λ (l : List Line). m.front ++ (held ++ trace_from initial m.world l)) (left_is lines i line within is))
+      ap (λ (t : List ℕ). m.prefix ++ (held ++ (t ++ tail))) step.written
+      ∙ sym (ap (λ (l : List Line). m.prefix ++ (held ++ trace_from initial m.world l)) (left_is lines i line within is))
       ∙ m.whole
 
   pub goes_on : HoldsBack now later held after_held text → SoFar ids initial more sent was later after_held (drop (i + 1) lines) all end
@@ -42,35 +42,35 @@ module _ (ids initial : List Id) (nodes more : List ReplayNode) (messages sent :
       record {
         world = after initial m.world line;
         stands = step.stands;
-        front = m.front ++ h.front;
-        written = appended_more was now later m.front h.front m.written h.written;
+        prefix = m.prefix ++ h.prefix;
+        written = appended_more was now later m.prefix h.prefix m.written h.written;
         whole =
-            append_assoc m.front h.front (after_held ++ tail)
-            ∙ ap (λ (t : List ℕ). m.front ++ t) (sym (append_assoc h.front after_held tail) ∙ ap (λ (t : List ℕ). t ++ tail) h.whole ∙ append_assoc held text tail)
+            append_assoc m.prefix h.prefix (after_held ++ tail)
+            ∙ ap (λ (t : List ℕ). m.prefix ++ t) (sym (append_assoc h.prefix after_held tail) ∙ ap (λ (t : List ℕ). t ++ tail) h.whole ∙ append_assoc held text tail)
             ∙ whole_is;
         ends = sym (ap (λ (l : List Line). replayed_from initial m.world l) (left_is lines i line within is)) ∙ m.ends;
       }
 
   pub fails : AppendedPrefix now later (held ++ text) → AppendedPrefix was later all
   fails h =
-      let front = front_within now later (held ++ text) tail (held ++ (text ++ tail)) (append_assoc held text tail) h in
-      subst (λ (t : List ℕ). AppendedPrefix was later t) whole_is (front_after was now later m.front (held ++ (text ++ tail)) m.written front)
+      let prefix = front_within now later (held ++ text) tail (held ++ (text ++ tail)) (append_assoc held text tail) h in
+      subst (λ (t : List ℕ). AppendedPrefix was later t) whole_is (front_after was now later m.prefix (held ++ (text ++ tail)) m.written prefix)
 
 module _ (ids initial : List Id) (nodes : List ReplayNode) (messages : List SentMessage) (was now later : Option (List ℕ)) (held bytes : List ℕ) (left : List Line) (all : List ℕ) (end : World) where
   pub stops : bytes ≡ held → SoFar ids initial nodes messages was now held left all end → AppendedPrefix now later bytes → AppendedPrefix was later all
   stops e m h =
       let tail : List ℕ = trace_from initial m.world left in
-      let front = front_within now later bytes tail (held ++ tail) (ap (λ (t : List ℕ). t ++ tail) e) h in
-      subst (λ (t : List ℕ). AppendedPrefix was later t) m.whole (front_after was now later m.front (held ++ tail) m.written front)
+      let prefix = front_within now later bytes tail (held ++ tail) (ap (λ (t : List ℕ). t ++ tail) e) h in
+      subst (λ (t : List ℕ). AppendedPrefix was later t) m.whole (front_after was now later m.prefix (held ++ tail) m.written prefix)
 
   pub ends : left ≡ [] → bytes ≡ held → SoFar ids initial nodes messages was now held left all end → Appended now later bytes → Appended was later all
   ends none e m h =
-      let whole : m.front ++ bytes ≡ all =
-      ap (λ (t : List ℕ). m.front ++ t) (e ∙ sym (append-nil held))
-      ∙ sym (ap (λ (l : List Line). m.front ++ (held ++ trace_from initial m.world l)) none)
+      let whole : m.prefix ++ bytes ≡ all =
+      ap (λ (t : List ℕ). m.prefix ++ t) (e ∙ sym (append-nil held))
+      ∙ sym (ap (λ (l : List Line). m.prefix ++ (held ++ trace_from initial m.world l)) none)
       ∙ m.whole
       in
-      subst (λ (t : List ℕ). Appended was later t) whole (appended_more was now later m.front bytes m.written h)
+      subst (λ (t : List ℕ). Appended was later t) whole (appended_more was now later m.prefix bytes m.written h)
 
 -- an error says no more than that a prefix was written
 pub front_at_err : {A E : Type 0} (r : Result A E) (was now : Option (List ℕ)) (all : List ℕ) → IsErr r → AppendedPrefix was now all → WritesTrace was now all r

@@ -179,8 +179,8 @@ steps_lines initial w (l ∷ ls) =
 abbrev GoesOn : List TracePart → List TracePart → Type 0
 GoesOn old new = (rest : List TracePart) × (new ≡ old ++ rest)
 
-behind : (front old new : List TracePart) → GoesOn old new → GoesOn (front ++ old) (front ++ new)
-behind front old new g = (g.0, ap (λ x. front ++ x) g.1 ∙ sym (append_assoc front old g.0))
+behind : (prefix old new : List TracePart) → GoesOn old new → GoesOn (prefix ++ old) (prefix ++ new)
+behind prefix old new g = (g.0, ap (λ x. prefix ++ x) g.1 ∙ sym (append_assoc prefix old g.0))
 
 pub go_on : (initial : List Id) (w : World) (ls more : List Line) → GoesOn (parts_from initial w ls) (parts_from initial w (ls ++ more))
 go_on initial w [] more = (parts_from initial w more, refl)

@@ -1,4 +1,4 @@
--- Part of the statement: the step of an act, from its outcome. It need not be read: TraceLaws says of the steps what they show, by Told and
+-- Part of the statement: the part of an act, from its outcome. It need not be read: TraceLaws says of the parts what they show, by HistoryShown and
 -- Showing.
 use Rattle.std.specs.Prelude.{ℕ, ◌+◌, cond, Option, None, Some}
 use Rattle.voting_config.specs.Ids.{Id}

@@ -12,7 +12,7 @@ use Rattle.schedule_replay.specs.ClusterParts.{ClusterPart, cluster_text}
 use Rattle.schedule_replay.specs.ClusterShown.{core_of, frames_in, numbered_frames, replies_shown, life_replies}
 use Rattle.schedule_replay.specs.ClusterTraceParts.{cluster_parts}
 
--- The trace is the text of these steps, which echo the lines in order. The history is read off them. They show just the frames that were
+-- The trace is the text of these parts, which echo the lines in order. The history is read off them. They show just the frames that were
 -- sent, in order and numbered from 1, and of each node just the replies of its life, in order.
 pub record ClusterGivesHistory (s : Schedule) (xs : List ClusterPart) : Type 0 where
   pub text : trace s ≡ cluster_text xs
@@ -26,7 +26,7 @@ pub record ClusterGivesHistory (s : Schedule) (xs : List ClusterPart) : Type 0 w
 abbrev pub LawClusterTraceGivesHistory : Type 0
 LawClusterTraceGivesHistory = (s : Schedule) → ClusterGivesHistory s (cluster_parts s)
 
--- more lines leave the steps of the lines before as they are
+-- more lines leave the parts of the lines before as they are
 abbrev pub LawClusterPartsGoOn : Type 0
 LawClusterPartsGoOn = (s : Schedule) (more : List Line)
     → (rest : List ClusterPart) × (cluster_parts (record s { lines = s.lines ++ more }) ≡ cluster_parts s ++ rest)

@@ -1,5 +1,5 @@
--- Part of the statement: the parts of a trace of whole nodes, and their text. A step that level core has too is a step of level core, so
--- that what those tell is history_shown here in the same words. A step holds what its text shows, and beside that: of an act the message that it
+-- Part of the statement: the parts of a trace of whole nodes, and their text. A part that level core has too is a part of level core, so
+-- that what those show is said here in the same words. A part holds what its text shows, and beside that: of an act the message that it
 -- sends, with its number among the messages of all acts, since here frames are shown in its place; of a record the value of the accepted
 -- state; and of a reply its connection.
 use Rattle.std.specs.Prelude.{ℕ, List, ◌++◌, codes}

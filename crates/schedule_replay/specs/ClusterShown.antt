@@ -1,5 +1,5 @@
--- Part of the statement: what the parts of a trace of whole nodes tell. Its parts of level core tell the lines, the history, the wins and
--- the committed states, as Told and Showing say of them; and its other parts the frames and the replies.
+-- Part of the statement: what the parts of a trace of whole nodes show. Its parts of level core show the lines, the history, the wins and
+-- the committed states, as HistoryShown and Showing say of them; and its other parts the frames and the replies.
 use Rattle.std.specs.Prelude.{ℕ, ◌+◌, List, [], ◌∷◌, ◌++◌, if◌then◌else◌}
 use Rattle.std.specs.List.{flat_map}
 use Rattle.voting_config.specs.Ids.{Id, same}

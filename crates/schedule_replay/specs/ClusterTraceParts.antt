@@ -1,4 +1,4 @@
--- Part of the statement: the steps of the trace of a schedule of whole nodes. They need not be read: ClusterLaws says what `cluster_parts`
+-- Part of the statement: the parts of the trace of a schedule of whole nodes. They need not be read: ClusterLaws says what `cluster_parts`
 -- are.
 use Rattle.std.specs.Prelude.{ℕ, Option, None, Some, List, [], ◌∷◌, ◌++◌, length, map, if◌then◌else◌}
 use Rattle.voting_config.specs.Ids.{Id, same}

@@ -1,4 +1,4 @@
--- Part of the statement: what the parts of a trace tell: a history, the lines, the messages, the wins and the committed states. Nothing
+-- Part of the statement: what the parts of a trace show: a history, the lines, the messages, the wins and the committed states. Nothing
 -- here looks at a schedule, a disk or a program.
 use Rattle.std.specs.Prelude.{◌≡◌, ℕ, ◌+◌, false, Option, None, Some, List, [], ◌∷◌}
 use Rattle.std.specs.List.{flat_map}
@@ -33,8 +33,8 @@ outcome_shown ending.Stopped won sends = Answered reply.Stopped
 outcome_shown ending.Disk won sends = Disk false
 outcome_shown ending.Crashed won sends = Crashed false
 
--- The history after a step. An act is an entry. So is a record, and it settles the act of its node that the disk failed or stopped in since
--- the node was last opened: this act was kept exactly where the record shows it. No other step makes an entry.
+-- The history after a part. An act is an entry. So is a record, and it settles the act of its node that the disk failed or stopped in since
+-- the node was last opened: this act was kept exactly where the record shows it. No other part makes an entry.
 abbrev pub history_shown_by : History → TracePart → History
 history_shown_by h (Did x) = Next h x.node x.act (outcome_shown x.ending x.won x.sends)
 history_shown_by h (Opened n found) = Next (settled_for n (is_kept (node_history h n) found) h) n (Open found) (Answered (reply.Taken None false))

@@ -1,5 +1,5 @@
 -- For the contracts inside: what stands after the echo of each line. It is the statement of `law_trace_follows`. The history and which
--- nodes are down give it, and these come from the steps before. Only how an act or an opening ended is left open here: that is the disk's.
+-- nodes are down give it, and these come from the parts before. Only how an act or an opening ended is left open here: that is the disk's.
 use Rattle.std.specs.Prelude.{◌≡◌, ◌-◌, Bool, true, false, cond, ◌||◌, ◌⊎◌, Option, None, Some, List, [], ◌∷◌, ◌++◌, slice_get, if◌then◌else◌}
 use Rattle.voting_config.specs.Ids.{Id, same}
 use Rattle.cluster_state.specs.declared.state.Kept.{Kept}
@@ -68,7 +68,7 @@ ShowsLine initial h down (line.Fail n count) xs = xs ≡ []
 ShowsLine initial h down (line.Tick n now word) xs = xs ≡ []
 ShowsLine initial h down (line.Client n bytes) xs = xs ≡ []
 
--- the steps are the echo of the first line and what stands after it, and then those of the lines that are left
+-- the parts are the echo of the first line and what stands after it, and then those of the lines that are left
 pub record Begins (ShowsFirst : List TracePart → Type 0) (ShowsRest : (first rest : List TracePart) → Type 0) (l : Line)
     (xs : List TracePart) : Type 0 where
   pub first : List TracePart

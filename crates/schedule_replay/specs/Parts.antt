@@ -1,4 +1,4 @@
--- Part of the statement: the parts of a trace, and their text. A step is an act with all that its lines show, or one other line. It holds
+-- Part of the statement: the parts of a trace, and their text. A part is an act with all that its lines show, or one other line. It holds
 -- what its text shows and nothing else, but for the value of a record's accepted state, of which the text shows the id and the
 -- configuration.
 use Rattle.std.specs.Prelude.{ℕ, Option, None, Some, List, [], ◌++◌, codes}

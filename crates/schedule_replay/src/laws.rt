@@ -11,18 +11,18 @@ pub fn law_replay_is_legal()
     ensures { LawReplayIsLegal }
 {}
 
-/// The trace of each schedule is the text of its steps, and the history of the schedule is read off these steps: its acts and
-/// openings, with their outcomes, in order. The steps echo the lines, and number the messages in the order in which they were sent.
+/// The trace of each schedule is the text of its parts, and the history of the schedule is read off these parts: its acts and
+/// openings, with their outcomes, in order. The parts echo the lines, and number the messages in the order in which they were sent.
 pub fn law_trace_gives_history()
     ensures { LawTraceGivesHistory }
 {}
 
-/// More lines leave the steps of the lines before as they are, so the trace tells the history at each moment.
+/// More lines leave the parts of the lines before as they are, so the trace shows the history at each moment.
 pub fn law_parts_go_on()
     ensures { LawPartsGoOn }
 {}
 
-/// After the echo of each line stands what the line asks for, as told by the steps before it.
+/// After the echo of each line stands what the line asks for, by the parts before it.
 pub fn law_trace_follows()
     ensures { LawTraceFollows }
 {}
@@ -37,14 +37,14 @@ pub fn law_trace_agrees()
     ensures { LawTraceAgrees }
 {}
 
-/// The trace of each schedule of whole nodes is the text of its steps, and the history of the schedule is read off these steps.
-/// The steps echo the lines. They show just the frames that were sent, in order and numbered from 1, and of each node just the
+/// The trace of each schedule of whole nodes is the text of its parts, and the history of the schedule is read off these parts.
+/// The parts echo the lines. They show just the frames that were sent, in order and numbered from 1, and of each node just the
 /// replies of its life, in order.
 pub fn law_cluster_trace_gives_history()
     ensures { LawClusterTraceGivesHistory }
 {}
 
-/// More lines leave the steps of the lines before as they are, also of whole nodes.
+/// More lines leave the parts of the lines before as they are, also of whole nodes.
 pub fn law_cluster_parts_go_on()
     ensures { LawClusterPartsGoOn }
 {}

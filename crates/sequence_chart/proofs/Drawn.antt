@@ -6,7 +6,7 @@ use Rattle.sequence_chart.specs.declared.columns.Column.{Column}
 use Rattle.sequence_chart.specs.declared.messages.Origin.{Origin}
 use Rattle.sequence_chart.specs.Rows.{first_cursor, walk, y_of}
 use Rattle.sequence_chart.specs.Messages.{handed_from, origins_of}
-use Rattle.sequence_chart.specs.Elements.{arrow_in, label_in, step_in}
+use Rattle.sequence_chart.specs.Elements.{arrow_in, label_in, event_row_in}
 use Rattle.sequence_chart.specs.Frame.{frame, last}
 use Rattle.sequence_chart.specs.Lifelines.{head, lifeline}
 use Rattle.sequence_chart.specs.Chart.{Draws, columns_of, drawing, last_row, lost_in}
@@ -28,7 +28,7 @@ joined frame t1 t2 t3 t4 t5 t6 t7 new a b c d e f g end h1 h2 h3 h4 h5 h6 h7 h8 
 -- what is drawn of these lines, with these columns and messages
 abbrev parts : List Column → (sent shown : List Origin) → List Bool → (bottom below : ℕ) → List TraceLine → List ℕ
 parts columns sent shown handed bottom below lines =
-    walk (step_in sent) first_cursor lines
+    walk (event_row_in sent) first_cursor lines
     ++ (flat_map (lifeline lines bottom) columns
     ++ (walk (arrow_in columns shown) first_cursor lines
     ++ (walk (lost_in columns handed) first_cursor lines
@@ -56,7 +56,7 @@ pub drawn : (left : ℕ) (columns : List Column) (sent shown : List Origin) (han
     → columns ≡ columns_of left lines → sent ≡ origins_of lines → shown ≡ origins_of lines → handed ≡ handed_from [] lines
     → bottom ≡ last_row first_cursor lines + 1 → below ≡ y_of bottom + 14
     → old ≡ [] → begun ≡ old ++ frame width height
-    → t1 ≡ begun ++ walk (step_in sent) first_cursor lines
+    → t1 ≡ begun ++ walk (event_row_in sent) first_cursor lines
     → t2 ≡ t1 ++ flat_map (lifeline lines bottom) columns
     → t3 ≡ t2 ++ walk (arrow_in columns shown) first_cursor lines
     → t4 ≡ t3 ++ walk (lost_in columns handed) first_cursor lines
@@ -71,7 +71,7 @@ drawn left columns sent shown handed bottom below lines width height old begun t
   height = height;
   is =
       joined begun t1 t2 t3 t4 t5 t6 t7 new
-      (walk (step_in sent) first_cursor lines) (flat_map (lifeline lines bottom) columns) (walk (arrow_in columns shown) first_cursor lines)
+      (walk (event_row_in sent) first_cursor lines) (flat_map (lifeline lines bottom) columns) (walk (arrow_in columns shown) first_cursor lines)
       (walk (lost_in columns handed) first_cursor lines) (walk (label_in columns) first_cursor lines) (flat_map (head 28) columns) (flat_map (head below) columns)
       last h1 h2 h3 h4 h5 h6 h7 h8
       ∙ ap (λ (t : List ℕ). begun ++ (t ++ last)) (parts_are left columns sent shown handed bottom below lines column send show hand low under)

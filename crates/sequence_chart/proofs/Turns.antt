@@ -1,4 +1,4 @@
--- What stands in a text after a turn of a loop that writes.
+-- What stands in a text after a change_of_stroke of a loop that writes.
 use Rattle.std.proofs.Common.{◌≡◌, ℕ, ◌+◌, ◌<◌, Result, OnOk, List, ◌++◌, length, drop, get_or, sym, ap, ◌∙◌, subst, append_assoc}
 use Rattle.std.specs.List.{flat_map}
 use Rattle.std.proofs.lemmas.List.{at_drop_more}
@@ -14,7 +14,7 @@ then_written old mid new a b first second = second ∙ ap (λ (t : List ℕ). t 
 pub last_written : {A E : Type 0} (r : Result A E) (old mid new a b : List ℕ) → mid ≡ old ++ a → OnOk r (new ≡ mid ++ b) → OnOk r (new ≡ old ++ (a ++ b))
 last_written r old mid new a b first second = subst (λ (t : List ℕ). OnOk r (new ≡ t)) (ap (λ (t : List ℕ). t ++ b) first ∙ append_assoc old a b) second
 
--- a turn that writes what an element of a list gives
+-- a change_of_stroke that writes what an element of a list gives
 pub item_written : {A : Type 0} (f : A → List ℕ) (xs : List A) (i : ℕ) (x : A) (old new whole : List ℕ)
     → i < length xs → x ≡ get_or xs i x → old ++ flat_map f (drop i xs) ≡ whole → new ≡ old ++ f x → new ++ flat_map f (drop (i + 1) xs) ≡ whole
 item_written {A} f xs i x old new whole inside is before writes =
@@ -25,7 +25,7 @@ item_written {A} f xs i x old new whole inside is before writes =
     ∙ sym (at_drop_more (λ (ys : List A). old ++ flat_map f ys) xs i x inside)
     ∙ before
 
--- a turn that writes what a line gives at its place
+-- a change_of_stroke that writes what a line gives at its place
 pub line_written : (f : Cursor → TraceLine → List ℕ) (c next : Cursor) (lines : List TraceLine) (i : ℕ) (l : TraceLine) (old new whole : List ℕ)
     → i < length lines → l ≡ get_or lines i l → next ≡ after c l.said → old ++ walk f c (drop i lines) ≡ whole → new ≡ old ++ f next l
     → new ++ walk f next (drop (i + 1) lines) ≡ whole

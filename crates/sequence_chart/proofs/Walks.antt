@@ -14,7 +14,7 @@ use Rattle.sequence_chart.specs.declared.rows.Cursor.{Cursor}
 use Rattle.sequence_chart.specs.Rows.{after, first_cursor, label_row, next_label, walk}
 use Rattle.sequence_chart.specs.Messages.{handed_from, message_at, origin_by, origin_in, origins_of}
 use Rattle.sequence_chart.specs.Columns.{left_of, node_of}
-use Rattle.sequence_chart.specs.Elements.{arrow, arrow_by, arrow_from, arrow_in, has_label, label, label_in, step_in}
+use Rattle.sequence_chart.specs.Elements.{arrow, arrow_by, arrow_from, arrow_in, has_label, label, label_in, event_row_in}
 use Rattle.sequence_chart.specs.Chart.{columns_of, heads, lifelines, lost_in}
 use Rattle.sequence_chart.specs.Laws.{HasPart, cursor_after, place_behind, LawEachDelivery, LawEachLabel}
 
@@ -123,7 +123,7 @@ each_label left front rest l has =
     let part = label (left_of columns (node_of l.said)) (place_behind front l).row l in
     let shown : label_in columns (place_behind front l) l ≡ part = ap (λ (b : Bool). if b then part else []) has in
     let here : HasPart (walk (label_in columns) first_cursor lines) part = subst (λ (t : List ℕ). HasPart (walk (label_in columns) first_cursor lines) t) shown (walk_has (label_in columns) front rest l) in
-    in_fifth (walk (step_in (origins_of lines)) first_cursor lines) (lifelines lines columns) (walk (arrow_in columns (origins_of lines)) first_cursor lines)
+    in_fifth (walk (event_row_in (origins_of lines)) first_cursor lines) (lifelines lines columns) (walk (arrow_in columns (origins_of lines)) first_cursor lines)
     (walk (lost_in columns (handed_from [] lines)) first_cursor lines) (walk (label_in columns) first_cursor lines) (heads lines columns) part here
 
 pub each_delivery : LawEachDelivery
@@ -142,6 +142,6 @@ each_delivery left front between rest m l from n to k sends hands number =
     let some : HasPart (walk (arrow_in columns origins) first_cursor ((front ++ (m ∷ between)) ++ (l ∷ rest))) (arrow_in columns origins place l) = walk_has (arrow_in columns origins) (front ++ (m ∷ between)) rest l in
     let moved : HasPart (walk (arrow_in columns origins) first_cursor lines) (arrow_in columns origins place l) = subst (λ (t : List TraceLine). HasPart (walk (arrow_in columns origins) first_cursor t) (arrow_in columns origins place l)) joined some in
     let found : HasPart (walk (arrow_in columns origins) first_cursor lines) (arrow columns o n place.row) = subst (λ (t : List ℕ). HasPart (walk (arrow_in columns origins) first_cursor lines) t) part moved in
-    in_third (walk (step_in origins) first_cursor lines) (lifelines lines columns) (walk (arrow_in columns origins) first_cursor lines)
+    in_third (walk (event_row_in origins) first_cursor lines) (lifelines lines columns) (walk (arrow_in columns origins) first_cursor lines)
     (walk (lost_in columns (handed_from [] lines)) first_cursor lines ++ (walk (label_in columns) first_cursor lines ++ heads lines columns))
     (arrow columns o n place.row) found

@@ -14,7 +14,7 @@ use Rattle.sequence_chart.specs.declared.rows.Cursor.{Cursor}
 use Rattle.sequence_chart.specs.Rows.{after, first_cursor, walk, y_of}
 use Rattle.sequence_chart.specs.Messages.{origins_of, handed_from}
 use Rattle.sequence_chart.specs.Columns.{columns_from, left_of, nodes_from}
-use Rattle.sequence_chart.specs.Elements.{arrow_in, label_in, lost, step_in}
+use Rattle.sequence_chart.specs.Elements.{arrow_in, label_in, lost, event_row_in}
 use Rattle.sequence_chart.specs.Lifelines.{head, lifeline}
 use Rattle.sequence_chart.specs.Frame.{frame, last}
 
@@ -41,11 +41,11 @@ lifelines lines columns = flat_map (lifeline lines (last_row first_cursor lines 
 abbrev pub heads : List TraceLine → List Column → List ℕ
 heads lines columns = flat_map (head 28) columns ++ flat_map (head (y_of (last_row first_cursor lines + 1) + 14)) columns
 
--- What is drawn, where the first column begins so far to the right: the steps, then the lifelines, the arrows, the messages that were lost,
+-- What is drawn, where the first column begins so far to the right: the lines of the schedule, then the lifelines, the arrows, the messages that were lost,
 -- the labels and the names. What comes later stands in prefix.
 abbrev pub drawing : ℕ → List TraceLine → List ℕ
 drawing left lines =
-    walk (step_in (origins_of lines)) first_cursor lines
+    walk (event_row_in (origins_of lines)) first_cursor lines
     ++ (lifelines lines (columns_of left lines)
     ++ (walk (arrow_in (columns_of left lines) (origins_of lines)) first_cursor lines
     ++ (walk (lost_in (columns_of left lines) (handed_from [] lines)) first_cursor lines

@@ -116,14 +116,14 @@ has_label other = true
 abbrev pub label_in : List Column → Cursor → TraceLine → List ℕ
 label_in columns c l = if has_label l.said then label (left_of columns (node_of l.said)) c.row l else []
 
--- ---- steps
+-- ---- lines of the schedule
 
 -- the message that is handed over, by its words after its ends
 abbrev pub message_words : Option Origin → List ℕ
 message_words None = []
 message_words (Some o) = capped 40 (short_words (fields o.text))
 
--- what parts a step from the one above
+-- what parts such a line from the one above
 unfoldable pub rule : ℕ → List ℕ
 rule y = codes "<line class='step' x2='100%' y1='" ++ decimal y ++ codes "' y2='" ++ decimal y ++ codes "'/>"
 
@@ -136,16 +136,16 @@ unfoldable pub handed : List ℕ → List ℕ
 handed message = codes "<tspan class='message'>  " ++ escaped message ++ codes "</tspan></text>\n"
 
 -- A line of the schedule stands at the left, and after it the message that it hands over.
-abbrev pub step : ℕ → List ℕ → List ℕ → List ℕ
-step y line message = rule (y - 7) ++ (schedule (y + 3) line ++ handed message)
+abbrev pub event_row : ℕ → List ℕ → List ℕ → List ℕ
+event_row y line message = rule (y - 7) ++ (schedule (y + 3) line ++ handed message)
 
-abbrev pub step_by : List Origin → Cursor → List ℕ → Said → List ℕ
-step_by origins c line (said.Delivery n k) = step (y_of c.row) line (message_words (message_at origins c.sent k))
-step_by origins c line (said.Event n) = step (y_of c.row) line []
-step_by origins c line other = []
+abbrev pub event_row_by : List Origin → Cursor → List ℕ → Said → List ℕ
+event_row_by origins c line (said.Delivery n k) = event_row (y_of c.row) line (message_words (message_at origins c.sent k))
+event_row_by origins c line (said.Event n) = event_row (y_of c.row) line []
+event_row_by origins c line other = []
 
-abbrev pub step_in : List Origin → Cursor → TraceLine → List ℕ
-step_in origins c l = step_by origins c l.text l.said
+abbrev pub event_row_in : List Origin → Cursor → TraceLine → List ℕ
+event_row_in origins c l = event_row_by origins c l.text l.said
 
 -- ---- messages
 

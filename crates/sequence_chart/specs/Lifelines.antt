@@ -39,8 +39,8 @@ stroke_by (said.Opened n) = Some drawn.Plain
 stroke_by other = None
 
 -- how a line of the trace changes the lifeline of this node, if it does
-abbrev pub turn : Id → Said → Option Stroke
-turn n t = if bytes_eq (node_of t) n then stroke_by t else None
+abbrev pub change_of_stroke : Id → Said → Option Stroke
+change_of_stroke n t = if bytes_eq (node_of t) n then stroke_by t else None
 
 abbrev pub mode_class : Mode → List ℕ
 mode_class mode.Candidate = codes "candidate "
@@ -72,8 +72,8 @@ pen_after pen row (Some s) = record { top = row; stroke = s }
 abbrev pub lifeline_from : ℕ → Id → ℕ → Pen → Cursor → List TraceLine → List ℕ
 lifeline_from left n bottom pen c [] = piece left pen bottom
 lifeline_from left n bottom pen c (l ∷ ls) =
-    piece_at left pen (after c l.said).row (turn n l.said)
-    ++ lifeline_from left n bottom (pen_after pen (after c l.said).row (turn n l.said)) (after c l.said) ls
+    piece_at left pen (after c l.said).row (change_of_stroke n l.said)
+    ++ lifeline_from left n bottom (pen_after pen (after c l.said).row (change_of_stroke n l.said)) (after c l.said) ls
 
 abbrev pub lifeline : List TraceLine → ℕ → Column → List ℕ
 lifeline lines bottom column = lifeline_from column.left column.node bottom first_pen first_cursor lines

@@ -14,15 +14,15 @@ abbrev pub first_cursor : Cursor
 first_cursor = record { row = 0; is_free = true; sent = 0 }
 
 -- a line of the schedule begins a row, in which no label stands yet
-abbrev pub next_step : Cursor → Cursor
-next_step c = record { row = c.row + 1; is_free = true; sent = c.sent }
+abbrev pub next_event : Cursor → Cursor
+next_event c = record { row = c.row + 1; is_free = true; sent = c.sent }
 
--- the row of a label, by whether the row of the step is free
+-- the row of a label, by whether the row of the event is free
 abbrev pub label_row : Bool → Cursor → Cursor
 label_row true c = record { row = c.row; is_free = false; sent = c.sent }
 label_row false c = record { row = c.row + 1; is_free = false; sent = c.sent }
 
--- a label stands in the row of the step if it is the first one, and else in a row of its own
+-- a label stands in the row of the event if it is the first one, and else in a row of its own
 abbrev pub next_label : Cursor → Cursor
 next_label c = label_row c.is_free c
 
@@ -32,8 +32,8 @@ next_message c = record { row = c.row; is_free = c.is_free; sent = c.sent + 1 }
 
 -- the row of a line, and how many messages were sent up to it
 abbrev pub after : Cursor → Said → Cursor
-after c (said.Delivery n k) = next_step c
-after c (said.Event n) = next_step c
+after c (said.Delivery n k) = next_event c
+after c (said.Event n) = next_event c
 after c (said.Sent from to) = next_message c
 after c other = next_label c
 

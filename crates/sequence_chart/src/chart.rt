@@ -4,12 +4,12 @@ ghost use Rattle.sequence_chart.specs.Chart.{Draws, DrawsTrace};
 
 use crate::arrows::{write_all_lost, write_arrows};
 use crate::columns::{columns_of, nodes_of};
+use crate::event_rows::{margin, write_event_rows};
 use crate::frame::{end_frame, write_frame};
 use crate::lifelines::{write_heads, write_lifelines};
 use crate::marks::write_labels;
 use crate::messages::{handed_of, origins_of};
 use crate::rows::{MAX_LINES, last_row, y_of};
-use crate::steps::{margin, write_steps};
 use schedule_text::ReadError;
 use std::alloc::{AllocError, Global};
 use text::Text;
@@ -29,7 +29,7 @@ pub fn write_chart(alloc: Global, lines: &[TraceLine]) -> Result<Text, AllocErro
     let below = y_of(bottom) + 14;
     let mut text = Text::new(alloc);
     write_frame(&mut text, width as u64 + 8, below + 10)?;
-    write_steps(&mut text, alloc, origins.as_slice(), lines)?;
+    write_event_rows(&mut text, alloc, origins.as_slice(), lines)?;
     write_lifelines(&mut text, lines, bottom, columns)?;
     write_arrows(&mut text, columns, origins.as_slice(), lines)?;
     write_all_lost(&mut text, columns, handed.as_slice(), lines)?;

@@ -5,6 +5,7 @@ mod arrows;
 mod chart;
 mod columns;
 mod escaping;
+mod event_rows;
 mod frame;
 mod labels;
 mod laws;
@@ -12,7 +13,6 @@ mod lifelines;
 mod marks;
 mod messages;
 mod rows;
-mod steps;
 mod words;
 
 pub use chart::{draw_trace, write_chart};

@@ -1,7 +1,7 @@
 //! Lifelines: each piece by what its node was, and the names of the nodes.
 ghost use Rattle.std.specs.Prelude.{◌≡◌, ◌≤◌, ◌<◌, ◌^◌, ◌+◌, ◌++◌, length, OnOk};
 ghost use Rattle.std.specs.List.{flat_map};
-ghost use Rattle.sequence_chart.specs.Lifelines.{ending_stroke as ending_stroke_of, first_pen, head, lifeline as lifeline_of, lifeline_from, mode_class as mode_class_of, pen_after, piece, piece_at, piece_of, stroke_by, turn as turn_of};
+ghost use Rattle.sequence_chart.specs.Lifelines.{ending_stroke as ending_stroke_of, first_pen, head, lifeline as lifeline_of, lifeline_from, mode_class as mode_class_of, pen_after, piece, piece_at, piece_of, stroke_by, change_of_stroke as change_of};
 ghost use Rattle.sequence_chart.specs.Rows.{first_cursor};
 
 use crate::columns::{Column, node_of};
@@ -40,10 +40,10 @@ impl Pen {
         }
     }
 
-    fn after(self, row: u32, turn: Option<Stroke>) -> Pen
-        ensures { result ≡ pen_after self row turn }
+    fn after(self, row: u32, change: Option<Stroke>) -> Pen
+        ensures { result ≡ pen_after self row change }
     {
-        match turn {
+        match change {
             None => self,
             Some(stroke) => Pen { top: row, stroke },
         }
@@ -76,8 +76,8 @@ fn stroke_after(said: &Said) -> Option<Stroke>
 }
 
 // How a line changes the lifeline of a node, if it does.
-fn turn(node: NodeId, said: &Said) -> Option<Stroke>
-    ensures { result ≡ turn_of node said.now }
+fn change_of_stroke(node: NodeId, said: &Said) -> Option<Stroke>
+    ensures { result ≡ change_of node said.now }
 {
     if node_of(said).as_bytes() == node.as_bytes() {
         return stroke_after(said);
@@ -130,11 +130,11 @@ fn write_piece_at(
     left: u32,
     pen: Pen,
     row: u32,
-    turn: Option<Stroke>,
+    change: Option<Stroke>,
 ) -> Result<(), AllocError>
-    ensures { OnOk result (text.new ≡ text.old ++ piece_at left pen row turn) }
+    ensures { OnOk result (text.new ≡ text.old ++ piece_at left pen row change) }
 {
-    match turn {
+    match change {
         None => Ok(()),
         Some(_) => write_piece(text, left, pen, row),
     }
@@ -153,9 +153,9 @@ fn write_lifeline(
     let mut pen = Pen::first();
     for line in lines {
         cursor = cursor.after(&line.said);
-        let turn = turn(column.node, &line.said);
-        write_piece_at(text, column.left, pen, cursor.row, turn)?;
-        pen = pen.after(cursor.row, turn);
+        let change = change_of_stroke(column.node, &line.said);
+        write_piece_at(text, column.left, pen, cursor.row, change)?;
+        pen = pen.after(cursor.row, change);
     }
     write_piece(text, column.left, pen, bottom)
 }

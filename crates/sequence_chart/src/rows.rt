@@ -1,6 +1,6 @@
 //! Rows: where the lines of a trace stand.
 ghost use Rattle.std.specs.Prelude.{◌≡◌, ◌+◌, ◌<◌, ◌≤◌, ◌^◌, length};
-ghost use Rattle.sequence_chart.specs.Rows.{after as after_said, first_cursor, next_step, next_label, next_message, y_of as y_of_row};
+ghost use Rattle.sequence_chart.specs.Rows.{after as after_said, first_cursor, next_event, next_label, next_message, y_of as y_of_row};
 ghost use Rattle.sequence_chart.specs.Chart.{last_row as last_row_of};
 
 use trace_reader::{Said, TraceLine};
@@ -36,9 +36,9 @@ impl Cursor {
         }
     }
 
-    fn next_step(self) -> Cursor
+    fn next_event(self) -> Cursor
         requires { self.row + 1 < 2 ^ 32 }
-        ensures { result ≡ next_step self }
+        ensures { result ≡ next_event self }
     {
         Cursor {
             row: self.row + 1,
@@ -85,8 +85,8 @@ impl Cursor {
         ensures sent { result.sent ≤ self.sent + 1 }
     {
         match said {
-            Said::Delivery(_, _) => self.next_step(),
-            Said::Event(_) => self.next_step(),
+            Said::Delivery(_, _) => self.next_event(),
+            Said::Event(_) => self.next_event(),
             Said::Sent(_, _) => self.next_message(),
             _ => self.next_label(),
         }

@@ -62,7 +62,7 @@ fn ended_act(node: NodeId, rest: Option<&[u8]>) -> Result<Said, WhyBad>
     Ok(Said::Act(node, ending))
 }
 
-/// What a line `act` tells, by the words after its first one.
+/// What a line `act` says, by the words after its first one.
 pub fn act(rest: Option<&[u8]>) -> Result<Said, WhyBad>
     ensures { result ≡ act_at (parts_in space rest.entry) }
 {
@@ -71,7 +71,7 @@ pub fn act(rest: Option<&[u8]>) -> Result<Said, WhyBad>
     ended_act(node, Some(rest))
 }
 
-/// What a line `won` tells.
+/// What a line `won` says.
 pub fn won(rest: Option<&[u8]>) -> Result<Said, WhyBad>
     ensures { result ≡ won_at (parts_in space rest.entry) }
 {
@@ -79,7 +79,7 @@ pub fn won(rest: Option<&[u8]>) -> Result<Said, WhyBad>
     Ok(Said::Won(node, term))
 }
 
-/// What a line `committed` tells of the node of the last line of the schedule.
+/// What a line `committed` says of the node of the last line of the schedule.
 pub fn committed(actor: NodeId, rest: Option<&[u8]>) -> Result<Said, WhyBad>
     ensures { result ≡ committed_at actor (parts_in space rest.entry) }
 {
@@ -105,7 +105,7 @@ fn mode_words(node: NodeId, word: &[u8], rest: &[u8]) -> Result<Said, WhyBad>
     Err(WhyBad::Verb)
 }
 
-/// What a line `mode` tells.
+/// What a line `mode` says.
 pub fn mode(rest: Option<&[u8]>) -> Result<Said, WhyBad>
     ensures { result ≡ mode_at (parts_in space rest.entry) }
 {

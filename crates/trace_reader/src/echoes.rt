@@ -121,7 +121,7 @@ fn said_by(line: &Line) -> Said
     }
 }
 
-/// What the echo of a line of a schedule tells, whose bytes stand after `> `, or why it is no such line.
+/// What the echo of a line of a schedule says, whose bytes stand after `> `, or why it is no such line.
 pub fn read_echo(alloc: Global, bytes: &[u8]) -> Result<Said, ReadError<WhyBad>>
     ensures { Answers result (echo_at bytes.now) }
 {

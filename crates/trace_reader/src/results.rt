@@ -131,7 +131,7 @@ fn delivery(actor: NodeId, next: u64, verb: &[u8], rest: Option<&[u8]>) -> Resul
     note(next, verb, rest)
 }
 
-/// What the line of a result tells, by its first word and those after it. `actor` is the node of the last line of the schedule,
+/// What the line of a result says, by its first word and those after it. `actor` is the node of the last line of the schedule,
 /// and `next` the number of the next message.
 pub fn read_result(
     actor: NodeId,

@@ -1,4 +1,4 @@
-//! What a line of a trace tells.
+//! What a line of a trace says.
 ghost use Rattle.std.specs.Prelude.{◌≡◌};
 
 use schedule_text::LineBytes;
@@ -28,7 +28,7 @@ pub enum Mode {
     Follower,
 }
 
-/// What a line of a trace tells. The node is the one that it tells of: of a line that names none, the one of the last line of the
+/// What a line of a trace says. The node is the one that it speaks of: of a line that names none, the one of the last line of the
 /// schedule.
 #[derive(Clone, Copy)]
 pub enum Said {

@@ -18,7 +18,7 @@ pub record Gives (now : Buffer) (was : Stream) : Type 0 where
   pub next : next_of was ≡ Some (Ok frame)
   pub left : left_in now ≡ after_next was
 
--- what a step found, and what is left now
+-- what was found, once past the last frame, and what is left now
 abbrev pub Advances : {U : Type 0} → Option (Result U FrameError) → (now : Buffer) → (was : Stream) → Type 0
 Advances {U} None now was = (next_of was ≡ None) × (left_in now ≡ was)
 Advances {U} (Some (Err fault)) now was = (next_of was ≡ Some (Err fault)) × (left_in now ≡ was)

@@ -51,10 +51,10 @@ module _ (level : Level) where
 -- ---- of what was written
 
 whole_front : (was now : Option (List ℕ)) (bytes : List ℕ) → Appended was now bytes → AppendedPrefix was now bytes
-whole_front was now bytes written = record { front = bytes; rest = []; whole = append-nil bytes; appended = written }
+whole_front was now bytes written = record { prefix = bytes; rest = []; whole = append-nil bytes; appended = written }
 
 no_front : (was now : Option (List ℕ)) (bytes : List ℕ) → Appended was now [] → AppendedPrefix was now bytes
-no_front was now bytes written = record { front = []; rest = bytes; whole = refl; appended = written }
+no_front was now bytes written = record { prefix = []; rest = bytes; whole = refl; appended = written }
 
 module _ (level : Level) where
   -- a prefix of the trace of the schedule that the bytes spell, where they spell one

@@ -89,19 +89,19 @@ is_up w ids id u e = from (has id ids) refl (subst (λ (o : Option SurveyedNode)
     from true l h = runs_from (needs_opening (node_world w id)) refl l h
 
 -- all of them
-record AreUp (w : World) (ids us : List Id) (front up : List UpNode) : Type 0 where
+record AreUp (w : World) (ids us : List Id) (prefix up : List UpNode) : Type 0 where
   each : (u : Id) → has u us ≡ true → (has u ids ≡ true) × (needs_opening (node_world w u) ≡ false)
-  are : up ≡ front ++ map (λ u. up_at u (node_world w u).acts) us
+  are : up ≡ prefix ++ map (λ u. up_at u (node_world w u).acts) us
 
-are_up : (w : World) (ids us : List Id) (front up : List UpNode) → all_up (map (λ n. surveyed w n) ids) front us ≡ Ok up → AreUp w ids us front up
-are_up w ids [] front up e = record { each = λ u h. absurd (cc); are = sym (same_nodes front up e) ∙ sym (append-nil front) }
-are_up w ids (u ∷ us) front up e =
+are_up : (w : World) (ids us : List Id) (prefix up : List UpNode) → all_up (map (λ n. surveyed w n) ids) prefix us ≡ Ok up → AreUp w ids us prefix up
+are_up w ids [] prefix up e = record { each = λ u h. absurd (cc); are = sym (same_nodes prefix up e) ∙ sym (append-nil prefix) }
+are_up w ids (u ∷ us) prefix up e =
     let here = bound (one_up u (up_of (found_in (map (λ n. surveyed w n) ids) u))) _ up e in
     let one : IsUp w ids u here.0 = is_up w ids u here.0 here.1 in
-    let rest : AreUp w ids us (front ++ here.0 ∷ []) up = are_up w ids us (front ++ here.0 ∷ []) up here.2 in
+    let rest : AreUp w ids us (prefix ++ here.0 ∷ []) up = are_up w ids us (prefix ++ here.0 ∷ []) up here.2 in
     record {
       each = λ v h. each_of v (same u v) refl h one rest.each;
-      are = rest.are ∙ append_assoc front (here.0 ∷ []) (map (λ v. up_at v (node_world w v).acts) us) ∙ ap (λ (x : UpNode). front ++ x ∷ map (λ v. up_at v (node_world w v).acts) us) one.is;
+      are = rest.are ∙ append_assoc prefix (here.0 ∷ []) (map (λ v. up_at v (node_world w v).acts) us) ∙ ap (λ (x : UpNode). prefix ++ x ∷ map (λ v. up_at v (node_world w v).acts) us) one.is;
     }
   where
     each_of : {x : UpNode} (v : Id) (b : Bool) → same u v ≡ b → (b || has v us) ≡ true → IsUp w ids u x → ((k : Id) → has k us ≡ true → (has k ids ≡ true) × (needs_opening (node_world w k) ≡ false)) → (has v ids ≡ true) × (needs_opening (node_world w v) ≡ false)

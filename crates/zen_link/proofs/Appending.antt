@@ -20,26 +20,26 @@ appended_none (Some was) = ap (λ (l : List ℕ). Some l) (sym (append-nil was))
 -- a piece, and then a prefix of what follows it
 pub front_after : (a b c : Option (List ℕ)) (piece rest : List ℕ) → Appended a b piece → AppendedPrefix b c rest → AppendedPrefix a c (piece ++ rest)
 front_after a b c piece rest g h = record {
-  front = piece ++ h.front;
+  prefix = piece ++ h.prefix;
   rest = h.rest;
-  whole = append_assoc piece h.front h.rest ∙ ap (λ (l : List ℕ). piece ++ l) h.whole;
-  appended = appended_more a b c piece h.front g h.appended;
+  whole = append_assoc piece h.prefix h.rest ∙ ap (λ (l : List ℕ). piece ++ l) h.whole;
+  appended = appended_more a b c piece h.prefix g h.appended;
 }
 
 -- a prefix of a prefix
 pub front_within : (a b : Option (List ℕ)) (piece rest all : List ℕ) → piece ++ rest ≡ all → AppendedPrefix a b piece → AppendedPrefix a b all
 front_within a b piece rest all e h = record {
-  front = h.front;
+  prefix = h.prefix;
   rest = h.rest ++ rest;
-  whole = sym (append_assoc h.front h.rest rest) ∙ ap (λ (l : List ℕ). l ++ rest) h.whole ∙ e;
+  whole = sym (append_assoc h.prefix h.rest rest) ∙ ap (λ (l : List ℕ). l ++ rest) h.whole ∙ e;
   appended = h.appended;
 }
 
 -- the write of what follows this place was refused
 pub part_at : (a b c : Option (List ℕ)) (bytes : List ℕ) (at : ℕ) → at < length bytes → Appended a b (take at bytes) → Appended b c [] → AppendedPart a c bytes
 part_at a b c bytes at inside g h = record {
-  front = record {
-    front = take at bytes;
+  prefix = record {
+    prefix = take at bytes;
     rest = drop at bytes;
     whole = take-append-drop at bytes;
     appended = subst (λ (l : List ℕ). Appended a c l) (append-nil (take at bytes)) (appended_more a b c (take at bytes) [] g h);

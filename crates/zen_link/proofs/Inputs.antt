@@ -10,9 +10,9 @@ none_read None = refl
 none_read (Some left) = (refl, refl, omega arith)
 
 -- from what a read says
-pub piece : (was now : Option (List ℕ)) (before after into front : List ℕ) (count : ℕ) → Left was now into count → 0 < length into → count ≤ length into → front ≡ take count into → after ≡ before ++ front → ReadsPiece was now before after count
-piece None now before after into front count l some few f e = l
-piece (Some left) now before after into front count l some few f e = record {
+pub piece : (was now : Option (List ℕ)) (before after into prefix : List ℕ) (count : ℕ) → Left was now into count → 0 < length into → count ≤ length into → prefix ≡ take count into → after ≡ before ++ prefix → ReadsPiece was now before after count
+piece None now before after into prefix count l some few f e = l
+piece (Some left) now before after into prefix count l some few f e = record {
   added = e ∙ ap (λ (x : List ℕ). before ++ x) (f ∙ l.0);
   rest = l.1;
   within = l.2;

@@ -19,4 +19,4 @@ returns-in_default-clause-part g c =
     part_at (g.S.Sink.written c.args.out.now) (g.S.Sink.written c.loop-at.out) (g.S.Sink.written c.write.new.self) c.args.bytes.now c.loop-at.at c.loop-at-test.true c.loop-at.invariant.1 c.in_default.ensures.writes
 
 pub returns-in_default-clause-writes : goal.returns-in_default-clause-writes
-returns-in_default-clause-writes g c = (returns-in_default-clause-part g c).front
+returns-in_default-clause-writes g c = (returns-in_default-clause-part g c).prefix

@@ -1,6 +1,6 @@
 //! The lines of the schedule at the left, with the messages that they hand over.
 ghost use Rattle.std.specs.Prelude.{◌≡◌, ◌≤◌, ◌+◌, ◌*◌, ◌++◌, [], length, OnOk, IfOk};
-ghost use Rattle.sequence_chart.specs.Elements.{handed, message_words, rule, schedule, step, step_by, step_in};
+ghost use Rattle.sequence_chart.specs.Elements.{handed, message_words, rule, schedule, event_row, event_row_by, event_row_in};
 ghost use Rattle.sequence_chart.specs.Labels.{fields as fields_of};
 ghost use Rattle.sequence_chart.specs.Messages.{message_at};
 ghost use Rattle.sequence_chart.specs.Rows.{first_cursor, walk, y_of as y_of_row};
@@ -17,7 +17,7 @@ use text::Text;
 use trace_reader::{Said, TraceLine};
 
 /// How many bytes are shown of a line of the schedule, and of the message after it.
-pub const MAX_STEP: usize = 40;
+pub const MAX_EVENT: usize = 40;
 
 // The words of a message after its ends.
 fn short_text(alloc: Global, line: &[u8]) -> Result<Text, AllocError>
@@ -26,7 +26,7 @@ fn short_text(alloc: Global, line: &[u8]) -> Result<Text, AllocError>
     let mut words = Text::new(alloc);
     short_words(&mut words, fields(line))?;
     let mut shown = Text::new(alloc);
-    write_capped(&mut shown, MAX_STEP, words.as_bytes())?;
+    write_capped(&mut shown, MAX_EVENT, words.as_bytes())?;
     Ok(shown)
 }
 
@@ -62,7 +62,7 @@ fn write_schedule(text: &mut Text, alloc: Global, y: u64, line: &[u8]) -> Result
     ensures { OnOk result (text.new ≡ text.old ++ schedule y line.now) }
 {
     let mut shown = Text::new(alloc);
-    write_capped(&mut shown, MAX_STEP, behind(line, b' '))?;
+    write_capped(&mut shown, MAX_EVENT, behind(line, b' '))?;
     text.word("<text class='schedule")?;
     write_place(text, 8, y)?;
     text.word(">")?;
@@ -79,14 +79,14 @@ fn write_handed(text: &mut Text, message: &[u8]) -> Result<(), AllocError>
     text.word("</tspan></text>\n")
 }
 
-fn write_step(
+fn write_event_row(
     text: &mut Text,
     alloc: Global,
     row: u32,
     line: &[u8],
     message: &[u8],
 ) -> Result<(), AllocError>
-    ensures { OnOk result (text.new ≡ text.old ++ step (y_of_row row) line.now message.now) }
+    ensures { OnOk result (text.new ≡ text.old ++ event_row (y_of_row row) line.now message.now) }
 {
     let y = y_of(row);
     write_rule(text, y - 7)?;
@@ -94,19 +94,19 @@ fn write_step(
     write_handed(text, message)
 }
 
-fn write_step_in(
+fn write_event_row_in(
     text: &mut Text,
     alloc: Global,
     origins: &[Origin],
     cursor: Cursor,
     line: &TraceLine,
 ) -> Result<(), AllocError>
-    ensures { OnOk result (text.new ≡ text.old ++ step_in origins.now cursor line.now) }
+    ensures { OnOk result (text.new ≡ text.old ++ event_row_in origins.now cursor line.now) }
 {
     match &line.said {
         Said::Delivery(_, number) => {
             let message = message_text(alloc, origins, cursor.sent, *number)?;
-            write_step(
+            write_event_row(
                 text,
                 alloc,
                 cursor.row,
@@ -114,31 +114,31 @@ fn write_step_in(
                 message.as_bytes(),
             )
         }
-        Said::Event(_) => write_step(text, alloc, cursor.row, line.text.as_slice(), &[]),
+        Said::Event(_) => write_event_row(text, alloc, cursor.row, line.text.as_slice(), &[]),
         _ => Ok(()),
     }
 }
 
 /// Writes the lines of the schedule, with the messages that they hand over.
-pub fn write_steps(
+pub fn write_event_rows(
     text: &mut Text,
     alloc: Global,
     origins: &[Origin],
     lines: &[TraceLine],
 ) -> Result<(), AllocError>
     requires { length lines.now ≤ MAX_LINES }
-    ensures { OnOk result (text.new ≡ text.old ++ walk (step_in origins.now) first_cursor lines.now) }
+    ensures { OnOk result (text.new ≡ text.old ++ walk (event_row_in origins.now) first_cursor lines.now) }
 {
     let mut cursor = Cursor::first();
     for line in lines {
         cursor = cursor.after(&line.said);
-        write_step_in(text, alloc, origins, cursor, line)?;
+        write_event_row_in(text, alloc, origins, cursor, line)?;
     }
     Ok(())
 }
 
-// How many characters a step shows.
-fn step_cells(
+// How many characters such a line shows.
+fn event_cells(
     alloc: Global,
     origins: &[Origin],
     sent: u32,
@@ -157,7 +157,7 @@ fn step_cells(
     }
 }
 
-/// How wide the steps are, and some room after them.
+/// How wide these lines are, and some room after them.
 pub fn margin(alloc: Global, origins: &[Origin], lines: &[TraceLine]) -> Result<u32, AllocError>
     requires { length lines.now ≤ MAX_LINES }
     ensures { IfOk result (λ c. c ≤ 1000) }
@@ -166,7 +166,7 @@ pub fn margin(alloc: Global, origins: &[Origin], lines: &[TraceLine]) -> Result<
     let mut most: u32 = 0;
     for line in lines {
         cursor = cursor.after(&line.said);
-        most = most.max(step_cells(alloc, origins, cursor.sent, line)?);
+        most = most.max(event_cells(alloc, origins, cursor.sent, line)?);
     }
     Ok(20 + 6 * most)
 }
