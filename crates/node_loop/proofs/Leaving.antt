@@ -12,7 +12,7 @@ use Rattle.node_loop.specs.declared.node.End.{End}
 use Rattle.node_loop.specs.Intakes.{Intakes}
 use Rattle.node_loop.specs.Happenings.{Mark}
 use Rattle.node_loop.specs.Connections.{course_from, last_made}
-use Rattle.node_loop.specs.Reported.{Reported}
+use Rattle.node_loop.specs.WritesAndSends.{WritesAndSends}
 use Rattle.node_loop.specs.Turns.{IsRestOf, Turns}
 use Rattle.node_loop.specs.Reports.{Output, IsIdle, lived}
 use Rattle.node_loop.specs.declared.event_node.EventNode.{Ghosts}
@@ -109,8 +109,8 @@ module _ {C Y : Type 0} (k : Ghosts C Y) (s : Settings) where
   module _ {X : Type 0} (output : X → Output) (text : Life → Entry → List ℕ) where
     pub carried : (old mid now : C) (life half : Life) (c : List Mark) (end : Option End) (o0 o1 : Option (List ℕ)) (w0 w1 : Option (List (Traffic X)))
         → HoldsBy k old mid s life half
-        → Reported output text s half c end o0 o1 w0 w1 (HoldsBy k mid now s half)
-        → Reported output text s half c end o0 o1 w0 w1 (HoldsBy k old now s life)
+        → WritesAndSends output text s half c end o0 o1 w0 w1 (HoldsBy k mid now s half)
+        → WritesAndSends output text s half c end o0 o1 w0 w1 (HoldsBy k old now s life)
     carried old mid now life half c end o0 o1 w0 w1 first tells = mapped output text s half c end o0 o1 w0 w1 (HoldsBy k mid now s half) (HoldsBy k old now s life)
         (λ l holds. holds_more old mid now life half l first holds) tells
 

@@ -18,7 +18,7 @@ use Rattle.node_loop.specs.Happenings.{Happening, Mark, Takes, Makes}
 use Rattle.node_loop.specs.Connections.{makes}
 use Rattle.node_loop.specs.Reports.{Output, lived, EntriesFollow, happened_in, Reported, StandsFor, text_of, moves_in, moves_of}
 use Rattle.policy_model.specs.Entries.{Entry}
-use Rattle.node_loop.specs.Reported.{Reported, CutShort, HasCauses, IsUp, says_all, does_all, Grows, seen}
+use Rattle.node_loop.specs.WritesAndSends.{WritesAndSends, CutShort, HasCauses, IsUp, says_all, does_all, Grows, seen}
 use Rattle.zen_link.proofs.Appending.{appended_more, appended_none}
 
 module _ {X : Type 0} (output : X → Output) where
@@ -131,7 +131,7 @@ left_all (x ∷ h) = refl
 
 module _ {X : Type 0} (output : X → Output) (text : Life → Entry → List ℕ) (s : Settings) where
   all_said : (life : Life) (c : List Mark) (o0 o1 : Option (List ℕ)) (w0 w1 : Option (List (Traffic X))) (stands : Life → Type 0)
-      → Reported output text s life c None o0 o1 w0 w1 stands → Said output text s life c o0 o1 w0 w1 stands
+      → WritesAndSends output text s life c None o0 o1 w0 w1 stands → Said output text s life c o0 o1 w0 w1 stands
   all_said life c o0 o1 w0 w1 stands tells =
       let none = tells.all_said refl in
       let whole : tells.said ++ tells.unsaid ≡ tells.said = ap (λ l. tells.said ++ l) none ∙ append-nil tells.said in
@@ -148,9 +148,9 @@ module _ {X : Type 0} (output : X → Output) (text : Life → Entry → List �
 
   -- and then what comes next, and what it left
   pub joined_left : (life : Life) (c1 c2 : List Mark) (end : Option End) (o0 o1 o2 : Option (List ℕ)) (w0 w1 w2 : Option (List (Traffic X))) (stands1 stands2 : Life → Type 0) (P : List Happening → Type 0)
-      → Reported output text s life c1 None o0 o1 w0 w1 stands1
-      → ((mid : Life) → stands1 mid → IsUp mid → (t : Reported output text s mid c2 end o1 o2 w1 w2 stands2) × P t.left)
-      → (t : Reported output text s life (c1 ++ c2) end o0 o2 w0 w2 stands2) × P t.left
+      → WritesAndSends output text s life c1 None o0 o1 w0 w1 stands1
+      → ((mid : Life) → stands1 mid → IsUp mid → (t : WritesAndSends output text s mid c2 end o1 o2 w1 w2 stands2) × P t.left)
+      → (t : WritesAndSends output text s life (c1 ++ c2) end o0 o2 w0 w2 stands2) × P t.left
   joined_left life c1 c2 end o0 o1 o2 w0 w1 w2 stands1 stands2 P tells then =
       let a = all_said life c1 o0 o1 w0 w1 stands1 tells in
       let more = then (lived life a.said) a.lives a.up in
@@ -185,15 +185,15 @@ module _ {X : Type 0} (output : X → Output) (text : Life → Entry → List �
       )
 
   pub joined : (life : Life) (c1 c2 : List Mark) (end : Option End) (o0 o1 o2 : Option (List ℕ)) (w0 w1 w2 : Option (List (Traffic X))) (stands1 stands2 : Life → Type 0)
-      → Reported output text s life c1 None o0 o1 w0 w1 stands1
-      → ((mid : Life) → stands1 mid → IsUp mid → Reported output text s mid c2 end o1 o2 w1 w2 stands2)
-      → Reported output text s life (c1 ++ c2) end o0 o2 w0 w2 stands2
+      → WritesAndSends output text s life c1 None o0 o1 w0 w1 stands1
+      → ((mid : Life) → stands1 mid → IsUp mid → WritesAndSends output text s mid c2 end o1 o2 w1 w2 stands2)
+      → WritesAndSends output text s life (c1 ++ c2) end o0 o2 w0 w2 stands2
   joined life c1 c2 end o0 o1 o2 w0 w1 w2 stands1 stands2 tells then =
       (joined_left life c1 c2 end o0 o1 o2 w0 w1 w2 stands1 stands2 (λ left. Unit {0}) tells (λ mid lives up. (then mid lives up, tt))).0
 
   -- nothing is said
   unsaid : (life : Life) (c : List Mark) (end : Option End) (o : Option (List ℕ)) (w0 w1 : Option (List (Traffic X))) (stands : Life → Type 0)
-      → flat_map happened_in c ≡ [] → (end ≡ Some ends.Disk → ⊥) → (end ≡ Some ends.Write → ⊥) → stands life → IsUp life → Grows output w0 w1 (moves_of c []) → Reported output text s life c end o o w0 w1 stands
+      → flat_map happened_in c ≡ [] → (end ≡ Some ends.Disk → ⊥) → (end ≡ Some ends.Write → ⊥) → stands life → IsUp life → Grows output w0 w1 (moves_of c []) → WritesAndSends output text s life c end o o w0 w1 stands
   unsaid life c end o w0 w1 stands quiet other no_write lives up told = record {
     said = [];
     unsaid = [];
@@ -217,12 +217,12 @@ module _ {X : Type 0} (output : X → Output) (text : Life → Entry → List �
 
   -- nothing happens
   pub rests : (life : Life) (end : Option End) (o : Option (List ℕ)) (w0 w1 : Option (List (Traffic X))) (stands : Life → Type 0)
-      → (end ≡ Some ends.Disk → ⊥) → (end ≡ Some ends.Write → ⊥) → stands life → IsUp life → w1 ≡ w0 → Reported output text s life [] end o o w0 w1 stands
+      → (end ≡ Some ends.Disk → ⊥) → (end ≡ Some ends.Write → ⊥) → stands life → IsUp life → w1 ≡ w0 → WritesAndSends output text s life [] end o o w0 w1 stands
   rests life end o w0 w1 stands other no_write lives up same = unsaid life [] end o w0 w1 stands refl other no_write lives up (grows_none output w0 w1 same)
 
   -- an input is taken
   pub takes : (life : Life) (input : Input) (o : Option (List ℕ)) (w0 w1 : Option (List (Traffic X))) (stands : Life → Type 0)
-      → stands life → IsUp life → w1 ≡ with_last w0 (Took input) → Reported output text s life (Takes input ∷ []) None o o w0 w1 stands
+      → stands life → IsUp life → w1 ≡ with_last w0 (Took input) → WritesAndSends output text s life (Takes input ∷ []) None o o w0 w1 stands
   takes life input o w0 w1 stands lives up took =
       unsaid life (Takes input ∷ []) None o w0 w1 stands refl (λ is. absurd cc) (λ is. absurd cc) lives up (grows_last output w0 w1 (Took input) took)
 
@@ -230,7 +230,7 @@ module _ {X : Type 0} (output : X → Output) (text : Life → Entry → List �
   pub says : (life : Life) (h : Happening) (r : Entry) (end : Option End) (o0 o1 : Option (List ℕ)) (w0 w1 : Option (List (Traffic X))) (stands : Life → Type 0)
       → StandsFor r h → EntryFollows s life r → stands (Lived life r) → (IsTrue (does_all end) → IsUp (Lived life r))
       → Appended o0 o1 (text life r) → Grows output w0 w1 (moves_in r) → (end ≡ Some ends.Disk → is_struck (Lived life r) ≡ true) → (end ≡ Some ends.Write → ⊥)
-      → Reported output text s life (Makes h ∷ []) end o0 o1 w0 w1 stands
+      → WritesAndSends output text s life (Makes h ∷ []) end o0 o1 w0 w1 stands
   says life h r end o0 o1 w0 w1 stands st follows lives up written told struck no_write = record {
     said = r ∷ [];
     unsaid = [];
@@ -255,7 +255,7 @@ module _ {X : Type 0} (output : X → Output) (text : Life → Entry → List �
   -- one thing happens, and a prefix of it is said
   pub says_part : (life : Life) (h : Happening) (r : Entry) (end : End) (o0 o1 : Option (List ℕ)) (w : Option (List (Traffic X))) (stands : Life → Type 0)
       → says_all (Some end) ≡ false → StandsFor r h → EntryFollows s life r → stands (Lived life r) → CutShort end o0 o1 (text life r)
-      → Reported output text s life (Makes h ∷ []) (Some end) o0 o1 w w stands
+      → WritesAndSends output text s life (Makes h ∷ []) (Some end) o0 o1 w w stands
   says_part life h r end o0 o1 w stands ends st follows lives cut = record {
     said = [];
     unsaid = r ∷ [];
@@ -279,7 +279,7 @@ module _ {X : Type 0} (output : X → Output) (text : Life → Entry → List �
 
   -- nothing of it is done
   pub stops : (life : Life) (h : List Happening) (end : End) (o : Option (List ℕ)) (w : Option (List (Traffic X))) (stands : Life → Type 0)
-      → does_all (Some end) ≡ false → says_all (Some end) ≡ false → (end ≡ ends.Write → ⊥) → stands life → Reported output text s life (makes h) (Some end) o o w w stands
+      → does_all (Some end) ≡ false → says_all (Some end) ≡ false → (end ≡ ends.Write → ⊥) → stands life → WritesAndSends output text s life (makes h) (Some end) o o w w stands
   stops life h end o w stands within ends no_write lives = record {
     said = [];
     unsaid = [];
@@ -303,7 +303,7 @@ module _ {X : Type 0} (output : X → Output) (text : Life → Entry → List �
 
   -- more would have happened
   pub cut_short : (life : Life) (c : List Mark) (more : List Happening) (end : Option End) (o0 o1 : Option (List ℕ)) (w0 w1 : Option (List (Traffic X))) (stands : Life → Type 0)
-      → does_all end ≡ false → Reported output text s life c end o0 o1 w0 w1 stands → Reported output text s life (c ++ makes more) end o0 o1 w0 w1 stands
+      → does_all end ≡ false → WritesAndSends output text s life c end o0 o1 w0 w1 stands → WritesAndSends output text s life (c ++ makes more) end o0 o1 w0 w1 stands
   cut_short life c more end o0 o1 w0 w1 stands ends tells = record {
     said = tells.said;
     unsaid = tells.unsaid;
@@ -327,33 +327,33 @@ module _ {X : Type 0} (output : X → Output) (text : Life → Entry → List �
   }
 
   -- nothing has happened
-  pub nothing : (life : Life) (o : Option (List ℕ)) (w : Option (List (Traffic X))) (stands : Life → Type 0) → stands life → IsUp life → Reported output text s life [] None o o w w stands
+  pub nothing : (life : Life) (o : Option (List ℕ)) (w : Option (List (Traffic X))) (stands : Life → Type 0) → stands life → IsUp life → WritesAndSends output text s life [] None o o w w stands
   nothing life o w stands lives up = rests life None o w w stands (λ is. absurd cc) (λ is. absurd cc) lives up refl
 
   -- one after the other
   pub then_one : {A : Type 0} (f : A → Happening) (done : List A) (x : A) (life : Life) (end : Option End) (o0 o1 o2 : Option (List ℕ)) (w0 w1 w2 : Option (List (Traffic X))) (stands1 stands2 : Life → Type 0)
-      → Reported output text s life (makes (map f done)) None o0 o1 w0 w1 stands1
-      → ((mid : Life) → stands1 mid → IsUp mid → Reported output text s mid (Makes (f x) ∷ []) end o1 o2 w1 w2 stands2)
-      → Reported output text s life (makes (map f (done ++ x ∷ []))) end o0 o2 w0 w2 stands2
+      → WritesAndSends output text s life (makes (map f done)) None o0 o1 w0 w1 stands1
+      → ((mid : Life) → stands1 mid → IsUp mid → WritesAndSends output text s mid (Makes (f x) ∷ []) end o1 o2 w1 w2 stands2)
+      → WritesAndSends output text s life (makes (map f (done ++ x ∷ []))) end o0 o2 w0 w2 stands2
   then_one f done x life end o0 o1 o2 w0 w1 w2 stands1 stands2 first next =
-      subst (λ c. Reported output text s life c end o0 o2 w0 w2 stands2) (sym (ap makes (map-append f done (x ∷ [])) ∙ map-append Makes (map f done) (f x ∷ [])))
+      subst (λ c. WritesAndSends output text s life c end o0 o2 w0 w2 stands2) (sym (ap makes (map-append f done (x ∷ [])) ∙ map-append Makes (map f done) (f x ∷ [])))
       (joined life (makes (map f done)) (Makes (f x) ∷ []) end o0 o1 o2 w0 w1 w2 stands1 stands2 first next)
 
   -- the last one of which the run ends
   pub last_one : {A : Type 0} (f : A → Happening) (done : List A) (x : A) (rest all : List A) (life : Life) (end : Option End) (o0 o1 o2 : Option (List ℕ)) (w0 w1 w2 : Option (List (Traffic X))) (stands1 stands2 : Life → Type 0)
       → done ++ x ∷ rest ≡ all → does_all end ≡ false
-      → Reported output text s life (makes (map f done)) None o0 o1 w0 w1 stands1
-      → ((mid : Life) → stands1 mid → IsUp mid → Reported output text s mid (Makes (f x) ∷ []) end o1 o2 w1 w2 stands2)
-      → Reported output text s life (makes (map f all)) end o0 o2 w0 w2 stands2
+      → WritesAndSends output text s life (makes (map f done)) None o0 o1 w0 w1 stands1
+      → ((mid : Life) → stands1 mid → IsUp mid → WritesAndSends output text s mid (Makes (f x) ∷ []) end o1 o2 w1 w2 stands2)
+      → WritesAndSends output text s life (makes (map f all)) end o0 o2 w0 w2 stands2
   last_one f done x rest all life end o0 o1 o2 w0 w1 w2 stands1 stands2 whole ends first next =
       let so_far = then_one f done x life end o0 o1 o2 w0 w1 w2 stands1 stands2 first next in
       let parts : map f (done ++ x ∷ []) ++ map f rest ≡ map f all = sym (map-append f (done ++ x ∷ []) rest) ∙ ap (map f) (append_assoc done (x ∷ []) rest ∙ whole) in
-      subst (λ c. Reported output text s life c end o0 o2 w0 w2 stands2) (sym (map-append Makes (map f (done ++ x ∷ [])) (map f rest)) ∙ ap makes parts)
+      subst (λ c. WritesAndSends output text s life c end o0 o2 w0 w2 stands2) (sym (map-append Makes (map f (done ++ x ∷ [])) (map f rest)) ∙ ap makes parts)
       (cut_short life (makes (map f (done ++ x ∷ []))) (map f rest) end o0 o2 w0 w2 stands2 ends so_far)
 
   -- something else stands at the end, and the same is left
   pub restood_left : (life : Life) (c : List Mark) (end : Option End) (o0 o1 : Option (List ℕ)) (w0 w1 : Option (List (Traffic X))) (stands stands2 : Life → Type 0) (P : List Happening → Type 0)
-      → (tells : Reported output text s life c end o0 o1 w0 w1 stands) → stands2 (lived life (tells.said ++ tells.unsaid)) → P tells.left → (t : Reported output text s life c end o0 o1 w0 w1 stands2) × P t.left
+      → (tells : WritesAndSends output text s life c end o0 o1 w0 w1 stands) → stands2 (lived life (tells.said ++ tells.unsaid)) → P tells.left → (t : WritesAndSends output text s life c end o0 o1 w0 w1 stands2) × P t.left
   restood_left life c end o0 o1 w0 w1 stands stands2 P tells lives last = (
     record {
       said = tells.said;
@@ -379,34 +379,34 @@ module _ {X : Type 0} (output : X → Output) (text : Life → Entry → List �
   )
 
   pub restood : (life : Life) (c : List Mark) (end : Option End) (o0 o1 : Option (List ℕ)) (w0 w1 : Option (List (Traffic X))) (stands stands2 : Life → Type 0)
-      → (tells : Reported output text s life c end o0 o1 w0 w1 stands) → stands2 (lived life (tells.said ++ tells.unsaid)) → Reported output text s life c end o0 o1 w0 w1 stands2
+      → (tells : WritesAndSends output text s life c end o0 o1 w0 w1 stands) → stands2 (lived life (tells.said ++ tells.unsaid)) → WritesAndSends output text s life c end o0 o1 w0 w1 stands2
   restood life c end o0 o1 w0 w1 stands stands2 tells lives = (restood_left life c end o0 o1 w0 w1 stands stands2 (λ left. Unit {0}) tells lives tt).0
 
   -- what stands at the end may be told in other words
   pub mapped : (life : Life) (c : List Mark) (end : Option End) (o0 o1 : Option (List ℕ)) (w0 w1 : Option (List (Traffic X))) (stands stands2 : Life → Type 0)
-      → ((l : Life) → stands l → stands2 l) → Reported output text s life c end o0 o1 w0 w1 stands → Reported output text s life c end o0 o1 w0 w1 stands2
+      → ((l : Life) → stands l → stands2 l) → WritesAndSends output text s life c end o0 o1 w0 w1 stands → WritesAndSends output text s life c end o0 o1 w0 w1 stands2
   mapped life c end o0 o1 w0 w1 stands stands2 f tells = restood life c end o0 o1 w0 w1 stands stands2 tells (f (lived life (tells.said ++ tells.unsaid)) tells.lives)
 
   pub mapped_left : (life : Life) (c : List Mark) (end : Option End) (o0 o1 : Option (List ℕ)) (w0 w1 : Option (List (Traffic X))) (stands stands2 : Life → Type 0) (P : List Happening → Type 0)
-      → ((l : Life) → stands l → stands2 l) → (tells : Reported output text s life c end o0 o1 w0 w1 stands) → P tells.left → (t : Reported output text s life c end o0 o1 w0 w1 stands2) × P t.left
+      → ((l : Life) → stands l → stands2 l) → (tells : WritesAndSends output text s life c end o0 o1 w0 w1 stands) → P tells.left → (t : WritesAndSends output text s life c end o0 o1 w0 w1 stands2) × P t.left
   mapped_left life c end o0 o1 w0 w1 stands stands2 P f tells last = restood_left life c end o0 o1 w0 w1 stands stands2 P tells (f (lived life (tells.said ++ tells.unsaid)) tells.lives) last
 
   -- at the life that it came to
   pub pinned : (life : Life) (c : List Mark) (end : Option End) (o0 o1 : Option (List ℕ)) (w0 w1 : Option (List (Traffic X))) (stands : Life → Type 0)
-      → (tells : Reported output text s life c end o0 o1 w0 w1 stands) → Reported output text s life c end o0 o1 w0 w1 (λ l. l ≡ lived life (tells.said ++ tells.unsaid))
+      → (tells : WritesAndSends output text s life c end o0 o1 w0 w1 stands) → WritesAndSends output text s life c end o0 o1 w0 w1 (λ l. l ≡ lived life (tells.said ++ tells.unsaid))
   pinned life c end o0 o1 w0 w1 stands tells = restood life c end o0 o1 w0 w1 stands (λ l. l ≡ lived life (tells.said ++ tells.unsaid)) tells refl
 
   pub joined_at : (life : Life) (c1 c2 : List Mark) (end : Option End) (o0 o1 o2 : Option (List ℕ)) (w0 w1 w2 : Option (List (Traffic X))) (stands1 stands2 : Life → Type 0) (P : List Happening → Type 0)
-      → (first : Reported output text s life c1 None o0 o1 w0 w1 stands1)
-      → (t : Reported output text s (lived life (first.said ++ first.unsaid)) c2 end o1 o2 w1 w2 stands2) × P t.left
-      → (t : Reported output text s life (c1 ++ c2) end o0 o2 w0 w2 stands2) × P t.left
+      → (first : WritesAndSends output text s life c1 None o0 o1 w0 w1 stands1)
+      → (t : WritesAndSends output text s (lived life (first.said ++ first.unsaid)) c2 end o1 o2 w1 w2 stands2) × P t.left
+      → (t : WritesAndSends output text s life (c1 ++ c2) end o0 o2 w0 w2 stands2) × P t.left
   joined_at life c1 c2 end o0 o1 o2 w0 w1 w2 stands1 stands2 P first second =
       joined_left life c1 c2 end o0 o1 o2 w0 w1 w2 (λ l. l ≡ lived life (first.said ++ first.unsaid)) stands2 P (pinned life c1 None o0 o1 w0 w1 stands1 first)
-      (λ mid same on. subst (λ l. (t : Reported output text s l c2 end o1 o2 w1 w2 stands2) × P t.left) (sym same) second)
+      (λ mid same on. subst (λ l. (t : WritesAndSends output text s l c2 end o1 o2 w1 w2 stands2) × P t.left) (sym same) second)
 
   -- all turns are taken
   pub all_taken : (life : Life) (c : List Mark) (o0 o1 : Option (List ℕ)) (w0 w1 : Option (List (Traffic X))) (stands : Life → Type 0)
-      → Reported output text s life c None o0 o1 w0 w1 stands → Reported output text s life c (Some ends.Turns) o0 o1 w0 w1 stands
+      → WritesAndSends output text s life c None o0 o1 w0 w1 stands → WritesAndSends output text s life c (Some ends.Turns) o0 o1 w0 w1 stands
   all_taken life c o0 o1 w0 w1 stands tells = record {
     said = tells.said;
     unsaid = tells.unsaid;

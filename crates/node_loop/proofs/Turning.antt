@@ -26,7 +26,7 @@ use Rattle.node_loop.specs.Feeds.{IsFed, happenings_of, kept_frames, kept, kept_
 use Rattle.node_loop.specs.Feeding.{FeedsAt}
 use Rattle.node_loop.specs.Reports.{Output, Reported, happened_in, lived}
 use Rattle.policy_model.specs.Entries.{Entry}
-use Rattle.node_loop.specs.Reported.{Reported, IsUp, does_all}
+use Rattle.node_loop.specs.WritesAndSends.{WritesAndSends, IsUp, does_all}
 use Rattle.node_loop.specs.Turns.{Reads, TakesIn, Turns, ServesOn, IsRestOf, HasRisen, asks_of, is_stop, is_stop_input, has_stop}
 use Rattle.node_loop.proofs.Telling.{joined, joined_at, all_taken, takes, rests, nothing, happened_makes}
 
@@ -181,12 +181,12 @@ module _ {X : Type 0} (output : X → Output) (text : Life → Entry → List �
       → a1 ≡ counted a0 1 → (end ≡ Some ends.Link → ⊥)
       → Turns output text s life intakes end o0 o1 w0 w2 stands readings a0 a1 1
   turn_took end o0 o1 w0 w1 w2 stands readings a0 a1 input up took taking stop asked other =
-      let first : Reported output text s life (Takes input ∷ []) None o0 o0 w0 w1 (λ l. l ≡ life) = takes output text s life input o0 w0 w1 (λ l. l ≡ life) refl up took in
-      let both : Reported output text s life (Takes input ∷ makes (made_by intakes taking.intake)) end o0 o1 w0 w2 stands =
+      let first : WritesAndSends output text s life (Takes input ∷ []) None o0 o0 w0 w1 (λ l. l ≡ life) = takes output text s life input o0 w0 w1 (λ l. l ≡ life) refl up took in
+      let both : WritesAndSends output text s life (Takes input ∷ makes (made_by intakes taking.intake)) end o0 o1 w0 w2 stands =
       joined output text s life (Takes input ∷ []) (makes (made_by intakes taking.intake)) end o0 o0 o1 w0 w1 w2 (λ l. l ≡ life) stands first
-      (λ mid same on. subst (λ l. Reported output text s l (makes (made_by intakes taking.intake)) end o0 o1 w1 w2 stands) (sym same) taking.tells) in
-      let tells : Reported output text s life (course_from intakes (taking.intake ∷ [])) end o0 o1 w0 w2 stands =
-      subst (λ c. Reported output text s life c end o0 o1 w0 w2 stands) (course_one intakes taking.intake input taking.is) both in
+      (λ mid same on. subst (λ l. WritesAndSends output text s l (makes (made_by intakes taking.intake)) end o0 o1 w1 w2 stands) (sym same) taking.tells) in
+      let tells : WritesAndSends output text s life (course_from intakes (taking.intake ∷ [])) end o0 o1 w0 w2 stands =
+      subst (λ c. WritesAndSends output text s life c end o0 o1 w0 w2 stands) (course_one intakes taking.intake input taking.is) both in
       record {
         taken = taking.intake ∷ [];
         tells = tells;
@@ -216,10 +216,10 @@ module _ {X : Type 0} (output : X → Output) (text : Life → Entry → List �
 
   -- or since there was no memory
   pub turn_refused : (end : Option End) (o0 o1 : Option (List ℕ)) (w0 w1 : Option (List (Traffic X))) (stands : Life → Type 0) (readings : List Connection) (a0 a1 : ℕ)
-      → Reads readings intakes → w1 ≡ w0 → is_stop end ≡ false → Reported output text s life (Makes happening.Refused ∷ []) end o0 o1 w0 w0 stands
+      → Reads readings intakes → w1 ≡ w0 → is_stop end ≡ false → WritesAndSends output text s life (Makes happening.Refused ∷ []) end o0 o1 w0 w0 stands
       → a1 ≡ counted a0 1 → (end ≡ Some ends.Link → ⊥) → Turns output text s life intakes end o0 o1 w0 w1 stands readings a0 a1 1
   turn_refused end o0 o1 w0 w1 stands readings a0 a1 reads same stop telling asked other =
-      let tells : Reported output text s life (course_from intakes (Refused ∷ [])) end o0 o1 w0 w1 stands = subst (λ w. Reported output text s life (Makes happening.Refused ∷ []) end o0 o1 w0 w stands) (sym same) telling in
+      let tells : WritesAndSends output text s life (course_from intakes (Refused ∷ [])) end o0 o1 w0 w1 stands = subst (λ w. WritesAndSends output text s life (Makes happening.Refused ∷ []) end o0 o1 w0 w stands) (sym same) telling in
       record {
         taken = Refused ∷ [];
         tells = tells;
@@ -257,7 +257,7 @@ module _ {X : Type 0} (output : X → Output) (text : Life → Entry → List �
       let P : List Happening → Type 0 = λ left. IsRestOf left (last_made [] intakes (first.taken ++ second.taken)) in
       let both = joined_at output text s life (course_from intakes first.taken) (course_from (followed intakes first.taken) second.taken) end o0 o1 o2 w0 w1 w2 stands1 stands2 P first.tells
       (second.tells, rest_more [] intakes first.taken second.taken second.tells.left second.last) in
-      let all = subst (λ c. (t : Reported output text s life c end o0 o2 w0 w2 stands2) × P t.left) (sym (course_more intakes first.taken second.taken)) both in
+      let all = subst (λ c. (t : WritesAndSends output text s life c end o0 o2 w0 w2 stands2) × P t.left) (sym (course_more intakes first.taken second.taken)) both in
       record {
         taken = first.taken ++ second.taken;
         tells = all.0;
@@ -303,7 +303,7 @@ asks_none ends.Memory within = refl
 module _ {X : Type 0} (output : X → Output) (text : Life → Entry → List ℕ) (s : Settings) (life : Life) where
   -- the run ended in Start
   pub serves_start : (end : End) (o0 o1 : Option (List ℕ)) (w0 w1 : Option (List (Traffic X))) (stands : Life → Type 0) (a0 a1 turns : ℕ)
-      → a1 ≡ a0 → does_all (Some end) ≡ false → is_stop (Some end) ≡ false → Reported output text s life (Makes (Comes Start) ∷ []) (Some end) o0 o1 w0 w1 stands
+      → a1 ≡ a0 → does_all (Some end) ≡ false → is_stop (Some end) ≡ false → WritesAndSends output text s life (Makes (Comes Start) ∷ []) (Some end) o0 o1 w0 w1 stands
       → ServesOn output text s life end o0 o1 w0 w1 stands a0 a1 turns
   serves_start end o0 o1 w0 w1 stands a0 a1 turns unasked within stop tells = record {
     taken = [];
@@ -317,7 +317,7 @@ module _ {X : Type 0} (output : X → Output) (text : Life → Entry → List �
 
   -- or in a turn
   pub serves_turns : (end : End) (o0 o1 o2 : Option (List ℕ)) (w0 w1 w2 : Option (List (Traffic X))) (stands1 stands2 : Life → Type 0) (readings : List Connection) (a0 a1 a2 turns : ℕ) → a1 ≡ a0 → (end ≡ ends.Turns → ⊥)
-      → Reported output text s life (Makes (Comes Start) ∷ []) None o0 o1 w0 w1 stands1
+      → WritesAndSends output text s life (Makes (Comes Start) ∷ []) None o0 o1 w0 w1 stands1
       → ((mid : Life) → stands1 mid → IsUp mid → Turns output text s mid NoIntakes (Some end) o1 o2 w1 w2 stands2 readings a1 a2 turns)
       → ServesOn output text s life end o0 o2 w0 w2 stands2 a0 a2 turns
   serves_turns end o0 o1 o2 w0 w1 w2 stands1 stands2 readings a0 a1 a2 turns unasked other first next =
@@ -336,7 +336,7 @@ module _ {X : Type 0} (output : X → Output) (text : Life → Entry → List �
 
   -- or took all its turns
   pub serves_all : (o0 o1 o2 : Option (List ℕ)) (w0 w1 w2 : Option (List (Traffic X))) (stands1 stands2 : Life → Type 0) (readings : List Connection) (a0 a1 a2 turns : ℕ) → a1 ≡ a0
-      → Reported output text s life (Makes (Comes Start) ∷ []) None o0 o1 w0 w1 stands1
+      → WritesAndSends output text s life (Makes (Comes Start) ∷ []) None o0 o1 w0 w1 stands1
       → ((mid : Life) → stands1 mid → IsUp mid → Turns output text s mid NoIntakes None o1 o2 w1 w2 stands2 readings a1 a2 turns)
       → ServesOn output text s life ends.Turns o0 o2 w0 w2 stands2 a0 a2 turns
   serves_all o0 o1 o2 w0 w1 w2 stands1 stands2 readings a0 a1 a2 turns unasked first next =

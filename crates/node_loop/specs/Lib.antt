@@ -5,7 +5,7 @@ pub mod Feeds
 pub mod Feeding
 pub mod Reports
 pub mod Crashes
-pub mod Reported
+pub mod WritesAndSends
 pub mod EventNodes
 pub mod Turns
 pub mod Texts

@@ -17,7 +17,7 @@ use Rattle.node_loop.specs.Intakes.{Intake, Read, Unread, Refused, Intakes, NoIn
 use Rattle.node_loop.specs.Connections.{reading_of, bytes_of, made_by, makes, course_from, last_made}
 use Rattle.node_loop.specs.Reports.{Output}
 use Rattle.policy_model.specs.Entries.{Entry}
-use Rattle.node_loop.specs.Reported.{Reported, CutShort, goes_on}
+use Rattle.node_loop.specs.WritesAndSends.{WritesAndSends, CutShort, goes_on}
 
 -- each connection's reader holds what its bytes leave
 abbrev pub Reads : List Connection → Intakes → Type 0
@@ -63,14 +63,14 @@ module _ {X : Type 0} (output : X → Output) (text : Life → Entry → List �
   pub record TakesIn (input : Input) : Type 0 where
     pub intake : Intake
     pub is : inputs_in intake ≡ input ∷ []
-    pub tells : Reported output text s life (makes (made_by intakes intake)) end out_was out_now was now stands
+    pub tells : WritesAndSends output text s life (makes (made_by intakes intake)) end out_was out_now was now stands
     pub reads : Reads readings (Then intakes intake)
 
   -- What it did at further ones, that it took, with so many calls of the link at most. Where it ended within an input, what is left is a
   -- rest of what the last one made.
   pub record Turns (asked_was asked_now turns : ℕ) : Type 0 where
     pub taken : List Intake
-    pub tells : Reported output text s life (course_from intakes taken) end out_was out_now was now stands
+    pub tells : WritesAndSends output text s life (course_from intakes taken) end out_was out_now was now stands
     pub last : IsRestOf tells.left (last_made [] intakes taken)
     pub reads : Reads readings (followed intakes taken)
     pub asked : HasRisen asked_was asked_now (asks_of end taken)
@@ -89,7 +89,7 @@ module _ {X : Type 0} (output : X → Output) (text : Life → Entry → List �
   pub record ServesOn (out_was out_now : Option (List ℕ)) (was now : Option (List (Traffic X))) (stands : Life → Type 0)
       (asked_was asked_now turns : ℕ) : Type 0 where
     pub taken : List Intake
-    pub tells : Reported output text s life (Makes (Comes Start) ∷ course_from NoIntakes taken) (Some end) out_was out_now was now stands
+    pub tells : WritesAndSends output text s life (Makes (Comes Start) ∷ course_from NoIntakes taken) (Some end) out_was out_now was now stands
     pub last : IsRestOf tells.left (last_made (Comes Start ∷ []) NoIntakes taken)
     pub asked : HasRisen asked_was asked_now (asks_of (Some end) taken)
     pub at_most : length taken ≤ turns

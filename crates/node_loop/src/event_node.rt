@@ -8,7 +8,7 @@ ghost use Rattle.policy_model.specs.Entries.{Life, Lived, Entry, Bad, Gone, NoMe
 ghost use Rattle.policy_model.specs.Fitting.{IsFitEvent};
 ghost use Rattle.policy_model.specs.Follows.{is_start, starts_next};
 ghost use Rattle.node_loop.specs.Reports.{Output, IsIdle};
-ghost use Rattle.node_loop.specs.Reported.{IsOpened};
+ghost use Rattle.node_loop.specs.WritesAndSends.{IsOpened};
 ghost use Rattle.node_loop.specs.Crashes.{Holds};
 ghost use Rattle.node_loop.specs.EventNodes.{ComesTo, IsDisk};
 

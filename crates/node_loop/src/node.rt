@@ -20,7 +20,7 @@ ghost use Rattle.node_loop.specs.Happenings.{Comes, Faulty, Ends, Unread, Refuse
 ghost use Rattle.policy_model.specs.Entries.{Entry, Did, NoMemory, Unread as UnreadEntry};
 ghost use Rattle.node_loop.specs.Nodes.{HoldsBy};
 ghost use Rattle.node_loop.specs.EventNodes.{Does, IsHalted, FailsTo, IsDiskError};
-ghost use Rattle.node_loop.specs.Reported.{Reported, HasCauses, IsUp, IsOpened, does_all, goes_on};
+ghost use Rattle.node_loop.specs.WritesAndSends.{WritesAndSends, HasCauses, IsUp, IsOpened, does_all, goes_on};
 
 use crate::connection::{Came, Connection, close_at, feed_at, keep_at};
 use crate::event_node::{Done, EventNode, NotDone};
@@ -57,7 +57,7 @@ fn report_done<S: EventNode, L: Link<Out = S::Sealed>, O: Sink>(
 ) -> Option<End>
     ensures tells { (old : S) (s : Settings) (life : Life) (event : _)
         → Does (λ now s2 new. HoldsBy S.EventNode old now s2 life new) (S.text s) s life event inner.now S.output done
-        → Reported S.output (S.text s) s life (Makes (Comes event) ∷ []) result (O.written out.old) (O.written out.new) (L.told link.old)
+        → WritesAndSends S.output (S.text s) s life (Makes (Comes event) ∷ []) result (O.written out.old) (O.written out.new) (L.told link.old)
         (L.told link.new) (HoldsBy S.EventNode old inner.now s life) }
     ensures within { does_all result ≡ goes_on result }
     ensures stop { is_stop result ≡ false }
@@ -80,7 +80,7 @@ fn report_done<S: EventNode, L: Link<Out = S::Sealed>, O: Sink>(
 fn report_struck<S: EventNode, O: Sink>(inner: &S, out: &mut O, lines: Option<Text>) -> Option<End>
     ensures tells { (old : S) (s : Settings) (life : Life) (event : _) (told : Option (List (Traffic S.Sealed)))
         → IsHalted (λ now s2 new. HoldsBy S.EventNode old now s2 life new) (S.text s) s life event inner.now lines
-        → Reported S.output (S.text s) s life (Makes (Comes event) ∷ []) result (O.written out.old) (O.written out.new) told told
+        → WritesAndSends S.output (S.text s) s life (Makes (Comes event) ∷ []) result (O.written out.old) (O.written out.new) told told
         (HoldsBy S.EventNode old inner.now s life) }
     ensures within { does_all result ≡ goes_on result }
     ensures stop { is_stop result ≡ false }
@@ -101,10 +101,10 @@ fn report_struck<S: EventNode, O: Sink>(inner: &S, out: &mut O, lines: Option<Te
 fn report_no_memory<S: EventNode, O: Sink>(inner: &S, out: &mut O) -> Option<End>
     ensures tells { (s : Settings) (life : Life) (event : _) (told : Option (List (Traffic S.Sealed))) → IsUp life
         → S.stands_for inner.now s life
-        → Reported S.output (S.text s) s life (Makes (Comes event) ∷ []) result (O.written out.old) (O.written out.new) told told
+        → WritesAndSends S.output (S.text s) s life (Makes (Comes event) ∷ []) result (O.written out.old) (O.written out.new) told told
         (HoldsBy S.EventNode inner.now inner.now s life) }
     ensures refused { (s : Settings) (life : Life) (told : Option (List (Traffic S.Sealed))) → IsUp life → S.stands_for inner.now s life
-        → Reported S.output (S.text s) s life (Makes Refused ∷ []) result (O.written out.old) (O.written out.new) told told
+        → WritesAndSends S.output (S.text s) s life (Makes Refused ∷ []) result (O.written out.old) (O.written out.new) told told
         (HoldsBy S.EventNode inner.now inner.now s life) }
     ensures within { does_all result ≡ goes_on result }
     ensures stop { is_stop result ≡ false }
@@ -128,7 +128,7 @@ fn do_event<S: EventNode, L: Link<Out = S::Sealed>, O: Sink>(
 ) -> Option<End>
     requires fit { IsFitEvent event }
     ensures tells { is_start event ≡ false → (s : Settings) (life : Life) → S.stands_for inner.old s life → IsUp life
-        → Reported S.output (S.text s) s life (Makes (Comes event) ∷ []) result (O.written out.old) (O.written out.new) (L.told link.old)
+        → WritesAndSends S.output (S.text s) s life (Makes (Comes event) ∷ []) result (O.written out.old) (O.written out.new) (L.told link.old)
         (L.told link.new) (HoldsBy S.EventNode inner.old inner.new s life) }
     ensures within { does_all result ≡ goes_on result }
     ensures stop { is_stop result ≡ false }
@@ -146,7 +146,7 @@ fn do_event<S: EventNode, L: Link<Out = S::Sealed>, O: Sink>(
 fn report_error<S: EventNode, O: Sink>(inner: &S, out: &mut O, error: NotDone) -> Option<End>
     ensures tells { (old : S) (s : Settings) (life : Life) (event : _) (told : Option (List (Traffic S.Sealed))) → IsUp life
         → FailsTo (λ now s2 new. HoldsBy S.EventNode old now s2 life new) (S.text s) s life event inner.now error
-        → Reported S.output (S.text s) s life (Makes (Comes event) ∷ []) result (O.written out.old) (O.written out.new) told told
+        → WritesAndSends S.output (S.text s) s life (Makes (Comes event) ∷ []) result (O.written out.old) (O.written out.new) told told
         (HoldsBy S.EventNode old inner.now s life) }
     ensures within { does_all result ≡ goes_on result }
     ensures stop { is_stop result ≡ false }
@@ -172,7 +172,7 @@ fn report_gone<S: EventNode, L: Link<Out = S::Sealed>, O: Sink>(
     conn: u64,
 ) -> Option<End>
     ensures tells { (s : Settings) (life : Life) → S.stands_for inner.now s life → IsUp life
-        → Reported S.output (S.text s) s life (Makes (Ends conn) ∷ []) result (O.written out.old) (O.written out.new) (L.told link.old)
+        → WritesAndSends S.output (S.text s) s life (Makes (Ends conn) ∷ []) result (O.written out.old) (O.written out.new) (L.told link.old)
         (L.told link.new) (HoldsBy S.EventNode inner.now inner.now s life) }
     ensures within { does_all result ≡ goes_on result }
     ensures stop { is_stop result ≡ false }
@@ -199,7 +199,7 @@ fn report_bad<S: EventNode, L: Link<Out = S::Sealed>, O: Sink>(
     fault: FrameError,
 ) -> Option<End>
     ensures tells { (s : Settings) (life : Life) → S.stands_for inner.now s life → IsUp life
-        → Reported S.output (S.text s) s life (Makes (Faulty conn fault) ∷ []) result (O.written out.old) (O.written out.new) (L.told link.old)
+        → WritesAndSends S.output (S.text s) s life (Makes (Faulty conn fault) ∷ []) result (O.written out.old) (O.written out.new) (L.told link.old)
         (L.told link.new) (HoldsBy S.EventNode inner.now inner.now s life) }
     ensures within { does_all result ≡ goes_on result }
     ensures stop { is_stop result ≡ false }
@@ -225,7 +225,7 @@ fn report_unread<S: EventNode, L: Link<Out = S::Sealed>, O: Sink>(
     conn: u64,
 ) -> Option<End>
     ensures tells { (s : Settings) (life : Life) → S.stands_for inner.now s life → IsUp life
-        → Reported S.output (S.text s) s life (Makes (Unread conn) ∷ []) result (O.written out.old) (O.written out.new) (L.told link.old)
+        → WritesAndSends S.output (S.text s) s life (Makes (Unread conn) ∷ []) result (O.written out.old) (O.written out.new) (L.told link.old)
         (L.told link.new) (HoldsBy S.EventNode inner.now inner.now s life) }
     ensures within { does_all result ≡ goes_on result }
     ensures stop { is_stop result ≡ false }
@@ -249,7 +249,7 @@ fn do_frame<S: EventNode, L: Link<Out = S::Sealed>, O: Sink>(
     frame: FrameView<'_>,
 ) -> Option<End>
     ensures tells { (s : Settings) (life : Life) → S.stands_for inner.old s life → IsUp life
-        → Reported S.output (S.text s) s life (Makes (Comes (FrameCame (shown frame.entry))) ∷ []) result (O.written out.old)
+        → WritesAndSends S.output (S.text s) s life (Makes (Comes (FrameCame (shown frame.entry))) ∷ []) result (O.written out.old)
         (O.written out.new) (L.told link.old) (L.told link.new) (HoldsBy S.EventNode inner.old inner.new s life) }
     ensures within { does_all result ≡ goes_on result }
     ensures stop { is_stop result ≡ false }
@@ -272,7 +272,7 @@ fn do_frames<S: EventNode, L: Link<Out = S::Sealed>, O: Sink>(
     reader: &mut FrameReader,
 ) -> Option<End>
     ensures tells { (s : Settings) (life : Life) → S.stands_for inner.old s life → IsUp life
-        → Reported S.output (S.text s) s life (makes (of_frames reader.old.frames)) result (O.written out.old) (O.written out.new)
+        → WritesAndSends S.output (S.text s) s life (makes (of_frames reader.old.frames)) result (O.written out.old) (O.written out.new)
         (L.told link.old) (L.told link.new) (HoldsBy S.EventNode inner.old inner.new s life) }
     ensures left { reader.new.ending ≡ reader.old.ending }
     ensures within { does_all result ≡ goes_on result }
@@ -304,7 +304,7 @@ fn do_lines<S: EventNode, L: Link<Out = S::Sealed>, O: Sink>(
     lines: Vec<Line>,
 ) -> Option<End>
     ensures tells { (s : Settings) (life : Life) → S.stands_for inner.old s life → IsUp life
-        → Reported S.output (S.text s) s life (makes (of_lines conn lines.items)) result (O.written out.old) (O.written out.new)
+        → WritesAndSends S.output (S.text s) s life (makes (of_lines conn lines.items)) result (O.written out.old) (O.written out.new)
         (L.told link.old) (L.told link.new) (HoldsBy S.EventNode inner.old inner.new s life) }
     ensures within { does_all result ≡ goes_on result }
     ensures stop { is_stop result ≡ false }
@@ -332,7 +332,7 @@ fn take_frames<S: EventNode, L: Link<Out = S::Sealed>, O: Sink>(
 ) -> Option<End>
     requires { conn < length connections.old }
     ensures tells { (s : Settings) (life : Life) → S.stands_for inner.old s life → IsUp life
-        → Reported S.output (S.text s) s life (makes (of_frames reader.frames ++ of_fault conn (fault_in reader.ending))) result
+        → WritesAndSends S.output (S.text s) s life (makes (of_frames reader.frames ++ of_fault conn (fault_in reader.ending))) result
         (O.written out.old) (O.written out.new) (L.told link.old) (L.told link.new) (HoldsBy S.EventNode inner.old inner.new s life) }
     ensures kept { connections.new ≡ slice_set connections.old conn (kept_frames reader.ending) }
     ensures within { does_all result ≡ goes_on result }
@@ -360,7 +360,7 @@ fn report_fault<S: EventNode, L: Link<Out = S::Sealed>, O: Sink>(
     fault: Option<FrameError>,
 ) -> Option<End>
     ensures tells { (s : Settings) (life : Life) → S.stands_for inner.now s life → IsUp life
-        → Reported S.output (S.text s) s life (makes (of_fault conn fault)) result (O.written out.old) (O.written out.new) (L.told link.old)
+        → WritesAndSends S.output (S.text s) s life (makes (of_fault conn fault)) result (O.written out.old) (O.written out.new) (L.told link.old)
         (L.told link.new) (HoldsBy S.EventNode inner.now inner.now s life) }
     ensures within { does_all result ≡ goes_on result }
     ensures stop { is_stop result ≡ false }
@@ -386,7 +386,7 @@ fn take_came<S: EventNode, L: Link<Out = S::Sealed>, O: Sink>(
 ) -> Option<End>
     requires { conn < length connections.old }
     ensures tells { (s : Settings) (life : Life) → S.stands_for inner.old s life → IsUp life
-        → Reported S.output (S.text s) s life (makes (happenings_of conn came)) result (O.written out.old) (O.written out.new)
+        → WritesAndSends S.output (S.text s) s life (makes (happenings_of conn came)) result (O.written out.old) (O.written out.new)
         (L.told link.old) (L.told link.new) (HoldsBy S.EventNode inner.old inner.new s life) }
     ensures kept { connections.new ≡ kept_at connections.old conn came }
     ensures within { does_all result ≡ goes_on result }
@@ -551,7 +551,7 @@ fn start<S: EventNode, L: Link<Out = S::Sealed>, O: Sink>(
     out: &mut O,
 ) -> Option<End>
     ensures tells { (s : Settings) (life : Life) → S.stands_for inner.old s life → IsOpened life
-        → Reported S.output (S.text s) s life (Makes (Comes Start) ∷ []) result (O.written out.old) (O.written out.new) (L.told link.old)
+        → WritesAndSends S.output (S.text s) s life (Makes (Comes Start) ∷ []) result (O.written out.old) (O.written out.new) (L.told link.old)
         (L.told link.new) (HoldsBy S.EventNode inner.old inner.new s life) }
     ensures within { does_all result ≡ goes_on result }
     ensures stop { is_stop result ≡ false }
@@ -569,7 +569,7 @@ fn start<S: EventNode, L: Link<Out = S::Sealed>, O: Sink>(
 fn report_unstarted<S: EventNode, O: Sink>(inner: &S, out: &mut O, error: NotDone) -> Option<End>
     ensures tells { (old : S) (s : Settings) (life : Life) (told : Option (List (Traffic S.Sealed))) → IsOpened life
         → FailsTo (λ now s2 new. HoldsBy S.EventNode old now s2 life new) (S.text s) s life Start inner.now error
-        → Reported S.output (S.text s) s life (Makes (Comes Start) ∷ []) result (O.written out.old) (O.written out.new) told told
+        → WritesAndSends S.output (S.text s) s life (Makes (Comes Start) ∷ []) result (O.written out.old) (O.written out.new) told told
         (HoldsBy S.EventNode old inner.now s life) }
     ensures within { does_all result ≡ goes_on result }
     ensures stop { is_stop result ≡ false }

@@ -11,7 +11,7 @@ ghost use Rattle.policy_model.specs.Events.{acts_of};
 ghost use Rattle.node_loop.specs.Intakes.{NoIntakes};
 ghost use Rattle.node_loop.specs.Reporting.{Reports, sent_of};
 ghost use Rattle.node_loop.specs.Running.{HoldsOn};
-ghost use Rattle.node_loop.specs.Reported.{HasCauses, IsOpened};
+ghost use Rattle.node_loop.specs.WritesAndSends.{HasCauses, IsOpened};
 ghost use Rattle.node_loop.specs.Texts.{entry_text, opening_text};
 ghost use Rattle.node_loop.specs.Turns.{Reads, Serves};
 

@@ -12,26 +12,26 @@ const NOT_JSON: &str = "the line is no JSON value";
 const BAD_SHAPE: &str = "the JSON value is no request";
 
 // What a line is read as, in words.
-fn told(alloc: Global, line: &[u8]) -> Result<String, AllocError> {
+fn written(alloc: Global, line: &[u8]) -> Result<String, AllocError> {
     match read_line(alloc, line) {
-        Ok(request) => told_request(alloc, &request),
+        Ok(request) => written_request(alloc, &request),
         Err(error) => format!(in alloc; "{error}"),
     }
 }
 
-fn told_request(alloc: Global, Request { id, ask }: &Request) -> Result<String, AllocError> {
+fn written_request(alloc: Global, Request { id, ask }: &Request) -> Result<String, AllocError> {
     match ask {
         Ask::Put { key, value } => {
             format!(in alloc; "{id} put {} {}", key.as_str(), value.as_str())
         }
         Ask::Remove { key } => format!(in alloc; "{id} remove {}", key.as_str()),
-        Ask::Exclude(ids) => told_exclude(alloc, *id, ids),
+        Ask::Exclude(ids) => written_exclude(alloc, *id, ids),
         Ask::Clear { wait_for_removal } => format!(in alloc; "{id} clear {wait_for_removal}"),
         Ask::State => format!(in alloc; "{id} state"),
     }
 }
 
-fn told_exclude(alloc: Global, id: u64, excluded: &NodeSet) -> Result<String, AllocError> {
+fn written_exclude(alloc: Global, id: u64, excluded: &NodeSet) -> Result<String, AllocError> {
     let mut text = format!(in alloc; "{id} exclude")?;
     for id in excluded.as_slice() {
         push_word(&mut text, id.as_str())?;
@@ -45,7 +45,7 @@ fn push_word(text: &mut String, word: &str) -> Result<(), AllocError> {
 }
 
 fn is_read_as(alloc: Global, line: &[u8], want: &str) -> Result<bool, AllocError> {
-    let read = told(alloc, line)?;
+    let read = written(alloc, line)?;
     Ok(read.as_str() == want)
 }
 
@@ -360,7 +360,7 @@ fn copy_of(alloc: Global, line: &str) -> Result<Request, Fail> {
 
 // Whether the copy of the request of a line is this one.
 fn is_copied(alloc: Global, line: &str, want: &str) -> Result<bool, Fail> {
-    let text = told_request(alloc, &copy_of(alloc, line)?)?;
+    let text = written_request(alloc, &copy_of(alloc, line)?)?;
     Ok(text.as_str() == want)
 }
 

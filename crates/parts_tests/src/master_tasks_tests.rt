@@ -137,7 +137,7 @@ fn write_word(text: &mut Vec<u8>, word: &[u8]) -> Result<(), AllocError> {
 }
 
 // The voters and the value of a new state, or 'same', and the replies.
-fn told(alloc: Global, next: &Next) -> Result<Vec<u8>, AllocError> {
+fn written(alloc: Global, next: &Next) -> Result<Vec<u8>, AllocError> {
     let mut text = Vec::new(alloc);
     write_next(alloc, &mut text, next)?;
     Ok(text)
@@ -181,7 +181,7 @@ fn next(
 ) -> Result<Vec<u8>, AllocError> {
     let votes = set("a,b,c,d");
     let next = tasks.next_state(id("a"), term, accepted, &accepted.config, &votes, true)?;
-    told(alloc, &next)
+    written(alloc, &next)
 }
 
 // Takes requests of ids from 1 on, which come at moment 0.
@@ -598,10 +598,10 @@ fn appended(alloc: Global, replies: Replies) -> Result<Vec<u8>, AllocError> {
     if replies.as_slice().len() <= all.room() {
         all.append(replies);
     }
-    told_replies(alloc, &all)
+    written_replies(alloc, &all)
 }
 
-fn told_replies(alloc: Global, replies: &Replies) -> Result<Vec<u8>, AllocError> {
+fn written_replies(alloc: Global, replies: &Replies) -> Result<Vec<u8>, AllocError> {
     let mut text = Vec::new(alloc);
     write_replies(alloc, &mut text, replies)?;
     Ok(text)
@@ -609,7 +609,7 @@ fn told_replies(alloc: Global, replies: &Replies) -> Result<Vec<u8>, AllocError>
 
 fn is_behind_earlier(text: &[u8], want: &str) -> bool {
     match text.split_at_checked(EARLIER.len()) {
-        Some((front, rest)) => front == EARLIER && rest == want.as_bytes(),
+        Some((first, rest)) => first == EARLIER && rest == want.as_bytes(),
         None => false,
     }
 }

@@ -40,7 +40,7 @@ fn a_32nd_peer_is_left_out(rt: HostRuntime) {
 
 // What is done to a finder, or what it is then asked.
 #[derive(Clone, Copy)]
-enum Step {
+enum Call {
     Add(u8),
     Asked(u64),
     Answered(u8),
@@ -57,22 +57,22 @@ enum Step {
     IsFree(u8),
 }
 
-fn act(finder: &mut PeerFinder, step: Step) {
-    match step {
-        Step::Add(peer) => finder.add(letter(peer)),
-        Step::Asked(now) => finder.asked(now),
-        Step::Answered(peer) => finder.answered(letter(peer), None),
-        Step::AnsweredWith(peer, master) => finder.answered(letter(peer), Some(letter(master))),
-        Step::ForgetAnswers(now) => finder.forget_answers(now),
-        Step::AsksBoth(_)
-        | Step::AsksNobody(_)
-        | Step::IsDue(_, _)
-        | Step::FoundNoMaster(_)
-        | Step::FoundAMaster(_)
-        | Step::HasNotFound(_)
-        | Step::KnowsBoth
-        | Step::BothAnswered
-        | Step::IsFree(_) => {}
+fn act(finder: &mut PeerFinder, call: Call) {
+    match call {
+        Call::Add(peer) => finder.add(letter(peer)),
+        Call::Asked(now) => finder.asked(now),
+        Call::Answered(peer) => finder.answered(letter(peer), None),
+        Call::AnsweredWith(peer, master) => finder.answered(letter(peer), Some(letter(master))),
+        Call::ForgetAnswers(now) => finder.forget_answers(now),
+        Call::AsksBoth(_)
+        | Call::AsksNobody(_)
+        | Call::IsDue(_, _)
+        | Call::FoundNoMaster(_)
+        | Call::FoundAMaster(_)
+        | Call::HasNotFound(_)
+        | Call::KnowsBoth
+        | Call::BothAnswered
+        | Call::IsFree(_) => {}
     }
 }
 
@@ -80,22 +80,22 @@ fn are_both(ids: &[NodeId]) -> bool {
     ids == [letter(b'b'), letter(b'c')].as_slice()
 }
 
-fn holds(finder: &PeerFinder, step: Step) -> bool {
-    match step {
-        Step::AsksBoth(now) => are_both(finder.tick(now).as_slice()),
-        Step::AsksNobody(now) => finder.tick(now).len() == 0,
-        Step::IsDue(now, is_due) => finder.is_due(now) == is_due,
-        Step::FoundNoMaster(peer) => has_master(finder.found(letter(peer))) == Some(false),
-        Step::FoundAMaster(peer) => has_master(finder.found(letter(peer))) == Some(true),
-        Step::HasNotFound(peer) => finder.found(letter(peer)).is_none(),
-        Step::KnowsBoth => are_both(finder.known_set().as_slice()),
-        Step::BothAnswered => are_both(finder.answered_set().as_slice()),
-        Step::IsFree(peer) => finder.free_set().as_slice() == [letter(peer)].as_slice(),
-        Step::Add(_)
-        | Step::Asked(_)
-        | Step::Answered(_)
-        | Step::AnsweredWith(_, _)
-        | Step::ForgetAnswers(_) => true,
+fn holds(finder: &PeerFinder, call: Call) -> bool {
+    match call {
+        Call::AsksBoth(now) => are_both(finder.tick(now).as_slice()),
+        Call::AsksNobody(now) => finder.tick(now).len() == 0,
+        Call::IsDue(now, is_due) => finder.is_due(now) == is_due,
+        Call::FoundNoMaster(peer) => has_master(finder.found(letter(peer))) == Some(false),
+        Call::FoundAMaster(peer) => has_master(finder.found(letter(peer))) == Some(true),
+        Call::HasNotFound(peer) => finder.found(letter(peer)).is_none(),
+        Call::KnowsBoth => are_both(finder.known_set().as_slice()),
+        Call::BothAnswered => are_both(finder.answered_set().as_slice()),
+        Call::IsFree(peer) => finder.free_set().as_slice() == [letter(peer)].as_slice(),
+        Call::Add(_)
+        | Call::Asked(_)
+        | Call::Answered(_)
+        | Call::AnsweredWith(_, _)
+        | Call::ForgetAnswers(_) => true,
     }
 }
 
@@ -107,34 +107,34 @@ fn has_master(found: Option<Found>) -> Option<bool> {
     }
 }
 
-const STEPS: &[Step] = &[
-    Step::Add(b'c'),
-    Step::Add(b'b'),
-    Step::AsksBoth(0),
-    Step::Asked(5),
-    Step::AsksNobody(1_004),
-    Step::IsDue(1_004, false),
-    Step::IsDue(1_005, true),
-    Step::AsksBoth(1_005),
-    Step::Answered(b'b'),
-    Step::AnsweredWith(b'c', b'b'),
-    Step::Answered(b'd'),
-    Step::FoundNoMaster(b'b'),
-    Step::FoundAMaster(b'c'),
-    Step::HasNotFound(b'd'),
-    Step::KnowsBoth,
-    Step::BothAnswered,
-    Step::IsFree(b'b'),
-    Step::ForgetAnswers(100),
-    Step::HasNotFound(b'b'),
-    Step::AsksBoth(100),
+const CALLS: &[Call] = &[
+    Call::Add(b'c'),
+    Call::Add(b'b'),
+    Call::AsksBoth(0),
+    Call::Asked(5),
+    Call::AsksNobody(1_004),
+    Call::IsDue(1_004, false),
+    Call::IsDue(1_005, true),
+    Call::AsksBoth(1_005),
+    Call::Answered(b'b'),
+    Call::AnsweredWith(b'c', b'b'),
+    Call::Answered(b'd'),
+    Call::FoundNoMaster(b'b'),
+    Call::FoundAMaster(b'c'),
+    Call::HasNotFound(b'd'),
+    Call::KnowsBoth,
+    Call::BothAnswered,
+    Call::IsFree(b'b'),
+    Call::ForgetAnswers(100),
+    Call::HasNotFound(b'b'),
+    Call::AsksBoth(100),
 ];
 
 #[test]
 fn known_peers_are_asked_each_second(rt: HostRuntime) {
     let mut finder = PeerFinder::new(letter(b'a'));
-    for (at, step) in STEPS.iter().enumerate() {
-        act(&mut finder, *step);
-        assert!(rt; holds(&finder, *step), "step {at}");
+    for (at, call) in CALLS.iter().enumerate() {
+        act(&mut finder, *call);
+        assert!(rt; holds(&finder, *call), "call {at}");
     }
 }

@@ -19,7 +19,7 @@ fn state(version: u64) -> StateId {
 
 // What comes of a publication to a and b, or how it then stands.
 #[derive(Clone, Copy)]
-enum Step {
+enum Call {
     Responded(&'static str),
     CommitSent,
     Applied(&'static str),
@@ -34,36 +34,36 @@ enum Step {
     IsFinished(bool),
 }
 
-fn act(publication: &mut Publication, step: Step) {
-    match step {
-        Step::Responded(node) => publication.responded(id(node)),
-        Step::CommitSent => publication.commit_sent(),
-        Step::Applied(node) => publication.applied(id(node)),
-        Step::Finished => publication.finished(),
-        Step::IsOfVersion(_)
-        | Step::HasTargets(_)
-        | Step::IsRunning(_)
-        | Step::HasFailed(_)
-        | Step::IsDone(_, _)
-        | Step::HaveResponded(_)
-        | Step::IsCommitSent(_)
-        | Step::IsFinished(_) => {}
+fn act(publication: &mut Publication, call: Call) {
+    match call {
+        Call::Responded(node) => publication.responded(id(node)),
+        Call::CommitSent => publication.commit_sent(),
+        Call::Applied(node) => publication.applied(id(node)),
+        Call::Finished => publication.finished(),
+        Call::IsOfVersion(_)
+        | Call::HasTargets(_)
+        | Call::IsRunning(_)
+        | Call::HasFailed(_)
+        | Call::IsDone(_, _)
+        | Call::HaveResponded(_)
+        | Call::IsCommitSent(_)
+        | Call::IsFinished(_) => {}
     }
 }
 
-fn holds(publication: &Publication, step: Step) -> bool {
-    match step {
-        Step::IsOfVersion(version) => publication.id() == state(version),
-        Step::HasTargets(nodes) => publication.targets().as_slice() == set(nodes).as_slice(),
-        Step::IsRunning(now) => matches!(publication.tick(now), Stage::Running),
-        Step::HasFailed(now) => matches!(publication.tick(now), Stage::Failed),
-        Step::IsDone(now, laggards) => is_done(publication.tick(now), laggards),
-        Step::HaveResponded(nodes) => {
+fn holds(publication: &Publication, call: Call) -> bool {
+    match call {
+        Call::IsOfVersion(version) => publication.id() == state(version),
+        Call::HasTargets(nodes) => publication.targets().as_slice() == set(nodes).as_slice(),
+        Call::IsRunning(now) => matches!(publication.tick(now), Stage::Running),
+        Call::HasFailed(now) => matches!(publication.tick(now), Stage::Failed),
+        Call::IsDone(now, laggards) => is_done(publication.tick(now), laggards),
+        Call::HaveResponded(nodes) => {
             publication.responders().as_slice() == set(nodes).as_slice()
         }
-        Step::IsCommitSent(is_sent) => publication.is_commit_sent() == is_sent,
-        Step::IsFinished(is_finished) => publication.is_finished() == is_finished,
-        Step::Responded(_) | Step::CommitSent | Step::Applied(_) | Step::Finished => true,
+        Call::IsCommitSent(is_sent) => publication.is_commit_sent() == is_sent,
+        Call::IsFinished(is_finished) => publication.is_finished() == is_finished,
+        Call::Responded(_) | Call::CommitSent | Call::Applied(_) | Call::Finished => true,
     }
 }
 
@@ -74,29 +74,29 @@ fn is_done(stage: Stage, laggards: &str) -> bool {
     }
 }
 
-const STEPS: &[Step] = &[
-    Step::IsRunning(30_099),
-    Step::HasFailed(30_100),
-    Step::Responded("b"),
-    Step::HaveResponded("b"),
-    Step::IsCommitSent(false),
-    Step::CommitSent,
-    Step::IsCommitSent(true),
-    Step::IsRunning(30_099),
-    Step::IsFinished(false),
-    Step::Applied("a"),
-    Step::Finished,
-    Step::IsFinished(true),
-    Step::IsDone(30_100, "b"),
-    Step::IsOfVersion(2),
-    Step::HasTargets("a,b"),
+const CALLS: &[Call] = &[
+    Call::IsRunning(30_099),
+    Call::HasFailed(30_100),
+    Call::Responded("b"),
+    Call::HaveResponded("b"),
+    Call::IsCommitSent(false),
+    Call::CommitSent,
+    Call::IsCommitSent(true),
+    Call::IsRunning(30_099),
+    Call::IsFinished(false),
+    Call::Applied("a"),
+    Call::Finished,
+    Call::IsFinished(true),
+    Call::IsDone(30_100, "b"),
+    Call::IsOfVersion(2),
+    Call::HasTargets("a,b"),
 ];
 
 #[test]
 fn a_publication_fails_after_30_seconds_or_names_its_laggards(rt: HostRuntime) {
     let mut publication = Publication::start(state(2), &set("a,b"), 100);
-    for (at, step) in STEPS.iter().enumerate() {
-        act(&mut publication, *step);
-        assert!(rt; holds(&publication, *step), "step {at}");
+    for (at, call) in CALLS.iter().enumerate() {
+        act(&mut publication, *call);
+        assert!(rt; holds(&publication, *call), "call {at}");
     }
 }

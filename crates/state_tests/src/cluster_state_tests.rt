@@ -62,8 +62,8 @@ fn is_state(alloc: Global, bytes: &[u8], json: &str) -> Result<bool, AllocError>
     let text = to_json(alloc, &state)?;
     let is_seen = is_seen(alloc, bytes, state.id())?;
     let is_spelled = has_bytes(&SharedState::spell(alloc, copy)?, bytes);
-    let is_told = again.as_slice() == bytes && text.as_slice() == json.as_bytes();
-    Ok(is_seen && is_spelled && is_told)
+    let is_written = again.as_slice() == bytes && text.as_slice() == json.as_bytes();
+    Ok(is_seen && is_spelled && is_written)
 }
 
 const STATES: [(&[u8], &str); 3] = [

@@ -16,7 +16,7 @@ use world_model::{Act, ActReply, Message, Outcome};
 
 // What a node is to do. The states are those of a in term 1, and the messages are to or from a.
 #[derive(Clone, Copy)]
-enum Step {
+enum Call {
     // With this configuration.
     Boot(&'static str),
     // For a, in this term.
@@ -108,17 +108,17 @@ fn published(state: SharedState) -> Act {
     })
 }
 
-fn act(alloc: Global, step: Step) -> Result<Act, AllocError> {
-    match step {
-        Step::Boot(ids) => Ok(Act::Bootstrap(SharedConfig::of(state(alloc, 0, ids)?))),
-        Step::Start(term) => Ok(Act::StartJoin(id("a"), term)),
-        Step::Join(source, term, last_term, last_version) => {
+fn act(alloc: Global, call: Call) -> Result<Act, AllocError> {
+    match call {
+        Call::Boot(ids) => Ok(Act::Bootstrap(SharedConfig::of(state(alloc, 0, ids)?))),
+        Call::Start(term) => Ok(Act::StartJoin(id("a"), term)),
+        Call::Join(source, term, last_term, last_version) => {
             Ok(join(source, term, last_term, last_version))
         }
-        Step::Value(version, ids) => value(state(alloc, version, ids)?),
-        Step::Publish(version, ids) => Ok(published(state(alloc, version, ids)?)),
-        Step::Response(source) => Ok(response(source)),
-        Step::Commit => Ok(commit()),
+        Call::Value(version, ids) => value(state(alloc, version, ids)?),
+        Call::Publish(version, ids) => Ok(published(state(alloc, version, ids)?)),
+        Call::Response(source) => Ok(response(source)),
+        Call::Commit => Ok(commit()),
     }
 }
 
@@ -328,10 +328,10 @@ impl Driven {
         Ok(())
     }
 
-    // Does the steps, which the core and the model both answer so.
+    // Does the calls, which the core and the model both answer so.
     fn takes(&mut self, alloc: Global, rows: &[Row]) -> Result<(), Fail> {
-        for (step, wanted) in rows {
-            let act = act(alloc, *step)?;
+        for (call, wanted) in rows {
+            let act = act(alloc, *call)?;
             self.is_modelled(alloc, &act, wanted)?;
             self.does(alloc, act, wanted)?;
         }
@@ -339,10 +339,10 @@ impl Driven {
     }
 }
 
-// A step, and what the core and the model answer.
-type Row = (Step, &'static str);
+// A call, and what the core and the model answer.
+type Row = (Call, &'static str);
 
-// A node that was just opened does the steps of both lists.
+// A node that was just opened does the calls of both lists.
 fn plays(alloc: Global, me: &str, first: &[Row], then: &[Row]) -> Result<(), Fail> {
     let mut node = opened(alloc, id(me))?;
     node.takes(alloc, first)?;
@@ -350,29 +350,29 @@ fn plays(alloc: Global, me: &str, first: &[Row], then: &[Row]) -> Result<(), Fai
 }
 
 const B_JOINS: [Row; 2] = [
-    (Step::Boot("a,b,c"), "won=false"),
-    (Step::Start(1), "join b a 1 0/0"),
+    (Call::Boot("a,b,c"), "won=false"),
+    (Call::Start(1), "join b a 1 0/0"),
 ];
 
 const C_JOINS: [Row; 2] = [
-    (Step::Boot("a,b,c"), "won=false"),
-    (Step::Start(1), "join c a 1 0/0"),
+    (Call::Boot("a,b,c"), "won=false"),
+    (Call::Start(1), "join c a 1 0/0"),
 ];
 
 const A_WINS: [Row; 4] = [
-    (Step::Boot("a,b,c"), "won=false"),
-    (Step::Start(1), "join a a 1 0/0"),
-    (Step::Join("a", 1, 0, 0), "won=false"),
-    (Step::Join("b", 1, 0, 0), "won=true"),
+    (Call::Boot("a,b,c"), "won=false"),
+    (Call::Start(1), "join a a 1 0/0"),
+    (Call::Join("a", 1, 0, 0), "won=false"),
+    (Call::Join("b", 1, 0, 0), "won=true"),
 ];
 
 const A_PUBLISHES: [Row; 6] = [
-    (Step::Boot("a,b,c"), "won=false"),
-    (Step::Start(1), "join a a 1 0/0"),
-    (Step::Join("a", 1, 0, 0), "won=false"),
-    (Step::Join("b", 1, 0, 0), "won=true"),
-    (Step::Value(1, "a,b,c"), "publish a 1/1 0/0 abc abc "),
-    (Step::Publish(1, "a,b,c"), "response a a 1/1"),
+    (Call::Boot("a,b,c"), "won=false"),
+    (Call::Start(1), "join a a 1 0/0"),
+    (Call::Join("a", 1, 0, 0), "won=false"),
+    (Call::Join("b", 1, 0, 0), "won=true"),
+    (Call::Value(1, "a,b,c"), "publish a 1/1 0/0 abc abc "),
+    (Call::Publish(1, "a,b,c"), "response a a 1/1"),
 ];
 
 #[test]
@@ -381,8 +381,8 @@ fn a_quorum_elects_once(rt: HostRuntime) -> Result<(), Fail> {
     plays(alloc, "b", &B_JOINS, &[])?;
     plays(alloc, "c", &C_JOINS, &[])?;
     const ROWS: [Row; 2] = [
-        (Step::Join("b", 1, 0, 0), "won=false"),
-        (Step::Boot("a,b"), "Initial(AlreadySet)"),
+        (Call::Join("b", 1, 0, 0), "won=false"),
+        (Call::Boot("a,b"), "Initial(AlreadySet)"),
     ];
     plays(alloc, "a", &A_WINS, &ROWS)
 }
@@ -390,9 +390,9 @@ fn a_quorum_elects_once(rt: HostRuntime) -> Result<(), Fail> {
 #[test]
 fn a_new_round_begins_without_votes(rt: HostRuntime) -> Result<(), Fail> {
     const ROWS: [Row; 3] = [
-        (Step::Start(2), "join a a 2 0/0"),
-        (Step::Join("c", 2, 0, 0), "won=false"),
-        (Step::Join("a", 2, 0, 0), "won=true"),
+        (Call::Start(2), "join a a 2 0/0"),
+        (Call::Join("c", 2, 0, 0), "won=false"),
+        (Call::Join("a", 2, 0, 0), "won=true"),
     ];
     plays(rt.alloc(), "a", &A_WINS, &ROWS)
 }
@@ -400,27 +400,27 @@ fn a_new_round_begins_without_votes(rt: HostRuntime) -> Result<(), Fail> {
 #[test]
 fn a_quorum_commits(rt: HostRuntime) -> Result<(), Fail> {
     let alloc = rt.alloc();
-    const PUBLISHED: [Row; 1] = [(Step::Publish(1, "a,b,c"), "response b a 1/1")];
+    const PUBLISHED: [Row; 1] = [(Call::Publish(1, "a,b,c"), "response b a 1/1")];
     plays(alloc, "b", &B_JOINS, &PUBLISHED)?;
     const COMMITTED: [Row; 3] = [
-        (Step::Response("a"), "won=false"),
-        (Step::Response("b"), "commit a 1/1"),
-        (Step::Commit, "won=false"),
+        (Call::Response("a"), "won=false"),
+        (Call::Response("b"), "commit a 1/1"),
+        (Call::Commit, "won=false"),
     ];
     plays(alloc, "a", &A_PUBLISHES, &COMMITTED)?;
-    const REFUSED: [Row; 1] = [(Step::Commit, "Commit(AcceptedTermMismatch(0, 1))")];
+    const REFUSED: [Row; 1] = [(Call::Commit, "Commit(AcceptedTermMismatch(0, 1))")];
     plays(alloc, "c", &C_JOINS, &REFUSED)
 }
 
 #[test]
 fn one_change_of_the_configuration(rt: HostRuntime) -> Result<(), Fail> {
     const ROWS: [Row; 6] = [
-        (Step::Value(2, "a,b"), "publish a 1/2 1/1 ab abc "),
-        (Step::Value(3, "a,b"), "Value(NotAccepted(2, 1))"),
-        (Step::Commit, "Commit(Publishing(1, 2))"),
-        (Step::Publish(2, "a,b"), "response a a 1/2"),
-        (Step::Publish(2, "a,b"), "Publish(VersionNotGreater(2, 2))"),
-        (Step::Value(3, "a,b,c"), "Value(Reconfiguring)"),
+        (Call::Value(2, "a,b"), "publish a 1/2 1/1 ab abc "),
+        (Call::Value(3, "a,b"), "Value(NotAccepted(2, 1))"),
+        (Call::Commit, "Commit(Publishing(1, 2))"),
+        (Call::Publish(2, "a,b"), "response a a 1/2"),
+        (Call::Publish(2, "a,b"), "Publish(VersionNotGreater(2, 2))"),
+        (Call::Value(3, "a,b,c"), "Value(Reconfiguring)"),
     ];
     plays(rt.alloc(), "a", &A_PUBLISHES, &ROWS)
 }
@@ -428,14 +428,14 @@ fn one_change_of_the_configuration(rt: HostRuntime) -> Result<(), Fail> {
 #[test]
 fn both_configurations_have_a_quorum(rt: HostRuntime) -> Result<(), Fail> {
     const ROWS: [Row; 8] = [
-        (Step::Value(1, "c"), "Value(NoJoinQuorum)"),
-        (Step::Value(1, "a"), "publish a 1/1 0/0 a abc "),
-        (Step::Publish(1, "a"), "response a a 1/1"),
-        (Step::Response("a"), "won=false"),
-        (Step::Response("c"), "commit a 1/1"),
-        (Step::Start(2), "join a a 2 1/1"),
-        (Step::Join("a", 2, 1, 1), "won=false"),
-        (Step::Join("c", 2, 0, 0), "won=true"),
+        (Call::Value(1, "c"), "Value(NoJoinQuorum)"),
+        (Call::Value(1, "a"), "publish a 1/1 0/0 a abc "),
+        (Call::Publish(1, "a"), "response a a 1/1"),
+        (Call::Response("a"), "won=false"),
+        (Call::Response("c"), "commit a 1/1"),
+        (Call::Start(2), "join a a 2 1/1"),
+        (Call::Join("a", 2, 1, 1), "won=false"),
+        (Call::Join("c", 2, 0, 0), "won=true"),
     ];
     plays(rt.alloc(), "a", &A_WINS, &ROWS)
 }
@@ -443,31 +443,31 @@ fn both_configurations_have_a_quorum(rt: HostRuntime) -> Result<(), Fail> {
 const NO_LIST: &[Row] = &[];
 
 const BEFORE: &[Row] = &[
-    (Step::Boot("_"), "Initial(EmptyConfig)"),
-    (Step::Join("b", 0, 0, 0), "Join(NotStarted)"),
-    (Step::Start(0), "Start(TermNotGreater(0, 0))"),
+    (Call::Boot("_"), "Initial(EmptyConfig)"),
+    (Call::Join("b", 0, 0, 0), "Join(NotStarted)"),
+    (Call::Start(0), "Start(TermNotGreater(0, 0))"),
     (
-        Step::Start(4_611_686_018_427_387_905),
+        Call::Start(4_611_686_018_427_387_905),
         "Start(TermTooLarge(4611686018427387905))",
     ),
-    (Step::Start(1), "join a a 1 0/0"),
-    (Step::Join("b", 1, 0, 0), "Join(NoConfig)"),
+    (Call::Start(1), "join a a 1 0/0"),
+    (Call::Join("b", 1, 0, 0), "Join(NoConfig)"),
 ];
 
-const OTHER: &[Row] = &[(Step::Join("b", 1, 0, 0), "Join(NotForMe(a))")];
+const OTHER: &[Row] = &[(Call::Join("b", 1, 0, 0), "Join(NotForMe(a))")];
 
 const FRESHER: &[Row] = &[
-    (Step::Boot("a,b,c"), "won=false"),
-    (Step::Start(1), "join a a 1 0/0"),
-    (Step::Join("b", 1, 0, 1), "Join(FresherVersion(0, 1))"),
+    (Call::Boot("a,b,c"), "won=false"),
+    (Call::Start(1), "join a a 1 0/0"),
+    (Call::Join("b", 1, 0, 1), "Join(FresherVersion(0, 1))"),
 ];
 
 const TOO_LARGE: &[Row] = &[(
-    Step::Value(4_611_686_018_427_387_905, "a,b,c"),
+    Call::Value(4_611_686_018_427_387_905, "a,b,c"),
     "Value(VersionTooLarge(4611686018427387905))",
 )];
 
-// A node, and the two lists of its steps.
+// A node, and the two lists of its calls.
 const REFUSED: [(&str, &[Row], &[Row]); 4] = [
     ("a", BEFORE, NO_LIST),
     ("b", &B_JOINS, OTHER),

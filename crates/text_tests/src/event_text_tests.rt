@@ -271,7 +271,7 @@ const WINNING: &str = "act a ok join b a 2 0/0\n\
     reply a {\"error\":\"not_json\"}\n";
 
 fn event(alloc: Global, published: &mut Option<SharedState>) -> Result<Text, AllocError> {
-    let steps = winning(alloc)?;
+    let deeds = winning(alloc)?;
     let mut text = Text::new(alloc);
     write_event(
         &mut text,
@@ -279,7 +279,7 @@ fn event(alloc: Global, published: &mut Option<SharedState>) -> Result<Text, All
         4,
         id("a"),
         published,
-        &steps,
+        &deeds,
         &drops(),
         &joins(),
         &replies(),
@@ -295,7 +295,9 @@ fn is_state(published: &Option<SharedState>, wanted: StateId) -> bool {
 }
 
 #[test]
-fn an_event_shows_steps_then_drops_then_frames_then_replies(rt: HostRuntime) -> Result<(), Fail> {
+fn an_event_shows_acts_and_modes_then_drops_then_frames_then_replies(
+    rt: HostRuntime,
+) -> Result<(), Fail> {
     let mut published = None;
     let text = event(rt.alloc(), &mut published)?;
     assert!(rt; text.as_bytes() == WINNING.as_bytes());
@@ -360,13 +362,13 @@ const RESPONDING: &str = "act a ok response b a 2/1\n\
     act a crashed publish a {\"committed\":[\"a\"],\"config\":[\"a\"],\"parent\":{\"term\":1,\"version\":4},\"term\":2,\"value\":{\"exclusions\":[],\"master\":null,\"members\":[],\"settings\":{}},\"version\":1}\n\
     act a disk boot a,b\n";
 
-fn steps_text(
+fn deeds_text(
     alloc: Global,
     published: &mut Option<SharedState>,
-    steps: &[Deed],
+    deeds: &[Deed],
 ) -> Result<Text, AllocError> {
     let mut text = Text::new(alloc);
-    write_deeds(&mut text, alloc, id("a"), published, steps)?;
+    write_deeds(&mut text, alloc, id("a"), published, deeds)?;
     Ok(text)
 }
 
@@ -375,7 +377,7 @@ fn a_response_that_sends_a_commit_shows_what_was_published_last(
     rt: HostRuntime,
 ) -> Result<(), Fail> {
     let mut published = Some(state(rt.alloc())?);
-    let text = steps_text(rt.alloc(), &mut published, &responding(rt.alloc())?)?;
+    let text = deeds_text(rt.alloc(), &mut published, &responding(rt.alloc())?)?;
     assert!(rt; text.as_bytes() == RESPONDING.as_bytes());
     Ok(())
 }
@@ -385,9 +387,9 @@ const ACCEPTING: &str =
 
 #[test]
 fn a_state_that_was_accepted_was_not_published(rt: HostRuntime) -> Result<(), Fail> {
-    let step = accepting(rt.alloc(), taken(None, false))?;
+    let deed = accepting(rt.alloc(), taken(None, false))?;
     let mut published = None;
-    let text = steps_text(rt.alloc(), &mut published, &[step])?;
+    let text = deeds_text(rt.alloc(), &mut published, &[deed])?;
     assert!(rt; text.as_bytes() == ACCEPTING.as_bytes());
     assert!(rt; published.is_none());
     Ok(())
@@ -401,10 +403,10 @@ fn struck() -> [Deed; 2] {
 }
 
 fn struck_text(alloc: Global, last: &mut Option<SharedState>) -> Result<Text, AllocError> {
-    let steps = struck();
+    let deeds = struck();
     let mut text = Text::new(alloc);
-    write_struck_deeds(&mut text, alloc, id("a"), last, &steps, false)?;
-    write_struck_event(&mut text, alloc, id("a"), last, &steps, &drops(), true)?;
+    write_struck_deeds(&mut text, alloc, id("a"), last, &deeds, false)?;
+    write_struck_event(&mut text, alloc, id("a"), last, &deeds, &drops(), true)?;
     Ok(text)
 }
 

@@ -17,7 +17,7 @@ use Rattle.node_loop.specs.Happenings.{Happening, Comes, Mark}
 use Rattle.node_loop.specs.Intakes.{NoIntakes}
 use Rattle.node_loop.specs.Reports.{Output, EntriesFollow, lived}
 use Rattle.node_loop.specs.Running.{StoodOn, LeavesLastOn, HoldsOn}
-use Rattle.node_loop.specs.Reported.{Reported}
+use Rattle.node_loop.specs.WritesAndSends.{WritesAndSends}
 use Rattle.node_loop.specs.Turns.{IsRestOf, ServesOn, Serves, Unopened, Served}
 use Rattle.zen_app.specs.NodeRuns.{LivesOn}
 
@@ -28,8 +28,8 @@ follows_lived s life (e ∷ es) before follow = follows_lived s (Lived life e) e
 
 module _ {X : Type 0} (output : X → Output) (text : Life → Entry → List ℕ) (s : Settings) (life : Life) (stands stands2 : Life → Type 0) (also : (es : List Entry) → EntriesFollow s life es → stands (lived life es) → stands2 (lived life es)) where
   -- what is told, and a fact of what is left
-  tells_with : (course : List Mark) (end : Option End) (o0 o1 : Option (List ℕ)) (w0 w1 : Option (List (Traffic X))) (P : List Happening → Type 0) → (t : Reported output text s life course end o0 o1 w0 w1 stands) → P t.left
-      → (u : Reported output text s life course end o0 o1 w0 w1 stands2) × P u.left
+  tells_with : (course : List Mark) (end : Option End) (o0 o1 : Option (List ℕ)) (w0 w1 : Option (List (Traffic X))) (P : List Happening → Type 0) → (t : WritesAndSends output text s life course end o0 o1 w0 w1 stands) → P t.left
+      → (u : WritesAndSends output text s life course end o0 o1 w0 w1 stands2) × P u.left
   tells_with course end o0 o1 w0 w1 P t last = (
     record {
       said = t.said;

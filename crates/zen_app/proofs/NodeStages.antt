@@ -17,7 +17,7 @@ use Rattle.state_journal.specs.Journal.{found_of, FoundAsSome}
 use Rattle.state_journal.specs.Opening.{handed_back, IsWhyOf, RanUntil, RoseIfDisk}
 use Rattle.node_loop.specs.declared.node.End.{End}
 use Rattle.node_loop.specs.declared.node.End.TheVariants as ends
-use Rattle.node_loop.specs.Reported.{HasCauses}
+use Rattle.node_loop.specs.WritesAndSends.{HasCauses}
 use Rattle.command_line.specs.declared.command.NodeWords.{NodeWords}
 use Rattle.zen_host.specs.Views.{HostView}
 use Rattle.journal_inspection.specs.Inspects.{LeavesLinks}

@@ -23,7 +23,7 @@ use Rattle.coordinator.specs.declared.step.Sealed.{Sealed}
 use Rattle.node_loop.specs.Crashes.{IsLastRecord, has_crashed}
 use Rattle.node_loop.specs.Reporting.{sent_of}
 use Rattle.node_loop.specs.Running.{HoldsOn}
-use Rattle.node_loop.specs.Reported.{HasCauses}
+use Rattle.node_loop.specs.WritesAndSends.{HasCauses}
 use Rattle.node_loop.specs.Texts.{entry_text, opening_text}
 use Rattle.node_loop.specs.Turns.{Serves}
 use Rattle.command_line.specs.declared.command.NodeWords.{NodeWords}

@@ -2,7 +2,7 @@ use Rattle.std.proofs.Common.{refl, subst}
 use Rattle.zen_link.specs.declared.link.Input.TheVariants.{Bytes}
 use Rattle.node_loop.specs.Intakes.{Read, Unread}
 use Rattle.node_loop.specs.Connections.{makes}
-use Rattle.node_loop.specs.Reported.{Reported}
+use Rattle.node_loop.specs.WritesAndSends.{WritesAndSends}
 use Rattle.node_loop.proofs.Turning.{fed_reads, unread_reads}
 use Rattle.node_loop.specs.Nodes.{HoldsBy}
 use Rattle.node_loop.proofs.node.take_bytes.Goals as goal
@@ -14,7 +14,7 @@ returns-in-Ok-clause-takes g c s life intakes stands up reads =
       intake = Read (Bytes c.args.conn c.args.bytes.now);
       is = refl;
       tells = subst
-          (λ h. Reported g.S.EventNode.output (g.S.EventNode.text s) s life (makes h) c.take_came.result (g.O.Sink.written c.args.out.now) (g.O.Sink.written c.take_came.new.out) (g.L.Link.told c.args.link.now) (g.L.Link.told c.take_came.new.link) (HoldsBy g.S.EventNode c.args.inner.now c.take_came.new.inner s life))
+          (λ h. WritesAndSends g.S.EventNode.output (g.S.EventNode.text s) s life (makes h) c.take_came.result (g.O.Sink.written c.args.out.now) (g.O.Sink.written c.take_came.new.out) (g.L.Link.told c.args.link.now) (g.L.Link.told c.take_came.new.link) (HoldsBy g.S.EventNode c.args.inner.now c.take_came.new.inner s life))
           fed.0 (c.take_came.ensures.tells s life stands up);
       reads = fed.1;
     }

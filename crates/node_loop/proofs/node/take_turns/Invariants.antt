@@ -3,7 +3,7 @@ use Rattle.policy_model.specs.declared.settings.Settings.{Settings}
 use Rattle.policy_model.specs.Entries.{Life}
 use Rattle.node_loop.specs.Intakes.{Intakes}
 use Rattle.node_loop.specs.Nodes.{HoldsBy}
-use Rattle.node_loop.specs.Reported.{HasCauses, IsUp}
+use Rattle.node_loop.specs.WritesAndSends.{HasCauses, IsUp}
 use Rattle.node_loop.specs.Turns.{Reads, Turns}
 use Rattle.node_loop.proofs.node.take_turns.Given as goal
 
