@@ -4,3 +4,4 @@ pub mod Making
 pub mod Limits
 pub mod Sameness
 pub mod Counting
+pub mod Resting

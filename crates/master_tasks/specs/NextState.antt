@@ -1,5 +1,5 @@
 -- Part of the statement: the next state that a leader makes of its tasks.
-use Rattle.std.specs.Prelude.{◌≡◌, ℕ, Bool, ◌&&◌, Some, List, [], ◌++◌, length, nat_eq, if◌then◌else◌}
+use Rattle.std.specs.Prelude.{◌≡◌, ℕ, Bool, true, ◌&&◌, Some, List, [], ◌++◌, length, nat_eq, if◌then◌else◌}
 use Rattle.voting_config.specs.Ids.{Id, same_config, among}
 use Rattle.reconfigurator.specs.Targets.{target_of}
 use Rattle.cluster_state.specs.declared.state.ClusterState.{ClusterState}
@@ -78,6 +78,12 @@ next_answers l t =
 -- who waits on
 abbrev pub waiting_after : Leader → Tasks → List Waiting
 waiting_after l t = if is_nothing_new l t then unacked l (processed_by l t).waiting else (processed_by l t).waiting
+
+-- nothing comes of the tasks: nothing is new, nobody waits on, and nobody is answered
+pub record IsAtRest (l : Leader) (t : Tasks) : Type 0 where
+  pub nothing_new : is_nothing_new l t ≡ true
+  pub waiting : waiting_after l t ≡ []
+  pub answers : next_answers l t ≡ []
 
 -- what is left to do; nobody is to come or to go any more
 unfoldable pub tasks_after : Leader → Tasks → Tasks

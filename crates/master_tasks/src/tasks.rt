@@ -7,6 +7,7 @@ ghost use Rattle.cluster_state.specs.States.{IsFitValue};
 ghost use Rattle.master_tasks.specs.Fitting.{HaveGoodSettings, IsFitNext};
 ghost use Rattle.master_tasks.specs.Members.{members_after as members_after_of};
 ghost use Rattle.master_tasks.specs.NextState.{
+  IsAtRest,
   config_for as config_for_of,
   is_accepted as is_accepted_of,
   leader_of,
@@ -267,6 +268,35 @@ impl MasterTasks {
         Ok(Processed { waiting, replies })
     }
 
+    // Whether nothing waits, and nobody is to come or to go.
+    fn is_idle(&self) -> bool
+        ensures { IsTrue result → self.now ≡ no_tasks }
+    {
+        self.waiting.is_empty() && self.removals.len() == 0 && self.additions.len() == 0
+    }
+
+    /// Whether it is plain that nothing comes of the tasks, before [`prepare`](MasterTasks::prepare) makes a value: nothing waits, nobody is to come or
+    /// to go, and the accepted state is the leader's own and stays. It takes no memory. Where it is false, `prepare` tells.
+    pub fn is_at_rest(
+        &self,
+        me: NodeId,
+        term: u64,
+        accepted: &ClusterState,
+        committed: &VotingConfig,
+        votes: &NodeSet,
+        shrink: bool,
+    ) -> bool
+        ensures { IsTrue result → IsAtRest (leader_of me term accepted.now committed.now votes.now shrink) self.now }
+    {
+        if !self.is_idle() {
+            return false;
+        }
+        if !is_master(me, &accepted.value) {
+            return false;
+        }
+        stays(me, term, accepted, committed, votes, shrink)
+    }
+
     /// What comes of the tasks, made by a leader in its `term` of its accepted state, the committed configuration and
     /// those who voted for it. `New` is to be published: it begins with the accepted value and the node as master;
     /// members that are to go leave it, but never the node itself; members that are to come join it as far as there
@@ -401,6 +431,33 @@ fn config_for(
     }
     let live = value.members.within(votes);
     target(&live, &value.exclusions, me, &accepted.config, shrink)
+}
+
+fn is_master(me: NodeId, value: &ClusterValue) -> bool
+    ensures { IsTrue result → value.now.master ≡ Some me }
+{
+    match value.master {
+        None => false,
+        Some(master) => master == me,
+    }
+}
+
+// Whether the accepted state is of this term, and has the configuration that is wanted for its value.
+fn stays(
+    me: NodeId,
+    term: u64,
+    accepted: &ClusterState,
+    committed: &VotingConfig,
+    votes: &NodeSet,
+    shrink: bool,
+) -> bool
+    ensures { IsTrue result → IsTrue (is_accepted_of term accepted.now (config_for_of me accepted.now committed.now votes.now shrink accepted.now.value) accepted.now.value) }
+{
+    if accepted.term != term {
+        return false;
+    }
+    let config = config_for(me, accepted, committed, votes, shrink, &accepted.value);
+    config.is_same(&accepted.config)
 }
 
 // Whether the configuration and the value are the accepted ones, in this term.
