@@ -1,4 +1,4 @@
--- Part of the statement: what the trace of a schedule of whole nodes tells of its history, as statements.
+-- Part of the statement: what the trace of a schedule of whole nodes shows of its history, as statements.
 use Rattle.std.specs.Prelude.{◌≡◌, List, ◌++◌}
 use Rattle.voting_config.specs.Ids.{Id}
 use Rattle.world_model.specs.Histories.{IsLegal, sent}

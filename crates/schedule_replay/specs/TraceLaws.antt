@@ -1,4 +1,4 @@
--- Part of the statement: what the trace of a schedule tells of its history, as statements. `run` cites these records of its schedule.
+-- Part of the statement: what the trace of a schedule shows of its history, as statements. `run` cites these records of its schedule.
 use Rattle.std.specs.Prelude.{◌≡◌, false, List, ◌++◌}
 use Rattle.world_model.specs.Histories.{NoEntries, sent}
 use Rattle.schedule_text.specs.declared.schedule.Line.{Line}

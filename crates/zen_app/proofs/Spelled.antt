@@ -52,7 +52,7 @@ spells_safe_core : (bytes : List ℕ) (s : Schedule) → Spells Core bytes s →
 spells_safe_core bytes s spelled =
     let well = spells_well_formed bytes s spelled in
     let legal = replay_is_legal s well in
-    record { legal = legal; safe = (safe_of_legal s.initial (replayed s) legal).0; tells = tells s; shows = shows s well; agrees = agrees s well }
+    record { legal = legal; safe = (safe_of_legal s.initial (replayed s) legal).0; history = tells s; shows = shows s well; agrees = agrees s well }
 
 -- ---- level node
 
@@ -76,7 +76,7 @@ spells_safe_cluster bytes s spelled =
       safe = (safe_of_legal s.initial (replayed_history s) legal).0;
       nodes = λ first rest e n listed. let by_then = well_up_to s well first rest e in
           record { life = lives_follow (up_to s first) by_then n listed; replies = cluster_replies_are_true (up_to s first) by_then n listed };
-      tells = cluster_tells s;
+      history = cluster_tells s;
       shows = cluster_shows s legal;
       agrees = cluster_agrees s legal;
       voting_only = λ w won. voting_only_never_wins s well (voting_only_among bytes s spelled) w (subst (λ (l : List Win). Contains l w) (cluster_shows s legal).wins won);

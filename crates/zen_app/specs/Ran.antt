@@ -71,7 +71,7 @@ ReplayEnds level bytes left_now was now other = ⊥
 pub record Replays (level : Level) (bytes : List ℕ) (source source_now : SourceView) (sink sink_now : SinkView)
     (status : Status) : Type 0 where
   pub ended : ReplayEnds level bytes source_now.left sink.written sink_now.written status
-  -- whatever the status: of a schedule a prefix of its trace was written, and the history that the trace tells is legal and safe
+  -- whatever the status: of a schedule a prefix of its trace was written, and the history that the trace shows is legal and safe
   pub traced : (s : Schedule) → Spells level bytes s
       → AppendedPrefix sink.written sink_now.written (trace_at level s) × IsSafeTraceAt level s
   -- a schedule, with no fault counted, is replayed to the end, unless memory runs out

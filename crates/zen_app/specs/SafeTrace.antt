@@ -21,13 +21,13 @@ use Rattle.client_guarantees.specs.Replies.{RepliesTruly}
 
 -- ---- level core: the lines are single acts of the nodes
 
--- The trace of the schedule tells a legal history, and that very history is safe: no term has two winners, committed states of one version
+-- The trace of the schedule shows a legal history, and that very history is safe: no term has two winners, committed states of one version
 -- are equal, each descends from every earlier committed one, and no node forgets what it answered for.
 pub record IsSafeTrace (s : Schedule) : Type 0 where
   pub legal : IsLegal s.initial (replayed s)
   pub safe : IsSafe s.initial (replayed s)
-  -- the trace is the text of its trace_parts, and this history is read off these trace_parts
-  pub tells : GivesHistory s (trace_parts s)
+  -- the trace is the text of its parts, and this history is read off these parts
+  pub history : GivesHistory s (trace_parts s)
   -- the `won` lines are the wins of this history, and the `committed` lines show the states committed in it
   pub shows : Shows (replayed s) (trace_parts s)
   -- no two `won` lines of one term name two nodes, and no two `committed` lines of one version differ
@@ -48,14 +48,14 @@ abbrev pub up_to : Schedule → List Line → Schedule
 up_to s first = record s { lines = first }
 
 -- What the nodes did by the policy is a legal history, so they keep the rules of the core and take no message that was not sent. That very
--- history is safe, as at level core, and the trace tells it.
+-- history is safe, as at level core, and the trace shows it.
 pub record IsSafeClusterTrace (s : Schedule) : Type 0 where
   pub legal : IsLegal s.initial (replayed_history s)
   pub safe : IsSafe s.initial (replayed_history s)
   -- at the end of each line, so each reply is true of the history up to the end of its event
   pub nodes : (first rest : List Line) → s.lines ≡ first ++ rest → (n : Id) → has n s.nodes ≡ true → LivesByPolicy (up_to s first) n
-  -- the trace is the text of its trace_parts; this history, the frames that were sent and the replies of each node are read off these trace_parts
-  pub tells : ClusterGivesHistory s (cluster_parts s)
+  -- the trace is the text of its parts; this history, the frames that were sent and the replies of each node are read off these parts
+  pub history : ClusterGivesHistory s (cluster_parts s)
   -- the `won` lines are the wins of this history, and the `committed` lines show the states committed in it
   pub shows : Shows (replayed_history s) (core_of (cluster_parts s))
   -- no two `won` lines of one term name two nodes, and no two `committed` lines of one version differ
