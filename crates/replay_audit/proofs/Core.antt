@@ -100,7 +100,7 @@ read_as initial text entries h set some short shows is =
     let r = trace_read initial text entries set some shows short in
     record { trace = r.trace; read = r.read; from = r.from; history = with_numbered NoEntries r.trace.entries ∙ ap (λ (xs : List Entry). after_entries NoEntries xs) r.shows ∙ is }
 
--- the trace by its trace_parts
+-- the trace by its parts
 pub trace_reads : (s : Schedule) → IsWellFormed s → CanBeAudited Core s → Reads (trace_at Core s) (entries_of (trace_parts s)) (counts_of (trace_parts s))
 trace_reads s formed can =
     let t = tells s in

@@ -186,7 +186,7 @@ module _ (initial : List Id) where
   commits_told h (DiskFailed n) s c = omega arith
   commits_told h Unsent s c = omega arith
 
-  -- ---- all trace_parts
+  -- ---- all parts
 
   acts : (h : History) (xs : List TracePart) → Along (IsSound initial) h xs → act_count (history_shown_from h xs) ≡ act_count h + (counts_of xs).acts
   acts h [] a = omega arith
@@ -200,7 +200,7 @@ module _ (initial : List Id) where
   commits h [] a c = omega arith
   commits h (x ∷ xs) a c = omega (arith, commits_told h x a.0 c.0, commits (history_shown_by h x) xs a.1 c.1)
 
-  -- the numbers of sound trace_parts that show the wins and the commits of the history that they tell
+  -- the numbers of sound parts that show the wins and the commits of the history that they tell
   numbers : (s : Schedule) (h : History) (xs : List TracePart) (c : Counts) → c ≡ counts_of xs → lines_told xs ≡ s.lines → history_shown_from NoEntries xs ≡ h → Along (IsSound initial) NoEntries xs → Shows h xs → AreOf c s h
   numbers s h xs c is lines told sound shown =
       subst (λ (k : Counts). AreOf k s h) (sym is) (record {

@@ -1,4 +1,4 @@
--- What the trace_parts of two schedules show.
+-- What the parts of two schedules show.
 use Rattle.std.proofs.Common.{◌≡◌, false, true, None, Some, List, [], ◌∷◌, ◌++◌, refl}
 use Rattle.std.specs.Prelude.{codes}
 use Rattle.voting_config.specs.Ids.{Id}

@@ -12,7 +12,7 @@ use Rattle.schedule_replay.specs.Showing.{Shows, Agrees}
 use Rattle.schedule_replay.specs.Parts.{TracePart, text_of}
 use Rattle.schedule_replay.specs.HistoryShown.{history_shown, lines_of, messages_of, numbered}
 
--- the trace is the text of these trace_parts, which echo the lines in order, and the history is read off them
+-- the trace is the text of these parts, which echo the lines in order, and the history is read off them
 pub record GivesHistory (s : Schedule) (xs : List TracePart) : Type 0 where
   pub text : trace s ≡ text_of xs
   pub lines : lines_of xs ≡ s.lines
@@ -23,7 +23,7 @@ pub record GivesHistory (s : Schedule) (xs : List TracePart) : Type 0 where
 abbrev pub LawTraceGivesHistory : Type 0
 LawTraceGivesHistory = (s : Schedule) → GivesHistory s (trace_parts s)
 
--- more lines leave the trace_parts of the lines before as they are
+-- more lines leave the parts of the lines before as they are
 abbrev pub LawPartsGoOn : Type 0
 LawPartsGoOn = (s : Schedule) (more : List Line) → (rest : List TracePart) × (trace_parts (record s { lines = s.lines ++ more }) ≡ trace_parts s ++ rest)
 
@@ -31,7 +31,7 @@ LawPartsGoOn = (s : Schedule) (more : List Line) → (rest : List TracePart) × 
 abbrev pub LawTraceFollows : Type 0
 LawTraceFollows = (s : Schedule) → ShowsLines s.initial NoEntries (λ n. false) s.lines (trace_parts s)
 
--- the trace_parts show the wins and the committed states of the history, and no others
+-- the parts show the wins and the committed states of the history, and no others
 abbrev pub LawTraceShows : Type 0
 LawTraceShows = (s : Schedule) → IsWellFormed s → Shows (replayed s) (trace_parts s)
 

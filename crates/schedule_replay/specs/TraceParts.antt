@@ -1,4 +1,4 @@
--- Part of the statement: the trace_parts of the trace of a schedule. They need not be read: TraceLaws says what `trace_parts` are.
+-- Part of the statement: the parts of the trace of a schedule. They need not be read: TraceLaws says what `trace_parts` are.
 use Rattle.std.specs.Prelude.{Option, None, Some, List, [], ◌∷◌, ◌++◌, length, if◌then◌else◌}
 use Rattle.voting_config.specs.Ids.{Id}
 use Rattle.cluster_state.specs.declared.state.Kept.{Kept}
