@@ -26,6 +26,16 @@ impl Mask {
         }
     }
 
+    /// The same once more.
+    pub fn copy(&self) -> Mask
+        ensures { result ≡ self.now }
+    {
+        Mask {
+            config: VotingConfig::of(self.config.members()),
+            word: self.word,
+        }
+    }
+
     /// Sets the bit of an id that was put on the roster at this place, where the configuration has it.
     pub fn mend(&mut self, id: NodeId, place: u8)
         requires { place < 64 }

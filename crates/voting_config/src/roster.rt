@@ -51,6 +51,16 @@ impl Roster {
         roster
     }
 
+    /// The same roster once more.
+    pub fn copy(&self) -> Roster
+        ensures { result ≡ self.now }
+    {
+        let mut copy = Roster::new();
+        // There is as much room as in the original, so this is no error.
+        let _ = copy.ids.try_extend_from_slice(self.ids.as_slice());
+        copy
+    }
+
     /// How many ids are on it.
     pub fn len(&self) -> usize
         ensures value { result ≡ length self.now }
