@@ -140,8 +140,9 @@ impl<K: Keeper> Coordinator<K> {
         let Some(publication) = &self.publication else {
             return;
         };
+        let responders = publication.responders().sources();
         let Some(id) = first_among(
-            publication.responders(),
+            &responders,
             self.core.committed().members(),
             &self.settings.voting_only,
         ) else {

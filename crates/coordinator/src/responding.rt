@@ -60,7 +60,7 @@ impl<K: Keeper> Coordinator<K> {
         let Some(publication) = &self.publication else {
             return;
         };
-        let responders = publication.responders();
+        let responders = publication.responders().sources();
         // For the proof alone: a set has at most `MAX_IDS` ids.
         let _ = responders.len();
         send_commits(

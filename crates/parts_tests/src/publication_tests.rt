@@ -17,7 +17,8 @@ fn state(version: u64) -> StateId {
     StateId { term: 1, version }
 }
 
-// What comes of a publication to a and b, or how it then stands.
+// What comes of a publication to a and b, or how it then stands. Who has responded is told as a set, and as a word over the roster in
+// the order of the responses.
 #[derive(Clone, Copy)]
 enum Call {
     Responded(&'static str),
@@ -29,7 +30,7 @@ enum Call {
     IsRunning(u64),
     HasFailed(u64),
     IsDone(u64, &'static str),
-    HaveResponded(&'static str),
+    HaveResponded(&'static str, u64),
     IsCommitSent(bool),
     IsFinished(bool),
 }
@@ -45,7 +46,7 @@ fn act(publication: &mut Publication, call: Call) {
         | Call::IsRunning(_)
         | Call::HasFailed(_)
         | Call::IsDone(_, _)
-        | Call::HaveResponded(_)
+        | Call::HaveResponded(_, _)
         | Call::IsCommitSent(_)
         | Call::IsFinished(_) => {}
     }
@@ -58,8 +59,9 @@ fn holds(publication: &Publication, call: Call) -> bool {
         Call::IsRunning(now) => matches!(publication.tick(now), Stage::Running),
         Call::HasFailed(now) => matches!(publication.tick(now), Stage::Failed),
         Call::IsDone(now, laggards) => is_done(publication.tick(now), laggards),
-        Call::HaveResponded(nodes) => {
-            publication.responders().as_slice() == set(nodes).as_slice()
+        Call::HaveResponded(nodes, word) => {
+            let responders = publication.responders();
+            responders.sources().as_slice() == set(nodes).as_slice() && responders.word() == word
         }
         Call::IsCommitSent(is_sent) => publication.is_commit_sent() == is_sent,
         Call::IsFinished(is_finished) => publication.is_finished() == is_finished,
@@ -78,12 +80,14 @@ const CALLS: &[Call] = &[
     Call::IsRunning(30_099),
     Call::HasFailed(30_100),
     Call::Responded("b"),
-    Call::HaveResponded("b"),
+    Call::HaveResponded("b", 1),
     Call::IsCommitSent(false),
     Call::CommitSent,
     Call::IsCommitSent(true),
     Call::IsRunning(30_099),
     Call::IsFinished(false),
+    Call::Responded("a"),
+    Call::HaveResponded("a,b", 3),
     Call::Applied("a"),
     Call::Finished,
     Call::IsFinished(true),

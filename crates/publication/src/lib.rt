@@ -6,7 +6,7 @@ ghost use Rattle.std.specs.Prelude.{◌≡◌};
 use cluster_state::StateId;
 use election_clock::has_passed;
 use std::marker::Model;
-use voting_config::{NodeId, NodeSet};
+use voting_config::{MAX_IDS, NodeId, NodeSet, Tally};
 
 /// `cluster.publish.timeout`, in ms: how long a publication may take until it is finished. 30 s by default
 /// (Elasticsearch reference 7.x, Discovery and cluster formation settings).
@@ -29,10 +29,10 @@ pub struct Publication {
     id: StateId,
     targets: NodeSet,
     started: u64,
-    responders: NodeSet,
+    responders: Tally,
     commit_sent: bool,
     finished: bool,
-    laggards: NodeSet,
+    laggards: Tally,
 }
 
 impl Model for Publication {
@@ -62,10 +62,10 @@ impl Publication {
             id,
             targets: targets.copy(),
             started: now,
-            responders: NodeSet::new(),
+            responders: Tally::new(),
             commit_sent: false,
             finished: false,
-            laggards: targets.copy(),
+            laggards: Tally::of(targets),
         }
     }
 
@@ -74,7 +74,9 @@ impl Publication {
         ensures now { self.new ≡ after self.old (Responded source) }
         ensures calls { (calls : Calls) → StandsFor self.old calls → StandsFor self.new (Then calls (Responded source)) }
     {
-        self.responders.put_if_room(source);
+        if self.responders.len() < MAX_IDS {
+            self.responders.add(source);
+        }
     }
 
     /// Its commit is sent.
@@ -107,7 +109,7 @@ impl Publication {
         ensures { result ≡ stage_of self.now now }
     {
         if self.finished {
-            Stage::Done(self.laggards.copy())
+            Stage::Done(self.laggards.sources())
         } else if has_passed(self.started, PUBLISH_TIMEOUT_MS, now) {
             Stage::Failed
         } else {
@@ -130,7 +132,7 @@ impl Publication {
     }
 
     /// Who has responded.
-    pub fn responders(&self) -> &NodeSet
+    pub fn responders(&self) -> &Tally
         ensures { result.now ≡ self.now.responders }
     {
         &self.responders
