@@ -1,16 +1,11 @@
 //! Which nodes are to be the voters, as nodes come and go.
 #![tactic(auto)]
 
-ghost use Rattle.std.specs.Prelude.{◌≡◌, ◌||◌, ◌+◌, ◌<◌, ◌≤◌, [], ◌∷◌, ◌++◌, length, take, if◌then◌else◌};
-ghost use Rattle.voting_config.specs.Ids.{has, most_ids};
-ghost use Rattle.arrayvec.specs.ArrayVec.{array_vec_len};
+ghost use Rattle.std.specs.Prelude.{◌≡◌, ◌||◌, ◌+◌, ◌-◌, ◌<◌, ◌≤◌, [], ◌∷◌, length, take, if◌then◌else◌};
+ghost use Rattle.voting_config.specs.Ids.{has, most_ids, set_of, union};
 ghost use Rattle.reconfigurator.specs.Targets.{candidates_of, chosen_of, least_size as least_size_of, odd_of, size_of, target_of};
 
-use arrayvec::ArrayVec;
-use voting_config::{MAX_IDS, NodeId, NodeSet, VotingConfig};
-
-/// The master, and at most three sets of other candidates.
-const MAX_CANDIDATES: usize = 1 + 3 * MAX_IDS;
+use voting_config::{NodeId, NodeSet, VotingConfig};
 
 /// The voting configuration that a master aims at, from the `live` nodes, those that are `excluded` from voting, the
 /// `master` itself and the configuration of today.
@@ -53,8 +48,7 @@ fn chosen(
     let allowed = live.without(excluded);
     let voters = config.without(excluded);
     let size = size(allowed.len(), members, voters.len(), shrink);
-    let candidates = candidates(&allowed, &voters, master);
-    NodeSet::of(prefix(candidates.as_slice(), size))
+    first_candidates(&allowed, &voters, master, size)
 }
 
 // How many candidates are taken, if there are as many.
@@ -94,33 +88,45 @@ fn least_size(members: usize, voters: usize, shrink: bool) -> usize
     }
 }
 
-// All that may vote, the best first.
-fn candidates(live: &NodeSet, voters: &NodeSet, master: NodeId) -> ArrayVec<NodeId, MAX_CANDIDATES>
-    ensures { result.items ≡ candidates_of live.now voters.now master }
+// The best of those that may vote, so many at most.
+fn first_candidates(live: &NodeSet, voters: &NodeSet, master: NodeId, count: usize) -> NodeSet
+    requires { count ≤ most_ids }
+    ensures { result ≡ set_of (take count (candidates_of live.now voters.now master)) }
 {
     let leader = only(master);
     let others = live.without(&leader);
     let other_voters = voters.without(&leader);
-    let mut all = master_first(live, voters, master);
-    append(&mut all, &others.within(&other_voters));
-    append(&mut all, &others.without(&other_voters));
-    append(&mut all, &other_voters.without(&others));
-    all
+    let mut taken = NodeSet::new();
+    let first = master_first(live, voters, master);
+    let room = take_first(&mut taken, count, &first);
+    let room = take_first(&mut taken, room, &others.within(&other_voters));
+    let room = take_first(&mut taken, room, &others.without(&other_voters));
+    take_first(&mut taken, room, &other_voters.without(&others));
+    taken
+}
+
+// Puts in the first of the ids, so many at most. Answers how many more may come.
+fn take_first(taken: &mut NodeSet, room: usize, ids: &NodeSet) -> usize
+    requires { length taken.old + room ≤ most_ids }
+    ensures taken { taken.new ≡ union taken.old (take room ids.now) }
+    ensures left { result ≡ room - length ids.now }
+    ensures fits { length taken.new + result ≤ most_ids }
+{
+    for id in prefix(ids.as_slice(), room) {
+        taken.put(*id);
+    }
+    room.saturating_sub(ids.len())
 }
 
 // The master, where it may vote.
-fn master_first(
-    live: &NodeSet,
-    voters: &NodeSet,
-    master: NodeId,
-) -> ArrayVec<NodeId, MAX_CANDIDATES>
-    ensures { result.items ≡ (if has master live.now || has master voters.now then master ∷ [] else []) }
+fn master_first(live: &NodeSet, voters: &NodeSet, master: NodeId) -> NodeSet
+    ensures { result ≡ (if has master live.now || has master voters.now then master ∷ [] else []) }
 {
-    let mut first = ArrayVec::new();
     if live.contains(master) || voters.contains(master) {
-        first.push(master);
+        only(master)
+    } else {
+        NodeSet::new()
     }
-    first
 }
 
 // The set of one id.
@@ -130,15 +136,6 @@ fn only(id: NodeId) -> NodeSet
     let mut ids = NodeSet::new();
     ids.push(id);
     ids
-}
-
-// Puts the ids at the end.
-fn append(all: &mut ArrayVec<NodeId, MAX_CANDIDATES>, ids: &NodeSet)
-    requires { array_vec_len all.old + most_ids ≤ MAX_CANDIDATES }
-    ensures { all.new.items ≡ all.old.items ++ ids.now }
-{
-    // There is room, so this is no error.
-    let _ = all.try_extend_from_slice(ids.as_slice());
 }
 
 // The first of the ids, as many as there are.
