@@ -58,7 +58,7 @@ framed bytes part size frame m is read =
       long = omega arith;
       within = omega (arith, m.0, m.1, length-drop 4 bytes);
       body = ap frame_of (drop-take 4 size bytes) ∙ whole;
-      front = m.2 ∙ ap (λ r. prefix_with r (drop size (drop 4 bytes))) whole ∙ ap (Whole frame) (drop-drop size 4 bytes ∙ ap (λ n. drop n bytes) (omega arith));
+      prefix = m.2 ∙ ap (λ r. prefix_with r (drop size (drop 4 bytes))) whole ∙ ap (Whole frame) (drop-drop size 4 bytes ∙ ap (λ n. drop n bytes) (omega arith));
     }
 
 -- ---- what stands at the front is given next
@@ -76,7 +76,7 @@ module _ (was bytes now : List ℕ) (gone : now ≡ was) (same : bytes ≡ now) 
 pub frame_next : (now : Buffer) (was bytes : List ℕ) → now.bytes.items ≡ was → bytes ≡ now.bytes.items → IsFramed bytes now.given → Gives now (stream was)
 frame_next now was bytes gone same h =
     let here : IsFramed now.bytes.items now.given = subst (λ l. IsFramed l now.given) same h in
-    let next = stream-front was (Whole here.frame (drop now.given now.bytes.items)) (ap prefix_of (sym gone) ∙ here.front) in
+    let next = stream-front was (Whole here.frame (drop now.given now.bytes.items)) (ap prefix_of (sym gone) ∙ here.prefix) in
     record { frame = here.frame; long = here.long; body = here.body; next = ap next_of next; left = sym (ap after_next next) }
 
 -- what is lent is the frame that stood next
