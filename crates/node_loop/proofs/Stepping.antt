@@ -10,7 +10,7 @@ use Rattle.coordinator.specs.declared.coordinator.Coordinator.{Coordinator}
 use Rattle.coordinator.specs.declared.step.Entries.{Entries}
 use Rattle.coordinator.specs.declared.step.Sealed.{Sealed}
 use Rattle.coordinator.specs.Lives.{StandsForLife}
-use Rattle.coordinator.specs.EventNode.{Done as DoneBy, Failed}
+use Rattle.coordinator.specs.Steps.{Done as DoneBy, Failed}
 use Rattle.coordinator.specs.CoreActs.{CoreDid}
 use Rattle.coordinator.proofs.Leaving.{did_leaves}
 use Rattle.policy_model.specs.declared.settings.Settings.{Settings}
@@ -30,13 +30,13 @@ use Rattle.node_loop.proofs.Lasting.{leaves_now, leaves_struck}
 
 module _ {C K : Type 0} (k : Ghosts K)
     (only_kept : (keeper : K) (found : Option Kept) → k.told → k.has_stopped keeper ≡ false → k.left_since keeper (k.moment keeper) found → found ≡ Some (k.record_of keeper))
-    (node_in : C → Coordinator K) (told_in : C → Option LastSent) where
+    (node_in : C → Coordinator K) (last_sent_in : C → Option LastSent) where
   -- the acts that the node's core stands for
   abbrev core_stands : (c : C) (life : Life) → StandsForLife k (node_in c) life → StandsFor k (node_in c).core (acts_of (log_of life))
   core_stands c life stands = ap (λ (v : View). v.node) stands
 
   abbrev stands_in : C → Settings → Life → Type 0
-  stands_in c s life = Reports k (node_in c) (told_in c) s life
+  stands_in c s life = Reports k (node_in c) (last_sent_in c) s life
 
   abbrev moment_in : C → ℕ
   moment_in c = k.moment (node_in c).core.keeper
@@ -72,12 +72,12 @@ module _ {C K : Type 0} (k : Ghosts K)
   none_crashed old new l (Notes note ∷ is) did = none_crashed old new (And l (Notes note)) is did
 
   -- nothing was done
-  pub stayed : (old new : C) (s : Settings) (life : Life) → node_in new ≡ node_in old → told_in new ≡ told_in old → stands_in old s life → holds_in old life new s life
+  pub stayed : (old new : C) (s : Settings) (life : Life) → node_in new ≡ node_in old → last_sent_in new ≡ last_sent_in old → stands_in old s life → holds_in old life new s life
   stayed old new s life same told stands =
       let still : LeavesOnly k.moment k.left_since (node_in old).core.keeper (node_in new).core.keeper (λ found. ⊥) =
       subst (λ (n : Coordinator K). LeavesOnly k.moment k.left_since (node_in old).core.keeper n.core.keeper (λ found. ⊥)) (sym same) (quiet k.moment k.left_since (node_in old).core.keeper (λ found. ⊥)) in
       record {
-        stands = subst (λ (n : Coordinator K). Reports k n (told_in new) s life) (sym same) (subst (λ t. Reports k (node_in old) t s life) (sym told) stands);
+        stands = subst (λ (n : Coordinator K). Reports k n (last_sent_in new) s life) (sym same) (subst (λ t. Reports k (node_in old) t s life) (sym told) stands);
         entries = [];
         reached = refl;
         along = λ t. record { later = still.later; since = still.since };
@@ -89,7 +89,7 @@ module _ {C K : Type 0} (k : Ghosts K)
   pub did : (old new : C) (s : Settings) (life : Life) (event : Event) (sealed : Sealed) (lines : Option (List ℕ))
       → stands_in old s life → is_start event ≡ starts_next life → k.has_stopped (node_in old).core.keeper ≡ false
       → DoneBy k (node_in old) (node_in new) event (items_of (node_in old).settings (log_of life) event) sealed
-      → AreLined s.me (told_in old) sealed.entries sealed.sends.list sealed.replies.sent lines (told_in new)
+      → AreLined s.me (last_sent_in old) sealed.entries sealed.sends.list sealed.replies.sent lines (last_sent_in new)
       → Does (holds_in old life) (entry_text s) s life event new sent_of (record { sealed = sealed; lines = lines })
   did old new s life event sealed lines r start runs done lined =
       let items = items_of (node_in old).settings (log_of life) event in
@@ -127,7 +127,7 @@ module _ {C K : Type 0} (k : Ghosts K)
   pub broke : (old new : C) (s : Settings) (life : Life) (event : Event) (told : Entries) (lines : Option (List ℕ))
       → stands_in old s life → is_start event ≡ starts_next life → k.has_stopped (node_in old).core.keeper ≡ false
       → Failed k (node_in old) (node_in new) event (items_of (node_in old).settings (log_of life) event) told
-      → AreLined s.me (told_in old) told [] [] lines (told_in new)
+      → AreLined s.me (last_sent_in old) told [] [] lines (last_sent_in new)
       → IsHalted (holds_in old life) (entry_text s) s life event new lines
   broke old new s life event told lines r start runs failed lined =
       let items = items_of (node_in old).settings (log_of life) event in

@@ -54,7 +54,7 @@ published_of (Lived life e) = published_of life
 -- what is kept of a life for later lines is right, or it is lost
 abbrev pub IsLastSent : Option LastSent → Life → Type 0
 IsLastSent None life = Unit {0}
-IsLastSent (Some told) life = (told.published ≡ published_of life) × (told.number ≡ last_frame_number life)
+IsLastSent (Some last_sent) life = (last_sent.published ≡ published_of life) × (last_sent.number ≡ last_frame_number life)
 
 -- what came to the node
 abbrev pub event_line : Event → List ℕ

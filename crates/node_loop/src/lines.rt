@@ -96,7 +96,7 @@ pub fn write_entry(
     text: &mut Text,
     alloc: Global,
     node: NodeId,
-    told: &mut LastSent,
+    last_sent: &mut LastSent,
     event: &Event,
     deeds: &[Deed],
     drops: &[MemberDrop],
@@ -104,14 +104,14 @@ pub fn write_entry(
     replies: &[Outgoing],
 ) -> Result<(), AllocError>
     ensures text { OnOk result
-        (text.new ≡ text.old ++ event_lines node told.old.published told.old.number event.now deeds.now drops.now frames.now replies.now) }
-    ensures published { OnOk result (told.new.published ≡ published_after told.old.published deeds.now) }
-    ensures number { OnOk result (told.new.number ≡ number_after told.old.number frames.now) }
+        (text.new ≡ text.old ++ event_lines node last_sent.old.published last_sent.old.number event.now deeds.now drops.now frames.now replies.now) }
+    ensures published { OnOk result (last_sent.new.published ≡ published_after last_sent.old.published deeds.now) }
+    ensures number { OnOk result (last_sent.new.number ≡ number_after last_sent.old.number frames.now) }
 {
     write_event_line(text, alloc, event)?;
-    write_deeds(text, alloc, node, &mut told.published, deeds)?;
+    write_deeds(text, alloc, node, &mut last_sent.published, deeds)?;
     write_drops(text, node, drops)?;
-    write_numbered(text, alloc, &mut told.number, frames)?;
+    write_numbered(text, alloc, &mut last_sent.number, frames)?;
     write_replies(text, alloc, node, replies)
 }
 

@@ -18,7 +18,7 @@ ghost use Rattle.node_loop.specs.Connections.{of_frames, of_lines, of_fault, mak
 ghost use Rattle.node_loop.specs.Feeds.{happenings_of, kept_frames, kept_at};
 ghost use Rattle.node_loop.specs.Happenings.{Comes, Faulty, Ends, Unread, Refused, Makes};
 ghost use Rattle.policy_model.specs.Entries.{Entry, Did, NoMemory, Unread as UnreadEntry};
-ghost use Rattle.node_loop.specs.Nodes.{HoldsBy};
+ghost use Rattle.node_loop.specs.Nodes.{EndsRightly, Handles, HoldsBy};
 ghost use Rattle.node_loop.specs.EventNodes.{Does, IsHalted, FailsTo, IsDiskError};
 ghost use Rattle.node_loop.specs.WritesAndSends.{WritesAndSends, HasCauses, IsUp, IsOpened, does_all, goes_on};
 
@@ -55,15 +55,11 @@ fn report_done<S: EventNode, L: Link<Out = S::Sealed>, O: Sink>(
     out: &mut O,
     done: Done<S::Sealed>,
 ) -> Option<End>
-    ensures tells { (old : S) (s : Settings) (life : Life) (event : _)
+    ensures says { (old : S) (s : Settings) (life : Life) (event : _)
         → Does (λ now s2 new. HoldsBy S.EventNode old now s2 life new) (S.text s) s life event inner.now S.output done
         → WritesAndSends S.output (S.text s) s life (Makes (Comes event) ∷ []) result (O.written out.old) (O.written out.new) (L.told link.old)
         (L.told link.new) (HoldsBy S.EventNode old inner.now s life) }
-    ensures within { does_all result ≡ goes_on result }
-    ensures stop { is_stop result ≡ false }
-    ensures causes { HasCauses result (S.faults inner.now) (S.faults inner.now) (O.faults out.old) (O.faults out.new) (L.faults link.old)
-        (L.faults link.new) }
-    ensures asked { L.asked link.new ≡ L.asked link.old }
+    ensures ends { EndsRightly S.EventNode L.Link O.Sink inner.now inner.now link.old link.new out.old out.new result }
 {
     let Done { sealed, lines } = done;
     let Some(lines) = lines else {
@@ -78,7 +74,7 @@ fn report_done<S: EventNode, L: Link<Out = S::Sealed>, O: Sink>(
 
 // Writes the lines of an event in which the disk failed.
 fn report_struck<S: EventNode, O: Sink>(inner: &S, out: &mut O, lines: Option<Text>) -> Option<End>
-    ensures tells { (old : S) (s : Settings) (life : Life) (event : _) (told : Option (List (Traffic S.Sealed)))
+    ensures says { (old : S) (s : Settings) (life : Life) (event : _) (told : Option (List (Traffic S.Sealed)))
         → IsHalted (λ now s2 new. HoldsBy S.EventNode old now s2 life new) (S.text s) s life event inner.now lines
         → WritesAndSends S.output (S.text s) s life (Makes (Comes event) ∷ []) result (O.written out.old) (O.written out.new) told told
         (HoldsBy S.EventNode old inner.now s life) }
@@ -99,7 +95,7 @@ fn report_struck<S: EventNode, O: Sink>(inner: &S, out: &mut O, lines: Option<Te
 
 // Writes that no memory was found.
 fn report_no_memory<S: EventNode, O: Sink>(inner: &S, out: &mut O) -> Option<End>
-    ensures tells { (s : Settings) (life : Life) (event : _) (told : Option (List (Traffic S.Sealed))) → IsUp life
+    ensures says { (s : Settings) (life : Life) (event : _) (told : Option (List (Traffic S.Sealed))) → IsUp life
         → S.stands_for inner.now s life
         → WritesAndSends S.output (S.text s) s life (Makes (Comes event) ∷ []) result (O.written out.old) (O.written out.new) told told
         (HoldsBy S.EventNode inner.now inner.now s life) }
@@ -127,14 +123,9 @@ fn do_event<S: EventNode, L: Link<Out = S::Sealed>, O: Sink>(
     event: Event,
 ) -> Option<End>
     requires fit { IsFitEvent event }
-    ensures tells { is_start event ≡ false → (s : Settings) (life : Life) → S.stands_for inner.old s life → IsUp life
-        → WritesAndSends S.output (S.text s) s life (Makes (Comes event) ∷ []) result (O.written out.old) (O.written out.new) (L.told link.old)
-        (L.told link.new) (HoldsBy S.EventNode inner.old inner.new s life) }
-    ensures within { does_all result ≡ goes_on result }
-    ensures stop { is_stop result ≡ false }
-    ensures causes { HasCauses result (S.faults inner.old) (S.faults inner.new) (O.faults out.old) (O.faults out.new) (L.faults link.old)
-        (L.faults link.new) }
-    ensures asked { L.asked link.new ≡ L.asked link.old }
+    ensures says { is_start event ≡ false → Handles S.EventNode L.Link O.Sink inner.old inner.new link.old link.new out.old out.new
+        ((Makes (Comes event) ∷ [])) result }
+    ensures ends { EndsRightly S.EventNode L.Link O.Sink inner.old inner.new link.old link.new out.old out.new result }
 {
     match inner.step(alloc, event) {
         Ok(done) => report_done(inner, link, out, done),
@@ -144,7 +135,7 @@ fn do_event<S: EventNode, L: Link<Out = S::Sealed>, O: Sink>(
 
 // Writes what there is to say of an event that was not done to its end.
 fn report_error<S: EventNode, O: Sink>(inner: &S, out: &mut O, error: NotDone) -> Option<End>
-    ensures tells { (old : S) (s : Settings) (life : Life) (event : _) (told : Option (List (Traffic S.Sealed))) → IsUp life
+    ensures says { (old : S) (s : Settings) (life : Life) (event : _) (told : Option (List (Traffic S.Sealed))) → IsUp life
         → FailsTo (λ now s2 new. HoldsBy S.EventNode old now s2 life new) (S.text s) s life event inner.now error
         → WritesAndSends S.output (S.text s) s life (Makes (Comes event) ∷ []) result (O.written out.old) (O.written out.new) told told
         (HoldsBy S.EventNode old inner.now s life) }
@@ -171,14 +162,9 @@ fn report_gone<S: EventNode, L: Link<Out = S::Sealed>, O: Sink>(
     out: &mut O,
     conn: u64,
 ) -> Option<End>
-    ensures tells { (s : Settings) (life : Life) → S.stands_for inner.now s life → IsUp life
-        → WritesAndSends S.output (S.text s) s life (Makes (Ends conn) ∷ []) result (O.written out.old) (O.written out.new) (L.told link.old)
-        (L.told link.new) (HoldsBy S.EventNode inner.now inner.now s life) }
-    ensures within { does_all result ≡ goes_on result }
-    ensures stop { is_stop result ≡ false }
-    ensures causes { HasCauses result (S.faults inner.now) (S.faults inner.now) (O.faults out.old) (O.faults out.new) (L.faults link.old)
-        (L.faults link.new) }
-    ensures asked { L.asked link.new ≡ L.asked link.old }
+    ensures says { Handles S.EventNode L.Link O.Sink inner.now inner.now link.old link.new out.old out.new
+        ((Makes (Ends conn) ∷ [])) result }
+    ensures ends { EndsRightly S.EventNode L.Link O.Sink inner.now inner.now link.old link.new out.old out.new result }
 {
     let Ok(line) = inner.gone_line(alloc, conn) else {
         return Some(End::Memory);
@@ -198,14 +184,9 @@ fn report_bad<S: EventNode, L: Link<Out = S::Sealed>, O: Sink>(
     conn: u64,
     fault: FrameError,
 ) -> Option<End>
-    ensures tells { (s : Settings) (life : Life) → S.stands_for inner.now s life → IsUp life
-        → WritesAndSends S.output (S.text s) s life (Makes (Faulty conn fault) ∷ []) result (O.written out.old) (O.written out.new) (L.told link.old)
-        (L.told link.new) (HoldsBy S.EventNode inner.now inner.now s life) }
-    ensures within { does_all result ≡ goes_on result }
-    ensures stop { is_stop result ≡ false }
-    ensures causes { HasCauses result (S.faults inner.now) (S.faults inner.now) (O.faults out.old) (O.faults out.new) (L.faults link.old)
-        (L.faults link.new) }
-    ensures asked { L.asked link.new ≡ L.asked link.old }
+    ensures says { Handles S.EventNode L.Link O.Sink inner.now inner.now link.old link.new out.old out.new
+        ((Makes (Faulty conn fault) ∷ [])) result }
+    ensures ends { EndsRightly S.EventNode L.Link O.Sink inner.now inner.now link.old link.new out.old out.new result }
 {
     let Ok(line) = inner.bad_line(alloc, conn, fault) else {
         return Some(End::Memory);
@@ -224,14 +205,9 @@ fn report_unread<S: EventNode, L: Link<Out = S::Sealed>, O: Sink>(
     out: &mut O,
     conn: u64,
 ) -> Option<End>
-    ensures tells { (s : Settings) (life : Life) → S.stands_for inner.now s life → IsUp life
-        → WritesAndSends S.output (S.text s) s life (Makes (Unread conn) ∷ []) result (O.written out.old) (O.written out.new) (L.told link.old)
-        (L.told link.new) (HoldsBy S.EventNode inner.now inner.now s life) }
-    ensures within { does_all result ≡ goes_on result }
-    ensures stop { is_stop result ≡ false }
-    ensures causes { HasCauses result (S.faults inner.now) (S.faults inner.now) (O.faults out.old) (O.faults out.new) (L.faults link.old)
-        (L.faults link.new) }
-    ensures asked { L.asked link.new ≡ L.asked link.old }
+    ensures says { Handles S.EventNode L.Link O.Sink inner.now inner.now link.old link.new out.old out.new
+        ((Makes (Unread conn) ∷ [])) result }
+    ensures ends { EndsRightly S.EventNode L.Link O.Sink inner.now inner.now link.old link.new out.old out.new result }
 {
     let Ok(()) = write_all(out, inner.no_memory_line()) else {
         return Some(End::Write);
@@ -248,14 +224,9 @@ fn do_frame<S: EventNode, L: Link<Out = S::Sealed>, O: Sink>(
     out: &mut O,
     frame: FrameView<'_>,
 ) -> Option<End>
-    ensures tells { (s : Settings) (life : Life) → S.stands_for inner.old s life → IsUp life
-        → WritesAndSends S.output (S.text s) s life (Makes (Comes (FrameCame (shown frame.entry))) ∷ []) result (O.written out.old)
-        (O.written out.new) (L.told link.old) (L.told link.new) (HoldsBy S.EventNode inner.old inner.new s life) }
-    ensures within { does_all result ≡ goes_on result }
-    ensures stop { is_stop result ≡ false }
-    ensures causes { HasCauses result (S.faults inner.old) (S.faults inner.new) (O.faults out.old) (O.faults out.new) (L.faults link.old)
-        (L.faults link.new) }
-    ensures asked { L.asked link.new ≡ L.asked link.old }
+    ensures says { Handles S.EventNode L.Link O.Sink inner.old inner.new link.old link.new out.old out.new
+        ((Makes (Comes (FrameCame (shown frame.entry))) ∷ [])) result }
+    ensures ends { EndsRightly S.EventNode L.Link O.Sink inner.old inner.new link.old link.new out.old out.new result }
 {
     match frame.frame(alloc) {
         Ok(frame) => do_event(inner, alloc, link, out, Event::Frame(frame)),
@@ -271,15 +242,10 @@ fn do_frames<S: EventNode, L: Link<Out = S::Sealed>, O: Sink>(
     out: &mut O,
     reader: &mut FrameReader,
 ) -> Option<End>
-    ensures tells { (s : Settings) (life : Life) → S.stands_for inner.old s life → IsUp life
-        → WritesAndSends S.output (S.text s) s life (makes (of_frames reader.old.frames)) result (O.written out.old) (O.written out.new)
-        (L.told link.old) (L.told link.new) (HoldsBy S.EventNode inner.old inner.new s life) }
+    ensures says { Handles S.EventNode L.Link O.Sink inner.old inner.new link.old link.new out.old out.new
+        (makes (of_frames reader.old.frames)) result }
     ensures left { reader.new.ending ≡ reader.old.ending }
-    ensures within { does_all result ≡ goes_on result }
-    ensures stop { is_stop result ≡ false }
-    ensures causes { HasCauses result (S.faults inner.old) (S.faults inner.new) (O.faults out.old) (O.faults out.new) (L.faults link.old)
-        (L.faults link.new) }
-    ensures asked { L.asked link.new ≡ L.asked link.old }
+    ensures ends { EndsRightly S.EventNode L.Link O.Sink inner.old inner.new link.old link.new out.old out.new result }
 {
     'frames: loop {
         match reader.next() {
@@ -303,14 +269,9 @@ fn do_lines<S: EventNode, L: Link<Out = S::Sealed>, O: Sink>(
     conn: u64,
     lines: Vec<Line>,
 ) -> Option<End>
-    ensures tells { (s : Settings) (life : Life) → S.stands_for inner.old s life → IsUp life
-        → WritesAndSends S.output (S.text s) s life (makes (of_lines conn lines.items)) result (O.written out.old) (O.written out.new)
-        (L.told link.old) (L.told link.new) (HoldsBy S.EventNode inner.old inner.new s life) }
-    ensures within { does_all result ≡ goes_on result }
-    ensures stop { is_stop result ≡ false }
-    ensures causes { HasCauses result (S.faults inner.old) (S.faults inner.new) (O.faults out.old) (O.faults out.new) (L.faults link.old)
-        (L.faults link.new) }
-    ensures asked { L.asked link.new ≡ L.asked link.old }
+    ensures says { Handles S.EventNode L.Link O.Sink inner.old inner.new link.old link.new out.old out.new
+        (makes (of_lines conn lines.items)) result }
+    ensures ends { EndsRightly S.EventNode L.Link O.Sink inner.old inner.new link.old link.new out.old out.new result }
 {
     for line in lines {
         if let Some(end) = do_event(inner, alloc, link, out, Event::Client { conn, line }) {
@@ -331,15 +292,10 @@ fn take_frames<S: EventNode, L: Link<Out = S::Sealed>, O: Sink>(
     reader: FrameReader,
 ) -> Option<End>
     requires { conn < length connections.old }
-    ensures tells { (s : Settings) (life : Life) → S.stands_for inner.old s life → IsUp life
-        → WritesAndSends S.output (S.text s) s life (makes (of_frames reader.frames ++ of_fault conn (fault_in reader.ending))) result
-        (O.written out.old) (O.written out.new) (L.told link.old) (L.told link.new) (HoldsBy S.EventNode inner.old inner.new s life) }
+    ensures says { Handles S.EventNode L.Link O.Sink inner.old inner.new link.old link.new out.old out.new
+        (makes (of_frames reader.frames ++ of_fault conn (fault_in reader.ending))) result }
     ensures kept { connections.new ≡ slice_set connections.old conn (kept_frames reader.ending) }
-    ensures within { does_all result ≡ goes_on result }
-    ensures stop { is_stop result ≡ false }
-    ensures causes { HasCauses result (S.faults inner.old) (S.faults inner.new) (O.faults out.old) (O.faults out.new) (L.faults link.old)
-        (L.faults link.new) }
-    ensures asked { L.asked link.new ≡ L.asked link.old }
+    ensures ends { EndsRightly S.EventNode L.Link O.Sink inner.old inner.new link.old link.new out.old out.new result }
 {
     let mut reader = reader;
     let end = do_frames(inner, alloc, link, out, &mut reader);
@@ -359,14 +315,9 @@ fn report_fault<S: EventNode, L: Link<Out = S::Sealed>, O: Sink>(
     conn: u64,
     fault: Option<FrameError>,
 ) -> Option<End>
-    ensures tells { (s : Settings) (life : Life) → S.stands_for inner.now s life → IsUp life
-        → WritesAndSends S.output (S.text s) s life (makes (of_fault conn fault)) result (O.written out.old) (O.written out.new) (L.told link.old)
-        (L.told link.new) (HoldsBy S.EventNode inner.now inner.now s life) }
-    ensures within { does_all result ≡ goes_on result }
-    ensures stop { is_stop result ≡ false }
-    ensures causes { HasCauses result (S.faults inner.now) (S.faults inner.now) (O.faults out.old) (O.faults out.new) (L.faults link.old)
-        (L.faults link.new) }
-    ensures asked { L.asked link.new ≡ L.asked link.old }
+    ensures says { Handles S.EventNode L.Link O.Sink inner.now inner.now link.old link.new out.old out.new
+        (makes (of_fault conn fault)) result }
+    ensures ends { EndsRightly S.EventNode L.Link O.Sink inner.now inner.now link.old link.new out.old out.new result }
 {
     match fault {
         Some(fault) => report_bad(inner, alloc, link, out, conn, fault),
@@ -385,15 +336,10 @@ fn take_came<S: EventNode, L: Link<Out = S::Sealed>, O: Sink>(
     came: Came,
 ) -> Option<End>
     requires { conn < length connections.old }
-    ensures tells { (s : Settings) (life : Life) → S.stands_for inner.old s life → IsUp life
-        → WritesAndSends S.output (S.text s) s life (makes (happenings_of conn came)) result (O.written out.old) (O.written out.new)
-        (L.told link.old) (L.told link.new) (HoldsBy S.EventNode inner.old inner.new s life) }
+    ensures says { Handles S.EventNode L.Link O.Sink inner.old inner.new link.old link.new out.old out.new
+        (makes (happenings_of conn came)) result }
     ensures kept { connections.new ≡ kept_at connections.old conn came }
-    ensures within { does_all result ≡ goes_on result }
-    ensures stop { is_stop result ≡ false }
-    ensures causes { HasCauses result (S.faults inner.old) (S.faults inner.new) (O.faults out.old) (O.faults out.new) (L.faults link.old)
-        (L.faults link.new) }
-    ensures asked { L.asked link.new ≡ L.asked link.old }
+    ensures ends { EndsRightly S.EventNode L.Link O.Sink inner.old inner.new link.old link.new out.old out.new result }
 {
     match came {
         Came::Nothing => None,
@@ -418,11 +364,7 @@ fn take_bytes<S: EventNode, L: Link<Out = S::Sealed>, O: Sink>(
         → Reads connections.old intakes
         → TakesIn S.output (S.text s) s life intakes result (O.written out.old) (O.written out.new) (L.told link.old) (L.told link.new)
         (HoldsBy S.EventNode inner.old inner.new s life) connections.new (BytesCame conn bytes.now) }
-    ensures causes { HasCauses result (S.faults inner.old) (S.faults inner.new) (O.faults out.old) (O.faults out.new) (L.faults link.old)
-        (L.faults link.new) }
-    ensures asked { L.asked link.new ≡ L.asked link.old }
-    ensures within { does_all result ≡ goes_on result }
-    ensures stop { is_stop result ≡ false }
+    ensures ends { EndsRightly S.EventNode L.Link O.Sink inner.old inner.new link.old link.new out.old out.new result }
 {
     match feed_at(connections, alloc, conn, bytes) {
         Ok(came) => take_came(inner, connections, alloc, link, out, conn, came),
@@ -445,11 +387,7 @@ fn take_closed<S: EventNode, L: Link<Out = S::Sealed>, O: Sink>(
         → Reads connections.old intakes
         → TakesIn S.output (S.text s) s life intakes result (O.written out.old) (O.written out.new) (L.told link.old) (L.told link.new)
         (HoldsBy S.EventNode inner.old inner.new s life) connections.new (ConnectionClosed conn) }
-    ensures causes { HasCauses result (S.faults inner.old) (S.faults inner.new) (O.faults out.old) (O.faults out.new) (L.faults link.old)
-        (L.faults link.new) }
-    ensures asked { L.asked link.new ≡ L.asked link.old }
-    ensures within { does_all result ≡ goes_on result }
-    ensures stop { is_stop result ≡ false }
+    ensures ends { EndsRightly S.EventNode L.Link O.Sink inner.old inner.new link.old link.new out.old out.new result }
 {
     close_at(connections, conn);
     report_gone(inner, alloc, link, out, conn)
@@ -550,14 +488,10 @@ fn start<S: EventNode, L: Link<Out = S::Sealed>, O: Sink>(
     link: &mut L,
     out: &mut O,
 ) -> Option<End>
-    ensures tells { (s : Settings) (life : Life) → S.stands_for inner.old s life → IsOpened life
+    ensures says { (s : Settings) (life : Life) → S.stands_for inner.old s life → IsOpened life
         → WritesAndSends S.output (S.text s) s life (Makes (Comes Start) ∷ []) result (O.written out.old) (O.written out.new) (L.told link.old)
         (L.told link.new) (HoldsBy S.EventNode inner.old inner.new s life) }
-    ensures within { does_all result ≡ goes_on result }
-    ensures stop { is_stop result ≡ false }
-    ensures causes { HasCauses result (S.faults inner.old) (S.faults inner.new) (O.faults out.old) (O.faults out.new) (L.faults link.old)
-        (L.faults link.new) }
-    ensures asked { L.asked link.new ≡ L.asked link.old }
+    ensures ends { EndsRightly S.EventNode L.Link O.Sink inner.old inner.new link.old link.new out.old out.new result }
 {
     match inner.step(alloc, Event::Start) {
         Ok(done) => report_done(inner, link, out, done),
@@ -567,7 +501,7 @@ fn start<S: EventNode, L: Link<Out = S::Sealed>, O: Sink>(
 
 // Writes what there is to say of a start that was not done to its end.
 fn report_unstarted<S: EventNode, O: Sink>(inner: &S, out: &mut O, error: NotDone) -> Option<End>
-    ensures tells { (old : S) (s : Settings) (life : Life) (told : Option (List (Traffic S.Sealed))) → IsOpened life
+    ensures says { (old : S) (s : Settings) (life : Life) (told : Option (List (Traffic S.Sealed))) → IsOpened life
         → FailsTo (λ now s2 new. HoldsBy S.EventNode old now s2 life new) (S.text s) s life Start inner.now error
         → WritesAndSends S.output (S.text s) s life (Makes (Comes Start) ∷ []) result (O.written out.old) (O.written out.new) told told
         (HoldsBy S.EventNode old inner.now s life) }

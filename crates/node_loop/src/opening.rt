@@ -36,7 +36,7 @@ impl<D: Disks> Node<Reporter<StateJournal<D>>> {
     pub fn open(alloc: Global, settings: Settings, disk: D) -> Result<JournalNode<D>, OpenError<D>>
         ensures stands { IfOk result
             (λ node. (life : Life) → ContinuesUnlessFirst (acts_of (log_of life)) (Open node.inner.node.core.keeper.kept)
-            → Reports ⟦<StateJournal<D> as Keeper>⟧ node.inner.node node.inner.told settings
+            → Reports ⟦<StateJournal<D> as Keeper>⟧ node.inner.node node.inner.last_sent settings
             (Opened life node.inner.node.core.keeper.kept)) }
         ensures found { D.told → IfOk result (λ node. found_of (D.seen disk) ≡ Ok node.inner.node.core.keeper.kept) }
         ensures reads { IfOk result (λ node. Reads node.connections.items NoIntakes) }
@@ -82,7 +82,7 @@ impl<D: Disks> Node<Reporter<StateJournal<D>>> {
         out: &mut O,
         turns: u64,
     ) -> (D, End)
-        ensures serves { (s : SettingsOf) (life : Life) → Reports ⟦<StateJournal<D> as Keeper>⟧ self.inner.node self.inner.told s life
+        ensures serves { (s : SettingsOf) (life : Life) → Reports ⟦<StateJournal<D> as Keeper>⟧ self.inner.node self.inner.last_sent s life
             → IsOpened life → Reads self.connections.items NoIntakes
             → Serves sent_of (entry_text s) s life result.1 (O.written out.old) (O.written out.new) (L.told link.old) (L.told link.new)
             (HoldsOn D.Disks self.inner.node.core.keeper.log.disk result.0 s life) (L.asked link.old) (L.asked link.new) turns

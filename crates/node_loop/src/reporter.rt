@@ -26,7 +26,7 @@ pub struct Reporter<K: Keeper> {
     me: NodeId,
     node: Coordinator<K>,
     // None once memory was lacking for the lines of an event: then there are none for later ones.
-    told: Option<LastSent>,
+    last_sent: Option<LastSent>,
     ghost ready: { IsReady node },
     ghost own: { me ≡ node.settings.me },
 }
@@ -37,12 +37,12 @@ impl<K: Keeper> Reporter<K> {
         requires { K.has_stopped keeper ≡ false }
         ensures keeper { result.node.core.keeper ≡ keeper }
         ensures stands { (life : Life) → ContinuesUnlessFirst (acts_of (log_of life)) (Open (K.record_of keeper))
-            → Reports K.Keeper result.node result.told settings (Opened life (K.record_of keeper)) }
+            → Reports K.Keeper result.node result.last_sent settings (Opened life (K.record_of keeper)) }
     {
         Reporter {
             me: settings.me,
             node: Coordinator::open(alloc, settings, keeper),
-            told: Some(LastSent {
+            last_sent: Some(LastSent {
                 published: None,
                 number: 0,
             }),
@@ -63,7 +63,7 @@ impl<K: Keeper> Reporter<K> {
         let Reporter {
             me: _,
             node,
-            told: _,
+            last_sent: _,
         } = self;
         node.into_keeper()
     }
@@ -71,16 +71,16 @@ impl<K: Keeper> Reporter<K> {
 
 // The lines of an event; what later ones need is kept.
 fn report(
-    told: &mut Option<LastSent>,
+    last_sent: &mut Option<LastSent>,
     alloc: Global,
     node: NodeId,
     entries: &Entries,
     frames: &[Frame],
     replies: &[Outgoing],
 ) -> Option<Text>
-    ensures { AreLined node told.old entries.now frames.now replies.now result told.new }
+    ensures { AreLined node last_sent.old entries.now frames.now replies.now result last_sent.new }
 {
-    let Some(kept) = mem::replace(told, None) else {
+    let Some(kept) = mem::replace(last_sent, None) else {
         return None;
     };
     let mut kept = kept;
@@ -98,7 +98,7 @@ fn report(
     ) else {
         return None;
     };
-    *told = Some(kept);
+    *last_sent = Some(kept);
     Some(text)
 }
 
@@ -108,7 +108,7 @@ impl<K: Keeper> EventNode for Reporter<K> {
 
     type Sealed = Sealed;
 
-    ghost stands_for = { λ r s life. Reports K.Keeper r.node r.told s life };
+    ghost stands_for = { λ r s life. Reports K.Keeper r.node r.last_sent s life };
 
     ghost faults = { λ r. K.faults r.node.core.keeper };
 
@@ -124,13 +124,13 @@ impl<K: Keeper> EventNode for Reporter<K> {
 
     ghost opening = { opening_text };
 
-    ghost idle = { λ r s life entry is stands. reports_idle _ r.node r.told s life entry is stands };
+    ghost idle = { λ r s life entry is stands. reports_idle _ r.node r.last_sent s life entry is stands };
 
     fn step(&mut self, alloc: Global, event: Event) -> Result<Done<Sealed>, NotDone> {
         match self.node.step(alloc, event) {
             Ok(sealed) => {
                 let lines = report(
-                    &mut self.told,
+                    &mut self.last_sent,
                     alloc,
                     self.me,
                     sealed.entries(),
@@ -140,7 +140,7 @@ impl<K: Keeper> EventNode for Reporter<K> {
                 Ok(Done { sealed, lines })
             }
             Err(coordinator::StepError::Disk(entries)) => Err(NotDone::Disk(report(
-                &mut self.told,
+                &mut self.last_sent,
                 alloc,
                 self.me,
                 &entries,

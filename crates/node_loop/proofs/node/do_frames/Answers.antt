@@ -22,8 +22,8 @@ frames-init g c = record {
   asked = refl;
 }
 
-pub returns-in-Some-clause-tells : goal.returns-in-Some-clause-tells
-returns-in-Some-clause-tells g c s life stands up =
+pub returns-in-Some-clause-says : goal.returns-in-Some-clause-says
+returns-in-Some-clause-says g c s life stands up =
     let at = c.frames in
     let x = shown c.in-Some-Ok.frame in
     let next : Some (Ok x) ≡ next_of at.reader = rw c.in-Some-Ok.field-0-is at c.in-Some-Ok.ensures.given in
@@ -34,9 +34,9 @@ returns-in-Some-clause-tells g c s life stands up =
     (g.L.Link.told c.do_frame.new.link)
     (HoldsBy g.S.EventNode c.args.inner.now at.inner s life)
     (HoldsBy g.S.EventNode c.args.inner.now c.do_frame.new.inner s life)
-    whole c.in-Some.ensures.within (at.invariant.tells s life stands up)
+    whole c.in-Some.ensures.ends.within (at.invariant.tells s life stands up)
     (λ mid lives on. carried g.S.EventNode s g.S.EventNode.output (g.S.EventNode.text s)
-    c.args.inner.now at.inner c.do_frame.new.inner life mid _ _ _ _ _ _ lives (c.in-Some.ensures.tells s mid lives.stands on))
+    c.args.inner.now at.inner c.do_frame.new.inner life mid _ _ _ _ _ _ lives (c.in-Some.ensures.says s mid lives.stands on))
 
 pub frames-smaller : goal.frames-smaller
 frames-smaller g c =
@@ -61,7 +61,7 @@ frames-preserved g c =
           _ _ _ _ _ _ (HoldsBy g.S.EventNode c.args.inner.now at.inner s life) (HoldsBy g.S.EventNode c.args.inner.now c.do_frame.new.inner s life)
           (at.invariant.tells s life stands up)
           (λ mid lives on. carried g.S.EventNode s g.S.EventNode.output (g.S.EventNode.text s)
-          c.args.inner.now at.inner c.do_frame.new.inner life mid _ _ _ _ _ _ lives (c.in_default.ensures.tells s mid lives.stands on));
-      causes = causes_more None _ _ _ _ _ _ _ _ _ at.invariant.causes c.in_default.ensures.causes;
-      asked = c.do_frame.ensures.asked ∙ at.invariant.asked;
+          c.args.inner.now at.inner c.do_frame.new.inner life mid _ _ _ _ _ _ lives (c.in_default.ensures.says s mid lives.stands on));
+      causes = causes_more None _ _ _ _ _ _ _ _ _ at.invariant.causes c.in_default.ensures.ends.causes;
+      asked = c.do_frame.ensures.ends.asked ∙ at.invariant.asked;
     }

@@ -21,8 +21,8 @@ loop-line-init g c =
       asked = refl;
     }
 
-pub returns-in-Some-do_event-clause-tells : goal.returns-in-Some-do_event-clause-tells
-returns-in-Some-do_event-clause-tells g c s life stands up =
+pub returns-in-Some-do_event-clause-says : goal.returns-in-Some-do_event-clause-says
+returns-in-Some-do_event-clause-says g c s life stands up =
     let at = c.loop-line in
     let x = c.in-Some.line in
     let inner : into_iter_items at.line-iterator ≡ x ∷ into_iter_items c.next.new.self = c.in-Some.ensures.does.0 in
@@ -33,9 +33,9 @@ returns-in-Some-do_event-clause-tells g c s life stands up =
     (g.L.Link.told c.do_event.new.link)
     (HoldsBy g.S.EventNode c.args.inner.now at.inner s life)
     (HoldsBy g.S.EventNode c.args.inner.now c.do_event.new.inner s life)
-    whole c.in-Some-do_event.ensures.within (at.invariant.tells s life stands up)
+    whole c.in-Some-do_event.ensures.ends.within (at.invariant.tells s life stands up)
     (λ mid lives on. carried g.S.EventNode s g.S.EventNode.output (g.S.EventNode.text s)
-    c.args.inner.now at.inner c.do_event.new.inner life mid _ _ _ _ _ _ lives (c.in-Some-do_event.ensures.tells refl s mid lives.stands on))
+    c.args.inner.now at.inner c.do_event.new.inner life mid _ _ _ _ _ _ lives (c.in-Some-do_event.ensures.says refl s mid lives.stands on))
 
 pub loop-line-preserved : goal.loop-line-preserved
 loop-line-preserved g c =
@@ -52,7 +52,7 @@ loop-line-preserved g c =
           _ _ _ _ _ _ (HoldsBy g.S.EventNode c.args.inner.now at.inner s life) (HoldsBy g.S.EventNode c.args.inner.now c.do_event.new.inner s life)
           (at.invariant.tells s life stands up)
           (λ mid lives on. carried g.S.EventNode s g.S.EventNode.output (g.S.EventNode.text s)
-          c.args.inner.now at.inner c.do_event.new.inner life mid _ _ _ _ _ _ lives (c.in_default.ensures.tells refl s mid lives.stands on));
-      causes = causes_more None _ _ _ _ _ _ _ _ _ at.invariant.causes c.in_default.ensures.causes;
-      asked = c.do_event.ensures.asked ∙ at.invariant.asked;
+          c.args.inner.now at.inner c.do_event.new.inner life mid _ _ _ _ _ _ lives (c.in_default.ensures.says refl s mid lives.stands on));
+      causes = causes_more None _ _ _ _ _ _ _ _ _ at.invariant.causes c.in_default.ensures.ends.causes;
+      asked = c.do_event.ensures.ends.asked ∙ at.invariant.asked;
     }

@@ -6,7 +6,7 @@ use Rattle.node_loop.proofs.Telling.{stops}
 use Rattle.node_loop.specs.Nodes.{HoldsBy}
 use Rattle.node_loop.proofs.node.report_unstarted.Goals as goal
 
-pub returns-in-Memory-clause-tells : goal.returns-in-Memory-clause-tells
-returns-in-Memory-clause-tells g c old s life told opened fails =
+pub returns-in-Memory-clause-says : goal.returns-in-Memory-clause-says
+returns-in-Memory-clause-says g c old s life told opened fails =
     stops g.S.EventNode.output (g.S.EventNode.text s) s life (Comes Start ∷ []) ends.Memory (g.O.Sink.written c.args.out.now) told (HoldsBy g.S.EventNode old c.args.inner.now s life) refl refl (λ is. absurd cc)
     (rw c.in-Memory.is at fails)

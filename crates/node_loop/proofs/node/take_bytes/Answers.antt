@@ -15,7 +15,7 @@ returns-in-Ok-clause-takes g c s life intakes stands up reads =
       is = refl;
       tells = subst
           (λ h. WritesAndSends g.S.EventNode.output (g.S.EventNode.text s) s life (makes h) c.take_came.result (g.O.Sink.written c.args.out.now) (g.O.Sink.written c.take_came.new.out) (g.L.Link.told c.args.link.now) (g.L.Link.told c.take_came.new.link) (HoldsBy g.S.EventNode c.args.inner.now c.take_came.new.inner s life))
-          fed.0 (c.take_came.ensures.tells s life stands up);
+          fed.0 (c.take_came.ensures.says s life stands up);
       reads = fed.1;
     }
 
@@ -23,6 +23,6 @@ pub returns-in-Err-clause-takes : goal.returns-in-Err-clause-takes
 returns-in-Err-clause-takes g c s life intakes stands up reads = record {
   intake = Unread c.args.conn c.args.bytes.now;
   is = refl;
-  tells = c.report_unread.ensures.tells s life stands up;
+  tells = c.report_unread.ensures.says s life stands up;
   reads = unread_reads c.args.connections.now c.feed_at.new.connections c.args.conn c.args.bytes.now intakes c.requires.all reads c.in-Err.ensures.err;
 }

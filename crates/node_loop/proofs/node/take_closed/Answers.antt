@@ -8,6 +8,6 @@ pub returns-clause-takes : goal.returns-clause-takes
 returns-clause-takes g c s life intakes stands up reads = record {
   intake = Read (Closed c.args.conn);
   is = refl;
-  tells = c.report_gone.ensures.tells s life stands up;
+  tells = c.report_gone.ensures.says s life stands up;
   reads = closed_reads c.args.connections.now c.close_at.new.connections c.args.conn intakes c.requires.all reads c.close_at.ensures;
 }

@@ -11,7 +11,7 @@ pub returns-in-Tick-clause-takes : goal.returns-in-Tick-clause-takes
 returns-in-Tick-clause-takes g c s life intakes stands up reads = rw c.in-Tick.is (record {
   intake = Read (Tick c.in-Tick.now c.in-Tick.word);
   is = refl;
-  tells = c.do_event.ensures.tells refl s life stands up;
+  tells = c.do_event.ensures.says refl s life stands up;
   reads = λ conn low. reads conn low;
 })
 
