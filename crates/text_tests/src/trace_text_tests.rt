@@ -273,7 +273,11 @@ fn write_publication(text: &mut Text, alloc: Global, part: Publication) -> Resul
         Publication::Publish => write_request(text, alloc),
         Publication::Response(to) => write_response(text, &response(to)),
         Publication::Commit => write_commit(text, &commit()),
-        Publication::Committed => write_committed(text, alloc, &initial(alloc)),
+        Publication::Committed => write_committed(
+            text,
+            alloc,
+            &SharedState::of(alloc, initial(alloc))?,
+        ),
         Publication::PublishMessage => write_request_message(text, alloc),
         Publication::ResponseMessage(to) => write_response_message(text, 2, &response(to)),
         Publication::CommitMessage => write_commit_message(text, 3, &commit()),

@@ -6,8 +6,8 @@ ghost use Rattle.trace_text.specs.Trace.{act_text, ending_text, id_text, state_t
 
 use crate::{Ending, write_ending};
 use cluster_state::{
-    ApplyCommit, ClusterState, ClusterValue, Join, PublishRequest, PublishResponse, to_json,
-    value_to_json,
+    ApplyCommit, ClusterState, ClusterValue, Join, PublishRequest, PublishResponse, SharedState,
+    to_json, value_to_json,
 };
 use std::alloc::{AllocError, Global};
 use text::Text;
@@ -21,16 +21,25 @@ pub fn write_state_id(text: &mut Text, term: u64, version: u64) -> Result<(), Al
     text.number(version)
 }
 
-/// Writes a state as JSON.
-pub fn write_state_json(
-    text: &mut Text,
-    alloc: Global,
-    state: &ClusterState,
-) -> Result<(), AllocError>
+fn write_json_made(text: &mut Text, alloc: Global, state: &ClusterState) -> Result<(), AllocError>
     ensures { OnOk result (text.new ≡ text.old ++ state_text state.now) }
 {
     let json = to_json(alloc, state)?;
     text.bytes(json.as_slice())
+}
+
+/// Writes a state as JSON: a copy of what lies beside it, where that is known.
+pub fn write_state_json(
+    text: &mut Text,
+    alloc: Global,
+    state: &SharedState,
+) -> Result<(), AllocError>
+    ensures { OnOk result (text.new ≡ text.old ++ state_text state.now) }
+{
+    match state.json() {
+        None => write_json_made(text, alloc, state),
+        Some(json) => text.bytes(json),
+    }
 }
 
 /// Writes the first part of an act's line: `act`, the node, and how the act ended.
@@ -107,11 +116,12 @@ pub fn write_publish(
 ) -> Result<(), AllocError>
     ensures { OnOk result (text.new ≡ text.old ++ act_text (act.Publish request.now)) }
 {
-    let json = to_json(alloc, &request.state)?;
-    write_publish_shown(text, &request.source, &request.state, json.as_slice())
+    text.word("publish ")?;
+    text.id_and(&request.source, b' ')?;
+    write_state_json(text, alloc, &request.state)
 }
 
-/// Writes what `write_publish` does, where the JSON of the state was made before.
+/// Writes what `write_publish` does, where the JSON of the state is at hand.
 pub fn write_publish_shown(
     text: &mut Text,
     source: &NodeId,

@@ -3,8 +3,8 @@ ghost use Rattle.std.specs.Prelude.{◌≡◌, ◌++◌, OnOk, Some, codes, deci
 ghost use Rattle.world_model.specs.declared.acts.Message.TheVariants as message;
 ghost use Rattle.trace_text.specs.Trace.{message_line, message_text, state_text, won_text, committed_text};
 
-use crate::acts::write_state_id;
-use cluster_state::{ApplyCommit, ClusterState, Join, PublishResponse, to_json};
+use crate::acts::{write_state_id, write_state_json};
+use cluster_state::{ApplyCommit, ClusterState, Join, PublishResponse, SharedState};
 use std::alloc::{AllocError, Global};
 use text::Text;
 use voting_config::NodeId;
@@ -25,15 +25,16 @@ pub fn write_won(text: &mut Text, won: bool, node: NodeId, term: u64) -> Result<
 pub fn write_committed(
     text: &mut Text,
     alloc: Global,
-    state: &ClusterState,
+    state: &SharedState,
 ) -> Result<(), AllocError>
     ensures { OnOk result (text.new ≡ text.old ++ committed_text (Some state.now)) }
 {
-    let json = to_json(alloc, state)?;
-    write_committed_shown(text, state, json.as_slice())
+    text.word("committed ")?;
+    write_state_json(text, alloc, state)?;
+    text.word("\n")
 }
 
-/// Writes what `write_committed` does, where the JSON of the state was made before.
+/// Writes what `write_committed` does, where the JSON of the state is at hand.
 pub fn write_committed_shown(
     text: &mut Text,
     state: &ClusterState,
