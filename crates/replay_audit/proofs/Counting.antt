@@ -21,7 +21,7 @@ use Rattle.line_laws.proofs.Traces.{entries_in}
 -- ---- counts of lines
 
 abbrev pub plus : Counts → Counts → Counts
-plus c d = record { steps = c.steps + d.moves; acts = c.acts + d.acts; refused = c.refused + d.refused; won = c.won + d.won; committed = c.committed + d.committed; crashes = c.crashes + d.crashes }
+plus c d = record { steps = c.steps + d.steps; acts = c.acts + d.acts; refused = c.refused + d.refused; won = c.won + d.won; committed = c.committed + d.committed; crashes = c.crashes + d.crashes }
 
 -- what a line counts for, by its words
 abbrev pub counted : List (List ℕ) → Counts
@@ -63,7 +63,7 @@ plus_end c = λ i. record { steps = none c.steps i; acts = none c.acts i; refuse
 
 pub plus_assoc : (b c d : Counts) → plus (plus b c) d ≡ plus b (plus c d)
 plus_assoc b c d = λ i. record {
-  steps = assoc b.moves c.steps d.moves i;
+  steps = assoc b.steps c.steps d.steps i;
   acts = assoc b.acts c.acts d.acts i;
   refused = assoc b.refused c.refused d.refused i;
   won = assoc b.won c.won d.won i;

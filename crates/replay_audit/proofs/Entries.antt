@@ -1,4 +1,4 @@
--- The entries that a step shows make the same of a history as the step does.
+-- The entries that a part shows make the same of a history as the part does.
 use Rattle.std.proofs.Common.{◌≡◌, ℕ, suc, ◌+◌, Bool, true, false, Option, None, List, [], ◌∷◌, ◌++◌, length, map, refl, sym, ap, ◌∙◌, subst, arith, if◌then◌else◌}
 use Rattle.std.specs.List.{flat_map}
 use Rattle.voting_config.specs.Ids.{Id, same}
@@ -29,7 +29,7 @@ use Rattle.schedule_replay.specs.HistoryShown.{outcome_shown as outcome_told, hi
 use Rattle.schedule_replay.proofs.Along.{Along, IsSound, RightAct}
 use Rattle.replay_audit.specs.Audits.{entry_count}
 
--- what a step shows to an audit
+-- what a part shows to an audit
 abbrev pub entry_in : TracePart → List Entry
 entry_in (Did x) = Acted x.node x.ending x.act ∷ []
 entry_in (Opened n found) = recorded n found ∷ []
@@ -75,7 +75,7 @@ opening_entry h n found continues =
     let before = settled_for n (is_kept (node_history h n) found) h in
     ap (λ (k : Kept). Next before n (Open k) (Answered (Taken None false))) (found_again found (durable_of (node_history before n)) continues)
 
--- ---- steps
+-- ---- parts
 
 step_entries : (initial : List Id) (h : History) (x : TracePart) → IsSound initial h x → after_entries h (entry_in x) ≡ history_shown_by h x
 step_entries initial h (Did x) s = act_entry h x s.right s.behind.1.follows.follows

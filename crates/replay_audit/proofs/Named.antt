@@ -1,4 +1,4 @@
--- What the steps of a schedule of whole nodes name are ids, and the acts of a node's own have numbers within the limits.
+-- What the parts of a schedule of whole nodes name are ids, and the acts of a node's own have numbers within the limits.
 use Rattle.std.proofs.Common.{◌≡◌, ℕ, ◌+◌, ◌-◌, Bool, true, false, None, Some, Option, List, [], ◌∷◌, length, map, refl, slice_get, if◌then◌else◌, IsTrue, arith}
 use Rattle.std.specs.List.{AllByRecursion, flat_map}
 use Rattle.voting_config.specs.Ids.{Id, is_id, has, same, before, IsIdSet}
@@ -46,7 +46,7 @@ IsNamedAct (StartJoin candidate term) = IsReadable (StartJoin candidate term)
 IsNamedAct (Value version config value) = IsReadable (Value version config value)
 IsNamedAct other = Unit {0}
 
--- what a step names are ids: who leads, who is dropped, and whom a frame names
+-- what a part names are ids: who leads, who is dropped, and whom a frame names
 abbrev pub IsNamed : ClusterPart → Type 0
 IsNamed (Shared (Did x)) = IsNamedAct x.act
 IsNamed (ModeChanged n mode term) = FitsMode mode

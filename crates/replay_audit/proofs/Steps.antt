@@ -1,4 +1,4 @@
--- The lines of each step show its entries.
+-- The lines of each part show its entries.
 use Rattle.std.proofs.Common.{◌≡◌, ℕ, ◌+◌, ◌≤◌, Bool, true, false, cond, Option, None, Some, List, [], ◌∷◌, length, refl, sym, ap, subst, IsTrue, arith, length-append, codes, decimal, ◌++◌}
 use Rattle.std.specs.Prelude.{Contains}
 use Rattle.std.specs.List.{AllByRecursion}
@@ -110,7 +110,7 @@ act_shows count published n act o k =
     both_read (act_line n (ending_of o) act) _ (Acted n (ending_of o) act ∷ []) [] (ended (ending_of o)) _ (line_shows n (ending_of o) act k.good k.shut k.ends k.can)
     (both_read (won_by (won_term act o) n) _ [] [] (won_counts (won_term act o)) (committed_counts committed) (won_shows n act o k.good) last)
 
--- ---- what is given with a step
+-- ---- what is given with a part
 
 -- its node has an id, what the node does of its own accord can be read, and the line of the schedule is one of these nodes
 abbrev pub IsGiven : Level → List Id → TracePart → Type 0
@@ -127,7 +127,7 @@ abbrev pub is_act : TracePart → Bool
 is_act (Did x) = true
 is_act other = false
 
--- what its lines count for, and those of all steps
+-- what its lines count for, and those of all parts
 abbrev pub step_counts : TracePart → Counts
 step_counts (Did x) = did_counts x
 step_counts (Echo l) = one_step
@@ -161,7 +161,7 @@ sent_grows h (WentDown n) = omega arith
 sent_grows h (DiskFailed n) = omega arith
 sent_grows h Unsent = omega arith
 
--- ---- a step of a sound trace
+-- ---- a part of a sound trace
 
 module _ (initial : List Id) (set : IsListed initial) where
   pub did_readable : (h : History) (x : ActShown) → IsSound initial h (Did x) → IsGivenAct x.act → AllReadable h → IsReadable x.act
@@ -200,7 +200,7 @@ module _ (initial : List Id) (set : IsListed initial) where
       subst (λ (y : ActShown). Reads (shown_text y) (entry_in (Did y)) (did_counts y)) (sym s.right.is_shown)
       (act_shows (length (sent h)) (last_published (node_history h x.node)) x.node x.act s.right.outcome (can_be_shown h x s good given r few))
 
-  -- a step that shows no act
+  -- a part that shows no act
   pub quiet_shows : (level : Level) (nodes : List Id) (h : History) (x : TracePart) → is_act x ≡ false → IsIdSet nodes → IsSound initial h x → IsGiven level nodes x → AllReadable h → Reads (part_text x) (entry_in x) (step_counts x)
   quiet_shows level nodes h (Did x) q ids s g r = absurd cc
   quiet_shows level nodes h (Opened n found) q ids s g r = line_reads _ (codes "record" ∷ []) (Some (recorded n found)) no_counts (record_read n found g (found_readable h n found s r)) (λ rest. refl)
@@ -221,7 +221,7 @@ module _ (initial : List Id) (set : IsListed initial) where
   step_shows level nodes h (DiskFailed n) ids s g r few = quiet_shows level nodes h (DiskFailed n) refl ids s g r
   step_shows level nodes h Unsent ids s g r few = quiet_shows level nodes h Unsent refl ids s g r
 
-  -- ---- all steps
+  -- ---- all parts
 
   pub steps_show : (level : Level) (nodes : List Id) (h : History) (xs : List TracePart) → IsIdSet nodes → Along (IsSound initial) h xs → AllByRecursion (IsGiven level nodes) xs → AllReadable h → length (sent h) + length (text_of xs) ≤ most_bytes
       → Reads (text_of xs) (entries_of xs) (counts_of xs)

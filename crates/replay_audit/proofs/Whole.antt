@@ -60,9 +60,9 @@ use Rattle.trace_summary.specs.Counted.{no_counts}
 use Rattle.replay_audit.proofs.Counting.{Reads, both_read, counted, ended, line_reads, plus_assoc, plus_none, shows}
 use Rattle.replay_audit.proofs.Counting.Reads.{NoLine}
 
--- ---- whose the steps are
+-- ---- whose the parts are
 
--- the node of the step has an id, and a line that is echoed is of these nodes
+-- the node of the part has an id, and a line that is echoed is of these nodes
 abbrev IsOwn : List Id → ClusterPart → Type 0
 IsOwn nodes (Shared (Echo l)) = FitsLine Node nodes l
 IsOwn nodes (Shared (Did x)) = IsTrue (is_id x.node)
@@ -158,7 +158,7 @@ module _ (nodes initial voting_only : List Id) (each : IsTrue (list_all is_id no
   own_lines c [] f = tt
   own_lines c (l ∷ ls) f = (f.0, own_append nodes (line_parts nodes initial voting_only c l) (parts_from nodes initial voting_only (after nodes initial voting_only c l) ls) (own_line c l f.0) (own_lines (after nodes initial voting_only c l) ls f.1))
 
--- ---- what the steps show
+-- ---- what the parts show
 
 given_act : (act : Act) → IsNamedAct act → IsGivenAct act
 given_act (StartJoin candidate term) h = h
@@ -276,7 +276,7 @@ whole_sound s w =
     let p = lines_piece s.nodes s.initial s.voting_only (fresh_cluster s.nodes s.initial s.voting_only) s.lines in
     sound_along s.initial NoEntries (core_of (cluster_parts s)) p.right (subst (λ (h : History). IsLegal s.initial h) (sym p.history) (cluster_replay_is_legal s (formed s w)))
 
--- the trace by its steps
+-- the trace by its parts
 pub trace_reads : (s : Schedule) → CanBeAuditedWhole s → Reads (trace_at Node s) (entries_of (core_of (cluster_parts s))) (counts_of (core_of (cluster_parts s)))
 trace_reads s w =
     let p = lines_piece s.nodes s.initial s.voting_only (fresh_cluster s.nodes s.initial s.voting_only) s.lines in

@@ -29,7 +29,7 @@ use Rattle.gate_log.proofs.Laid.{gate_is, stands_for}
 use Rattle.gate_log.proofs.Settled.{after_it, append_leaves, appended_settled, other_other, renewal_leaves, renewed_settled, standing_is}
 use Rattle.state_journal.specs.Bodies.{holds_old, body_of, change_at}
 use Rattle.state_journal.specs.Changes.{changed}
-use Rattle.state_journal.specs.Drafts.{MayBegin, generation_front}
+use Rattle.state_journal.specs.Drafts.{MayBegin, generation_prefix}
 use Rattle.state_journal.specs.Journal.{in_order, found_in, found_of, on_its_side, record_of_bodies}
 use Rattle.state_journal.specs.Keeping.{generation_after, keeping_calls, keeping_calls_in, writing_calls}
 use Rattle.state_journal.specs.declared.change.Change.{Change}
@@ -384,7 +384,7 @@ module _ (p : Place) (next : Kept) (small : p.epoch < 2 ^ 62) (may : MayBegin ne
 
   generation_short : length (generation_after p next) ≤ most_body
   generation_short =
-      let front = generation_front (p.epoch + 1) next.term (state.spelling next.accepted) next.committed in
+      let front = generation_prefix (p.epoch + 1) next.term (state.spelling next.accepted) next.committed in
       omega (
         arith,
         ap length (sym (renewed_is (p.epoch + 1) next.term next.accepted next.committed)),

@@ -1,4 +1,4 @@
--- What holds of each step of a trace where it stands, and lists that grow along the steps.
+-- What holds of each part of a trace where it stands, and lists that grow along the parts.
 use Rattle.std.proofs.Common.{◌≡◌, ℕ, ◌+◌, false, None, Some, List, [], ◌∷◌, ◌++◌, length, refl, sym, ◌∙◌, ap, arith, append-nil, append_assoc}
 use Rattle.std.specs.List.{flat_map}
 use Rattle.voting_config.specs.Ids.{Id}
@@ -14,7 +14,7 @@ use Rattle.schedule_replay.specs.Parts.{ActShown, TracePart, Echo, Did, Opened, 
 use Rattle.schedule_replay.specs.HistoryShown.{outcome_shown, history_shown_by, history_shown_from, some_numbered, numbered_in, messages_of, numbered}
 use Rattle.schedule_replay.specs.ActShown.{message_sent, act_shown}
 
--- P holds of each step after the history that the steps before it tell
+-- P holds of each part after the history that the parts before it tell
 abbrev pub Along : (History → TracePart → Type 0) → History → List TracePart → Type 0
 Along P h [] = Unit {0}
 Along P h (x ∷ xs) = P h x × Along P (history_shown_by h x) xs
@@ -23,7 +23,7 @@ pub along_append : (P : History → TracePart → Type 0) (h : History) (xs ys :
 along_append P h [] ys a b = b
 along_append P h (x ∷ xs) ys a b = (a.0, along_append P (history_shown_by h x) xs ys a.1 b)
 
--- a list that each step lengthens by what it shows
+-- a list that each part lengthens by what it shows
 pub grows : {X : Type 0} (list : History → List X) (show : TracePart → List X) (P : History → TracePart → Type 0) → ((h : History) (x : TracePart) → P h x → list h ++ show x ≡ list (history_shown_by h x))
     → (h : History) (xs : List TracePart) → Along P h xs → list h ++ flat_map show xs ≡ list (history_shown_from h xs)
 grows list show P step h [] a = append-nil (list h)
@@ -32,7 +32,7 @@ grows list show P step h (x ∷ xs) a =
     ∙ ap (λ l. l ++ flat_map show xs) (step h x a.0)
     ∙ grows list show P step (history_shown_by h x) xs a.1
 
--- the step of an act shows what the act did, after this history
+-- the part of an act shows what the act did, after this history
 pub record RightAct (h : History) (x : ActShown) : Type 0 where
   pub outcome : Outcome
   pub is_shown : x ≡ act_shown (length (sent h)) (last_published (node_history h x.node)) x.node x.act outcome
@@ -43,7 +43,7 @@ abbrev pub IsRight : History → TracePart → Type 0
 IsRight h (Did x) = RightAct h x
 IsRight h other = Unit {0}
 
--- the step is right, and the history is legal before it and after it
+-- the part is right, and the history is legal before it and after it
 pub record IsSound (initial : List Id) (h : History) (x : TracePart) : Type 0 where
   pub right : IsRight h x
   pub before : IsLegal initial h

@@ -1,4 +1,4 @@
--- From what the coordinator's step says of an event to what the node and its disk then are.
+-- From what the coordinator's part says of an event to what the node and its disk then are.
 use Rattle.std.proofs.Common.{◌≡◌, Bool, true, false, ◌||◌, Some, List, [], ◌∷◌, map, refl, sym, ◌∙◌, ap, subst}
 use Rattle.voting_config.specs.Ids.{Id}
 use Rattle.coord_state.specs.declared.coord.CoordState.{CoordState}
@@ -216,7 +216,7 @@ module _ (s : Settings) (life : Life) (x : NodeWorld) (event : Event) (old new :
     struck_event crashed done told_is is struck waits = record {
       runs = runs;
       struck = subst (λ (l : List Item). IsStruck items l) is struck;
-      steps = ap (λ (l : List Shown). as_left crashed l) failed.entries.deeds ∙ told_steps crashed old.core new.core failed.left failed.enters.core ∙ ap (λ (l : List Item). deeds_of l) (told_is ∙ is);
+      deeds = ap (λ (l : List Shown). as_left crashed l) failed.entries.deeds ∙ told_steps crashed old.core new.core failed.left failed.enters.core ∙ ap (λ (l : List Item). deeds_of l) (told_is ∙ is);
       drops = failed.entries.drops ∙ ap by_member (crashed_drops (fault_told crashed) failed.left) ∙ ap (λ (l : List Item). drops_of l) (told_is ∙ is);
       frames = ap (λ (l : List Item). frames_of l) (sym is) ∙ ap by_receiver (struck-frames items done struck);
       replies = ap (λ (l : List Item). replies_of l) (sym is) ∙ struck-replies items done struck;

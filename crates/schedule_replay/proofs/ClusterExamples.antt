@@ -1,4 +1,4 @@
--- What the steps of a schedule of a whole node show.
+-- What the parts of a schedule of a whole node show.
 use Rattle.std.proofs.Common.{◌≡◌, Some, [], ◌∷◌, refl}
 use Rattle.std.specs.Prelude.{codes}
 use Rattle.std.specs.Fmt.{digits}

@@ -13,7 +13,7 @@ use Rattle.schedule_replay.specs.ClusterShown.{core_in, core_of, frame_in, frame
 use Rattle.schedule_replay.proofs.Along.{Along, along_append, IsRight}
 use Rattle.schedule_replay.proofs.Telling.{told_append}
 
--- A text and its steps, with the lines that they echo. They lead from one history and the frames that were sent by then to another.
+-- A text and its parts, with the lines that they echo. They lead from one history and the frames that were sent by then to another.
 pub record Piece (h : History) (fs : List Frame) (g : History) (gs : List Frame) (text : List ℕ) (ls : List Line) (xs : List ClusterPart) : Type 0 where
   pub text_is : text ≡ cluster_text xs
   pub lines : lines_of (core_of xs) ≡ ls
@@ -42,7 +42,7 @@ both h i g fs es gs t u ls ms xs ys p q =
           ∙ q.frames;
     }
 
--- a step of level core
+-- a part of level core
 pub shared : (h g : History) (fs : List Frame) (t : List ℕ) (ls : List Line) (x : TracePart) → t ≡ shared_text x → line_in x ≡ ls → IsRight h x → history_shown_by h x ≡ g → Piece h fs g fs t ls (Shared x ∷ [])
 shared h g fs t ls x text lines right told = record {
   text_is = text ∙ sym (append-nil (shared_text x));
@@ -52,7 +52,7 @@ shared h g fs t ls x text lines right told = record {
   frames = append-nil (numbered_frames 0 fs);
 }
 
--- a step that tells nothing of the history and shows no frame
+-- a part that tells nothing of the history and shows no frame
 pub still : (h : History) (fs : List Frame) (t : List ℕ) (x : ClusterPart) → t ≡ cluster_part_text x → core_in x ≡ [] → frame_in x ≡ [] → Piece h fs h fs t [] (x ∷ [])
 still h fs t x text core frame =
     let none : core_of (x ∷ []) ≡ [] = append-nil (core_in x) ∙ core in
@@ -64,7 +64,7 @@ still h fs t x text core frame =
       frames = ap (λ (zs : List NumberedFrame). numbered_frames 0 fs ++ (zs ++ [])) frame ∙ append-nil (numbered_frames 0 fs);
     }
 
--- steps of this kind, one for each element of a list
+-- parts of this kind, one for each element of a list
 pub stills : {A : Type 0} (h : History) (fs : List Frame) (text : A → List ℕ) (step : A → ClusterPart) → ((a : A) → Piece h fs h fs (text a) [] (step a ∷ [])) → (items : List A) → Piece h fs h fs (flat_map text items) [] (map step items)
 stills h fs text step one [] = nothing h fs
 stills h fs text step one (a ∷ items) = both h h h fs fs fs (text a) (flat_map text items) [] [] (step a ∷ []) (map step items) (one a) (stills h fs text step one items)

@@ -1,4 +1,4 @@
--- The acts of an event, as the disk lets them end, are what the steps of the event tell.
+-- The acts of an event, as the disk lets them end, are what the parts of the event tell.
 use Rattle.std.proofs.Common.{◌≡◌, ◌+◌, Bool, true, false, Option, List, [], ◌∷◌, ◌++◌, length, refl, sym, ◌∙◌, ap, subst, if◌then◌else◌}
 use Rattle.std.specs.List.{AllByRecursion}
 use Rattle.std.proofs.lemmas.Grind.{flat_map-append}
@@ -50,7 +50,7 @@ answered_shut s v xs (ByQuiet u i is e a) = (quiet_shut i e, answered_shut s _ i
 
 -- ---- the acts that were done
 
--- these steps lead from one history to another
+-- these parts lead from one history to another
 abbrev pub LeadTo : Id → History → List Deed → History → Type 0
 LeadTo n h [] g = h ≡ g
 LeadTo n h (deed.Act act o ∷ ss) g = (is_opening act ≡ false) × ShowsOutcome n act o × LeadTo n (Next h n act o) ss g

@@ -1,4 +1,4 @@
--- The replies that the steps of a schedule of whole nodes show of a node are those of its life.
+-- The replies that the parts of a schedule of whole nodes show of a node are those of its life.
 use Rattle.std.proofs.Common.{◌≡◌, ℕ, Bool, true, false, cond, Option, None, Some, List, [], ◌∷◌, ◌++◌, length, map, refl, sym, ap, ◌∙◌, append-nil, append_assoc, if◌then◌else◌}
 use Rattle.std.proofs.lemmas.Grind.{flat_map-append}
 use Rattle.voting_config.specs.Ids.{Id, same}

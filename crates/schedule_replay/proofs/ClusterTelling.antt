@@ -1,4 +1,4 @@
--- The trace of a schedule of whole nodes is the text of its steps, and the steps tell its history and its frames.
+-- The trace of a schedule of whole nodes is the text of its parts, and the parts tell its history and its frames.
 use Rattle.std.proofs.Common.{◌≡◌, ℕ, Bool, true, false, Option, None, Some, List, [], ◌∷◌, ◌++◌, length, refl, sym, ap, subst, append_assoc, codes, ◌∙◌, if◌then◌else◌}
 use Rattle.voting_config.specs.Ids.{Id, same}
 use Rattle.cluster_state.specs.declared.state.Kept.{Kept}

@@ -1,4 +1,4 @@
--- The states that the steps show as committed are those that are committed in the history.
+-- The states that the parts show as committed are those that are committed in the history.
 use Rattle.std.proofs.Common.{◌≡◌, ℕ, Bool, Option, None, Some, List, [], ◌∷◌, ◌++◌, refl, sym, ◌∙◌, ap, subst, arith, append-nil, length, ◌+◌, ◌⊎◌, inl, inr}
 use Rattle.std.proofs.lemmas.List.Elements.{Contains-append_cases, Contains-append_left, Contains-append_right}
 use Rattle.std.specs.Prelude.{Contains}
@@ -104,7 +104,7 @@ commits_in initial h n act c w l =
     commits_of (initial_state initial) (Next h n act o) (system_of_legal initial (Next h n act o) l) n (node_history h n) act c w (own_deeds h n act o)
     (Contains-append_right (sent h) (CommitMessage c ∷ []) (CommitMessage c) (0, (omega arith), refl))
 
--- ---- the step of an act
+-- ---- the part of an act
 
 -- what an act that ended so shows of commits
 abbrev ShowsSo : Id → Option ClusterState → History → Outcome → Type 0

@@ -43,7 +43,7 @@ held_is header nodes messages tally done e m =
 pub few_held : (number step : ℕ) → count_sent (lines_to number step) ≤ step
 few_held number step = omega (arith, few_sent (lines_to number step), so_many number step)
 
--- the line of a step is one of the four nodes
+-- the line of a part is one of the four nodes
 pub line_fits : (header : Schedule) (number step sent : ℕ) (line : Line) → header ≡ generated_from [] → step < most_steps → sent ≤ most_steps → line ≡ line_at number step sent → FitsLine Core header.nodes line
 line_fits header number step sent line e few few_messages is =
     subst (λ (x : Schedule). FitsLine Core x.nodes line) (sym e)

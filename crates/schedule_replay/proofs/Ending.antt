@@ -28,7 +28,7 @@ both_end : (t u : List ℕ) → EndsLine t → EndsLine u → EndsLine (t ++ u)
 both_end t u e Empty = subst EndsLine (sym (append-nil t)) e
 both_end t u e (Fed prefix) = subst EndsLine (append_assoc t prefix (10 ∷ [])) (Fed (t ++ prefix))
 
--- ---- steps
+-- ---- parts
 
 won_ends : (won : Option ℕ) (n : Id) → EndsLine (won_by won n)
 won_ends None n = Empty
@@ -65,7 +65,7 @@ steps_end (x ∷ xs) = both_end (part_text x) (text_of xs) (step_ends x) (steps_
 pub trace_ends : (initial : List Id) (w : World) (ls : List Line) → EndsLine (trace_from initial w ls)
 trace_ends initial w ls = subst EndsLine (sym (steps_text initial w ls)) (steps_end (parts_from initial w ls))
 
--- ---- steps of whole nodes
+-- ---- parts of whole nodes
 
 shared_ends : (x : TracePart) → EndsLine (shared_text x)
 shared_ends (Did x) =

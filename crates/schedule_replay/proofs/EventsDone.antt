@@ -123,7 +123,7 @@ module _ (s : Settings) (own : Own) (event : Event) (old new : ClusterNode) (sta
       let there : NodeFor s new after false = record {
         me_is = me ∙ stands.me_is;
         slot = slot;
-        published = published_now (as_left crashed entries.deeds.list) is.steps (published ∙ sym (told_published crashed old.published entries.deeds.list)) life;
+        published = published_now (as_left crashed entries.deeds.list) is.deeds (published ∙ sym (told_published crashed old.published entries.deeds.list)) life;
         life = life;
       } in
       run_done frames frames was now is.runs there
@@ -131,7 +131,7 @@ module _ (s : Settings) (own : Own) (event : Event) (old new : ClusterNode) (sta
       (written (length frames)
       ∙ ap (λ (n : Id). was ++ event_results (length frames) n old.published (as_left crashed entries.deeds.list) entries.drops.list [] []) stands.me_is
       ∙ ap (λ (p : Option ClusterState). was ++ event_results (length frames) s.me p (as_left crashed entries.deeds.list) entries.drops.list [] []) stands.published
-      ∙ ap (λ (l : List Deed). was ++ event_results (length frames) s.me (last_published own.node.acts) l entries.drops.list [] []) is.steps
+      ∙ ap (λ (l : List Deed). was ++ event_results (length frames) s.me (last_published own.node.acts) l entries.drops.list [] []) is.deeds
       ∙ ap (λ (l : List MemberDrop). was ++ event_results (length frames) s.me (last_published own.node.acts) (deeds_of items) l [] []) is.drops
       ∙ ap (λ (l : List Frame). was ++ event_results (length frames) s.me (last_published own.node.acts) (deeds_of items) (drops_of items) l []) (sym is.frames)
       ∙ ap (λ (l : List Outgoing). was ++ event_results (length frames) s.me (last_published own.node.acts) (deeds_of items) (drops_of items) (frames_of items) l) (sym is.replies))

@@ -1,4 +1,4 @@
--- Each step of a schedule is right where it stands, and the history is legal there.
+-- Each part of a schedule is right where it stands, and the history is legal there.
 use Rattle.std.proofs.Common.{◌≡◌, ◌+◌, Bool, true, false, Option, None, Some, List, [], ◌∷◌, ◌++◌, length, refl, sym, ◌∙◌, ap, subst, if◌then◌else◌}
 use Rattle.std.specs.List.{AllByRecursion}
 use Rattle.voting_config.specs.Ids.{Id}
@@ -48,7 +48,7 @@ if_right : (h : History) (b : Bool) (x y : TracePart) → IsRight h x → IsRigh
 if_right h true x y p q = p
 if_right h false x y p q = q
 
--- a line shows one step that is right, or none
+-- a line shows one part that is right, or none
 data IsOne (h : History) : List TracePart → Type 0 where
   NoStep : IsOne h []
   OneStep : (x : TracePart) → IsRight h x → IsOne h (x ∷ [])

@@ -1,4 +1,4 @@
--- The trace of a schedule is the text of its steps, and the steps tell its history.
+-- The trace of a schedule is the text of its parts, and the parts tell its history.
 use Rattle.std.proofs.Common.{◌≡◌, ℕ, ◌+◌, Bool, true, false, Option, None, Some, List, [], ◌∷◌, ◌++◌, length, refl, sym, ◌∙◌, ap, append-nil, append_assoc, if◌then◌else◌}
 use Rattle.std.proofs.lemmas.Grind.{flat_map-append}
 use Rattle.voting_config.specs.Ids.{Id}

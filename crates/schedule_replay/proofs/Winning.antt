@@ -1,4 +1,4 @@
--- The wins that the steps show are those of the history.
+-- The wins that the parts show are those of the history.
 use Rattle.std.proofs.Common.{◌≡◌, ℕ, Bool, true, false, cond, Option, None, Some, List, [], ◌∷◌, ◌++◌, refl, sym, ◌∙◌, ap, subst, append-nil}
 use Rattle.voting_config.specs.Ids.{Id}
 use Rattle.world_model.specs.declared.acts.Act.{Act}

@@ -1,4 +1,4 @@
--- A replay that stood for a world stands for it after a step of one node.
+-- A replay that stood for a world stands for it after a part of one node.
 use Rattle.std.proofs.Common.{◌≡◌, Bool, true, false, Option, None, Some, List, [], ◌++◌, append-nil, map, refl, sym, ◌∙◌, ap, subst, if◌then◌else◌}
 use Rattle.voting_config.specs.Ids.{Id, has, same}
 use Rattle.cluster_state.specs.declared.state.Kept.{Kept}
@@ -55,7 +55,7 @@ acted ids old new messages more w n act d s done sends listed from = by (w.down 
       ascending = s.ascending;
     }
 
--- ---- steps that leave the history as it is
+-- ---- parts that leave the history as it is
 
 same_history : (ids : List Id) (old new : List ReplayNode) (messages : List SentMessage) (w v : World) → w.history ≡ v.history → Stands ids old messages w → AllStand ids new v → Stands ids new messages v
 same_history ids old new messages w v e s stand = record {

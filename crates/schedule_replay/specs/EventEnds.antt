@@ -38,7 +38,7 @@ module _ (s : Settings) (life : Life) (x : NodeWorld) (event : Event) where
   pub record StruckEvent (crashed : Bool) (entries : Entries) : Type 0 where
     pub runs : needs_opening x ≡ false
     pub struck : IsStruck (items_of s (log_of life) event) own_course.items
-    pub steps : as_left crashed entries.deeds.list ≡ deeds_of own_course.items
+    pub deeds : as_left crashed entries.deeds.list ≡ deeds_of own_course.items
     pub drops : entries.drops.list ≡ drops_of own_course.items
     pub frames : frames_of own_course.items ≡ []
     pub replies : replies_of own_course.items ≡ []

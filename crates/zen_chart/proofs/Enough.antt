@@ -10,7 +10,7 @@ use Rattle.schedule_text.specs.declared.fault.WhyBad.TheVariants as why
 use Rattle.schedule_text.proofs.WordLaws.{join_split, lacks, parts_lack, parts_not_empty, split_alone, split_first}
 use Rattle.trace_reader.specs.declared.fault.BadTrace.{BadTrace}
 use Rattle.trace_reader.specs.declared.progress.Progress.{Progress}
-use Rattle.trace_reader.specs.declared.told.TraceLine.{TraceLine}
+use Rattle.trace_reader.specs.declared.said.TraceLine.{TraceLine}
 use Rattle.trace_reader.specs.Limits.{most_trace_bytes}
 use Rattle.trace_reader.specs.Reading.{◌>>>◌, after_line, end_at, first_progress, line_at, lines_at, trace_at}
 use Rattle.zen_chart.specs.Reading.{read_of}
@@ -39,7 +39,7 @@ long_end p (b ∷ bs) x some past = rw (lt-ltb most_trace_bytes (p.before + leng
 -- ---- a line and those after it
 
 abbrev rest_at : Progress → List TraceLine → List ℕ → List (List ℕ) → TraceLine → Result (List TraceLine) BadTrace
-rest_at p prefix line parts l = lines_at (after_line p line l.told) (prefix ++ l ∷ []) parts
+rest_at p prefix line parts l = lines_at (after_line p line l.said) (prefix ++ l ∷ []) parts
 
 line_first : (p : Progress) (prefix : List TraceLine) (line : List ℕ) (parts : List (List ℕ)) → parts ≢ [] → lines_at p prefix (line ∷ parts) ≡ line_at p line >>> rest_at p prefix line parts
 line_first p prefix line [] some = absurd (some refl)
@@ -106,7 +106,7 @@ same_cut p prefix (line ∷ next ∷ more) lack few =
     let fits : p.before + length line + 1 ≤ most_trace_bytes → cut_lines p prefix (line ++ (10 ∷ rest)) ≡ lines_at p prefix (line ∷ next ∷ more) = λ within.
     cut_after p prefix line rest parts.0 (omega (arith, within))
     ∙ line_first p prefix line cut_rest some
-    ∙ same_rest (line_at p line) (rest_at p prefix line cut_rest) (rest_at p prefix line (next ∷ more)) (λ l. same_cut (after_line p line l.told) (prefix ++ l ∷ []) (next ∷ more) parts.1 within) in
+    ∙ same_rest (line_at p line) (rest_at p prefix line cut_rest) (rest_at p prefix line (next ∷ more)) (λ l. same_cut (after_line p line l.said) (prefix ++ l ∷ []) (next ∷ more) parts.1 within) in
     let kept : p.before + length line ≤ most_trace_bytes → most_trace_bytes < p.before + length line + 1 → cut_lines p prefix (line ++ (10 ∷ rest)) ≡ Err (too_big p) = λ within past.
     cut_after p prefix line rest parts.0 within ∙ refused_first p prefix line cut_rest some past in
     let big : most_trace_bytes < p.before + length line + 1 → cut_lines p prefix (line ++ (10 ∷ rest)) ≡ lines_at p prefix (line ∷ next ∷ more) = λ past.
@@ -137,7 +137,7 @@ lines_short p prefix (line ∷ next ∷ more) ls few e =
     let long : length (line ++ (10 ∷ rest)) ≡ length line + (1 + length rest) = length-append line (10 ∷ rest) ∙ ap (λ (n : ℕ). length line + n) (omega arith) in
     let fits : p.before + length line + 1 ≤ most_trace_bytes → p.before + length (line ++ (10 ∷ rest)) ≤ most_trace_bytes = λ within.
     let ok = after_ok (line_at p line) (rest_at p prefix line (next ∷ more)) ls e in
-    let behind : p.before + length line + 1 + length rest ≤ most_trace_bytes = lines_short (after_line p line ok.0.told) (prefix ++ ok.0 ∷ []) (next ∷ more) ls within ok.1 in
+    let behind : p.before + length line + 1 + length rest ≤ most_trace_bytes = lines_short (after_line p line ok.0.said) (prefix ++ ok.0 ∷ []) (next ∷ more) ls within ok.1 in
     omega (arith, behind, long) in
     ⊎_elim (λ past. let bad : Err (too_big p) ≡ Ok ls = sym (refused_first p prefix line (next ∷ more) others past) ∙ e in absurd cc) fits (cases_lt most_trace_bytes (p.before + length line + 1))
 

@@ -3,7 +3,7 @@ use Rattle.std.specs.Prelude.{◌≡◌, ℕ, ◌≤◌, ◌⊎◌, Bool, true, 
 use Rattle.zen_disk.specs.Faults.{Rose}
 use Rattle.zen_link.specs.Streams.{Appended, AppendedPrefix}
 use Rattle.trace_reader.specs.declared.fault.BadTrace.{BadTrace}
-use Rattle.trace_reader.specs.declared.told.TraceLine.{TraceLine}
+use Rattle.trace_reader.specs.declared.said.TraceLine.{TraceLine}
 use Rattle.trace_reader.specs.Printed.{bad_line}
 use Rattle.trace_reader.specs.Reading.{trace_at}
 use Rattle.sequence_chart.specs.Chart.{Draws}

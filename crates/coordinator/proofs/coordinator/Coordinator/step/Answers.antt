@@ -6,8 +6,8 @@ use Rattle.coordinator.proofs.Limiting.{within, few}
 use Rattle.coordinator.proofs.Sealing.{deeds, stays, lasting, sealed_fine, sealed_not_halted}
 use Rattle.coordinator.proofs.coordinator.Coordinator.step.Goals as goal
 
-pub returns-clause-deeds : goal.returns-clause-deeds
-returns-clause-deeds g c =
+pub returns-clause-does : goal.returns-clause-does
+returns-clause-does g c =
     deeds g.K.Keeper c.take_event-ended.result c.seal.result c.args.self.now c.take_event-ended.new.self c.args.event _ _ c.in-Ok.ensures.shown c.take_event-ended.ensures.does c.seal.ensures (ap (λ x. g.K.Keeper.has_stopped x) (sym c.keeper.ensures) ∙ sym c.stopped.ensures ∙ c.if-stopped.false)
 
 pub returns-clause-stays : goal.returns-clause-stays

@@ -25,8 +25,8 @@ returns-clause-serves g c s life reports opened reads =
     subst (λ disk. Serves sent_of (entry_text s) s life end out out_now told told_now (HoldsOn d was.node.core.keeper.log.disk disk s life) asked asked_now turns (opening_text s life))
     (sym c.into_disk.ensures)
     (serves_mapped sent_of (entry_text s) s life end out_now told told_now
-    (Holds (λ r s l. Reports k r.node r.told s l) d.told (λ r. d.moment r.node.core.keeper.log.disk) (λ r. StoodOn d r.node.core.keeper.log.disk) (λ r. d.faults r.node.core.keeper.log.disk) was now s life)
+    (Holds (λ r s l. Reports k r.node r.last_sent s l) d.told (λ r. d.moment r.node.core.keeper.log.disk) (λ r. StoodOn d r.node.core.keeper.log.disk) (λ r. d.faults r.node.core.keeper.log.disk) was now s life)
     (HoldsOn d was.node.core.keeper.log.disk now.node.core.keeper.log.disk s life) asked asked_now turns
-    (λ new h. holds_of (λ r s l. Reports k r.node r.told s l) (LeavesLastOn d) d.told d.moment (StoodOn d) d.faults (λ r. r.node.core.keeper.log.disk)
+    (λ new h. holds_of (λ r s l. Reports k r.node r.last_sent s l) (LeavesLastOn d) d.told d.moment (StoodOn d) d.faults (λ r. r.node.core.keeper.log.disk)
     (λ r s l reports t. let last = reports.leaves t in record { since = last.since; past = last.past; at_once = last.at_once; only = last.only }) was now s life new h)
     out (opening_text s life) (c.serve-end.ensures.serves s life reports opened reads))

@@ -13,7 +13,7 @@ use Rattle.schedule_replay.proofs.cluster.stepping.step.Goals as goal
 
 pub returns-in-Ok : goal.returns-in-Ok
 returns-in-Ok c s life x stands =
-    whole_event s life x c.args.event c.args.node.now c.step.new.self stands c.in-Ok.ensures.ready (from c.args.node.now.core.keeper.log.stopped refl) c.in-Ok.sealed (c.in-Ok.ensures.steps life stands.life_is) c.in-Ok.ensures.within
+    whole_event s life x c.args.event c.args.node.now c.step.new.self stands c.in-Ok.ensures.ready (from c.args.node.now.core.keeper.log.stopped refl) c.in-Ok.sealed (c.in-Ok.ensures.does life stands.life_is) c.in-Ok.ensures.within
   where
     from : (b : Bool) → c.args.node.now.core.keeper.log.stopped ≡ b → c.args.node.now.core.keeper.log.stopped ≡ false
     from false e = e
@@ -21,7 +21,7 @@ returns-in-Ok c s life x stands =
 
 pub returns-in-Some-Fault : goal.returns-in-Some-Fault
 returns-in-Some-Fault c s life x stands =
-    let steps = subst (λ (e : StepError). Steps keeper c.args.node.now c.step.new.self c.args.event (items_of c.args.node.now.settings (log_of life) c.args.event) (Err e)) c.in-Err-Disk.field-0-is (c.in-Err-Disk.ensures.steps life stands.life_is) in
+    let steps = subst (λ (e : StepError). Steps keeper c.args.node.now c.step.new.self c.args.event (items_of c.args.node.now.settings (log_of life) c.args.event) (Err e)) c.in-Err-Disk.field-0-is (c.in-Err-Disk.ensures.does life stands.life_is) in
     let disk : c.disk.result.now ≡ c.step.new.self.core.keeper.log.disk = c.disk.ensures ∙ ap (λ (j : Journal). j.log.disk) c.keeper.ensures in
     let struck : c.step.new.self.core.keeper.log.disk.struck ≡ Some Fault = ap (λ (f : MemFuse). f.struck) (sym disk) ∙ sym c.struck.ensures ∙ (let a = c.in-Some-Fault.is in let b = c.in-Some-Fault.field-0-is in cc) in
     failed_event s life x c.args.event c.args.node.now c.step.new.self stands c.in-Err-Disk.ensures.ready (from c.args.node.now.core.keeper.log.stopped refl) c.in-Err-Disk.entries steps struck
@@ -32,7 +32,7 @@ returns-in-Some-Fault c s life x stands =
 
 pub returns-in-Some-Stop : goal.returns-in-Some-Stop
 returns-in-Some-Stop c s life x stands =
-    let steps = subst (λ (e : StepError). Steps keeper c.args.node.now c.step.new.self c.args.event (items_of c.args.node.now.settings (log_of life) c.args.event) (Err e)) c.in-Err-Disk.field-0-is (c.in-Err-Disk.ensures.steps life stands.life_is) in
+    let steps = subst (λ (e : StepError). Steps keeper c.args.node.now c.step.new.self c.args.event (items_of c.args.node.now.settings (log_of life) c.args.event) (Err e)) c.in-Err-Disk.field-0-is (c.in-Err-Disk.ensures.does life stands.life_is) in
     let disk : c.disk.result.now ≡ c.step.new.self.core.keeper.log.disk = c.disk.ensures ∙ ap (λ (j : Journal). j.log.disk) c.keeper.ensures in
     let struck : c.step.new.self.core.keeper.log.disk.struck ≡ Some Stop = ap (λ (f : MemFuse). f.struck) (sym disk) ∙ sym c.struck.ensures ∙ (let a = c.in-Some-Stop.is in let b = c.in-Some-Stop.field-0-is in cc) in
     crashed_event s life x c.args.event c.args.node.now c.step.new.self stands c.in-Err-Disk.ensures.ready (from c.args.node.now.core.keeper.log.stopped refl) c.in-Err-Disk.entries steps struck
