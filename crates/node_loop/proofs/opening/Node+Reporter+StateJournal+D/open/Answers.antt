@@ -15,7 +15,7 @@ returns-in-Ok-clause-stands g c =
     let made = c.open-2.result in
     subst (λ r. (life : Life) → ContinuesUnlessFirst (acts_of (log_of life)) (Open r.node.core.keeper.kept)
     → Reports k r.node r.last_sent c.args.settings (Opened life r.node.core.keeper.kept)) (sym c.in-Ok.ensures.ok.0)
-    (subst (λ kept. (life : Life) → ContinuesUnlessFirst (acts_of (log_of life)) (Open kept) → Reports k made.node made.told c.args.settings (Opened life kept))
+    (subst (λ kept. (life : Life) → ContinuesUnlessFirst (acts_of (log_of life)) (Open kept) → Reports k made.node made.last_sent c.args.settings (Opened life kept))
     (sym (ap (λ j. j.kept) c.open-2.ensures.keeper)) c.open-2.ensures.stands)
 
 pub returns-in-Err-clause-ran_err : goal.returns-in-Err-clause-ran_err
