@@ -1,26 +1,39 @@
-//! `JoinVotes`: the sources of the joins that were counted, or of the responses to a publication.
-ghost use Rattle.std.specs.Prelude.{◌≡◌, ◌<◌, ◌⊎◌, [], length, true};
-ghost use Rattle.voting_config.specs.Ids.{has, with_id, most_ids};
+//! `JoinVotes`: the nodes that joined, or answered a publication or a pre-vote request.
+ghost use Rattle.std.specs.Prelude.{◌≡◌, ◌<◌, ◌⊎◌, ◌&&◌, [], length, true, IsTrue, count_ones};
+ghost use Rattle.voting_config.specs.Ids.{has, has_room as has_room_of, with_id, without_id, most_ids, is_quorum_of, are_among};
 
 use std::marker::Model;
-use voting_config::{NodeId, NodeSet};
+use voting_config::{
+    MAX_IDS, Mask, NodeId, NodeSet, Roster, VotingConfig, quorum_mask, with_bit, without_bit,
+};
 
-/// The sources of joins, or of the responses to a publication. Contracts see the ascending list of them.
+/// The sources of joins, of the responses to a publication, or of pre-votes: as in Elasticsearch, where `VoteCollection` counts all three.
+/// Contracts see the ascending list of them.
+///
+/// Each source is a bit of one word, at the place that it has on a roster. The roster stays when the votes are taken out, so a node that
+/// votes again has its place already. The two configurations that the votes were last counted by are kept as words over it too.
 #[derive(Drop)]
 pub struct JoinVotes {
-    ids: NodeSet,
+    roster: Roster,
+    word: u64,
+    committed: Mask,
+    current: Mask,
 }
 
 impl Model for JoinVotes {
     ghost use Rattle.std.specs.Prelude.{List};
     ghost use Rattle.voting_config.specs.Ids.{Id};
+    ghost use Rattle.voting_config.specs.Rosters.{marked};
+    ghost use Rattle.join_rules.specs.Votes.{AreCounted};
     ghost use Rattle.std.specs.Coded.{coded_list, coded_ℕ};
 
     ghost Value = { List Id };
 
     ghost coded = { coded_list (coded_list coded_ℕ) };
 
-    ghost view = { λ v. v.ids };
+    ghost view = { λ v. marked v.roster v.word };
+
+    ghost invariant = { λ v. AreCounted v.roster v.word v.committed.config v.committed.word v.current.config v.current.word };
 }
 
 impl JoinVotes {
@@ -29,7 +42,22 @@ impl JoinVotes {
         ensures { result ≡ [] }
     {
         JoinVotes {
-            ids: NodeSet::new(),
+            roster: Roster::new(),
+            word: 0,
+            committed: Mask::new(),
+            current: Mask::new(),
+        }
+    }
+
+    /// The same votes once more.
+    pub fn copy(&self) -> JoinVotes
+        ensures { result ≡ self.now }
+    {
+        JoinVotes {
+            roster: self.roster.copy(),
+            word: self.word,
+            committed: self.committed.copy(),
+            current: self.current.copy(),
         }
     }
 
@@ -37,7 +65,7 @@ impl JoinVotes {
     pub fn clear(&mut self)
         ensures { self.new ≡ [] }
     {
-        self.ids.clear();
+        self.word = 0;
     }
 
     /// Counts a source, once.
@@ -45,28 +73,108 @@ impl JoinVotes {
         requires { (has source self.old ≡ true) ⊎ (length self.old < most_ids) }
         ensures { self.new ≡ with_id source self.old }
     {
-        // There is room, or it is in already, so this is no error.
-        let _ = self.ids.insert(source);
+        if let Some(place) = self.roster.place(source) {
+            self.word = with_bit(self.word, place);
+            return;
+        }
+        match self.roster.admit(source) {
+            Ok(place) => {
+                self.committed.mend(source, place);
+                self.current.mend(source, place);
+                self.word = with_bit(self.word, place);
+            }
+            Err(_) => self.add_anew(source),
+        }
+    }
+
+    /// Takes a source out, where it is a vote.
+    pub fn remove(&mut self, source: NodeId)
+        ensures { self.new ≡ without_id source self.old }
+    {
+        if let Some(place) = self.roster.place(source) {
+            self.word = without_bit(self.word, place);
+        }
+    }
+
+    // Counts a source over a new roster, that of the votes with this one.
+    fn add_anew(&mut self, source: NodeId)
+        requires { (has source self.old ≡ true) ⊎ (length self.old < most_ids) }
+        ensures { self.new ≡ with_id source self.old }
+    {
+        let mut votes = self.sources();
+        votes.put(source);
+        self.roster = Roster::of(&votes);
+        self.word = self.roster.mask(&votes);
+        self.committed.renew(&self.roster);
+        self.current.renew(&self.roster);
     }
 
     /// Whether the source is a vote.
     pub fn contains(&self, source: NodeId) -> bool
         ensures { result ≡ has source self.now }
     {
-        self.ids.contains(source)
+        self.roster.has_mark(self.word, source)
+    }
+
+    /// Whether the source can be counted: true exactly where it is a vote, or where fewer than [`MAX_IDS`](voting_config::MAX_IDS) are.
+    pub fn has_room(&self, source: NodeId) -> bool
+        ensures { result ≡ has_room_of self.now source }
+    {
+        self.contains(source) || self.len() < MAX_IDS
+    }
+
+    /// How many votes there are.
+    pub fn len(&self) -> usize
+        ensures { result ≡ length self.now }
+    {
+        self.word.count_ones() as usize
     }
 
     /// The sources.
     pub fn sources(&self) -> NodeSet
         ensures { result ≡ self.now }
     {
-        self.ids.copy()
+        self.roster.marked(self.word)
     }
 
-    /// The sources, lent.
-    pub fn ids(&self) -> &NodeSet
-        ensures { result.now ≡ self.now }
+    /// The roster, on which each source is.
+    pub fn roster(&self) -> &Roster
+        ensures { IsTrue (are_among result.now self.now) }
     {
-        &self.ids
+        &self.roster
+    }
+
+    /// The votes as a word over the roster: a bit for each of them.
+    pub fn word(&self) -> u64
+        ensures { count_ones result ≡ length self.now }
+    {
+        self.word
+    }
+
+    /// Whether the votes are a quorum of the configuration.
+    pub fn is_quorum_of(&self, config: &VotingConfig) -> bool
+        ensures { result ≡ is_quorum_of config.now self.now }
+    {
+        let members = config.members();
+        quorum_mask(
+            self.word,
+            self.roster.mask(members),
+            members.as_slice().len(),
+        )
+    }
+
+    /// Whether the votes are a quorum both of the committed configuration and of a current one. No id of the one is looked up among those of
+    /// the other where these are the two that were asked for last, since their words are kept; it is only seen that they are the same.
+    pub fn is_quorum_of_both(&mut self, committed: &VotingConfig, current: &VotingConfig) -> bool
+        ensures value { result ≡ (is_quorum_of committed.now self.old && is_quorum_of current.now self.old) }
+        ensures same { self.new ≡ self.old }
+    {
+        // Most votes are counted while they are too few.
+        if self.len() <= committed.members().as_slice().len() / 2 {
+            return false;
+        }
+        self.committed.stand_for(committed, &self.roster);
+        self.current.stand_for(current, &self.roster);
+        self.committed.is_quorum(self.word) && self.current.is_quorum(self.word)
     }
 }

@@ -1,0 +1,14 @@
+use Rattle.std.proofs.Common.{length, ◌∙◌}
+use Rattle.voting_config.specs.Ids.{is_quorum_of}
+use Rattle.voting_config.specs.Rosters.{is_quorum_mask}
+use Rattle.voting_config.proofs.Rosters.{distinct_of}
+use Rattle.join_rules.proofs.Counting.{is_quorum}
+use Rattle.join_rules.proofs.votes.JoinVotes.is_quorum_of.Goals as goal
+
+pub returns : goal.returns
+returns c =
+    let members = c.members-members.result.now in
+    c.quorum_mask.ensures
+    ∙ (λ i. is_quorum_mask c.self.inside.word (c.mask.ensures.value i) (length (c.as_slice.ensures.value i)))
+    ∙ is_quorum _ _ _ _ _ _ c.self.invariant members (distinct_of members c.as_slice.ensures.is_set.ascending)
+    ∙ (λ i. is_quorum_of (c.members-members.ensures i) (c.self.view_is i))

@@ -1,0 +1,6 @@
+use Rattle.std.proofs.Common.{ap, ◌∙◌, length}
+use Rattle.join_rules.proofs.Counting.{counted}
+use Rattle.join_rules.proofs.votes.JoinVotes.word.Goals as goal
+
+pub returns : goal.returns
+returns c = counted _ _ _ _ _ _ c.self.invariant ∙ ap length c.self.view_is
