@@ -61,13 +61,6 @@ pub struct CoordState<K> {
     publish_votes: JoinVotes,
 }
 
-// Whether the votes are a quorum of the committed and of the accepted configuration.
-fn is_elected(kept: &Kept, votes: &JoinVotes) -> bool
-    ensures { result ≡ (is_quorum_of kept.now.committed votes.now && is_quorum_of kept.now.accepted.config votes.now) }
-{
-    kept.committed.is_quorum(votes.ids()) && kept.accepted.config.is_quorum(votes.ids())
-}
-
 // The first cause that refuses a state, by what the node keeps.
 fn publish_check(kept: &Kept, state: &ClusterState) -> Result<(), PublishCause>
     ensures { result ≡ publish_checked kept.now state.now }
@@ -282,7 +275,10 @@ impl<K: Keeper> CoordState<K> {
             return Err(ActError::Refused(cause, ()));
         }
         self.join_votes.add(j.source);
-        if self.election_won || !is_elected(kept, &self.join_votes) {
+        let elected = self
+            .join_votes
+            .is_quorum_of_both(&kept.committed, &kept.accepted.config);
+        if self.election_won || !elected {
             return Ok(Joined { won: false });
         }
         self.published_version = kept.accepted.version;
@@ -313,7 +309,7 @@ impl<K: Keeper> CoordState<K> {
         {
             return Err(ValueCause::Reconfiguring);
         }
-        if !config.is_quorum(self.join_votes.ids()) {
+        if !self.join_votes.is_quorum_of(config) {
             return Err(ValueCause::NoJoinQuorum);
         }
         Ok(())
@@ -485,8 +481,9 @@ impl<K: Keeper> CoordState<K> {
             ));
         }
         self.publish_votes.add(r.source);
-        if kept.committed.is_quorum(self.publish_votes.ids())
-            && self.published_config.is_quorum(self.publish_votes.ids())
+        if self
+            .publish_votes
+            .is_quorum_of_both(&kept.committed, &self.published_config)
         {
             Ok(Some(ApplyCommit {
                 source: self.me,
