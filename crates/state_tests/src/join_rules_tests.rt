@@ -1,24 +1,70 @@
 //! Joins that are counted, and those that are refused. The causes follow from docs/protocol.md.
 use cluster_state::{Join, JoinCause, StateId};
 use join_rules::{JoinVotes, join_check};
-use voting_config::{MAX_IDS, NodeId, NodeSet, VotingConfig};
+use voting_config::{MAX_IDS, NodeId, NodeSet, Roster, VotingConfig};
 
 fn id(text: &str) -> NodeId {
     NodeId::parse(text).unwrap_or(NodeId::default())
 }
 
-#[test]
-fn votes_are_counted_once(rt: HostRuntime) {
-    let mut votes = JoinVotes::new();
-    for (source, count) in [("b", 1), ("a", 2), ("b", 2)] {
-        if votes.ids().len() < MAX_IDS {
-            votes.add(id(source));
-        }
-        assert!(rt; votes.contains(id(source)) && votes.sources().len() == count);
+// Sources in the order in which they vote, one that is taken out then, the roster, and the word of the votes over it.
+type Counted = (
+    &'static [&'static str],
+    &'static str,
+    &'static [&'static str],
+    u64,
+);
+
+const VOTES: &[Counted] = &[
+    (&[], "a", &[], 0),
+    (&["b"], "a", &["b"], 1),
+    (&["b", "a"], "c", &["b", "a"], 3),
+    (&["b", "a", "b"], "b", &["b", "a"], 2),
+    (&["a", "b", "c", "a"], "b", &["a", "b", "c"], 5),
+];
+
+fn add(votes: &mut JoinVotes, source: NodeId) {
+    if votes.has_room(source) {
+        votes.add(source);
     }
-    assert!(rt; !votes.contains(id("c")) && votes.ids().get(0) == Some(id("a")));
+}
+
+fn is_roster(roster: &Roster, wanted: &[&str]) -> bool {
+    let ids = roster.as_slice();
+    ids.len() == wanted.len()
+        && wanted
+            .iter()
+            .enumerate()
+            .all(|(i, text)| ids[i] == id(text))
+}
+
+#[test]
+fn votes_are_bits_at_the_places_of_their_sources(rt: HostRuntime) {
+    for (sources, out, roster, word) in VOTES {
+        let mut votes = JoinVotes::new();
+        for source in *sources {
+            add(&mut votes, id(source));
+        }
+        votes.remove(id(out));
+        assert!(rt; is_roster(votes.roster(), roster) && votes.word() == *word);
+        votes.clear();
+        assert!(rt; votes.word() == 0 && votes.len() == 0);
+    }
+}
+
+#[test]
+fn a_roster_full_of_nodes_that_do_not_vote_is_made_anew(rt: HostRuntime) {
+    let mut votes = JoinVotes::new();
+    for byte in "0123456789abcdefghijklmnopqrstuv".as_bytes() {
+        add(
+            &mut votes,
+            NodeId::from_bytes(&[*byte]).unwrap_or(NodeId::default()),
+        );
+    }
+    assert!(rt; votes.roster().len() == MAX_IDS);
     votes.clear();
-    assert!(rt; votes.sources().len() == 0);
+    add(&mut votes, id("z"));
+    assert!(rt; is_roster(votes.roster(), &["z"]) && votes.word() == 1);
 }
 
 fn config(text: &str) -> VotingConfig {

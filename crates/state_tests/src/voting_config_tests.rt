@@ -1,5 +1,8 @@
 //! Ids, sets and quorums at their limits. What is expected was counted by hand.
-use voting_config::{IdError, MAX_IDS, NodeId, NodeSet, VotingConfig};
+use voting_config::{
+    Full, IdError, MAX_IDS, NodeId, NodeSet, Roster, VotingConfig, quorum_mask, with_bit,
+    without_bit,
+};
 
 const FULL: &str = "0,1,2,3,4,5,a,b,c,d,e,f,g,h,i,j,k,l,m,n,o,p,q,r,s,t,u,v,w,x,y,z";
 
@@ -248,4 +251,75 @@ fn a_quorum_is_more_than_half(rt: HostRuntime) {
     }
     let config = VotingConfig::of(&set("a,b"));
     assert!(rt; config.is_same(&VotingConfig::of(config.members())) && !config.is_empty());
+}
+
+// A roster of these ids, in the order of their first sight.
+fn roster(ids: &[&str]) -> Roster {
+    let mut roster = Roster::new();
+    for text in ids {
+        // A row that lists too many ids fails by what it wants of the roster.
+        let _ = roster.admit(id(text));
+    }
+    roster
+}
+
+// Ids as they are admitted, a set, its word over their roster, and the set that this word is.
+const MASKS: &[(&[&str], &str, u64, &str)] = &[
+    (&[], "a", 0, "_"),
+    (&["b", "a"], "_", 0, "_"),
+    (&["b", "a"], "b", 1, "b"),
+    (&["b", "a"], "a", 2, "a"),
+    (&["b", "a"], "a,b,c", 3, "a,b"),
+    (&["b", "a", "b", "c"], "a,c", 6, "a,c"),
+];
+
+fn is_mask(ids: &[&str], text: &str, wanted: u64, back: &str) -> bool {
+    let roster = roster(ids);
+    let word = roster.mask(&set(text));
+    word == wanted && is(&roster.marked(word), back)
+}
+
+#[test]
+fn a_set_is_a_word_over_a_roster(rt: HostRuntime) {
+    for (ids, text, wanted, back) in MASKS {
+        assert!(rt; is_mask(ids, text, *wanted, back));
+    }
+}
+
+// The places of ids on the roster b, a, and what it answers when they are admitted.
+const PLACES: &[(&str, Option<u8>, u8)] = &[("b", Some(0), 0), ("a", Some(1), 1), ("c", None, 2)];
+
+fn is_place(text: &str, known: Option<u8>, admitted: u8) -> bool {
+    let mut roster = roster(&["b", "a"]);
+    roster.place(id(text)) == known && roster.admit(id(text)) == Ok(admitted)
+}
+
+#[test]
+fn an_id_keeps_its_place(rt: HostRuntime) {
+    for (text, known, admitted) in PLACES {
+        assert!(rt; is_place(text, *known, *admitted));
+    }
+}
+
+#[test]
+fn a_full_roster_has_room_for_its_own_ids_alone(rt: HostRuntime) {
+    let mut roster = Roster::of(&set(FULL));
+    assert!(rt; roster.admit(id("6")) == Err(Full) && roster.len() == MAX_IDS);
+    assert!(rt; roster.admit(id("b")) == Ok(7) && !roster.has_mark(1, id("6")));
+}
+
+// Votes and a configuration as words, the configuration's size, and whether they are a quorum of it.
+const QUORUMS_OF_WORDS: &[(u64, u64, usize, bool)] = &[
+    (1, 3, 3, false),
+    (3, 3, 3, true),
+    (7, 3, 4, false),
+    (0, 0, 0, false),
+];
+
+#[test]
+fn words_tell_a_quorum(rt: HostRuntime) {
+    for (votes, config, size, wanted) in QUORUMS_OF_WORDS {
+        assert!(rt; quorum_mask(*votes, *config, *size) == *wanted);
+    }
+    assert!(rt; with_bit(5, 1) == 7 && without_bit(7, 1) == 5);
 }
