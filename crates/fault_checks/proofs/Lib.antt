@@ -3,3 +3,4 @@ pub mod Examples
 pub mod Happened
 mod Sets
 pub mod Standing
+pub mod Keeping

@@ -1,5 +1,6 @@
 //! The checks of the followers by their leader: which of them fail, and which lag.
 ghost use Rattle.std.specs.Prelude.{◌≡◌, ◌<◌, ◌≤◌, length, map, filter, IsTrue, if◌then◌else◌};
+ghost use Rattle.std.specs.List.{list_all};
 ghost use Rattle.voting_config.specs.Ids.{with_id, most_ids, ascends};
 ghost use Rattle.fault_checks.specs.declared.followers.Follower.{Follower as FollowerOf};
 ghost use Rattle.fault_checks.specs.Checks.{ticked_at as ticked_at_of};
@@ -148,6 +149,13 @@ impl FollowerChecks {
         );
     }
 
+    /// Whether a [tick](FollowerChecks::tick) now, in ms, keeps all who are watched, so that it drops nobody.
+    pub fn keeps_all(&self, now: u64) -> bool
+        ensures { result ≡ list_all (λ (f : FollowerOf). stays_of f now) self.now.watched }
+    {
+        keep_all(self.watched.as_slice(), now)
+    }
+
     /// Whom to ask and whom to drop now, in ms. Dropped are those whose last [`crate::CHECK_RETRY_COUNT`] checks have
     /// failed, and of the others those that fell behind a finished state [`FOLLOWER_LAG_TIMEOUT_MS`] or more ago; they
     /// are watched no more. Of the rest those are asked that have no check outstanding, [`crate::CHECK_INTERVAL_MS`] or
@@ -250,6 +258,12 @@ fn stays(follower: &Follower, now: u64) -> bool
     ensures { result ≡ stays_of follower.now now }
 {
     !drops_for_checks(follower, now) && !is_late(follower.behind, now)
+}
+
+fn keep_all(watched: &[Follower], now: u64) -> bool
+    ensures { result ≡ list_all (λ (f : FollowerOf). stays_of f now) watched.now }
+{
+    watched.iter().all(|follower| stays(follower, now))
 }
 
 fn is_asked(follower: &Follower, now: u64) -> bool
