@@ -1,12 +1,13 @@
 //! `PreVotes`: one round of pre-votes, from its start on.
-ghost use Rattle.std.specs.Prelude.{◌≡◌, ◌+◌, ◌≤◌, ◌||◌, length, IsTrue};
-ghost use Rattle.voting_config.specs.Ids.{most_ids};
+ghost use Rattle.std.specs.Prelude.{◌≡◌, ◌+◌, ◌≤◌, ◌||◌, count_ones, length, IsTrue};
+ghost use Rattle.voting_config.specs.Ids.{are_among, most_ids};
 ghost use Rattle.cluster_state.specs.Field.{last_number};
 ghost use Rattle.pre_vote.specs.Calls.{Calls, Start, Add, has_room, is_vote as vote_of};
 
 use cluster_state::StateId;
+use join_rules::JoinVotes;
 use std::marker::Model;
-use voting_config::{NodeId, NodeSet, VotingConfig};
+use voting_config::{MAX_IDS, NodeId, Roster, Tally, VotingConfig};
 
 /// What an answer brings about.
 #[derive(Clone, Copy, Debug, PartialEq, Eq)]
@@ -25,8 +26,8 @@ pub struct PreVotes {
     me: NodeId,
     last: StateId,
     greatest: u64,
-    voters: NodeSet,
-    others: NodeSet,
+    voters: JoinVotes,
+    others: Tally,
 }
 
 impl Model for PreVotes {
@@ -51,14 +52,14 @@ impl PreVotes {
         ensures round { result ≡ started me last term }
         ensures calls { result ≡ round_of (Start me last term) }
     {
-        let mut voters = NodeSet::new();
-        voters.put(me);
+        let mut voters = JoinVotes::new();
+        voters.add(me);
         PreVotes {
             me,
             last,
             greatest: term,
             voters,
-            others: NodeSet::new(),
+            others: Tally::new(),
         }
     }
 
@@ -77,7 +78,7 @@ impl PreVotes {
     {
         self.voters.contains(source)
             || self.others.contains(source)
-            || self.voters.len() + self.others.len() < 32
+            || self.voters.len() + self.others.len() < MAX_IDS
     }
 
     /// An answer of `source`, with its term and the id of the state that it has accepted. It counts where that id is
@@ -99,21 +100,45 @@ impl PreVotes {
         ensures answer { result ≡ added_of self.new last committed.now accepted.now }
         ensures calls { (calls : Calls) → self.old ≡ round_of calls → self.new ≡ round_of (Add calls source term last) }
     {
-        self.greatest = self.greatest.max(term);
-        if is_vote(self.me, self.last, source, last) {
-            self.others.remove(source);
-            self.voters.put(source);
-        } else {
-            self.voters.remove(source);
-            self.others.put(source);
-        }
+        self.enter(source, term, last);
         if last.is_fresher(self.last) {
             Added::Fresher
-        } else if committed.is_quorum(&self.voters) && accepted.is_quorum(&self.voters) {
+        } else if self.voters.is_quorum_of_both(committed, accepted) {
             Added::Quorum(self.greatest + 1)
         } else {
             Added::Counted
         }
+    }
+
+    // Enters an answer: its source is a voter from now on, or one of the others.
+    fn enter(&mut self, source: NodeId, term: u64, last: StateId)
+        requires term { term ≤ last_number }
+        requires room { IsTrue (fits_in source self.old) }
+        ensures { self.new ≡ answered self.old source term last }
+    {
+        self.greatest = self.greatest.max(term);
+        if is_vote(self.me, self.last, source, last) {
+            self.others.remove(source);
+            self.voters.add(source);
+        } else {
+            self.voters.remove(source);
+            self.others.add(source);
+        }
+    }
+
+    /// The roster of the voters: the node itself, and who was counted since, in the order of first sight. Where 32 are on it and another one
+    /// comes, it is made anew of the voters, as they ascend.
+    pub fn roster(&self) -> &Roster
+        ensures { IsTrue (are_among result.now self.now.voters) }
+    {
+        self.voters.roster()
+    }
+
+    /// The voters as a word over their roster: a bit for each of them.
+    pub fn word(&self) -> u64
+        ensures { count_ones result ≡ length self.now.voters }
+    {
+        self.voters.word()
     }
 }
 

@@ -1,20 +1,19 @@
-use Rattle.std.proofs.Common.{◌≡◌, true, subst, sym, arith}
-use Rattle.pre_vote.specs.Rounds.{Round, fits}
-use Rattle.pre_vote.proofs.Sizes.{HasRoom, other_way, moved_within}
+use Rattle.std.proofs.Common.{Bool, ◌≡◌, ◌+◌, ◌&&◌, false, cond, List, ap, sym, ◌∙◌}
+use Rattle.voting_config.specs.Ids.{Id, is_quorum_of}
+use Rattle.cluster_state.specs.StateIds.{is_fresher}
+use Rattle.pre_vote.specs.declared.rounds.Added.TheVariants.{Counted, Fresher, Quorum}
 use Rattle.pre_vote.proofs.rounds.PreVotes.add.Goals as goal
-use Rattle.pre_vote.proofs.rounds.PreVotes.add.Goals.{then-is_vote, else-is_vote}
+use Rattle.pre_vote.proofs.rounds.PreVotes.add.Goals.{then-is_quorum_of_both, else-is_quorum_of_both}
 
-pub invariant_of-self : goal.invariant_of-self
-invariant_of-self c =
-    let room : HasRoom c.args.source c.self.inside.voters c.self.inside.others = record {
-      room = subst (λ (r : Round). fits c.args.source r ≡ true) (sym c.self.view_is) c.requires.room;
-      within = c.self.invariant.1;
-    } in
-    elim c.if-is_vote.branch [
-      | then-is_vote w ↦
-          let fewer = moved_within c.args.source c.self.inside.voters c.self.inside.others room in
-          rw (w.self-inside-is, w.put.ensures, w.remove.ensures.gone) (omega (arith, c.max-self-inside.ensures, c.self.invariant.0, c.requires.term), fewer)
-      | else-is_vote w ↦
-          let fewer = moved_within c.args.source c.self.inside.others c.self.inside.voters (other_way c.args.source c.self.inside.voters c.self.inside.others room) in
-          rw (w.self-inside-is, w.put-else-is_vote.ensures, w.remove-else-is_vote.ensures.gone) (omega (arith, c.max-self-inside.ensures, c.self.invariant.0, c.requires.term), omega (arith, fewer))
+pub returns-after-is_quorum_of_both-clause-answer : goal.returns-after-is_quorum_of_both-clause-answer
+returns-after-is_quorum_of_both-clause-answer c =
+    let quorum : List Id → Bool = λ (voters : List Id). is_quorum_of c.args.committed.now voters && is_quorum_of c.args.accepted.now voters in
+    let old : is_fresher c.args.last c.self.inside.last ≡ false = sym c.is_fresher.ensures ∙ c.if-is_fresher.false in
+    let elected : quorum c.is_quorum_of_both.new.self ≡ c.is_quorum_of_both.result = ap quorum c.is_quorum_of_both.ensures.same ∙ sym c.is_quorum_of_both.ensures.value in
+    let answer = Quorum (c.self.inside.greatest + 1) in
+    elim c.if-is_quorum_of_both.branch [
+      | then-is_quorum_of_both w ↦
+          w.result-is ∙ sym (ap (λ b. cond b Fresher (cond (quorum c.is_quorum_of_both.new.self) answer Counted)) old ∙ ap (λ b. cond b answer Counted) (elected ∙ w.if-is_quorum_of_both.true))
+      | else-is_quorum_of_both w ↦
+          w.result-is ∙ sym (ap (λ b. cond b Fresher (cond (quorum c.is_quorum_of_both.new.self) answer Counted)) old ∙ ap (λ b. cond b answer Counted) (elected ∙ w.if-is_quorum_of_both.false))
     ]
