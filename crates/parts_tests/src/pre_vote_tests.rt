@@ -2,7 +2,7 @@
 use cluster_state::StateId;
 use pre_vote::*;
 use std::test::*;
-use voting_config::{NodeId, NodeSet, VotingConfig};
+use voting_config::{NodeId, NodeSet, Roster, VotingConfig};
 
 fn id(text: &str) -> NodeId {
     NodeId::parse(text).unwrap_or_default()
@@ -78,6 +78,52 @@ fn a_fresher_node_is_no_pre_vote_and_a_quorum_names_the_term(rt: HostRuntime) {
 fn a_pre_vote_needs_a_quorum_of_both_configurations(rt: HostRuntime) {
     let answers = [AnswerOf("b", 4, 3)];
     assert!(rt; last_added(&answers, &config("a,b,c,d")) == Some(Added::Counted));
+}
+
+// Answers one after the other in a round of node a, the roster of its voters then, and the word of them over it. A node that is no voter
+// any more keeps its place.
+const WORDS: &[(&[AnswerOf], &[&str], u64)] = &[
+    (&[], &["a"], 1),
+    (&[AnswerOf("c", 4, 3)], &["a", "c"], 3),
+    (
+        &[AnswerOf("c", 4, 3), AnswerOf("b", 4, 2)],
+        &["a", "c", "b"],
+        7,
+    ),
+    (
+        &[
+            AnswerOf("c", 4, 3),
+            AnswerOf("c", 4, 4),
+            AnswerOf("b", 4, 2),
+        ],
+        &["a", "c", "b"],
+        5,
+    ),
+];
+
+fn is_roster(roster: &Roster, wanted: &[&str]) -> bool {
+    let ids = roster.as_slice();
+    ids.len() == wanted.len()
+        && wanted
+            .iter()
+            .enumerate()
+            .all(|(i, text)| ids[i] == id(text))
+}
+
+fn has_word(answers: &[AnswerOf], roster: &[&str], word: u64) -> bool {
+    let mut round = PreVotes::start(id("a"), version(3), 4);
+    let voters = config("a,b,c");
+    for answer in answers {
+        let _ = added(&mut round, *answer, &voters, &voters);
+    }
+    is_roster(round.roster(), roster) && round.word() == word
+}
+
+#[test]
+fn voters_are_bits_in_the_order_of_their_votes(rt: HostRuntime) {
+    for (at, (answers, roster, word)) in WORDS.iter().enumerate() {
+        assert!(rt; has_word(answers, roster, *word), "row {at}");
+    }
 }
 
 #[test]
