@@ -22,7 +22,8 @@ use Rattle.node_loop.specs.Texts.{IsLastSent, entry_text}
 
 -- The node has these settings and is what its life makes of it; it is halted exactly where its last event was struck. A crash now
 -- leaves the last record of its life. What it keeps for its lines is right, or lost.
-pub record Reports {K : Type 0} (k : Ghosts K) (node : Coordinator K) (last_sent : Option LastSent) (s : Settings) (life : Life) : Type 0 where
+pub record Reports {K : Type 0} (k : Ghosts K) (node : Coordinator K) (last_sent : Option LastSent) (s : Settings)
+    (life : Life) : Type 0 where
   pub settings : node.settings ≡ s
   pub stands : StandsForLife k node life
   pub stopped : k.has_stopped node.core.keeper ≡ is_struck life
@@ -37,13 +38,15 @@ sent_of sealed = record { frames = sealed.sends.list; replies = sealed.replies.s
 -- what is kept then is right for the life with it; or there are no lines, and nothing is kept.
 abbrev pub AreLined : Id → Option LastSent → Entries → List Frame → List Outgoing → Option (List ℕ) → Option LastSent → Type 0
 AreLined node last_sent entries frames replies lines kept =
-    (s : Settings) (life : Life) (event : Event) (items : List Item) → node ≡ s.me → IsLastSent last_sent life → AreEntries event items entries
+    (s : Settings) (life : Life) (event : Event) (items : List Item) → node ≡ s.me → IsLastSent last_sent life
+    → AreEntries event items entries
     → frames ≡ frames_of items → replies ≡ replies_of items
     → AreLines lines (entry_text s life (Did event items)) × IsLastSent kept (Lived life (Did event items))
 
 -- ---- an entry of no event changes nothing that a node stands for
 
-last_sent_idle : (last_sent : Option LastSent) (life : Life) (e : Entry) → IsIdle e → IsLastSent last_sent life → IsLastSent last_sent (Lived life e)
+last_sent_idle : (last_sent : Option LastSent) (life : Life) (e : Entry) → IsIdle e → IsLastSent last_sent life
+    → IsLastSent last_sent (Lived life e)
 last_sent_idle None life e is right = tt
 last_sent_idle (Some last_sent) life (Did event items) is right = absurd is
 last_sent_idle (Some last_sent) life (Gone conn) is right = right

@@ -89,7 +89,8 @@ module _ {X : Type 0} (output : X → Output) (text : Life → Entry → List �
   pub record ServesOn (out_was out_now : Option (List ℕ)) (was now : Option (List (Traffic X))) (stands : Life → Type 0)
       (asked_was asked_now turns : ℕ) : Type 0 where
     pub taken : List Intake
-    pub tells : WritesAndSends output text s life (Makes (Comes Start) ∷ course_from NoIntakes taken) (Some end) out_was out_now was now stands
+    pub tells : WritesAndSends output text s life (Makes (Comes Start) ∷ course_from NoIntakes taken) (Some end) out_was out_now was now
+        stands
     pub last : IsRestOf tells.left (last_made (Comes Start ∷ []) NoIntakes taken)
     pub asked : HasRisen asked_was asked_now (asks_of (Some end) taken)
     pub at_most : length taken ≤ turns

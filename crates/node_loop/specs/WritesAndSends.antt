@@ -69,7 +69,8 @@ Grows output was now moves = (all : List (Traffic _)) → now ≡ Some all → G
 -- the run ended within an input. The lines of what is said are written whole, and it is sent; what is unsaid is at most one
 -- entry, which the node lived but of which only a part was written, none where memory ran out and not all where the sink
 -- failed, and nothing is sent for it. A run that the disk ended ends with an event that the disk struck.
-pub record WritesAndSends {X : Type 0} (output : X → Output) (text : Life → Entry → List ℕ) (s : Settings) (life : Life) (course : List Mark)
+pub record WritesAndSends {X : Type 0} (output : X → Output) (text : Life → Entry → List ℕ) (s : Settings) (life : Life)
+    (course : List Mark)
     (end : Option End) (out_was out_now : Option (List ℕ)) (was now : Option (List (Traffic X))) (stands : Life → Type 0) : Type 0 where
   pub said : List Entry
   pub unsaid : List Entry

@@ -104,7 +104,8 @@ pub fn write_entry(
     replies: &[Outgoing],
 ) -> Result<(), AllocError>
     ensures text { OnOk result
-        (text.new ≡ text.old ++ event_lines node last_sent.old.published last_sent.old.number event.now deeds.now drops.now frames.now replies.now) }
+        (text.new ≡ text.old ++ event_lines node last_sent.old.published last_sent.old.number event.now deeds.now drops.now frames.now
+        replies.now) }
     ensures published { OnOk result (last_sent.new.published ≡ published_after last_sent.old.published deeds.now) }
     ensures number { OnOk result (last_sent.new.number ≡ number_after last_sent.old.number frames.now) }
 {

@@ -57,7 +57,8 @@ fn report_done<S: EventNode, L: Link<Out = S::Sealed>, O: Sink>(
 ) -> Option<End>
     ensures says { (old : S) (s : Settings) (life : Life) (event : _)
         → Does (λ now s2 new. HoldsBy S.EventNode old now s2 life new) (S.text s) s life event inner.now S.output done
-        → WritesAndSends S.output (S.text s) s life (Makes (Comes event) ∷ []) result (O.written out.old) (O.written out.new) (L.told link.old)
+        → WritesAndSends S.output (S.text s) s life (Makes (Comes event) ∷ []) result (O.written out.old) (O.written out.new)
+        (L.told link.old)
         (L.told link.new) (HoldsBy S.EventNode old inner.now s life) }
     ensures ends { EndsRightly S.EventNode L.Link O.Sink inner.now inner.now link.old link.new out.old out.new result }
 {
@@ -489,7 +490,8 @@ fn start<S: EventNode, L: Link<Out = S::Sealed>, O: Sink>(
     out: &mut O,
 ) -> Option<End>
     ensures says { (s : Settings) (life : Life) → S.stands_for inner.old s life → IsOpened life
-        → WritesAndSends S.output (S.text s) s life (Makes (Comes Start) ∷ []) result (O.written out.old) (O.written out.new) (L.told link.old)
+        → WritesAndSends S.output (S.text s) s life (Makes (Comes Start) ∷ []) result (O.written out.old) (O.written out.new)
+        (L.told link.old)
         (L.told link.new) (HoldsBy S.EventNode inner.old inner.new s life) }
     ensures ends { EndsRightly S.EventNode L.Link O.Sink inner.old inner.new link.old link.new out.old out.new result }
 {

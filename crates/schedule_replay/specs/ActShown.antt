@@ -1,5 +1,5 @@
--- Part of the statement: the part of an act, from its outcome. It need not be read: TraceLaws says of the parts what they show, by HistoryShown and
--- Showing.
+-- Part of the statement: the part of an act, from its outcome. It need not be read: TraceLaws says of the parts what they show, by
+-- HistoryShown and Showing.
 use Rattle.std.specs.Prelude.{ℕ, ◌+◌, cond, Option, None, Some}
 use Rattle.voting_config.specs.Ids.{Id}
 use Rattle.cluster_state.specs.declared.state.ClusterState.{ClusterState}

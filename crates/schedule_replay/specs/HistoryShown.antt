@@ -37,7 +37,8 @@ outcome_shown ending.Crashed won sends = Crashed false
 -- the node was last opened: this act was kept exactly where the record shows it. No other part makes an entry.
 abbrev pub history_shown_by : History → TracePart → History
 history_shown_by h (Did x) = Next h x.node x.act (outcome_shown x.ending x.won x.sends)
-history_shown_by h (Opened n found) = Next (settled_for n (is_kept (node_history h n) found) h) n (Open found) (Answered (reply.Taken None false))
+history_shown_by h (Opened n found) =
+    Next (settled_for n (is_kept (node_history h n) found) h) n (Open found) (Answered (reply.Taken None false))
 history_shown_by h other = h
 
 abbrev pub history_shown_from : History → List TracePart → History

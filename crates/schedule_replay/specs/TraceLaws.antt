@@ -25,7 +25,8 @@ LawTraceGivesHistory = (s : Schedule) → GivesHistory s (trace_parts s)
 
 -- more lines leave the parts of the lines before as they are
 abbrev pub LawPartsGoOn : Type 0
-LawPartsGoOn = (s : Schedule) (more : List Line) → (rest : List TracePart) × (trace_parts (record s { lines = s.lines ++ more }) ≡ trace_parts s ++ rest)
+LawPartsGoOn = (s : Schedule) (more : List Line)
+    → (rest : List TracePart) × (trace_parts (record s { lines = s.lines ++ more }) ≡ trace_parts s ++ rest)
 
 -- after the echo of each line stands what the line asks for; at first all nodes are up, and none has done anything
 abbrev pub LawTraceFollows : Type 0

@@ -41,8 +41,8 @@ lifelines lines columns = flat_map (lifeline lines (last_row first_cursor lines 
 abbrev pub heads : List TraceLine → List Column → List ℕ
 heads lines columns = flat_map (head 28) columns ++ flat_map (head (y_of (last_row first_cursor lines + 1) + 14)) columns
 
--- What is drawn, where the first column begins so far to the right: the lines of the schedule, then the lifelines, the arrows, the messages that were lost,
--- the labels and the names. What comes later stands in prefix.
+-- What is drawn, where the first column begins so far to the right: the lines of the schedule, then the lifelines, the arrows, the messages
+-- that were lost, the labels and the names. What comes later is drawn over it.
 abbrev pub drawing : ℕ → List TraceLine → List ℕ
 drawing left lines =
     walk (event_row_in (origins_of lines)) first_cursor lines
