@@ -1,13 +1,17 @@
 -- A leader's tick.
-use Rattle.std.proofs.Common.{◌≡◌, ℕ, Bool, true, false, List, [], ◌∷◌, ◌++◌, map, refl, sym, ap, subst, ◌∙◌}
+use Rattle.std.proofs.Common.{◌≡◌, ℕ, Bool, true, false, List, [], ◌∷◌, ◌++◌, length, map, refl, sym, ap, subst, ◌∙◌}
 use Rattle.state_journal.specs.declared.keeper.Keeper.{Ghosts}
 use Rattle.std.specs.Prelude.{Option, if◌then◌else◌}
+use Rattle.std.specs.List.{list_all}
 use Rattle.std.proofs.lemmas.List.{append_assoc, append-nil}
 use Rattle.voting_config.specs.Ids.{Id}
 use Rattle.coord_state.specs.declared.coord.CoordState.{CoordState}
-use Rattle.fault_checks.specs.Followers.{Followers, to_ask, to_drop_for_checks, to_drop_for_lag}
+use Rattle.fault_checks.specs.declared.followers.Follower.{Follower}
+use Rattle.fault_checks.specs.Followers.{Followers, stays, to_ask, to_drop_for_checks, to_drop_for_lag}
+use Rattle.fault_checks.proofs.Keeping.{nobody_dropped}
 use Rattle.master_tasks.specs.Queue.{Tasks, to_be_removed}
-use Rattle.master_tasks.specs.Answering.{answers_by, timed_out, without_answered}
+use Rattle.master_tasks.specs.declared.waiting.Waiting.{Waiting}
+use Rattle.master_tasks.specs.Answering.{answers_by, left_by, timed_out, without_answered}
 use Rattle.wire_frames.specs.declared.frame.WireMessage.TheVariants as message
 use Rattle.policy_model.specs.declared.settings.Settings.{Settings}
 use Rattle.policy_model.specs.declared.events.DropCause.{DropCause}
@@ -75,6 +79,26 @@ tick_planned s v plan is =
     ∙ ap (λ (x : View). moved_all s x (checks_followers s x)) (moved-times s v) ∙ moved-checks s u in
     subst (λ (w : View). IsPlanned s w plan) (sym here)
     (has_planned s (record u { tasks = tasks_ticked v; followers = followers_ticked u.followers u.moment }) (leader_of s.me v.node.term v.node.accepted v.node.committed v.node.join_votes s.shrink) (tasks_ticked v) plan is refl refl)
+
+no_items : {A : Type 0} (xs : List A) → length xs ≡ 0 → xs ≡ []
+no_items [] h = refl
+no_items (x ∷ xs) h = absurd cc
+
+-- where nothing waits and all followers stay, the tasks are as before
+pub tasks_kept : (v : View) → length v.tasks.waiting ≡ 0 → list_all (λ (f : Follower). stays f v.moment) v.followers.watched ≡ true → tasks_ticked v ≡ v.tasks
+tasks_kept v none all =
+    let nobody = nobody_dropped v.followers.watched v.moment all in
+    let late = timed_out v.node.committed v.moment in
+    let empty : v.tasks.waiting ≡ [] = no_items v.tasks.waiting none in
+    let same : without_answered late v.tasks ≡ v.tasks =
+    ap (λ (ws : List Waiting). record v.tasks { waiting = left_by late ws }) empty ∙ ap (λ (ws : List Waiting). record v.tasks { waiting = ws }) (sym empty) in
+    ap (λ (x : List Id). all_removed (all_removed (without_answered late v.tasks) x) (to_drop_for_lag v.followers.watched v.moment)) nobody.0
+    ∙ ap (λ (x : List Id). all_removed (without_answered late v.tasks) x) nobody.1
+    ∙ same
+
+pub planned_as_kept : (s : Settings) (v : View) (t : Tasks) (plan : Option Plan) → tasks_ticked v ≡ t → HasPlan (leader_of s.me v.node.term v.node.accepted v.node.committed v.node.join_votes s.shrink) t plan → IsPlannedTick s v plan
+planned_as_kept s v t plan is has =
+    subst (λ (x : Tasks). HasPlan (leader_of s.me v.node.term v.node.accepted v.node.committed v.node.join_votes s.shrink) x plan) (sym is) has
 
 pub planned_tick : (s : Settings) (v : View) (plan : Option Plan) (t3 t2 t1 copy : Tasks) (checks lag committed : List Id) (fs : Followers) → t3 ≡ all_removed t2 lag → t2 ≡ all_removed t1 checks → t1 ≡ without_answered (timed_out committed v.moment) copy → copy ≡ v.tasks
     → committed ≡ v.node.committed → checks ≡ to_drop_for_checks fs.watched v.moment → lag ≡ to_drop_for_lag fs.watched v.moment → fs ≡ v.followers

@@ -1,5 +1,5 @@
 //! The tick of a leader.
-ghost use Rattle.std.specs.Prelude.{◌≡◌, ◌≤◌, ◌+◌, ◌++◌, [], ◌∷◌, map, true, false, IfOk, length};
+ghost use Rattle.std.specs.Prelude.{◌≡◌, ◌≤◌, ◌+◌, ◌++◌, [], ◌∷◌, map, true, false, IfOk, IsTrue, length};
 ghost use Rattle.voting_config.specs.Ids.{Id};
 ghost use Rattle.fault_checks.specs.Followers.{to_ask, to_drop_for_checks, to_drop_for_lag};
 ghost use Rattle.policy_model.specs.Checks.{checks_followers};
@@ -8,7 +8,7 @@ ghost use Rattle.policy_model.specs.Rules.{has_timed_out, is_failed, ticks_leade
 ghost use Rattle.coordinator.specs.Does.{Does, DoesAll};
 ghost use Rattle.coordinator.specs.Rooms.{Uses, tick_drops, to_set, to_two_sets};
 ghost use Rattle.coordinator.specs.Showing.{shown_in};
-ghost use Rattle.coordinator.specs.Ticks.{all_removed, dropped, ticks_members, IsPlannedTick};
+ghost use Rattle.coordinator.specs.Ticks.{all_removed, dropped, tasks_ticked, ticks_members, IsPlannedTick};
 ghost use Rattle.coordinator.specs.Views.{view_in, IsReady};
 
 use crate::coordinator::{Coordinator, EventError};
@@ -76,8 +76,28 @@ impl<K: Keeper> Coordinator<K> {
         out.send_all(self.settings.me, ask.as_slice(), &check);
     }
 
-    // What going on will take after these.
+    // Whether a tick changes no task before it goes on: nothing waits, so no exclusion times out, and no follower is dropped.
+    fn keeps_tasks(&self) -> bool
+        ensures { IsTrue result → tasks_ticked (view_in K.Keeper self.now) ≡ self.now.tasks }
+    {
+        if self.tasks.open_count() > 0 {
+            return false;
+        }
+        self.followers.keeps_all(self.moment)
+    }
+
+    // What going on will take after them. Most often they change nothing, and nothing is copied then.
     fn plan_tick(&self, alloc: Global) -> Result<Option<Plan>, AllocError>
+        ensures { IfOk result (λ plan. IsPlannedTick self.now.settings (view_in K.Keeper self.now) plan) }
+    {
+        if self.keeps_tasks() {
+            return self.plan_of(alloc, &self.tasks);
+        }
+        self.plan_ticked(alloc)
+    }
+
+    // The same, by what they make of copies.
+    fn plan_ticked(&self, alloc: Global) -> Result<Option<Plan>, AllocError>
         ensures { IfOk result (λ plan. IsPlannedTick self.now.settings (view_in K.Keeper self.now) plan) }
     {
         let mut tasks = self.tasks.copy()?;

@@ -1,7 +1,7 @@
 use Rattle.std.proofs.Common.{◌∙◌}
 use Rattle.coordinator.specs.Views.{view_in}
 use Rattle.coordinator.proofs.Ticked.{planned_tick}
-use Rattle.coordinator.proofs.coordinator.Coordinator.plan_tick.Goals as goal
+use Rattle.coordinator.proofs.coordinator.Coordinator.plan_ticked.Goals as goal
 
 pub returns : goal.returns
 returns g c =
