@@ -1,7 +1,7 @@
 pub mod Alone
 pub mod AsSaid
 pub mod Carried
-pub mod Crashed
+pub mod AfterCrash
 pub mod FilesLeft
 pub mod Found
 pub mod JournalLeft

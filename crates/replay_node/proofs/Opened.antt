@@ -41,7 +41,7 @@ use Rattle.replay_node.specs.declared.node.ReplayNode.{ReplayNode}
 use Rattle.replay_node.specs.declared.node.Slot.{Slot}
 use Rattle.replay_node.specs.declared.node.Slot.TheVariants.{Open, Down}
 use Rattle.replay_node.proofs.AsSaid.{StopLeaves, said_done, said_failed, said_crashed, restarted_stands}
-use Rattle.replay_node.proofs.Crashed.{images_within}
+use Rattle.replay_node.proofs.AfterCrash.{images_within}
 use Rattle.replay_node.proofs.Nodes.{leaves_less}
 use Rattle.replay_node.proofs.SettledTakes.{settled_published}
 use Rattle.world_model.proofs.Struck.{kept_choice}

@@ -1,6 +1,6 @@
 use Rattle.std.proofs.Common.{subst}
 use Rattle.zen_disk.specs.declared.memory.MemDisks.{MemDisks}
-use Rattle.replay_node.proofs.Crashed.{Images}
+use Rattle.replay_node.proofs.AfterCrash.{Images}
 use Rattle.replay_node.proofs.disk.crashed.Goals as goal
 
 pub returns-clause-left : goal.returns-clause-left

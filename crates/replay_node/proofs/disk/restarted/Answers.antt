@@ -1,7 +1,7 @@
 use Rattle.std.proofs.Common.{◌∙◌, ap, subst}
 use Rattle.zen_disk.specs.MemDisks.{files_of}
 use Rattle.zen_disk.specs.declared.memory.MemDisks.{MemDisks}
-use Rattle.replay_node.proofs.Crashed.{Images, crash_within}
+use Rattle.replay_node.proofs.AfterCrash.{Images, crash_within}
 use Rattle.replay_node.proofs.disk.restarted.Goals as goal
 
 pub returns : goal.returns
