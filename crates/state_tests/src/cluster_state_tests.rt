@@ -52,7 +52,14 @@ fn is_seen(alloc: Global, bytes: &[u8], id: StateId) -> Result<bool, AllocError>
     Ok(check_state(bytes) == Ok(id) && is_same && has_bytes(&made, bytes))
 }
 
-// Whether the bytes are those of a state, which has this JSON and whose copy has these bytes, which lie beside it where it is spelled.
+fn has_json(state: &SharedState, json: &str) -> bool {
+    match state.json() {
+        None => false,
+        Some(text) => text == json.as_bytes(),
+    }
+}
+
+// Whether the bytes are those of a state, which has this JSON and whose copy has these bytes; both lie beside it where it is spelled.
 fn is_state(alloc: Global, bytes: &[u8], json: &str) -> Result<bool, AllocError> {
     let Ok(state) = decode_state(alloc, bytes) else {
         return Ok(false);
@@ -61,7 +68,8 @@ fn is_state(alloc: Global, bytes: &[u8], json: &str) -> Result<bool, AllocError>
     let again = encode_state(alloc, &copy)?;
     let text = to_json(alloc, &state)?;
     let is_seen = is_seen(alloc, bytes, state.id())?;
-    let is_spelled = has_bytes(&SharedState::spell(alloc, copy)?, bytes);
+    let spelled = SharedState::spell(alloc, copy)?;
+    let is_spelled = has_bytes(&spelled, bytes) && has_json(&spelled, json);
     let is_written = again.as_slice() == bytes && text.as_slice() == json.as_bytes();
     Ok(is_seen && is_spelled && is_written)
 }
