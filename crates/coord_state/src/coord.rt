@@ -134,18 +134,18 @@ impl<K: Keeper> CoordState<K> {
         self.election_won
     }
 
-    /// The sources of the joins counted in this round.
-    pub fn votes(&self) -> NodeSet
-        ensures { result ≡ self.now.join_votes }
+    /// The votes of this round: the sources of the joins that were counted.
+    pub fn votes(&self) -> &JoinVotes
+        ensures { result.now ≡ self.now.join_votes }
     {
-        self.join_votes.sources()
+        &self.join_votes
     }
 
     /// The sources of the responses counted since the last value was published.
-    pub fn acks(&self) -> NodeSet
-        ensures { result ≡ self.now.publish_votes }
+    pub fn acks(&self) -> &JoinVotes
+        ensures { result.now ≡ self.now.publish_votes }
     {
-        self.publish_votes.sources()
+        &self.publish_votes
     }
 
     /// The version and the configuration that were published last.

@@ -72,7 +72,7 @@ impl<K: Keeper> Coordinator<K> {
         }
         Ok(Ahead {
             term: self.core.term(),
-            votes: self.core.votes(),
+            votes: self.core.votes().sources(),
             won: self.core.won(),
             leads: self.is_leader(),
             tasks: self.tasks.copy()?,

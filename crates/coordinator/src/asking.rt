@@ -22,7 +22,12 @@ impl<K: Keeper> Coordinator<K> {
     {
         let mut tasks = self.tasks.copy()?;
         tasks.add_member(p);
-        let plan = self.plan_with(alloc, self.core.term(), &tasks, &self.core.votes())?;
+        let plan = self.plan_with(
+            alloc,
+            self.core.term(),
+            &tasks,
+            &self.core.votes().sources(),
+        )?;
         Ok(plan)
     }
 

@@ -44,7 +44,7 @@ impl<K: Keeper> Coordinator<K> {
             self.core.term(),
             &self.core.kept().accepted,
             &accepted.config,
-            &self.core.votes(),
+            &self.core.votes().sources(),
         )?;
         Ok(Some(plan))
     }

@@ -33,7 +33,7 @@ impl<K: Keeper> Coordinator<K> {
         self.leader_term = term;
         self.leader_check = None;
         self.tasks.add_member(self.settings.me);
-        let votes = self.core.votes();
+        let votes = self.core.votes().sources();
         add_members(&mut self.tasks, votes.as_slice());
         out.change_mode(Mode::Leader, term);
     }

@@ -221,7 +221,7 @@ fn seen_after(act: Act) -> Seen {
 // Whether the node is its only vote and its only voter.
 fn has_only_a(node: &CoordState<PlainKeeper>) -> bool {
     let voters = VotingConfig::of(&only_a());
-    node.votes().as_slice() == only_a().as_slice()
+    node.votes().sources().as_slice() == only_a().as_slice()
         && node.committed().is_same(&voters)
         && node.kept().committed.is_same(&voters)
 }
