@@ -1,9 +1,8 @@
 //! The plan for a join, made before its term is raised.
-ghost use Rattle.std.specs.Prelude.{◌≡◌, ◌&&◌, true, not, IfOk, if◌then◌else◌};
+ghost use Rattle.std.specs.Prelude.{◌≡◌, ◌&&◌, not, IfOk, if◌then◌else◌};
 ghost use Rattle.policy_model.specs.Doing.{is_candidate};
 ghost use Rattle.master_tasks.specs.Queue.{no_tasks};
 ghost use Rattle.world_model.specs.Replies.{elects};
-ghost use Rattle.voting_config.specs.Ids.{with_id, has_room as has_room_of};
 ghost use Rattle.policy_model.specs.Parts.{all_to_be_added};
 ghost use Rattle.coordinator.specs.Ahead.{ahead_of, HasPlan, IsPlannedAhead};
 ghost use Rattle.master_tasks.specs.NextState.{leader_of};
@@ -11,6 +10,7 @@ ghost use Rattle.coordinator.specs.Views.{view_in};
 
 use crate::coordinator::Coordinator;
 use crate::plan::{Plan, plan_state};
+use join_rules::JoinVotes;
 use master_tasks::MasterTasks;
 use policy_model::Mode;
 use state_journal::Keeper;
@@ -21,20 +21,10 @@ use voting_config::{NodeId, NodeSet};
 #[derive(Drop)]
 pub struct Ahead {
     pub term: u64,
-    pub votes: NodeSet,
+    pub votes: JoinVotes,
     pub won: bool,
     pub leads: bool,
     pub tasks: MasterTasks,
-}
-
-// The set with one more id.
-fn with(ids: &NodeSet, id: NodeId) -> NodeSet
-    requires { has_room_of ids.now id ≡ true }
-    ensures { result ≡ with_id id ids.now }
-{
-    let mut more = ids.copy();
-    more.put(id);
-    more
 }
 
 /// These are to become members.
@@ -64,7 +54,7 @@ impl<K: Keeper> Coordinator<K> {
         if self.core.term() < term {
             return Ok(Ahead {
                 term,
-                votes: NodeSet::new(),
+                votes: JoinVotes::new(),
                 won: false,
                 leads: false,
                 tasks: self.tasks_of_candidate(alloc)?,
@@ -72,7 +62,7 @@ impl<K: Keeper> Coordinator<K> {
         }
         Ok(Ahead {
             term: self.core.term(),
-            votes: self.core.votes().sources(),
+            votes: self.core.votes().copy(),
             won: self.core.won(),
             leads: self.is_leader(),
             tasks: self.tasks.copy()?,
@@ -80,11 +70,11 @@ impl<K: Keeper> Coordinator<K> {
     }
 
     // Whether these votes win.
-    fn wins_with(&self, won: bool, votes: &NodeSet) -> bool
-        ensures { result ≡ (not won && elects (view_in K.Keeper self.now).node votes.now) }
+    fn wins_with(&self, won: bool, votes: &mut JoinVotes) -> bool
+        ensures value { result ≡ (not won && elects (view_in K.Keeper self.now).node votes.old) }
+        ensures same { votes.new ≡ votes.old }
     {
-        !won && self.core.committed().is_quorum(votes)
-            && self.core.accepted().config.is_quorum(votes)
+        !won && votes.is_quorum_of_both(self.core.committed(), &self.core.accepted().config)
     }
 
     // What making the next state of these tasks comes to, in a term and with these votes.
@@ -124,17 +114,19 @@ impl<K: Keeper> Coordinator<K> {
         if !votes.has_room(p) {
             return Ok(None);
         }
-        let votes = with(&votes, p);
+        let mut votes = votes;
+        votes.add(p);
         let mut tasks = tasks;
-        if self.wins_with(won, &votes) {
+        if self.wins_with(won, &mut votes) {
+            let sources = votes.sources();
             tasks.add_member(self.settings.me);
-            add_members(&mut tasks, votes.as_slice());
-            let plan = self.plan_with(alloc, term, &tasks, &votes)?;
+            add_members(&mut tasks, sources.as_slice());
+            let plan = self.plan_with(alloc, term, &tasks, &sources)?;
             return Ok(plan);
         }
         if leads {
             tasks.add_member(p);
-            let plan = self.plan_with(alloc, term, &tasks, &votes)?;
+            let plan = self.plan_with(alloc, term, &tasks, &votes.sources())?;
             return Ok(plan);
         }
         Ok(None)
