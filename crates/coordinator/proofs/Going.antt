@@ -1,6 +1,7 @@
 -- The next state is made and published, or the node hands over.
-use Rattle.std.proofs.Common.{◌≡◌, ℕ, ◌+◌, ◌≤◌, Bool, true, false, not, ◌&&◌, Option, List, [], ◌∷◌, ◌++◌, map, refl, sym, ap, subst, ◌∙◌}
+use Rattle.std.proofs.Common.{◌≡◌, ℕ, ◌+◌, ◌<◌, ◌≤◌, arith, Bool, true, false, not, ◌&&◌, Option, List, [], ◌∷◌, ◌++◌, map, refl, sym, ap, subst, ◌∙◌}
 use Rattle.std.proofs.lemmas.Bool.{le-leb}
+use Rattle.std.proofs.lemmas.Bool.Decides.{nat_tests}
 use Rattle.state_journal.specs.declared.keeper.Keeper.{Ghosts}
 use Rattle.std.specs.Prelude.{if◌then◌else◌, None, Some, find, nat_le}
 use Rattle.std.proofs.lemmas.List.{append_assoc}
@@ -33,7 +34,7 @@ use Rattle.coordinator.specs.declared.coordinator.Coordinator.{Coordinator}
 use Rattle.coordinator.specs.declared.plan.NewState.{NewState}
 use Rattle.coordinator.specs.declared.plan.Plan.{Plan}
 use Rattle.coordinator.proofs.Composing.{makes_then}
-use Rattle.coordinator.proofs.Quiet.{makes_replies, makes_sends, makes_note}
+use Rattle.coordinator.proofs.Quiet.{makes_nothing, makes_replies, makes_sends, makes_note}
 use Rattle.coordinator.proofs.Becoming.{makes_as}
 
 -- the act that publishes a new state
@@ -161,4 +162,18 @@ module _ {K : Type 0} (k : Ghosts K) where
       (ap (λ (x : List Id). send_all s x (message.StartJoin id term)) targets_here
       ∙ ap (λ (n : ℕ). send_all s (targets_of v.publication) (message.StartJoin id n)) term_is
       ∙ ap (λ (b : Bool). if b then send_all s (targets_of v.publication) (message.StartJoin id (v.node.term + 1)) else []) (sym le)
+      ∙ ap (λ (x : Option Id). asks_successor s v x) here)
+
+  -- no term is left in which it could be asked
+  pub asks_late : (c : Coordinator K) (o : Shown) (id : Id) (term : ℕ) (p : Publication) (found : Option Id) (committed responders : List Id) → c.publication ≡ Some p
+      → found ≡ find (λ (x : Id). not (is_voting_only c.settings x) && has x committed) responders → committed ≡ (view c).node.committed → responders ≡ p.responders → found ≡ Some id
+      → term ≡ (view c).node.term + 1 → last_number < term → Make c c o o (asks_successor c.settings (view c) (successor_of c.settings (view c)))
+  asks_late c o id term p found committed responders published found_is committed_is responders_is some term_is late =
+      let s = c.settings in
+      let v = view c in
+      let above : nat_le (v.node.term + 1) last_number ≡ false = rw (← term_is) (grind (arith, nat_tests, late)) in
+      let here : Some id ≡ successor_of s v =
+      sym some ∙ found_is ∙ ap (λ (x : List Id). find (λ (y : Id). not (is_voting_only s y) && has y x) responders) committed_is ∙ ap (λ (x : List Id). find (λ (y : Id). not (is_voting_only s y) && has y v.node.committed) x) (responders_is ∙ ap (λ (x : Option Publication). responders_of x) (sym published)) in
+      makes_as k c c o o _ _ (makes_nothing k c o)
+      (ap (λ (b : Bool). if b then send_all s (targets_of v.publication) (message.StartJoin id (v.node.term + 1)) else []) (sym above)
       ∙ ap (λ (x : Option Id). asks_successor s v x) here)
