@@ -19,7 +19,8 @@ responding s p id = Response (record { source = p; target = s.me; term = id.term
 abbrev pub takes_response : Settings → View → Id → StateId → List Item
 takes_response s v p id =
     act_now s v (responding s p id)
-    ∷ (if commits_now (reply_now s v (responding s p id)) then sends_commit s (after_act s v (responding s p id)) (is_commit_sent v.publication) p id else [])
+    ∷ (if commits_now (reply_now s v (responding s p id))
+    then sends_commit s (after_act s v (responding s p id)) (is_commit_sent v.publication) p id else [])
 
 -- the requests in the published state are acknowledged
 abbrev pub acks_commit : Settings → View → List Item

@@ -23,7 +23,8 @@ IsDuringAs g act (Answered Stopped) found = found ≡ Some (durable_of g)
 IsDuringAs g act (Disk kept) found = IsDuring g act found
 IsDuringAs g act (Crashed kept) found = IsDuring g act found
 
--- what a crash leaves at a moment of these items: what is kept of the acts so far, without the act in hand or, unless that is refused, with it
+-- what a crash leaves at a moment of these items: what is kept of the acts so far, without the act in hand or, unless that is refused, with
+-- it
 abbrev pub IsAlong : NodeHistory → List Item → Option Kept → Type 0
 IsAlong g [] found = found ≡ Some (durable_of g)
 IsAlong g (Acts act o ∷ is) found = IsDuringAs g act o found ⊎ IsAlong (Then g act o) is found
@@ -40,7 +41,8 @@ module _ {K : Type 0} (k : Ghosts K) where
   pub record Acted (old new : CoordState K) (act : Act) (outcome : Outcome) : Type 0 where
     pub acts : CoreActs k old new act outcome
     pub wrote : WritesBy k old.keeper act new.keeper outcome
-    pub any_moment : k.told → (g : NodeHistory) → StandsFor k old g → LeavesOnly k.moment k.left_since old.keeper new.keeper (IsDuring g act)
+    pub any_moment : k.told → (g : NodeHistory) → StandsFor k old g
+        → LeavesOnly k.moment k.left_since old.keeper new.keeper (IsDuring g act)
     pub told : IsReported outcome
 
   -- the core did these acts and no others

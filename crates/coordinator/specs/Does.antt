@@ -55,11 +55,13 @@ module _ {K : Type 0} (k : Ghosts K) where
   EndsAll (Err error.Struck) old new sent sent_now items = Fails old new sent sent_now items
   EndsAll (Err error.Memory) old new sent sent_now items = new ≡ old
 
-  abbrev pub DoesAll : (old new : Coordinator K) (out out_now : Output) → (Settings → View → List Item) → Result (Unit {0}) EventError → Type 0
+  abbrev pub DoesAll : (old new : Coordinator K) (out out_now : Output) → (Settings → View → List Item) → Result (Unit {0}) EventError
+      → Type 0
   DoesAll old new out out_now rule result =
       EndsAll result old new (shown_in out) (shown_in out_now) (rule old.settings (view_in k old))
 
   -- a crash at any moment leaves the record of the acts so far, without the act in hand or with it
   abbrev pub Leaves : (old new : Coordinator K) → List Item → Type 0
   Leaves old new items =
-      k.told → (g : NodeHistory) → StandsFor k old.core g → LeavesOnly k.moment k.left_since old.core.keeper new.core.keeper (IsAlong g items)
+      k.told → (g : NodeHistory) → StandsFor k old.core g
+      → LeavesOnly k.moment k.left_since old.core.keeper new.core.keeper (IsAlong g items)

@@ -72,13 +72,15 @@ module _ {K : Type 0} (k : Ghosts K) where
   abbrev pub Survives : (old new : Coordinator K) → Event → Type 0
   Survives old new event =
       (life : Life) → StandsForLife old life → k.told
-      → LeavesOnly k.moment k.left_since old.core.keeper new.core.keeper (IsAlong (acts_of (log_of life)) (items_of old.settings (log_of life) event))
+      → LeavesOnly k.moment k.left_since old.core.keeper new.core.keeper
+      (IsAlong (acts_of (log_of life)) (items_of old.settings (log_of life) event))
 
   -- a crash now leaves the record of the acts in the node's life with this event, and nothing else
   abbrev pub Lasts : (old new : Coordinator K) → Event → Type 0
   Lasts old new event =
       (life : Life) → StandsForLife old life → k.told → (found : Option Kept)
-      → k.left_since new.core.keeper (k.moment new.core.keeper) found ↔ (found ≡ Some (durable_of (acts_of (log_of (Lived life (Did event (items_of old.settings (log_of life) event)))))))
+      → k.left_since new.core.keeper (k.moment new.core.keeper) found
+      ↔ (found ≡ Some (durable_of (acts_of (log_of (Lived life (Did event (items_of old.settings (log_of life) event)))))))
 
   -- the event's entry in the node's life, the acts of the core in it, and what the keeper wrote for them
   pub record Enters (old new : Coordinator K) (event : Event) (items : List Item) : Type 0 where

@@ -17,7 +17,8 @@ stands_alone s v = if elects v.node (s.me ∷ []) then stands_for_election s v (
 -- what an answer to a round brings about, where it fits
 abbrev pub counted_of : Option Round → Id → ℕ → StateId → List Id → List Id → Option Added
 counted_of None p term last committed accepted = None
-counted_of (Some round) p term last committed accepted = if fits p round then Some (added_of (answered round p term last) last committed accepted) else None
+counted_of (Some round) p term last committed accepted = if fits p round
+    then Some (added_of (answered round p term last) last committed accepted) else None
 
 -- the round after it
 abbrev pub round_after : Option Round → Id → ℕ → StateId → Option Round

@@ -44,7 +44,8 @@ impl<K: Keeper> Coordinator<K> {
         requires ready { IsReady self.old }
         requires deeds { 1 ≤ out.old.deeds.room }
         requires first { first.ready.state ≡ initial_state first.config }
-        ensures does { Does K.Keeper self.old self.new out.old out.new (λ s v. act_now s v (act.Bootstrap first.config) ∷ []) (is_ok result) }
+        ensures does { Does K.Keeper self.old self.new out.old out.new (λ s v. act_now s v (act.Bootstrap first.config) ∷ [])
+            (is_ok result) }
         ensures taken { IfOk result (λ taken. taken ≡ takes self.old.settings (view_in K.Keeper self.old) (act.Bootstrap first.config)) }
         ensures uses { Uses out.old out.new 1 0 0 }
         ensures rest { self.new ≡ record self.old { core = self.new.core } }
@@ -65,7 +66,8 @@ impl<K: Keeper> Coordinator<K> {
     ) -> Result<bool, DiskFailed>
         requires ready { IsReady self.old }
         requires deeds { 1 ≤ out.old.deeds.room }
-        ensures does { Does K.Keeper self.old self.new out.old out.new (λ s v. act_now s v (act.StartJoin candidate term) ∷ []) (is_ok result) }
+        ensures does { Does K.Keeper self.old self.new out.old out.new (λ s v. act_now s v (act.StartJoin candidate term) ∷ [])
+            (is_ok result) }
         ensures taken { IfOk result (λ taken. taken ≡ takes self.old.settings (view_in K.Keeper self.old) (act.StartJoin candidate term)) }
         ensures uses { Uses out.old out.new 1 0 0 }
         ensures rest { self.new ≡ record self.old { core = self.new.core } }
@@ -108,7 +110,8 @@ impl<K: Keeper> Coordinator<K> {
         requires ready { IsReady self.old }
         requires deeds { 1 ≤ out.old.deeds.room }
         requires request { request ≡ request_of K.Keeper self.old.core request.state.version config value }
-        ensures does { Does K.Keeper self.old self.new out.old out.new (λ s v. act_now s v (act.Value request.state.version config value) ∷ []) true }
+        ensures does { Does K.Keeper self.old self.new out.old out.new
+            (λ s v. act_now s v (act.Value request.state.version config value) ∷ []) true }
         ensures taken { result ≡ takes self.old.settings (view_in K.Keeper self.old) (act.Value request.state.version config value) }
         ensures uses { Uses out.old out.new 1 0 0 }
         ensures tasks { self.new.tasks ≡ self.old.tasks }
@@ -141,8 +144,11 @@ impl<K: Keeper> Coordinator<K> {
         requires ready { IsReady self.old }
         requires deeds { 1 ≤ out.old.deeds.room }
         requires entry { entry ≡ state.state }
-        ensures does { Does K.Keeper self.old self.new out.old out.new (λ s v. act_now s v (act.Publish (record { source = source; state = state.state })) ∷ []) (is_ok result) }
-        ensures taken { IfOk result (λ taken. taken ≡ takes self.old.settings (view_in K.Keeper self.old) (act.Publish (record { source = source; state = state.state }))) }
+        ensures does { Does K.Keeper self.old self.new out.old out.new
+            (λ s v. act_now s v (act.Publish (record { source = source; state = state.state })) ∷ []) (is_ok result) }
+        ensures taken { IfOk result
+            (λ taken. taken ≡ takes self.old.settings (view_in K.Keeper self.old)
+            (act.Publish (record { source = source; state = state.state }))) }
         ensures uses { Uses out.old out.new 1 0 0 }
         ensures rest { self.new ≡ record self.old { core = self.new.core } }
     {

@@ -85,7 +85,9 @@ impl<K: Keeper> Coordinator<K> {
         tasks: &MasterTasks,
         votes: &NodeSet,
     ) -> Result<Option<Plan>, AllocError>
-        ensures { IfOk result (λ plan. HasPlan (leader_of self.now.settings.me term (K.record_of self.now.core.keeper).accepted (K.record_of self.now.core.keeper).committed votes.now self.now.settings.shrink) tasks.now plan) }
+        ensures { IfOk result
+            (λ plan. HasPlan (leader_of self.now.settings.me term (K.record_of self.now.core.keeper).accepted
+            (K.record_of self.now.core.keeper).committed votes.now self.now.settings.shrink) tasks.now plan) }
     {
         let plan = plan_state(
             alloc,
@@ -139,7 +141,8 @@ impl<K: Keeper> Coordinator<K> {
         p: NodeId,
         term: u64,
     ) -> Result<Option<Plan>, AllocError>
-        ensures { IfOk result (λ plan. IsPlannedAhead self.now.settings (view_in K.Keeper self.now) (ahead_of (view_in K.Keeper self.now) term) p plan) }
+        ensures { IfOk result
+            (λ plan. IsPlannedAhead self.now.settings (view_in K.Keeper self.now) (ahead_of (view_in K.Keeper self.now) term) p plan) }
     {
         let ahead = self.ahead(alloc, term)?;
         self.plan_ahead(alloc, ahead, p)

@@ -18,7 +18,9 @@ use voting_config::NodeId;
 impl<K: Keeper> Coordinator<K> {
     // What going on will take once p is to become a member.
     fn plan_member(&self, alloc: Global, p: NodeId) -> Result<Option<Plan>, AllocError>
-        ensures { IfOk result (λ plan. IsPlanned self.now.settings (moved_all self.now.settings (view_in K.Keeper self.now) (Notes (Joined (p ∷ [])) ∷ [])) plan) }
+        ensures { IfOk result
+            (λ plan. IsPlanned self.now.settings (moved_all self.now.settings (view_in K.Keeper self.now) (Notes (Joined (p ∷ [])) ∷ []))
+            plan) }
     {
         let mut tasks = self.tasks.copy()?;
         tasks.add_member(p);

@@ -156,7 +156,8 @@ impl<K: Keeper> Coordinator<K> {
         requires deeds { 4 ≤ out.old.deeds.room }
         requires frames { 2 ≤ out.old.frames.room }
         requires replies { length self.old.tasks.waiting ≤ out.old.replies.room }
-        ensures does { Does K.Keeper self.old self.new out.old out.new (λ s v. then_rule s v (raises_term s v leader term) (λ u. follows_checker s u leader)) (is_ok result) }
+        ensures does { Does K.Keeper self.old self.new out.old out.new
+            (λ s v. then_rule s v (raises_term s v leader term) (λ u. follows_checker s u leader)) (is_ok result) }
     {
         match self.raise_term(out, leader, term) {
             Err(_) => Err(DiskFailed),

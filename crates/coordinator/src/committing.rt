@@ -63,7 +63,8 @@ impl<K: Keeper> Coordinator<K> {
     // A leader that heard of the commit goes on as planned.
     fn finish_publication(&mut self, out: &mut Output, plan: Option<Plan>)
         requires ready { IsReady self.old }
-        requires plan { IsPlanned self.old.settings (moved_all self.old.settings (view_in K.Keeper self.old) (acks_exclusions self.old.settings (view_in K.Keeper self.old))) plan }
+        requires plan { IsPlanned self.old.settings
+            (moved_all self.old.settings (view_in K.Keeper self.old) (acks_exclusions self.old.settings (view_in K.Keeper self.old))) plan }
         requires deeds { 2 ≤ out.old.deeds.room }
         requires frames { to_set ≤ out.old.frames.room }
         requires replies { length self.old.tasks.waiting + replies_planned plan ≤ out.old.replies.room }

@@ -143,7 +143,8 @@ impl<K: Keeper> Coordinator<K> {
         requires deeds { 2 ≤ out.old.deeds.room }
         requires frames { 1 ≤ out.old.frames.room }
         requires replies { length self.old.tasks.waiting ≤ out.old.replies.room }
-        ensures does { Does K.Keeper self.old self.new out.old out.new (λ s v. on_peers_answer s v answer.now.from answer.now.master answer.now.term known.now) (is_ok result) }
+        ensures does { Does K.Keeper self.old self.new out.old out.new
+            (λ s v. on_peers_answer s v answer.now.from answer.now.master answer.now.term known.now) (is_ok result) }
     {
         self.meet(answer.from, known);
         self.hear_peer(out, answer)
@@ -162,7 +163,8 @@ impl<K: Keeper> Coordinator<K> {
         requires ready { IsReady self.old }
         requires deeds { 2 ≤ out.old.deeds.room }
         requires frames { 1 ≤ out.old.frames.room }
-        ensures does { DoesAll K.Keeper self.old self.new out.old out.new (λ s v. on_peers_answer s v from master.now term known.now) result }
+        ensures does { DoesAll K.Keeper self.old self.new out.old out.new (λ s v. on_peers_answer s v from master.now term known.now)
+            result }
     {
         let Ok(()) = out.make_room(self.tasks.open_count(), &None) else {
             return Err(EventError::Memory);
@@ -184,7 +186,8 @@ impl<K: Keeper> Coordinator<K> {
         requires deeds { 2 ≤ out.old.deeds.room }
         requires frames { 1 ≤ out.old.frames.room }
         requires replies { length self.old.tasks.waiting ≤ out.old.replies.room }
-        ensures does { Does K.Keeper self.old self.new out.old out.new (λ s v. hears_peer s v answer.now.from answer.now.master answer.now.term) (is_ok result) }
+        ensures does { Does K.Keeper self.old self.new out.old out.new
+            (λ s v. hears_peer s v answer.now.from answer.now.master answer.now.term) (is_ok result) }
         ensures uses { Uses out.old out.new 2 1 (length self.old.tasks.waiting) }
     {
         if is_candidate(self.mode) {
@@ -199,7 +202,9 @@ impl<K: Keeper> Coordinator<K> {
         requires deeds { 2 ≤ out.old.deeds.room }
         requires frames { 1 ≤ out.old.frames.room }
         requires replies { length self.old.tasks.waiting ≤ out.old.replies.room }
-        ensures does { Does K.Keeper self.old self.new out.old out.new (λ s v. then_rule s v (Notes (Heard answer.now.from answer.now.master) ∷ []) (λ u. seeks_master s u answer.now.from answer.now.master answer.now.term)) (is_ok result) }
+        ensures does { Does K.Keeper self.old self.new out.old out.new
+            (λ s v. then_rule s v (Notes (Heard answer.now.from answer.now.master) ∷ [])
+            (λ u. seeks_master s u answer.now.from answer.now.master answer.now.term)) (is_ok result) }
         ensures uses { Uses out.old out.new 2 1 (length self.old.tasks.waiting) }
     {
         self.hear(answer.from, &answer.master);
@@ -220,7 +225,8 @@ impl<K: Keeper> Coordinator<K> {
         requires deeds { 2 ≤ out.old.deeds.room }
         requires frames { 1 ≤ out.old.frames.room }
         requires replies { length self.old.tasks.waiting ≤ out.old.replies.room }
-        ensures does { Does K.Keeper self.old self.new out.old out.new (λ s v. seeks_master s v answer.now.from answer.now.master answer.now.term) (is_ok result) }
+        ensures does { Does K.Keeper self.old self.new out.old out.new
+            (λ s v. seeks_master s v answer.now.from answer.now.master answer.now.term) (is_ok result) }
         ensures uses { Uses out.old out.new 2 1 (length self.old.tasks.waiting) }
     {
         if !is_node(answer.master, answer.from) {

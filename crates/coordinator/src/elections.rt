@@ -88,7 +88,8 @@ impl<K: Keeper> Coordinator<K> {
         requires first { IsPlannedFirst self.old.settings (view_in K.Keeper self.old) first }
         requires deeds { 1 ≤ out.old.deeds.room }
         requires frames { to_set ≤ out.old.frames.room }
-        ensures does { Does K.Keeper self.old self.new out.old out.new (λ s v. then_rule s v (bootstraps s v) (asks_peers s)) (is_ok result) }
+        ensures does { Does K.Keeper self.old self.new out.old out.new (λ s v. then_rule s v (bootstraps s v) (asks_peers s))
+            (is_ok result) }
         ensures uses { Uses out.old out.new 1 to_set 0 }
     {
         match self.bootstrap(out, first) {
@@ -175,7 +176,8 @@ impl<K: Keeper> Coordinator<K> {
 
     // Whether the node is not voting-only, votes or is not excluded, and these are an election quorum.
     fn may_be_elected(&self, ids: &NodeSet) -> bool
-        ensures { result ≡ (not (is_voting_only_of self.now.settings self.now.settings.me) && (may_win_of self.now.settings (view_in K.Keeper self.now) && elects_of (view_in K.Keeper self.now).node ids.now)) }
+        ensures { result ≡ (not (is_voting_only_of self.now.settings self.now.settings.me)
+            && (may_win_of self.now.settings (view_in K.Keeper self.now) && elects_of (view_in K.Keeper self.now).node ids.now)) }
     {
         if self.is_voting_only() {
             return false;

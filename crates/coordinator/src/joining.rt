@@ -48,7 +48,8 @@ impl<K: Keeper> Coordinator<K> {
     // It leads from now on, and goes on as planned.
     fn win(&mut self, out: &mut Output, plan: Option<Plan>)
         requires ready { IsReady self.old }
-        requires plan { IsPlanned self.old.settings (moved_all self.old.settings (view_in K.Keeper self.old) (winning self.old.settings (view_in K.Keeper self.old))) plan }
+        requires plan { IsPlanned self.old.settings
+            (moved_all self.old.settings (view_in K.Keeper self.old) (winning self.old.settings (view_in K.Keeper self.old))) plan }
         requires deeds { 3 ≤ out.old.deeds.room }
         requires frames { to_set ≤ out.old.frames.room }
         requires replies { replies_planned plan ≤ out.old.replies.room }
@@ -61,7 +62,8 @@ impl<K: Keeper> Coordinator<K> {
     // A node is to become a member, and the leader goes on as planned.
     pub(crate) fn take_member(&mut self, out: &mut Output, p: NodeId, plan: Option<Plan>)
         requires ready { IsReady self.old }
-        requires plan { IsPlanned self.old.settings (moved_all self.old.settings (view_in K.Keeper self.old) (Notes (Joined (p ∷ [])) ∷ [])) plan }
+        requires plan { IsPlanned self.old.settings (moved_all self.old.settings (view_in K.Keeper self.old) (Notes (Joined (p ∷ [])) ∷ []))
+            plan }
         requires deeds { 2 ≤ out.old.deeds.room }
         requires frames { to_set ≤ out.old.frames.room }
         requires replies { replies_planned plan ≤ out.old.replies.room }
@@ -81,7 +83,8 @@ impl<K: Keeper> Coordinator<K> {
         plan: Option<Plan>,
     )
         requires ready { IsReady self.old }
-        requires plan { IsPlannedJoin self.old.settings (view_in K.Keeper self.old) p (act.TakeJoin (join_from p self.old.settings.me term last)) plan }
+        requires plan { IsPlannedJoin self.old.settings (view_in K.Keeper self.old) p
+            (act.TakeJoin (join_from p self.old.settings.me term last)) plan }
         requires deeds { 4 ≤ out.old.deeds.room }
         requires frames { to_set ≤ out.old.frames.room }
         requires replies { replies_planned plan ≤ out.old.replies.room }

@@ -31,7 +31,10 @@ impl<K: Keeper> Coordinator<K> {
         alloc: Global,
         tasks: &MasterTasks,
     ) -> Result<Option<Plan>, AllocError>
-        ensures { IfOk result (λ plan. HasPlan (master_of self.now.settings.me (K.record_of self.now.core.keeper).term (K.record_of self.now.core.keeper).accepted (K.record_of self.now.core.keeper).committed self.now.core.join_votes self.now.settings.shrink) tasks.now plan) }
+        ensures { IfOk result
+            (λ plan. HasPlan (master_of self.now.settings.me (K.record_of self.now.core.keeper).term
+            (K.record_of self.now.core.keeper).accepted (K.record_of self.now.core.keeper).committed self.now.core.join_votes
+            self.now.settings.shrink) tasks.now plan) }
     {
         let plan = self.plan_with(alloc, self.core.term(), tasks, &self.core.votes().sources())?;
         Ok(plan)

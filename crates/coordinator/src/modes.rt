@@ -22,7 +22,9 @@ use wire_frames::WireMessage;
 // The open requests of a leader fail, with the term in which it led.
 fn fail_requests(mode: Mode, term: u64, tasks: &mut MasterTasks, out: &mut Output)
     requires replies { length tasks.old.waiting ≤ out.old.replies.room }
-    ensures shown { shown_in out.new ≡ record (shown_in out.old) { replies = (shown_in out.old).replies ++ (if is_leader mode then answers_by (failed term) tasks.old.waiting else []) } }
+    ensures shown { shown_in out.new
+        ≡ record (shown_in out.old)
+        { replies = (shown_in out.old).replies ++ (if is_leader mode then answers_by (failed term) tasks.old.waiting else []) } }
     ensures uses { Uses out.old out.new 0 0 (length tasks.old.waiting) }
 {
     match mode {
@@ -89,7 +91,9 @@ impl<K: Keeper> Coordinator<K> {
 
     fn send_join(&self, out: &mut Output, candidate: NodeId, term: u64)
         requires frames { 1 ≤ out.old.frames.room }
-        ensures shown { shown_in out.new ≡ showing (shown_in out.old) (send self.now.settings candidate (message.Join term (id_of (K.record_of self.now.core.keeper).accepted))) }
+        ensures shown { shown_in out.new
+            ≡ showing (shown_in out.old)
+            (send self.now.settings candidate (message.Join term (id_of (K.record_of self.now.core.keeper).accepted))) }
         ensures uses { Uses out.old out.new 0 1 0 }
     {
         let last = self.core.accepted().id();

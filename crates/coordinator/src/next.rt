@@ -79,7 +79,9 @@ impl<K: Keeper> Coordinator<K> {
         requires deeds { 2 ≤ out.old.deeds.room }
         requires frames { to_set ≤ out.old.frames.room }
         requires replies { length self.old.tasks.waiting ≤ out.old.replies.room }
-        ensures does { (v : View) → v.node ≡ (view_in K.Keeper self.old).node → IsNewState self.old.settings.me (state_by (as_master self.old.settings v.node) v.tasks) new → Does K.Keeper self.old self.new out.old out.new (λ s u. publishes s v u) true }
+        ensures does { (v : View) → v.node ≡ (view_in K.Keeper self.old).node
+            → IsNewState self.old.settings.me (state_by (as_master self.old.settings v.node) v.tasks) new
+            → Does K.Keeper self.old self.new out.old out.new (λ s u. publishes s v u) true }
     {
         let NewState {
             request,

@@ -38,7 +38,8 @@ impl<K: Keeper> Coordinator<K> {
         ensures small { IsSmallView (view_in K.Keeper result) }
 
         // Whatever its life before, it stands for that life with this opening, where the record is what was kept.
-        ensures stands { (life : Life) → ContinuesUnlessFirst (acts_of (log_of life)) (Open (K.record_of keeper)) → StandsForLife K.Keeper result (Opened life (K.record_of keeper)) }
+        ensures stands { (life : Life) → ContinuesUnlessFirst (acts_of (log_of life)) (Open (K.record_of keeper))
+            → StandsForLife K.Keeper result (Opened life (K.record_of keeper)) }
     {
         let value = &keeper.kept().accepted.value;
         // For the proof alone: settings ascend by key, and a set has at most `MAX_IDS` ids.

@@ -33,7 +33,9 @@ fn is_commit_sent(publication: &Option<Publication>) -> bool
 // The commit goes to those of the nodes that are among the others.
 fn send_commits(out: &mut Output, me: NodeId, ids: &[NodeId], others: &NodeSet, id: StateId)
     requires { length ids.now ≤ out.old.frames.room }
-    ensures shown { shown_in out.new ≡ record (shown_in out.old) { frames = (shown_in out.old).frames ++ map (λ (to : Id). frame_to me (message.Commit id) to) (among ids.now others.now) } }
+    ensures shown { shown_in out.new
+        ≡ record (shown_in out.old)
+        { frames = (shown_in out.old).frames ++ map (λ (to : Id). frame_to me (message.Commit id) to) (among ids.now others.now) } }
     ensures uses { Uses out.old out.new 0 (length ids.now) 0 }
 {
     for to in ids {
@@ -54,7 +56,12 @@ impl<K: Keeper> Coordinator<K> {
     // The commit goes to each target that has responded.
     fn broadcast_commit(&self, out: &mut Output, id: StateId)
         requires frames { to_set ≤ out.old.frames.room }
-        ensures shown { shown_in out.new ≡ record (shown_in out.old) { frames = (shown_in out.old).frames ++ map (λ (to : Id). frame_to self.now.settings.me (message.Commit id) to) (among (responders_of self.now.publication) (targets_of self.now.publication)) } }
+        ensures shown { shown_in out.new
+            ≡ record (shown_in out.old) {
+              frames = (shown_in out.old).frames
+                  ++ map (λ (to : Id). frame_to self.now.settings.me (message.Commit id) to)
+                  (among (responders_of self.now.publication) (targets_of self.now.publication));
+            } }
         ensures uses { Uses out.old out.new 0 to_set 0 }
     {
         let Some(publication) = &self.publication else {

@@ -49,7 +49,9 @@ impl Output {
     // A frame of `me` to each of the nodes.
     pub(crate) fn send_all(&mut self, me: NodeId, ids: &[NodeId], what: &Broadcast)
         requires { length ids.now ≤ self.old.frames.room }
-        ensures shown { shown_in self.new ≡ record (shown_in self.old) { frames = (shown_in self.old).frames ++ map (λ (to : Id). frame_to me (message_of what.now) to) ids.now } }
+        ensures shown { shown_in self.new
+            ≡ record (shown_in self.old)
+            { frames = (shown_in self.old).frames ++ map (λ (to : Id). frame_to me (message_of what.now) to) ids.now } }
         ensures uses { Uses self.old self.new 0 (length ids.now) 0 }
     {
         for to in ids {

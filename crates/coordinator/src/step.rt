@@ -183,7 +183,8 @@ impl<K: Keeper> Coordinator<K> {
 
         // The deeds, drops, frames and replies are those of the policy, for each life that the node stood for; and it stands
         // for the life with this entry.
-        ensures does { (life : Life) → StandsForLife K.Keeper self.old life → Steps K.Keeper self.old self.new event (items_of self.old.settings (log_of life) event) result }
+        ensures does { (life : Life) → StandsForLife K.Keeper self.old life
+            → Steps K.Keeper self.old self.new event (items_of self.old.settings (log_of life) event) result }
 
         // Whatever it stood for: its settings stay, and the disk's count of faults never falls. At Disk that count rose, and
         // the node is halted; at Memory and Stopped nothing changed.

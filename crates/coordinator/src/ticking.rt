@@ -35,7 +35,8 @@ fn remove_members(tasks: &mut MasterTasks, ids: &[NodeId])
 // The drop of each of these is shown.
 fn show_drops(out: &mut Output, ids: &[NodeId], cause: DropCause)
     requires { length ids.now ≤ out.old.drops.room }
-    ensures shown { shown_in out.new ≡ record (shown_in out.old) { drops = (shown_in out.old).drops ++ map (λ (id : Id). dropped cause id) ids.now } }
+    ensures shown { shown_in out.new
+        ≡ record (shown_in out.old) { drops = (shown_in out.old).drops ++ map (λ (id : Id). dropped cause id) ids.now } }
     ensures room { out.old.drops.room ≤ out.new.drops.room + length ids.now }
     ensures uses { Uses out.old out.new 0 0 0 }
 {
