@@ -3,7 +3,7 @@ use schedule_text::{ReadError, WhyBad};
 use std::alloc::Global;
 use std::test::Fail;
 use text::Text;
-use trace_reader::{BadTrace, Ending, Told, Trace, TraceLine, read_trace, write_bad_trace};
+use trace_reader::{BadTrace, Ending, Said, Trace, TraceLine, read_trace, write_bad_trace};
 
 const ELECTION: &str = "> boot a\n\
     act a ok boot a\n\
@@ -25,9 +25,9 @@ fn lines_read(alloc: Global, text: &str) -> Result<Trace, Fail> {
 fn are_told(lines: &[TraceLine]) -> bool {
     lines.len() == 8
         && lines[4].text.as_slice() == b"m1 a->a join 1 0/0".as_slice()
-        && matches!(&lines[4].told, Told::Sent(_, Some(_)))
-        && matches!(&lines[5].told, Told::Delivery(_, 1))
-        && matches!(&lines[7].told, Told::Won(_, 1))
+        && matches!(&lines[4].said, Said::Sent(_, Some(_)))
+        && matches!(&lines[5].said, Said::Delivery(_, 1))
+        && matches!(&lines[7].said, Said::Won(_, 1))
 }
 
 #[test]
@@ -43,8 +43,8 @@ fn ending_of(alloc: Global, text: &str) -> Result<Option<Ending>, Fail> {
     let Some(line) = trace.as_slice().get(1) else {
         return Ok(None);
     };
-    match &line.told {
-        Told::Act(_, ending) => Ok(Some(*ending)),
+    match &line.said {
+        Said::Act(_, ending) => Ok(Some(*ending)),
         _ => Ok(None),
     }
 }
