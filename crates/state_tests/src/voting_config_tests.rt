@@ -1,12 +1,14 @@
 //! Ids, sets and quorums at their limits. What is expected was counted by hand.
 use voting_config::{
-    Full, IdError, MAX_IDS, NodeId, NodeSet, Roster, VotingConfig, quorum_mask, with_bit,
+    Full, IdError, MAX_IDS, NodeId, NodeSet, Roster, Tally, VotingConfig, quorum_mask, with_bit,
     without_bit,
 };
 
 const FULL: &str = "0,1,2,3,4,5,a,b,c,d,e,f,g,h,i,j,k,l,m,n,o,p,q,r,s,t,u,v,w,x,y,z";
 
 const ALL_BUT_Z: &str = "0,1,2,3,4,5,a,b,c,d,e,f,g,h,i,j,k,l,m,n,o,p,q,r,s,t,u,v,w,x,y";
+
+const ALL_BUT_0_AND_Z: &str = "1,2,3,4,5,a,b,c,d,e,f,g,h,i,j,k,l,m,n,o,p,q,r,s,t,u,v,w,x,y";
 
 fn id(text: &str) -> NodeId {
     NodeId::parse(text).unwrap_or(NodeId::default())
@@ -322,4 +324,78 @@ fn words_tell_a_quorum(rt: HostRuntime) {
         assert!(rt; quorum_mask(*votes, *config, *size) == *wanted);
     }
     assert!(rt; with_bit(5, 1) == 7 && without_bit(7, 1) == 5);
+}
+
+// What is done to a tally.
+#[derive(Clone, Copy)]
+enum Count {
+    Add(&'static str),
+    Remove(&'static str),
+}
+
+// Whether there was room for it.
+fn count(tally: &mut Tally, step: Count) -> bool {
+    match step {
+        Count::Add(text) => return add(tally, id(text)),
+        Count::Remove(text) => tally.remove(id(text)),
+    }
+    true
+}
+
+fn add(tally: &mut Tally, id: NodeId) -> bool {
+    if tally.contains(id) || tally.len() < MAX_IDS {
+        tally.add(id);
+        return true;
+    }
+    false
+}
+
+// A set that is counted, what is done then, the set after it, and its word over the roster. An id that is taken out keeps its place; where 32 have places and one
+// more is counted, those that are counted have new ones, as they ascend.
+const TALLIES: &[(&str, &[Count], &str, u64)] = &[
+    ("_", &[], "_", 0),
+    ("a,b", &[], "a,b", 3),
+    ("a", &[Count::Remove("b")], "a", 1),
+    (
+        "_",
+        &[Count::Add("b"), Count::Add("a"), Count::Add("b")],
+        "a,b",
+        3,
+    ),
+    (
+        "_",
+        &[Count::Add("b"), Count::Remove("b"), Count::Add("a")],
+        "a",
+        2,
+    ),
+    ("a,b", &[Count::Remove("a"), Count::Add("a")], "a,b", 3),
+    (
+        ALL_BUT_Z,
+        &[
+            Count::Add("z"),
+            Count::Remove("0"),
+            Count::Add("00"),
+            Count::Remove("z"),
+            Count::Remove("00"),
+        ],
+        ALL_BUT_0_AND_Z,
+        0x7fff_fffe,
+    ),
+];
+
+fn is_tally(before: &str, steps: &[Count], after: &str, word: u64) -> bool {
+    let mut tally = Tally::of(&set(before));
+    let mut has_room = true;
+    for step in steps {
+        has_room = count(&mut tally, *step) && has_room;
+    }
+    has_room && is(&tally.sources(), after) && tally.word() == word
+}
+
+#[test]
+fn a_tally_is_a_word_over_its_roster(rt: HostRuntime) {
+    for (at, (before, steps, after, word)) in TALLIES.iter().enumerate() {
+        assert!(rt; is_tally(before, steps, after, *word), "row {at}");
+    }
+    assert!(rt; Tally::new().len() == 0 && Tally::new().roster().len() == 0);
 }
