@@ -328,16 +328,16 @@ fn words_tell_a_quorum(rt: HostRuntime) {
 
 // What is done to a tally.
 #[derive(Clone, Copy)]
-enum Count {
+enum Change {
     Add(&'static str),
     Remove(&'static str),
 }
 
 // Whether there was room for it.
-fn count(tally: &mut Tally, step: Count) -> bool {
-    match step {
-        Count::Add(text) => return add(tally, id(text)),
-        Count::Remove(text) => tally.remove(id(text)),
+fn apply(tally: &mut Tally, change: Change) -> bool {
+    match change {
+        Change::Add(text) => return add(tally, id(text)),
+        Change::Remove(text) => tally.remove(id(text)),
     }
     true
 }
@@ -352,50 +352,50 @@ fn add(tally: &mut Tally, id: NodeId) -> bool {
 
 // A set that is counted, what is done then, the set after it, and its word over the roster. An id that is taken out keeps its place; where 32 have places and one
 // more is counted, those that are counted have new ones, as they ascend.
-const TALLIES: &[(&str, &[Count], &str, u64)] = &[
+const TALLIES: &[(&str, &[Change], &str, u64)] = &[
     ("_", &[], "_", 0),
     ("a,b", &[], "a,b", 3),
-    ("a", &[Count::Remove("b")], "a", 1),
+    ("a", &[Change::Remove("b")], "a", 1),
     (
         "_",
-        &[Count::Add("b"), Count::Add("a"), Count::Add("b")],
+        &[Change::Add("b"), Change::Add("a"), Change::Add("b")],
         "a,b",
         3,
     ),
     (
         "_",
-        &[Count::Add("b"), Count::Remove("b"), Count::Add("a")],
+        &[Change::Add("b"), Change::Remove("b"), Change::Add("a")],
         "a",
         2,
     ),
-    ("a,b", &[Count::Remove("a"), Count::Add("a")], "a,b", 3),
+    ("a,b", &[Change::Remove("a"), Change::Add("a")], "a,b", 3),
     (
         ALL_BUT_Z,
         &[
-            Count::Add("z"),
-            Count::Remove("0"),
-            Count::Add("00"),
-            Count::Remove("z"),
-            Count::Remove("00"),
+            Change::Add("z"),
+            Change::Remove("0"),
+            Change::Add("00"),
+            Change::Remove("z"),
+            Change::Remove("00"),
         ],
         ALL_BUT_0_AND_Z,
         0x7fff_fffe,
     ),
 ];
 
-fn is_tally(before: &str, steps: &[Count], after: &str, word: u64) -> bool {
+fn is_tally(before: &str, changes: &[Change], after: &str, word: u64) -> bool {
     let mut tally = Tally::of(&set(before));
     let mut has_room = true;
-    for step in steps {
-        has_room = count(&mut tally, *step) && has_room;
+    for change in changes {
+        has_room = apply(&mut tally, *change) && has_room;
     }
     has_room && is(&tally.sources(), after) && tally.word() == word
 }
 
 #[test]
 fn a_tally_is_a_word_over_its_roster(rt: HostRuntime) {
-    for (at, (before, steps, after, word)) in TALLIES.iter().enumerate() {
-        assert!(rt; is_tally(before, steps, after, *word), "row {at}");
+    for (at, (before, changes, after, word)) in TALLIES.iter().enumerate() {
+        assert!(rt; is_tally(before, changes, after, *word), "row {at}");
     }
     assert!(rt; Tally::new().len() == 0 && Tally::new().roster().len() == 0);
 }
