@@ -350,8 +350,8 @@ fn add(tally: &mut Tally, id: NodeId) -> bool {
     false
 }
 
-// A set that is counted, what is done then, the set after it, and its word over the roster. An id that is taken out keeps its place; where 32 have places and one
-// more is counted, those that are counted have new ones, as they ascend.
+// A set that is counted, what is done then, the set after it, and its word over the roster. An id that is taken out keeps its place; where 32
+// have places and one more is counted, those that are counted have new ones, as they ascend.
 const TALLIES: &[(&str, &[Change], &str, u64)] = &[
     ("_", &[], "_", 0),
     ("a,b", &[], "a,b", 3),
