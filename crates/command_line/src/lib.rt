@@ -3,12 +3,12 @@
 
 mod command;
 mod lists;
-mod program;
 mod reading;
+mod shape;
 mod values;
 
 pub use command::{
     LinkWords, MAX_PORT, MAX_STEPS, NodeWords, ProgramCommand, TrialWords, WordsError,
 };
-pub use program::program;
 pub use reading::read_words;
+pub use shape::program;

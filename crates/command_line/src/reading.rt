@@ -6,7 +6,7 @@ ghost use Rattle.command_line.specs.Answers.{Gives};
 ghost use Rattle.command_line.specs.Commands.{level_of, replay_of, inspect_of, link_of, voting_only_of, node_of, steps_of, generate_of, port_of, trial_of, rescue_of, unsafe_bootstrap_of, detach_cluster_of, command_by, command_of, entered_command, Parses, is_fair as fair};
 
 use crate::lists::{initial, peers, up};
-use crate::program::program;
+use crate::shape::program;
 use crate::values::{address, id, is_set, number, number_within, text, value};
 use crate::{LinkWords, MAX_PORT, MAX_STEPS, NodeWords, ProgramCommand, TrialWords, WordsError};
 use clap::error::ErrorKind;

@@ -4,7 +4,7 @@ use Rattle.clap.specs.Words.{rule_of}
 use Rattle.command_line.specs.Given.{flag}
 use Rattle.command_line.specs.Program.{raw}
 use Rattle.command_line.proofs.Adding.{one_more}
-use Rattle.command_line.proofs.program.with_flag.Goals as goal
+use Rattle.command_line.proofs.shape.with_flag.Goals as goal
 
 pub returns : goal.returns
 returns c =

@@ -1,7 +1,7 @@
 use Rattle.std.proofs.Common.{codes}
 use Rattle.clap.specs.Words.{App, with_subcommand}
 use Rattle.command_line.specs.Program.{replay_takes, inspect_takes, node_takes, generate_takes, trial_takes, rescue_takes, unsafe_bootstrap_takes, detach_cluster_takes, audit_takes, bare_app, raw_of}
-use Rattle.command_line.proofs.program.program.Goals as goal
+use Rattle.command_line.proofs.shape.program.Goals as goal
 
 abbrev zen_1 : App
 zen_1 = with_subcommand bare_app (raw_of (codes "replay", replay_takes))

@@ -1,7 +1,7 @@
 use Rattle.std.proofs.Common.{◌≡◌, ◌∙◌, ap, true}
 use Rattle.clap.specs.Words.{app_of}
 use Rattle.clap.specs.Simple.{app_of_fields, on_top}
-use Rattle.command_line.proofs.program.bare.Goals as goal
+use Rattle.command_line.proofs.shape.bare.Goals as goal
 
 pub returns : goal.returns
 returns c =
