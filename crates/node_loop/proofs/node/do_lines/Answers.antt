@@ -25,7 +25,7 @@ pub returns-in-Some-do_event-clause-says : goal.returns-in-Some-do_event-clause-
 returns-in-Some-do_event-clause-says g c s life stands up =
     let at = c.loop-line in
     let x = c.in-Some.line in
-    let inner : into_iter_items at.line-iterator ≡ x ∷ into_iter_items c.next.new.self = c.in-Some.ensures.does.0 in
+    let inner : into_iter_items at.line-iterator ≡ x ∷ into_iter_items c.next.new.self = c.in-Some.ensures.steps.0 in
     let whole : at.yielded ++ x ∷ into_iter_items c.next.new.self ≡ c.args.lines.items = rw (← inner) (at.invariant.whole ∙ c.into_iter-line-iterator.ensures.into_iter_gives.0) in
     last_one g.S.EventNode.output (g.S.EventNode.text s) s (λ e. Comes (LineCame c.args.conn e)) at.yielded x (into_iter_items c.next.new.self) c.args.lines.items life
     (Some c.in-Some-do_event.end)
@@ -41,9 +41,9 @@ pub loop-line-preserved : goal.loop-line-preserved
 loop-line-preserved g c =
     let at = c.loop-line in
     let x = c.in-Some.line in
-    let inner : into_iter_items at.line-iterator ≡ x ∷ into_iter_items c.next.new.self = c.in-Some.ensures.does.0 in
+    let inner : into_iter_items at.line-iterator ≡ x ∷ into_iter_items c.next.new.self = c.in-Some.ensures.steps.0 in
     let was = at.invariant.count in
-    let gone = c.in-Some.ensures.does.1 in
+    let gone = c.in-Some.ensures.steps.1 in
     let short = ap length inner in
     record {
       whole = append_assoc at.yielded (x ∷ []) (into_iter_items c.next.new.self) ∙ rw (← inner) at.invariant.whole;
