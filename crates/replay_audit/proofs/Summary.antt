@@ -204,7 +204,7 @@ module _ (initial : List Id) where
   numbers : (s : Schedule) (h : History) (xs : List TracePart) (c : Counts) → c ≡ counts_of xs → lines_told xs ≡ s.lines → history_shown_from NoEntries xs ≡ h → Along (IsSound initial) NoEntries xs → Shows h xs → AreOf c s h
   numbers s h xs c is lines told sound shown =
       subst (λ (k : Counts). AreOf k s h) (sym is) (record {
-        trace_parts = echoes xs ∙ ap (λ (ls : List Line). length ls) lines;
+        steps = echoes xs ∙ ap (λ (ls : List Line). length ls) lines;
         acts = omega (arith, acts NoEntries xs sound, ap act_count told);
         refused = omega (arith, refusals NoEntries xs, ap refusal_count told);
         won = wins xs ∙ ap (λ (ws : List Win). length ws) shown.wins;
