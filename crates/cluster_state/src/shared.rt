@@ -14,12 +14,13 @@ use std::ops::Deref;
 use std::rc::Rc;
 use voting_config::VotingConfig;
 
-/// A cluster state that all who have it hold in one place, so that handing it on copies none of it. Beside it lie its bytes, where it came as bytes or
-/// was spelled to be published, and its JSON in the second case, so that whoever writes them copies them. Contracts see the state.
+/// A cluster state that all who have it hold in one place, so that handing it on copies none of it. Beside it lie its bytes, where it came
+/// as bytes or was spelled to be published, and its JSON in the second case, so that whoever writes them copies them. Contracts see the
+/// state.
 #[derive(Drop)]
 pub struct SharedState {
-    // A list of one: a state is large, and moves into the room of a list as it is, where a call that may hand it back moves it through places
-    // that are cleared first.
+    // A list of one: a state is large, and moves into the room of a list as it is, where a call that may hand it back moves it through
+    // places that are cleared first.
     states: Rc<Vec<SpelledState>>,
     ghost one: { length states.value.items ≡ 1 },
 }
@@ -66,8 +67,8 @@ impl SharedState {
         SharedState::place(alloc, SpelledState::unknown(state))
     }
 
-    /// [`of`](SharedState::of) for a state that is to be written and shown more than once: where it is within the limits it is spelled here, and its
-    /// bytes and its JSON are kept beside it.
+    /// [`of`](SharedState::of) for a state that is to be written and shown more than once: where it is within the limits it is spelled
+    /// here, and its bytes and its JSON are kept beside it.
     pub fn spell(alloc: Global, state: ClusterState) -> Result<SharedState, AllocError>
         ensures { IfOk result (λ s. s ≡ state) }
     {

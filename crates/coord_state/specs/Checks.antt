@@ -31,7 +31,8 @@ value_checked p version config =
 abbrev pub publish_checked : Kept → ClusterState → Result (Unit {0}) PublishCause
 publish_checked kept s =
     cond (not (nat_eq kept.term s.term)) (Err (TermMismatch kept.term s.term))
-    (cond (nat_eq s.term kept.accepted.term && nat_le s.version kept.accepted.version) (Err (VersionNotGreater kept.accepted.version s.version))
+    (cond (nat_eq s.term kept.accepted.term && nat_le s.version kept.accepted.version)
+    (Err (VersionNotGreater kept.accepted.version s.version))
     (Ok tt))
 
 -- the answer says whether a publication is taken, and how it is refused

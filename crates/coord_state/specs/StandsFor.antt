@@ -34,7 +34,17 @@ module _ {K : Type 0} (k : Ghosts K) where
   abbrev pub request_of : CoordState K → ℕ → List Id → ClusterValue → PublishRequest
   request_of c version config value =
       let kept = k.record_of c.keeper in
-      record { source = c.me; state = record { term = kept.term; version = version; parent = Some (id_of kept.accepted); config = config; committed = kept.committed; value = value } }
+      record {
+        source = c.me;
+        state = record {
+          term = kept.term;
+          version = version;
+          parent = Some (id_of kept.accepted);
+          config = config;
+          committed = kept.committed;
+          value = value;
+        };
+      }
 
   -- the fields are what the acts so far make of a node
   abbrev pub StandsFor : CoordState K → NodeHistory → Type 0
@@ -56,7 +66,8 @@ module _ {K : Type 0} (k : Ghosts K) where
     pub stands : (g : NodeHistory) → StandsFor old g → StandsFor new (Then g act outcome)
 
   -- what is said of the fields holds of all acts that they stand for
-  pub acts : (old new : CoordState K) (act : Act) (outcome : Outcome) → is_opening act ≡ false → ActsAt old new act outcome → Acts old new act outcome
+  pub acts : (old new : CoordState K) (act : Act) (outcome : Outcome) → is_opening act ≡ false → ActsAt old new act outcome
+      → Acts old new act outcome
   acts old new act outcome h a = record {
     at = a;
     answers = λ g s. subst (λ (p : NodeState). IsOutcomeAt old.me p act outcome) s a.answers;

@@ -50,7 +50,8 @@ effective_of (Answered Stopped) ok = ok
 effective_of (Disk kept) ok = cc
 effective_of (Crashed kept) ok = cc
 
-kept_with : (g : NodeHistory) (act : Act) (outcome : Outcome) → is_effective outcome ≡ true → durable_of (Then g act outcome) ≡ durable_of (Then g act (Crashed true))
+kept_with : (g : NodeHistory) (act : Act) (outcome : Outcome) → is_effective outcome ≡ true
+    → durable_of (Then g act outcome) ≡ durable_of (Then g act (Crashed true))
 kept_with g (Bootstrap config) outcome e = cc
 kept_with g (StartJoin candidate term) outcome e = cc
 kept_with g (TakeJoin join) outcome e = cc
@@ -61,5 +62,6 @@ kept_with g (Commit commit) outcome e = cc
 kept_with g (Open found) outcome e = cc
 
 -- after an act that was taken the record is the one with it
-pub kept_after : (g : NodeHistory) (act : Act) (outcome : Outcome) → is_ok outcome ≡ true → durable_of (Then g act outcome) ≡ durable_of (Then g act (Crashed true))
+pub kept_after : (g : NodeHistory) (act : Act) (outcome : Outcome) → is_ok outcome ≡ true
+    → durable_of (Then g act outcome) ≡ durable_of (Then g act (Crashed true))
 kept_after g act outcome ok = kept_with g act outcome (effective_of outcome ok)

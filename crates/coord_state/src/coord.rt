@@ -1,4 +1,5 @@
-//! `CoordState`: what one node answers to each of the seven acts, and what it is after them. An act that writes has written before it answers.
+//! `CoordState`: what one node answers to each of the seven acts, and what it is after them. An act that writes has written before it
+//! answers.
 ghost use Rattle.std.specs.Prelude.{◌≡◌, ℕ, ◌<◌, ◌≤◌, Bool, false, true, ◌&&◌, ◌⊎◌, ◌↔◌, Option, Some, [], length, is_ok, IfOk, OnErr};
 ghost use Rattle.cluster_state.specs.Field.{last_number};
 ghost use Rattle.voting_config.specs.Ids.{Id, has, is_quorum_of, most_ids};
@@ -92,7 +93,8 @@ impl<K: Keeper> CoordState<K> {
         ensures older { (K.record_of self.now.keeper).accepted.term ≤ (K.record_of self.now.keeper).term }
 
         // Between two calls a crash leaves this record and nothing else.
-        ensures durable { K.told → K.has_stopped self.now.keeper ≡ false → (found : Option Record) → (K.left_since self.now.keeper (K.moment self.now.keeper) found ↔ (found ≡ Some (K.record_of self.now.keeper))) }
+        ensures durable { K.told → K.has_stopped self.now.keeper ≡ false → (found : Option Record)
+            → (K.left_since self.now.keeper (K.moment self.now.keeper) found ↔ (found ≡ Some (K.record_of self.now.keeper))) }
     {
         self.keeper.kept()
     }
@@ -194,7 +196,8 @@ impl<K: Keeper> CoordState<K> {
     pub fn start_join(&mut self, from: NodeId, term: u64) -> Result<Join, ActError<StartCause, ()>>
         ensures act { Acts K.Keeper self.old self.new (act.StartJoin from term) (start_outcome result) }
         ensures wrote { WritesBy K.Keeper self.old.keeper (act.StartJoin from term) self.new.keeper (start_outcome result) }
-        ensures any_moment { K.told → (g : NodeHistory) → StandsFor K.Keeper self.old g → LeavesOnly K.moment K.left_since self.old.keeper self.new.keeper (IsDuring g (act.StartJoin from term)) }
+        ensures any_moment { K.told → (g : NodeHistory) → StandsFor K.Keeper self.old g
+            → LeavesOnly K.moment K.left_since self.old.keeper self.new.keeper (IsDuring g (act.StartJoin from term)) }
     {
         if self.keeper.stopped() {
             return Err(ActError::Stopped(()));
@@ -233,7 +236,8 @@ impl<K: Keeper> CoordState<K> {
         requires { initial.state ≡ initial_state initial.state.config }
         ensures act { Acts K.Keeper self.old self.new (act.Bootstrap initial.state.config) (initial_outcome result) }
         ensures wrote { WritesBy K.Keeper self.old.keeper (act.Bootstrap initial.state.config) self.new.keeper (initial_outcome result) }
-        ensures any_moment { K.told → (g : NodeHistory) → StandsFor K.Keeper self.old g → LeavesOnly K.moment K.left_since self.old.keeper self.new.keeper (IsDuring g (act.Bootstrap initial.state.config)) }
+        ensures any_moment { K.told → (g : NodeHistory) → StandsFor K.Keeper self.old g
+            → LeavesOnly K.moment K.left_since self.old.keeper self.new.keeper (IsDuring g (act.Bootstrap initial.state.config)) }
         ensures back { HandsBack initial result }
     {
         if self.keeper.stopped() {
@@ -258,7 +262,8 @@ impl<K: Keeper> CoordState<K> {
         requires { (has j.now.source self.old.join_votes ≡ true) ⊎ (length self.old.join_votes < most_ids) }
         ensures act { Acts K.Keeper self.old self.new (act.TakeJoin j.now) (join_outcome result) }
         ensures wrote { WritesBy K.Keeper self.old.keeper (act.TakeJoin j.now) self.new.keeper (join_outcome result) }
-        ensures any_moment { K.told → (g : NodeHistory) → StandsFor K.Keeper self.old g → LeavesOnly K.moment K.left_since self.old.keeper self.new.keeper (IsDuring g (act.TakeJoin j.now)) }
+        ensures any_moment { K.told → (g : NodeHistory) → StandsFor K.Keeper self.old g
+            → LeavesOnly K.moment K.left_since self.old.keeper self.new.keeper (IsDuring g (act.TakeJoin j.now)) }
     {
         if self.keeper.stopped() {
             return Err(ActError::Stopped(()));
@@ -344,7 +349,9 @@ impl<K: Keeper> CoordState<K> {
     fn begin_value(&mut self, version: u64, config: &VotingConfig)
         requires runs { K.has_stopped self.old.keeper ≡ false }
         requires checked { is_ok (value_checked (fields_of K.Keeper self.old) version config.now) ≡ true }
-        ensures act { (value : ClusterValue) → Acts K.Keeper self.old self.new (act.Value version config.now value) (Answered (sends_request (request_of K.Keeper self.old version config.now value))) }
+        ensures act { (value : ClusterValue)
+            → Acts K.Keeper self.old self.new (act.Value version config.now value)
+            (Answered (sends_request (request_of K.Keeper self.old version config.now value))) }
         ensures rest { self.new ≡ record self.old { published_version = version; published_config = config.now; publish_votes = [] } }
     {
         self.published_version = version;
@@ -357,7 +364,8 @@ impl<K: Keeper> CoordState<K> {
     /// accepted state's id as its parent and the configuration that the node knows to be committed. Another configuration than the
     /// accepted one is taken only once the accepted one is committed, and only if the node's votes are a quorum of it.
     ///
-    /// What is published lies in one place for all who hold it, so it takes memory, where it is taken. Where there is none, nothing is changed.
+    /// What is published lies in one place for all who hold it, so it takes memory, where it is taken. Where there is none, nothing is
+    /// changed.
     pub fn client_value(
         &mut self,
         alloc: Global,
@@ -368,9 +376,13 @@ impl<K: Keeper> CoordState<K> {
         Result<PublishRequest, ActError<ValueCause, (VotingConfig, ClusterValue)>>,
         AllocError,
     >
-        ensures act { IfOk result (λ answer. Acts K.Keeper self.old self.new (act.Value version config value) (outcome sends_request ValueRefused answer)) }
-        ensures wrote { IfOk result (λ answer. WritesBy K.Keeper self.old.keeper (act.Value version config value) self.new.keeper (outcome sends_request ValueRefused answer)) }
-        ensures any_moment { K.told → (g : NodeHistory) → StandsFor K.Keeper self.old g → LeavesOnly K.moment K.left_since self.old.keeper self.new.keeper (IsDuring g (act.Value version config value)) }
+        ensures act { IfOk result
+            (λ answer. Acts K.Keeper self.old self.new (act.Value version config value) (outcome sends_request ValueRefused answer)) }
+        ensures wrote { IfOk result
+            (λ answer. WritesBy K.Keeper self.old.keeper (act.Value version config value) self.new.keeper
+            (outcome sends_request ValueRefused answer)) }
+        ensures any_moment { K.told → (g : NodeHistory) → StandsFor K.Keeper self.old g
+            → LeavesOnly K.moment K.left_since self.old.keeper self.new.keeper (IsDuring g (act.Value version config value)) }
         ensures back { IfOk result (λ answer. HandsBack (config, value) answer) }
         ensures memory { OnErr result (self.new ≡ self.old) }
     {
@@ -385,17 +397,27 @@ impl<K: Keeper> CoordState<K> {
         Ok(Ok(request))
     }
 
-    /// [`client_value`](CoordState::client_value) of any value, which no rule looks at, for a caller that makes the request where it is to stay.
-    /// It takes no memory, and has nothing to hand back.
+    /// [`client_value`](CoordState::client_value) of any value, which no rule looks at, for a caller that makes the request where it is to
+    /// stay. It takes no memory, and has nothing to hand back.
     pub fn take_value(
         &mut self,
         version: u64,
         config: &VotingConfig,
     ) -> Result<(), ActError<ValueCause, ()>>
-        ensures act { (value : ClusterValue) → Acts K.Keeper self.old self.new (act.Value version config.now value) (value_outcome (request_of K.Keeper self.old version config.now value) result) }
-        ensures wrote { (value : ClusterValue) → WritesBy K.Keeper self.old.keeper (act.Value version config.now value) self.new.keeper (value_outcome (request_of K.Keeper self.old version config.now value) result) }
-        ensures any_moment { (value : ClusterValue) → K.told → (g : NodeHistory) → StandsFor K.Keeper self.old g → LeavesOnly K.moment K.left_since self.old.keeper self.new.keeper (IsDuring g (act.Value version config.now value)) }
-        ensures same { self.new ≡ record self.old { published_version = self.new.published_version; published_config = self.new.published_config; publish_votes = self.new.publish_votes } }
+        ensures act { (value : ClusterValue)
+            → Acts K.Keeper self.old self.new (act.Value version config.now value)
+            (value_outcome (request_of K.Keeper self.old version config.now value) result) }
+        ensures wrote { (value : ClusterValue)
+            → WritesBy K.Keeper self.old.keeper (act.Value version config.now value) self.new.keeper
+            (value_outcome (request_of K.Keeper self.old version config.now value) result) }
+        ensures any_moment { (value : ClusterValue) → K.told → (g : NodeHistory) → StandsFor K.Keeper self.old g
+            → LeavesOnly K.moment K.left_since self.old.keeper self.new.keeper (IsDuring g (act.Value version config.now value)) }
+        ensures same { self.new
+            ≡ record self.old {
+              published_version = self.new.published_version;
+              published_config = self.new.published_config;
+              publish_votes = self.new.publish_votes;
+            } }
     {
         if self.keeper.stopped() {
             return Err(ActError::Stopped(()));
@@ -409,7 +431,9 @@ impl<K: Keeper> CoordState<K> {
 
     /// Whether `publish_request` would refuse this state, from whichever node, without taking it. Never answers `Disk`.
     pub fn check_publish(&self, state: &ClusterState) -> Result<(), ActError<PublishCause, ()>>
-        ensures { (source : Id) → Foretells result (reply_at self.now.me (fields_of K.Keeper self.now) (act.Publish (record { source = source; state = state.now }))) }
+        ensures { (source : Id)
+            → Foretells result (reply_at self.now.me (fields_of K.Keeper self.now)
+            (act.Publish (record { source = source; state = state.now }))) }
     {
         if self.keeper.stopped() {
             return Err(ActError::Stopped(()));
@@ -426,9 +450,13 @@ impl<K: Keeper> CoordState<K> {
         source: NodeId,
         state: Ready,
     ) -> Result<PublishResponse, ActError<PublishCause, Ready>>
-        ensures act { Acts K.Keeper self.old self.new (act.Publish (record { source = source; state = state.state })) (publish_outcome result) }
-        ensures wrote { WritesBy K.Keeper self.old.keeper (act.Publish (record { source = source; state = state.state })) self.new.keeper (publish_outcome result) }
-        ensures any_moment { K.told → (g : NodeHistory) → StandsFor K.Keeper self.old g → LeavesOnly K.moment K.left_since self.old.keeper self.new.keeper (IsDuring g (act.Publish (record { source = source; state = state.state }))) }
+        ensures act { Acts K.Keeper self.old self.new (act.Publish (record { source = source; state = state.state }))
+            (publish_outcome result) }
+        ensures wrote { WritesBy K.Keeper self.old.keeper (act.Publish (record { source = source; state = state.state })) self.new.keeper
+            (publish_outcome result) }
+        ensures any_moment { K.told → (g : NodeHistory) → StandsFor K.Keeper self.old g
+            → LeavesOnly K.moment K.left_since self.old.keeper self.new.keeper
+            (IsDuring g (act.Publish (record { source = source; state = state.state }))) }
         ensures back { HandsBack state result }
     {
         if self.keeper.stopped() {
@@ -459,7 +487,8 @@ impl<K: Keeper> CoordState<K> {
         requires { (has r.now.source self.old.publish_votes ≡ true) ⊎ (length self.old.publish_votes < most_ids) }
         ensures act { Acts K.Keeper self.old self.new (act.Response r.now) (response_outcome result) }
         ensures wrote { WritesBy K.Keeper self.old.keeper (act.Response r.now) self.new.keeper (response_outcome result) }
-        ensures any_moment { K.told → (g : NodeHistory) → StandsFor K.Keeper self.old g → LeavesOnly K.moment K.left_since self.old.keeper self.new.keeper (IsDuring g (act.Response r.now)) }
+        ensures any_moment { K.told → (g : NodeHistory) → StandsFor K.Keeper self.old g
+            → LeavesOnly K.moment K.left_since self.old.keeper self.new.keeper (IsDuring g (act.Response r.now)) }
     {
         if self.keeper.stopped() {
             return Err(ActError::Stopped(()));
@@ -500,7 +529,8 @@ impl<K: Keeper> CoordState<K> {
     pub fn commit(&mut self, c: &ApplyCommit) -> Result<(), ActError<CommitCause, ()>>
         ensures act { Acts K.Keeper self.old self.new (act.Commit c.now) (commit_outcome result) }
         ensures wrote { WritesBy K.Keeper self.old.keeper (act.Commit c.now) self.new.keeper (commit_outcome result) }
-        ensures any_moment { K.told → (g : NodeHistory) → StandsFor K.Keeper self.old g → LeavesOnly K.moment K.left_since self.old.keeper self.new.keeper (IsDuring g (act.Commit c.now)) }
+        ensures any_moment { K.told → (g : NodeHistory) → StandsFor K.Keeper self.old g
+            → LeavesOnly K.moment K.left_since self.old.keeper self.new.keeper (IsDuring g (act.Commit c.now)) }
     {
         if self.keeper.stopped() {
             return Err(ActError::Stopped(()));

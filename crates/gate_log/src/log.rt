@@ -78,7 +78,8 @@ impl<D: Disks> GateLog<D> {
         // A crash at any moment leaves what stands for what it might have stood for before.
         ensures any_moment { D.told
             → IfOk result (λ o. LeavesOnly D.moment D.left_since disk o.log.disk (StandsAsSome (D.may_leave disk))) }
-        ensures any_moment_err { D.told → IfErr result (λ e. LeavesOnly D.moment D.left_since disk (handed_back e) (StandsAsSome (D.may_leave disk))) }
+        ensures any_moment_err { D.told
+            → IfErr result (λ e. LeavesOnly D.moment D.left_since disk (handed_back e) (StandsAsSome (D.may_leave disk))) }
 
         // These device calls and no others.
         ensures ran { D.told → IfOk result (λ o. CallsMade D.moves (both_opening_calls (D.seen disk)) disk o.log.disk true) }

@@ -163,8 +163,8 @@ impl JoinVotes {
         )
     }
 
-    /// Whether the votes are a quorum both of the committed configuration and of a current one. No id of the one is looked up among those of
-    /// the other where these are the two that were asked for last, since their words are kept; it is only seen that they are the same.
+    /// Whether the votes are a quorum both of the committed configuration and of a current one. No id of the one is looked up among those
+    /// of the other where these are the two that were asked for last, since their words are kept; it is only seen that they are the same.
     pub fn is_quorum_of_both(&mut self, committed: &VotingConfig, current: &VotingConfig) -> bool
         ensures value { result ≡ (is_quorum_of committed.now self.old && is_quorum_of current.now self.old) }
         ensures same { self.new ≡ self.old }

@@ -1,4 +1,5 @@
-//! What the lines that `zen` writes are made of, and what an audit reads in them. No call of this crate does anything: what it promises is proved.
+//! What the lines that `zen` writes are made of, and what an audit reads in them. No call of this crate does anything: what it promises is
+//! proved.
 #![tactic(auto)]
 
 mod laws;

@@ -16,7 +16,8 @@ use Rattle.master_tasks.specs.Answering.{answers_by, left_by, nothing_new}
 use Rattle.master_tasks.specs.Members.{members_after}
 use Rattle.master_tasks.specs.Processing.{Processed, processed_all}
 
--- what a leader makes a state from: itself, its term, its accepted state, the committed configuration, who voted for it, and whether the configuration may shrink
+-- what a leader makes a state from: itself, its term, its accepted state, the committed configuration, who voted for it, and whether the
+-- configuration may shrink
 pub record Leader : Type 0 where
   pub me : Id
   pub term : ℕ

@@ -1,5 +1,5 @@
--- Part of the statement: what a leader has to do: the requests that are not answered yet, in order of arrival, and the members that are to go and
--- to come.
+-- Part of the statement: what a leader has to do: the requests that are not answered yet, in order of arrival, and the members that are to
+-- go and to come.
 use Rattle.std.specs.Prelude.{ℕ, Bool, false, List, [], ◌∷◌, ◌++◌, length, remove, nat_le}
 use Rattle.voting_config.specs.Ids.{Id, with_room}
 use Rattle.cluster_state.specs.declared.request.Request.{Request}

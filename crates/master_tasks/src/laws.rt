@@ -27,10 +27,12 @@ pub fn law_next_answered_or_left()
 
 /// Where no request that waits is to put a bad setting, none of those is that wait on when others are answered.
 pub fn law_left_are_good()
-    ensures { (decide : Waiting → Option Answer) (waiting : List Waiting) → HaveGoodSettings waiting → HaveGoodSettings (left_by decide waiting) }
+    ensures { (decide : Waiting → Option Answer) (waiting : List Waiting) → HaveGoodSettings waiting
+        → HaveGoodSettings (left_by decide waiting) }
 {}
 
 /// Nor is one after the arrival of a request that is not to put one.
 pub fn law_offered_are_good()
-    ensures { (t : Tasks) (w : Waiting) → HaveGoodSettings t.waiting → bad_setting_of w.request.ask ≡ None → HaveGoodSettings (offered t w).waiting }
+    ensures { (t : Tasks) (w : Waiting) → HaveGoodSettings t.waiting → bad_setting_of w.request.ask ≡ None
+        → HaveGoodSettings (offered t w).waiting }
 {}

@@ -83,7 +83,8 @@ fn refused(error: &AddError) -> Answer
 
 // The exclusions are cleared.
 fn clear(value: &mut ClusterValue, wait_for_removal: bool) -> Option<Answer>
-    ensures value { value.new ≡ value_after value.old (clearing value.old (cleared_of value.old.exclusions value.old.members wait_for_removal)) }
+    ensures value { value.new
+        ≡ value_after value.old (clearing value.old (cleared_of value.old.exclusions value.old.members wait_for_removal)) }
     ensures answer { result ≡ answer_after (clearing value.old (cleared_of value.old.exclusions value.old.members wait_for_removal)) }
 {
     match exclusions::clear(&value.exclusions, &value.members, wait_for_removal) {

@@ -253,7 +253,9 @@ impl MasterTasks {
     ) -> Result<Processed, AllocError>
         ensures value { OnOk result (value.new ≡ (processed_all accepted.now value.old self.now.waiting).value) }
         ensures waiting { IfOk result (λ p. p.waiting.items ≡ (processed_all accepted.now value.old self.now.waiting).waiting) }
-        ensures replies { IfOk result (λ p. p.replies ≡ with_sent (room_for (length self.now.waiting)) (processed_all accepted.now value.old self.now.waiting).answers) }
+        ensures replies { IfOk result
+            (λ p. p.replies ≡ with_sent (room_for (length self.now.waiting))
+            (processed_all accepted.now value.old self.now.waiting).answers) }
         ensures fits { IfOk result (λ p. length p.waiting.items ≤ p.replies.room) }
         ensures few { IfOk result (λ p. length p.waiting.items ≤ MAX_OPEN) }
     {
@@ -275,8 +277,8 @@ impl MasterTasks {
         self.waiting.is_empty() && self.removals.len() == 0 && self.additions.len() == 0
     }
 
-    /// Whether it is plain that nothing comes of the tasks, before [`prepare`](MasterTasks::prepare) makes a value: nothing waits, nobody is to come or
-    /// to go, and the accepted state is the leader's own and stays. It takes no memory. Where it is false, `prepare` tells.
+    /// Whether it is plain that nothing comes of the tasks, before [`prepare`](MasterTasks::prepare) makes a value: nothing waits, nobody
+    /// is to come or to go, and the accepted state is the leader's own and stays. It takes no memory. Where it is false, `prepare` tells.
     pub fn is_at_rest(
         &self,
         me: NodeId,
@@ -312,7 +314,8 @@ impl MasterTasks {
         votes: &NodeSet,
         shrink: bool,
     ) -> Result<Prepared, AllocError>
-        ensures waiting { IfOk result (λ p. p.waiting.items ≡ waiting_after (leader_of me term accepted.now committed.now votes.now shrink) self.now) }
+        ensures waiting { IfOk result
+            (λ p. p.waiting.items ≡ waiting_after (leader_of me term accepted.now committed.now votes.now shrink) self.now) }
         ensures next { IfOk result (λ p. p.next ≡ next_of (leader_of me term accepted.now committed.now votes.now shrink) self.now) }
         ensures few { IfOk result (λ p. length p.waiting.items ≤ MAX_OPEN) }
         // What is published is within the limits, if the accepted value is and no request is to put a bad setting.
@@ -451,7 +454,9 @@ fn stays(
     votes: &NodeSet,
     shrink: bool,
 ) -> bool
-    ensures { IsTrue result → IsTrue (is_accepted_of term accepted.now (config_for_of me accepted.now committed.now votes.now shrink accepted.now.value) accepted.now.value) }
+    ensures { IsTrue result
+        → IsTrue (is_accepted_of term accepted.now (config_for_of me accepted.now committed.now votes.now shrink accepted.now.value)
+        accepted.now.value) }
 {
     if accepted.term != term {
         return false;

@@ -49,7 +49,8 @@ impl<D: Disks> Node<Reporter<StateJournal<D>>> {
         ensures any_moment { D.told
             → IfOk result (λ node. LeavesOnly D.moment D.left_since disk node.inner.node.core.keeper.log.disk
             (FoundAsSome (D.may_leave disk))) }
-        ensures any_moment_err { D.told → IfErr result (λ e. LeavesOnly D.moment D.left_since disk (handed_back e) (FoundAsSome (D.may_leave disk))) }
+        ensures any_moment_err { D.told
+            → IfErr result (λ e. LeavesOnly D.moment D.left_since disk (handed_back e) (FoundAsSome (D.may_leave disk))) }
 
         // Where it is refused, the device calls of an opening and no others.
         ensures ran_err { D.told → IfErr result (RanUntil D.moves (D.seen disk) disk) }

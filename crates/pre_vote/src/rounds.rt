@@ -126,8 +126,8 @@ impl PreVotes {
         }
     }
 
-    /// The roster of the voters: the node itself, and who was counted since, in the order of first sight. Where 32 are on it and another one
-    /// comes, it is made anew of the voters, as they ascend.
+    /// The roster of the voters: the node itself, and who was counted since, in the order of first sight. Where 32 are on it and another
+    /// one comes, it is made anew of the voters, as they ascend.
     pub fn roster(&self) -> &Roster
         ensures { IsTrue (are_among result.now self.now.voters) }
     {

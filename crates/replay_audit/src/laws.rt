@@ -9,8 +9,8 @@ pub fn law_replay_is_read()
     ensures { LawReplayIsRead }
 {}
 
-/// So an audit of it finds that it is legal, unless memory runs out: with as many entries as the history has, with its winners in order, and
-/// with its number of committed states.
+/// So an audit of it finds that it is legal, unless memory runs out: with as many entries as the history has, with its winners in order,
+/// and with its number of committed states.
 pub fn law_replay_is_audited()
     ensures { LawReplayIsAudited }
 {}
@@ -25,8 +25,8 @@ pub fn law_whole_replay_is_audited()
     ensures { LawWholeReplayIsAudited }
 {}
 
-/// The summary of the trace of a schedule of level core, which counts its lines, counts what the history has: the lines of the schedule, the
-/// acts, those that were refused, the wins, and the commits that were sent.
+/// The summary of the trace of a schedule of level core, which counts its lines, counts what the history has: the lines of the schedule,
+/// the acts, those that were refused, the wins, and the commits that were sent.
 pub fn law_summary()
     ensures { LawSummary }
 {}

@@ -15,8 +15,8 @@ use std::marker::Model;
 use std::rc::Rc;
 use voting_config::NodeId;
 
-/// A publish request whose state is within the limits and ready to be kept by whoever accepts it, with the state's JSON, which is made once for
-/// all lines that show it. Contracts see the request.
+/// A publish request whose state is within the limits and ready to be kept by whoever accepts it, with the state's JSON, which is made once
+/// for all lines that show it. Contracts see the request.
 #[derive(Drop)]
 pub struct FitPublishRequest {
     source: NodeId,
@@ -81,8 +81,8 @@ impl FitPublishRequest {
     }
 }
 
-/// A publish request that was sent, kept as the bytes of its state: a state has room in place for the most ids that its sets may hold. Until it is
-/// closed, it is at hand whole too, shared with the node that published it. Contracts see the request.
+/// A publish request that was sent, kept as the bytes of its state: a state has room in place for the most ids that its sets may hold.
+/// Until it is closed, it is at hand whole too, shared with the node that published it. Contracts see the request.
 #[derive(Drop)]
 pub struct Publication {
     alloc: Global,

@@ -174,8 +174,8 @@ impl ReplayNode {
         Ok(did)
     }
 
-    /// The node publishes a client's value that has these settings and nothing else. Such a value is all that a schedule gives, and settings
-    /// are small, where a value is large.
+    /// The node publishes a client's value that has these settings and nothing else. Such a value is all that a schedule gives, and
+    /// settings are small, where a value is large.
     pub fn client_value(
         &mut self,
         alloc: Global,

@@ -10,7 +10,8 @@ pub trait Observer {
     /// What was shown so far is this text.
     ghost saw: { Self → List ℕ → Type 0 };
 
-    /// Takes a piece after whole lines. The error means that memory ran out, or that a count has passed 2^64, and the observer is of no use then.
+    /// Takes a piece after whole lines. The error means that memory ran out, or that a count has passed 2^64, and the observer is of no use
+    /// then.
     fn observe(&mut self, piece: &[u8]) -> Result<(), AllocError>
         ensures { OnOk result ((text : List ℕ) → EndsLine text → saw self.old text → saw self.new (text ++ piece.now)) };
 }

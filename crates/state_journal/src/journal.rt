@@ -101,7 +101,8 @@ impl<D: Disks> StateJournal<D> {
 
         // After a crash at any moment an opening finds what it might have found before.
         ensures any_moment { D.told → IfOk result (λ j. LeavesOnly D.moment D.left_since disk j.log.disk (FoundAsSome (D.may_leave disk))) }
-        ensures any_moment_err { D.told → IfErr result (λ e. LeavesOnly D.moment D.left_since disk (handed_back e) (FoundAsSome (D.may_leave disk))) }
+        ensures any_moment_err { D.told
+            → IfErr result (λ e. LeavesOnly D.moment D.left_since disk (handed_back e) (FoundAsSome (D.may_leave disk))) }
 
         // These device calls and no others.
         ensures ran { D.told → IfOk result (λ j. CallsMade D.moves (both_opening_calls (D.seen disk)) disk j.log.disk true) }
@@ -170,10 +171,12 @@ impl<D: Disks> Keeper for StateJournal<D> {
     ghost writes = { λ j change k ok. CallsMade D.moves (keeping_calls j.due (place j.log) j.kept change) j.log.disk k.log.disk ok };
 
     ghost only_kept = { λ j found told running left.
-        only_record (D.seen j.log.disk) (D.left_since j.log.disk (D.moment j.log.disk)) (D.may_leave j.log.disk) j.kept found (D.only_now j.log.disk) (j.log.settled told running).durable (j.stands told running) left };
+        only_record (D.seen j.log.disk) (D.left_since j.log.disk (D.moment j.log.disk)) (D.may_leave j.log.disk) j.kept found
+        (D.only_now j.log.disk) (j.log.settled told running).durable (j.stands told running) left };
 
     ghost may_stay = { λ j t told so_far running.
-        record_stays (D.seen j.log.disk) (D.left_since j.log.disk) t j.kept (D.counts_now j.log.disk t (D.seen j.log.disk) so_far (D.seen_may_stay j.log.disk told)) (j.stands told running) };
+        record_stays (D.seen j.log.disk) (D.left_since j.log.disk) t j.kept
+        (D.counts_now j.log.disk t (D.seen j.log.disk) so_far (D.seen_may_stay j.log.disk told)) (j.stands told running) };
 
     fn kept(&self) -> &Kept {
         &self.kept

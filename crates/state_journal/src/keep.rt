@@ -112,7 +112,8 @@ pub(crate) fn keep_small<D: Disks>(
         (IsWritten (renews due p body.now) (standing_in (D.seen log.old.disk)) body.now (generation_after p next)) }
     ensures ran { (s : ClusterState) → IsDraft s draft.old
         → let p = place log.old in let next = record_with term s committed.now in
-        CallsMade D.moves (writing_calls (renews due p body.now) p body.now (generation_after p next)) log.old.disk log.new.disk (is_ok result) }
+        CallsMade D.moves (writing_calls (renews due p body.now) p body.now (generation_after p next)) log.old.disk log.new.disk
+        (is_ok result) }
     ensures fits { renews due (place log.old) body.now ≡ true → (ids most_ids).Fits committed.now }
     ensures same { draft.new.state ≡ draft.old.state }
 {
@@ -147,7 +148,8 @@ pub(crate) fn keep_state<D: Disks>(
         (IsWritten (renews due p body) (standing_in (D.seen log.old.disk)) body (generation_after p next)) }
     ensures ran { (s : ClusterState) → IsDraft s draft.old
         → let p = place log.old in let body = body_of (change.Accepted s) in let next = record_with term s committed.now in
-        CallsMade D.moves (writing_calls (renews due p body) p body (generation_after p next)) log.old.disk log.new.disk (is_ok result) }
+        CallsMade D.moves (writing_calls (renews due p body) p body (generation_after p next)) log.old.disk log.new.disk
+        (is_ok result) }
     ensures same { draft.new.state ≡ draft.old.state }
 {
     if begins(log, due, draft.len() + 33) {

@@ -1,5 +1,5 @@
-//! What a state holds but its term and version, as bytes: of the size of what it holds, and not of its room. Each state has such bytes, within the limits
-//! or not, and no two have the same.
+//! What a state holds but its term and version, as bytes: of the size of what it holds, and not of its room. Each state has such bytes,
+//! within the limits or not, and no two have the same.
 ghost use Rattle.std.specs.Prelude.{◌≡◌, ◌++◌, OnOk, IfOk, map};
 ghost use Rattle.std.specs.List.{flat_map};
 ghost use Rattle.cluster_state.specs.Settings.{setting_of};

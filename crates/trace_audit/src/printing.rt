@@ -83,7 +83,8 @@ fn write_broken(text: &mut Text, line: usize, clause: Clause) -> Result<(), Allo
     write_line(text, line, clause.name())
 }
 
-/// Writes a verdict: of a legal trace its numbers and a line for each winner, else the line that is not legal and the clause that it breaks.
+/// Writes a verdict: of a legal trace its numbers and a line for each winner, else the line that is not legal and the clause that it
+/// breaks.
 pub fn write_verdict(text: &mut Text, verdict: &Verdict) -> Result<(), AllocError>
     ensures { OnOk result (text.new ≡ text.old ++ verdict_text verdict.now) }
 {

@@ -11,8 +11,8 @@ use std::collections::BTreeSet;
 /// All that a request says but its source: the term and the version of its state, and what else this holds, as bytes.
 pub type RequestKey = (u64, u64, Vec<u8>);
 
-/// The publish requests that a node sent, each once: one takes 40 bytes and its share of a tree, and the bytes of what its state holds. The state itself
-/// takes some 5,000 where it holds next to nothing, since its sets are held in place.
+/// The publish requests that a node sent, each once: one takes 40 bytes and its share of a tree, and the bytes of what its state holds. The
+/// state itself takes some 5,000 where it holds next to nothing, since its sets are held in place.
 #[derive(Drop)]
 pub struct Requests {
     alloc: Global,

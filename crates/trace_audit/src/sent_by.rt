@@ -20,8 +20,8 @@ type ResponseKey = (u64, u64, NodeId);
 // The term and the version of a commit.
 type CommitKey = (u64, u64);
 
-/// The messages that one node sent, each once: a join takes 64 bytes and its share of a tree, a response 56, a commit 16, and a publish request
-/// what [`Requests`] says.
+/// The messages that one node sent, each once: a join takes 64 bytes and its share of a tree, a response 56, a commit 16, and a publish
+/// request what [`Requests`] says.
 #[derive(Drop)]
 pub struct SentBy {
     joins: BTreeSet<JoinKey>,

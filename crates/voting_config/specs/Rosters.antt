@@ -45,8 +45,8 @@ pub record IsTally (roster : List Id) (word : ℕ) : Type 0 where
 abbrev pub is_quorum_mask : ℕ → ℕ → ℕ → Bool
 is_quorum_mask votes config size = nat_lt size (2 * count_ones (bit_and votes config))
 
--- votes that are on the roster are a quorum of a configuration exactly where their words say so; the configuration may have ids that are not
--- on the roster
+-- votes that are on the roster are a quorum of a configuration exactly where their words say so; the configuration may have ids that are
+-- not on the roster
 abbrev pub LawQuorumMask : Type 0
 LawQuorumMask =
     (roster config votes : List Id) → IsRoster roster → IsIdSet config → IsIdSet votes → IsTrue (are_among roster votes)

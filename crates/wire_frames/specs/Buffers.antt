@@ -10,7 +10,7 @@ use Rattle.wire_frames.specs.Streams.{Stream, stream, next_of, after_next}
 abbrev pub left_in : Buffer → Stream
 left_in b = stream (drop b.given b.bytes.items)
 
--- a frame stands at the prefix, and is given
+-- a frame stands first, and is given
 pub record Gives (now : Buffer) (was : Stream) : Type 0 where
   pub frame : Frame
   pub long : 4 ≤ now.given

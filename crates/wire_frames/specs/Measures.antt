@@ -1,4 +1,4 @@
--- For the contracts inside: what the length at the prefix of bytes says.
+-- For the contracts inside: what the length that stands first in bytes says.
 use Rattle.std.specs.Prelude.{◌≡◌, ℕ, ◌≤◌, length, take, drop, List, Option, Some, None, Result, Ok, Err}
 use Rattle.wire_frames.specs.declared.fault.FrameError.TheVariants.{TooLong}
 use Rattle.wire_frames.specs.declared.buffer.BodyLength.{BodyLength}
@@ -14,7 +14,7 @@ Measures body.TooLong bytes = prefix_of bytes ≡ Faulty TooLong
 Measures (body.Whole size) bytes = (4 ≤ length bytes) × (size ≤ length (drop 4 bytes))
     × (prefix_of bytes ≡ prefix_with (frame_of (take size (drop 4 bytes))) (drop size (drop 4 bytes)))
 
--- a frame of so many bytes stands at the prefix
+-- a frame of so many bytes stands first
 pub record IsFramed (bytes : List ℕ) (used : ℕ) : Type 0 where
   pub frame : Frame
   pub long : 4 ≤ used
@@ -22,7 +22,7 @@ pub record IsFramed (bytes : List ℕ) (used : ℕ) : Type 0 where
   pub body : frame_of (drop 4 (take used bytes)) ≡ Ok frame
   pub prefix : prefix_of bytes ≡ Whole frame (drop used bytes)
 
--- what stands at the prefix: nothing whole, a fault, or a frame of so many bytes
+-- what stands first: nothing whole, a fault, or a frame of so many bytes
 abbrev pub Looks : Option (Result ℕ FrameError) → List ℕ → Type 0
 Looks None bytes = prefix_of bytes ≡ Unfinished
 Looks (Some (Err fault)) bytes = prefix_of bytes ≡ Faulty fault

@@ -16,7 +16,7 @@ use std::alloc::{AllocError, Global};
 #[derive(Drop)]
 pub struct Buffer {
     bytes: BytesMut,
-    // So many bytes at the prefix are the frame that was given last, which may still be lent.
+    // So many of the first bytes are the frame that was given last, which may still be lent.
     given: usize,
     ghost fits: { given ≤ length bytes.items },
 }
@@ -42,7 +42,7 @@ impl Buffer {
         self.bytes.extend_from_slice(bytes)
     }
 
-    // Goes past the frame that was given last, and looks at what stands at the prefix.
+    // Goes past the frame that was given last, and looks at what stands first.
     pub(crate) fn advance(&mut self) -> Option<Result<(), FrameError>>
         ensures { Advances result self.new (left_in self.old) }
     {
@@ -96,7 +96,7 @@ fn body_length(bytes: &[u8]) -> BodyLength
     BodyLength::Whole(size)
 }
 
-// What stands at the prefix of bytes: nothing whole, a fault, or a frame of so many bytes.
+// What stands first in bytes: nothing whole, a fault, or a frame of so many bytes.
 fn look(bytes: &[u8]) -> Option<Result<usize, FrameError>>
     ensures { Looks result bytes.now }
 {
