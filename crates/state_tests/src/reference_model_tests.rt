@@ -11,7 +11,7 @@ use reference_model::{Entry, reply};
 use state_journal::{PlainKeeper, Ready};
 use std::alloc::{AllocError, Global};
 use std::test::Fail;
-use voting_config::{NodeId, NodeSet, VotingConfig};
+use voting_config::{MAX_IDS, NodeId, NodeSet, VotingConfig};
 use world_model::{Act, ActReply, Message, Outcome};
 
 // What a node is to do. The states are those of a in term 1, and the messages are to or from a.
@@ -177,7 +177,7 @@ fn core_outcome(
     node: &mut CoordState<PlainKeeper>,
     act: &Act,
 ) -> Result<Outcome, AllocError> {
-    if node.votes().len() == 32 || node.acks().len() == 32 {
+    if node.votes().len() >= MAX_IDS || node.acks().len() >= MAX_IDS {
         return Err(AllocError);
     }
     match act {
