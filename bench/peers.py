@@ -38,7 +38,7 @@ class Zen:
         return b'{"id":%d,"put":{"key":"%s","value":"%s"}}\n' % (number, key, value)
 
     def take_reply(self, got):
-        """Takes a reply from the front of what came. Gives whether it tells of a put that is done, or None where it is not whole."""
+        """Takes the first reply of what came. Gives whether it tells of a put that is done, or None where it is not whole."""
         line, feed, rest = got.partition(b'\n')
         if not feed:
             return None

@@ -39,8 +39,8 @@ replies_are_true initial h legal s life is = replies_true h (initial_state initi
 
 -- a run was killed within an event, of which the history has the acts of a part
 pub part_replies_are_true : (initial : List Id) (h : History) → IsLegal initial h → (s : Settings) (g r : NodeHistory) → (g ≢ NoActs → OpensWith (durable_of g) r) → IsBeginning (then_run g r) (node_history h s.me)
-    → (life : Life) (e : Event) (front rest : List Item) → Follows s (Lived life (Did e (items_of s (log_of life) e))) → items_of s (log_of life) e ≡ front ++ rest → IsBeginning (acts_of (added (And (log_of life) (Begins e)) front)) r
-    → All (λ (out : Outgoing). IsTrueReply h s (Lived life (Did e (items_of s (log_of life) e))) out.conn out.reply) (replies_of front)
+    → (life : Life) (e : Event) (prefix rest : List Item) → Follows s (Lived life (Did e (items_of s (log_of life) e))) → items_of s (log_of life) e ≡ prefix ++ rest → IsBeginning (acts_of (added (And (log_of life) (Begins e)) prefix)) r
+    → All (λ (out : Outgoing). IsTrueReply h s (Lived life (Did e (items_of s (log_of life) e))) out.conn out.reply) (replies_of prefix)
 part_replies_are_true initial h legal = part_replies_true h (initial_state initial) (system_of_legal initial h legal)
 
 pub last_replies_are_true : (initial : List Id) (h : History) → IsLegal initial h → (s : Settings) (before : Life) (event : Event) (items : List Item) → IsRunIn h s (Lived before (Did event items))

@@ -156,7 +156,7 @@ module _ (h : History) (root : ClusterState) (W : IsSystem (node_history h) root
   quietly v (Notes note) is e a = (tt, a)
 
   -- the history backs the acts of a part of what the node does, which stand in its log
-  backed : (l : Log) (v : View) (xs front rest : List Item) → IsAnswered s v xs → xs ≡ front ++ rest → v ≡ view_of s l → IsBeginning (acts_of (added l front)) r → AreBacked h s v front
+  backed : (l : Log) (v : View) (xs prefix rest : List Item) → IsAnswered s v xs → xs ≡ prefix ++ rest → v ≡ view_of s l → IsBeginning (acts_of (added l prefix)) r → AreBacked h s v prefix
   backed l v xs [] rest a same e b = tt
   backed l v xs (f ∷ fs) rest (Ended u) same e b = absurd (cc)
   backed l v xs (f ∷ fs) rest (ByAct u act is o a) same e b =
@@ -194,16 +194,16 @@ module _ (h : History) (root : ClusterState) (W : IsSystem (node_history h) root
       keeps-next h (unique h root W) s (CameIn now) (view_of s (And (log_of life) (Begins e))) (processed_of s (log_of life)) e (λ c r k. inl k) before
 
   -- the replies of a part of it are true, where the history has the acts of this part
-  pub part_true : (life : Life) (e : Event) (front rest : List Item) → Follows s (Lived life (Did e (items_of s (log_of life) e))) → Told life → items_of s (log_of life) e ≡ front ++ rest
-      → IsBeginning (acts_of (added (And (log_of life) (Begins e)) front)) r → All (λ (out : Outgoing). IsTrueReply h s (Lived life (Did e (items_of s (log_of life) e))) out.conn out.reply) (replies_of front)
-  part_true life e front rest f t whole b =
+  pub part_true : (life : Life) (e : Event) (prefix rest : List Item) → Follows s (Lived life (Did e (items_of s (log_of life) e))) → Told life → items_of s (log_of life) e ≡ prefix ++ rest
+      → IsBeginning (acts_of (added (And (log_of life) (Begins e)) prefix)) r → All (λ (out : Outgoing). IsTrueReply h s (Lived life (Did e (items_of s (log_of life) e))) out.conn out.reply) (replies_of prefix)
+  part_true life e prefix rest f t whole b =
       let log = And (log_of life) (Begins e) in
       let v = view_of s (And (log_of life) (Begins e)) in
       let items = items_of s (log_of life) e in
-      let told : AllTrue h (CameIn (Lived life (Did e (items_of s (log_of life) e)))) (processed_after_all s (view_of s (And (log_of life) (Begins e))) (processed_of s (log_of life)) (items_of s (log_of life) e)) (replies_of front) =
-      (keeps-event life e f t).within front rest whole (backed log v items front rest (answered-next s v e) whole refl b) in
+      let told : AllTrue h (CameIn (Lived life (Did e (items_of s (log_of life) e)))) (processed_after_all s (view_of s (And (log_of life) (Begins e))) (processed_of s (log_of life)) (items_of s (log_of life) e)) (replies_of prefix) =
+      (keeps-event life e f t).within prefix rest whole (backed log v items prefix rest (answered-next s v e) whole refl b) in
       let processed : processed_of s (added (And (log_of life) (Begins e)) (items_of s (log_of life) e)) ≡ processed_after_all s (view_of s (And (log_of life) (Begins e))) (processed_of s (log_of life)) (items_of s (log_of life) e) = processed-added s log items (own-answered s v items (answered-next s v e)) in
-      all_true_at h s (Lived life (Did e (items_of s (log_of life) e))) f (replies_of front) (subst (λ (g : List Waiting). AllTrue h (CameIn (Lived life (Did e (items_of s (log_of life) e)))) g (replies_of front)) (sym processed) told)
+      all_true_at h s (Lived life (Did e (items_of s (log_of life) e))) f (replies_of prefix) (subst (λ (g : List Waiting). AllTrue h (CameIn (Lived life (Did e (items_of s (log_of life) e)))) g (replies_of prefix)) (sym processed) told)
 
   -- an event that does as the rules say
   as_it_does : (life : Life) (e : Event) → Follows s (Lived life (Did e (items_of s (log_of life) e))) → Told life
@@ -252,11 +252,11 @@ module _ (h : History) (root : ClusterState) (W : IsSystem (node_history h) root
 
 -- A run was killed within an event. The replies of a part of it are true, where the history has the acts of this part.
 pub part_replies_true : (h : History) (root : ClusterState) → IsSystem (node_history h) root → (s : Settings) (g r : NodeHistory) → (g ≢ NoActs → OpensWith (durable_of g) r) → IsBeginning (then_run g r) (node_history h s.me)
-    → (life : Life) (e : Event) (front rest : List Item) → Follows s (Lived life (Did e (items_of s (log_of life) e))) → items_of s (log_of life) e ≡ front ++ rest → IsBeginning (acts_of (added (And (log_of life) (Begins e)) front)) r
-    → All (λ (out : Outgoing). IsTrueReply h s (Lived life (Did e (items_of s (log_of life) e))) out.conn out.reply) (replies_of front)
-part_replies_true h root W s g r opens is_in life e front rest f whole b =
-    let before = begins_trans (acts_of (log_of life)) (acts_of (added (And (log_of life) (Begins e)) front)) r (begins_added (And (log_of life) (Begins e)) front) b in
-    part_true h root W s g r opens is_in life e front rest f (told h root W s g r opens is_in life f.0 before) whole b
+    → (life : Life) (e : Event) (prefix rest : List Item) → Follows s (Lived life (Did e (items_of s (log_of life) e))) → items_of s (log_of life) e ≡ prefix ++ rest → IsBeginning (acts_of (added (And (log_of life) (Begins e)) prefix)) r
+    → All (λ (out : Outgoing). IsTrueReply h s (Lived life (Did e (items_of s (log_of life) e))) out.conn out.reply) (replies_of prefix)
+part_replies_true h root W s g r opens is_in life e prefix rest f whole b =
+    let before = begins_trans (acts_of (log_of life)) (acts_of (added (And (log_of life) (Begins e)) prefix)) r (begins_added (And (log_of life) (Begins e)) prefix) b in
+    part_true h root W s g r opens is_in life e prefix rest f (told h root W s g r opens is_in life f.0 before) whole b
 
 pub replies_true : (h : History) (root : ClusterState) → IsSystem (node_history h) root → (s : Settings) (life : Life) → IsRunIn h s life → RepliesTruly h s life
 replies_true h root W s life is =

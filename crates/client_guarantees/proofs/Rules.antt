@@ -173,7 +173,7 @@ module _ (h : History) (U : IsUnique h) (s : Settings) (P : ℕ → Request → 
       let act : Act = Response (record { source = p; target = s.me; term = id.term; version = id.version }) in
       let after = doing.after_act s v act in
       let k = holds-response h s P v g (record { source = p; target = s.me; term = id.term; version = id.version }) (doing.reply_now s v act) i in
-      let made : doing.is_leader v.mode && is_some v.publication && has_room v.node.publish_votes p ≡ true → IsMade h (place v g) = λ e. let front = and_parts (doing.is_leader v.mode && is_some v.publication) _ e in let parts = and_parts _ _ front.0 in i.made parts.0 parts.1 in
+      let made : doing.is_leader v.mode && is_some v.publication && has_room v.node.publish_votes p ≡ true → IsMade h (place v g) = λ e. let prefix = and_parts (doing.is_leader v.mode && is_some v.publication) _ e in let parts = and_parts _ _ prefix.0 in i.made parts.0 parts.1 in
       keeps-if h s P v g (doing.is_leader v.mode && is_some v.publication && has_room v.node.publish_votes p) _ [] (Holds h s P)
       (λ e. keeps-item h s P v g (doing.act_now s v act) _ (Holds h s P) refl
       (λ b. keeps-if h s P after g (publications.commits_now (doing.reply_now s v act)) _ [] (Holds h s P)

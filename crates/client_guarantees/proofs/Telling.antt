@@ -253,27 +253,27 @@ true-later h P g k [] m a = true-none h P k
 true-later h P g k (out ∷ outs) m a =
     true-cons h P k out outs (reply_later h P g k out.conn out.reply m (All-head (Truth h P g) out outs a.all)) (true-later h P g k outs m (record { all = All-tail (Truth h P g) out outs a.all }))
 
--- ---- a part at the front
+-- ---- a prefix
 
-no_front : (front rest : List Item) → [] ≡ front ++ rest → front ≡ []
-no_front [] rest e = refl
-no_front (f ∷ fs) rest e = absurd (cc)
+no_prefix : (prefix rest : List Item) → [] ≡ prefix ++ rest → prefix ≡ []
+no_prefix [] rest e = refl
+no_prefix (f ∷ fs) rest e = absurd (cc)
 
-steady_front : (front rest xs : List Item) → xs ≡ front ++ rest → IsSteady xs → IsSteady front
-steady_front [] rest xs e q = Calm
-steady_front (f ∷ fs) rest xs e Calm = absurd (cc)
-steady_front (f ∷ fs) rest xs e (Still i is still q) =
+steady_prefix : (prefix rest xs : List Item) → xs ≡ prefix ++ rest → IsSteady xs → IsSteady prefix
+steady_prefix [] rest xs e q = Calm
+steady_prefix (f ∷ fs) rest xs e Calm = absurd (cc)
+steady_prefix (f ∷ fs) rest xs e (Still i is still q) =
     let head : i ≡ f = cc in
     let tail : is ≡ fs ++ rest = cc in
-    Still f fs (subst (λ (x : Item). is_steady x ≡ true) head still) (steady_front fs rest is tail q)
+    Still f fs (subst (λ (x : Item). is_steady x ≡ true) head still) (steady_prefix fs rest is tail q)
 
--- a part at the front of two parts ends within the first, or goes on into the second
-data Splits (xs ys front rest : List Item) : Type 0 where
-  Within : (more : List Item) → xs ≡ front ++ more → Splits xs ys front rest
-  Beyond : (more : List Item) → front ≡ xs ++ more → ys ≡ more ++ rest → Splits xs ys front rest
+-- a prefix of two parts ends within the first, or goes on into the second
+data Splits (xs ys prefix rest : List Item) : Type 0 where
+  Within : (more : List Item) → xs ≡ prefix ++ more → Splits xs ys prefix rest
+  Beyond : (more : List Item) → prefix ≡ xs ++ more → ys ≡ more ++ rest → Splits xs ys prefix rest
 
-splits : (xs ys front rest : List Item) → xs ++ ys ≡ front ++ rest → Splits xs ys front rest
-splits [] ys front rest e = Beyond front refl e
+splits : (xs ys prefix rest : List Item) → xs ++ ys ≡ prefix ++ rest → Splits xs ys prefix rest
+splits [] ys prefix rest e = Beyond prefix refl e
 splits (x ∷ xs) ys [] rest e = Within (x ∷ xs) refl
 splits (x ∷ xs) ys (f ∷ fs) rest e = from (splits xs ys fs rest tail)
   where
@@ -307,20 +307,20 @@ module _ (h : History) (s : Settings) (P : ℕ → Request → Type 0) where
     pub stands : Q (place (moved_all s v is) (processed_after_all s v g is))
 
   -- Where the history backs their acts, the items tell what is true of what was processed by their end, and leave a node that was v so that Q. Where it
-  -- backs the acts of a part at the front, what that tells is true.
+  -- backs the acts of a prefix, what that tells is true.
   pub record Keeps (v : View) (g : List Waiting) (is : List Item) (Q : Place → Type 0) : Type 0 where
     pub ends : AreBacked h s v is → Ends v g is Q
-    pub within : (front rest : List Item) → is ≡ front ++ rest → AreBacked h s v front → AllTrue h P (processed_after_all s v g is) (replies_of front)
+    pub within : (prefix rest : List Item) → is ≡ prefix ++ rest → AreBacked h s v prefix → AllTrue h P (processed_after_all s v g is) (replies_of prefix)
 
   pub keeps-none : (v : View) (g : List Waiting) (Q : Place → Type 0) → Q (place v g) → Keeps v g [] Q
   keeps-none v g Q q = record {
     ends = λ b. record { told = true-none h P g; stands = q };
-    within = λ front rest e b. subst (λ (f : List Item). AllTrue h P g (replies_of f)) (sym (no_front front rest e)) (true-none h P g);
+    within = λ prefix rest e b. subst (λ (f : List Item). AllTrue h P g (replies_of f)) (sym (no_prefix prefix rest e)) (true-none h P g);
   }
 
   pub keeps-append : (v : View) (g : List Waiting) (xs ys : List Item) (R Q : Place → Type 0) → Keeps v g xs R
       → (R (place (moved_all s v xs) (processed_after_all s v g xs)) → Keeps (moved_all s v xs) (processed_after_all s v g xs) ys Q) → Keeps v g (xs ++ ys) Q
-  keeps-append v g xs ys R Q a next = record { ends = λ b. from (backed_parts h s v xs ys b); within = λ front rest e b. part front rest b (splits xs ys front rest e) }
+  keeps-append v g xs ys R Q a next = record { ends = λ b. from (backed_parts h s v xs ys b); within = λ prefix rest e b. part prefix rest b (splits xs ys prefix rest e) }
     where
       from : AreBacked h s v xs × AreBacked h s (moved_all s v xs) ys → Ends v g (xs ++ ys) Q
       from b =
@@ -337,19 +337,19 @@ module _ (h : History) (s : Settings) (P : ℕ → Request → Type 0) where
                 (subst (λ (u : View). Q (place u l)) (sym (moved_all-append s v xs ys)) second.stands);
           }
 
-      part : (front rest : List Item) → AreBacked h s v front → Splits xs ys front rest → AllTrue h P (processed_after_all s v g (xs ++ ys)) (replies_of front)
-      part front rest b (Within more q) =
+      part : (prefix rest : List Item) → AreBacked h s v prefix → Splits xs ys prefix rest → AllTrue h P (processed_after_all s v g (xs ++ ys)) (replies_of prefix)
+      part prefix rest b (Within more q) =
           let k = processed_after_all s v g xs in
           let l = processed_after_all s (moved_all s v xs) k ys in
-          subst (λ (p : List Waiting). AllTrue h P p (replies_of front)) (sym (processed-append s v g xs ys))
-          (true-later h P k l (replies_of front) (grown s (moved_all s v xs) k ys) (a.within front more q b))
-      part front rest b (Beyond more p q) =
+          subst (λ (p : List Waiting). AllTrue h P p (replies_of prefix)) (sym (processed-append s v g xs ys))
+          (true-later h P k l (replies_of prefix) (grown s (moved_all s v xs) k ys) (a.within prefix more q b))
+      part prefix rest b (Beyond more p q) =
           let both = backed_parts h s v xs more (subst (λ (f : List Item). AreBacked h s v f) p b) in
           let first = a.ends both.0 in
           let second = (next first.stands).within more rest q both.1 in
           let k = processed_after_all s v g xs in
           let l = processed_after_all s (moved_all s v xs) k ys in
-          subst (λ (p : List Waiting). AllTrue h P p (replies_of front)) (sym (processed-append s v g xs ys))
+          subst (λ (p : List Waiting). AllTrue h P p (replies_of prefix)) (sym (processed-append s v g xs ys))
           (subst (λ (f : List Item). AllTrue h P l (replies_of f)) (sym p)
           (subst (AllTrue h P l) (sym (replies-append xs more)) (true-append h P l (replies_of xs) (replies_of more) (true-later h P k l (replies_of xs) (grown s (moved_all s v xs) k ys) first.told) second)))
 
@@ -370,7 +370,7 @@ module _ (h : History) (s : Settings) (P : ℕ → Request → Type 0) where
     within = part;
   }
     where
-      part : (front rest : List Item) → i ∷ is ≡ front ++ rest → AreBacked h s v front → AllTrue h P (processed_after_all s v g (i ∷ is)) (replies_of front)
+      part : (prefix rest : List Item) → i ∷ is ≡ prefix ++ rest → AreBacked h s v prefix → AllTrue h P (processed_after_all s v g (i ∷ is)) (replies_of prefix)
       part [] rest e b = true-none h P (processed_after_all s v g (i ∷ is))
       part (f ∷ fs) rest e b =
           let head : i ≡ f = cc in
@@ -386,7 +386,7 @@ module _ (h : History) (s : Settings) (P : ℕ → Request → Type 0) where
           told = subst (AllTrue h P (processed_after_all s v g is)) (sym (steady_silent is q)) (true-none h P (processed_after_all s v g is));
           stands = subst (λ (p : List Waiting). Q (place (moved_all s v is) p)) (sym (processed-steady s v g is q)) (subst (λ (x : Standing). Q (record { stands = x; processed = g })) (sym (steady_stands s v is q)) k);
         };
-    within = λ front rest e b. subst (AllTrue h P (processed_after_all s v g is)) (sym (steady_silent front (steady_front front rest is e q))) (true-none h P (processed_after_all s v g is));
+    within = λ prefix rest e b. subst (AllTrue h P (processed_after_all s v g is)) (sym (steady_silent prefix (steady_prefix prefix rest is e q))) (true-none h P (processed_after_all s v g is));
   }
 
   -- a reply that is true of what is processed by the end, and what comes after it
@@ -399,7 +399,7 @@ module _ (h : History) (s : Settings) (P : ℕ → Request → Type 0) where
     within = part;
   }
     where
-      part : (front rest : List Item) → Replies out ∷ is ≡ front ++ rest → AreBacked h s v front → AllTrue h P (processed_after_all s v g is) (replies_of front)
+      part : (prefix rest : List Item) → Replies out ∷ is ≡ prefix ++ rest → AreBacked h s v prefix → AllTrue h P (processed_after_all s v g is) (replies_of prefix)
       part [] rest e b = true-none h P (processed_after_all s v g is)
       part (f ∷ fs) rest e b =
           let head : Replies out ≡ f = cc in

@@ -72,19 +72,19 @@ after-in_front : (b : ℕ) (lines : List (List ℕ)) (rest back : List ℕ) → 
 after-in_front b [] rest back e = sym (cut-other b (rest ++ back) e)
 after-in_front b (line ∷ lines) rest back e = refl
 
-cut-append : (front back : List ℕ) → cut (front ++ back) ≡ after (cut front).ended (cut ((cut front).rest ++ back))
+cut-append : (prefix back : List ℕ) → cut (prefix ++ back) ≡ after (cut prefix).ended (cut ((cut prefix).rest ++ back))
 cut-append [] back = refl
-cut-append (b ∷ front) back =
-    elim (b == 10) as (λ c. (b == 10) ≡ c → cut (b ∷ (front ++ back)) ≡ after (cut (b ∷ front)).ended (cut ((cut (b ∷ front)).rest ++ back))) [
+cut-append (b ∷ prefix) back =
+    elim (b == 10) as (λ c. (b == 10) ≡ c → cut (b ∷ (prefix ++ back)) ≡ after (cut (b ∷ prefix)).ended (cut ((cut (b ∷ prefix)).rest ++ back))) [
       | true ↦ λ e.
-          cut-feed b (front ++ back) e
-          ∙ ap (after ([] ∷ [])) (cut-append front back)
-          ∙ sym (ap (λ (c : Cut). after c.ended (cut (c.rest ++ back))) (cut-feed b front e))
+          cut-feed b (prefix ++ back) e
+          ∙ ap (after ([] ∷ [])) (cut-append prefix back)
+          ∙ sym (ap (λ (c : Cut). after c.ended (cut (c.rest ++ back))) (cut-feed b prefix e))
       | false ↦ λ e.
-          cut-other b (front ++ back) e
-          ∙ ap (λ (c : Cut). in_front b c.ended c.rest) (cut-append front back)
-          ∙ after-in_front b (cut front).ended (cut front).rest back e
-          ∙ sym (ap (λ (c : Cut). after c.ended (cut (c.rest ++ back))) (cut-other b front e))
+          cut-other b (prefix ++ back) e
+          ∙ ap (λ (c : Cut). in_front b c.ended c.rest) (cut-append prefix back)
+          ∙ after-in_front b (cut prefix).ended (cut prefix).rest back e
+          ∙ sym (ap (λ (c : Cut). after c.ended (cut (c.rest ++ back))) (cut-other b prefix e))
     ] refl
 
 -- ---- what is kept
@@ -125,13 +125,13 @@ map-kept-append : (xs ys : List (List ℕ)) → map kept (xs ++ ys) ≡ map kept
 map-kept-append [] ys = refl
 map-kept-append (x ∷ xs) ys = ap (λ l. kept x ∷ l) (map-kept-append xs ys)
 
-pub cuts_anywhere : (front back : List ℕ) → CutsAnywhere front back
-cuts_anywhere front back = record {
+pub cuts_anywhere : (prefix back : List ℕ) → CutsAnywhere prefix back
+cuts_anywhere prefix back = record {
   lines =
-      ap (λ (c : Cut). map kept c.ended) (cut-append front back)
-      ∙ map-kept-append (cut front).ended (cut ((cut front).rest ++ back)).ended
-      ∙ sym (ap (λ l. lines_of front ++ l) (lines_of-kept (cut front).rest back (no_feed_in_rest front)));
+      ap (λ (c : Cut). map kept c.ended) (cut-append prefix back)
+      ∙ map-kept-append (cut prefix).ended (cut ((cut prefix).rest ++ back)).ended
+      ∙ sym (ap (λ l. lines_of prefix ++ l) (lines_of-kept (cut prefix).rest back (no_feed_in_rest prefix)));
   rest =
-      ap (λ (c : Cut). kept c.rest) (cut-append front back)
-      ∙ sym (rest_of-kept (cut front).rest back (no_feed_in_rest front));
+      ap (λ (c : Cut). kept c.rest) (cut-append prefix back)
+      ∙ sym (rest_of-kept (cut prefix).rest back (no_feed_in_rest prefix));
 }

@@ -11,7 +11,7 @@ pub has-append : (q : Id) (xs ys : List Id) → has q (xs ++ ys) ≡ (has q xs |
 has-append q xs ys = list_any-append (λ y. same y q) xs ys
 
 -- an id that stands before and again
-pub are_distinct-again : (x : Id) (front rest : List Id) → has x front ≡ true → are_distinct (front ++ x ∷ rest) ≡ false
+pub are_distinct-again : (x : Id) (prefix rest : List Id) → has x prefix ≡ true → are_distinct (prefix ++ x ∷ rest) ≡ false
 are_distinct-again x [] rest h = absurd (cc)
 are_distinct-again x (y ∷ ys) rest h =
     elim (same y x) as (λ b. same y x ≡ b → are_distinct ((y ∷ ys) ++ x ∷ rest) ≡ false) [
@@ -25,11 +25,11 @@ are_distinct-again x (y ∷ ys) rest h =
     ] refl
 
 -- one more id that is none of them
-pub are_distinct-push : (x : Id) (front : List Id) → are_distinct front ≡ true → has x front ≡ false → are_distinct (front ++ x ∷ []) ≡ true
+pub are_distinct-push : (x : Id) (prefix : List Id) → are_distinct prefix ≡ true → has x prefix ≡ false → are_distinct (prefix ++ x ∷ []) ≡ true
 are_distinct-push x [] h k = refl
 are_distinct-push x (y ∷ ys) h k =
     let parts : (not (has y ys) ≡ true) × (are_distinct ys ≡ true) = and_parts (not (has y ys)) (are_distinct ys) h in
     let apart : (same y x ≡ false) × (has x ys ≡ false) = or_parts (same y x) (has x ys) k in
     let here : has y (x ∷ []) ≡ false = rw (nat_list_eq_equiv.symm x y, apart.0) refl in
-    let same_front : has y (ys ++ x ∷ []) ≡ has y ys = has-append y ys (x ∷ []) ∙ ap (λ (b : Bool). has y ys || b) here ∙ or-false (has y ys) in
-    and_from _ _ (ap not same_front ∙ parts.0) (are_distinct-push x ys parts.1 apart.1)
+    let same_prefix : has y (ys ++ x ∷ []) ≡ has y ys = has-append y ys (x ∷ []) ∙ ap (λ (b : Bool). has y ys || b) here ∙ or-false (has y ys) in
+    and_from _ _ (ap not same_prefix ∙ parts.0) (are_distinct-push x ys parts.1 apart.1)

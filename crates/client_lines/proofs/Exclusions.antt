@@ -27,12 +27,12 @@ ids_from no_items found = Some found
 ids_from (item d ds) found = option_and_then (λ id. option_and_then (λ more. ids_from ds more) (with_new_id id found)) (node_id_of d)
 
 -- what was found is the set of the ids at the start
-record IsSetOf (found front : List Id) : Type 0 where
-  members : (q : Id) → has q found ≡ has q front
-  size : length found ≡ length front
-  set : found ≡ set_of front
-  distinct : are_distinct front ≡ true
-  few : length front ≤ 32
+record IsSetOf (found prefix : List Id) : Type 0 where
+  members : (q : Id) → has q found ≡ has q prefix
+  size : length found ≡ length prefix
+  set : found ≡ set_of prefix
+  distinct : are_distinct prefix ≡ true
+  few : length prefix ≤ 32
 
 as_set-some : (ids : List Id) → are_distinct ids ≡ true → length ids ≤ 32 → as_set ids ≡ Some (set_of ids)
 as_set-some ids d few = let e : nat_le (length ids) 32 ≡ true = grind (arith, nat_tests) in rw (d, e) refl
@@ -46,48 +46,48 @@ as_set-many ids many =
     rw e (elim (are_distinct ids) as (λ b. cond (b && false) (Some (set_of ids)) None ≡ None) [ true ↦ refl | false ↦ refl ])
 
 -- whatever ids follow, there is no set
-none_follows : (front : List Id) (x : Id) (o : Option (List Id)) → ((ids : List Id) → as_set (front ++ x ∷ ids) ≡ None)
-    → None ≡ option_and_then as_set (option_map (λ ids. front ++ ids) (option_map (λ ids. x ∷ ids) o))
-none_follows front x None h = refl
-none_follows front x (Some ids) h = sym (h ids)
+none_follows : (prefix : List Id) (x : Id) (o : Option (List Id)) → ((ids : List Id) → as_set (prefix ++ x ∷ ids) ≡ None)
+    → None ≡ option_and_then as_set (option_map (λ ids. prefix ++ ids) (option_map (λ ids. x ∷ ids) o))
+none_follows prefix x None h = refl
+none_follows prefix x (Some ids) h = sym (h ids)
 
 -- an id goes over to those at the start
-goes_over : (front : List Id) (x : Id) (o : Option (List Id))
-    → option_and_then as_set (option_map (λ ids. (front ++ x ∷ []) ++ ids) o) ≡ option_and_then as_set (option_map (λ ids. front ++ ids) (option_map (λ ids. x ∷ ids) o))
-goes_over front x None = refl
-goes_over front x (Some ids) = ap as_set (append_assoc front (x ∷ []) ids)
+goes_over : (prefix : List Id) (x : Id) (o : Option (List Id))
+    → option_and_then as_set (option_map (λ ids. (prefix ++ x ∷ []) ++ ids) o) ≡ option_and_then as_set (option_map (λ ids. prefix ++ ids) (option_map (λ ids. x ∷ ids) o))
+goes_over prefix x None = refl
+goes_over prefix x (Some ids) = ap as_set (append_assoc prefix (x ∷ []) ids)
 
-IsSetOf-with_id : (x : Id) (found front : List Id) → IsSetOf found front → has x found ≡ false → length found < 32 → IsSetOf (with_id x found) (front ++ x ∷ [])
-IsSetOf-with_id x found front s new room = record {
-  members = λ q. has-with_id q x found ∙ or_comm (same x q) (has q found) ∙ ap (λ (b : Bool). b || same x q) (s.members q) ∙ sym (has-append q front (x ∷ []) ∙ ap (λ (b : Bool). has q front || b) (or-false (same x q)));
+IsSetOf-with_id : (x : Id) (found prefix : List Id) → IsSetOf found prefix → has x found ≡ false → length found < 32 → IsSetOf (with_id x found) (prefix ++ x ∷ [])
+IsSetOf-with_id x found prefix s new room = record {
+  members = λ q. has-with_id q x found ∙ or_comm (same x q) (has q found) ∙ ap (λ (b : Bool). b || same x q) (s.members q) ∙ sym (has-append q prefix (x ∷ []) ∙ ap (λ (b : Bool). has q prefix || b) (or-false (same x q)));
   size = let longer = length-with_id-absent x found new in rw (longer, length-append, s.size) (omega arith);
-  set = ap (with_id x) s.set ∙ sym (fold-append (λ ids id. with_id id ids) [] front (x ∷ []));
-  distinct = are_distinct-push x front s.distinct (sym (s.members x) ∙ new);
+  set = ap (with_id x) s.set ∙ sym (fold-append (λ ids id. with_id id ids) [] prefix (x ∷ []));
+  distinct = are_distinct-push x prefix s.distinct (sym (s.members x) ∙ new);
   few = rw length-append (omega (arith, s.size));
 }
 
-ids_from-node_ids_of : (ds : Items) (found front : List Id) → IsSetOf found front → ids_from ds found ≡ option_and_then as_set (option_map (λ ids. front ++ ids) (node_ids_of ds))
-ids_from-node_ids_of no_items found front s = rw append-nil (ap Some s.set ∙ sym (as_set-some front s.distinct s.few))
-ids_from-node_ids_of (item d ds) found front s =
-    elim (node_id_of d) as (λ o. option_and_then (λ id. option_and_then (λ more. ids_from ds more) (with_new_id id found)) o ≡ option_and_then as_set (option_map (λ ids. front ++ ids) (option_and_then (λ id. option_map (λ ids. id ∷ ids) (node_ids_of ds)) o))) [
+ids_from-node_ids_of : (ds : Items) (found prefix : List Id) → IsSetOf found prefix → ids_from ds found ≡ option_and_then as_set (option_map (λ ids. prefix ++ ids) (node_ids_of ds))
+ids_from-node_ids_of no_items found prefix s = rw append-nil (ap Some s.set ∙ sym (as_set-some prefix s.distinct s.few))
+ids_from-node_ids_of (item d ds) found prefix s =
+    elim (node_id_of d) as (λ o. option_and_then (λ id. option_and_then (λ more. ids_from ds more) (with_new_id id found)) o ≡ option_and_then as_set (option_map (λ ids. prefix ++ ids) (option_and_then (λ id. option_map (λ ids. id ∷ ids) (node_ids_of ds)) o))) [
       | None ↦ refl
-      | Some x ↦ one x (λ t. ids_from-node_ids_of ds (with_id x found) (front ++ x ∷ []) t)
+      | Some x ↦ one x (λ t. ids_from-node_ids_of ds (with_id x found) (prefix ++ x ∷ []) t)
     ]
   where
-    one : (x : Id) → (IsSetOf (with_id x found) (front ++ x ∷ []) → ids_from ds (with_id x found) ≡ option_and_then as_set (option_map (λ ids. (front ++ x ∷ []) ++ ids) (node_ids_of ds)))
-        → option_and_then (λ more. ids_from ds more) (with_new_id x found) ≡ option_and_then as_set (option_map (λ ids. front ++ ids) (option_map (λ ids. x ∷ ids) (node_ids_of ds)))
+    one : (x : Id) → (IsSetOf (with_id x found) (prefix ++ x ∷ []) → ids_from ds (with_id x found) ≡ option_and_then as_set (option_map (λ ids. (prefix ++ x ∷ []) ++ ids) (node_ids_of ds)))
+        → option_and_then (λ more. ids_from ds more) (with_new_id x found) ≡ option_and_then as_set (option_map (λ ids. prefix ++ ids) (option_map (λ ids. x ∷ ids) (node_ids_of ds)))
     one x later =
-        elim (has x found) as (λ b. has x found ≡ b → option_and_then (λ more. ids_from ds more) (cond b None (cond (length found == 32) None (Some (with_id x found)))) ≡ option_and_then as_set (option_map (λ ids. front ++ ids) (option_map (λ ids. x ∷ ids) (node_ids_of ds)))) [
-          | true ↦ λ e. none_follows front x (node_ids_of ds) (λ ids. as_set-again (front ++ x ∷ ids) (are_distinct-again x front ids (sym (s.members x) ∙ e)))
+        elim (has x found) as (λ b. has x found ≡ b → option_and_then (λ more. ids_from ds more) (cond b None (cond (length found == 32) None (Some (with_id x found)))) ≡ option_and_then as_set (option_map (λ ids. prefix ++ ids) (option_map (λ ids. x ∷ ids) (node_ids_of ds)))) [
+          | true ↦ λ e. none_follows prefix x (node_ids_of ds) (λ ids. as_set-again (prefix ++ x ∷ ids) (are_distinct-again x prefix ids (sym (s.members x) ∙ e)))
           | false ↦ λ e.
-              elim (length found == 32) as (λ b. (length found == 32) ≡ b → option_and_then (λ more. ids_from ds more) (cond b None (Some (with_id x found))) ≡ option_and_then as_set (option_map (λ ids. front ++ ids) (option_map (λ ids. x ∷ ids) (node_ids_of ds)))) [
+              elim (length found == 32) as (λ b. (length found == 32) ≡ b → option_and_then (λ more. ids_from ds more) (cond b None (Some (with_id x found))) ≡ option_and_then as_set (option_map (λ ids. prefix ++ ids) (option_map (λ ids. x ∷ ids) (node_ids_of ds)))) [
                 | true ↦ λ f.
                     let full : length found ≡ 32 = grind (arith, nat_tests) in
-                    let many : (ids : List Id) → 32 < length (front ++ x ∷ ids) = λ ids. rw length-append (omega (arith, full, s.size)) in
-                    none_follows front x (node_ids_of ds) (λ ids. as_set-many (front ++ x ∷ ids) (many ids))
+                    let many : (ids : List Id) → 32 < length (prefix ++ x ∷ ids) = λ ids. rw length-append (omega (arith, full, s.size)) in
+                    none_follows prefix x (node_ids_of ds) (λ ids. as_set-many (prefix ++ x ∷ ids) (many ids))
                 | false ↦ λ f.
                     let room : length found < 32 = grind (arith, nat_tests, s.size, s.few) in
-                    later (IsSetOf-with_id x found front s e room) ∙ goes_over front x (node_ids_of ds)
+                    later (IsSetOf-with_id x found prefix s e room) ∙ goes_over prefix x (node_ids_of ds)
               ] refl
         ] refl
 

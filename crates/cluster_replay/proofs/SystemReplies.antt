@@ -41,13 +41,13 @@ system_replies_are_true initial h is n s life lived =
 
 -- ---- killed within an event
 
--- of what was done of some items: a part at their front has its acts, as far as they came to their end, and its replies
+-- of what was done of some items: a prefix of them has its acts, as far as they came to their end, and its replies
 record IsPartOf (l k : Log) (items done : List Item) : Type 1 where
-  front : List Item
+  prefix : List Item
   rest : List Item
-  whole : items ≡ front ++ rest
-  acts : IsBeginning (acts_of (added l front)) (acts_of (added k done))
-  answers : (P : Outgoing → Type 0) → All P (replies_of front) → All P (replies_of done)
+  whole : items ≡ prefix ++ rest
+  acts : IsBeginning (acts_of (added l prefix)) (acts_of (added k done))
+  answers : (P : Outgoing → Type 0) → All P (replies_of prefix) → All P (replies_of done)
 
 same-acts : (l k : Log) (i : Item) → acts_of l ≡ acts_of k → acts_of (And l i) ≡ acts_of (And k i)
 same-acts l k (Opens found) e = ap (λ (g : NodeHistory). Then g (Open found) (Answered (Taken None false))) e
@@ -70,9 +70,9 @@ with-answers P (Replies answer) xs ys more a = All-cons P answer (replies_of ys)
 with-answers P (Notes note) xs ys more a = more a
 
 part-of : (l k : Log) (items done : List Item) → acts_of l ≡ acts_of k → IsDoneOf items done → IsPartOf l k items done
-part-of l k items done e (Killed is) = record { front = []; rest = is; whole = refl; acts = subst (IsBeginning (acts_of l)) e (begins_self (acts_of l)); answers = λ P a. a }
+part-of l k items done e (Killed is) = record { prefix = []; rest = is; whole = refl; acts = subst (IsBeginning (acts_of l)) e (begins_self (acts_of l)); answers = λ P a. a }
 part-of l k items done e (InAct act sends wins rest fault w f) = record {
-  front = [];
+  prefix = [];
   rest = Acts act (Answered (Taken sends wins)) ∷ rest;
   whole = refl;
   acts = inr (subst (IsBeginning (acts_of l)) e (begins_self (acts_of l)));
@@ -80,18 +80,18 @@ part-of l k items done e (InAct act sends wins rest fault w f) = record {
 }
 part-of l k items done e (Also i rest some d) =
     let more = part-of (And l i) (And k i) rest some (same-acts l k i e) d in
-    record { front = i ∷ more.front; rest = more.rest; whole = ap (λ (x : List Item). i ∷ x) more.whole; acts = more.acts; answers = λ P a. with-answers P i more.front some (more.answers P) a }
+    record { prefix = i ∷ more.prefix; rest = more.rest; whole = ap (λ (x : List Item). i ∷ x) more.whole; acts = more.acts; answers = λ P a. with-answers P i more.prefix some (more.answers P) a }
 part-of l k items done e (Unsent frame rest some d) =
     let more = part-of (And l (Sends frame)) k rest some e d in
-    record { front = Sends frame ∷ more.front; rest = more.rest; whole = ap (λ (x : List Item). Sends frame ∷ x) more.whole; acts = more.acts; answers = more.answers }
+    record { prefix = Sends frame ∷ more.prefix; rest = more.rest; whole = ap (λ (x : List Item). Sends frame ∷ x) more.whole; acts = more.acts; answers = more.answers }
 part-of l k items done e (Unanswered answer rest some d) =
     let more = part-of (And l (Replies answer)) k rest some e d in
     record {
-      front = Replies answer ∷ more.front;
+      prefix = Replies answer ∷ more.prefix;
       rest = more.rest;
       whole = ap (λ (x : List Item). Replies answer ∷ x) more.whole;
       acts = more.acts;
-      answers = λ P a. more.answers P (All-tail P answer (replies_of more.front) a);
+      answers = λ P a. more.answers P (All-tail P answer (replies_of more.prefix) a);
     }
 
 pub killed_replies_are_true : LawKilledRepliesAreTrue
@@ -101,4 +101,4 @@ killed_replies_are_true initial h is n s life event done was =
     part.answers (λ (out : Outgoing). IsTrueReply (history_of h) s (Lived life (Did event (items_of s (log_of life) event))) out.conn out.reply)
     (part_replies_are_true initial (history_of h) (lives_assemble initial h is) s k.before (acts_of (added (And (log_of life) (Begins event)) done)) (λ some. k.opens)
     (subst (λ (x : Id). IsBeginning (then_run k.before (acts_of (added (And (log_of life) (Begins event)) done))) (node_history (history_of h) x)) (sym k.me) k.begins)
-    life event part.front part.rest k.follows part.whole part.acts)
+    life event part.prefix part.rest k.follows part.whole part.acts)

@@ -55,9 +55,9 @@ members_len-settings (e ∷ es) = ap suc (members_len-settings es)
 abbrev pub keys : List Setting → List (List ℕ)
 keys ss = map (λ s. s.0) ss
 
-pub ascending_keys : (front ss : List Setting) → ascends (keys front) ≡ true → ascends_from comes_after_keys front ss ≡ true → ascends (keys (front ++ ss)) ≡ true
-ascending_keys front [] h k = rw append-nil h
-ascending_keys front (s ∷ ss) h k =
-    let parts = and_parts (comes_after_keys s front) (ascends_from comes_after_keys (front ++ s ∷ []) ss) k in
-    let one : ascends (keys (front ++ s ∷ [])) ≡ true = rw map_push (ascends-push s.0 (keys front) h parts.0) in
-    subst (λ (l : List Setting). ascends (keys l) ≡ true) (append_assoc front (s ∷ []) ss) (ascending_keys (front ++ s ∷ []) ss one parts.1)
+pub ascending_keys : (prefix ss : List Setting) → ascends (keys prefix) ≡ true → ascends_from comes_after_keys prefix ss ≡ true → ascends (keys (prefix ++ ss)) ≡ true
+ascending_keys prefix [] h k = rw append-nil h
+ascending_keys prefix (s ∷ ss) h k =
+    let parts = and_parts (comes_after_keys s prefix) (ascends_from comes_after_keys (prefix ++ s ∷ []) ss) k in
+    let one : ascends (keys (prefix ++ s ∷ [])) ≡ true = rw map_push (ascends-push s.0 (keys prefix) h parts.0) in
+    subst (λ (l : List Setting). ascends (keys l) ≡ true) (append_assoc prefix (s ∷ []) ss) (ascending_keys (prefix ++ s ∷ []) ss one parts.1)

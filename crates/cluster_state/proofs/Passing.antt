@@ -8,45 +8,45 @@ use Rattle.cluster_state.specs.Field.{elements_at}
 use Rattle.cluster_state.specs.Passing.{is_after_last}
 use Rattle.cluster_state.proofs.Loop.{goes_on, ends, stops}
 
-pub comes_after-end : (x y : Id) (front : List Id) → comes_after x (front ++ y ∷ []) ≡ before y x
+pub comes_after-end : (x y : Id) (prefix : List Id) → comes_after x (prefix ++ y ∷ []) ≡ before y x
 comes_after-end x y [] = refl
 comes_after-end x y (z ∷ []) = refl
-comes_after-end x y (z ∷ w ∷ front) = comes_after-end x y (w ∷ front)
+comes_after-end x y (z ∷ w ∷ prefix) = comes_after-end x y (w ∷ prefix)
 
-pub comes_after_keys-end : (s t : Setting) (front : List Setting) → comes_after_keys s (front ++ t ∷ []) ≡ before t.0 s.0
+pub comes_after_keys-end : (s t : Setting) (prefix : List Setting) → comes_after_keys s (prefix ++ t ∷ []) ≡ before t.0 s.0
 comes_after_keys-end s t [] = refl
 comes_after_keys-end s t (u ∷ []) = refl
-comes_after_keys-end s t (u ∷ v ∷ front) = comes_after_keys-end s t (v ∷ front)
+comes_after_keys-end s t (u ∷ v ∷ prefix) = comes_after_keys-end s t (v ∷ prefix)
 
 -- what is passed so far: these are not kept, but whether a next one comes after them is told by the last
 pub record HasPassed {A : Type 0} (after : A → List A → Bool) (one : List ℕ → Result (A × List ℕ) FieldError) (key : A → Id) (count i : ℕ) (last : Option Id) (bytes start : List ℕ) : Type 0 where
-  pub front : List A
-  pub is_last : (x : A) → after x front ≡ is_after_last last (key x)
-  pub so_far : elements_at after one (count - i) front bytes ≡ elements_at after one count [] start
+  pub prefix : List A
+  pub is_last : (x : A) → after x prefix ≡ is_after_last last (key x)
+  pub so_far : elements_at after one (count - i) prefix bytes ≡ elements_at after one count [] start
 
 module _ {A : Type 0} (after : A → List A → Bool) (one : List ℕ → Result (A × List ℕ) FieldError) (key : A → Id) where
   pub passed_none : (count : ℕ) (bytes : List ℕ) → ((x : A) → after x [] ≡ true) → HasPassed after one key count 0 None bytes bytes
-  passed_none count bytes first = record { front = []; is_last = first; so_far = ap (λ n. elements_at after one n [] bytes) (omega arith) }
+  passed_none count bytes first = record { prefix = []; is_last = first; so_far = ap (λ n. elements_at after one n [] bytes) (omega arith) }
 
   pub passed_more : (count i : ℕ) (last : Option Id) (bytes rest start : List ℕ) (x : A) → HasPassed after one key count i last bytes start
-      → i < count → one bytes ≡ Ok (x, rest) → is_after_last last (key x) ≡ true → ((y : A) (front : List A) → after y (front ++ x ∷ []) ≡ before (key x) (key y))
+      → i < count → one bytes ≡ Ok (x, rest) → is_after_last last (key x) ≡ true → ((y : A) (prefix : List A) → after y (prefix ++ x ∷ []) ≡ before (key x) (key y))
       → HasPassed after one key count (i + 1) (Some (key x)) rest start
   passed_more count i last bytes rest start x h lt is_read above law = record {
-    front = h.front ++ x ∷ [];
-    is_last = λ y. law y h.front;
-    so_far = goes_on after one count i h.front bytes rest x _ lt is_read (h.is_last x ∙ above) h.so_far;
+    prefix = h.prefix ++ x ∷ [];
+    is_last = λ y. law y h.prefix;
+    so_far = goes_on after one count i h.prefix bytes rest x _ lt is_read (h.is_last x ∙ above) h.so_far;
   }
 
   pub passed_ends : (count i : ℕ) (last : Option Id) (bytes start : List ℕ) (e : FieldError) → HasPassed after one key count i last bytes start
       → i < count → one bytes ≡ Err e → elements_at after one count [] start ≡ Err e
-  passed_ends count i last bytes start e h lt is_read = ends after one count i h.front bytes e _ lt is_read h.so_far
+  passed_ends count i last bytes start e h lt is_read = ends after one count i h.prefix bytes e _ lt is_read h.so_far
 
   pub passed_stops : (count i : ℕ) (last : Option Id) (bytes rest start : List ℕ) (x : A) → HasPassed after one key count i last bytes start
       → i < count → one bytes ≡ Ok (x, rest) → is_after_last last (key x) ≡ false → elements_at after one count [] start ≡ Err NotOrdered
-  passed_stops count i last bytes rest start x h lt is_read below = stops after one count i h.front bytes rest x _ lt is_read (h.is_last x ∙ below) h.so_far
+  passed_stops count i last bytes rest start x h lt is_read below = stops after one count i h.prefix bytes rest x _ lt is_read (h.is_last x ∙ below) h.so_far
 
   pub passed_all : (count i : ℕ) (last : Option Id) (bytes start : List ℕ) → HasPassed after one key count i last bytes start → count ≤ i
       → (xs : List A) × (elements_at after one count [] start ≡ Ok (xs, bytes))
   passed_all count i last bytes start h past =
       let none : count - i ≡ 0 = omega arith in
-      (h.front, sym h.so_far ∙ rw none refl)
+      (h.prefix, sym h.so_far ∙ rw none refl)

@@ -50,14 +50,14 @@ made_same a b c d e f g h i j k l = cc
 
 pub same_value-says : (v w : ClusterValue) → same_value v w ≡ true → v ≡ w
 same_value-says v w h =
-    let front = and_parts (same_master v.master w.master && same_config v.members w.members && same_config v.exclusions w.exclusions) (same_settings v.settings w.settings) h in
-    let middle = and_parts (same_master v.master w.master && same_config v.members w.members) (same_config v.exclusions w.exclusions) front.0 in
+    let prefix = and_parts (same_master v.master w.master && same_config v.members w.members && same_config v.exclusions w.exclusions) (same_settings v.settings w.settings) h in
+    let middle = and_parts (same_master v.master w.master && same_config v.members w.members) (same_config v.exclusions w.exclusions) prefix.0 in
     let first = and_parts (same_master v.master w.master) (same_config v.members w.members) middle.0 in
     let says : (x y : Id) → same x y ≡ true → x ≡ y = λ x y k. same_text x y (sym k) in
     let master : v.master ≡ w.master = master_says v.master w.master first.0 in
     let members : v.members ≡ w.members = pointwise_same same says v.members w.members first.1 in
     let exclusions : v.exclusions ≡ w.exclusions = pointwise_same same says v.exclusions w.exclusions middle.1 in
-    let settings : v.settings ≡ w.settings = pointwise_same same_setting setting_says v.settings w.settings front.1 in
+    let settings : v.settings ≡ w.settings = pointwise_same same_setting setting_says v.settings w.settings prefix.1 in
     made_same v.master w.master v.members w.members v.exclusions w.exclusions v.settings w.settings master members exclusions settings
 
 pub same_value-itself : (v : ClusterValue) → same_value v v ≡ true

@@ -143,15 +143,15 @@ other_turn _ fair_empty e = let bad : kind.UnknownArgument ∷ kind.InvalidSubco
 other_turn _ (fair_plain x xs f) e = let bad : kind.UnknownArgument ∷ kind.InvalidSubcommand ∷ [] ≡ [] = rw (f, not_short x xs f) at e in absurd (cc)
 other_turn _ (fair_long x xs) e = let bad : kind.UnknownArgument ∷ [] ≡ [] = e in absurd (cc)
 
-rest_walk : (names : Names) (name : Text) (front ws : List Text) → fold (walked [] names) (stopped_at name front) ws ≡ stopped_at name (front ++ ws)
+rest_walk : (names : Names) (name : Text) (prefix ws : List Text) → fold (walked [] names) (stopped_at name prefix) ws ≡ stopped_at name (prefix ++ ws)
 unfolding walked
-rest_walk names name front [] = ap (stopped_at name) (sym (append-nil front))
-rest_walk names name front (w ∷ ws) = rest_walk names name (front ++ w ∷ []) ws ∙ ap (stopped_at name) (append_assoc front (w ∷ []) ws)
+rest_walk names name prefix [] = ap (stopped_at name) (sym (append-nil prefix))
+rest_walk names name prefix (w ∷ ws) = rest_walk names name (prefix ++ w ∷ []) ws ∙ ap (stopped_at name) (append_assoc prefix (w ∷ []) ws)
 
-rest_passes : (names : Names) (name : Text) (front ws : List Text) → walk_fault top_shape names (stopped_at name front) ws ≡ []
+rest_passes : (names : Names) (name : Text) (prefix ws : List Text) → walk_fault top_shape names (stopped_at name prefix) ws ≡ []
 unfolding walk_fault walked
-rest_passes names name front [] = refl
-rest_passes names name front (w ∷ ws) = rest_passes names name (front ++ w ∷ []) ws
+rest_passes names name prefix [] = refl
+rest_passes names name prefix (w ∷ ws) = rest_passes names name (prefix ++ w ∷ []) ws
 
 top_checks : (b : Bool) (rs : List Row) → check_fault top_shape rs b ≡ []
 top_checks true rs = refl

@@ -8,4 +8,4 @@ mod Ordered
 pub mod Settled
 pub mod Folded
 pub mod Places
-mod Fronts
+mod Prefixes

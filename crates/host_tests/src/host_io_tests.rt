@@ -26,7 +26,7 @@ impl Framing for NoFrames {
         Ok(None)
     }
 
-    fn sender(&self, _front: &[u8]) -> Option<NodeId> {
+    fn sender(&self, _prefix: &[u8]) -> Option<NodeId> {
         None
     }
 }

@@ -42,15 +42,15 @@ fit_id x h =
     let high : nat_le (length x) 32 ≡ true = grind (arith, nat_tests, h.1) in
     and_from (nat_lt 0 (length x) && nat_le (length x) 32) (list_all is_id_byte x) (and_from (nat_lt 0 (length x)) (nat_le (length x) 32) low high) h.2
 
-listed_after : (front xs : List Id) → length front + length xs ≤ most_ids → ascends_from comes_after front xs ≡ true → AllByRecursion id.Fits xs → are_ids_after front xs ≡ true
-listed_after front [] few up each = refl
-listed_after front (x ∷ xs) few up each =
-    let parts = and_parts (comes_after x front) (ascends_from comes_after (front ++ x ∷ []) xs) up in
-    let room : nat_lt (length front) most_ids ≡ true = grind (arith, nat_tests, few) in
-    let longer : length (front ++ x ∷ []) + length xs ≤ most_ids = omega (arith, length-append front (x ∷ [])) in
-    and_from (may_follow front x) (are_ids_after (front ++ x ∷ []) xs)
-    (and_from (is_id x && nat_lt (length front) most_ids) (comes_after x front) (and_from (is_id x) (nat_lt (length front) most_ids) (fit_id x each.0) room) parts.0)
-    (listed_after (front ++ x ∷ []) xs longer parts.1 each.1)
+listed_after : (prefix xs : List Id) → length prefix + length xs ≤ most_ids → ascends_from comes_after prefix xs ≡ true → AllByRecursion id.Fits xs → are_ids_after prefix xs ≡ true
+listed_after prefix [] few up each = refl
+listed_after prefix (x ∷ xs) few up each =
+    let parts = and_parts (comes_after x prefix) (ascends_from comes_after (prefix ++ x ∷ []) xs) up in
+    let room : nat_lt (length prefix) most_ids ≡ true = grind (arith, nat_tests, few) in
+    let longer : length (prefix ++ x ∷ []) + length xs ≤ most_ids = omega (arith, length-append prefix (x ∷ [])) in
+    and_from (may_follow prefix x) (are_ids_after (prefix ++ x ∷ []) xs)
+    (and_from (is_id x && nat_lt (length prefix) most_ids) (comes_after x prefix) (and_from (is_id x) (nat_lt (length prefix) most_ids) (fit_id x each.0) room) parts.0)
+    (listed_after (prefix ++ x ∷ []) xs longer parts.1 each.1)
 
 -- ids that fit are a list
 pub listed : (xs : List Id) → (ids most_ids).Fits xs → are_ids_after [] xs ≡ true
@@ -68,12 +68,12 @@ texts_utf8 : (xs : List Id) → AllByRecursion id.Fits xs → ItemsAreTexts (ite
 texts_utf8 [] h = tt
 texts_utf8 (x ∷ xs) h = (IsUtf8-id x (fit_id x h.0), texts_utf8 xs h.1)
 
-ids_read : (front xs : List Id) → are_ids_after front xs ≡ true → ids_after front (items_of (map string xs)) ≡ Some (front ++ xs)
-ids_read front [] h = ap Some (sym (append-nil front))
-ids_read front (x ∷ xs) h =
-    let parts = and_parts (may_follow front x) (are_ids_after (front ++ x ∷ []) xs) h in
-    let is : is_id x ≡ true = (and_parts (is_id x) (nat_lt (length front) most_ids) (and_parts (is_id x && nat_lt (length front) most_ids) (comes_after x front) parts.0).0).0 in
-    rw (is, parts.0) (ids_read (front ++ x ∷ []) xs parts.1 ∙ ap Some (append_assoc front (x ∷ []) xs))
+ids_read : (prefix xs : List Id) → are_ids_after prefix xs ≡ true → ids_after prefix (items_of (map string xs)) ≡ Some (prefix ++ xs)
+ids_read prefix [] h = ap Some (sym (append-nil prefix))
+ids_read prefix (x ∷ xs) h =
+    let parts = and_parts (may_follow prefix x) (are_ids_after (prefix ++ x ∷ []) xs) h in
+    let is : is_id x ≡ true = (and_parts (is_id x) (nat_lt (length prefix) most_ids) (and_parts (is_id x && nat_lt (length prefix) most_ids) (comes_after x prefix) parts.0).0).0 in
+    rw (is, parts.0) (ids_read (prefix ++ x ∷ []) xs parts.1 ∙ ap Some (append_assoc prefix (x ∷ []) xs))
 
 ids_again : (xs : List Id) → (ids most_ids).Fits xs → ids_in (ids_json xs) ≡ Some xs
 ids_again xs h = ids_read [] xs (listed xs h)
@@ -109,30 +109,30 @@ put_is s (t ∷ ts) =
     ]
 
 -- what is put behind settings that come before it
-last_put : (s : Setting) (front : List Setting) → IsSettings front → comes_after_keys s front ≡ true → put s.0 (string s.1) (setting_members front) ≡ setting_members (front ++ s ∷ [])
-last_put s front set after = put_is s front ∙ ap setting_members (put_setting-last s front set after)
+last_put : (s : Setting) (prefix : List Setting) → IsSettings prefix → comes_after_keys s prefix ≡ true → put s.0 (string s.1) (setting_members prefix) ≡ setting_members (prefix ++ s ∷ [])
+last_put s prefix set after = put_is s prefix ∙ ap setting_members (put_setting-last s prefix set after)
 
-one_more : (s : Setting) (front : List Setting) → IsSettings front → comes_after_keys s front ≡ true → has_texts s ≡ true → IsSettings (front ++ s ∷ [])
-one_more s front set after texts = subst IsSettings (put_setting-last s front set after) (IsSettings-put s front set texts)
+one_more : (s : Setting) (prefix : List Setting) → IsSettings prefix → comes_after_keys s prefix ≡ true → has_texts s ≡ true → IsSettings (prefix ++ s ∷ [])
+one_more s prefix set after texts = subst IsSettings (put_setting-last s prefix set after) (IsSettings-put s prefix set texts)
 
-settings_back : (front ss : List Setting) → IsSettings front → ascends_from comes_after_keys front ss ≡ true → list_all has_texts ss ≡ true
-    → of_members (members_outline (setting_members ss)) (setting_members front) ≡ Some (setting_members (front ++ ss))
-settings_back front [] set up texts = ap (λ (l : List Setting). Some (setting_members l)) (sym (append-nil front))
-settings_back front (s ∷ ss) set up texts =
-    let parts = and_parts (comes_after_keys s front) (ascends_from comes_after_keys (front ++ s ∷ []) ss) up in
+settings_back : (prefix ss : List Setting) → IsSettings prefix → ascends_from comes_after_keys prefix ss ≡ true → list_all has_texts ss ≡ true
+    → of_members (members_outline (setting_members ss)) (setting_members prefix) ≡ Some (setting_members (prefix ++ ss))
+settings_back prefix [] set up texts = ap (λ (l : List Setting). Some (setting_members l)) (sym (append-nil prefix))
+settings_back prefix (s ∷ ss) set up texts =
+    let parts = and_parts (comes_after_keys s prefix) (ascends_from comes_after_keys (prefix ++ s ∷ []) ss) up in
     let each = and_parts (has_texts s) (list_all has_texts ss) texts in
-    ap (λ (ms : Members). of_members (members_outline (setting_members ss)) ms) (last_put s front set parts.0)
-    ∙ settings_back (front ++ s ∷ []) ss (one_more s front set parts.0 each.0) parts.1 each.1
-    ∙ ap (λ (l : List Setting). Some (setting_members l)) (append_assoc front (s ∷ []) ss)
+    ap (λ (ms : Members). of_members (members_outline (setting_members ss)) ms) (last_put s prefix set parts.0)
+    ∙ settings_back (prefix ++ s ∷ []) ss (one_more s prefix set parts.0 each.0) parts.1 each.1
+    ∙ ap (λ (l : List Setting). Some (setting_members l)) (append_assoc prefix (s ∷ []) ss)
 
-settings_read : (front ss : List Setting) → IsSettings front → ascends_from comes_after_keys front ss ≡ true → list_all has_texts ss ≡ true → settings_after front (setting_members ss) ≡ Some (front ++ ss)
-settings_read front [] set up texts = ap Some (sym (append-nil front))
-settings_read front (s ∷ ss) set up texts =
-    let parts = and_parts (comes_after_keys s front) (ascends_from comes_after_keys (front ++ s ∷ []) ss) up in
+settings_read : (prefix ss : List Setting) → IsSettings prefix → ascends_from comes_after_keys prefix ss ≡ true → list_all has_texts ss ≡ true → settings_after prefix (setting_members ss) ≡ Some (prefix ++ ss)
+settings_read prefix [] set up texts = ap Some (sym (append-nil prefix))
+settings_read prefix (s ∷ ss) set up texts =
+    let parts = and_parts (comes_after_keys s prefix) (ascends_from comes_after_keys (prefix ++ s ∷ []) ss) up in
     let each = and_parts (has_texts s) (list_all has_texts ss) texts in
-    ap (λ (l : List Setting). settings_after l (setting_members ss)) (put_setting-last s front set parts.0)
-    ∙ settings_read (front ++ s ∷ []) ss (one_more s front set parts.0 each.0) parts.1 each.1
-    ∙ ap Some (append_assoc front (s ∷ []) ss)
+    ap (λ (l : List Setting). settings_after l (setting_members ss)) (put_setting-last s prefix set parts.0)
+    ∙ settings_read (prefix ++ s ∷ []) ss (one_more s prefix set parts.0 each.0) parts.1 each.1
+    ∙ ap Some (append_assoc prefix (s ∷ []) ss)
 
 settings_shallow : (ss : List Setting) → members_depth (members_outline (setting_members ss)) ≤ 0
 settings_shallow [] = omega arith

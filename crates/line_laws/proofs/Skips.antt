@@ -115,9 +115,9 @@ event_read = record {
       subst (λ (t : List ℕ). IsSkipped (codes "drop") ((codes "drop" ++ 32 ∷ t) ++ codes "\n")) (sym (onward _ n _ (cause_text d.cause) (onward _ n _ (codes " ") (spaced n d.member))))
       (skipped (codes "drop") (n ++ 32 ∷ (d.member ++ codes " " ++ cause_text d.cause)) refl refl (both n (32 ∷ (d.member ++ codes " " ++ cause_text d.cause)) (id_feedless n good) (glued d.member (codes " " ∷ cause_text d.cause ∷ []) (id_feedless d.member fine) (refl, ((cause_feedless d.cause), tt)))) (λ ws. refl));
   frame = λ number f small fits.
-      let front : List ℕ = codes "m" ++ decimal number ++ codes " " in
-      let same : (((front ++ f.from) ++ codes "->") ++ f.to) ≡ front ++ (f.from ++ codes "->" ++ f.to) =
-      ap (λ (t : List ℕ). t ++ f.to) (append_assoc front f.from (codes "->")) ∙ append_assoc front (f.from ++ codes "->") f.to in
+      let prefix : List ℕ = codes "m" ++ decimal number ++ codes " " in
+      let same : (((prefix ++ f.from) ++ codes "->") ++ f.to) ≡ prefix ++ (f.from ++ codes "->" ++ f.to) =
+      ap (λ (t : List ℕ). t ++ f.to) (append_assoc prefix f.from (codes "->")) ∙ append_assoc prefix (f.from ++ codes "->") f.to in
       subst (λ (t : List ℕ). IsSkipped (codes "m" ++ decimal number) ((t ++ codes " " ++ frame_text f.message) ++ codes "\n")) (sym same)
       (numbered number (f.from ++ codes "->" ++ f.to) (frame_text f.message) small (two_ends f.from f.to fits.0 fits.1) (frame_feedless f.message fits.2));
   reply = λ n answer good.

@@ -30,39 +30,39 @@ within p line read x few is =
     let short : nat_lt most_bytes (p.before + length line + 1) ≡ false = grind (arith, nat_tests, few) in
     rw (short, is) refl
 
-line_by_line : (p : Progress) (front : List Numbered) (line : List ℕ) (parts : List (List ℕ)) → parts ≢ []
-    → lines_at p front (line ∷ parts) ≡ (in_line p (sized p line (shown_at line)) >>> λ told. lines_at (after_line p line) (with_entry p front told) parts)
-line_by_line p front line [] some = absurd (some refl)
-line_by_line p front line (w ∷ ws) some = refl
+line_by_line : (p : Progress) (prefix : List Numbered) (line : List ℕ) (parts : List (List ℕ)) → parts ≢ []
+    → lines_at p prefix (line ∷ parts) ≡ (in_line p (sized p line (shown_at line)) >>> λ told. lines_at (after_line p line) (with_entry p prefix told) parts)
+line_by_line p prefix line [] some = absurd (some refl)
+line_by_line p prefix line (w ∷ ws) some = refl
 
 -- what is read behind these entries
-record Behind (p : Progress) (front : List Numbered) (bytes : List ℕ) (entries : List Entry) : Type 0 where
+record Behind (p : Progress) (prefix : List Numbered) (bytes : List ℕ) (entries : List Entry) : Type 0 where
   more : List Numbered
-  read : lines_at p front (parts_of 10 bytes) ≡ whole (front ++ more)
+  read : lines_at p prefix (parts_of 10 bytes) ≡ whole (prefix ++ more)
   shows : map (λ x. x.entry) more ≡ entries
 
-one_line : (p : Progress) (front : List Numbered) (line more : List ℕ) (told : Option Entry) → lacks 10 line ≡ true → shown_at line ≡ Ok told → p.before + length (line ++ 10 ∷ more) ≤ most_bytes
-    → lines_at p front (parts_of 10 (line ++ 10 ∷ more)) ≡ lines_at (after_line p line) (with_entry p front told) (parts_of 10 more)
-one_line p front line more told alone is few =
-    ap (lines_at p front) (split_first 10 line more alone)
-    ∙ line_by_line p front line (parts_of 10 more) (parts_not_empty 10 more)
-    ∙ ap (λ (r : Result (Option Entry) BadTrace). r >>> λ (t : Option Entry). lines_at (after_line p line) (with_entry p front t) (parts_of 10 more))
+one_line : (p : Progress) (prefix : List Numbered) (line more : List ℕ) (told : Option Entry) → lacks 10 line ≡ true → shown_at line ≡ Ok told → p.before + length (line ++ 10 ∷ more) ≤ most_bytes
+    → lines_at p prefix (parts_of 10 (line ++ 10 ∷ more)) ≡ lines_at (after_line p line) (with_entry p prefix told) (parts_of 10 more)
+one_line p prefix line more told alone is few =
+    ap (lines_at p prefix) (split_first 10 line more alone)
+    ∙ line_by_line p prefix line (parts_of 10 more) (parts_not_empty 10 more)
+    ∙ ap (λ (r : Result (Option Entry) BadTrace). r >>> λ (t : Option Entry). lines_at (after_line p line) (with_entry p prefix t) (parts_of 10 more))
     (within p line (shown_at line) told (omega (arith, few, length-append line (10 ∷ more))) is)
 
 fewer : (p : Progress) (line more : List ℕ) → p.before + length (line ++ 10 ∷ more) ≤ most_bytes → p.before + length line + 1 + length more ≤ most_bytes
 fewer p line more few = omega (arith, few, length-append line (10 ∷ more))
 
-lines_read : (p : Progress) (front : List Numbered) (bytes : List ℕ) (entries : List Entry) → Shows bytes entries → p.before + length bytes ≤ most_bytes → Behind p front bytes entries
-lines_read p front _ _ Nothing few = record { more = []; read = ap (λ (t : List Numbered). whole t) (sym (append-nil front)); shows = refl }
-lines_read p front _ _ (Skip line more entries alone is rest) few =
-    let b = lines_read (after_line p line) front more entries rest (fewer p line more few) in
-    record { more = b.more; read = one_line p front line more None alone is few ∙ b.read; shows = b.shows }
-lines_read p front _ _ (Show line more entry entries alone is rest) few =
+lines_read : (p : Progress) (prefix : List Numbered) (bytes : List ℕ) (entries : List Entry) → Shows bytes entries → p.before + length bytes ≤ most_bytes → Behind p prefix bytes entries
+lines_read p prefix _ _ Nothing few = record { more = []; read = ap (λ (t : List Numbered). whole t) (sym (append-nil prefix)); shows = refl }
+lines_read p prefix _ _ (Skip line more entries alone is rest) few =
+    let b = lines_read (after_line p line) prefix more entries rest (fewer p line more few) in
+    record { more = b.more; read = one_line p prefix line more None alone is few ∙ b.read; shows = b.shows }
+lines_read p prefix _ _ (Show line more entry entries alone is rest) few =
     let x : Numbered = record { line = p.number; entry = entry } in
-    let b = lines_read (after_line p line) (front ++ x ∷ []) more entries rest (fewer p line more few) in
+    let b = lines_read (after_line p line) (prefix ++ x ∷ []) more entries rest (fewer p line more few) in
     record {
       more = x ∷ b.more;
-      read = one_line p front line more (Some entry) alone is few ∙ b.read ∙ ap (λ (t : List Numbered). whole t) (append_assoc front (x ∷ []) b.more);
+      read = one_line p prefix line more (Some entry) alone is few ∙ b.read ∙ ap (λ (t : List Numbered). whole t) (append_assoc prefix (x ∷ []) b.more);
       shows = ap (λ (t : List Entry). entry ∷ t) b.shows;
     }
 
@@ -129,6 +129,6 @@ abbrev pub entries_in : Option Entry → List Entry
 entries_in None = []
 entries_in (Some e) = e ∷ []
 
-pub line_shows : (text : List ℕ) (front : List (List ℕ)) (told : Option Entry) → IsRead text front told → Shows text (entries_in told)
-line_shows text front None r = subst (λ (t : List ℕ). Shows t []) (sym r.is) (Skip r.line [] [] r.alone r.tells Nothing)
-line_shows text front (Some e) r = subst (λ (t : List ℕ). Shows t (e ∷ [])) (sym r.is) (Show r.line [] e [] r.alone r.tells Nothing)
+pub line_shows : (text : List ℕ) (prefix : List (List ℕ)) (told : Option Entry) → IsRead text prefix told → Shows text (entries_in told)
+line_shows text prefix None r = subst (λ (t : List ℕ). Shows t []) (sym r.is) (Skip r.line [] [] r.alone r.tells Nothing)
+line_shows text prefix (Some e) r = subst (λ (t : List ℕ). Shows t (e ∷ [])) (sym r.is) (Show r.line [] e [] r.alone r.tells Nothing)

@@ -12,11 +12,11 @@ use Rattle.master_tasks.specs.NextState.{Leader, StaysAccepted, is_accepted, is_
 pub stays_accepted : (l : Leader) (t : Tasks) → is_nothing_new l t ≡ true → StaysAccepted l t
 unfolding is_nothing_new is_accepted
 stays_accepted l t h =
-    let front = and_parts (nat_eq l.accepted.term l.term && same_value (next_value l t) l.accepted.value) (same_config (next_config l t) l.accepted.config) h in
-    let parts = and_parts (nat_eq l.accepted.term l.term) (same_value (next_value l t) l.accepted.value) front.0 in
+    let prefix = and_parts (nat_eq l.accepted.term l.term && same_value (next_value l t) l.accepted.value) (same_config (next_config l t) l.accepted.config) h in
+    let parts = and_parts (nat_eq l.accepted.term l.term) (same_value (next_value l t) l.accepted.value) prefix.0 in
     let tested : nat_eq l.accepted.term l.term ≡ true = parts.0 in
     record {
       term = grind (arith, nat_tests, tested);
       value = same_value-says (next_value l t) l.accepted.value parts.1;
-      config = same_config_is (next_config l t) l.accepted.config front.1;
+      config = same_config_is (next_config l t) l.accepted.config prefix.1;
     }

@@ -43,12 +43,12 @@ pub settles-some : (decide : Waiting → Option Answer) (first now : List Waitin
     → Settles decide first (remove now place) place o_first (with_sent o (answer_to w a ∷ []))
 settles-some decide first now place o_first o w a s h at some =
     let more : drop place now ≡ w ∷ drop (suc place) now = rw (← add-one place) (drop_more now place w h ∙ ap (λ (x : Waiting). x ∷ drop (place + 1) now) (sym at)) in
-    let front : length (take place now) ≡ place = length-take-le place now (omega arith) in
-    let kept : take place (remove now place) ≡ take place now = taken (take place now) (drop (suc place) now) place front in
-    let rest : drop place (remove now place) ≡ drop (suc place) now = dropped (take place now) (drop (suc place) now) place front in
+    let prefix : length (take place now) ≡ place = length-take-le place now (omega arith) in
+    let kept : take place (remove now place) ≡ take place now = taken (take place now) (drop (suc place) now) place prefix in
+    let rest : drop place (remove now place) ≡ drop (suc place) now = dropped (take place now) (drop (suc place) now) place prefix in
     let goes : left_by decide (w ∷ drop (suc place) now) ≡ left_by decide (drop (suc place) now) = rw some refl in
     let replied : answers_by decide (w ∷ drop (suc place) now) ≡ answer_to w a ∷ answers_by decide (drop (suc place) now) = rw some refl in
-    let shorter : length (remove now place) + 1 ≡ length now = simp (length-append, length-drop) (omega (arith, front)) in
+    let shorter : length (remove now place) + 1 ≡ length now = simp (length-append, length-drop) (omega (arith, prefix)) in
     let longer : length (o.sent ++ answer_to w a ∷ []) ≡ length o.sent + 1 = simp length-append (omega arith) in
     record {
       within = omega (arith, shorter);

@@ -15,19 +15,19 @@ use Rattle.node_loop.specs.Turns.{Reads}
 use Rattle.node_loop.specs.Limits.{IsShort, HoldsLittle}
 
 -- by what stands at the start: less than a length, too long a length, less than a body, or a body
-front_holds : (bytes : List ℕ) (after : List ℕ → Stream) (t1 t2 t3 : Bool) (body : Result Frame FrameError)
+prefix_holds : (bytes : List ℕ) (after : List ℕ → Stream) (t1 t2 t3 : Bool) (body : Result Frame FrameError)
     → nat_lt (length bytes) 4 ≡ t1 → nat_lt most_body (said_length bytes) ≡ t2 → nat_lt (length (drop 4 bytes)) (said_length bytes) ≡ t3
     → frame_of (take (said_length bytes) (drop 4 bytes)) ≡ body
     → ((rest : List ℕ) → length rest + 4 ≤ length bytes → IsShort (after rest).ending)
     → IsShort (stream_with_prefix (prefix_of bytes) bytes after).ending
-front_holds bytes after true t2 t3 body e1 e2 e3 e4 later = rw e1 (let short = ltb-true (length bytes) 4 e1 in omega arith)
-front_holds bytes after false true t3 body e1 e2 e3 e4 later = rw (e1, e2) tt
-front_holds bytes after false false true body e1 e2 e3 e4 later =
+prefix_holds bytes after true t2 t3 body e1 e2 e3 e4 later = rw e1 (let short = ltb-true (length bytes) 4 e1 in omega arith)
+prefix_holds bytes after false true t3 body e1 e2 e3 e4 later = rw (e1, e2) tt
+prefix_holds bytes after false false true body e1 e2 e3 e4 later =
     let fits = ltb-false most_body (said_length bytes) e2 in
     let short = ltb-true (length (drop 4 bytes)) (said_length bytes) e3 in
     rw (e1, e2, e3) (omega (arith, fits, short, length-drop 4 bytes))
-front_holds bytes after false false false (Err fault) e1 e2 e3 e4 later = rw (e1, e2, e3, e4) tt
-front_holds bytes after false false false (Ok frame) e1 e2 e3 e4 later =
+prefix_holds bytes after false false false (Err fault) e1 e2 e3 e4 later = rw (e1, e2, e3, e4) tt
+prefix_holds bytes after false false false (Ok frame) e1 e2 e3 e4 later =
     let long = ltb-false (length bytes) 4 e1 in
     let rest = drop (said_length bytes) (drop 4 bytes) in
     rw (e1, e2, e3, e4) (later rest (omega (arith, long, length-drop 4 bytes, length-drop (said_length bytes) (drop 4 bytes))))
@@ -35,7 +35,7 @@ front_holds bytes after false false false (Ok frame) e1 e2 e3 e4 later =
 within_holds : (n : ℕ) (bytes : List ℕ) → length bytes ≤ n → IsShort (stream_within n bytes).ending
 within_holds zero bytes few = omega (arith, few)
 within_holds (suc n) bytes few =
-    front_holds bytes (stream_within n) (nat_lt (length bytes) 4) (nat_lt most_body (said_length bytes)) (nat_lt (length (drop 4 bytes)) (said_length bytes)) (frame_of (take (said_length bytes) (drop 4 bytes)))
+    prefix_holds bytes (stream_within n) (nat_lt (length bytes) 4) (nat_lt most_body (said_length bytes)) (nat_lt (length (drop 4 bytes)) (said_length bytes)) (frame_of (take (said_length bytes) (drop 4 bytes)))
     refl refl refl refl (λ rest short. within_holds n rest (omega (arith, few, short)))
 
 ending_short : (bytes : List ℕ) → IsShort (stream bytes).ending

@@ -75,9 +75,9 @@ record Said {X : Type 0} (output : X → Output) (text : Life → Entry → List
   pub written : Appended out_was out_now (text_of text life said)
   pub told : Grows output was now (moves_of course said)
 
-nil_front : {A : Type 0} (xs ys : List A) → xs ++ ys ≡ [] → xs ≡ []
-nil_front [] ys e = refl
-nil_front (x ∷ xs) ys e = absurd cc
+nil_prefix : {A : Type 0} (xs ys : List A) → xs ++ ys ≡ [] → xs ≡ []
+nil_prefix [] ys e = refl
+nil_prefix (x ∷ xs) ys e = absurd cc
 
 reported_left : (h more : List Happening) (r : List Entry) (left : List Happening) → Reported h r left → Reported (h ++ more) r (left ++ more)
 reported_left [] [] [] left f = ap (λ l. l ++ []) f
@@ -135,7 +135,7 @@ module _ {X : Type 0} (output : X → Output) (text : Life → Entry → List �
   all_said life c o0 o1 w0 w1 stands tells =
       let none = tells.all_said refl in
       let whole : tells.said ++ tells.unsaid ≡ tells.said = ap (λ l. tells.said ++ l) none ∙ append-nil tells.said in
-      let no_part : tells.part ≡ [] = nil_front tells.part tells.rest (tells.cut ∙ ap (λ l. text_of text (lived life tells.said) l) none) in
+      let no_part : tells.part ≡ [] = nil_prefix tells.part tells.rest (tells.cut ∙ ap (λ l. text_of text (lived life tells.said) l) none) in
       record {
         said = tells.said;
         reports = subst (λ l. Reported (flat_map happened_in c) tells.said l) (tells.all_done refl) (subst (λ l. Reported (flat_map happened_in c) l tells.left) whole tells.reports);

@@ -14,11 +14,11 @@ not_true : (b : Bool) → not b ≡ true → b ≡ false
 not_true true h = cc
 not_true false h = refl
 
-has-front : (id : Id) (xs ys : List Id) → has id (xs ++ ys) ≡ false → has id xs ≡ false
-has-front id [] ys h = refl
-has-front id (x ∷ xs) ys h =
+has-prefix : (id : Id) (xs ys : List Id) → has id (xs ++ ys) ≡ false → has id xs ≡ false
+has-prefix id [] ys h = refl
+has-prefix id (x ∷ xs) ys h =
     let parts : (same x id ≡ false) × (has id (xs ++ ys) ≡ false) = or_parts (same x id) (has id (xs ++ ys)) h in
-    rw parts.0 (has-front id xs ys parts.1)
+    rw parts.0 (has-prefix id xs ys parts.1)
 
 -- taking another id out leaves it
 has-other : (id x : Id) (ids : List Id) → same id x ≡ false → has id (without_id x ids) ≡ false → has id ids ≡ false
@@ -34,7 +34,7 @@ pub answer_of-unknown : (calls : Calls) (id : Id) → has id (known_of calls) �
 answer_of-unknown (Started me) id h = refl
 answer_of-unknown (Then calls (Added x)) id h =
     elim (is_new_peer (me_of calls) (known_of calls) x) as (λ b. has id (cond b (known_of calls ++ x ∷ []) (known_of calls)) ≡ false → answer_of calls id ≡ None) [
-      | true ↦ λ k. answer_of-unknown calls id (has-front id (known_of calls) (x ∷ []) k)
+      | true ↦ λ k. answer_of-unknown calls id (has-prefix id (known_of calls) (x ∷ []) k)
       | false ↦ λ k. answer_of-unknown calls id k
     ] h
 answer_of-unknown (Then calls (Asked now)) id h = answer_of-unknown calls id h

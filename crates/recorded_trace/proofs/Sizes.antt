@@ -22,15 +22,15 @@ sized_within p line read x e = from (nat_lt most_bytes (p.before + length line +
     from true k f = absurd cc
     from false k f = ltb-false most_bytes (p.before + length line + 1) k
 
-lines_within : (p : Progress) (front : List Numbered) (parts : List (List ℕ)) (xs : List Numbered) → p.before ≤ most_bytes → lines_at p front parts ≡ Ok xs → p.before + length (join_with_byte 10 parts) ≤ most_bytes
-lines_within p front [] xs k e = omega (arith, k)
-lines_within p front ([] ∷ []) xs k e = omega (arith, k)
-lines_within p front ((b ∷ bs) ∷ []) xs k e = absurd cc
-lines_within p front (line ∷ next ∷ more) xs k e =
-    from (in_line p (sized p line (shown_at line))) refl e (λ told room rest. lines_within (after_line p line) (with_entry p front told) (next ∷ more) xs room rest)
+lines_within : (p : Progress) (prefix : List Numbered) (parts : List (List ℕ)) (xs : List Numbered) → p.before ≤ most_bytes → lines_at p prefix parts ≡ Ok xs → p.before + length (join_with_byte 10 parts) ≤ most_bytes
+lines_within p prefix [] xs k e = omega (arith, k)
+lines_within p prefix ([] ∷ []) xs k e = omega (arith, k)
+lines_within p prefix ((b ∷ bs) ∷ []) xs k e = absurd cc
+lines_within p prefix (line ∷ next ∷ more) xs k e =
+    from (in_line p (sized p line (shown_at line))) refl e (λ told room rest. lines_within (after_line p line) (with_entry p prefix told) (next ∷ more) xs room rest)
   where
-    from : (r : Result (Option Entry) BadTrace) → in_line p (sized p line (shown_at line)) ≡ r → (r >>> λ told. lines_at (after_line p line) (with_entry p front told) (next ∷ more)) ≡ Ok xs
-        → ((told : Option Entry) → (after_line p line).before ≤ most_bytes → lines_at (after_line p line) (with_entry p front told) (next ∷ more) ≡ Ok xs → (after_line p line).before + length (join_with_byte 10 (next ∷ more)) ≤ most_bytes)
+    from : (r : Result (Option Entry) BadTrace) → in_line p (sized p line (shown_at line)) ≡ r → (r >>> λ told. lines_at (after_line p line) (with_entry p prefix told) (next ∷ more)) ≡ Ok xs
+        → ((told : Option Entry) → (after_line p line).before ≤ most_bytes → lines_at (after_line p line) (with_entry p prefix told) (next ∷ more) ≡ Ok xs → (after_line p line).before + length (join_with_byte 10 (next ∷ more)) ≤ most_bytes)
         → p.before + length (line ++ 10 ∷ join_with_byte 10 (next ∷ more)) ≤ most_bytes
     from (Err f) is e again = absurd cc
     from (Ok told) is e again =

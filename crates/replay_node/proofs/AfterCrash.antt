@@ -22,12 +22,12 @@ torn_back w read is =
     let over = w.replaced in
     let old = before (Overwrote w) read in
     let inside : w.at + w.len ≤ length read = is.inside in
-    let front : length (take at read) ≡ at = length-take-le at read (omega (arith, inside)) in
-    let both : length (take at read ++ over) ≡ at + length over = omega (arith, length-append (take at read) over, front) in
+    let prefix : length (take at read) ≡ at = length-take-le at read (omega (arith, inside)) in
+    let both : length (take at read ++ over) ≡ at + length over = omega (arith, length-append (take at read) over, prefix) in
     let size : length old ≡ at + length over + length (drop end read) = omega (arith, length-append (take at read ++ over) (drop end read), both) in
     let rest : length (drop end read) + end ≡ length read = omega (arith, length-drop end read, inside) in
     let before_is : take at old ≡ take at read =
-    ap (λ (l : List ℕ). take at l) (append_assoc (take at read) over (drop end read)) ∙ take_at (take at read) (over ++ drop end read) at front in
+    ap (λ (l : List ℕ). take at l) (append_assoc (take at read) over (drop end read)) ∙ take_at (take at read) (over ++ drop end read) at prefix in
     let after_is : drop end read ≡ drop end old = elim (cases_lt (length over) w.len) [
       | inl short ↦
           let all : end ≡ length read = is.tail short in

@@ -69,10 +69,10 @@ in_front me new i c done e h = record {
   stands = h.stands;
 }
 
-act_front : (me : Id) (new : CoordState Journal) (i : Item) (c : NodeCourse) (done : List Item) (e : Ending) → without_output i ≡ i ∷ [] → Carried me new c done e → Carried me new (node_behind i c) (i ∷ done) e
-act_front me new i c done e keeps h =
-    let front = in_front me new i c done e h in
-    subst (λ (xs : List Item). Carried me new (node_behind i c) (xs ++ done) e) (from (is_struck e)) front
+act_prefix : (me : Id) (new : CoordState Journal) (i : Item) (c : NodeCourse) (done : List Item) (e : Ending) → without_output i ≡ i ∷ [] → Carried me new c done e → Carried me new (node_behind i c) (i ∷ done) e
+act_prefix me new i c done e keeps h =
+    let prefix = in_front me new i c done e h in
+    subst (λ (xs : List Item). Carried me new (node_behind i c) (xs ++ done) e) (from (is_struck e)) prefix
   where
     from : (b : Bool) → (if b then without_output i else i ∷ []) ≡ i ∷ []
     from true = keeps
@@ -104,9 +104,9 @@ carried old new is done e x (ByAct o' mid n' act o reply rest done' e' closed st
     let next : OpenStands o'.me mid (after_act o'.me x act) = answered_stands o' mid act reply step closed x stands in
     let there = carried mid n' rest done' e' (after_act o'.me x act) h (subst (λ (i : Id). OpenStands i mid (after_act o'.me x act)) (sym me) next) in
     let here : Carried o'.me n' (node_played o'.me (after_act o'.me x act) rest) done' e' = subst (λ (i : Id). Carried i n' (node_played i (after_act o'.me x act) rest) done' e') me there in
-    let front : Carried o'.me n' (node_behind (Acts act (Answered reply)) (node_played o'.me (after_act o'.me x act) rest)) (Acts act (Answered reply) ∷ done') e' = act_front o'.me n' (Acts act (Answered reply)) _ done' e' refl here in
+    let prefix : Carried o'.me n' (node_behind (Acts act (Answered reply)) (node_played o'.me (after_act o'.me x act) rest)) (Acts act (Answered reply) ∷ done') e' = act_prefix o'.me n' (Acts act (Answered reply)) _ done' e' refl here in
     subst (λ (c : CallsEnd). Carried o'.me n' (node_act_then c (Acts act (outcome_at o'.me x act)) (after_act o'.me x act) (λ (y : NodeWorld). node_played o'.me y rest)) (Acts act (Answered reply) ∷ done') e') (sym end)
-    (subst (λ (p : Outcome). Carried o'.me n' (node_behind (Acts act p) (node_played o'.me (after_act o'.me x act) rest)) (Acts act (Answered reply) ∷ done') e') at front)
+    (subst (λ (p : Outcome). Carried o'.me n' (node_behind (Acts act p) (node_played o'.me (after_act o'.me x act) rest)) (Acts act (Answered reply) ∷ done') e') at prefix)
 carried old new is done e x (ByFault o' n' act o f rest d closed step told is_f) stands =
     let did_it : StateDid o'.me n' x act d = (ended_does o' n' act untaken.Disk d closed step told).does x stands in
     let same : f ≡ outcome_at o'.me x act = (let both = did_it.outcome in cc) in

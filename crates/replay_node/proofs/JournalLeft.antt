@@ -384,11 +384,11 @@ module _ (p : Place) (next : Kept) (small : p.epoch < 2 ^ 62) (may : MayBegin ne
 
   generation_short : length (generation_after p next) ≤ most_body
   generation_short =
-      let front = generation_prefix (p.epoch + 1) next.term (state.spelling next.accepted) next.committed in
+      let prefix = generation_prefix (p.epoch + 1) next.term (state.spelling next.accepted) next.committed in
       omega (
         arith,
         ap length (sym (renewed_is (p.epoch + 1) next.term next.accepted next.committed)),
-        length-body front,
+        length-body prefix,
         length-generation (p.epoch + 1) next.term (state.spelling next.accepted) next.committed,
         state_short next.accepted may.fits,
         ids_short most_ids next.committed may.named,

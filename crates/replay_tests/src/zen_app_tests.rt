@@ -451,11 +451,11 @@ const TOO_BIG: [(&[u8], &[u8], usize, &[u8]); 2] = [
 // These bytes, and then so often those.
 fn with_many(
     alloc: Global,
-    front: &[u8],
+    prefix: &[u8],
     part: &[u8],
     count: usize,
 ) -> Result<Vec<u8>, AllocError> {
-    let mut bytes = Vec::from_slice(alloc, front)?;
+    let mut bytes = Vec::from_slice(alloc, prefix)?;
     for _ in 0..count {
         bytes.extend_from_slice(part)?;
     }
@@ -464,12 +464,12 @@ fn with_many(
 
 fn is_too_big(
     alloc: Global,
-    front: &[u8],
+    prefix: &[u8],
     part: &[u8],
     count: usize,
     line: &[u8],
 ) -> Result<bool, AllocError> {
-    let schedule = with_many(alloc, front, part, count)?;
+    let schedule = with_many(alloc, prefix, part, count)?;
     is_refused(alloc, Level::Core, &schedule, line)
 }
 
@@ -477,8 +477,8 @@ fn is_too_big(
 fn a_schedule_of_16_777_217_bytes_is_refused_at_its_first_bad_line(
     rt: HostRuntime,
 ) -> Result<(), Fail> {
-    for (front, part, count, line) in &TOO_BIG {
-        let is_refused = is_too_big(rt.alloc(), front, part, *count, line)?;
+    for (prefix, part, count, line) in &TOO_BIG {
+        let is_refused = is_too_big(rt.alloc(), prefix, part, *count, line)?;
         assert!(rt; is_refused, "{count}");
     }
     Ok(())

@@ -4,7 +4,7 @@ use Rattle.voting_config.specs.Ids.{Id}
 use Rattle.wire_frames.specs.declared.frame.Frame.{Frame}
 use Rattle.schedule_text.specs.declared.schedule.Line.{Line}
 use Rattle.zen_link.specs.Streams.{Appended, AppendedPrefix}
-use Rattle.zen_link.proofs.Appending.{appended_more, front_after, front_within}
+use Rattle.zen_link.proofs.Appending.{appended_more, prefix_after, prefix_within}
 use Rattle.replay_node.specs.Clusters.{after}
 use Rattle.schedule_replay.specs.ClusterStands.{WritesLine}
 use Rattle.schedule_replay.specs.ClusterTrace.{trace_from}
@@ -42,15 +42,15 @@ module _ (ids initial voting_only : List Id) (nodes more : List ClusterNode) (fr
 
   pub fails : AppendedPrefix now later (held ++ text) → AppendedPrefix was later all
   fails h =
-      let prefix = front_within now later (held ++ text) tail (held ++ (text ++ tail)) (append_assoc held text tail) h in
-      subst (λ (t : List ℕ). AppendedPrefix was later t) whole_is (front_after was now later m.prefix (held ++ (text ++ tail)) m.written prefix)
+      let prefix = prefix_within now later (held ++ text) tail (held ++ (text ++ tail)) (append_assoc held text tail) h in
+      subst (λ (t : List ℕ). AppendedPrefix was later t) whole_is (prefix_after was now later m.prefix (held ++ (text ++ tail)) m.written prefix)
 
 module _ (ids initial voting_only : List Id) (nodes : List ClusterNode) (frames : List Frame) (was now later : Option (List ℕ)) (held bytes : List ℕ) (left : List Line) (all : List ℕ) where
   pub stops : bytes ≡ held → ClusterSoFar ids initial voting_only nodes frames was now held left all → AppendedPrefix now later bytes → AppendedPrefix was later all
   stops e m h =
       let tail : List ℕ = trace_from ids initial voting_only m.cluster left in
-      let prefix = front_within now later bytes tail (held ++ tail) (ap (λ (t : List ℕ). t ++ tail) e) h in
-      subst (λ (t : List ℕ). AppendedPrefix was later t) m.whole (front_after was now later m.prefix (held ++ tail) m.written prefix)
+      let prefix = prefix_within now later bytes tail (held ++ tail) (ap (λ (t : List ℕ). t ++ tail) e) h in
+      subst (λ (t : List ℕ). AppendedPrefix was later t) m.whole (prefix_after was now later m.prefix (held ++ tail) m.written prefix)
 
   pub ends : left ≡ [] → bytes ≡ held → ClusterSoFar ids initial voting_only nodes frames was now held left all → Appended now later bytes → Appended was later all
   ends none e m h =

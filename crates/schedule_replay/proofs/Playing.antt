@@ -25,52 +25,52 @@ use Rattle.replay_node.proofs.Carried.{quiet_played}
 abbrev Makes : NodeHistory → NodeCourse → Type 0
 Makes g d = (l : Log) → acts_of l ≡ g → acts_of (added l d.items) ≡ d.node.acts
 
-quiet_front : (g : NodeHistory) (i : Item) (d : NodeCourse) → is_quiet i ≡ true → Makes g d → Makes g (node_behind i d)
-quiet_front g (Opens found) d q h l e = absurd (cc)
-quiet_front g (Begins event) d q h l e = absurd (cc)
-quiet_front g (Acts act o) d q h l e = absurd (cc)
-quiet_front g (ChangesMode mode term) d q h l e = from d.struck
+quiet_prefix : (g : NodeHistory) (i : Item) (d : NodeCourse) → is_quiet i ≡ true → Makes g d → Makes g (node_behind i d)
+quiet_prefix g (Opens found) d q h l e = absurd (cc)
+quiet_prefix g (Begins event) d q h l e = absurd (cc)
+quiet_prefix g (Acts act o) d q h l e = absurd (cc)
+quiet_prefix g (ChangesMode mode term) d q h l e = from d.struck
   where
     from : (b : Bool) → acts_of (added l ((if b then ChangesMode mode term ∷ [] else ChangesMode mode term ∷ []) ++ d.items)) ≡ d.node.acts
     from true = h (And l (ChangesMode mode term)) e
     from false = h (And l (ChangesMode mode term)) e
-quiet_front g (Drops member cause) d q h l e = from d.struck
+quiet_prefix g (Drops member cause) d q h l e = from d.struck
   where
     from : (b : Bool) → acts_of (added l ((if b then Drops member cause ∷ [] else Drops member cause ∷ []) ++ d.items)) ≡ d.node.acts
     from true = h (And l (Drops member cause)) e
     from false = h (And l (Drops member cause)) e
-quiet_front g (Sends frame) d q h l e = from d.struck
+quiet_prefix g (Sends frame) d q h l e = from d.struck
   where
     from : (b : Bool) → acts_of (added l ((if b then [] else Sends frame ∷ []) ++ d.items)) ≡ d.node.acts
     from true = h l e
     from false = h (And l (Sends frame)) e
-quiet_front g (Replies answer) d q h l e = from d.struck
+quiet_prefix g (Replies answer) d q h l e = from d.struck
   where
     from : (b : Bool) → acts_of (added l ((if b then [] else Replies answer ∷ []) ++ d.items)) ≡ d.node.acts
     from true = h l e
     from false = h (And l (Replies answer)) e
-quiet_front g (Notes note) d q h l e = from d.struck
+quiet_prefix g (Notes note) d q h l e = from d.struck
   where
     from : (b : Bool) → acts_of (added l ((if b then Notes note ∷ [] else Notes note ∷ []) ++ d.items)) ≡ d.node.acts
     from true = h (And l (Notes note)) e
     from false = h (And l (Notes note)) e
 
-act_front : (g : NodeHistory) (act : Act) (o : Outcome) (end : CallsEnd) (y : NodeWorld) (rest : NodeWorld → NodeCourse) → y.acts ≡ Then g act o → Makes y.acts (rest y) → Makes g (node_act_then end (Acts act o) y rest)
-act_front g act o Done y rest is h l e = from (rest y).struck
+act_prefix : (g : NodeHistory) (act : Act) (o : Outcome) (end : CallsEnd) (y : NodeWorld) (rest : NodeWorld → NodeCourse) → y.acts ≡ Then g act o → Makes y.acts (rest y) → Makes g (node_act_then end (Acts act o) y rest)
+act_prefix g act o Done y rest is h l e = from (rest y).struck
   where
     from : (b : Bool) → acts_of (added l ((if b then Acts act o ∷ [] else Acts act o ∷ []) ++ (rest y).items)) ≡ (rest y).node.acts
     from true = h (And l (Acts act o)) (ap (λ (k : NodeHistory). Then k act o) e ∙ sym is)
     from false = h (And l (Acts act o)) (ap (λ (k : NodeHistory). Then k act o) e ∙ sym is)
-act_front g act o Failed y rest is h l e = ap (λ (k : NodeHistory). Then k act o) e ∙ sym is
-act_front g act o (CrashedIn way) y rest is h l e = ap (λ (k : NodeHistory). Then k act o) e ∙ sym is
+act_prefix g act o Failed y rest is h l e = ap (λ (k : NodeHistory). Then k act o) e ∙ sym is
+act_prefix g act o (CrashedIn way) y rest is h l e = ap (λ (k : NodeHistory). Then k act o) e ∙ sym is
 
 -- the acts of a life with the event are those that the node did
 pub played_acts : (s : Settings) (v : View) (me : Id) (x : NodeWorld) (is : List Item) → IsAnswered s v is → (l : Log) → acts_of l ≡ x.acts → acts_of (added l (node_played me x is).items) ≡ (node_played me x is).node.acts
 played_acts s v me x is (Ended u) l e = e
 played_acts s v me x is (ByAct u act rest shut a) l e =
-    act_front x.acts act (outcome_at me x act) (act_called me x act).ended (after_act me x act) (λ (y : NodeWorld). node_played me y rest) refl (played_acts s _ me (after_act me x act) rest a) l e
+    act_prefix x.acts act (outcome_at me x act) (act_called me x act).ended (after_act me x act) (λ (y : NodeWorld). node_played me y rest) refl (played_acts s _ me (after_act me x act) rest a) l e
 played_acts s v me x is (ByQuiet u i rest q a) l e =
-    subst (λ (d : NodeCourse). acts_of (added l d.items) ≡ d.node.acts) (quiet_played me x i rest q) (quiet_front x.acts i (node_played me x rest) q (played_acts s _ me x rest a) l e)
+    subst (λ (d : NodeCourse). acts_of (added l d.items) ≡ d.node.acts) (quiet_played me x i rest q) (quiet_prefix x.acts i (node_played me x rest) q (played_acts s _ me x rest a) l e)
 
 -- ---- the state that was published last
 

@@ -7,7 +7,7 @@ use Rattle.voting_config.specs.Ids.{Id}
 use Rattle.schedule_text.specs.declared.schedule.Line.{Line}
 use Rattle.schedule_text.specs.declared.schedule.Schedule.{Schedule}
 use Rattle.zen_link.specs.Streams.{Appended, AppendedPrefix}
-use Rattle.zen_link.proofs.Appending.{appended_more, front_after, front_within}
+use Rattle.zen_link.proofs.Appending.{appended_more, prefix_after, prefix_within}
 use Rattle.replay_node.specs.declared.message.SentMessage.{SentMessage}
 use Rattle.replay_node.specs.declared.node.ReplayNode.{ReplayNode}
 use Rattle.replay_node.specs.Worlds.{World, fresh_world}
@@ -53,15 +53,15 @@ module _ (ids initial : List Id) (nodes more : List ReplayNode) (messages sent :
 
   pub fails : AppendedPrefix now later (held ++ text) → AppendedPrefix was later all
   fails h =
-      let prefix = front_within now later (held ++ text) tail (held ++ (text ++ tail)) (append_assoc held text tail) h in
-      subst (λ (t : List ℕ). AppendedPrefix was later t) whole_is (front_after was now later m.prefix (held ++ (text ++ tail)) m.written prefix)
+      let prefix = prefix_within now later (held ++ text) tail (held ++ (text ++ tail)) (append_assoc held text tail) h in
+      subst (λ (t : List ℕ). AppendedPrefix was later t) whole_is (prefix_after was now later m.prefix (held ++ (text ++ tail)) m.written prefix)
 
 module _ (ids initial : List Id) (nodes : List ReplayNode) (messages : List SentMessage) (was now later : Option (List ℕ)) (held bytes : List ℕ) (left : List Line) (all : List ℕ) (end : World) where
   pub stops : bytes ≡ held → SoFar ids initial nodes messages was now held left all end → AppendedPrefix now later bytes → AppendedPrefix was later all
   stops e m h =
       let tail : List ℕ = trace_from initial m.world left in
-      let prefix = front_within now later bytes tail (held ++ tail) (ap (λ (t : List ℕ). t ++ tail) e) h in
-      subst (λ (t : List ℕ). AppendedPrefix was later t) m.whole (front_after was now later m.prefix (held ++ tail) m.written prefix)
+      let prefix = prefix_within now later bytes tail (held ++ tail) (ap (λ (t : List ℕ). t ++ tail) e) h in
+      subst (λ (t : List ℕ). AppendedPrefix was later t) m.whole (prefix_after was now later m.prefix (held ++ tail) m.written prefix)
 
   pub ends : left ≡ [] → bytes ≡ held → SoFar ids initial nodes messages was now held left all end → Appended now later bytes → Appended was later all
   ends none e m h =
@@ -73,9 +73,9 @@ module _ (ids initial : List Id) (nodes : List ReplayNode) (messages : List Sent
       subst (λ (t : List ℕ). Appended was later t) whole (appended_more was now later m.prefix bytes m.written h)
 
 -- an error says no more than that a prefix was written
-pub front_at_err : {A E : Type 0} (r : Result A E) (was now : Option (List ℕ)) (all : List ℕ) → IsErr r → AppendedPrefix was now all → WritesTrace was now all r
-front_at_err (Ok x) was now all is f = absurd (cc)
-front_at_err (Err e) was now all is f = f
+pub prefix_at_err : {A E : Type 0} (r : Result A E) (was now : Option (List ℕ)) (all : List ℕ) → IsErr r → AppendedPrefix was now all → WritesTrace was now all r
+prefix_at_err (Ok x) was now all is f = absurd (cc)
+prefix_at_err (Err e) was now all is f = f
 
 pub none_left : (lines : List Line) (i : ℕ) → length lines ≤ i → drop i lines ≡ []
 none_left lines i past = nil_from_length (drop i lines) (omega (arith, length-drop i lines, past))

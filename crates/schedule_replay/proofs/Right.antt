@@ -89,7 +89,7 @@ sound_one initial h _ (OneStep x r) l m = (record { right = r; before = l; behin
 
 -- the history is legal after each prefix of the lines
 abbrev IsLegalAll : List Id → World → List Line → Type 0
-IsLegalAll initial w ls = (front back : List Line) → ls ≡ front ++ back → IsLegal initial (replayed_from initial w front).history
+IsLegalAll initial w ls = (prefix back : List Line) → ls ≡ prefix ++ back → IsLegal initial (replayed_from initial w prefix).history
 
 steps_sound : (initial : List Id) (w : World) (ls : List Line) → IsLegalAll initial w ls → Along (IsSound initial) w.history (parts_from initial w ls)
 steps_sound initial w [] all = tt
@@ -98,7 +98,7 @@ steps_sound initial w (l ∷ ls) all = (
   along_append (IsSound initial) w.history (line_parts initial w l) (parts_from initial (after initial w l) ls)
       (sound_one initial w.history _ (line_one initial w l) here (subst (λ (h : History). IsLegal initial h) (sym (line_told initial w l)) next))
       (subst (λ (h : History). Along (IsSound initial) h (parts_from initial (after initial w l) ls)) (sym (line_told initial w l))
-      (steps_sound initial (after initial w l) ls (λ front back e. all (l ∷ front) back (ap (λ x. l ∷ x) e)))),
+      (steps_sound initial (after initial w l) ls (λ prefix back e. all (l ∷ prefix) back (ap (λ x. l ∷ x) e)))),
 )
   where
     here : IsLegal initial w.history
@@ -107,23 +107,23 @@ steps_sound initial w (l ∷ ls) all = (
     next : IsLegal initial (after initial w l).history
     next = all (l ∷ []) ls refl
 
-front_fits : (nodes : List Id) (front back : List Line) → AllByRecursion (FitsLine Core nodes) (front ++ back) → AllByRecursion (FitsLine Core nodes) front
-front_fits nodes [] back f = tt
-front_fits nodes (l ∷ front) back f = (f.0, front_fits nodes front back f.1)
+prefix_fits : (nodes : List Id) (prefix back : List Line) → AllByRecursion (FitsLine Core nodes) (prefix ++ back) → AllByRecursion (FitsLine Core nodes) prefix
+prefix_fits nodes [] back f = tt
+prefix_fits nodes (l ∷ prefix) back f = (f.0, prefix_fits nodes prefix back f.1)
 
-front_none : (front back : List Line) → front ++ back ≡ [] → front ≡ []
-front_none [] back e = refl
-front_none (l ∷ front) back e = cc
+prefix_none : (prefix back : List Line) → prefix ++ back ≡ [] → prefix ≡ []
+prefix_none [] back e = refl
+prefix_none (l ∷ prefix) back e = cc
 
 pub schedule_sound : (s : Schedule) → IsWellFormed s → Along (IsSound s.initial) fresh_world.history (trace_parts s)
 schedule_sound s i = steps_sound s.initial fresh_world s.lines all
   where
     all : IsLegalAll s.initial fresh_world s.lines
-    all front back e =
-        replay_is_legal (record s { lines = front }) (record {
+    all prefix back e =
+        replay_is_legal (record s { lines = prefix }) (record {
           initial = i.initial;
-          fit = front_fits s.nodes front back (subst (λ (ls : List Line). AllByRecursion (FitsLine Core s.nodes) ls) e i.fit);
-          named = λ none. front_none front back (sym e ∙ i.named none);
+          fit = prefix_fits s.nodes prefix back (subst (λ (ls : List Line). AllByRecursion (FitsLine Core s.nodes) ls) e i.fit);
+          named = λ none. prefix_none prefix back (sym e ∙ i.named none);
         })
 
 pub schedule_legal : (s : Schedule) → IsWellFormed s → IsLegal s.initial (replayed_from s.initial fresh_world s.lines).history

@@ -141,18 +141,18 @@ stops_map reads f start parts bad s = record {
 
 -- ---- the lines
 
-lines_stop : (level : Level) (ids : List Id) (p : Place) (front : List Line) (parts : List (List ℕ)) (bad : BadSchedule) → parts ≢ [] → list_all (lacks 10) parts ≡ true → lines_at level ids p front parts ≡ Err bad → Stops (lines_at level ids p front) p.number parts bad
-lines_stop level ids p front [] bad some k e = absurd (some refl)
-lines_stop level ids p front (line ∷ []) bad some k e = stops_cut (lines_at level ids p front) p.number line bad [] front (and_parts (lacks 10 line) _ k).0 e (end_err p line front bad e) refl refl
-lines_stop level ids p front (line ∷ rest ∷ more) bad some k e =
+lines_stop : (level : Level) (ids : List Id) (p : Place) (prefix : List Line) (parts : List (List ℕ)) (bad : BadSchedule) → parts ≢ [] → list_all (lacks 10) parts ≡ true → lines_at level ids p prefix parts ≡ Err bad → Stops (lines_at level ids p prefix) p.number parts bad
+lines_stop level ids p prefix [] bad some k e = absurd (some refl)
+lines_stop level ids p prefix (line ∷ []) bad some k e = stops_cut (lines_at level ids p prefix) p.number line bad [] prefix (and_parts (lacks 10 line) _ k).0 e (end_err p line prefix bad e) refl refl
+lines_stop level ids p prefix (line ∷ rest ∷ more) bad some k e =
     let lack = and_parts (lacks 10 line) _ k in
-    let next = λ (t : List ℕ) (l : Line) (ps : List (List ℕ)). lines_at level ids (after_line p t) (front ++ l ∷ []) ps in
-    let goes = more_lines level ids p front in
-    elim (one_line_at level ids p line) as (λ r. one_line_at level ids p line ≡ r → (r >>> λ l. next line l (rest ∷ more)) ≡ Err bad → Stops (lines_at level ids p front) p.number (line ∷ rest ∷ more) bad) [
-      | Ok l ↦ λ is h. stops_later (lines_at level ids p front) (one_line_at level ids p) next goes p.number line (rest ∷ more) bad l (λ x. absurd cc) lack.0 is (lines_stop level ids (after_line p line) (front ++ l ∷ []) (rest ∷ more) bad (λ x. absurd cc) lack.1 h)
+    let next = λ (t : List ℕ) (l : Line) (ps : List (List ℕ)). lines_at level ids (after_line p t) (prefix ++ l ∷ []) ps in
+    let goes = more_lines level ids p prefix in
+    elim (one_line_at level ids p line) as (λ r. one_line_at level ids p line ≡ r → (r >>> λ l. next line l (rest ∷ more)) ≡ Err bad → Stops (lines_at level ids p prefix) p.number (line ∷ rest ∷ more) bad) [
+      | Ok l ↦ λ is h. stops_later (lines_at level ids p prefix) (one_line_at level ids p) next goes p.number line (rest ∷ more) bad l (λ x. absurd cc) lack.0 is (lines_stop level ids (after_line p line) (prefix ++ l ∷ []) (rest ∷ more) bad (λ x. absurd cc) lack.1 h)
       | Err d ↦ λ is h.
           let same = is ∙ ap (λ b. failed {A = Line} b) (failed_is {A = List Line} d bad h) in
-          stops_here (lines_at level ids p front) (one_line_at level ids p) next goes p.number line (rest ∷ more) bad [] front (λ x. absurd cc) lack.0 same (in_line_err p _ bad same) refl refl
+          stops_here (lines_at level ids p prefix) (one_line_at level ids p) next goes p.number line (rest ∷ more) bad [] prefix (λ x. absurd cc) lack.0 same (in_line_err p _ bad same) refl refl
     ] refl e
 
 -- ---- the third header line, and the lines

@@ -139,9 +139,9 @@ torn_takes bytes w e =
     let got = want_ok (length bytes == 7 && bytes_eq (take 5 bytes) (codes "torn:")) why.Mode (byte_at (get_or bytes 5 0) (get_or bytes 6 0)) w e in
     let parts = and_parts (length bytes == 7) _ got.0 in
     let size : length bytes ≡ 7 = grind (arith, nat_tests, parts.0) in
-    let front = same_text (take 5 bytes) (codes "torn:") (sym parts.1) in
+    let prefix = same_text (take 5 bytes) (codes "torn:") (sym parts.1) in
     let byte = byte_takes (get_or bytes 5 0) (get_or bytes 6 0) w got.1 in
-    (seven bytes size ∙ ap (λ t. t ++ get_or bytes 5 0 ∷ get_or bytes 6 0 ∷ []) front ∙ byte.spelled, byte.fits)
+    (seven bytes size ∙ ap (λ t. t ++ get_or bytes 5 0 ∷ get_or bytes 6 0 ∷ []) prefix ∙ byte.spelled, byte.fits)
 
 -- the word is this one, or another
 word_chosen : (bytes name : List ℕ) (v w : Way) (other : Result Way WhyBad) → Spells name v → (other ≡ Ok w → Spells bytes w) → cond (bytes_eq bytes name) (Ok v) other ≡ Ok w → Spells bytes w

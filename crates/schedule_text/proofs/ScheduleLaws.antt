@@ -130,9 +130,9 @@ are_ids xs h = record { each = ids_each is_id (λ x k. k) [] xs h }
 
 -- ---- the lines
 
-record LinesTaken (level : Level) (ids : List Id) (p : Place) (front : List Line) (parts : List (List ℕ)) (ls : List Line) : Type 0 where
+record LinesTaken (level : Level) (ids : List Id) (p : Place) (prefix : List Line) (parts : List (List ℕ)) (ls : List Line) : Type 0 where
   new : List Line
-  whole : ls ≡ front ++ new
+  whole : ls ≡ prefix ++ new
   spelled : parts ≡ map line_text new ++ [] ∷ []
   fits : AllByRecursion (FitsLine level ids) new
   bytes : p.before ≤ most_bytes → p.before + length (with_feeds (map line_text new)) ≤ most_bytes
@@ -142,32 +142,32 @@ record LinesTaken (level : Level) (ids : List Id) (p : Place) (front : List Line
 feeds_length : (line : List ℕ) (lines : List (List ℕ)) → length (with_feeds (line ∷ lines)) ≡ length line + 1 + length (with_feeds lines)
 feeds_length line lines = omega (arith, length-append (line ++ 10 ∷ []) (with_feeds lines), length-append line (10 ∷ []))
 
-end_takes : (level : Level) (ids : List Id) (p : Place) (line : List ℕ) (front ls : List Line) → end_at p line front ≡ Ok ls → LinesTaken level ids p front (line ∷ []) ls
-end_takes level ids p [] front ls e = record {
+end_takes : (level : Level) (ids : List Id) (p : Place) (line : List ℕ) (prefix ls : List Line) → end_at p line prefix ≡ Ok ls → LinesTaken level ids p prefix (line ∷ []) ls
+end_takes level ids p [] prefix ls e = record {
   new = [];
-  whole = sym (read_is front ls e) ∙ sym (append-nil front);
+  whole = sym (read_is prefix ls e) ∙ sym (append-nil prefix);
   spelled = refl;
   fits = tt;
   bytes = λ h. omega (arith, h);
   count = λ h. omega (arith, h);
   each = tt;
 }
-end_takes level ids p (b ∷ bs) front ls e = absurd cc
+end_takes level ids p (b ∷ bs) prefix ls e = absurd cc
 
-lines_take : (level : Level) (ids : List Id) → AreIds ids → (p : Place) (front : List Line) (parts : List (List ℕ)) (ls : List Line) → parts ≢ [] → list_all (lacks 10) parts ≡ true → lines_at level ids p front parts ≡ Ok ls → LinesTaken level ids p front parts ls
-lines_take level ids good p front [] ls some k e = absurd (some refl)
-lines_take level ids good p front (line ∷ []) ls some k e = end_takes level ids p line front ls e
-lines_take level ids good p front (line ∷ next ∷ more) ls some k e =
+lines_take : (level : Level) (ids : List Id) → AreIds ids → (p : Place) (prefix : List Line) (parts : List (List ℕ)) (ls : List Line) → parts ≢ [] → list_all (lacks 10) parts ≡ true → lines_at level ids p prefix parts ≡ Ok ls → LinesTaken level ids p prefix parts ls
+lines_take level ids good p prefix [] ls some k e = absurd (some refl)
+lines_take level ids good p prefix (line ∷ []) ls some k e = end_takes level ids p line prefix ls e
+lines_take level ids good p prefix (line ∷ next ∷ more) ls some k e =
     let lack = and_parts (lacks 10 line) _ k in
-    let go = λ (l : Line). lines_at level ids (after_line p line) (front ++ l ∷ []) (next ∷ more) in
+    let go = λ (l : Line). lines_at level ids (after_line p line) (prefix ++ l ∷ []) (next ∷ more) in
     let got = then_ok (one_line_at level ids p line) go ls e in
     let sized = sized_takes p line (line_at level ids) got.0 got.1 in
     let taken = line_takes level good line got.0 lack.0 sized.1 in
-    let rest = lines_take level ids good (after_line p line) (front ++ got.0 ∷ []) (next ∷ more) ls (λ h. absurd cc) lack.1 got.2 in
+    let rest = lines_take level ids good (after_line p line) (prefix ++ got.0 ∷ []) (next ∷ more) ls (λ h. absurd cc) lack.1 got.2 in
     let long : length (line_text got.0) ≡ length line = ap length (sym taken.0) in
     record {
       new = got.0 ∷ rest.new;
-      whole = rest.whole ∙ append_assoc front (got.0 ∷ []) rest.new;
+      whole = rest.whole ∙ append_assoc prefix (got.0 ∷ []) rest.new;
       spelled = ap (λ t. t ∷ next ∷ more) taken.0 ∙ ap (λ t. line_text got.0 ∷ t) rest.spelled;
       fits = (taken.1, rest.fits);
       bytes = λ h. omega (arith, rest.bytes (omega (arith, sized.0.bytes)), feeds_length (line_text got.0) (map line_text rest.new), long);
@@ -175,25 +175,25 @@ lines_take level ids good p front (line ∷ next ∷ more) ls some k e =
       each = (omega (arith, long, sized.0.long), rest.each);
     }
 
-pub more_lines : (level : Level) (ids : List Id) (p : Place) (front : List Line) (line : List ℕ) (rest : List (List ℕ)) → rest ≢ [] → lines_at level ids p front (line ∷ rest) ≡ (one_line_at level ids p line >>> λ l. lines_at level ids (after_line p line) (front ++ l ∷ []) rest)
-more_lines level ids p front line [] h = absurd (h refl)
-more_lines level ids p front line (next ∷ more) h = refl
+pub more_lines : (level : Level) (ids : List Id) (p : Place) (prefix : List Line) (line : List ℕ) (rest : List (List ℕ)) → rest ≢ [] → lines_at level ids p prefix (line ∷ rest) ≡ (one_line_at level ids p line >>> λ l. lines_at level ids (after_line p line) (prefix ++ l ∷ []) rest)
+more_lines level ids p prefix line [] h = absurd (h refl)
+more_lines level ids p prefix line (next ∷ more) h = refl
 
 pub ended : (xs : List (List ℕ)) → xs ++ [] ∷ [] ≢ []
 ended [] e = absurd cc
 ended (x ∷ xs) e = absurd cc
 
-lines_again : (level : Level) (ids : List Id) → AreIds ids → (p : Place) (front new : List Line) → AllByRecursion (FitsLine level ids) new → p.before + length (with_feeds (map line_text new)) ≤ most_bytes → p.number + length new ≤ (most_lines + 1)
-    → AllByRecursion (λ (l : List ℕ). length l ≤ most_line_bytes) (map line_text new) → lines_at level ids p front (map line_text new ++ [] ∷ []) ≡ Ok (front ++ new)
-lines_again level ids good p front [] fits bytes count each = ap read (sym (append-nil front))
-lines_again level ids good p front (l ∷ ls) fits bytes count each =
+lines_again : (level : Level) (ids : List Id) → AreIds ids → (p : Place) (prefix new : List Line) → AllByRecursion (FitsLine level ids) new → p.before + length (with_feeds (map line_text new)) ≤ most_bytes → p.number + length new ≤ (most_lines + 1)
+    → AllByRecursion (λ (l : List ℕ). length l ≤ most_line_bytes) (map line_text new) → lines_at level ids p prefix (map line_text new ++ [] ∷ []) ≡ Ok (prefix ++ new)
+lines_again level ids good p prefix [] fits bytes count each = ap read (sym (append-nil prefix))
+lines_again level ids good p prefix (l ∷ ls) fits bytes count each =
     let long = feeds_length (line_text l) (map line_text ls) in
     let sized : IsSized p (line_text l) = record { bytes = omega (arith, long, bytes); count = omega (arith, count); long = each.0 } in
     let one = sized_again p (line_text l) (line_at level ids) l sized (line_again level good l fits.0) in
-    let rest = lines_again level ids good (after_line p (line_text l)) (front ++ l ∷ []) ls fits.1 (omega (arith, long, bytes)) (omega (arith, count)) each.1 in
-    more_lines level ids p front (line_text l) (map line_text ls ++ [] ∷ []) (ended (map line_text ls))
-    ∙ ap (λ r. r >>> λ k. lines_at level ids (after_line p (line_text l)) (front ++ k ∷ []) (map line_text ls ++ [] ∷ [])) one
-    ∙ rest ∙ ap read (append_assoc front (l ∷ []) ls)
+    let rest = lines_again level ids good (after_line p (line_text l)) (prefix ++ l ∷ []) ls fits.1 (omega (arith, long, bytes)) (omega (arith, count)) each.1 in
+    more_lines level ids p prefix (line_text l) (map line_text ls ++ [] ∷ []) (ended (map line_text ls))
+    ∙ ap (λ r. r >>> λ k. lines_at level ids (after_line p (line_text l)) (prefix ++ k ∷ []) (map line_text ls ++ [] ∷ [])) one
+    ∙ rest ∙ ap read (append_assoc prefix (l ∷ []) ls)
 
 -- ---- line feeds
 

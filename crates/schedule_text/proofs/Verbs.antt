@@ -71,9 +71,9 @@ pub followed : (line verb : List ℕ) (n : ℕ) → length verb ≡ n → lacks 
     → IsVerb line verb (parts_of 32 (take (length line - (n + 1)) (drop (n + 1) line)))
 followed line verb n long plain past same ends =
     let cut : length (take n line) ≡ n = length-take-le n line (omega arith) in
-    let front : take n line ≡ verb = ext_get_or 0 (take n line) verb (omega arith) (λ k within. let below : k < n = omega arith in get_or-take n line k 0 below ∙ same k below) in
+    let prefix : take n line ≡ verb = ext_get_or 0 (take n line) verb (omega arith) (λ k within. let below : k < n = omega arith in get_or-take n line k 0 below ∙ same k below) in
     let back : drop n line ≡ 32 ∷ drop (n + 1) line = rw add-one (drop-cons line n 0 past ∙ ap (λ b. b ∷ drop (suc n) line) ends) in
-    let is : line ≡ verb ++ 32 ∷ drop (n + 1) line = sym (take-append-drop n line) ∙ ap (λ t. t ++ drop n line) front ∙ ap (λ t. verb ++ t) back in
+    let is : line ≡ verb ++ 32 ∷ drop (n + 1) line = sym (take-append-drop n line) ∙ ap (λ t. t ++ drop n line) prefix ∙ ap (λ t. verb ++ t) back in
     rw (take_rest line (n + 1)) (from_parts line verb (parts_of 32 (drop (n + 1) line)) (ap (parts_of 32) is ∙ split_first 32 verb (drop (n + 1) line) plain))
 
 -- a line that delivers a message, at either level

@@ -183,12 +183,12 @@ parts_lack c (b ∷ bs) =
 id_byte_no_comma : (b : ℕ) → is_id_byte b ≡ true → not (b == 44) ≡ true
 id_byte_no_comma b h = grind (arith, nat_tests)
 
-pub ids_each : (p : List ℕ → Bool) → ((x : List ℕ) → is_id x ≡ true → p x ≡ true) → (front xs : List (List ℕ)) → are_ids_after front xs ≡ true → list_all p xs ≡ true
-ids_each p f front [] h = refl
-ids_each p f front (x ∷ xs) h =
-    let parts = and_parts (may_follow front x) _ h in
-    let first = and_parts (is_id x && nat_lt (length front) most_ids) _ parts.0 in
-    and_from _ _ (f x (and_parts (is_id x) _ first.0).0) (ids_each p f (front ++ x ∷ []) xs parts.1)
+pub ids_each : (p : List ℕ → Bool) → ((x : List ℕ) → is_id x ≡ true → p x ≡ true) → (prefix xs : List (List ℕ)) → are_ids_after prefix xs ≡ true → list_all p xs ≡ true
+ids_each p f prefix [] h = refl
+ids_each p f prefix (x ∷ xs) h =
+    let parts = and_parts (may_follow prefix x) _ h in
+    let first = and_parts (is_id x && nat_lt (length prefix) most_ids) _ parts.0 in
+    and_from _ _ (f x (and_parts (is_id x) _ first.0).0) (ids_each p f (prefix ++ x ∷ []) xs parts.1)
 
 id_no_comma : (x : List ℕ) → is_id x ≡ true → lacks 44 x ≡ true
 id_no_comma x h = all_weaker is_id_byte (λ b. not (b == 44)) id_byte_no_comma x (and_parts (nat_lt 0 (length x) && nat_le (length x) 32) _ h).1

@@ -45,8 +45,8 @@ walk_join {A} f c (x ∷ xs) ys =
     ap (λ (t : List A). f (after c x.said) x ++ t) (walk_join f (after c x.said) xs ys)
     ∙ sym (append_assoc (f (after c x.said) x) (walk f (after c x.said) xs) (walk f (cursor_after (after c x.said) xs) ys))
 
-walk_has : (f : Cursor → TraceLine → List ℕ) (front rest : List TraceLine) (l : TraceLine) → HasPart (walk f first_cursor (front ++ (l ∷ rest))) (f (place_behind front l) l)
-walk_has f front rest l = (walk f first_cursor front, walk f (place_behind front l) rest, walk_join f first_cursor front (l ∷ rest))
+walk_has : (f : Cursor → TraceLine → List ℕ) (prefix rest : List TraceLine) (l : TraceLine) → HasPart (walk f first_cursor (prefix ++ (l ∷ rest))) (f (place_behind prefix l) l)
+walk_has f prefix rest l = (walk f first_cursor prefix, walk f (place_behind prefix l) rest, walk_join f first_cursor prefix (l ∷ rest))
 
 cursor_join : (c : Cursor) (xs ys : List TraceLine) → cursor_after c (xs ++ ys) ≡ cursor_after (cursor_after c xs) ys
 cursor_join c [] ys = refl
@@ -89,24 +89,24 @@ get_seam [] y ys = refl
 get_seam (x ∷ xs) y ys = get_seam xs y ys
 
 -- the message of a line has its number
-message_is : (front rest : List TraceLine) (m : TraceLine) (from : Id) (to : Option Id) (sent k : ℕ)
-    → m.said ≡ said.Sent from to → k ≡ (place_behind front m).sent → k ≤ sent
-    → message_at (origins_of (front ++ (m ∷ rest))) sent k ≡ Some (record { from = from; row = (place_behind front m).row; text = m.text })
-message_is front rest m from to sent k is number within =
-    let place = place_behind front m in
+message_is : (prefix rest : List TraceLine) (m : TraceLine) (from : Id) (to : Option Id) (sent k : ℕ)
+    → m.said ≡ said.Sent from to → k ≡ (place_behind prefix m).sent → k ≤ sent
+    → message_at (origins_of (prefix ++ (m ∷ rest))) sent k ≡ Some (record { from = from; row = (place_behind prefix m).row; text = m.text })
+message_is prefix rest m from to sent k is number within =
+    let place = place_behind prefix m in
     let o : Origin = record { from = from; row = place.row; text = m.text } in
-    let before = walk origin_in first_cursor front in
+    let before = walk origin_in first_cursor prefix in
     let behind = walk origin_in place rest in
     let one : origin_in place m ≡ o ∷ [] = ap (origin_by place m.text) is in
-    let all : origins_of (front ++ (m ∷ rest)) ≡ before ++ (o ∷ behind) = walk_join origin_in first_cursor front (m ∷ rest) ∙ ap (λ (t : List Origin). before ++ (t ++ behind)) one in
-    let more : place.sent ≡ (cursor_after first_cursor front).sent + 1 = ap (λ (t : Said). (after (cursor_after first_cursor front) t).sent) is in
-    let count : k ≡ length before + 1 = omega (arith, sent_along first_cursor front, more, number) in
+    let all : origins_of (prefix ++ (m ∷ rest)) ≡ before ++ (o ∷ behind) = walk_join origin_in first_cursor prefix (m ∷ rest) ∙ ap (λ (t : List Origin). before ++ (t ++ behind)) one in
+    let more : place.sent ≡ (cursor_after first_cursor prefix).sent + 1 = ap (λ (t : Said). (after (cursor_after first_cursor prefix) t).sent) is in
+    let count : k ≡ length before + 1 = omega (arith, sent_along first_cursor prefix, more, number) in
     let at : k - 1 ≡ length before = omega (arith, count) in
     let low : nat_le 1 k ≡ true = le-leb 1 k (omega (arith, count)) in
     let high : nat_le k sent ≡ true = le-leb k sent within in
     let both : (nat_le 1 k && nat_le k sent) ≡ true = ap (λ (b : Bool). b && nat_le k sent) low ∙ high in
     let none : Option Origin = None in
-    ap (λ (b : Bool). if b then slice_get (origins_of (front ++ (m ∷ rest))) (k - 1) else none) both
+    ap (λ (b : Bool). if b then slice_get (origins_of (prefix ++ (m ∷ rest))) (k - 1) else none) both
     ∙ ap (λ (os : List Origin). slice_get os (k - 1)) all
     ∙ ap (λ (i : ℕ). slice_get (before ++ (o ∷ behind)) i) at
     ∙ get_seam before o behind
@@ -117,29 +117,29 @@ sent_grows c xs = omega (arith, sent_along c xs)
 -- ---- laws
 
 pub each_label : LawEachLabel
-each_label left front rest l has =
-    let lines = front ++ (l ∷ rest) in
+each_label left prefix rest l has =
+    let lines = prefix ++ (l ∷ rest) in
     let columns = columns_of left lines in
-    let part = label (left_of columns (node_of l.said)) (place_behind front l).row l in
-    let shown : label_in columns (place_behind front l) l ≡ part = ap (λ (b : Bool). if b then part else []) has in
-    let here : HasPart (walk (label_in columns) first_cursor lines) part = subst (λ (t : List ℕ). HasPart (walk (label_in columns) first_cursor lines) t) shown (walk_has (label_in columns) front rest l) in
+    let part = label (left_of columns (node_of l.said)) (place_behind prefix l).row l in
+    let shown : label_in columns (place_behind prefix l) l ≡ part = ap (λ (b : Bool). if b then part else []) has in
+    let here : HasPart (walk (label_in columns) first_cursor lines) part = subst (λ (t : List ℕ). HasPart (walk (label_in columns) first_cursor lines) t) shown (walk_has (label_in columns) prefix rest l) in
     in_fifth (walk (event_row_in (origins_of lines)) first_cursor lines) (lifelines lines columns) (walk (arrow_in columns (origins_of lines)) first_cursor lines)
     (walk (lost_in columns (handed_from [] lines)) first_cursor lines) (walk (label_in columns) first_cursor lines) (heads lines columns) part here
 
 pub each_delivery : LawEachDelivery
-each_delivery left front between rest m l from n to k sends hands number =
-    let lines = front ++ (m ∷ (between ++ (l ∷ rest))) in
+each_delivery left prefix between rest m l from n to k sends hands number =
+    let lines = prefix ++ (m ∷ (between ++ (l ∷ rest))) in
     let columns = columns_of left lines in
     let origins = origins_of lines in
-    let o : Origin = record { from = from; row = (place_behind front m).row; text = m.text } in
-    let place = place_behind (front ++ (m ∷ between)) l in
-    let here : cursor_after first_cursor (front ++ (m ∷ between)) ≡ cursor_after (place_behind front m) between = cursor_join first_cursor front (m ∷ between) in
-    let same : place.sent ≡ (cursor_after first_cursor (front ++ (m ∷ between))).sent = ap (λ (t : Said). (after (cursor_after first_cursor (front ++ (m ∷ between))) t).sent) hands in
-    let within : k ≤ place.sent = omega (arith, sent_grows (place_behind front m) between, ap (λ (c : Cursor). c.sent) here, same, number) in
-    let message = message_is front (between ++ (l ∷ rest)) m from to place.sent k sends number within in
+    let o : Origin = record { from = from; row = (place_behind prefix m).row; text = m.text } in
+    let place = place_behind (prefix ++ (m ∷ between)) l in
+    let here : cursor_after first_cursor (prefix ++ (m ∷ between)) ≡ cursor_after (place_behind prefix m) between = cursor_join first_cursor prefix (m ∷ between) in
+    let same : place.sent ≡ (cursor_after first_cursor (prefix ++ (m ∷ between))).sent = ap (λ (t : Said). (after (cursor_after first_cursor (prefix ++ (m ∷ between))) t).sent) hands in
+    let within : k ≤ place.sent = omega (arith, sent_grows (place_behind prefix m) between, ap (λ (c : Cursor). c.sent) here, same, number) in
+    let message = message_is prefix (between ++ (l ∷ rest)) m from to place.sent k sends number within in
     let part : arrow_in columns origins place l ≡ arrow columns o n place.row = ap (arrow_by columns origins place) hands ∙ ap (λ (x : Option Origin). arrow_from columns x n place.row) message in
-    let joined : (front ++ (m ∷ between)) ++ (l ∷ rest) ≡ lines = append_assoc front (m ∷ between) (l ∷ rest) in
-    let some : HasPart (walk (arrow_in columns origins) first_cursor ((front ++ (m ∷ between)) ++ (l ∷ rest))) (arrow_in columns origins place l) = walk_has (arrow_in columns origins) (front ++ (m ∷ between)) rest l in
+    let joined : (prefix ++ (m ∷ between)) ++ (l ∷ rest) ≡ lines = append_assoc prefix (m ∷ between) (l ∷ rest) in
+    let some : HasPart (walk (arrow_in columns origins) first_cursor ((prefix ++ (m ∷ between)) ++ (l ∷ rest))) (arrow_in columns origins place l) = walk_has (arrow_in columns origins) (prefix ++ (m ∷ between)) rest l in
     let moved : HasPart (walk (arrow_in columns origins) first_cursor lines) (arrow_in columns origins place l) = subst (λ (t : List TraceLine). HasPart (walk (arrow_in columns origins) first_cursor t) (arrow_in columns origins place l)) joined some in
     let found : HasPart (walk (arrow_in columns origins) first_cursor lines) (arrow columns o n place.row) = subst (λ (t : List ℕ). HasPart (walk (arrow_in columns origins) first_cursor lines) t) part moved in
     in_third (walk (event_row_in origins) first_cursor lines) (lifelines lines columns) (walk (arrow_in columns origins) first_cursor lines)

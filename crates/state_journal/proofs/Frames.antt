@@ -23,11 +23,11 @@ pub laid_frame : (before state after digest head tail frame : List ℕ) (size : 
     → head ≡ to_be_bytes w32 size ++ before → tail ≡ after ++ (digest ++ 0 ∷ []) → frame ≡ head ++ (state ++ tail) → frame ≡ framed (guarded (before ++ (state ++ after)))
 unfolding framed sized guarded
 laid_frame before state after digest head tail frame size digest_is size_is head_is tail_is is =
-    let front = before ++ (state ++ after) in
-    let count : size ≡ length (guarded front) = omega (arith, size_is, length-body front, length-append before (state ++ after), length-append state after) in
+    let prefix = before ++ (state ++ after) in
+    let count : size ≡ length (guarded prefix) = omega (arith, size_is, length-body prefix, length-append before (state ++ after), length-append state after) in
     is ∙ (λ i. head_is i ++ (state ++ tail_is i))
     ∙ (λ i. (to_be_bytes w32 (count i) ++ before) ++ (state ++ (after ++ (digest_is i ++ 0 ∷ []))))
-    ∙ regroup (to_be_bytes w32 (length (guarded front))) before state after (sha256 front) (0 ∷ [])
+    ∙ regroup (to_be_bytes w32 (length (guarded prefix))) before state after (sha256 prefix) (0 ∷ [])
 
 abbrev at8 : List ℕ → List ℕ → List ℕ
 at8 n rest = get_or n 0 0 ∷ get_or n 1 0 ∷ get_or n 2 0 ∷ get_or n 3 0 ∷ get_or n 4 0 ∷ get_or n 5 0 ∷ get_or n 6 0 ∷ get_or n 7 0 ∷ rest

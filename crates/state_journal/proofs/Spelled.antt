@@ -50,23 +50,23 @@ old_generation_law = generation_of_law old_state old_state_law
 
 -- ---- a body of version 2 has its digest behind it
 
-length-guarded : (front : List ℕ) → length (front ++ sha256 front) ≡ length front + 32
-length-guarded front = omega (arith, length-append front (sha256 front), length-sha256 front)
+length-guarded : (prefix : List ℕ) → length (prefix ++ sha256 prefix) ≡ length prefix + 32
+length-guarded prefix = omega (arith, length-append prefix (sha256 prefix), length-sha256 prefix)
 
-front_is : (front : List ℕ) → prefix_of (front ++ sha256 front) ≡ front
-front_is front = take_at front (sha256 front) (length (front ++ sha256 front) - 32) (omega (arith, length-guarded front))
+prefix_is : (prefix : List ℕ) → prefix_of (prefix ++ sha256 prefix) ≡ prefix
+prefix_is prefix = take_at prefix (sha256 prefix) (length (prefix ++ sha256 prefix) - 32) (omega (arith, length-guarded prefix))
 
-stored_is : (front : List ℕ) → stored_in (front ++ sha256 front) ≡ sha256 front
-stored_is front = drop_at front (sha256 front) (length (front ++ sha256 front) - 32) (omega (arith, length-guarded front))
+stored_is : (prefix : List ℕ) → stored_in (prefix ++ sha256 prefix) ≡ sha256 prefix
+stored_is prefix = drop_at prefix (sha256 prefix) (length (prefix ++ sha256 prefix) - 32) (omega (arith, length-guarded prefix))
 
 sound : (p tag : ℕ) (fields : List ℕ) → is_guarded (tag ∷ fields) ≡ true → guard_fault p (guarded (tag ∷ fields)) ≡ None
 unfolding guard_fault guarded
 sound p tag fields is =
-    let front = tag ∷ fields in
-    let body = front ++ sha256 front in
-    let long : nat_le (length body) 32 ≡ false = lt-leb _ _ (omega (arith, length-guarded front)) in
+    let prefix = tag ∷ fields in
+    let body = prefix ++ sha256 prefix in
+    let long : nat_le (length body) 32 ≡ false = lt-leb _ _ (omega (arith, length-guarded prefix)) in
     let same : bytes_eq (sha256 (prefix_of body)) (stored_in body) ≡ true =
-    (λ i. bytes_eq (sha256 (front_is front i)) (stored_is front i)) ∙ (bytes_eq-Decides (sha256 front) (sha256 front)).1 refl in
+    (λ i. bytes_eq (sha256 (prefix_is prefix i)) (stored_is prefix i)) ∙ (bytes_eq-Decides (sha256 prefix) (sha256 prefix)).1 refl in
     cond-true (is_guarded body) _ _ is ∙ cond-false (nat_le (length body) 32) _ _ long ∙ cond-true (bytes_eq (sha256 (prefix_of body)) (stored_in body)) _ _ same
 
 -- the digest of a change is right
@@ -84,29 +84,29 @@ body_guarded (Accepted s) = refl
 body_guarded Committed = refl
 body_guarded (Renewed g) = refl
 
-reads_front : (tag : ℕ) (fields : List ℕ) → is_guarded (tag ∷ fields) ≡ true → change_at (guarded (tag ∷ fields)) ≡ change_tagged tag fields
+reads_prefix : (tag : ℕ) (fields : List ℕ) → is_guarded (tag ∷ fields) ≡ true → change_at (guarded (tag ∷ fields)) ≡ change_tagged tag fields
 unfolding guarded
-reads_front tag fields is =
-    let front = tag ∷ fields in
-    ap change_in (cond-true (is_guarded (front ++ sha256 front)) _ _ is ∙ front_is front)
+reads_prefix tag fields is =
+    let prefix = tag ∷ fields in
+    ap change_in (cond-true (is_guarded (prefix ++ sha256 prefix)) _ _ is ∙ prefix_is prefix)
 
 pub reads_term : (t : ℕ) → t ≤ 2 ^ 62 → change_at (body_of (Term t)) ≡ Ok (Term t)
 unfolding body_of change_tagged
-reads_term t fits = reads_front 129 (term.spelling t) refl ∙ ap (λ r. change_by Term r) (whole_again term term_law (term.spelling t) t (fits, refl))
+reads_term t fits = reads_prefix 129 (term.spelling t) refl ∙ ap (λ r. change_by Term r) (whole_again term term_law (term.spelling t) t (fits, refl))
 
 pub reads_state : (s : ClusterState) → state.Fits s → change_at (body_of (Accepted s)) ≡ Ok (Accepted s)
 unfolding body_of change_tagged
-reads_state s fits = reads_front 130 (state.spelling s) refl ∙ ap (λ r. change_by Accepted r) (whole_again state state_law (state.spelling s) s (fits, refl))
+reads_state s fits = reads_prefix 130 (state.spelling s) refl ∙ ap (λ r. change_by Accepted r) (whole_again state state_law (state.spelling s) s (fits, refl))
 
 pub reads_committed : change_at (body_of Committed) ≡ Ok Committed
 unfolding body_of change_tagged
-reads_committed = reads_front 131 [] refl
+reads_committed = reads_prefix 131 [] refl
 
 pub reads_renewed : (epoch : ℕ) (kept : Kept) → epoch ≤ 2 ^ 62 → MayBegin kept → change_at (body_of (Renewed (record { epoch = epoch; kept = kept }))) ≡ Ok (Renewed (record { epoch = epoch; kept = kept }))
 unfolding body_of change_tagged
 reads_renewed epoch kept small may =
     let g : Generation = record { epoch = epoch; kept = kept } in
-    reads_front 132 (generation.spelling g) refl ∙ ap (λ r. change_by Renewed r) (whole_again generation generation_law (generation.spelling g) g ((small, (may.bounded, (may.fits, may.named))), refl))
+    reads_prefix 132 (generation.spelling g) refl ∙ ap (λ r. change_by Renewed r) (whole_again generation generation_law (generation.spelling g) g ((small, (may.bounded, (may.fits, may.named))), refl))
 
 pub fits_of : (s : ClusterState) → HasSpelling s → state.Fits s
 unfolding HasSpelling
@@ -143,9 +143,9 @@ pub state_plain : (l : List ℕ) → is_generation (guarded (130 ∷ l)) ≡ fal
 unfolding guarded
 state_plain l = refl
 
-pub length-body : (front : List ℕ) → length (guarded front) ≡ length front + 32
+pub length-body : (prefix : List ℕ) → length (guarded prefix) ≡ length prefix + 32
 unfolding guarded
-length-body front = length-guarded front
+length-body prefix = length-guarded prefix
 
 pub length-accepted : (s : ClusterState) → length (body_of (Accepted s)) ≡ length (state.spelling s) + 33
 unfolding body_of

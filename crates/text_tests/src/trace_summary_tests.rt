@@ -71,8 +71,8 @@ fn lines_are_counted_by_their_kinds(rt: HostRuntime) -> Result<(), Fail> {
 
 #[test]
 fn pieces_come_to_the_same(rt: HostRuntime) -> Result<(), Fail> {
-    let (front, rest) = TRACE.split_once("> deliver a 1\n").ok_or("no such line")?;
-    let text = summed(rt.alloc(), &["", front, "> deliver a 1\n", rest, ""])?;
+    let (before, rest) = TRACE.split_once("> deliver a 1\n").ok_or("no such line")?;
+    let text = summed(rt.alloc(), &["", before, "> deliver a 1\n", rest, ""])?;
     assert!(rt; text.as_bytes() == SUMMARY.as_bytes());
     Ok(())
 }

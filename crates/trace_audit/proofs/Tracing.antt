@@ -32,12 +32,12 @@ legal_before : (initial : List Id) (h : History) (x : Entry) → IsLegal initial
 legal_before initial h (Acted n e act) l = l.0
 legal_before initial h (Recorded n shown) l = unsettled_legal initial h n (is_kept (node_history h n) shown) l.0
 
-legal_front : (initial : List Id) (h : History) (xs : List Numbered) → IsLegal initial (with_entries h xs) → IsLegal initial h
-legal_front initial h [] l = l
-legal_front initial h (x ∷ xs) l = legal_before initial h x.entry (legal_front initial (with_entry h x.entry) xs l)
+legal_prefix : (initial : List Id) (h : History) (xs : List Numbered) → IsLegal initial (with_entries h xs) → IsLegal initial h
+legal_prefix initial h [] l = l
+legal_prefix initial h (x ∷ xs) l = legal_before initial h x.entry (legal_prefix initial (with_entry h x.entry) xs l)
 
 pub legal_less : (initial : List Id) (xs ys : List Numbered) → IsLegal initial (traced (xs ++ ys)) → IsLegal initial (traced xs)
-legal_less initial xs ys l = legal_front initial (traced xs) ys (subst (λ (h : History). IsLegal initial h) (with_more NoEntries xs ys) l)
+legal_less initial xs ys l = legal_prefix initial (traced xs) ys (subst (λ (h : History). IsLegal initial h) (with_more NoEntries xs ys) l)
 
 -- ---- an entry that breaks a clause is not legal
 

@@ -43,7 +43,7 @@ fn judge_next(
     ensures { (initial : List Id) (xs : List Numbered) → Audits initial auditor.old (traced xs)
         → Judged initial auditor.new result (xs ++ record { line = line; entry = entry.now } ∷ []) }
 {
-    match auditor.step(entry) {
+    match auditor.take(entry) {
         Ok(()) => Ok(None),
         Err(stop) => stopped(stop, line),
     }

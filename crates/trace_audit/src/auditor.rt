@@ -261,7 +261,7 @@ impl Auditor {
     }
 
     /// Takes one more entry, where it is legal.
-    pub fn step(&mut self, entry: &Entry) -> Result<(), Stop>
+    pub fn take(&mut self, entry: &Entry) -> Result<(), Stop>
         requires { IsEntry entry.now }
         ensures { (initial : List Id) (h : History) → Audits initial self.old h → Takes initial self.new result (with_entry h entry.now) }
     {

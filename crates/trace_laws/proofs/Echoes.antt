@@ -135,13 +135,13 @@ module _ {ids : List Id} (set : IsIdSet ids) where
       more_cut (codes "value") n (decimal v ++ 32 ∷ (x ++ 32 ∷ list)) refl (clear n inside)
       ∙ ap (λ (t : List (List ℕ)). codes "value" ∷ n ∷ t) (more_cut (decimal v) x list digits word ∙ ap (λ (t : List (List ℕ)). decimal v ∷ x ∷ t) (split_alone 32 list plain)) in
       let set_of = ids_set cfg parts.0 in
-      let front = with_word n cfg in
-      let all : named_by ws ≡ with_word (decimal v) front = ap (λ (t : List Id). with_word (decimal v) (with_word n t)) (list_again cfg parts.0) in
-      let first : has n front ≡ true = named n cfg (is_one n inside) (λ e. has_room n cfg ids set set_of.ascending parts.1 inside e) in
-      let each : list_all (λ y. has y (with_word (decimal v) front)) cfg ≡ true =
-      all_ids (λ y. has y cfg) (λ y. has y (with_word (decimal v) front)) (λ y h. kept y (decimal v) front (kept y n cfg h)) cfg (all_self cfg) in
-      let good : FitsLine Core (with_word (decimal v) front) (line.Value n v x cfg) =
-      (kept n (decimal v) front first, (omega arith, small), text, and_from _ _ parts.0 each) in
+      let prefix = with_word n cfg in
+      let all : named_by ws ≡ with_word (decimal v) prefix = ap (λ (t : List Id). with_word (decimal v) (with_word n t)) (list_again cfg parts.0) in
+      let first : has n prefix ≡ true = named n cfg (is_one n inside) (λ e. has_room n cfg ids set set_of.ascending parts.1 inside e) in
+      let each : list_all (λ y. has y (with_word (decimal v) prefix)) cfg ≡ true =
+      all_ids (λ y. has y cfg) (λ y. has y (with_word (decimal v) prefix)) (λ y h. kept y (decimal v) prefix (kept y n cfg h)) cfg (all_self cfg) in
+      let good : FitsLine Core (with_word (decimal v) prefix) (line.Value n v x cfg) =
+      (kept n (decimal v) prefix first, (omega arith, small), text, and_from _ _ parts.0 each) in
       echo_by (line.Value n v x cfg) ws words (subst (λ (t : List Id). FitsLine Core t (line.Value n v x cfg)) (sym all) good)
 
   echo_again : (level : Level) (l : Line) → FitsLine level ids l → echo_at (line_text l) ≡ Ok (said_by l)

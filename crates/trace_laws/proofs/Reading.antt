@@ -255,8 +255,8 @@ sent_read p actor (CommitMessage c) is small fits = one_end p actor c.source (me
 
 pub framed_read : LawFramed
 framed_read p actor frame is small fits =
-    let front : List ℕ = codes "m" ++ decimal p.next ++ codes " " in
-    let same : (((front ++ frame.from) ++ codes "->") ++ frame.to) ≡ front ++ (frame.from ++ codes "->" ++ frame.to) =
-    ap (λ (t : List ℕ). t ++ frame.to) (append_assoc front frame.from (codes "->")) ∙ append_assoc front (frame.from ++ codes "->") frame.to in
+    let prefix : List ℕ = codes "m" ++ decimal p.next ++ codes " " in
+    let same : (((prefix ++ frame.from) ++ codes "->") ++ frame.to) ≡ prefix ++ (frame.from ++ codes "->" ++ frame.to) =
+    ap (λ (t : List ℕ). t ++ frame.to) (append_assoc prefix frame.from (codes "->")) ∙ append_assoc prefix (frame.from ++ codes "->") frame.to in
     subst (λ (t : List ℕ). IsRead p ((t ++ codes " " ++ frame_text frame.message) ++ codes "\n") (said.Sent frame.from (Some frame.to))) (sym same)
     (two_ends p actor frame.from frame.to (frame_text frame.message) is small fits.0 fits.1 (frame_feedless frame.message fits.2))

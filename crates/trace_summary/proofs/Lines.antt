@@ -64,24 +64,24 @@ empty_first xs = λ i. record {
 
 -- ---- lines
 
-onto_front : (x : ℕ) (xs ys : List (List ℕ)) → 0 < length xs → onto_first x (xs ++ ys) ≡ onto_first x xs ++ ys
-onto_front x [] ys some = absurd (omega arith)
-onto_front x (w ∷ xs) ys some = refl
+onto_prefix : (x : ℕ) (xs ys : List (List ℕ)) → 0 < length xs → onto_first x (xs ++ ys) ≡ onto_first x xs ++ ys
+onto_prefix x [] ys some = absurd (omega arith)
+onto_prefix x (w ∷ xs) ys some = refl
 
 split_append : (p : ℕ → Bool) (xs : List ℕ) (y : ℕ) (ys : List ℕ) → p y ≡ true → slice_split p (xs ++ y ∷ ys) ≡ slice_split p xs ++ slice_split p ys
 split_append p [] y ys e = ap (λ (b : Bool). cond b ([] ∷ slice_split p ys) (onto_first y (slice_split p ys))) e
 split_append p (x ∷ xs) y ys e =
     elim (p x) as (λ b. cond b ([] ∷ slice_split p (xs ++ y ∷ ys)) (onto_first x (slice_split p (xs ++ y ∷ ys))) ≡ cond b ([] ∷ slice_split p xs) (onto_first x (slice_split p xs)) ++ slice_split p ys) [
       | true ↦ ap (λ (l : List (List ℕ)). [] ∷ l) (split_append p xs y ys e)
-      | false ↦ ap (onto_first x) (split_append p xs y ys e) ∙ onto_front x (slice_split p xs) (slice_split p ys) (omega (arith, length-slice_split p xs))
+      | false ↦ ap (onto_first x) (split_append p xs y ys e) ∙ onto_prefix x (slice_split p xs) (slice_split p ys) (omega (arith, length-slice_split p xs))
     ]
 
 -- the counts of a text that goes on after a whole line
 pub pieces_join : (text piece : List ℕ) → EndsLine text → after_lines (counts_in (lines_of text)) (lines_of piece) ≡ counts_in (lines_of (text ++ piece))
 pieces_join text piece Empty = lines_join ([] ∷ []) (lines_of piece) ∙ empty_first (lines_of piece)
-pieces_join text piece (Fed front) =
+pieces_join text piece (Fed prefix) =
     let p : ℕ → Bool = λ b. b == 10 in
-    ap (λ (c : Counts). after_lines c (lines_of piece)) (ap counts_in (split_append p front 10 [] refl) ∙ last_is_empty (lines_of front))
-    ∙ lines_join (lines_of front) (lines_of piece)
-    ∙ ap counts_in (sym (split_append p front 10 piece refl))
-    ∙ ap (λ (t : List ℕ). counts_in (lines_of t)) (sym (append_assoc front (10 ∷ []) piece))
+    ap (λ (c : Counts). after_lines c (lines_of piece)) (ap counts_in (split_append p prefix 10 [] refl) ∙ last_is_empty (lines_of prefix))
+    ∙ lines_join (lines_of prefix) (lines_of piece)
+    ∙ ap counts_in (sym (split_append p prefix 10 piece refl))
+    ∙ ap (λ (t : List ℕ). counts_in (lines_of t)) (sym (append_assoc prefix (10 ∷ []) piece))

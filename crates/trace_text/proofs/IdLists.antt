@@ -10,15 +10,15 @@ use Rattle.voting_config.specs.Lists.{may_follow, are_ids_after}
 pub none_set : IsIdSet []
 none_set = record { ascending = refl; each = refl; fits = omega arith }
 
-sets_after : (front xs : List Id) → IsIdSet front → are_ids_after front xs ≡ true → IsIdSet (front ++ xs)
-sets_after front [] set e = subst IsIdSet (sym (append-nil front)) set
-sets_after front (x ∷ xs) set e =
-    let parts = and_parts (may_follow front x) (are_ids_after (front ++ x ∷ []) xs) e in
-    let follows = and_parts (is_id x && nat_lt (length front) most_ids) (comes_after x front) parts.0 in
-    let is = and_parts (is_id x) (nat_lt (length front) most_ids) follows.0 in
-    let test : nat_lt (length front) most_ids ≡ true = is.1 in
-    let room : length front < most_ids = grind (arith, nat_tests) in
-    subst IsIdSet (append_assoc front (x ∷ []) xs) (sets_after (front ++ x ∷ []) xs (IsIdSet-push x front set is.0 follows.1 room) parts.1)
+sets_after : (prefix xs : List Id) → IsIdSet prefix → are_ids_after prefix xs ≡ true → IsIdSet (prefix ++ xs)
+sets_after prefix [] set e = subst IsIdSet (sym (append-nil prefix)) set
+sets_after prefix (x ∷ xs) set e =
+    let parts = and_parts (may_follow prefix x) (are_ids_after (prefix ++ x ∷ []) xs) e in
+    let follows = and_parts (is_id x && nat_lt (length prefix) most_ids) (comes_after x prefix) parts.0 in
+    let is = and_parts (is_id x) (nat_lt (length prefix) most_ids) follows.0 in
+    let test : nat_lt (length prefix) most_ids ≡ true = is.1 in
+    let room : length prefix < most_ids = grind (arith, nat_tests) in
+    subst IsIdSet (append_assoc prefix (x ∷ []) xs) (sets_after (prefix ++ x ∷ []) xs (IsIdSet-push x prefix set is.0 follows.1 room) parts.1)
 
 pub ids_set : (xs : List Id) → are_ids_after [] xs ≡ true → IsIdSet xs
 ids_set xs e = sets_after [] xs none_set e

@@ -4,8 +4,8 @@ use Rattle.std.specs.List.{slice_split, onto_first, position_or_len}
 use Rattle.std.proofs.lemmas.Bool.{ltb-true, ltb-false}
 use Rattle.std.proofs.lemmas.List.{take_rest}
 
-front : (x n : ℕ) (xs : List ℕ) (f : List ℕ → List (List ℕ)) → ((x ∷ take n xs) ∷ f (drop (n + 1) xs)) ≡ take (1 + n) (x ∷ xs) ∷ f (drop (1 + n + 1) (x ∷ xs))
-front x n xs f =
+prefix : (x n : ℕ) (xs : List ℕ) (f : List ℕ → List (List ℕ)) → ((x ∷ take n xs) ∷ f (drop (n + 1) xs)) ≡ take (1 + n) (x ∷ xs) ∷ f (drop (1 + n + 1) (x ∷ xs))
+prefix x n xs f =
     let one : 1 + n ≡ suc n = omega arith in
     let two : 1 + n + 1 ≡ suc (n + 1) = omega arith in
     rw (two, one) refl
@@ -15,7 +15,7 @@ split_first p [] h = absurd (omega arith)
 split_first p (x ∷ xs) h =
     elim (p x) as (λ b. cond (not b) (1 + position_or_len p xs) 0 < length (x ∷ xs) → cond b ([] ∷ slice_split p xs) (onto_first x (slice_split p xs)) ≡ take (cond (not b) (1 + position_or_len p xs) 0) (x ∷ xs) ∷ slice_split p (drop (cond (not b) (1 + position_or_len p xs) 0 + 1) (x ∷ xs))) [
       | true ↦ λ k. refl
-      | false ↦ λ k. ap (λ (l : List (List ℕ)). onto_first x l) (split_first p xs (omega arith)) ∙ front x (position_or_len p xs) xs (slice_split p)
+      | false ↦ λ k. ap (λ (l : List (List ℕ)). onto_first x l) (split_first p xs (omega arith)) ∙ prefix x (position_or_len p xs) xs (slice_split p)
     ] h
 
 split_none : (p : ℕ → Bool) (xs : List ℕ) → length xs ≤ position_or_len p xs → slice_split p xs ≡ xs ∷ []

@@ -13,7 +13,7 @@ use Rattle.wire_frames.specs.Streams.{Unfinished, Faulty, Whole, prefix_with, pr
 use Rattle.wire_frames.specs.declared.lent.FrameView.{FrameView}
 use Rattle.wire_frames.specs.Buffers.{left_in, Gives}
 use Rattle.wire_frames.specs.Views.{shown}
-use Rattle.wire_frames.proofs.Cutting.{stream-front, stream-append, prepend-prepend}
+use Rattle.wire_frames.proofs.Cutting.{stream-prefix, stream-append, prepend-prepend}
 
 -- ---- over all that came
 
@@ -61,22 +61,22 @@ framed bytes part size frame m is read =
       prefix = m.2 ∙ ap (λ r. prefix_with r (drop size (drop 4 bytes))) whole ∙ ap (Whole frame) (drop-drop size 4 bytes ∙ ap (λ n. drop n bytes) (omega arith));
     }
 
--- ---- what stands at the front is given next
+-- ---- what comes first is given next
 
 module _ (was bytes now : List ℕ) (gone : now ≡ was) (same : bytes ≡ now) where
-  front_is : prefix_of was ≡ prefix_of bytes
-  front_is = ap prefix_of (sym gone ∙ sym same)
+  prefix_is : prefix_of was ≡ prefix_of bytes
+  prefix_is = ap prefix_of (sym gone ∙ sym same)
 
   pub nothing_next : prefix_of bytes ≡ Unfinished → (next_of (stream was) ≡ None) × (stream now ≡ stream was)
-  nothing_next e = (ap next_of (stream-front was Unfinished (front_is ∙ e)), ap stream gone)
+  nothing_next e = (ap next_of (stream-prefix was Unfinished (prefix_is ∙ e)), ap stream gone)
 
   pub fault_next : (fault : FrameError) → prefix_of bytes ≡ Faulty fault → (next_of (stream was) ≡ Some (Err fault)) × (stream now ≡ stream was)
-  fault_next fault e = (ap next_of (stream-front was (Faulty fault) (front_is ∙ e)), ap stream gone)
+  fault_next fault e = (ap next_of (stream-prefix was (Faulty fault) (prefix_is ∙ e)), ap stream gone)
 
 pub frame_next : (now : Buffer) (was bytes : List ℕ) → now.bytes.items ≡ was → bytes ≡ now.bytes.items → IsFramed bytes now.given → Gives now (stream was)
 frame_next now was bytes gone same h =
     let here : IsFramed now.bytes.items now.given = subst (λ l. IsFramed l now.given) same h in
-    let next = stream-front was (Whole here.frame (drop now.given now.bytes.items)) (ap prefix_of (sym gone) ∙ here.prefix) in
+    let next = stream-prefix was (Whole here.frame (drop now.given now.bytes.items)) (ap prefix_of (sym gone) ∙ here.prefix) in
     record { frame = here.frame; long = here.long; body = here.body; next = ap next_of next; left = sym (ap after_next next) }
 
 -- what is lent is the frame that stood next

@@ -10,8 +10,8 @@ use Rattle.wire_frames.specs.Frames.{frame_of}
 use Rattle.wire_frames.specs.Streams.{Prefix, Unfinished, Faulty, Whole, said_length, prefix_with, prefix_of, Rest, Stream, prepend, stream_with_prefix, stream_within, stream, stream_after, IsStream}
 
 -- what stands at the start, by its three tests
-abbrev pub front_by : (short too_long unfinished : Bool) → Prefix → Prefix
-front_by a b c front = cond a Unfinished (cond b (Faulty TooLong) (cond c Unfinished front))
+abbrev pub prefix_by : (short too_long unfinished : Bool) → Prefix → Prefix
+prefix_by a b c prefix = cond a Unfinished (cond b (Faulty TooLong) (cond c Unfinished prefix))
 
 -- what a whole frame at the start says of the tests
 pub record IsWholeBy (a b c : Bool) (read : Result Frame FrameError) (rest : List ℕ) (frame : Frame) (after : List ℕ) : Type 0 where
@@ -21,14 +21,14 @@ pub record IsWholeBy (a b c : Bool) (read : Result Frame FrameError) (rest : Lis
   pub body : read ≡ Ok frame
   pub next : rest ≡ after
 
-pub whole_by : (a b c : Bool) (r : Result Frame FrameError) (rest : List ℕ) (frame : Frame) (after : List ℕ) → front_by a b c (prefix_with r rest) ≡ Whole frame after → IsWholeBy a b c r rest frame after
+pub whole_by : (a b c : Bool) (r : Result Frame FrameError) (rest : List ℕ) (frame : Frame) (after : List ℕ) → prefix_by a b c (prefix_with r rest) ≡ Whole frame after → IsWholeBy a b c r rest frame after
 whole_by true b c r rest frame after e = absurd cc
 whole_by false true c r rest frame after e = absurd cc
 whole_by false false true r rest frame after e = absurd cc
 whole_by false false false (Err x) rest frame after e = absurd cc
 whole_by false false false (Ok f) rest frame after e = record { four = refl; fits = refl; there = refl; body = cc; next = cc }
 
-by_whole : (a b c : Bool) (r : Result Frame FrameError) (rest : List ℕ) (frame : Frame) (after : List ℕ) → IsWholeBy a b c r rest frame after → front_by a b c (prefix_with r rest) ≡ Whole frame after
+by_whole : (a b c : Bool) (r : Result Frame FrameError) (rest : List ℕ) (frame : Frame) (after : List ℕ) → IsWholeBy a b c r rest frame after → prefix_by a b c (prefix_with r rest) ≡ Whole frame after
 by_whole a b c r rest frame after h = rw (h.four, h.fits, h.there, h.body, h.next) refl
 
 -- what a fault at the start says of the tests
@@ -41,7 +41,7 @@ pub record IsFaultyBy (a b c : Bool) (read : Result Frame FrameError) (fault : F
   pub four : a ≡ false
   pub cause : ((b ≡ true) × (TooLong ≡ fault)) ⊎ (IsBadBody b c read fault)
 
-pub faulty_by : (a b c : Bool) (r : Result Frame FrameError) (rest : List ℕ) (fault : FrameError) → front_by a b c (prefix_with r rest) ≡ Faulty fault → IsFaultyBy a b c r fault
+pub faulty_by : (a b c : Bool) (r : Result Frame FrameError) (rest : List ℕ) (fault : FrameError) → prefix_by a b c (prefix_with r rest) ≡ Faulty fault → IsFaultyBy a b c r fault
 faulty_by true b c r rest fault e = absurd cc
 faulty_by false true c r rest fault e = record { four = refl; cause = inl (refl, cc) }
 faulty_by false false true r rest fault e = absurd cc
@@ -100,10 +100,10 @@ whole-shorter bytes frame after e =
     let size : length after ≡ length bytes - 4 - said_length bytes = rw (sym h.next, length-drop, length-drop) refl in
     omega arith
 
-with_front-same : (front : Prefix) (bytes : List ℕ) (f g : List ℕ → Stream) → ((frame : Frame) (after : List ℕ) → front ≡ Whole frame after → f after ≡ g after) → stream_with_prefix front bytes f ≡ stream_with_prefix front bytes g
-with_front-same Unfinished bytes f g h = refl
-with_front-same (Faulty e) bytes f g h = refl
-with_front-same (Whole frame rest) bytes f g h = ap (prepend (frame ∷ [])) (h frame rest refl)
+with_prefix-same : (prefix : Prefix) (bytes : List ℕ) (f g : List ℕ → Stream) → ((frame : Frame) (after : List ℕ) → prefix ≡ Whole frame after → f after ≡ g after) → stream_with_prefix prefix bytes f ≡ stream_with_prefix prefix bytes g
+with_prefix-same Unfinished bytes f g h = refl
+with_prefix-same (Faulty e) bytes f g h = refl
+with_prefix-same (Whole frame rest) bytes f g h = ap (prepend (frame ∷ [])) (h frame rest refl)
 
 -- more steps than bytes change nothing
 pub within-enough : (n m : ℕ) (bytes : List ℕ) → length bytes ≤ n → length bytes ≤ m → stream_within n bytes ≡ stream_within m bytes
@@ -113,21 +113,21 @@ within-enough zero (suc m) (b ∷ bytes) p q = absurd (omega arith)
 within-enough (suc n) zero [] p q = refl
 within-enough (suc n) zero (b ∷ bytes) p q = absurd (omega arith)
 within-enough (suc n) (suc m) bytes p q =
-    with_front-same (prefix_of bytes) bytes (stream_within n) (stream_within m) (λ frame after e.
+    with_prefix-same (prefix_of bytes) bytes (stream_within n) (stream_within m) (λ frame after e.
     let shorter = whole-shorter bytes frame after e in
     within-enough n m after (omega arith) (omega arith))
 
 -- the stream is what its start says
-pub stream-with_front : (bytes : List ℕ) → stream bytes ≡ stream_with_prefix (prefix_of bytes) bytes stream
+pub stream-with_prefix : (bytes : List ℕ) → stream bytes ≡ stream_with_prefix (prefix_of bytes) bytes stream
 unfolding stream
-stream-with_front bytes =
+stream-with_prefix bytes =
     within-enough (length bytes) (suc (length bytes)) bytes (omega arith) (omega arith)
-    ∙ with_front-same (prefix_of bytes) bytes (stream_within (length bytes)) (λ after. stream_within (length after) after) (λ frame after e.
+    ∙ with_prefix-same (prefix_of bytes) bytes (stream_within (length bytes)) (λ after. stream_within (length after) after) (λ frame after e.
     let shorter = whole-shorter bytes frame after e in
     within-enough (length bytes) (length after) after (omega arith) (omega arith))
 
-pub stream-front : (bytes : List ℕ) (front : Prefix) → prefix_of bytes ≡ front → stream bytes ≡ stream_with_prefix front bytes stream
-stream-front bytes front e = stream-with_front bytes ∙ ap (λ f. stream_with_prefix f bytes stream) e
+pub stream-prefix : (bytes : List ℕ) (prefix : Prefix) → prefix_of bytes ≡ prefix → stream bytes ≡ stream_with_prefix prefix bytes stream
+stream-prefix bytes prefix e = stream-with_prefix bytes ∙ ap (λ f. stream_with_prefix f bytes stream) e
 
 pub stream-empty : IsStream [] [] (Rest [])
 unfolding stream
@@ -136,20 +136,20 @@ stream-empty = refl
 pub prepend-prepend : (a b : List Frame) (s : Stream) → prepend a (prepend b s) ≡ prepend (a ++ b) s
 prepend-prepend a b s = ap (λ xs. let r : Stream = record { frames = xs; ending = s.ending } in r) (sym (append_assoc a b s.frames))
 
-append_within : (n : ℕ) (bytes more : List ℕ) (front : Prefix) → length bytes ≤ n → prefix_of bytes ≡ front
-    → stream (bytes ++ more) ≡ prepend (stream_with_prefix front bytes stream).frames (stream_after (stream_with_prefix front bytes stream).ending more)
+append_within : (n : ℕ) (bytes more : List ℕ) (prefix : Prefix) → length bytes ≤ n → prefix_of bytes ≡ prefix
+    → stream (bytes ++ more) ≡ prepend (stream_with_prefix prefix bytes stream).frames (stream_after (stream_with_prefix prefix bytes stream).ending more)
 append_within n bytes more Unfinished p e = refl
-append_within n bytes more (Faulty x) p e = stream-front (bytes ++ more) (Faulty x) (faulty-append bytes more x e)
+append_within n bytes more (Faulty x) p e = stream-prefix (bytes ++ more) (Faulty x) (faulty-append bytes more x e)
 append_within zero bytes more (Whole frame after) p e = let shorter = whole-shorter bytes frame after e in absurd (omega arith)
 append_within (suc n) bytes more (Whole frame after) p e =
     let shorter = whole-shorter bytes frame after e in
     let later = append_within n after more (prefix_of after) (omega arith) refl in
-    stream-front (bytes ++ more) (Whole frame (after ++ more)) (whole-append bytes more frame after e)
-    ∙ ap (prepend (frame ∷ [])) (later ∙ ap (λ s. prepend s.frames (stream_after s.ending more)) (sym (stream-with_front after)))
+    stream-prefix (bytes ++ more) (Whole frame (after ++ more)) (whole-append bytes more frame after e)
+    ∙ ap (prepend (frame ∷ [])) (later ∙ ap (λ s. prepend s.frames (stream_after s.ending more)) (sym (stream-with_prefix after)))
     ∙ prepend-prepend (frame ∷ []) (stream after).frames _
 
 -- what follows goes on from what stands after the frames
 pub stream-append : (bytes more : List ℕ) → stream (bytes ++ more) ≡ prepend (stream bytes).frames (stream_after (stream bytes).ending more)
 stream-append bytes more =
     append_within (length bytes) bytes more (prefix_of bytes) (omega arith) refl
-    ∙ ap (λ s. prepend s.frames (stream_after s.ending more)) (sym (stream-with_front bytes))
+    ∙ ap (λ s. prepend s.frames (stream_after s.ending more)) (sym (stream-with_prefix bytes))

@@ -9,7 +9,7 @@ use Rattle.wire_frames.specs.Frames.{most_body, four_bytes, SpellsBody, SpellsFr
 use Rattle.wire_frames.specs.Streams.{Whole, said_length, prefix_with, prefix_of, prepend, stream}
 use Rattle.wire_frames.proofs.FrameLaws.{frame_again, one_body}
 use Rattle.wire_frames.proofs.Sizes.{body_short}
-use Rattle.wire_frames.proofs.Cutting.{stream-front}
+use Rattle.wire_frames.proofs.Cutting.{stream-prefix}
 
 pub length-four : (n : ℕ) → length (four_bytes n) ≡ 4
 unfolding four_bytes
@@ -36,8 +36,8 @@ one_frame f g bytes s t =
     one_body f g s.body s.spelled (subst P (body_is g bytes t ∙ sym (body_is f bytes s)) t.spelled)
 
 -- a body after its length, and bytes after it
-pub front-read : (body more : List ℕ) → length body ≤ most_body → prefix_of (four_bytes (length body) ++ (body ++ more)) ≡ prefix_with (frame_of body) more
-front-read body more fits =
+pub prefix-read : (body more : List ℕ) → length body ≤ most_body → prefix_of (four_bytes (length body) ++ (body ++ more)) ≡ prefix_with (frame_of body) more
+prefix-read body more fits =
     let size = length body in
     let all = four_bytes size ++ (body ++ more) in
     let four : nat_lt (length all) 4 ≡ false = le-ltb _ _ (omega (arith, length-append (four_bytes size) (body ++ more), length-four size)) in
@@ -50,5 +50,5 @@ front-read body more fits =
 pub first_frame : (f : Frame) (bytes more : List ℕ) → SpellsFrame f bytes → stream (bytes ++ more) ≡ prepend (f ∷ []) (stream more)
 first_frame f bytes more s =
     let regrouped : bytes ++ more ≡ four_bytes (length s.body) ++ (s.body ++ more) = ap (λ l. l ++ more) s.whole ∙ append_assoc (four_bytes (length s.body)) s.body more in
-    let front = front-read s.body more (omega (arith, body_short f s.body s.spelled)) in
-    stream-front (bytes ++ more) (Whole f more) (ap prefix_of regrouped ∙ front ∙ ap (λ r. prefix_with r more) (frame_again s.body f s.spelled))
+    let prefix = prefix-read s.body more (omega (arith, body_short f s.body s.spelled)) in
+    stream-prefix (bytes ++ more) (Whole f more) (ap prefix_of regrouped ∙ prefix ∙ ap (λ r. prefix_with r more) (frame_again s.body f s.spelled))

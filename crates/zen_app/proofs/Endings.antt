@@ -50,11 +50,11 @@ module _ (level : Level) where
 
 -- ---- of what was written
 
-whole_front : (was now : Option (List ℕ)) (bytes : List ℕ) → Appended was now bytes → AppendedPrefix was now bytes
-whole_front was now bytes written = record { prefix = bytes; rest = []; whole = append-nil bytes; appended = written }
+whole_prefix : (was now : Option (List ℕ)) (bytes : List ℕ) → Appended was now bytes → AppendedPrefix was now bytes
+whole_prefix was now bytes written = record { prefix = bytes; rest = []; whole = append-nil bytes; appended = written }
 
-no_front : (was now : Option (List ℕ)) (bytes : List ℕ) → Appended was now [] → AppendedPrefix was now bytes
-no_front was now bytes written = record { prefix = []; rest = bytes; whole = refl; appended = written }
+no_prefix : (was now : Option (List ℕ)) (bytes : List ℕ) → Appended was now [] → AppendedPrefix was now bytes
+no_prefix was now bytes written = record { prefix = []; rest = bytes; whole = refl; appended = written }
 
 module _ (level : Level) where
   -- a prefix of the trace of the schedule that the bytes spell, where they spell one
@@ -65,7 +65,7 @@ module _ (level : Level) where
   traced bytes was now s spelled written t other = (subst (λ (x : Schedule). AppendedPrefix was now (trace_at level x)) (one_schedule level bytes s t spelled other) written, spells_safe_trace level bytes t other)
 
   traced_nothing : (bytes : List ℕ) (was now : Option (List ℕ)) → Appended was now [] → IsTraced bytes was now
-  traced_nothing bytes was now written s spelled = (no_front was now (trace_at level s) written, spells_safe_trace level bytes s spelled)
+  traced_nothing bytes was now written s spelled = (no_prefix was now (trace_at level s) written, spells_safe_trace level bytes s spelled)
 
 -- ---- how a replay ends
 
@@ -107,7 +107,7 @@ module _ (level : Level) (source source_now : SourceView) (sink sink_now : SinkV
     pub succeeded : (s : Schedule) → Spells level bytes s → Appended sink.written sink_now.written (trace_at level s) → ReplayEnded level source source_now sink sink_now exit.Ok
     succeeded s spelled written = ended exit.Ok tt (λ e. absurd cc) (λ e. absurd cc) (λ bs e. let l = left_of bs s e spelled in record {
       ended = (l.1, record { schedule = s; spelled = l.0; written = written; safe_trace = spells_safe_trace level bs s l.0 });
-      traced = traced level bs sink.written sink_now.written s l.0 (whole_front sink.written sink_now.written (trace_at level s) written);
+      traced = traced level bs sink.written sink_now.written s l.0 (whole_prefix sink.written sink_now.written (trace_at level s) written);
       complete = λ t sp r w. inl refl;
     })
 

@@ -18,8 +18,8 @@ appended_none None = λ i. None
 appended_none (Some was) = ap (λ (l : List ℕ). Some l) (sym (append-nil was))
 
 -- a piece, and then a prefix of what follows it
-pub front_after : (a b c : Option (List ℕ)) (piece rest : List ℕ) → Appended a b piece → AppendedPrefix b c rest → AppendedPrefix a c (piece ++ rest)
-front_after a b c piece rest g h = record {
+pub prefix_after : (a b c : Option (List ℕ)) (piece rest : List ℕ) → Appended a b piece → AppendedPrefix b c rest → AppendedPrefix a c (piece ++ rest)
+prefix_after a b c piece rest g h = record {
   prefix = piece ++ h.prefix;
   rest = h.rest;
   whole = append_assoc piece h.prefix h.rest ∙ ap (λ (l : List ℕ). piece ++ l) h.whole;
@@ -27,8 +27,8 @@ front_after a b c piece rest g h = record {
 }
 
 -- a prefix of a prefix
-pub front_within : (a b : Option (List ℕ)) (piece rest all : List ℕ) → piece ++ rest ≡ all → AppendedPrefix a b piece → AppendedPrefix a b all
-front_within a b piece rest all e h = record {
+pub prefix_within : (a b : Option (List ℕ)) (piece rest all : List ℕ) → piece ++ rest ≡ all → AppendedPrefix a b piece → AppendedPrefix a b all
+prefix_within a b piece rest all e h = record {
   prefix = h.prefix;
   rest = h.rest ++ rest;
   whole = sym (append_assoc h.prefix h.rest rest) ∙ ap (λ (l : List ℕ). l ++ rest) h.whole ∙ e;

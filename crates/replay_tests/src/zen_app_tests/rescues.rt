@@ -211,8 +211,8 @@ fn a_rescue_ends_at_a_fault(rt: HostRuntime) -> Result<(), Fail> {
     all_end_by(&rt, rt.alloc(), UP_A_AND_B, &FAULTS, 0)
 }
 
-fn joined(alloc: Global, front: &[u8], rest: &[u8]) -> Result<Vec<u8>, AllocError> {
-    let mut whole = Vec::from_slice(alloc, front)?;
+fn joined(alloc: Global, prefix: &[u8], rest: &[u8]) -> Result<Vec<u8>, AllocError> {
+    let mut whole = Vec::from_slice(alloc, prefix)?;
     whole.extend_from_slice(rest)?;
     Ok(whole)
 }

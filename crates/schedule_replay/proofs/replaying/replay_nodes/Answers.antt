@@ -3,7 +3,7 @@ use Rattle.schedule_text.specs.declared.schedule.Line.{Line}
 use Rattle.schedule_replay.specs.Tallied.{ClusterTallied}
 use Rattle.schedule_replay.proofs.Tallying.{one_more_cluster, taken_more, whole_cluster_tallied}
 use Rattle.schedule_replay.proofs.ClusterProgress.{goes_on, fails, stops, ends}
-use Rattle.schedule_replay.proofs.Progress.{front_at_err, none_left}
+use Rattle.schedule_replay.proofs.Progress.{prefix_at_err, none_left}
 use Rattle.schedule_replay.proofs.replaying.replay_nodes.Goals as goal
 
 pub returns-in_default-line-clause-written : goal.returns-in_default-line-clause-written
@@ -12,7 +12,7 @@ returns-in_default-line-clause-written g c =
 
 pub returns-in_err-pass_on-clause-written : goal.returns-in_err-pass_on-clause-written
 returns-in_err-pass_on-clause-written g c =
-    front_at_err c.from_residual.result _ _ _ c.from_residual.ensures.0
+    prefix_at_err c.from_residual.result _ _ _ c.from_residual.ensures.0
     (fails c.args.schedule.now.nodes c.args.schedule.now.initial c.args.schedule.now.voting_only _ _ _ _ _ (g.S.Sink.written c.loop-line.out) _ c.loop-line.held c.pass_on.new.held c.clear.new.self c.line.new.text c.as_slice-lines.result.now c.loop-line.line-index c.line-item.result _ c.loop-line-test.true c.line-item.is c.clear.ensures c.loop-line.invariant.1 c.in-Ok-line.ensures.done c.in_err-pass_on.ensures.holds)
 
 pub loop-line-preserved : goal.loop-line-preserved

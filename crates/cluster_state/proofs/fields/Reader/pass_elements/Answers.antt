@@ -17,4 +17,4 @@ returns-then-not-is_after_id c =
 pub loop-preserved : goal.loop-preserved
 loop-preserved c =
     passed_more comes_after id.at (λ x. x) c.args.count c.loop.counter c.loop.last c.loop.self c.id.new.self c.args.self.now c.in_ok-next.next c.loop.invariant c.loop-test.true c.in_ok-next.ensures (sym c.if-not-is_after_id.ensures)
-    (λ y front. comes_after-end y c.in_ok-next.next front)
+    (λ y prefix. comes_after-end y c.in_ok-next.next prefix)

@@ -18,4 +18,4 @@ returns-then-not-is_after_key c =
 pub loop-preserved : goal.loop-preserved
 loop-preserved c =
     passed_more comes_after_keys setting.at (λ s. s.0) c.args.count c.loop.counter (option_copied c.loop.last) c.loop.self c.setting.new.self c.args.self.now (c.in_ok-key.key.now, c.in_ok-key.field-0-1.now) c.loop.invariant c.loop-test.true c.in_ok-key.ensures (sym c.if-not-is_after_key.ensures)
-    (λ y front. comes_after_keys-end y (c.in_ok-key.key.now, c.in_ok-key.field-0-1.now) front)
+    (λ y prefix. comes_after_keys-end y (c.in_ok-key.key.now, c.in_ok-key.field-0-1.now) prefix)
