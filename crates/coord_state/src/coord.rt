@@ -24,10 +24,10 @@ use cluster_state::{
     LAST_NUMBER, PublishCause, PublishRequest, PublishResponse, ResponseCause, SharedState,
     StartCause, ValueCause,
 };
-use join_rules::{JoinVotes, join_check};
+use join_rules::join_check;
 use state_journal::{ArmKeeper, Keeper, Ready};
 use std::alloc::{AllocError, Global};
-use voting_config::{NodeId, NodeSet, VotingConfig};
+use voting_config::{JoinVotes, NodeId, NodeSet, VotingConfig};
 use zen_disk::Order;
 
 /// Why an act was not taken. What the call took is handed back, but where the disk failed.

@@ -10,12 +10,11 @@ ghost use Rattle.coordinator.specs.Views.{view_in};
 
 use crate::coordinator::Coordinator;
 use crate::plan::{Plan, plan_state};
-use join_rules::JoinVotes;
 use master_tasks::MasterTasks;
 use policy_model::Mode;
 use state_journal::Keeper;
 use std::alloc::{AllocError, Global};
-use voting_config::{NodeId, NodeSet};
+use voting_config::{JoinVotes, NodeId, NodeSet};
 
 /// What a node will be once its term has risen, as far as the next state is made of it.
 #[derive(Drop)]

@@ -1,8 +1,6 @@
-//! Which joins are counted, and the votes that they are.
+//! Which joins are counted.
 #![tactic(auto)]
 
 mod check;
-mod votes;
 
 pub use check::join_check;
-pub use votes::JoinVotes;

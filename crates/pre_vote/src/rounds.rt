@@ -5,9 +5,8 @@ ghost use Rattle.cluster_state.specs.Field.{last_number};
 ghost use Rattle.pre_vote.specs.Calls.{Calls, Start, Add, has_room, is_vote as vote_of};
 
 use cluster_state::StateId;
-use join_rules::JoinVotes;
 use std::marker::Model;
-use voting_config::{MAX_IDS, NodeId, Roster, Tally, VotingConfig};
+use voting_config::{JoinVotes, MAX_IDS, NodeId, Roster, Tally, VotingConfig};
 
 /// What an answer brings about.
 #[derive(Clone, Copy, Debug, PartialEq, Eq)]

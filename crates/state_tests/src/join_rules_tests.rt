@@ -1,7 +1,7 @@
 //! Joins that are counted, and those that are refused. The causes follow from docs/protocol.md.
 use cluster_state::{Join, JoinCause, StateId};
-use join_rules::{JoinVotes, join_check};
-use voting_config::{MAX_IDS, NodeId, NodeSet, Roster, VotingConfig};
+use join_rules::join_check;
+use voting_config::{JoinVotes, MAX_IDS, NodeId, NodeSet, Roster, VotingConfig};
 
 fn id(text: &str) -> NodeId {
     NodeId::parse(text).unwrap_or(NodeId::default())

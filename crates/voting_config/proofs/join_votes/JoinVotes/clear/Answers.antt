@@ -1,5 +1,5 @@
 use Rattle.voting_config.proofs.Words.{marked_zero}
-use Rattle.join_rules.proofs.votes.JoinVotes.clear.Goals as goal
+use Rattle.voting_config.proofs.join_votes.JoinVotes.clear.Goals as goal
 
 pub returns : goal.returns
 returns c = marked_zero c.self.inside.roster

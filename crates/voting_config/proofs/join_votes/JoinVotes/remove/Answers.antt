@@ -1,8 +1,8 @@
 use Rattle.std.proofs.Common.{ap, sym, ◌∙◌}
 use Rattle.voting_config.specs.Ids.{without_id}
 use Rattle.voting_config.specs.Rosters.{marked}
-use Rattle.join_rules.proofs.Counting.{taken_out, taken_out_view, off_view}
-use Rattle.join_rules.proofs.votes.JoinVotes.remove.Goals as goal
+use Rattle.voting_config.proofs.Counting.{taken_out, taken_out_view, off_view}
+use Rattle.voting_config.proofs.join_votes.JoinVotes.remove.Goals as goal
 
 pub invariant_of-self : goal.invariant_of-self
 invariant_of-self c =

@@ -3,9 +3,9 @@ use Rattle.voting_config.specs.Ids.{Id, ascends, is_quorum_of}
 use Rattle.voting_config.specs.Rosters.{are_distinct, ids_at, is_quorum_mask}
 use Rattle.voting_config.specs.declared.mask.Mask.{Mask}
 use Rattle.voting_config.proofs.Rosters.{ascends-set_of}
-use Rattle.join_rules.proofs.Counting.{is_quorum, too_few}
-use Rattle.join_rules.proofs.votes.JoinVotes.is_quorum_of_both.Goals as goal
-use Rattle.join_rules.proofs.votes.JoinVotes.is_quorum_of_both.Goals.{then-is_quorum, else-is_quorum}
+use Rattle.voting_config.proofs.Counting.{is_quorum, too_few}
+use Rattle.voting_config.proofs.join_votes.JoinVotes.is_quorum_of_both.Goals as goal
+use Rattle.voting_config.proofs.join_votes.JoinVotes.is_quorum_of_both.Goals.{then-is_quorum, else-is_quorum}
 
 pub returns-then-len-as_slice-clause-value : goal.returns-then-len-as_slice-clause-value
 returns-then-len-as_slice-clause-value c =

@@ -13,7 +13,7 @@ use Rattle.voting_config.proofs.Sorted.{without_id-absent}
 use Rattle.voting_config.proofs.Sets.{count_among-le}
 use Rattle.voting_config.proofs.Rosters.{at_roster, ascends-set_of, ascends-with_id, marked-mask, mask_of-lt, place_none, place_last}
 use Rattle.voting_config.proofs.Words.{among_from, and-within, count_marked, marked_append, marked_among, marked_clear, marked_or, marked_quorum, mask_admitted, or-within}
-use Rattle.join_rules.specs.Votes.{AreCounted}
+use Rattle.voting_config.specs.Votes.{AreCounted}
 
 module _ (roster : List Id) (votes : ℕ) (committed : List Id) (cw : ℕ) (current : List Id) (nw : ℕ) (are : AreCounted roster votes committed cw current nw) where
   pub cleared : AreCounted roster 0 committed cw current nw

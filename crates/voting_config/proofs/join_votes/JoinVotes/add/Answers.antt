@@ -1,8 +1,8 @@
 use Rattle.std.proofs.Common.{ap, sym, ◌∙◌}
 use Rattle.voting_config.specs.Ids.{with_id}
 use Rattle.voting_config.specs.Rosters.{marked}
-use Rattle.join_rules.proofs.Counting.{known, known_view, added, added_view}
-use Rattle.join_rules.proofs.votes.JoinVotes.add.Goals as goal
+use Rattle.voting_config.proofs.Counting.{known, known_view, added, added_view}
+use Rattle.voting_config.proofs.join_votes.JoinVotes.add.Goals as goal
 
 pub invariant_of-self : goal.invariant_of-self
 invariant_of-self c =

@@ -1,8 +1,8 @@
 use Rattle.std.proofs.Common.{◌≡◌, List, ap, sym, ◌∙◌}
 use Rattle.voting_config.specs.Ids.{Id, with_id}
 use Rattle.voting_config.specs.Rosters.{marked, mask_of}
-use Rattle.join_rules.proofs.Counting.{anew_view}
-use Rattle.join_rules.proofs.votes.JoinVotes.add_anew.Goals as goal
+use Rattle.voting_config.proofs.Counting.{anew_view}
+use Rattle.voting_config.proofs.join_votes.JoinVotes.add_anew.Goals as goal
 
 pub returns : goal.returns
 returns c =

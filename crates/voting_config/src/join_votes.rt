@@ -2,10 +2,12 @@
 ghost use Rattle.std.specs.Prelude.{◌≡◌, ◌<◌, ◌⊎◌, ◌&&◌, [], length, true, IsTrue, count_ones};
 ghost use Rattle.voting_config.specs.Ids.{has, has_room as has_room_of, with_id, without_id, most_ids, is_quorum_of, are_among};
 
+use crate::config::VotingConfig;
+use crate::mask::Mask;
+use crate::node_id::NodeId;
+use crate::node_set::{MAX_IDS, NodeSet};
+use crate::roster::{Roster, quorum_mask, with_bit, without_bit};
 use std::marker::Model;
-use voting_config::{
-    MAX_IDS, Mask, NodeId, NodeSet, Roster, VotingConfig, quorum_mask, with_bit, without_bit,
-};
 
 /// The sources of joins, of the responses to a publication, or of pre-votes: as in Elasticsearch, where `VoteCollection` counts all three.
 /// Contracts see the ascending list of them.
@@ -24,7 +26,7 @@ impl Model for JoinVotes {
     ghost use Rattle.std.specs.Prelude.{List};
     ghost use Rattle.voting_config.specs.Ids.{Id};
     ghost use Rattle.voting_config.specs.Rosters.{marked};
-    ghost use Rattle.join_rules.specs.Votes.{AreCounted};
+    ghost use Rattle.voting_config.specs.Votes.{AreCounted};
     ghost use Rattle.std.specs.Coded.{coded_list, coded_ℕ};
 
     ghost Value = { List Id };
@@ -116,7 +118,7 @@ impl JoinVotes {
         self.roster.has_mark(self.word, source)
     }
 
-    /// Whether the source can be counted: true exactly where it is a vote, or where fewer than [`MAX_IDS`](voting_config::MAX_IDS) are.
+    /// Whether the source can be counted: true exactly where it is a vote, or where fewer than [`MAX_IDS`] are.
     pub fn has_room(&self, source: NodeId) -> bool
         ensures { result ≡ has_room_of self.now source }
     {

@@ -2,8 +2,8 @@ use Rattle.std.proofs.Common.{length, ◌∙◌}
 use Rattle.voting_config.specs.Ids.{is_quorum_of}
 use Rattle.voting_config.specs.Rosters.{is_quorum_mask}
 use Rattle.voting_config.proofs.Rosters.{distinct_of}
-use Rattle.join_rules.proofs.Counting.{is_quorum}
-use Rattle.join_rules.proofs.votes.JoinVotes.is_quorum_of.Goals as goal
+use Rattle.voting_config.proofs.Counting.{is_quorum}
+use Rattle.voting_config.proofs.join_votes.JoinVotes.is_quorum_of.Goals as goal
 
 pub returns : goal.returns
 returns c =
