@@ -169,7 +169,7 @@ impl<K: Keeper> Coordinator<K> {
         match event {
             Event::Start => self.on_start(),
             Event::Tick { now, word } => self.on_tick(out, *now, *word),
-            Event::Frame(frame) => self.on_frame(out, frame),
+            Event::Frame(frame) => self.on_frame(out, frame.frame()),
             Event::Client { conn, line } => self.on_line(out, *conn, line),
         }
     }

@@ -12,7 +12,7 @@ use policy_model::{Event, Settings};
 use state_journal::Keeper;
 use std::alloc::Global;
 use voting_config::NodeId;
-use wire_frames::Frame;
+use wire_frames::{BoxedFrame, Frame};
 
 /// What is given to a node, of which its event can be made again.
 #[derive(Clone, Copy)]
@@ -24,13 +24,13 @@ pub enum Given<'a> {
 }
 
 // A host knows of each frame that it reads from bytes that it is within the limits.
-fn frame_event(frame: &Frame) -> Result<Event, Fault>
+fn frame_event(alloc: Global, frame: &Frame) -> Result<Event, Fault>
     ensures { IfOk result IsFitEvent }
 {
     if !is_fit(frame) {
         return Err(Fault::Unexpected("a frame beyond the limits"));
     }
-    let copy = frame.copy()?;
+    let copy = BoxedFrame::of(alloc, frame.copy()?)?;
     Ok(Event::Frame(copy))
 }
 
@@ -48,7 +48,7 @@ fn event(alloc: Global, given: Given) -> Result<Event, Fault>
     match given {
         Given::Start => Ok(Event::Start),
         Given::Tick { now, word } => Ok(Event::Tick { now, word }),
-        Given::Frame(frame) => frame_event(frame),
+        Given::Frame(frame) => frame_event(alloc, frame),
         Given::Line(text) => line_event(alloc, text),
     }
 }

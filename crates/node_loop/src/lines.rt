@@ -58,7 +58,7 @@ pub fn write_event_line(text: &mut Text, alloc: Global, event: &Event) -> Result
     match event {
         Event::Start => text.word("> start\n"),
         Event::Tick { now, word } => write_tick(text, *now, *word),
-        Event::Frame(frame) => write_frame(text, alloc, frame),
+        Event::Frame(frame) => write_frame(text, alloc, frame.frame()),
         Event::Client { conn: _, line } => write_client(text, line.as_bytes()),
     }
 }

@@ -229,7 +229,7 @@ fn do_frame<S: EventNode, L: Link<Out = S::Sealed>, O: Sink>(
         ((Makes (Comes (FrameCame (shown frame.entry))) ∷ [])) result }
     ensures ends { EndsRightly S.EventNode L.Link O.Sink inner.old inner.new link.old link.new out.old out.new result }
 {
-    match frame.frame(alloc) {
+    match frame.boxed(alloc) {
         Ok(frame) => do_event(inner, alloc, link, out, Event::Frame(frame)),
         Err(_) => report_no_memory(inner, out),
     }

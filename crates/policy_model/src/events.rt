@@ -2,7 +2,7 @@
 
 use client_lines::Line;
 use voting_config::NodeId;
-use wire_frames::Frame;
+use wire_frames::BoxedFrame;
 use world_model::{Act, Outcome};
 
 /// What a node is to the others.
@@ -21,7 +21,7 @@ pub enum Event {
     Start,
     /// The moment, in ms, and a random word.
     Tick { now: u64, word: u64 },
-    Frame(Frame),
+    Frame(BoxedFrame),
     /// A line of a client, by its connection.
     Client { conn: u64, line: Line },
 }

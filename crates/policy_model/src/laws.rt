@@ -44,7 +44,7 @@ pub fn law_event_holds_settings(event: &Event)
     ensures { EventHoldsSettings event.now }
 {
     if let Event::Frame(frame) = event {
-        if let WireMessage::Publish(state) = &frame.message {
+        if let WireMessage::Publish(state) = &frame.frame().message {
             // The contract of this call is the law.
             let _ = state.value.settings.texts();
         }
@@ -82,7 +82,7 @@ pub fn law_event_holds_set(event: &Event)
     ensures { EventHoldsSet event.now }
 {
     if let Event::Frame(frame) = event {
-        if let WireMessage::Publish(state) = &frame.message {
+        if let WireMessage::Publish(state) = &frame.frame().message {
             // The contract of this call is the law.
             let _ = state.value.members.len();
         }

@@ -1,8 +1,8 @@
 //! Which nodes are to be the voters, as nodes come and go.
 #![tactic(auto)]
 
-ghost use Rattle.std.specs.Prelude.{◌≡◌, ◌||◌, ◌+◌, ◌-◌, ◌<◌, ◌≤◌, [], ◌∷◌, length, take, if◌then◌else◌};
-ghost use Rattle.voting_config.specs.Ids.{has, most_ids, set_of, union};
+ghost use Rattle.std.specs.Prelude.{◌≡◌, ◌||◌, ◌+◌, ◌-◌, ◌<◌, ◌≤◌, [], ◌∷◌, length, take, IsTrue, if◌then◌else◌};
+ghost use Rattle.voting_config.specs.Ids.{has, most_ids, same_config, set_of, union};
 ghost use Rattle.reconfigurator.specs.Targets.{candidates_of, chosen_of, least_size as least_size_of, odd_of, size_of, target_of};
 
 use voting_config::{NodeId, NodeSet, VotingConfig};
@@ -26,12 +26,47 @@ pub fn target(
 ) -> VotingConfig
     ensures { result ≡ target_of live.now excluded.now master config.now shrink }
 {
+    if all_stay(live, excluded, master, config.members(), shrink) {
+        return VotingConfig::of(config.members());
+    }
     let chosen = VotingConfig::of(&chosen(live, excluded, master, config.members(), shrink));
     if chosen.is_quorum(live) {
         chosen
     } else {
         VotingConfig::of(config.members())
     }
+}
+
+fn are_same(ids: &NodeSet, others: &NodeSet) -> bool
+    ensures { result ≡ same_config ids.now others.now }
+{
+    ids.as_slice() == others.as_slice()
+}
+
+// Whether it is plain that just the voters of today are chosen, as most often: they are those that are live, the master is one of them, none is
+// excluded, and as many are taken. Where it is false, `chosen` tells.
+fn all_stay(
+    live: &NodeSet,
+    excluded: &NodeSet,
+    master: NodeId,
+    config: &NodeSet,
+    shrink: bool,
+) -> bool
+    ensures { IsTrue result → chosen_of live.now excluded.now master config.now shrink ≡ config.now }
+{
+    if !are_same(live, config) {
+        return false;
+    }
+    if !config.contains(master) {
+        return false;
+    }
+    if config.meets(excluded) {
+        return false;
+    }
+    // For the proof alone: the ids ascend.
+    let _ = config.as_slice();
+    let count = config.len();
+    count <= size(count, count, count, shrink)
 }
 
 // The best candidates.

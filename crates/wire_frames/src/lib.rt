@@ -1,6 +1,7 @@
 //! Frames: the messages between nodes, as types and as bytes.
 #![tactic(auto)]
 
+mod boxed;
 mod buffer;
 mod fault;
 mod frame;
@@ -11,6 +12,7 @@ mod reading;
 mod view;
 mod writing;
 
+pub use boxed::BoxedFrame;
 pub use fault::FrameError;
 pub use frame::{Frame, Kind, MAX_BODY, WireMessage};
 pub use laws::{law_cut, law_first_frame, law_one_frame, law_stream};

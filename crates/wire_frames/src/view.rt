@@ -11,6 +11,7 @@ ghost use Rattle.wire_frames.specs.Frames.{frame_at, as_frame, frame_of, SpellsB
 ghost use Rattle.wire_frames.specs.Parts.{ArePartsOf, Checks, GivesParts, said, IsOther};
 ghost use Rattle.wire_frames.specs.Views.{shown, shown_read};
 
+use crate::boxed::BoxedFrame;
 use crate::fault::FrameError;
 use crate::frame::{Frame, Kind, WireMessage};
 use crate::lent::FrameView;
@@ -113,6 +114,14 @@ impl<'a> FrameView<'a> {
             to: parts.to,
             message,
         })
+    }
+
+    /// The frame by itself, as [`FrameView::frame`] makes it, in a place of its own.
+    pub fn boxed(&self, alloc: Global) -> Result<BoxedFrame, AllocError>
+        ensures found { IfOk result (λ f. f ≡ shown self.now) }
+        ensures fit { IfOk result IsFitFrame }
+    {
+        BoxedFrame::of(alloc, self.frame(alloc)?)
     }
 
     fn parts(&self) -> Parts<'a>
