@@ -28,7 +28,8 @@ pub struct MemFile {
 /// Each logs its writes and syncs, each write with the bytes that it replaced, and the order of all of them is kept too. So it
 /// tells what a crash at an earlier moment might have left. A call fails where its number is in the list that the disk
 /// was made with, a write also where it would end past byte 2^62, and a write or a sync also where a log or a file finds
-/// no memory. A sync also fails where 2^64 - 1 syncs of its side have come since the last write there.
+/// no memory. A log has none for a write with an offset, a length, a number of bytes replaced before it or of syncs since the write
+/// before it that is 2^32 or more. A sync also fails where 2^64 - 1 syncs of its side have come since the last write there.
 #[derive(Drop)]
 pub struct MemDisks {
     alloc: Global,
