@@ -25,9 +25,6 @@ pub record HasPassed {A : Type 0} (after : A → List A → Bool) (one : List �
   pub so_far : elements_at after one (count - i) prefix bytes ≡ elements_at after one count [] start
 
 module _ {A : Type 0} (after : A → List A → Bool) (one : List ℕ → Result (A × List ℕ) FieldError) (key : A → Id) where
-  pub passed_none : (count : ℕ) (bytes : List ℕ) → ((x : A) → after x [] ≡ true) → HasPassed after one key count 0 None bytes bytes
-  passed_none count bytes first = record { prefix = []; is_last = first; so_far = ap (λ n. elements_at after one n [] bytes) (omega arith) }
-
   pub passed_more : (count i : ℕ) (last : Option Id) (bytes rest start : List ℕ) (x : A) → HasPassed after one key count i last bytes start
       → i < count → one bytes ≡ Ok (x, rest) → is_after_last last (key x) ≡ true → ((y : A) (prefix : List A) → after y (prefix ++ x ∷ []) ≡ before (key x) (key y))
       → HasPassed after one key count (i + 1) (Some (key x)) rest start
@@ -44,9 +41,3 @@ module _ {A : Type 0} (after : A → List A → Bool) (one : List ℕ → Result
   pub passed_stops : (count i : ℕ) (last : Option Id) (bytes rest start : List ℕ) (x : A) → HasPassed after one key count i last bytes start
       → i < count → one bytes ≡ Ok (x, rest) → is_after_last last (key x) ≡ false → elements_at after one count [] start ≡ Err NotOrdered
   passed_stops count i last bytes rest start x h lt is_read below = stops after one count i h.prefix bytes rest x _ lt is_read (h.is_last x ∙ below) h.so_far
-
-  pub passed_all : (count i : ℕ) (last : Option Id) (bytes start : List ℕ) → HasPassed after one key count i last bytes start → count ≤ i
-      → (xs : List A) × (elements_at after one count [] start ≡ Ok (xs, bytes))
-  passed_all count i last bytes start h past =
-      let none : count - i ≡ 0 = omega arith in
-      (h.prefix, sym h.so_far ∙ rw none refl)

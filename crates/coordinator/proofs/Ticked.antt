@@ -96,10 +96,6 @@ tasks_kept v none all =
     ∙ ap (λ (x : List Id). all_removed (without_answered late v.tasks) x) nobody.1
     ∙ same
 
-pub planned_as_kept : (s : Settings) (v : View) (t : Tasks) (plan : Option Plan) → tasks_ticked v ≡ t → HasPlan (leader_of s.me v.node.term v.node.accepted v.node.committed v.node.join_votes s.shrink) t plan → IsPlannedTick s v plan
-planned_as_kept s v t plan is has =
-    subst (λ (x : Tasks). HasPlan (leader_of s.me v.node.term v.node.accepted v.node.committed v.node.join_votes s.shrink) x plan) (sym is) has
-
 pub planned_tick : (s : Settings) (v : View) (plan : Option Plan) (t3 t2 t1 copy : Tasks) (checks lag committed : List Id) (fs : Followers) → t3 ≡ all_removed t2 lag → t2 ≡ all_removed t1 checks → t1 ≡ without_answered (timed_out committed v.moment) copy → copy ≡ v.tasks
     → committed ≡ v.node.committed → checks ≡ to_drop_for_checks fs.watched v.moment → lag ≡ to_drop_for_lag fs.watched v.moment → fs ≡ v.followers
     → HasPlan (leader_of s.me v.node.term v.node.accepted v.node.committed v.node.join_votes s.shrink) t3 plan → IsPlannedTick s v plan

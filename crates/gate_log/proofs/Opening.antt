@@ -30,26 +30,6 @@ module _ {D : Type 0} (moves : D → DeviceCall → D → Bool → Type 0) (side
       (sym (cond-true (nat_le (length file) 9) fresh [] (le-leb (length file) 9 short)))
       (ran_on moves (Sync side ∷ Len side ∷ []) fresh old mid new ok first more)
 
-  -- a longer one doesn't
-  pub same_ran : (old new : D) → 9 < length file → CallsMade moves (Sync side ∷ Len side ∷ []) old new true
-      → CallsMade moves (preparing_calls side file) old new true
-  same_ran old new long first =
-      subst (λ (calls : List DeviceCall). CallsMade moves (Sync side ∷ Len side ∷ calls) old new true)
-      (sym (cond-false (nat_le (length file) 9) fresh [] (lt-leb (length file) 9 long))) first
-
-  pub synced_failed : (old new : D) → CallsMade moves (Sync side ∷ Len side ∷ []) old new false → CallsMade moves (preparing_calls side file) old new false
-  synced_failed old new failed = ran_failed moves (Sync side ∷ Len side ∷ []) _ old new failed
-
-  pub prepared_failed : (old new : D) → CallsMade moves (preparing_calls side file) old new false → CallsMade moves (opening_calls side file) old new false
-  prepared_failed old new failed = ran_failed moves (preparing_calls side file) (reading_calls side file) old new failed
-
-  pub brief_ran : (old new : D) → length file ≤ 9 → CallsMade moves (preparing_calls side file) old new true
-      → CallsMade moves (opening_calls side file) old new true
-  brief_ran old new short ran =
-      ran_on moves (preparing_calls side file) (reading_calls side file) old new new true ran
-      (subst (λ (calls : List DeviceCall). CallsMade moves calls new new true)
-      (sym (cond-true (nat_le (length file) 9) [] (Read side 0 (length file) ∷ []) (le-leb (length file) 9 short))) (refl, refl))
-
   one_ran : (mid new : D) (call : DeviceCall) (ok : Bool) → moves mid call new ok → CallsMade moves (call ∷ []) mid new ok
   one_ran mid new call true step = inl (new, step, (refl, refl))
   one_ran mid new call false step = inr (step, refl)

@@ -25,26 +25,7 @@ use Rattle.journal_inspection.specs.declared.showing.Shown.TheVariants as shown
 use Rattle.journal_inspection.specs.declared.inspecting.Inspection.{Inspection}
 use Rattle.journal_inspection.specs.declared.inspecting.Inspection.TheVariants as end
 
-leaves_record : (seen : Files) (may_leave : Files → Type 0) (kept : Kept) → Only seen may_leave → found_of seen ≡ Ok kept → LeavesRecord may_leave kept
-leaves_record seen may_leave kept only is image left = ap record_of_files (only image left) ∙ ap result_ok is
-
 module _ {D : Type 0} (d : Disks D) (given back : D) where
-  -- a journal was opened
-  pub shows_report : (seen : Files) (kept : Kept) (records : ℕ) (s : Shown) → Reports kept records s → (d.told → found_of (d.seen given) ≡ Ok kept) → (d.told → records ≡ records_of (d.seen given))
-      → (d.told → Only seen (d.may_leave back)) → (d.told → found_of seen ≡ Ok kept) → Shows d given back s
-  shows_report seen kept records (shown.Report text) is found counted only keeps =
-      record { kept = kept; records = records; lines = is; found = found; counted = counted; stays = λ t. leaves_record seen (d.may_leave back) kept (only t) (keeps t) }
-  shows_report seen kept records (shown.NotAJournal text) is found counted only keeps = absurd is
-  shows_report seen kept records shown.Disk is found counted only keeps = absurd is
-  shows_report seen kept records shown.Memory is found counted only keeps = tt
-
-  -- the files are no journal
-  pub shows_refusal : (why : Why) (s : Shown) → Refuses why s → (d.told → found_of (d.seen given) ≡ Err why) → Shows d given back s
-  shows_refusal why (shown.Report text) is found = absurd is
-  shows_refusal why (shown.NotAJournal text) is found = record { why = why; line = is; found = found }
-  shows_refusal why shown.Disk is found = absurd is
-  shows_refusal why shown.Memory is found = tt
-
   -- all calls were made
   pub opens_all : (kept : Kept) (records : ℕ) (s : Shown) → Reports kept records s → CallsMade d.moves (both_opening_calls (d.seen given)) given back true → OnlyOpens d given back s
   opens_all kept records (shown.Report text) is ran = ran

@@ -119,11 +119,6 @@ trace_read initial bytes entries set some shows few =
 
 -- ---- lines behind lines
 
-pub both_show : (xs ys : List ℕ) (es fs : List Entry) → Shows xs es → Shows ys fs → Shows (xs ++ ys) (es ++ fs)
-both_show _ ys _ fs Nothing s = s
-both_show _ ys _ fs (Skip line more es alone is rest) s = subst (λ (t : List ℕ). Shows t (es ++ fs)) (sym (append_assoc line (10 ∷ more) ys)) (Skip line (more ++ ys) (es ++ fs) alone is (both_show more ys es fs rest s))
-both_show _ ys _ fs (Show line more e es alone is rest) s = subst (λ (t : List ℕ). Shows t (e ∷ es ++ fs)) (sym (append_assoc line (10 ∷ more) ys)) (Show line (more ++ ys) e (es ++ fs) alone is (both_show more ys es fs rest s))
-
 -- one line
 abbrev pub entries_in : Option Entry → List Entry
 entries_in None = []

@@ -125,24 +125,7 @@ stays s g act shut h = record {
   struck = record { before = h.struck.before ∙ sym (kept_still false g act shut); after = h.struck.after ∙ sym (kept_still true g act shut) };
 }
 
-pub ends_halted : (me : Id) (s : Struck) (g : NodeHistory) (act : Act) (reply : ActReply) (e : Ending) → is_opening act ≡ false → StandsHalted s g → reply ≡ reply_of me g act → MayEnd reply act e → StandsHalted s (Then g act (outcome_shown reply e))
-ends_halted me s g act reply e shut h is m = from reply e (is ∙ halted_reply me g act shut h.halted) m
-  where
-    from : (r : ActReply) (x : Ending) → r ≡ Stopped → MayEnd r act x → StandsHalted s (Then g act (outcome_shown r x))
-    from (Taken sends wins) x is m = absurd cc
-    from (Refused c) x is m = absurd cc
-    from Stopped ending.Taken is m = absurd cc
-    from Stopped (ending.Refused c) is m = absurd cc
-    from Stopped ending.Stopped is m = stays s g act shut h
-    from Stopped ending.Disk is m = let t = m.0 in absurd cc
-    from Stopped ending.Crashed is m = let t = m.0 in absurd cc
-
 -- ---- an opening
-
-pub found_after : (s : Struck) (g : NodeHistory) (shown : Kept) → StandsStruck s g → shows_as shown s.after ≡ true → s.after ≡ durable_of (settled (is_kept g shown) g)
-found_after s g shown h e =
-    let kept : is_kept g shown ≡ true = ap (λ (k : Kept). shows_as shown k) (sym h.after) ∙ e in
-    h.after ∙ ap (λ (k : Bool). durable_of (settled k g)) (sym kept)
 
 pub found_before : (s : Struck) (g : NodeHistory) (shown : Kept) → StandsStruck s g → shows_as shown s.after ≡ false → s.before ≡ durable_of (settled (is_kept g shown) g)
 found_before s g shown h e =

@@ -4,17 +4,6 @@ use Rattle.wire_frames.specs.declared.fault.FrameError.{FrameError}
 use Rattle.wire_frames.specs.declared.frame.Frame.{Frame}
 use Rattle.wire_frames.specs.Streams.{Ending, Rest, Fault, Stream, next_in, next_of}
 
-no_frame : (frames : List Frame) (ending : Ending) (next : Option (Result Frame FrameError)) → ((frame : Frame) → next ≡ Some (Ok frame) → ⊥) → next ≡ next_in frames ending → frames ≡ []
-no_frame [] ending next none e = refl
-no_frame (frame ∷ frames) ending next none e = absurd (none frame e)
-
--- nothing is given, or a fault, where no frame is left
-pub ends_none : (left : Stream) → None ≡ next_of left → left.frames ≡ []
-ends_none left e = no_frame left.frames left.ending None (λ frame k. absurd cc) e
-
-pub ends_fault : (left : Stream) (fault : FrameError) → Some (Err fault) ≡ next_of left → left.frames ≡ []
-ends_fault left fault e = no_frame left.frames left.ending (Some (Err fault)) (λ frame k. absurd cc) e
-
 -- then those that were given are all
 pub all_given : (given left all : List Frame) → given ++ left ≡ all → left ≡ [] → given ≡ all
 all_given given left all whole none = sym (append-nil given) ∙ ap (λ l. given ++ l) (sym none) ∙ whole

@@ -87,7 +87,3 @@ stay live excluded config master shrink same up in_it apart fits =
 either : (b : Bool) (ids : List Id) → (if b then ids else ids) ≡ ids
 either true ids = refl
 either false ids = refl
-
-pub target_stays : (live excluded config : List Id) (master : Id) (shrink : Bool) → chosen_of live excluded master config shrink ≡ config → config ≡ target_of live excluded master config shrink
-target_stays live excluded config master shrink is =
-    sym (ap (λ (ids : List Id). if is_quorum_of (chosen_of live excluded master config shrink) live then ids else config) is ∙ either (is_quorum_of (chosen_of live excluded master config shrink) live) config)

@@ -73,23 +73,6 @@ module _ (nodes initial voting_only : List Id) (n : Id) (all : List ClusterNode)
   unsent_up was now none up written = quiet None was now none (λ c s.
       (refl, written ∙ sym (ap (λ (b : Bool). was ++ (if b then down_line n else codes "unsent\n")) (runs _ (up c s)))))
 
-  pub unsent_down : (was now : List ℕ) → slice_get frames (number - 1) ≡ None → ((c : Cluster) → AllFor nodes initial voting_only nodes all c → false ≡ not (needs_opening (own_world (settings_of nodes initial voting_only n) c))) → now ≡ was ++ down_line n
-      → DoesLine nodes initial voting_only all all frames frames was now (λ c. after_frame (settings_of nodes initial voting_only n) c (frame_at c number)) (λ c. frame_shown (settings_of nodes initial voting_only n) c (frame_at c number))
-  unsent_down was now none down written = quiet None was now none (λ c s.
-      (refl, written ∙ sym (ap (λ (b : Bool). was ++ (if b then down_line n else codes "unsent\n")) (waits _ (down c s)))))
-
-  same_then : (b d : Bool) (c later : Cluster) → d ≡ true → (if b then (if d then c else later) else c) ≡ c
-  same_then true d c later e = ap (λ (x : Bool). if x then c else later) e
-  same_then false d c later e = refl
-
-  pub sent_down : (frame : Frame) (was now : List ℕ) → slice_get frames (number - 1) ≡ Some frame → ((c : Cluster) → AllFor nodes initial voting_only nodes all c → false ≡ not (needs_opening (own_world (settings_of nodes initial voting_only n) c))) → now ≡ was ++ down_line n
-      → DoesLine nodes initial voting_only all all frames frames was now (λ c. after_frame (settings_of nodes initial voting_only n) c (frame_at c number)) (λ c. frame_shown (settings_of nodes initial voting_only n) c (frame_at c number))
-  sent_down frame was now at down written = quiet (Some frame) was now at (λ c s.
-      let needs : needs_opening (own_world (settings_of nodes initial voting_only n) c) ≡ true = waits _ (down c s) in (
-        same_then (same frame.to n) (needs_opening (own_world (settings_of nodes initial voting_only n) c)) c _ needs,
-        written ∙ sym (ap (λ (b : Bool). was ++ (if b then down_line n else (if same frame.to n then event_shown (settings_of nodes initial voting_only n) c (FrameCame frame) else codes "misrouted\n"))) needs),
-      ))
-
   pub misrouted : (frame : Frame) (was now : List ℕ) → slice_get frames (number - 1) ≡ Some frame → ((c : Cluster) → AllFor nodes initial voting_only nodes all c → true ≡ not (needs_opening (own_world (settings_of nodes initial voting_only n) c))) → same frame.to n ≡ false → now ≡ was ++ codes "misrouted\n"
       → DoesLine nodes initial voting_only all all frames frames was now (λ c. after_frame (settings_of nodes initial voting_only n) c (frame_at c number)) (λ c. frame_shown (settings_of nodes initial voting_only n) c (frame_at c number))
   misrouted frame was now at up other written = quiet (Some frame) was now at (λ c s. (

@@ -216,41 +216,6 @@ module _ (s : Settings) (old : ClusterNode) (fuse : MemFuse) (own : Own) (closed
 
 -- ---- which nodes are opened again
 
-pub down_closed : (s : Settings) (own : Own) (old : ClusterNode) (fuse : MemFuse) → old.slot ≡ Down fuse → NodeFor s old own false → ClosedFor s old fuse own
-down_closed s own old fuse slot stands =
-    let d : DownStands fuse own.node = subst (λ (x : Slot). SlotFor s x own) slot stands.slot in
-    record { me_is = stands.me_is; closed = record { disk = d.disk; left = d.left }; needs = ap (λ (b : Bool). b || halted_of own.node.acts) d.down; published = stands.published; life = stands.life }
-
-pub open_closed : (s : Settings) (own : Own) (old : ClusterNode) (node : Node) → old.slot ≡ Open node → node.core.keeper.log.stopped ≡ true → NodeFor s old own false → ClosedFor s old node.core.keeper.log.disk own
-open_closed s own old node slot stopped stands =
-    let o : OpenFor s node own.life own.node = subst (λ (x : Slot). SlotFor s x own) slot stands.slot in
-    record {
-      me_is = stands.me_is;
-      closed = record { disk = o.core.disk; left = o.core.stopped stopped };
-      needs = open_asks s.me node.core own.node o.core ∙ stopped;
-      published = stands.published;
-      life = stands.life;
-    }
-
--- a node that runs is not
-pub still_up : (s : Settings) (own : Own) (old : ClusterNode) (node : Node) (frames : List Frame) (was now : List ℕ) → old.slot ≡ Open node → node.core.keeper.log.stopped ≡ false → now ≡ was ++ up_line old.me → NodeFor s old own false
-    → OwnDone s old (own_restart s own) frames frames (own_restart_frames s own) was now (own_restart_results s (length frames) own)
-still_up s own old node frames was now slot runs written stands = by (needs_opening own.node) (open_asks s.me node.core own.node o.core ∙ runs)
-  where
-    o : OpenFor s node own.life own.node
-    o = subst (λ (x : Slot). SlotFor s x own) slot stands.slot
-
-    by : (b : Bool) → b ≡ false
-        → OwnDone s old (if b then own_opened_by s (opening own.node.disk).ended own else own) frames frames (if b then own_started_frames s (opening own.node.disk).ended own else []) was now
-        ((if b then opening_text (opening own.node.disk).ended s.me (found_at own.node) else up_line s.me) ++ (if b then own_started_results s (opening own.node.disk).ended (length frames) own else []))
-    by true e = absurd (cc)
-    by false e = record {
-      stands = stands;
-      sent_is = sym (append-nil frames);
-      written = written ∙ ap (λ (n : Id). was ++ up_line n) stands.me_is ∙ ap (λ (t : List ℕ). was ++ t) (sym (append-nil (up_line s.me)));
-      fit = tt;
-    }
-
 -- ---- a node that is opened for the first time
 
 pub first_open : (s : Settings) (fuse : MemFuse) → IsEmptyDisk fuse → (j : Journal) → JustOpened fuse j → (node : Node) → OverJournal s j node → OpenFor s node NotBegun fresh_node

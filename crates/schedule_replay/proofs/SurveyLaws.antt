@@ -30,21 +30,9 @@ use Rattle.schedule_replay.proofs.Sending.{lines_send}
 use Rattle.schedule_replay.specs.declared.surveyed.SurveyedNode.{SurveyedNode}
 use Rattle.schedule_replay.specs.Survey.{up_if, surveyed, surveyed_at, world_after}
 
--- what is known by a record
-abbrev pub up_at_record : Id → Kept → UpNode
-up_at_record me k = record { id = me; term = k.term; accepted = id_of k.accepted; config = k.accepted.config; committed = k.committed }
-
--- what an open node keeps is what is known of it
-pub up_is : (me : Id) (k : Kept) (c : CoordState Journal) (g : NodeHistory) → k ≡ journal_ghosts.record_of c.keeper → StandsFor journal_ghosts c g
-    → up_at_record me k ≡ up_at me g
-up_is me k c g e s = ap (up_at_record me) e ∙ (λ i. record { id = me; term = (s i).term; accepted = id_of (s i).accepted; config = (s i).accepted.config; committed = (s i).committed })
-
 -- an open node needs an opening where it is halted
 pub open_needs : (me : Id) (c : CoordState Journal) (w : NodeWorld) → OpenStands me c w → needs_opening w ≡ journal_ghosts.has_stopped c.keeper
 open_needs me c w o = ap (λ (b : Bool). b || halted_of w.acts) o.up ∙ (λ i. (sym o.acts i).halted)
-
-pub up_runs : (me : Id) (w : NodeWorld) (b : Bool) → needs_opening w ≡ b → up_if me w ≡ (if b then None else Some (up_at me w.acts))
-up_runs me w b e = ap (λ (c : Bool). if c then None else Some (up_at me w.acts)) e
 
 -- ---- all nodes
 

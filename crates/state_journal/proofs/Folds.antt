@@ -25,10 +25,6 @@ unfolding with_change
 error_with p late kept Memory read is = tt
 error_with p late kept (BodyFaultOf f) read is = ap (λ (r : Result Change BodyFault). with_change p late kept r) is
 
--- a fault of its digest is that of the body
-pub error_of_digest : (p : ℕ) (after : Bool) (kept : Kept) (body : List ℕ) (fault : Fault) → guard_fault p body ≡ Some fault → with_body p after kept body ≡ Err fault
-error_of_digest p after kept body fault is = ap (λ (f : Option Fault). unless f (with_change p (after && not (is_guarded body)) kept (change_at body))) is
-
 pub without_fault : (p : ℕ) (after : Bool) (kept : Kept) (body : List ℕ) → guard_fault p body ≡ None → with_body p after kept body ≡ with_change p (after && not (is_guarded body)) kept (change_at body)
 without_fault p after kept body is = ap (λ (f : Option Fault). unless f (with_change p (after && not (is_guarded body)) kept (change_at body))) is
 

@@ -27,9 +27,6 @@ no true k e a = cc
 no false k e a = let t = k.1 a in cc
 
 module _ (initial : List Id) (old : Auditor) (h : History) (n : Id) (e : Ending) (act : Act) (a : Audits initial old h) (shut : is_opening act ≡ false) where
-  pub down_breaks : is_down (node_history h n) ≡ true → BreaksFirst clause.Opening initial (with_entry h (Acted n e act))
-  down_breaks down = breaks_opening initial h n act (outcome_shown (reply_of n (node_history h n) act) e) shut down
-
   module _ (up : is_down (node_history h n) ≡ false) where
     pub names_breaks : (r : Bool) → IsTrue r ↔ NamesInitial old.initial act → r ≡ false → BreaksFirst clause.Bootstrap initial (with_entry h (Acted n e act))
     names_breaks r k f = breaks_bootstrap initial h n act (outcome_shown (reply_of n (node_history h n) act) e) (opened_right h n act shut up) (λ x. no r k f (subst (λ (l : List Id). NamesInitial l act) (sym a.names) x))

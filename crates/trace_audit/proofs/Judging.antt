@@ -113,18 +113,7 @@ ends : (p : Progress) (line : List ℕ) (prefix : List Numbered) → end_at {A =
 ends p [] prefix e = refl
 ends p (b ∷ bs) prefix e = absurd cc
 
-ends_bad : (p : Progress) (line : List ℕ) (prefix : List Numbered) (bad : BadTrace) → end_at {A = Unit {0}} p line tt ≡ Err bad → end_at p line prefix ≡ Err bad
-ends_bad p [] prefix bad e = absurd cc
-ends_bad p (b ∷ bs) prefix bad e = ap (λ (r : Result (Unit {0}) BadTrace). r >>> λ u. whole prefix) e
-
-pub judged_bad : (initial : List Id) (read : Result (List Numbered) BadTrace) (bad : BadTrace) → read ≡ Err bad → Judges (Err (Bad bad)) (recorded_with initial read)
-judged_bad initial read bad e = ap (recorded_with initial) e
-
 pub judged_end : (initial : List Id) (p : Progress) (line : List ℕ) (prefix : List Numbered) (read : Result (List Numbered) BadTrace) (v : Verdict)
     → lines_at p prefix (line ∷ []) ≡ read → end_at {A = Unit {0}} p line tt ≡ Ok tt → IsRight (record { initial = initial; entries = prefix }) v → Judges (Ok v) (recorded_with initial read)
 judged_end initial p line prefix read v same e right =
     (record { initial = initial; entries = prefix }, ap (recorded_with initial) (sym same ∙ ends p line prefix e), right)
-
-pub judged_cut : (initial : List Id) (p : Progress) (line : List ℕ) (prefix : List Numbered) (read : Result (List Numbered) BadTrace) (bad : BadTrace)
-    → lines_at p prefix (line ∷ []) ≡ read → end_at {A = Unit {0}} p line tt ≡ Err bad → Judges (Err (Bad bad)) (recorded_with initial read)
-judged_cut initial p line prefix read bad same e = judged_bad initial read bad (sym same ∙ ends_bad p line prefix bad e)

@@ -26,11 +26,3 @@ put_in me old new x acts u o s n = from (same me n) refl
 
 pub taken_out : (me : Id) (old new : BTreeMap Id Node) (acts : Id → NodeHistory) → Becomes me old None new → AllStand old acts → OthersStand me new acts
 taken_out me old new acts u a n e = subst (λ (w : Option Node). StandsIfAny w (acts n)) (sym (at_node me old new None n false u e)) (a n)
-
-pub was_in : (me : Id) (old : BTreeMap Id Node) (acts : Id → NodeHistory) (x : Node) → Some x ≡ node_in old me → AllStand old acts → Stands x (acts me)
-was_in me old acts x e a = subst (λ (w : Option Node). StandsIfAny w (acts me)) (sym e) (a me)
-
-pub was_out : (me : Id) (old : BTreeMap Id Node) (acts : Id → NodeHistory) (x : Node) → None ≡ node_in old me → Stands x NoActs → AllStand old acts → Stands x (acts me)
-was_out me old acts x e s a =
-    let none : acts me ≡ NoActs = subst (λ (w : Option Node). StandsIfAny w (acts me)) (sym e) (a me) in
-    subst (λ (g : NodeHistory). Stands x g) (sym none) s

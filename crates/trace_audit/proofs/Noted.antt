@@ -69,18 +69,6 @@ quietly a h n act o q k =
 pub quiet_plain : (a : Notes) (h : History) (n : Id) (act : Act) → NotesOf a h → NotesOf a (Next h n act (Answered (Taken None false)))
 quiet_plain a h n act k = quietly a h n act (Answered (Taken None false)) (record { sends = refl; wins = refl; publishes = λ h n. refl }) k
 
-pub quiet_refused : (a : Notes) (h : History) (n : Id) (act : Act) (c : Cause) → NotesOf a h → NotesOf a (Next h n act (Answered (Refused c)))
-quiet_refused a h n act c k = quietly a h n act (Answered (Refused c)) (record { sends = refl; wins = refl; publishes = λ h n. refl }) k
-
-pub quiet_stopped : (a : Notes) (h : History) (n : Id) (act : Act) → NotesOf a h → NotesOf a (Next h n act (Answered Stopped))
-quiet_stopped a h n act k = quietly a h n act (Answered Stopped) (record { sends = refl; wins = refl; publishes = λ h n. refl }) k
-
-pub quiet_disk : (a : Notes) (h : History) (n : Id) (act : Act) → NotesOf a h → NotesOf a (Next h n act (Disk false))
-quiet_disk a h n act k = quietly a h n act (Disk false) (record { sends = refl; wins = refl; publishes = λ h n. refl }) k
-
-pub quiet_crashed : (a : Notes) (h : History) (n : Id) (act : Act) → NotesOf a h → NotesOf a (Next h n act (Crashed false))
-quiet_crashed a h n act k = quietly a h n act (Crashed false) (record { sends = refl; wins = refl; publishes = λ h n. refl }) k
-
 -- where an act that was struck is settled, the notes stay
 pub settled_notes : (initial : List Id) (a : Notes) (h : History) (n : Id) (k : Bool) → IsLegal initial h → NotesOf a h → NotesOf a (settled_for n k h)
 settled_notes initial a h n k l x =

@@ -86,14 +86,6 @@ pub anew_view : (x : Id) (roster : List Id) (votes : ℕ) (ids : List Id) → id
 anew_view x roster votes ids is =
     marked-mask ids ids (rw is (ascends-with_id x (marked roster votes) (ascends-set_of (ids_at roster votes)))) (among_from ids ids (λ y h. h))
 
-pub room_by : (x : Id) (ids : List Id) → (has x ids ≡ true) ⊎ (length ids < most_ids) → has_room ids x ≡ true
-room_by x ids (inl h) = rw h refl
-room_by x ids (inr h) = rw (lt-ltb (length ids) most_ids h) (or_true (has x ids))
-  where
-    or_true : (b : Bool) → (b || true) ≡ true
-    or_true true = refl
-    or_true false = refl
-
 -- half of a configuration is no quorum of it
 pub too_few : (config votes : List Id) → ascends config ≡ true → ascends votes ≡ true → length votes ≤ length config / 2 → (other : Bool) → false ≡ (is_quorum_of config votes && other)
 too_few config votes h k half other =

@@ -46,10 +46,6 @@ zeros (x ∷ roster) = zeros roster
 pub marked_zero : (roster : List Id) → marked roster 0 ≡ []
 marked_zero roster = ap set_of (zeros roster)
 
-pub mask_of-none : (roster : List Id) → mask_of roster [] ≡ 0
-mask_of-none [] = refl
-mask_of-none (x ∷ roster) = omega (arith, mask_of-none roster)
-
 -- an id more on the roster
 
 pub marked_append : (roster : List Id) (x : Id) (w : ℕ) → w < 2 ^ length roster → marked (roster ++ x ∷ []) w ≡ marked roster w

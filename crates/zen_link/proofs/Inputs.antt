@@ -5,10 +5,6 @@ use Rattle.std.proofs.lemmas.List.{take_all, length-drop, drop-drop, nil_from_le
 use Rattle.zen_link.specs.Streams.{Left}
 use Rattle.zen_link.specs.Reading.{IsInput, PieceRead, ReadsPiece, IsReadOn, IsReadSoFar}
 
-pub none_read : (left : Option (List ℕ)) → IsReadSoFar left left []
-none_read None = refl
-none_read (Some left) = (refl, refl, omega arith)
-
 -- from what a read says
 pub piece : (was now : Option (List ℕ)) (before after into prefix : List ℕ) (count : ℕ) → Left was now into count → 0 < length into → count ≤ length into → prefix ≡ take count into → after ≡ before ++ prefix → ReadsPiece was now before after count
 piece None now before after into prefix count l some few f e = l
