@@ -43,6 +43,19 @@ rounds() {
     }'
 }
 
+# Elections over so many VOTERS, of all of whom the first is elected in each term; about LINES lines in all.
+elections() {
+    awk -v lines="$1" -v voters="$2" 'BEGIN {
+        for (i = 1; i <= voters; i++) { n[i] = sprintf("n%02d", i); list = list (i > 1 ? "," : "") n[i] }
+        print "nodes " list; print "initial " list
+        for (i = 1; i <= voters; i++) print "boot " n[i]
+        for (t = 1; 2 * voters * t < lines; t++) {
+            for (i = 1; i <= voters; i++) print "startjoin " n[i] " " n[1] " " t
+            for (i = 1; i <= voters; i++) print "deliver " n[1] " " voters * (t - 1) + i
+        }
+    }'
+}
+
 # One node that starts LINES joins, each of which appends to its journal.
 terms() {
     printf 'nodes a\ninitial a\nboot a\n'

@@ -12,6 +12,8 @@ pub struct BoxedFrame {
 }
 
 impl Model for BoxedFrame {
+    ghost use Rattle.wire_frames.specs.declared.frame.Frame.{Frame};
+
     ghost Value = { Frame };
 
     ghost view = { λ b. b.frame.value };

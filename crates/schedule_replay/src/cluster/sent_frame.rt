@@ -1,6 +1,7 @@
 //! `SentFrame`: a frame that was sent, in no more memory than it takes.
 ghost use Rattle.std.specs.Prelude.{◌≡◌, IfOk};
 ghost use Rattle.schedule_replay.specs.SentFrames.{message_of};
+ghost use Rattle.wire_frames.specs.declared.frame.WireMessage.TheVariants as message;
 
 use cluster_state::{SharedState, StateId};
 use schedule_text::IdList;
@@ -127,18 +128,12 @@ impl SentMessage {
             SentMessage::Response(id) => WireMessage::Response(*id),
             SentMessage::Commit(id) => WireMessage::Commit(*id),
             SentMessage::JoinAsk { term } => WireMessage::JoinAsk { term: *term },
-            SentMessage::PeersAsk { known } => WireMessage::PeersAsk {
-                known: known.to_set(),
-            },
+            SentMessage::PeersAsk { known } => peers_ask(known),
             SentMessage::PeersAnswer {
                 master,
                 term,
                 known,
-            } => WireMessage::PeersAnswer {
-                master: *master,
-                term: *term,
-                known: known.to_set(),
-            },
+            } => peers_answer(*master, *term, known),
             SentMessage::PreVoteAsk => WireMessage::PreVoteAsk,
             SentMessage::PreVoteAnswer { term, last } => WireMessage::PreVoteAnswer {
                 term: *term,
@@ -160,6 +155,28 @@ impl SentMessage {
             SentMessage::LeaderCheck { term } => WireMessage::LeaderCheck { term: *term },
             SentMessage::LeaderAnswer { good } => WireMessage::LeaderAnswer { good: *good },
         })
+    }
+}
+
+// That these peers are known, and which does the receiver know? It stands apart, so that other messages have no set to clear.
+#[inline(never)]
+fn peers_ask(known: &IdList) -> WireMessage
+    ensures { result ≡ message.PeersAsk known.now }
+{
+    WireMessage::PeersAsk {
+        known: known.to_set(),
+    }
+}
+
+// What a node answers to that. It stands apart too.
+#[inline(never)]
+fn peers_answer(master: Option<NodeId>, term: u64, known: &IdList) -> WireMessage
+    ensures { result ≡ message.PeersAnswer master term known.now }
+{
+    WireMessage::PeersAnswer {
+        master,
+        term,
+        known: known.to_set(),
     }
 }
 
