@@ -23,7 +23,6 @@ use std::alloc::{AllocError, Global};
 use text::Text;
 use trace_text::write_down_line;
 use voting_config::{NodeId, NodeSet};
-use wire_frames::BoxedFrame;
 use zen_disk::{Order, Way};
 
 /// The nodes of a schedule of level node, and the frames that they have sent.
@@ -194,7 +193,7 @@ impl ClusterReplayer {
                 if frame.to() != n {
                     return text.word("misrouted\n");
                 }
-                let frame = BoxedFrame::of(alloc, frame.frame()?)?;
+                let frame = frame.frame(alloc)?;
                 self.event(alloc, schedule, n, Event::Frame(frame), text)
             }
         }

@@ -8,7 +8,7 @@ use schedule_text::IdList;
 use std::alloc::{AllocError, Global};
 use std::marker::Model;
 use voting_config::NodeId;
-use wire_frames::{Frame, WireMessage};
+use wire_frames::{BoxedFrame, Frame, WireMessage};
 
 /// A message. Where a frame has room for 32 ids in place, the ids lie apart.
 #[derive(Drop)]
@@ -217,13 +217,15 @@ impl SentFrame {
     }
 
     /// The frame as a node takes it.
-    pub fn frame(&self) -> Result<Frame, AllocError>
+    pub fn frame(&self, alloc: Global) -> Result<BoxedFrame, AllocError>
         ensures { IfOk result (λ frame. frame ≡ self.now) }
     {
-        Ok(Frame {
+        let message = self.message.message()?;
+        let frame = Frame {
             from: self.from,
             to: self.to,
-            message: self.message.message()?,
-        })
+            message,
+        };
+        BoxedFrame::of(alloc, frame)
     }
 }
