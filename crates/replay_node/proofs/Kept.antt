@@ -1,9 +1,9 @@
 -- A publish request that is kept as the bytes of its state.
-use Rattle.std.proofs.Common.{◌≡◌, List, ℕ, Result, Ok, Err, refl, subst, sym}
-use Rattle.std.specs.Prelude.{IfOk, IsOk}
+use Rattle.std.proofs.Common.{◌≡◌, List, ℕ, Result, Ok, refl, subst, sym}
+use Rattle.std.specs.Prelude.{IsOk}
 use Rattle.cluster_state.specs.declared.state.ClusterState.{ClusterState}
 use Rattle.cluster_state.specs.declared.fault.StateFault.{StateFault}
-use Rattle.cluster_state.specs.States.{IsFit, Spells, state, whole}
+use Rattle.cluster_state.specs.States.{Spells, state, whole}
 use Rattle.cluster_state.specs.Viewed.{state_in}
 use Rattle.cluster_state.proofs.StateLaws.{state_law}
 use Rattle.cluster_state.proofs.Whole.{whole_again}

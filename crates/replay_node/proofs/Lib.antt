@@ -13,6 +13,7 @@ pub mod NodeSound
 pub mod Nodes
 pub mod Opened
 pub mod OpeningLeft
+pub mod Packing
 pub mod Reopened
 pub mod SettledTakes
 pub mod StateSteps

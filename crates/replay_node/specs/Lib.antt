@@ -6,6 +6,7 @@ pub mod NodeDisk
 pub mod NodeLines
 pub mod NodeWorld
 pub mod Opens
+pub mod Packed
 pub mod Published
 pub mod Sent
 pub mod Stands

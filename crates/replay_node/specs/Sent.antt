@@ -14,7 +14,7 @@ use Rattle.replay_node.specs.declared.message.SentMessage.TheVariants as message
 
 abbrev pub message_of : SentMessage → Message
 message_of (message.Join j) = JoinMessage j
-message_of (message.Publish r) = PublishMessage r
+message_of (message.Publish r) = PublishMessage r.value
 message_of (message.Response r) = ResponseMessage r
 message_of (message.Commit c) = CommitMessage c
 

@@ -1,14 +1,10 @@
 //! The messages of a replay. A published state is shared, and not copied for each that is sent it or accepts it.
-ghost use Rattle.std.specs.Option.{ForSome};
-ghost use Rattle.std.specs.Prelude.{◌≡◌, IfOk, IsOk};
-ghost use Rattle.cluster_state.specs.States.{IsFit, state as state_field, whole as whole_of};
-ghost use Rattle.cluster_state.specs.Viewed.{state_in};
-ghost use Rattle.replay_node.specs.Kept.{request_in};
+ghost use Rattle.std.specs.Prelude.{◌≡◌, IfOk};
+ghost use Rattle.cluster_state.specs.States.{IsFit};
+ghost use Rattle.replay_node.specs.Sent.{message_of};
 ghost use Rattle.trace_text.specs.Trace.{state_text};
 
-use cluster_state::{
-    ApplyCommit, ClusterState, Join, PublishResponse, SharedState, StateView, encode_state, to_json,
-};
+use cluster_state::{ApplyCommit, Join, PublishResponse, SharedState, to_json};
 use state_journal::Ready;
 use std::alloc::{AllocError, Global};
 use std::marker::Model;
@@ -81,98 +77,28 @@ impl FitPublishRequest {
     }
 }
 
-/// A publish request that was sent, kept as the bytes of its state: a state has room in place for the most ids that its sets may hold.
-/// Until it is closed, it is at hand whole too, shared with the node that published it. Contracts see the request.
-#[derive(Drop)]
-pub struct Publication {
-    alloc: Global,
-    source: NodeId,
-    bytes: Vec<u8>,
-    whole: Option<Rc<FitPublishRequest>>,
-    ghost same: { ForSome whole (λ r. r.value ≡ request_in source bytes.items) },
-}
-
-impl Model for Publication {
-    ghost use Rattle.std.specs.Prelude.{IsOk};
-    ghost use Rattle.cluster_state.specs.States.{state, whole as whole_of};
-    ghost use Rattle.cluster_state.specs.declared.messages.PublishRequest.{PublishRequest};
-    ghost use Rattle.replay_node.specs.Kept.{request_in};
-
-    ghost Value = { PublishRequest };
-
-    ghost view = { λ p. request_in p.source p.bytes.items };
-
-    ghost invariant = { λ p. IsOk (whole_of (state.at p.bytes.items)) };
-}
-
-impl Publication {
-    /// This request, whole.
-    pub fn of(alloc: Global, request: Rc<FitPublishRequest>) -> Result<Publication, AllocError>
-        ensures { IfOk result (λ p. p ≡ request.value) }
-    {
-        let bytes = spelled(alloc, request.state())?;
-        Ok(Publication {
-            alloc,
-            source: *request.source(),
-            bytes,
-            whole: Some(request),
-        })
-    }
-
-    /// The request, which is made of its bytes once more where it was closed.
-    pub fn whole(&self) -> Result<Rc<FitPublishRequest>, AllocError>
-        ensures { IfOk result (λ r. r.value ≡ self.now) }
-    {
-        match &self.whole {
-            Some(request) => {
-                let request = request.clone()?;
-                Ok(request)
-            }
-            None => self.made_whole(),
-        }
-    }
-
-    fn made_whole(&self) -> Result<Rc<FitPublishRequest>, AllocError>
-        ensures { IfOk result (λ r. r.value ≡ self.now) }
-    {
-        let state = read_again(self.alloc, self.bytes.as_slice())?;
-        FitPublishRequest::of(self.alloc, self.source, &state)
-    }
-
-    /// Keeps no more of it than its bytes.
-    pub fn close(&mut self)
-        ensures { self.new ≡ self.old }
-    {
-        self.whole = None;
-    }
-}
-
-// The bytes of a state, which is within the limits.
-fn spelled(alloc: Global, written: &ClusterState) -> Result<Vec<u8>, AllocError>
-    requires { IsFit written.now }
-    ensures good { IfOk result (λ bytes. IsOk (whole_of (state_field.at bytes.items))) }
-    ensures held { IfOk result (λ bytes. state_in (whole_of (state_field.at bytes.items)) ≡ written.now) }
-{
-    encode_state(alloc, written)
-}
-
-// The state that these bytes spell.
-fn read_again(alloc: Global, bytes: &[u8]) -> Result<SharedState, AllocError>
-    requires { IsOk (whole_of (state_field.at bytes.now)) }
-    ensures state { IfOk result (λ s. s ≡ state_in (whole_of (state_field.at bytes.now))) }
-    ensures fit { IfOk result (λ s. IsFit s) }
-{
-    let view = StateView::of_checked(bytes);
-    // For the proof alone: a state that is spelled is within the limits.
-    let _ = view.bytes();
-    view.decode(alloc)
-}
-
-/// A message that was sent.
+/// A message that was sent. A published state is shared.
 #[derive(Drop)]
 pub enum SentMessage {
     Join(Join),
-    Publish(Publication),
+    Publish(Rc<FitPublishRequest>),
     Response(PublishResponse),
     Commit(ApplyCommit),
+}
+
+impl SentMessage {
+    /// The same message once more.
+    pub fn copy(&self) -> Result<SentMessage, AllocError>
+        ensures { IfOk result (λ m. message_of m ≡ message_of self.now) }
+    {
+        match self {
+            SentMessage::Join(join) => Ok(SentMessage::Join(*join)),
+            SentMessage::Publish(request) => {
+                let request = request.clone()?;
+                Ok(SentMessage::Publish(request))
+            }
+            SentMessage::Response(response) => Ok(SentMessage::Response(*response)),
+            SentMessage::Commit(commit) => Ok(SentMessage::Commit(*commit)),
+        }
+    }
 }

@@ -89,8 +89,8 @@ fn keep_publication(
         ≡ published_by (outcome.Answered (reply.Taken (Some (message_of message.now)) wins)) (state_published published.old)) }
 {
     match message {
-        SentMessage::Publish(publication) => {
-            let request = publication.whole()?;
+        SentMessage::Publish(request) => {
+            let request = request.clone()?;
             *published = Some(request);
             Ok(())
         }

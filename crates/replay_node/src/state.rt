@@ -15,7 +15,7 @@ ghost use Rattle.replay_node.specs.Stands.{HasRoomIn, journal_ghosts};
 ghost use Rattle.replay_node.specs.StateDoes.{IsReportedBy, StateDoes, WritesText};
 
 use crate::did::{Did, Effects};
-use crate::message::{FitPublishRequest, Publication, SentMessage};
+use crate::message::{FitPublishRequest, SentMessage};
 use cluster_state::{
     ApplyCommit, ClusterState, ClusterValue, Join, PublishResponse, Settings, SharedState,
 };
@@ -163,8 +163,7 @@ fn publication(
     };
     let published = SharedState::of(alloc, published)?;
     let request = FitPublishRequest::of(alloc, state.me(), &published)?;
-    let publication = Publication::of(alloc, request)?;
-    Ok(SentMessage::Publish(publication))
+    Ok(SentMessage::Publish(request))
 }
 
 /// The node publishes a client's value that has these settings and nothing else. Answers the publication too, where there is one.
@@ -251,10 +250,7 @@ pub fn deliver(
 {
     match message {
         SentMessage::Join(sent) => join(state, sent),
-        SentMessage::Publish(publication) => {
-            let request = publication.whole()?;
-            publish_request(state, &request)
-        }
+        SentMessage::Publish(request) => publish_request(state, request),
         SentMessage::Response(response) => publish_response(state, response, published),
         SentMessage::Commit(sent) => commit(state, sent),
     }

@@ -22,8 +22,7 @@ fn write_message(text: &mut Text, ordinal: u64, message: &SentMessage) -> Result
 {
     match message {
         SentMessage::Join(join) => write_join_message(text, ordinal, join),
-        SentMessage::Publish(publication) => {
-            let request = publication.whole()?;
+        SentMessage::Publish(request) => {
             let (source, state) = (request.source(), request.state());
             write_publish_message(text, ordinal, source, state, request.json())
         }
@@ -138,8 +137,7 @@ fn write_taking(text: &mut Text, message: &SentMessage) -> Result<(), AllocError
 {
     match message {
         SentMessage::Join(join) => write_join(text, join),
-        SentMessage::Publish(publication) => {
-            let request = publication.whole()?;
+        SentMessage::Publish(request) => {
             let (source, state) = (request.source(), request.state());
             write_publish_shown(text, source, state, request.json())
         }

@@ -1,6 +1,5 @@
 -- A generated schedule, line by line.
 use Rattle.std.proofs.Common.{◌≡◌, ℕ, zero, suc, ◌+◌, ◌<◌, ◌≤◌, List, [], ◌∷◌, ◌++◌, length, length-append, refl, sym, ap, subst, ◌∙◌, arith, add-one}
-use Rattle.std.proofs.lemmas.List.{length-map}
 use Rattle.world_model.specs.declared.acts.Message.{Message}
 use Rattle.world_model.specs.Histories.{sent}
 use Rattle.schedule_text.specs.declared.level.Level.TheVariants.{Core}
@@ -12,9 +11,7 @@ use Rattle.schedule_generator.specs.Laws.{most_steps}
 use Rattle.schedule_generator.proofs.Fitting.{line_good}
 use Rattle.trace_summary.specs.Tallies.{Tallies}
 use Rattle.trace_summary.specs.declared.summary.Tally.{Tally}
-use Rattle.replay_node.specs.declared.message.SentMessage.{SentMessage}
 use Rattle.replay_node.specs.declared.node.ReplayNode.{ReplayNode}
-use Rattle.replay_node.specs.Sent.{message_of}
 use Rattle.replay_node.specs.Worlds.{fresh_world}
 use Rattle.schedule_replay.specs.Generated.{count_sent, generated}
 use Rattle.schedule_replay.specs.Replayed.{replayed_from}
@@ -33,10 +30,9 @@ so_many number (suc step) =
     omega (arith, so_many number step, length-append (lines_to number step) (last ∷ []))
 
 -- what a replay holds is what was sent
-pub held_is : (header : Schedule) (nodes : List ReplayNode) (messages : List SentMessage) (tally : Tally) (done : List Line) → header ≡ generated_from [] → Tallied Tallies header.nodes header.initial nodes messages tally done → length messages ≡ count_sent done
+pub held_is : (header : Schedule) (nodes : List ReplayNode) (messages : List Message) (tally : Tally) (done : List Line) → header ≡ generated_from [] → Tallied Tallies header.nodes header.initial nodes messages tally done → length messages ≡ count_sent done
 held_is header nodes messages tally done e m =
-    sym (length-map messages message_of)
-    ∙ ap (λ (ms : List Message). length ms) m.stands.messages_sent
+    ap (λ (ms : List Message). length ms) m.stands.messages_sent
     ∙ ap (λ (x : Schedule). length (sent (replayed_from x.initial fresh_world done).history)) e
 
 -- there are no more messages than lines
@@ -55,5 +51,5 @@ more_lines number step sent line is held =
     rw add-one (ap (λ (l : Line). lines_to number step ++ l ∷ []) (sym (is ∙ ap (λ (k : ℕ). line_at number step k) held)))
 
 -- after the last line the tally is that of the trace
-pub summed_up : (header : Schedule) (nodes : List ReplayNode) (messages : List SentMessage) (tally : Tally) (number steps : ℕ) → header ≡ generated_from [] → Tallied Tallies header.nodes header.initial nodes messages tally (lines_to number steps) → Tallies tally (trace (generated number steps))
+pub summed_up : (header : Schedule) (nodes : List ReplayNode) (messages : List Message) (tally : Tally) (number steps : ℕ) → header ≡ generated_from [] → Tallied Tallies header.nodes header.initial nodes messages tally (lines_to number steps) → Tallies tally (trace (generated number steps))
 summed_up header nodes messages tally number steps e m = subst (λ (x : Schedule). Tallies tally (trace_from x.initial fresh_world (lines_to number steps))) e m.tallies

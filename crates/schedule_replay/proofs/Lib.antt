@@ -1,7 +1,6 @@
 pub mod ActShown
 pub mod Along
 pub mod Bridge
-pub mod Closing
 pub mod ClusterExamples
 pub mod ClusterLaws
 pub mod ClusterLines

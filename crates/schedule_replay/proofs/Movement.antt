@@ -11,7 +11,7 @@ use Rattle.replay_node.specs.Did.{outcome_of, did_text, outcome_unless_down, aft
 use Rattle.replay_node.specs.NodeWorld.{NodeWorld}
 use Rattle.replay_node.specs.Stands.{NodeStands, NodeDoes, NodeDid}
 use Rattle.replay_node.specs.declared.did.Did.{Did}
-use Rattle.replay_node.specs.declared.message.SentMessage.{SentMessage}
+use Rattle.world_model.specs.declared.acts.Message.{Message}
 use Rattle.replay_node.specs.declared.node.ReplayNode.{ReplayNode}
 use Rattle.replay_node.specs.Worlds.{World, node_world, did_unless_down}
 use Rattle.replay_node.proofs.Moves.{NodeMoves, moves_did_unless_down}
@@ -62,7 +62,7 @@ all_after (i ∷ is) (y ∷ ys) w n (suc k) c x v a g m moves d s =
 
 -- ---- the same in the words of a method, which looks the place up in the nodes that a vector lends it
 
-pub record Looked (ids l : List Id) (items lent : List ReplayNode) (messages : List SentMessage) (n : Id) (place len : ℕ) : Type 0 where
+pub record Looked (ids l : List Id) (items lent : List ReplayNode) (messages : List Message) (n : Id) (place len : ℕ) : Type 0 where
   pub is : l ≡ ids
   pub found : slice_get l place ≡ Some n
   pub lent_is : lent ≡ items
@@ -73,7 +73,7 @@ pub record Looked (ids l : List Id) (items lent : List ReplayNode) (messages : L
 pub refilled : {A : Type 0} (new old : List A) (len : ℕ) → length new ≡ length old → length old ≡ len → take len (new ++ drop (length new) old) ≡ new
 refilled new old len same_length is = rw (← is, ← same_length) (take_at new (drop (length new) old) (length new) refl)
 
-module _ (ids l : List Id) (items lent : List ReplayNode) (messages : List SentMessage) (n : Id) (place len : ℕ) (looked : Looked ids l items lent messages n place len) where
+module _ (ids l : List Id) (items lent : List ReplayNode) (messages : List Message) (n : Id) (place len : ℕ) (looked : Looked ids l items lent messages n place len) where
   place_is : slice_get ids place ≡ Some n
   place_is = subst (λ (x : List Id). slice_get x place ≡ Some n) looked.is looked.found
 

@@ -8,7 +8,7 @@ use Rattle.schedule_text.specs.declared.schedule.Line.{Line}
 use Rattle.schedule_text.specs.declared.schedule.Schedule.{Schedule}
 use Rattle.zen_link.specs.Streams.{Appended, AppendedPrefix}
 use Rattle.zen_link.proofs.Appending.{appended_more, prefix_after, prefix_within}
-use Rattle.replay_node.specs.declared.message.SentMessage.{SentMessage}
+use Rattle.world_model.specs.declared.acts.Message.{Message}
 use Rattle.replay_node.specs.declared.node.ReplayNode.{ReplayNode}
 use Rattle.replay_node.specs.Worlds.{World, fresh_world}
 use Rattle.schedule_replay.specs.Replayed.{after, replayed_from}
@@ -24,7 +24,7 @@ last_world s = replayed_from s.initial fresh_world s.lines
 pub left_is : (lines : List Line) (i : ℕ) (line : Line) → i < length lines → line ≡ get_or lines i line → drop i lines ≡ line ∷ drop (i + 1) lines
 left_is lines i line within is = rw add-one (drop-cons lines i line within ∙ ap (λ (x : Line). x ∷ drop (suc i) lines) (sym is))
 
-module _ (ids initial : List Id) (nodes more : List ReplayNode) (messages sent : List SentMessage) (was now later : Option (List ℕ)) (held after_held none text : List ℕ) (lines : List Line) (i : ℕ) (line : Line) (all : List ℕ) (end : World) (within : i < length lines) (is : line ≡ get_or lines i line) (empty : none ≡ []) (m : SoFar ids initial nodes messages was now held (drop i lines) all end) (writes : WritesLine ids initial nodes more messages sent none text line) where
+module _ (ids initial : List Id) (nodes more : List ReplayNode) (messages sent : List Message) (was now later : Option (List ℕ)) (held after_held none text : List ℕ) (lines : List Line) (i : ℕ) (line : Line) (all : List ℕ) (end : World) (within : i < length lines) (is : line ≡ get_or lines i line) (empty : none ≡ []) (m : SoFar ids initial nodes messages was now held (drop i lines) all end) (writes : WritesLine ids initial nodes more messages sent none text line) where
   abbrev tail : List ℕ
   tail = trace_from initial (after initial m.world line) (drop (i + 1) lines)
 
@@ -56,7 +56,7 @@ module _ (ids initial : List Id) (nodes more : List ReplayNode) (messages sent :
       let prefix = prefix_within now later (held ++ text) tail (held ++ (text ++ tail)) (append_assoc held text tail) h in
       subst (λ (t : List ℕ). AppendedPrefix was later t) whole_is (prefix_after was now later m.prefix (held ++ (text ++ tail)) m.written prefix)
 
-module _ (ids initial : List Id) (nodes : List ReplayNode) (messages : List SentMessage) (was now later : Option (List ℕ)) (held bytes : List ℕ) (left : List Line) (all : List ℕ) (end : World) where
+module _ (ids initial : List Id) (nodes : List ReplayNode) (messages : List Message) (was now later : Option (List ℕ)) (held bytes : List ℕ) (left : List Line) (all : List ℕ) (end : World) where
   pub stops : bytes ≡ held → SoFar ids initial nodes messages was now held left all end → AppendedPrefix now later bytes → AppendedPrefix was later all
   stops e m h =
       let tail : List ℕ = trace_from initial m.world left in

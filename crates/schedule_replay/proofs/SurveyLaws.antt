@@ -1,34 +1,26 @@
 -- A survey stands for what the nodes did.
-use Rattle.std.proofs.Common.{◌≡◌, ℕ, ◌+◌, ◌<◌, ◌≤◌, Bool, ◌||◌, None, Some, List, [], ◌∷◌, ◌++◌, length, map, take, get_or, refl, sym, ◌∙◌, ap, subst, arith, if◌then◌else◌}
+use Rattle.std.proofs.Common.{◌≡◌, ℕ, ◌+◌, ◌<◌, ◌≤◌, Bool, ◌||◌, List, [], ◌∷◌, ◌++◌, length, map, take, get_or, refl, sym, ◌∙◌, ap, subst, arith}
 use Rattle.std.specs.List.{AllByRecursion}
-use Rattle.std.proofs.lemmas.List.{take_all, take_more, length-map}
+use Rattle.std.proofs.lemmas.List.{take_all, take_more}
 use Rattle.voting_config.specs.Ids.{Id}
-use Rattle.cluster_state.specs.declared.state.Kept.{Kept}
-use Rattle.coord_state.specs.StandsFor.{StandsFor}
 use Rattle.coord_state.specs.declared.coord.CoordState.{CoordState}
-use Rattle.world_model.specs.Acts.{NodeHistory}
 use Rattle.world_model.specs.NodeState.{halted_of}
-use Rattle.world_model.specs.Replies.{id_of}
 use Rattle.replay_node.specs.NodeWorld.{NodeWorld, needs_opening}
 use Rattle.replay_node.specs.Stands.{Journal, NodeStands, OpenStands, journal_ghosts}
 use Rattle.replay_node.specs.Worlds.{World, fresh_world, node_world}
 use Rattle.replay_node.specs.declared.node.ReplayNode.{ReplayNode}
-use Rattle.rescue_plan.specs.declared.answer.UpNode.{UpNode}
-use Rattle.rescue_plan.specs.Rescue.{up_at}
 use Rattle.schedule_text.specs.declared.level.Level.TheVariants.{Core}
 use Rattle.schedule_text.specs.declared.schedule.Line.{Line}
 use Rattle.schedule_text.specs.declared.schedule.Schedule.{Schedule}
 use Rattle.schedule_text.specs.Lines.{FitsLine}
 use Rattle.world_model.specs.Histories.{sent}
 use Rattle.world_model.specs.declared.acts.Message.{Message}
-use Rattle.replay_node.specs.Sent.{message_of}
-use Rattle.replay_node.specs.declared.message.SentMessage.{SentMessage}
 use Rattle.schedule_replay.specs.Replayed.{after, replayed_from}
 use Rattle.schedule_replay.specs.WorldStands.{AllStand, Stands, WritesLine}
 use Rattle.schedule_replay.proofs.Tallying.{taken_more, all_taken, replayed_more}
 use Rattle.schedule_replay.proofs.Sending.{lines_send}
 use Rattle.schedule_replay.specs.declared.surveyed.SurveyedNode.{SurveyedNode}
-use Rattle.schedule_replay.specs.Survey.{up_if, surveyed, surveyed_at, world_after}
+use Rattle.schedule_replay.specs.Survey.{surveyed, surveyed_at, world_after}
 
 -- an open node needs an opening where it is halted
 pub open_needs : (me : Id) (c : CoordState Journal) (w : NodeWorld) → OpenStands me c w → needs_opening w ≡ journal_ghosts.has_stopped c.keeper
@@ -79,7 +71,7 @@ each_step cs i c xs new x within is added each one =
 -- ---- the lines
 
 -- with the line in hand the replay stands for the lines up to it
-pub line_stands : (ids initial : List Id) (nodes more : List ReplayNode) (messages sent_now : List SentMessage) (was now : List ℕ) (lines : List Line) (i : ℕ) (line : Line) → i < length lines → line ≡ get_or lines i line
+pub line_stands : (ids initial : List Id) (nodes more : List ReplayNode) (messages sent_now : List Message) (was now : List ℕ) (lines : List Line) (i : ℕ) (line : Line) → i < length lines → line ≡ get_or lines i line
     → Stands ids nodes messages (replayed_from initial fresh_world (take i lines)) → WritesLine ids initial nodes more messages sent_now was now line → Stands ids more sent_now (replayed_from initial fresh_world (take (i + 1) lines))
 line_stands ids initial nodes more messages sent_now was now lines i line within is stands writes =
     let w : World = replayed_from initial fresh_world (take i lines) in
@@ -89,12 +81,12 @@ line_stands ids initial nodes more messages sent_now was now lines i line within
     subst (λ (v : World). Stands ids more sent_now v) (sym next) (writes w stands).stands
 
 -- in the end it stands for all lines
-pub all_stands : (ids initial : List Id) (nodes : List ReplayNode) (messages : List SentMessage) (lines all : List Line) (i : ℕ) → lines ≡ all → length lines ≤ i
+pub all_stands : (ids initial : List Id) (nodes : List ReplayNode) (messages : List Message) (lines all : List Line) (i : ℕ) → lines ≡ all → length lines ≤ i
     → Stands ids nodes messages (replayed_from initial fresh_world (take i lines)) → Stands ids nodes messages (replayed_from initial fresh_world all)
 all_stands ids initial nodes messages lines all i are past stands = subst (λ (ls : List Line). Stands ids nodes messages (replayed_from initial fresh_world ls)) (all_taken lines i past ∙ are) stands
 
-pub count_sent : (ids : List Id) (nodes : List ReplayNode) (messages : List SentMessage) (w : World) → Stands ids nodes messages w → length messages ≡ length (sent w.history)
-count_sent ids nodes messages w stands = sym (length-map messages message_of) ∙ ap (λ (ms : List Message). length ms) stands.messages_sent
+pub count_sent : (ids : List Id) (nodes : List ReplayNode) (messages : List Message) (w : World) → Stands ids nodes messages w → length messages ≡ length (sent w.history)
+count_sent ids nodes messages w stands = ap (λ (ms : List Message). length ms) stands.messages_sent
 
 pub count_few : (s : Schedule) (count : ℕ) → AllByRecursion (FitsLine Core s.nodes) s.lines → count ≡ length (sent (world_after s).history) → count ≤ length s.lines
 count_few s count fits is = let few = lines_send s.initial fresh_world s.lines in omega (arith, few, is)

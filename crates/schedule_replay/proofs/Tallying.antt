@@ -6,7 +6,7 @@ use Rattle.wire_frames.specs.declared.frame.Frame.{Frame}
 use Rattle.schedule_text.specs.declared.schedule.Line.{Line}
 use Rattle.trace_summary.specs.Tallies.{EndsLine}
 use Rattle.replay_node.specs.Clusters.{Cluster, fresh_cluster, after as cluster_after, replayed_from as cluster_from}
-use Rattle.replay_node.specs.declared.message.SentMessage.{SentMessage}
+use Rattle.world_model.specs.declared.acts.Message.{Message}
 use Rattle.replay_node.specs.declared.node.ReplayNode.{ReplayNode}
 use Rattle.replay_node.specs.Worlds.{World, fresh_world}
 use Rattle.schedule_replay.specs.Replayed.{after, replayed_from}
@@ -41,7 +41,7 @@ trace_more initial w (x ∷ ls) l =
     ap (λ (t : List ℕ). trace_line initial w x ++ t) (trace_more initial (after initial w x) ls l)
     ∙ sym (append_assoc (trace_line initial w x) (trace_from initial (after initial w x) ls) _)
 
-module _ {T : Type 0} (saw : T → List ℕ → Type 0) (ids initial : List Id) (nodes more : List ReplayNode) (messages sent : List SentMessage) (tally later : T) (none text : List ℕ) (done : List Line) (line : Line) where
+module _ {T : Type 0} (saw : T → List ℕ → Type 0) (ids initial : List Id) (nodes more : List ReplayNode) (messages sent : List Message) (tally later : T) (none text : List ℕ) (done : List Line) (line : Line) where
   pub one_more : none ≡ [] → Tallied saw ids initial nodes messages tally done → WritesLine ids initial nodes more messages sent none text line → Adds saw tally later text → Tallied saw ids initial more sent later (done ++ line ∷ [])
   one_more empty m writes adds =
       let w : World = replayed_from initial fresh_world done in
@@ -54,7 +54,7 @@ module _ {T : Type 0} (saw : T → List ℕ → Type 0) (ids initial : List Id) 
       }
 
 -- after all lines the tally is that of the whole trace
-pub whole_tallied : {T : Type 0} (saw : T → List ℕ → Type 0) (ids initial : List Id) (nodes : List ReplayNode) (messages : List SentMessage) (tally : T) (lines all : List Line) (i : ℕ) → lines ≡ all → length lines ≤ i
+pub whole_tallied : {T : Type 0} (saw : T → List ℕ → Type 0) (ids initial : List Id) (nodes : List ReplayNode) (messages : List Message) (tally : T) (lines all : List Line) (i : ℕ) → lines ≡ all → length lines ≤ i
     → Tallied saw ids initial nodes messages tally (take i lines) → saw tally (trace_from initial fresh_world all)
 whole_tallied saw ids initial nodes messages tally lines all i are past m = subst (λ (ls : List Line). saw tally (trace_from initial fresh_world ls)) (all_taken lines i past ∙ are) m.tallies
 

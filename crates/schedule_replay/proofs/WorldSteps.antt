@@ -1,5 +1,5 @@
 -- A replay that stood for a world stands for it after a part of one node.
-use Rattle.std.proofs.Common.{◌≡◌, Bool, true, false, Option, None, Some, List, [], ◌++◌, append-nil, map, refl, sym, ◌∙◌, ap, subst, if◌then◌else◌}
+use Rattle.std.proofs.Common.{◌≡◌, Bool, true, false, Option, None, Some, List, [], ◌++◌, append-nil, refl, sym, ◌∙◌, ap, subst, if◌then◌else◌}
 use Rattle.voting_config.specs.Ids.{Id, has, same}
 use Rattle.cluster_state.specs.declared.state.Kept.{Kept}
 use Rattle.zen_disk.specs.declared.orders.Order.{Order}
@@ -15,11 +15,10 @@ use Rattle.world_model.specs.Histories.{History, node_history, sent, sent_by}
 use Rattle.replay_node.specs.Did.{outcome_of}
 use Rattle.replay_node.specs.NodeDisk.{CallsEnd, Done, Failed, CrashedIn, opening}
 use Rattle.replay_node.specs.NodeWorld.{found_at, needs_opening, outcome_at}
-use Rattle.replay_node.specs.Sent.{message_of, are_from, sent_some}
+use Rattle.replay_node.specs.Sent.{are_from, sent_some}
 use Rattle.world_model.specs.Settled.{is_kept, settled, settled_for}
 use Rattle.replay_node.specs.Takes.{TakesFrom}
 use Rattle.replay_node.specs.declared.did.Did.{Did}
-use Rattle.replay_node.specs.declared.message.SentMessage.{SentMessage}
 use Rattle.replay_node.specs.declared.node.ReplayNode.{ReplayNode}
 use Rattle.replay_node.specs.Worlds.{World, crashed, did, did_unless_down, history_opened, node_world, opened, ordered, restarted}
 use Rattle.schedule_replay.specs.WorldStands.{ActDone, AllStand, Stands}
@@ -29,8 +28,8 @@ use Rattle.replay_node.proofs.Moves.{history_if}
 use Rattle.schedule_replay.proofs.Sources.{more_from, takes_next}
 use Rattle.voting_config.proofs.Sets.{same_is}
 
-pub acted : (ids : List Id) (old new : List ReplayNode) (messages more : List SentMessage) (w : World) (n : Id) (act : Act) (d : Did) → Stands ids old messages w → ActDone ids new w n act d
-    → map message_of more ≡ map message_of messages ++ sent_some (outcome_of d) → has n ids ≡ true → TakesFrom ids (Then NoActs act (Answered Stopped))
+pub acted : (ids : List Id) (old new : List ReplayNode) (messages more : List Message) (w : World) (n : Id) (act : Act) (d : Did) → Stands ids old messages w → ActDone ids new w n act d
+    → more ≡ messages ++ sent_some (outcome_of d) → has n ids ≡ true → TakesFrom ids (Then NoActs act (Answered Stopped))
     → Stands ids new more (did_unless_down w n act)
 acted ids old new messages more w n act d s done sends listed from = by (w.down n) refl done.outcome done.stand
   where
@@ -40,7 +39,7 @@ acted ids old new messages more w n act d s done sends listed from = by (w.down 
     by : (b : Bool) → w.down n ≡ b → outcome_of d ≡ (if b then None else Some o) → AllStand ids new (if b then w else did w n act) → Stands ids new more (if b then w else did w n act)
     by true down told stand = record {
       nodes_stand = stand;
-      messages_sent = sends ∙ ap (λ (x : Option Outcome). map message_of messages ++ sent_some x) told ∙ append-nil (map message_of messages) ∙ s.messages_sent;
+      messages_sent = sends ∙ ap (λ (x : Option Outcome). messages ++ sent_some x) told ∙ append-nil messages ∙ s.messages_sent;
       sources = s.sources;
       taken = s.taken;
       few = s.few;
@@ -48,7 +47,7 @@ acted ids old new messages more w n act d s done sends listed from = by (w.down 
     }
     by false up told stand = record {
       nodes_stand = stand;
-      messages_sent = sends ∙ ap (λ (x : Option Outcome). map message_of messages ++ sent_some x) told ∙ ap (λ (m : List Message). m ++ sent_by o) s.messages_sent;
+      messages_sent = sends ∙ ap (λ (x : Option Outcome). messages ++ sent_some x) told ∙ ap (λ (m : List Message). m ++ sent_by o) s.messages_sent;
       sources = more_from ids n (sent w.history) (node_world w n) act listed s.sources;
       taken = λ m. takes_next ids w.history n m act (Answered Stopped) o (s.taken m) from;
       few = s.few;
@@ -57,20 +56,20 @@ acted ids old new messages more w n act d s done sends listed from = by (w.down 
 
 -- ---- parts that leave the history as it is
 
-same_history : (ids : List Id) (old new : List ReplayNode) (messages : List SentMessage) (w v : World) → w.history ≡ v.history → Stands ids old messages w → AllStand ids new v → Stands ids new messages v
+same_history : (ids : List Id) (old new : List ReplayNode) (messages : List Message) (w v : World) → w.history ≡ v.history → Stands ids old messages w → AllStand ids new v → Stands ids new messages v
 same_history ids old new messages w v e s stand = record {
   nodes_stand = stand;
-  messages_sent = subst (λ (h : History). map message_of messages ≡ sent h) e s.messages_sent;
+  messages_sent = subst (λ (h : History). messages ≡ sent h) e s.messages_sent;
   sources = subst (λ (h : History). are_from ids (sent h) ≡ true) e s.sources;
   taken = λ n. subst (λ (h : History). TakesFrom ids (node_history h n)) e (s.taken n);
   few = s.few;
   ascending = s.ascending;
 }
 
-pub stopped : (ids : List Id) (old new : List ReplayNode) (messages : List SentMessage) (w : World) (n : Id) (way : Way) → Stands ids old messages w → AllStand ids new (crashed w n way) → Stands ids new messages (crashed w n way)
+pub stopped : (ids : List Id) (old new : List ReplayNode) (messages : List Message) (w : World) (n : Id) (way : Way) → Stands ids old messages w → AllStand ids new (crashed w n way) → Stands ids new messages (crashed w n way)
 stopped ids old new messages w n way s stand = same_history ids old new messages w (crashed w n way) (history_if w _ (w.down n) refl) s stand
 
-pub armed : (ids : List Id) (old new : List ReplayNode) (messages : List SentMessage) (w : World) (n : Id) (order : Order) → Stands ids old messages w → AllStand ids new (ordered w n order) → Stands ids new messages (ordered w n order)
+pub armed : (ids : List Id) (old new : List ReplayNode) (messages : List Message) (w : World) (n : Id) (order : Order) → Stands ids old messages w → AllStand ids new (ordered w n order) → Stands ids new messages (ordered w n order)
 armed ids old new messages w n order s stand = same_history ids old new messages w (ordered w n order) refl s stand
 
 -- ---- an opening
@@ -85,12 +84,12 @@ takes_settled ids n m k h t = from (same n m) refl
         subst (λ (g : NodeHistory). TakesFrom ids g) (sym own) (settled_takes ids k (node_history h m) t)
 
 -- what a replay stands for beside its nodes
-record StandsSent (ids : List Id) (messages : List SentMessage) (h : History) : Type 0 where
-  messages_sent : map message_of messages ≡ sent h
+record StandsSent (ids : List Id) (messages : List Message) (h : History) : Type 0 where
+  messages_sent : messages ≡ sent h
   sources : are_from ids (sent h) ≡ true
   taken : (n : Id) → TakesFrom ids (node_history h n)
 
-sent_opened : (ids : List Id) (messages : List SentMessage) (h : History) (n : Id) (found : Kept) (end : CallsEnd) → StandsSent ids messages h → StandsSent ids messages (history_opened end h n found)
+sent_opened : (ids : List Id) (messages : List Message) (h : History) (n : Id) (found : Kept) (end : CallsEnd) → StandsSent ids messages h → StandsSent ids messages (history_opened end h n found)
 sent_opened ids messages h n found Failed s = s
 sent_opened ids messages h n found (CrashedIn way) s = s
 sent_opened ids messages h n found Done s =
@@ -102,7 +101,7 @@ sent_opened ids messages h n found Done s =
       taken = λ m. takes_next ids (settled_for n k h) n m (Open found) (Answered Stopped) (Answered (Taken None false)) (takes_settled ids n m k h (s.taken m)) tt;
     }
 
-pub reopened : (ids : List Id) (old new : List ReplayNode) (messages : List SentMessage) (w : World) (n : Id) → Stands ids old messages w → AllStand ids new (restarted w n) → Stands ids new messages (restarted w n)
+pub reopened : (ids : List Id) (old new : List ReplayNode) (messages : List Message) (w : World) (n : Id) → Stands ids old messages w → AllStand ids new (restarted w n) → Stands ids new messages (restarted w n)
 reopened ids old new messages w n s stand = by (needs_opening (node_world w n)) refl stand
   where
     end : CallsEnd

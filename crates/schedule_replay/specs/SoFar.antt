@@ -1,9 +1,9 @@
 -- For the contracts inside: where a replay stands between two lines.
 use Rattle.std.specs.Prelude.{◌≡◌, ℕ, Option, Result, Ok, Err, List, ◌++◌}
 use Rattle.voting_config.specs.Ids.{Id}
+use Rattle.world_model.specs.declared.acts.Message.{Message}
 use Rattle.schedule_text.specs.declared.schedule.Line.{Line}
 use Rattle.zen_link.specs.Streams.{Appended, AppendedPrefix}
-use Rattle.replay_node.specs.declared.message.SentMessage.{SentMessage}
 use Rattle.replay_node.specs.declared.node.ReplayNode.{ReplayNode}
 use Rattle.replay_node.specs.Worlds.{World}
 use Rattle.schedule_replay.specs.Replayed.{replayed_from}
@@ -12,7 +12,7 @@ use Rattle.schedule_replay.specs.WorldStands.{Stands}
 
 -- The replay stands for what its nodes did so far. What was written, what is held back, and the trace of the lines that are left are the
 -- whole trace, and the lines that are left lead to the end.
-pub record SoFar (ids initial : List Id) (nodes : List ReplayNode) (messages : List SentMessage) (was now : Option (List ℕ))
+pub record SoFar (ids initial : List Id) (nodes : List ReplayNode) (messages : List Message) (was now : Option (List ℕ))
     (pending : List ℕ) (left : List Line) (all : List ℕ) (end : World) : Type 0 where
   pub world : World
   pub stands : Stands ids nodes messages world

@@ -1,10 +1,10 @@
 -- For the contracts inside: where a replay and what observes its trace stand after some lines.
 use Rattle.std.specs.Prelude.{ℕ, List}
 use Rattle.voting_config.specs.Ids.{Id}
+use Rattle.world_model.specs.declared.acts.Message.{Message}
 use Rattle.wire_frames.specs.declared.frame.Frame.{Frame}
 use Rattle.schedule_text.specs.declared.schedule.Line.{Line}
 use Rattle.replay_node.specs.Clusters.{fresh_cluster, replayed_from as cluster_from}
-use Rattle.replay_node.specs.declared.message.SentMessage.{SentMessage}
 use Rattle.replay_node.specs.declared.node.ReplayNode.{ReplayNode}
 use Rattle.replay_node.specs.Worlds.{fresh_world}
 use Rattle.schedule_replay.specs.Replayed.{replayed_from}
@@ -15,7 +15,7 @@ use Rattle.schedule_replay.specs.ClusterStands.{ClusterFor}
 use Rattle.schedule_replay.specs.declared.cluster.node.ClusterNode.{ClusterNode}
 
 -- the nodes and the messages are what these lines make of them, and what observes has seen their trace
-pub record Tallied {T : Type 0} (saw : T → List ℕ → Type 0) (ids initial : List Id) (nodes : List ReplayNode) (messages : List SentMessage)
+pub record Tallied {T : Type 0} (saw : T → List ℕ → Type 0) (ids initial : List Id) (nodes : List ReplayNode) (messages : List Message)
     (observer : T) (done : List Line) : Type 0 where
   pub stands : Stands ids nodes messages (replayed_from initial fresh_world done)
   pub tallies : saw observer (trace_from initial fresh_world done)

@@ -24,7 +24,7 @@ pub fn generate(alloc: Global, number: u64, steps: u64) -> Result<Summary, Alloc
     let mut tally = Tally::new();
     let mut text = Text::new(alloc);
     'steps: for _ in 0..steps {
-        let sent = replayer.sent.as_slice().len() as u64;
+        let sent = replayer.sent.len() as u64;
         let drawn = generator.line(alloc, sent)?;
         text.clear();
         replayer.line(alloc, &header, &drawn, &mut text)?;

@@ -8,7 +8,7 @@ ghost use Rattle.schedule_text.specs.declared.level.Level.TheVariants.{Core};
 ghost use Rattle.schedule_text.specs.Lines.{FitsLine};
 ghost use Rattle.replay_node.specs.Did.{did_text, outcome_of};
 ghost use Rattle.replay_node.specs.NodeLines.{restart_text, stop_text};
-ghost use Rattle.replay_node.specs.Sent.{message_of, some_message, sent_some};
+ghost use Rattle.replay_node.specs.Sent.{some_message, sent_some};
 ghost use Rattle.replay_node.specs.Stands.{NodeStands};
 ghost use Rattle.replay_node.specs.Worlds.{World, crashed, did_unless_down, fresh_world, node_world, ordered, restarted};
 ghost use Rattle.schedule_replay.specs.Replayed.{after, message_at, took_some, value_with};
@@ -17,7 +17,7 @@ ghost use Rattle.schedule_replay.specs.WorldStands.{AllStand, DeliversNothing, S
 
 use crate::places::place_of;
 use cluster_state::{ClusterValue, Settings};
-use replay_node::{Did, ReplayNode, SentMessage, write_delivery, write_did};
+use replay_node::{Did, ReplayNode, SentMessage, SentMessages, write_delivery, write_did};
 use schedule_text::{IdList, Line, Schedule, SettingText, write_echo};
 use std::alloc::{AllocError, Global};
 use std::mem;
@@ -30,9 +30,7 @@ use zen_disk::{Order, Way};
 #[derive(Drop)]
 pub struct Replayer {
     pub nodes: Vec<ReplayNode>,
-    pub sent: Vec<SentMessage>,
-    // The place of the publication that was sent last, which is at hand whole. Those before it are closed.
-    last: usize,
+    pub sent: SentMessages,
     // The act in hand, as the trace shows it.
     act: Text,
     // The configuration and the value of the line in hand. Both are large, so that these stay in their place for all lines.
@@ -43,15 +41,14 @@ pub struct Replayer {
 impl Replayer {
     /// Nodes that have done nothing yet.
     pub fn new(alloc: Global, ids: &NodeSet) -> Result<Replayer, AllocError>
-        ensures { IfOk result (λ r. Stands ids.now r.nodes.items r.sent.items fresh_world) }
+        ensures { IfOk result (λ r. Stands ids.now r.nodes.items r.sent fresh_world) }
     {
         let nodes = fresh_nodes(alloc, ids.as_slice())?;
         // For the proof alone: a set ascends and has 32 ids at most.
         let _ = ids.len();
         Ok(Replayer {
             nodes,
-            sent: Vec::new(alloc),
-            last: 0,
+            sent: SentMessages::new(alloc),
             act: Text::new(alloc),
             config: VotingConfig::of(&NodeSet::new()),
             value: ClusterValue::empty(alloc),
@@ -69,14 +66,14 @@ impl Replayer {
         text: &mut Text,
     ) -> Result<(), AllocError>
         requires fits { FitsLine Core schedule.now.nodes line.now }
-        requires stands { (w : World) × Stands schedule.now.nodes self.old.nodes.items self.old.sent.items w }
+        requires stands { (w : World) × Stands schedule.now.nodes self.old.nodes.items self.old.sent w }
         ensures done { OnOk result
-            (WritesLine schedule.now.nodes schedule.now.initial self.old.nodes.items self.new.nodes.items self.old.sent.items
-            self.new.sent.items text.old text.new line.now) }
+            (WritesLine schedule.now.nodes schedule.now.initial self.old.nodes.items self.new.nodes.items self.old.sent
+            self.new.sent text.old text.new line.now) }
     {
         write_echo(text, line)?;
         if let Line::Deliver(n, ordinal) = line {
-            return self.deliver(alloc, &schedule.nodes, *n, *ordinal, text);
+            return self.deliver(alloc, &schedule.nodes, n, *ordinal, text);
         }
         self.other_line(alloc, schedule, line, text)
     }
@@ -92,9 +89,9 @@ impl Replayer {
     ) -> Result<(), AllocError>
         requires fits { FitsLine Core schedule.now.nodes line.now }
         requires other { DeliversNothing line.now }
-        requires stands { (w : World) × Stands schedule.now.nodes self.old.nodes.items self.old.sent.items w }
+        requires stands { (w : World) × Stands schedule.now.nodes self.old.nodes.items self.old.sent w }
         ensures done { OnOk result
-            (DoesLine schedule.now.nodes self.old.nodes.items self.new.nodes.items self.old.sent.items self.new.sent.items text.old text.new
+            (DoesLine schedule.now.nodes self.old.nodes.items self.new.nodes.items self.old.sent self.new.sent text.old text.new
             (λ w. after schedule.now.initial w line.now) (λ w. line_results schedule.now.initial w line.now)) }
     {
         let ids = &schedule.nodes;
@@ -127,9 +124,9 @@ impl Replayer {
         text: &mut Text,
     ) -> Result<(), AllocError>
         requires listed { has n ids.now ≡ true }
-        requires stands { (w : World) × Stands ids.now self.old.nodes.items self.old.sent.items w }
+        requires stands { (w : World) × Stands ids.now self.old.nodes.items self.old.sent w }
         ensures done { OnOk result
-            (DoesLine ids.now self.old.nodes.items self.new.nodes.items self.old.sent.items self.new.sent.items text.old text.new
+            (DoesLine ids.now self.old.nodes.items self.new.nodes.items self.old.sent self.new.sent text.old text.new
             (λ w. crashed w n way) (λ w. stop_text n (node_world w n))) }
     {
         let place = place_of(ids.as_slice(), n);
@@ -145,9 +142,9 @@ impl Replayer {
         text: &mut Text,
     ) -> Result<(), AllocError>
         requires listed { has n ids.now ≡ true }
-        requires stands { (w : World) × Stands ids.now self.old.nodes.items self.old.sent.items w }
+        requires stands { (w : World) × Stands ids.now self.old.nodes.items self.old.sent w }
         ensures done { OnOk result
-            (DoesLine ids.now self.old.nodes.items self.new.nodes.items self.old.sent.items self.new.sent.items text.old text.new
+            (DoesLine ids.now self.old.nodes.items self.new.nodes.items self.old.sent self.new.sent text.old text.new
             (λ w. restarted w n) (λ w. restart_text n (node_world w n))) }
     {
         let place = place_of(ids.as_slice(), n);
@@ -157,9 +154,9 @@ impl Replayer {
 
     fn arm(&mut self, ids: &NodeSet, n: NodeId, order: Order)
         requires listed { has n ids.now ≡ true }
-        requires stands { (w : World) × Stands ids.now self.old.nodes.items self.old.sent.items w }
+        requires stands { (w : World) × Stands ids.now self.old.nodes.items self.old.sent w }
         ensures done { (text : List ℕ)
-            → DoesLine ids.now self.old.nodes.items self.new.nodes.items self.old.sent.items self.new.sent.items text text
+            → DoesLine ids.now self.old.nodes.items self.new.nodes.items self.old.sent self.new.sent text text
             (λ w. ordered w n order) (λ w. []) }
     {
         let place = place_of(ids.as_slice(), n);
@@ -176,9 +173,9 @@ impl Replayer {
         text: &mut Text,
     ) -> Result<(), AllocError>
         requires listed { has n ids.now ≡ true }
-        requires stands { (w : World) × Stands ids.now self.old.nodes.items self.old.sent.items w }
+        requires stands { (w : World) × Stands ids.now self.old.nodes.items self.old.sent w }
         ensures done { OnOk result
-            (DoesLine ids.now self.old.nodes.items self.new.nodes.items self.old.sent.items self.new.sent.items text.old text.new
+            (DoesLine ids.now self.old.nodes.items self.new.nodes.items self.old.sent self.new.sent text.old text.new
             (λ w. did_unless_down w n (act.Bootstrap initial.now)) (λ w. results_of w n (act.Bootstrap initial.now))) }
     {
         self.act.clear();
@@ -199,9 +196,9 @@ impl Replayer {
         text: &mut Text,
     ) -> Result<(), AllocError>
         requires listed { has n ids.now ≡ true }
-        requires stands { (w : World) × Stands ids.now self.old.nodes.items self.old.sent.items w }
+        requires stands { (w : World) × Stands ids.now self.old.nodes.items self.old.sent w }
         ensures done { OnOk result
-            (DoesLine ids.now self.old.nodes.items self.new.nodes.items self.old.sent.items self.new.sent.items text.old text.new
+            (DoesLine ids.now self.old.nodes.items self.new.nodes.items self.old.sent self.new.sent text.old text.new
             (λ w. did_unless_down w n (act.StartJoin candidate term)) (λ w. results_of w n (act.StartJoin candidate term))) }
     {
         self.act.clear();
@@ -223,9 +220,9 @@ impl Replayer {
         text: &mut Text,
     ) -> Result<(), AllocError>
         requires listed { has n ids.now ≡ true }
-        requires stands { (w : World) × Stands ids.now self.old.nodes.items self.old.sent.items w }
+        requires stands { (w : World) × Stands ids.now self.old.nodes.items self.old.sent w }
         ensures done { OnOk result
-            (DoesLine ids.now self.old.nodes.items self.new.nodes.items self.old.sent.items self.new.sent.items text.old text.new
+            (DoesLine ids.now self.old.nodes.items self.new.nodes.items self.old.sent self.new.sent text.old text.new
             (λ w. did_unless_down w n (act.Value version config.now (value_with setting)))
             (λ w. results_of w n (act.Value version config.now (value_with setting)))) }
     {
@@ -245,25 +242,23 @@ impl Replayer {
         &mut self,
         alloc: Global,
         ids: &NodeSet,
-        n: NodeId,
+        n: &NodeId,
         ordinal: u64,
         text: &mut Text,
     ) -> Result<(), AllocError>
-        requires listed { has n ids.now ≡ true }
-        requires stands { (w : World) × Stands ids.now self.old.nodes.items self.old.sent.items w }
+        requires listed { has n.now ids.now ≡ true }
+        requires stands { (w : World) × Stands ids.now self.old.nodes.items self.old.sent w }
         requires positive { 0 < ordinal }
         ensures done { OnOk result
-            (DoesLine ids.now self.old.nodes.items self.new.nodes.items self.old.sent.items self.new.sent.items text.old text.new
-            (λ w. took_some w n (message_at w ordinal)) (λ w. delivery_results w n (message_at w ordinal))) }
+            (DoesLine ids.now self.old.nodes.items self.new.nodes.items self.old.sent self.new.sent text.old text.new
+            (λ w. took_some w n.now (message_at w ordinal)) (λ w. delivery_results w n.now (message_at w ordinal))) }
     {
-        let index = (ordinal - 1) as usize;
-        let sent = self.sent.as_slice();
-        if index < sent.len() {
+        if ordinal <= self.sent.len() as u64 {
             return self.hand(alloc, ids, n, ordinal, text);
         }
-        let place = place_of(ids.as_slice(), n);
+        let place = place_of(ids.as_slice(), *n);
         let nodes = self.nodes.as_slice();
-        unsent(&nodes[place], &n, text)
+        unsent(&nodes[place], n, text)
     }
 
     // Hands a message to the node, which has been sent.
@@ -271,37 +266,34 @@ impl Replayer {
         &mut self,
         alloc: Global,
         ids: &NodeSet,
-        n: NodeId,
+        n: &NodeId,
         ordinal: u64,
         text: &mut Text,
     ) -> Result<(), AllocError>
-        requires listed { has n ids.now ≡ true }
-        requires stands { (w : World) × Stands ids.now self.old.nodes.items self.old.sent.items w }
+        requires listed { has n.now ids.now ≡ true }
+        requires stands { (w : World) × Stands ids.now self.old.nodes.items self.old.sent w }
         requires positive { 0 < ordinal }
-        requires sent { ordinal ≤ length self.old.sent.items }
+        requires sent { ordinal ≤ length self.old.sent }
         ensures done { OnOk result
-            (DoesLine ids.now self.old.nodes.items self.new.nodes.items self.old.sent.items self.new.sent.items text.old text.new
-            (λ w. took_some w n (message_at w ordinal)) (λ w. delivery_results w n (message_at w ordinal))) }
+            (DoesLine ids.now self.old.nodes.items self.new.nodes.items self.old.sent self.new.sent text.old text.new
+            (λ w. took_some w n.now (message_at w ordinal)) (λ w. delivery_results w n.now (message_at w ordinal))) }
     {
-        let place = place_of(ids.as_slice(), n);
-        let index = (ordinal - 1) as usize;
-        let sent = self.sent.as_slice();
-        let message = &sent[index];
+        let place = place_of(ids.as_slice(), *n);
+        let message = self.sent.get((ordinal - 1) as usize)?;
         let nodes = self.nodes.as_mut_slice();
-        let did = nodes[place].deliver(alloc, message)?;
-        write_delivery(text, sent.len(), &n, message, &did)?;
-        keep(&mut self.sent, &mut self.last, did)
+        let did = nodes[place].deliver(alloc, &message)?;
+        write_delivery(text, self.sent.len(), n, &message, &did)?;
+        keep(&mut self.sent, &did)
     }
 
     // Writes what an act did, and keeps the message that it sends.
     fn finish(&mut self, n: NodeId, did: Did, text: &mut Text) -> Result<(), AllocError>
         ensures nodes { self.new.nodes ≡ self.old.nodes }
-        ensures written { OnOk result (text.new ≡ text.old ++ did_text (length self.old.sent.items) n self.old.act did) }
-        ensures sent { OnOk result (map message_of self.new.sent.items ≡ map message_of self.old.sent.items ++ sent_some (outcome_of did)) }
+        ensures written { OnOk result (text.new ≡ text.old ++ did_text (length self.old.sent) n self.old.act did) }
+        ensures sent { OnOk result (self.new.sent ≡ self.old.sent ++ sent_some (outcome_of did)) }
     {
-        let count = self.sent.as_slice().len();
-        write_did(text, count, n, &self.act, &did)?;
-        keep(&mut self.sent, &mut self.last, did)
+        write_did(text, self.sent.len(), n, &self.act, &did)?;
+        keep(&mut self.sent, &did)
     }
 }
 
@@ -317,54 +309,21 @@ fn unsent(node: &ReplayNode, n: &NodeId, text: &mut Text) -> Result<(), AllocErr
 }
 
 // Keeps the message that an act has sent.
-fn keep(sent: &mut Vec<SentMessage>, last: &mut usize, did: Did) -> Result<(), AllocError>
-    ensures { OnOk result (map message_of sent.new.items ≡ map message_of sent.old.items ++ sent_some (outcome_of did)) }
+fn keep(sent: &mut SentMessages, did: &Did) -> Result<(), AllocError>
+    ensures { OnOk result (sent.new ≡ sent.old ++ sent_some (outcome_of did.now)) }
 {
-    if let Did::Taken(effects) = did {
-        return keep_some(sent, last, effects.sends);
+    match did {
+        Did::Taken(effects) => keep_some(sent, &effects.sends),
+        _ => Ok(()),
     }
-    Ok(())
 }
 
-fn keep_some(
-    sent: &mut Vec<SentMessage>,
-    last: &mut usize,
-    message: Option<SentMessage>,
-) -> Result<(), AllocError>
-    ensures { OnOk result (map message_of sent.new.items ≡ map message_of sent.old.items ++ some_message message) }
+fn keep_some(sent: &mut SentMessages, message: &Option<SentMessage>) -> Result<(), AllocError>
+    ensures { OnOk result (sent.new ≡ sent.old ++ some_message message.now) }
 {
     match message {
         None => Ok(()),
-        Some(message) => {
-            if let SentMessage::Publish(_) = &message {
-                close_at(sent, *last);
-                *last = sent.as_slice().len();
-            }
-            let Ok(()) = sent.push(message) else {
-                return Err(AllocError);
-            };
-            Ok(())
-        }
-    }
-}
-
-// Closes the publication at this place, where one stands there.
-fn close_at(sent: &mut Vec<SentMessage>, place: usize)
-    ensures { map message_of sent.new.items ≡ map message_of sent.old.items }
-{
-    if place >= sent.as_slice().len() {
-        return;
-    }
-    let messages = sent.as_mut_slice();
-    close(&mut messages[place]);
-}
-
-fn close(message: &mut SentMessage)
-    ensures { message_of message.new ≡ message_of message.old }
-{
-    match message {
-        SentMessage::Publish(publication) => publication.close(),
-        _ => (),
+        Some(message) => sent.push(message),
     }
 }
 

@@ -100,6 +100,6 @@ pub fn survey(alloc: Global, schedule: &Schedule) -> Result<Survey, AllocError>
     let nodes = surveyed_nodes(alloc, replayer.nodes.as_slice())?;
     Ok(Survey {
         nodes,
-        sent: replayer.sent.as_slice().len() as u64,
+        sent: replayer.sent.len() as u64,
     })
 }

@@ -8,4 +8,4 @@ use Rattle.schedule_replay.proofs.generating.generate.Given as goal
 abbrev pub invariant-steps : goal.invariant-steps
 invariant-steps l =
     StandsBefore l.generator l.number l.counter
-    × Tallied Tallies l.header.nodes l.header.initial l.replayer.nodes.items l.replayer.sent.items l.tally (lines_by count_sent l.number l.counter)
+    × Tallied Tallies l.header.nodes l.header.initial l.replayer.nodes.items l.replayer.sent l.tally (lines_by count_sent l.number l.counter)

@@ -18,7 +18,7 @@ pub loop-line-preserved : goal.loop-line-preserved
 loop-line-preserved g c = (
   omega (arith, c.loop-line.invariant.0, c.pass_on.ensures.later),
   goes_on c.args.schedule.now.nodes c.args.schedule.now.initial _ _ _ _ _ (g.S.Sink.written c.loop-line.out) _ c.loop-line.held c.pass_on.new.held c.clear.new.self c.line.new.text c.as_slice-lines.result.now c.loop-line.line-index c.line-item.result _ _ c.loop-line-test.true c.line-item.is c.clear.ensures c.loop-line.invariant.1 c.in-Ok-line.ensures.done c.in_ok-pass_on.ensures.holds,
-  λ first. subst (λ (done : List Line). Tallied g.T.Observer.saw c.args.schedule.now.nodes c.args.schedule.now.initial c.line.new.self.nodes.items c.line.new.self.sent.items c.pass_on.new.observer done)
+  λ first. subst (λ (done : List Line). Tallied g.T.Observer.saw c.args.schedule.now.nodes c.args.schedule.now.initial c.line.new.self.nodes.items c.line.new.self.sent c.pass_on.new.observer done)
       (sym (taken_more c.as_slice-lines.result.now c.loop-line.line-index c.line-item.result c.loop-line-test.true c.line-item.is))
       (one_more g.T.Observer.saw c.args.schedule.now.nodes c.args.schedule.now.initial _ _ _ _ _ _ _ c.line.new.text _ c.line-item.result c.clear.ensures (c.loop-line.invariant.2 first) c.in-Ok-line.ensures.done c.in_ok-pass_on.ensures.observed),
 )

@@ -8,5 +8,5 @@ use Rattle.schedule_replay.proofs.replaying.replay_core.Given as goal
 abbrev pub invariant-loop-line : goal.invariant-loop-line
 invariant-loop-line g l =
     (g.S.Sink.faults l.initial.out ≤ g.S.Sink.faults l.out)
-    × SoFar l.schedule.nodes l.schedule.initial l.replayer.nodes.items l.replayer.sent.items (g.S.Sink.written l.initial.out) (g.S.Sink.written l.out) l.held (drop l.line-index l.lines) (trace l.schedule) (last_world l.schedule)
-    × (g.T.Observer.saw l.initial.observer [] → Tallied g.T.Observer.saw l.schedule.nodes l.schedule.initial l.replayer.nodes.items l.replayer.sent.items l.observer (take l.line-index l.lines))
+    × SoFar l.schedule.nodes l.schedule.initial l.replayer.nodes.items l.replayer.sent (g.S.Sink.written l.initial.out) (g.S.Sink.written l.out) l.held (drop l.line-index l.lines) (trace l.schedule) (last_world l.schedule)
+    × (g.T.Observer.saw l.initial.observer [] → Tallied g.T.Observer.saw l.schedule.nodes l.schedule.initial l.replayer.nodes.items l.replayer.sent l.observer (take l.line-index l.lines))

@@ -12,6 +12,6 @@ bounds-nodes-place c = place_inside _ _ _ _ _ _ _ _ (record { is = c.as_slice.en
 
 pub returns : goal.returns
 returns c = record {
-  done = on_ok_weaker c.unsent.result (λ written. not_sent _ _ _ c.as_slice-sent.result.now _ _ c.args.n c.args.ordinal c.as_slice-sent.ensures.value (omega arith) (λ w s.
-      written w (subst (λ (x : ReplayNode). NodeStands x (node_world w c.args.n)) (sym c.index-nodes-place.is) (here _ _ _ _ _ _ _ _ (record { is = c.as_slice.ensures.value; found = c.place_of-place.ensures; lent_is = c.as_slice-nodes.ensures.value; long = c.as_slice-nodes.ensures.len; stands = c.requires.stands }) c.index-nodes-place.result w s).1))) c.unsent.ensures;
+  done = on_ok_weaker c.unsent.result (λ written. not_sent _ _ _ _ _ c.args.n.now c.args.ordinal (omega (arith, c.len.ensures.value)) (λ w s.
+      written w (subst (λ (x : ReplayNode). NodeStands x (node_world w c.args.n.now)) (sym c.index-nodes-place.is) (here _ _ _ _ _ _ _ _ (record { is = c.as_slice.ensures.value; found = c.place_of-place.ensures; lent_is = c.as_slice-nodes.ensures.value; long = c.as_slice-nodes.ensures.len; stands = c.requires.stands }) c.index-nodes-place.result w s).1))) c.unsent.ensures;
 }

@@ -1,6 +1,6 @@
 use Rattle.std.proofs.lemmas.Result.{IfOk-weaker}
 use Rattle.replay_node.proofs.Kept.{good_bytes, held_bytes}
-use Rattle.replay_node.proofs.message.spelled.Goals as goal
+use Rattle.replay_node.proofs.packed.spelled.Goals as goal
 
 pub returns-clause-good : goal.returns-clause-good
 returns-clause-good c = IfOk-weaker c.encode_state.result _ _ (λ bytes spelled. good_bytes c.args.written.now bytes.items spelled) c.encode_state.ensures

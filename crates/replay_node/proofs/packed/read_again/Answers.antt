@@ -2,7 +2,7 @@ use Rattle.std.proofs.Common.{◌∙◌, subst, sym}
 use Rattle.std.proofs.lemmas.Result.{IfOk-weaker}
 use Rattle.cluster_state.specs.States.{IsFit}
 use Rattle.replay_node.proofs.Kept.{read_bytes}
-use Rattle.replay_node.proofs.message.read_again.Goals as goal
+use Rattle.replay_node.proofs.packed.read_again.Goals as goal
 
 pub returns-clause-state : goal.returns-clause-state
 returns-clause-state c = IfOk-weaker c.decode.result _ _ (λ s is. is ∙ read_bytes _ c.of_checked-view.result c.of_checked-view.ensures) c.decode.ensures
