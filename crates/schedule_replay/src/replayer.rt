@@ -183,7 +183,7 @@ impl Replayer {
         let place = place_of(ids.as_slice(), n);
         let nodes = self.nodes.as_mut_slice();
         let did = nodes[place].set_initial(alloc, initial)?;
-        self.finish(n, did, text)
+        self.finish(n, &did, text)
     }
 
     fn start_join(
@@ -206,7 +206,7 @@ impl Replayer {
         let place = place_of(ids.as_slice(), n);
         let nodes = self.nodes.as_mut_slice();
         let did = nodes[place].start_join(alloc, candidate, term)?;
-        self.finish(n, did, text)
+        self.finish(n, &did, text)
     }
 
     fn client_value(
@@ -234,7 +234,7 @@ impl Replayer {
         let place = place_of(ids.as_slice(), n);
         let nodes = self.nodes.as_mut_slice();
         let did = nodes[place].client_value(alloc, version, &self.config, settings)?;
-        self.finish(n, did, text)
+        self.finish(n, &did, text)
     }
 
     #[inline(always)]
@@ -287,13 +287,13 @@ impl Replayer {
     }
 
     // Writes what an act did, and keeps the message that it sends.
-    fn finish(&mut self, n: NodeId, did: Did, text: &mut Text) -> Result<(), AllocError>
+    fn finish(&mut self, n: NodeId, did: &Did, text: &mut Text) -> Result<(), AllocError>
         ensures nodes { self.new.nodes ≡ self.old.nodes }
-        ensures written { OnOk result (text.new ≡ text.old ++ did_text (length self.old.sent) n self.old.act did) }
-        ensures sent { OnOk result (self.new.sent ≡ self.old.sent ++ sent_some (outcome_of did)) }
+        ensures written { OnOk result (text.new ≡ text.old ++ did_text (length self.old.sent) n self.old.act did.now) }
+        ensures sent { OnOk result (self.new.sent ≡ self.old.sent ++ sent_some (outcome_of did.now)) }
     {
-        write_did(text, self.sent.len(), n, &self.act, &did)?;
-        keep(&mut self.sent, &did)
+        write_did(text, self.sent.len(), n, &self.act, did)?;
+        keep(&mut self.sent, did)
     }
 }
 
