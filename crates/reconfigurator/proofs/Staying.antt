@@ -48,7 +48,7 @@ first_and_others master ids in_it =
     let others = outside ids (master ∷ []) in
     let all : are_among others others ≡ true = among_from others others (λ x h. h) in
     let first : (if has master ids || has master ids then master ∷ [] else []) ≡ master ∷ [] = rw in_it refl in
-    ap (λ (front : List Id). front ++ among others others ++ outside others others ++ outside others others) first
+    ap (λ (prefix : List Id). prefix ++ among others others ++ outside others others ++ outside others others) first
     ∙ ap (λ (kept : List Id). (master ∷ []) ++ kept ++ outside others others ++ outside others others) (among_all others others all)
     ∙ ap (λ (none : List Id). (master ∷ []) ++ others ++ none ++ none) (outside_all others others all)
     ∙ append-nil (((master ∷ []) ++ others) ++ [])

@@ -43,8 +43,8 @@ fn are_same(ids: &NodeSet, others: &NodeSet) -> bool
     ids.as_slice() == others.as_slice()
 }
 
-// Whether it is plain that just the voters of today are chosen, as most often: they are those that are live, the master is one of them, none is
-// excluded, and as many are taken. Where it is false, `chosen` tells.
+// Whether it is plain that just the voters of today are chosen, as most often: they are those that are live, the master is one of them,
+// none is excluded, and as many are taken. Where it is false, `chosen` tells.
 fn all_stay(
     live: &NodeSet,
     excluded: &NodeSet,
