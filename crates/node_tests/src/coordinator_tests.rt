@@ -23,7 +23,7 @@ use std::marker::Model;
 use std::test::*;
 use text::Text;
 use voting_config::NodeId;
-use wire_frames::{Frame, WireMessage};
+use wire_frames::{BoxedFrame, Frame, WireMessage};
 use zen_disk::{Fuse, MemDisks, Order, Way};
 
 // ---- events
@@ -47,7 +47,7 @@ fn read_tick(fields: &str) -> Result<Event, Fail>
 }
 
 // What b, which has accepted nothing, answers a that asks it for a pre-vote, where b is in this term.
-fn read_answer(term: &str) -> Result<Event, Fail>
+fn read_answer(alloc: Global, term: &str) -> Result<Event, Fail>
     ensures { IfOk result IsFitEvent }
 {
     let term = term.parse::<u64>()?;
@@ -58,15 +58,16 @@ fn read_answer(term: &str) -> Result<Event, Fail>
         term: 0,
         version: 0,
     };
-    Ok(Event::Frame(Frame {
+    let frame = Frame {
         from: NodeId::parse("b")?,
         to: NodeId::parse("a")?,
         message: WireMessage::PreVoteAnswer { term, last },
-    }))
+    };
+    Ok(Event::Frame(BoxedFrame::of(alloc, frame)?))
 }
 
 // A join of v by itself in this term, as no sound node sends it.
-fn read_join(term: &str) -> Result<Event, Fail>
+fn read_join(alloc: Global, term: &str) -> Result<Event, Fail>
     ensures { IfOk result IsFitEvent }
 {
     let term = term.parse::<u64>()?;
@@ -78,11 +79,12 @@ fn read_join(term: &str) -> Result<Event, Fail>
         version: 0,
     };
     let v = NodeId::parse("v")?;
-    Ok(Event::Frame(Frame {
+    let frame = Frame {
         from: v,
         to: v,
         message: WireMessage::Join { term, last },
-    }))
+    };
+    Ok(Event::Frame(BoxedFrame::of(alloc, frame)?))
 }
 
 fn read_client(alloc: Global, line: &str) -> Result<Event, Fail>
@@ -179,7 +181,8 @@ impl World {
         ensures { IfOk result IsFitEvent }
     {
         if 0 < number && number <= self.sent.len() {
-            return Ok(Event::Frame(self.sent[number - 1].copy()?));
+            let frame = self.sent[number - 1].copy()?;
+            return Ok(Event::Frame(BoxedFrame::of(self.alloc, frame)?));
         }
         Err(Fail::new(format_args!("frame {number} was not sent")))
     }
@@ -195,10 +198,10 @@ impl World {
             return read_client(self.alloc, fields);
         }
         if verb == "answers" {
-            return read_answer(fields);
+            return read_answer(self.alloc, fields);
         }
         if verb == "joins" {
-            return read_join(fields);
+            return read_join(self.alloc, fields);
         }
         read_tick(fields)
     }
