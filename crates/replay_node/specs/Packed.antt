@@ -26,7 +26,8 @@ unpacked roster (packed.Join source target term last_term last_version) =
 unpacked roster (packed.Publish source bytes) = PublishMessage (request_in (id_at roster source) bytes.items)
 unpacked roster (packed.Response source target term version) =
     ResponseMessage (record { source = id_at roster source; target = id_at roster target; term = term; version = version })
-unpacked roster (packed.Commit source term version) = CommitMessage (record { source = id_at roster source; term = term; version = version })
+unpacked roster (packed.Commit source term version) =
+    CommitMessage (record { source = id_at roster source; term = term; version = version })
 unpacked roster (packed.Whole message) = message_of message.value
 
 -- its places are on the roster, and its bytes spell a state
