@@ -87,7 +87,7 @@ pub enum SentMessage {
 }
 
 impl SentMessage {
-    /// The same message once more.
+    /// The same message once more. The error means that memory ran out.
     pub fn copy(&self) -> Result<SentMessage, AllocError>
         ensures { IfOk result (λ m. message_of m ≡ message_of self.now) }
     {

@@ -20,7 +20,7 @@ impl Model for BoxedFrame {
 }
 
 impl BoxedFrame {
-    /// This frame.
+    /// This frame, in a place of its own. The error means that memory ran out.
     pub fn of(alloc: Global, frame: Frame) -> Result<BoxedFrame, AllocError>
         ensures { IfOk result (λ boxed. boxed ≡ frame) }
     {

@@ -116,7 +116,7 @@ impl<'a> FrameView<'a> {
         })
     }
 
-    /// The frame by itself, as [`FrameView::frame`] makes it, in a place of its own.
+    /// The frame by itself, as [`FrameView::frame`] makes it, in a place of its own. The error means that memory ran out.
     pub fn boxed(&self, alloc: Global) -> Result<BoxedFrame, AllocError>
         ensures found { IfOk result (λ f. f ≡ shown self.now) }
         ensures fit { IfOk result IsFitFrame }
