@@ -1,5 +1,5 @@
 //! The checks of the followers by their leader: which of them fail, and which lag.
-ghost use Rattle.std.specs.Prelude.{◌≡◌, ◌<◌, ◌≤◌, length, map, filter, IsTrue, if◌then◌else◌};
+ghost use Rattle.std.specs.Prelude.{◌≡◌, ◌<◌, ◌≤◌, length, map, filter, true, IsTrue, if◌then◌else◌};
 ghost use Rattle.std.specs.List.{list_all};
 ghost use Rattle.voting_config.specs.Ids.{with_id, most_ids, ascends};
 ghost use Rattle.fault_checks.specs.declared.followers.Follower.{Follower as FollowerOf};
@@ -175,6 +175,18 @@ impl FollowerChecks {
         self.watched = ticked(self.watched.as_slice(), now);
         checked
     }
+
+    /// A [tick](FollowerChecks::tick) that drops nobody, now, in ms: whom to ask.
+    pub fn tick_all(&mut self, now: u64) -> NodeSet
+        requires { list_all (λ (f : FollowerOf). stays_of f now) self.old.watched ≡ true }
+        ensures ask { result ≡ to_ask self.old.watched now }
+        ensures now { self.new ≡ after self.old (Ticked now) }
+        ensures calls { (calls : Calls) → StandsFor self.old calls → StandsFor self.new (Then calls (Ticked now)) }
+    {
+        let ask = chosen(self.watched.as_slice(), Choice::Asked, now);
+        tick_each(self.watched.as_mut_slice(), now);
+        ask
+    }
 }
 
 fn fallen_behind(
@@ -336,6 +348,14 @@ fn ticked_at(follower: &Follower, now: u64) -> Follower
         check: checking::ticked_at(follower.check, now),
         applied: follower.applied,
         behind: follower.behind,
+    }
+}
+
+fn tick_each(watched: &mut [Follower], now: u64)
+    ensures { watched.new ≡ map (λ (f : FollowerOf). record f { check = ticked_at_of f.check now }) watched.old }
+{
+    for follower in watched {
+        *follower = ticked_at(follower, now);
     }
 }
 

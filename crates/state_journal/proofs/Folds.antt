@@ -3,7 +3,7 @@ use Rattle.std.proofs.Common.{◌≡◌, ℕ, ◌+◌, ◌<◌, List, [], ◌∷
 use Rattle.std.specs.declared.alloc.Global.{Global}
 use Rattle.std.proofs.lemmas.List.{drop_more}
 use Rattle.gate_log.specs.Opened.{lists}
-use Rattle.std.specs.Prelude.{Result, Vec, Option, Some, None, not, ◌&&◌}
+use Rattle.std.specs.Prelude.{Result, Vec, Option, None, not, ◌&&◌}
 use Rattle.std.proofs.Math.Bool.{and-false}
 use Rattle.std.proofs.lemmas.Bool.{cond-true}
 use Rattle.cluster_state.specs.declared.state.Kept.{Kept}

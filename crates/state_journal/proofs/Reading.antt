@@ -4,8 +4,7 @@ use Rattle.std.specs.Prelude.{IfOk, Result, None}
 use Rattle.cluster_state.specs.declared.fault.StateFault.{StateFault}
 use Rattle.cluster_state.specs.declared.fault.StateFault.TheVariants.{Field as StateField, Trailing as StateTrailing}
 use Rattle.cluster_state.specs.declared.state.ClusterState.{ClusterState}
-use Rattle.cluster_state.specs.Field.{Field}
-use Rattle.cluster_state.specs.States.{whole, state, IsFit}
+use Rattle.cluster_state.specs.States.{whole, IsFit}
 use Rattle.cluster_state.proofs.Laws.{IsBytes}
 use Rattle.cluster_state.proofs.Whole.{whole_takes, is_fit}
 use Rattle.state_journal.specs.Bodies.{change_by, generation, old_state, old_generation}
@@ -13,7 +12,6 @@ use Rattle.state_journal.specs.Reads.{ReadsChange, IsFitChange}
 use Rattle.state_journal.specs.declared.body.BodyError.{BodyError}
 use Rattle.state_journal.specs.declared.change.Change.{Change}
 use Rattle.state_journal.specs.declared.change.Change.TheVariants.{Accepted, Renewed}
-use Rattle.state_journal.specs.declared.change.Generation.{Generation}
 use Rattle.state_journal.proofs.Spelled.{generation_law, old_state_law, old_generation_law}
 
 change_from : {A : Type 0} (make : A → Change) (read : Result A StateFault) (change : Change) → change_by make read ≡ Ok change → (x : A) × (read ≡ Ok x) × (change ≡ make x)

@@ -8,11 +8,12 @@ ghost use Rattle.gate_log.specs.Opened.{generations_in, lists};
 ghost use Rattle.gate_log.specs.Place.{place};
 ghost use Rattle.zen_disk.specs.Moments.{LeavesOnly};
 ghost use Rattle.zen_disk.specs.Runs.{CallsMade};
-ghost use Rattle.state_journal.specs.Bodies.{holds_old as spec_holds_old};
+ghost use Rattle.state_journal.specs.Bodies.{body_of, holds_old as spec_holds_old};
 ghost use Rattle.state_journal.specs.Drafts.{IsDraft};
 ghost use Rattle.state_journal.specs.Fit.{IsFit-prop, IsDraft-prop};
 ghost use Rattle.state_journal.specs.Keeping.{keeping_calls};
 ghost use Rattle.state_journal.specs.Journal.{found_of, records_of, only_record, record_stays, FoundAsSome, StoodFor};
+ghost use Rattle.state_journal.specs.declared.change.Change.TheVariants as change;
 
 use crate::body::{committed_body, is_guarded, term_body};
 use crate::draft::Draft;
@@ -20,6 +21,7 @@ use crate::fold::{FoundError, fold_sides};
 use crate::keep::{due_after, keep_small, keep_state, records_after};
 use crate::refusal::refused;
 use crate::{ArmKeeper, KeepError, Keeper, OpenError, Ready};
+use arrayvec::ArrayVec;
 use cluster_state::Kept;
 use gate_log::{GateLog, Opened};
 use std::alloc::Global;
@@ -39,6 +41,8 @@ pub struct StateJournal<D: Disks> {
     due: bool,
     // the accepted state, ready to begin a generation
     draft: Draft,
+    // the body that marks the accepted configuration as committed, which is the same each time
+    mark: ArrayVec<u8, 64>,
     ghost stands: { D.told → log.stopped ≡ false → found_of (D.seen log.disk) ≡ Ok kept },
     ghost counted: { D.told → log.stopped ≡ false → records ≡ records_of (D.seen log.disk) },
     ghost aged: { D.told → log.stopped ≡ false → due ≡ spec_holds_old (in_use (standing_in (D.seen log.disk))) },
@@ -46,6 +50,7 @@ pub struct StateJournal<D: Disks> {
     ghost fit: { IsFit kept.accepted } by { IsFit-prop kept.accepted },
     ghost older: { kept.accepted.term ≤ kept.term },
     ghost drafted: { IsDraft kept.accepted draft } by { IsDraft-prop kept.accepted draft },
+    ghost marks: { mark.items ≡ body_of change.Committed },
 }
 
 // How many bodies the side in use has.
@@ -124,12 +129,14 @@ impl<D: Disks> StateJournal<D> {
         };
         let records = count_in_use(opened.log.side(), &opened.zero, &opened.one);
         let due = old_in_use(opened.log.side(), &opened.zero, &opened.one);
+        let mark = committed_body();
         Ok(StateJournal {
             log: opened.log,
             kept,
             records,
             due,
             draft,
+            mark,
         })
     }
 
@@ -236,14 +243,13 @@ impl<D: Disks> Keeper for StateJournal<D> {
         if self.log.stopped() {
             return Err(KeepError::Stopped);
         }
-        let body = committed_body();
-        let records = records_after(&self.log, self.due, self.records, body.len());
-        let due = due_after(&self.log, self.due, body.len());
+        let records = records_after(&self.log, self.due, self.records, self.mark.len());
+        let due = due_after(&self.log, self.due, self.mark.len());
         let Ok(()) = keep_small(
             &mut self.log,
             &mut self.draft,
             self.due,
-            &body,
+            &self.mark,
             self.kept.term,
             &self.kept.accepted.config,
         ) else {

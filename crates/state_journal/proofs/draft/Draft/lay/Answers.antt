@@ -1,4 +1,4 @@
-use Rattle.std.proofs.Common.{◌≡◌, ◌+◌, length, ◌∙◌, arith}
+use Rattle.std.proofs.Common.{◌+◌, length, ◌∙◌, arith}
 use Rattle.state_journal.proofs.Frames.{laid_frame}
 use Rattle.state_journal.proofs.draft.Draft.lay.Goals as goal
 

@@ -39,4 +39,5 @@ invariant_of-result g c =
       fit = c.in-Ok-fold_sides.ensures.fit.fit;
       older = c.in-Ok-fold_sides.ensures.fit.older;
       drafted = rw (sym shown) c.in-Ok-new.ensures;
+      marks = c.committed_body-mark.ensures;
     }

@@ -16,16 +16,16 @@ use Rattle.state_journal.proofs.Writing.{MayFollow, few, stands_after, counted_a
 use Rattle.state_journal.proofs.journal.StateJournalKeeper.mark_committed.Goals as goal
 
 pub returns-then-stopped-clause-unchanged : goal.returns-then-stopped-clause-unchanged
-returns-then-stopped-clause-unchanged g c = λ stopped. same_journal _ _ refl refl refl refl refl
+returns-then-stopped-clause-unchanged g c = λ stopped. same_journal _ _ refl refl refl refl refl refl
 
 pub keep_small-requires-clause-plain : goal.keep_small-requires-clause-plain
-keep_small-requires-clause-plain g c = subst (λ (b : List ℕ). is_generation b ≡ false) (sym (c.deref.ensures.0 ∙ c.committed_body-body.ensures)) committed_plain
+keep_small-requires-clause-plain g c = subst (λ (b : List ℕ). is_generation b ≡ false) (sym (c.deref.ensures.0 ∙ c.args.self.now.marks)) committed_plain
 
 pub returns-in_default-clause-any_moment : goal.returns-in_default-clause-any_moment
 returns-in_default-clause-any_moment g c = λ told running.
     let old = c.args.self.now in
     let shown : c.deref-2.result.now ≡ old.kept.accepted = search rules in
-    commit_leaves old told running c.deref-2.result.now shown _ _ (c.deref.ensures.0 ∙ c.committed_body-body.ensures) c.keep_small.ensures.fits (c.keep_small.ensures.any_moment told old.kept.accepted old.drafted)
+    commit_leaves old told running c.deref-2.result.now shown _ _ (c.deref.ensures.0 ∙ c.args.self.now.marks) c.keep_small.ensures.fits (c.keep_small.ensures.any_moment told old.kept.accepted old.drafted)
 
 pub invariant_of-self-2 : goal.invariant_of-self-2
 invariant_of-self-2 g c =
@@ -34,7 +34,7 @@ invariant_of-self-2 g c =
     let now = c.keep_small.new.log in
     let p = place old.log in
     let change = Committed in
-    let same : c.deref.result.now ≡ body_of change = c.deref.ensures.0 ∙ c.committed_body-body.ensures in
+    let same : c.deref.result.now ≡ body_of change = c.deref.ensures.0 ∙ c.args.self.now.marks in
     let next = changed old.kept change in
     let ran : old.log.stopped ≡ false = sym c.stopped.ensures ∙ c.if-stopped.false in
     let may : MayFollow old.kept change = record { reads = reads_committed; order = refl } in
@@ -45,8 +45,8 @@ invariant_of-self-2 g c =
     (subst (λ (s : ClusterState). standing_in (g.D.Disks.seen now.disk)
     ≡ written_in (renews old.due p c.deref.result.now) (standing_in (g.D.Disks.seen old.log.disk)) c.deref.result.now (generation_after p (record_with old.kept.term old.kept.accepted s.config))) shown
     (c.in-Ok.ensures.ok told old.kept.accepted old.drafted)) in
-    let size : length (body_of change) ≡ c.len.result = ap length (sym c.committed_body-body.ensures) ∙ sym c.len.ensures.value in
-    let size_again : length (body_of change) ≡ c.len-2.result = ap length (sym c.committed_body-body.ensures) ∙ sym c.len-2.ensures.value in
+    let size : length (body_of change) ≡ c.len.result = ap length (sym old.marks) ∙ sym c.len.ensures.value in
+    let size_again : length (body_of change) ≡ c.len-2.result = ap length (sym old.marks) ∙ sym c.len-2.ensures.value in
     record {
       stands = λ told running.
           let is = is_open old told ran in
@@ -62,10 +62,11 @@ invariant_of-self-2 g c =
       fit = rw c.commit.ensures old.fit;
       older = rw c.commit.ensures old.older;
       drafted = rw c.commit.ensures (record { spelled = c.keep_small.ensures.same ∙ old.drafted.spelled; fits = old.drafted.fits });
+      marks = old.marks;
     }
 
 pub returns-clause-any_moment : goal.returns-clause-any_moment
 returns-clause-any_moment g c = λ told running.
     let old = c.args.self.now in
     let shown : c.deref-2.result.now ≡ old.kept.accepted = search rules in
-    commit_leaves old told running c.deref-2.result.now shown _ _ (c.deref.ensures.0 ∙ c.committed_body-body.ensures) c.keep_small.ensures.fits (c.keep_small.ensures.any_moment told old.kept.accepted old.drafted)
+    commit_leaves old told running c.deref-2.result.now shown _ _ (c.deref.ensures.0 ∙ c.args.self.now.marks) c.keep_small.ensures.fits (c.keep_small.ensures.any_moment told old.kept.accepted old.drafted)

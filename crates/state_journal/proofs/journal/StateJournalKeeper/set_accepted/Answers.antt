@@ -13,7 +13,7 @@ use Rattle.state_journal.proofs.Writing.{few, stands_after, counted_after, due_a
 use Rattle.state_journal.proofs.journal.StateJournalKeeper.set_accepted.Goals as goal
 
 pub returns-then-stopped-clause-unchanged : goal.returns-then-stopped-clause-unchanged
-returns-then-stopped-clause-unchanged g c = λ stopped. same_journal _ _ refl refl refl refl refl
+returns-then-stopped-clause-unchanged g c = λ stopped. same_journal _ _ refl refl refl refl refl refl
 
 pub records_after-records-requires : goal.records_after-records-requires
 records_after-records-requires g c = let ready = c.ready.inside in omega (arith, c.len.ensures, draft_short ready.state ready.draft ready.drafted)
@@ -63,6 +63,7 @@ invariant_of-self-2 g c =
       fit = rw c.accept.ensures c.ready.inside.fit;
       older = rw c.accept.ensures older;
       drafted = rw c.accept.ensures (record { spelled = c.keep_state.ensures.same ∙ drafted.spelled; fits = drafted.fits });
+      marks = old.marks;
     }
 
 pub returns-clause-any_moment : goal.returns-clause-any_moment

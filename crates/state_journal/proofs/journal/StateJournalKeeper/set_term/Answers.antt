@@ -14,7 +14,7 @@ use Rattle.state_journal.proofs.Writing.{MayFollow, few, stands_after, counted_a
 use Rattle.state_journal.proofs.journal.StateJournalKeeper.set_term.Goals as goal
 
 pub returns-then-stopped-clause-unchanged : goal.returns-then-stopped-clause-unchanged
-returns-then-stopped-clause-unchanged g c = λ stopped. same_journal _ _ refl refl refl refl refl
+returns-then-stopped-clause-unchanged g c = λ stopped. same_journal _ _ refl refl refl refl refl refl
 
 pub keep_small-requires-clause-plain : goal.keep_small-requires-clause-plain
 keep_small-requires-clause-plain g c = subst (λ (b : List ℕ). is_generation b ≡ false) (sym (c.deref.ensures.0 ∙ c.term_body-body.ensures)) (term_plain c.args.term)
@@ -61,6 +61,7 @@ invariant_of-self-2 g c =
       fit = old.fit;
       older = omega (arith, old.older, c.requires.above);
       drafted = record { spelled = c.keep_small.ensures.same ∙ old.drafted.spelled; fits = old.drafted.fits };
+      marks = old.marks;
     }
 
 pub returns-clause-any_moment : goal.returns-clause-any_moment
