@@ -74,7 +74,7 @@ pub(crate) fn write_outcome(
     ensures { OnOk result (text.new ≡ text.old ++ outcome_line node outcome.now act.now) }
 {
     match act {
-        Act::Open(found) => write_record(text, node, found),
+        Act::Open(found) => write_record(text, node, found.kept()),
         _ => write_act_line(text, alloc, node, outcome_end(outcome), act),
     }
 }

@@ -23,7 +23,7 @@ fn term_after(term: u64, first: bool, entry: &Entry) -> u64
                 term
             }
         }
-        Act::Open(found) => { if first { found.term } else { term } }
+        Act::Open(found) => { if first { found.kept().term } else { term } }
         Act::Bootstrap(_) => term,
         Act::TakeJoin(_) => term,
         Act::Value(_, _, _) => term,
@@ -81,7 +81,7 @@ pub(crate) fn accepted_after(
         }
         Act::Open(found) => {
             if first {
-                found.accepted.share()
+                found.kept().accepted.share()
             } else {
                 Ok(accepted)
             }
@@ -141,7 +141,7 @@ fn committed_after(
         }
         Act::Open(found) => {
             if first {
-                VotingConfig::of(found.committed.members())
+                VotingConfig::of(found.kept().committed.members())
             } else {
                 committed
             }

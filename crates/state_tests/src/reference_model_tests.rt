@@ -12,7 +12,7 @@ use state_journal::{PlainKeeper, Ready};
 use std::alloc::{AllocError, Global};
 use std::test::Fail;
 use voting_config::{MAX_IDS, NodeId, NodeSet, VotingConfig};
-use world_model::{Act, ActReply, Message, Outcome};
+use world_model::{Act, ActReply, BoxedKept, Message, Outcome};
 
 // What a node is to do. The states are those of a in term 1, and the messages are to or from a.
 #[derive(Clone, Copy)]
@@ -280,7 +280,7 @@ struct Driven {
 
 // The opening of an empty journal.
 fn opening(alloc: Global) -> Result<Vec<Entry>, AllocError> {
-    let found = Kept::empty(alloc)?;
+    let found = BoxedKept::of(alloc, Kept::empty(alloc)?)?;
     let mut entries = Vec::new(alloc);
     entries.push(Entry {
         act: Act::Open(found),

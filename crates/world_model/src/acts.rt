@@ -1,7 +1,8 @@
 //! What a node does: its acts, what they send, and how they end.
 
+use crate::BoxedKept;
 use cluster_state::{
-    ApplyCommit, CommitCause, InitialCause, Join, JoinCause, Kept, PublishCause, PublishRequest,
+    ApplyCommit, CommitCause, InitialCause, Join, JoinCause, PublishCause, PublishRequest,
     PublishResponse, ResponseCause, SharedConfig, SharedValue, StartCause, ValueCause,
 };
 use voting_config::NodeId;
@@ -24,7 +25,7 @@ pub enum Act {
     /// The accepted state is committed.
     Commit(ApplyCommit),
     /// The journal is opened, and holds this record.
-    Open(Kept),
+    Open(BoxedKept),
 }
 
 /// What an act sends.
