@@ -1,9 +1,10 @@
 //! Requests, faults and replies with their texts, in the forms of docs/formats.md.
+use crate::names::{id, set};
 use client_lines::*;
 use cluster_state::{ClusterState, SharedState, StateId};
 use std::alloc::{AllocError, Global};
 use std::test::*;
-use voting_config::{NodeId, NodeSet};
+use voting_config::NodeSet;
 
 const TOO_LONG: &str = "the line has more than 8192 bytes";
 
@@ -47,14 +48,6 @@ fn push_word(text: &mut String, word: &str) -> Result<(), AllocError> {
 fn is_read_as(alloc: Global, line: &[u8], want: &str) -> Result<bool, AllocError> {
     let read = written(alloc, line)?;
     Ok(read.as_str() == want)
-}
-
-fn id(text: &str) -> NodeId {
-    NodeId::parse(text).unwrap_or_default()
-}
-
-fn set(text: &str) -> NodeSet {
-    NodeSet::parse(text).unwrap_or(NodeSet::new())
 }
 
 // Lines, with the requests that they are.
@@ -404,7 +397,7 @@ fn answer(place: usize) -> Answer {
     }
 }
 
-const ANSWERS: [&str; 10] = [
+const ANSWERS: &[&str] = &[
     r#"{"acked":{"term":1,"version":2},"id":65}"#,
     r#"{"id":65,"not_master":"a"}"#,
     r#"{"id":65,"not_master":null}"#,

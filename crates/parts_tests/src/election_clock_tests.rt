@@ -25,19 +25,13 @@ const PASSED: &[(u64, u64, u64, bool)] = &[
 
 #[test]
 fn delays_grow_with_the_attempts_up_to_ten_seconds(rt: HostRuntime) {
-    for row in DELAYS {
-        let (attempt, word, want) = *row;
-        assert!(rt; delay(attempt, word) == want, "attempt {attempt}");
+    for (attempt, word, want) in DELAYS {
+        assert!(rt; delay(*attempt, *word) == *want);
     }
-    for row in DUE {
-        let (at, now, want) = *row;
-        assert!(rt; due(at, now) == want, "at {now}");
+    for (at, now, want) in DUE {
+        assert!(rt; due(*at, *now) == *want);
     }
-    for row in PASSED {
-        let (since, span, now, want) = *row;
-        assert!(rt;
-            has_passed(since, span, now) == want,
-            "since {since} at {now}"
-        );
+    for (since, span, now, want) in PASSED {
+        assert!(rt; has_passed(*since, *span, *now) == *want);
     }
 }

@@ -1,16 +1,10 @@
 //! Which exclusions are taken, and when a clear is refused. The answers follow from docs/policy.md.
+use crate::names::{config, id, set};
 use exclusions::*;
-use std::alloc::{AllocError, Global};
+use std::alloc::Global;
+use std::fmt::Display;
 use std::test::*;
-use voting_config::{NodeId, NodeSet, VotingConfig};
-
-fn set(text: &str) -> NodeSet {
-    NodeSet::parse(text).unwrap_or(NodeSet::new())
-}
-
-fn config(text: &str) -> VotingConfig {
-    VotingConfig::of(&set(text))
-}
+use voting_config::NodeSet;
 
 // Whether a text lists these ids. The sentence of a refusal lists none, and is not the empty set.
 fn is_set(ids: &NodeSet, text: &str) -> bool {
@@ -20,25 +14,27 @@ fn is_set(ids: &NodeSet, text: &str) -> bool {
     }
 }
 
-// Whether these are excluded then, or it is refused so.
-fn is_added(
-    alloc: Global,
-    excluded: &str,
-    members: &str,
-    asked: &str,
-    want: &str,
-) -> Result<bool, AllocError> {
-    match add(&set(excluded), &set(members), &set(asked)) {
-        Ok(ids) => Ok(is_set(&ids, want)),
-        Err(error) => {
-            let text = format!(in alloc; "{error}")?;
-            Ok(text.as_str() == want)
-        }
+// Whether a refusal is written so.
+fn is_written<E: Display>(alloc: Global, error: &E, want: &str) -> bool {
+    match format!(in alloc; "{error}") {
+        Ok(text) => text.as_str() == want,
+        Err(_) => false,
     }
 }
 
 // Excluded nodes, members, nodes to exclude as well, and what comes of that.
-const ADDED: &[(&str, &str, &str, &str)] = &[
+type Row = (&'static str, &'static str, &'static str, &'static str);
+
+// Whether these are excluded then, or it is refused so.
+fn is_added(alloc: Global, row: &Row) -> bool {
+    let (excluded, members, asked, want) = *row;
+    match add(&set(excluded), &set(members), &set(asked)) {
+        Ok(ids) => is_set(&ids, want),
+        Err(error) => is_written(alloc, &error, want),
+    }
+}
+
+const ADDED: &[Row] = &[
     ("_", "a,b,c", "c", "c"),
     ("c", "a,b,c", "b", "b,c"),
     ("c", "a,b,c", "b,c", "b,c"),
@@ -60,54 +56,55 @@ const ADDED: &[(&str, &str, &str, &str)] = &[
 ];
 
 #[test]
-fn at_most_ten_nodes_are_excluded_members_or_not(rt: HostRuntime) -> Result<(), Fail> {
-    for row in ADDED {
-        let (excluded, members, asked, want) = *row;
-        assert!(rt;
-            is_added(rt.alloc(), excluded, members, asked, want)?,
-            "{want}"
-        );
+fn at_most_ten_nodes_are_excluded_members_or_not(rt: HostRuntime) {
+    for (at, row) in ADDED.iter().enumerate() {
+        assert!(rt; is_added(rt.alloc(), row), "row {at}");
     }
-    Ok(())
 }
 
-fn cleared(alloc: Global, wait: bool) -> Result<String, AllocError> {
+fn is_cleared(alloc: Global, wait: bool, want: &str) -> bool {
     match clear(&set("c,d"), &set("a,b,c"), wait) {
-        Ok(()) => String::from_str(alloc, "cleared"),
-        Err(error) => format!(in alloc; "{error}"),
+        Ok(()) => want == "cleared",
+        Err(error) => is_written(alloc, &error, want),
     }
 }
+
+// Whether a clear waits, and what comes of it.
+const CLEARS: &[(bool, &str)] = &[
+    (true, "c is excluded and still a member"),
+    (false, "cleared"),
+];
 
 #[test]
-fn a_clear_that_waits_is_refused_while_an_excluded_node_is_a_member(
-    rt: HostRuntime,
-) -> Result<(), Fail> {
-    for (wait, want) in [
-        (true, "c is excluded and still a member"),
-        (false, "cleared"),
-    ] {
-        assert!(rt; cleared(rt.alloc(), wait)?.as_str() == want, "{want}");
+fn a_clear_that_waits_is_refused_while_an_excluded_node_is_a_member(rt: HostRuntime) {
+    for (wait, want) in CLEARS {
+        assert!(rt; is_cleared(rt.alloc(), *wait, want), "{want}");
     }
-    Ok(())
 }
 
 // Committed voters, accepted ones, excluded nodes, and whether a may win.
-const WINNERS: &[(&str, &str, &str, bool)] = &[
+type Winner = (&'static str, &'static str, &'static str, bool);
+
+const WINNERS: &[Winner] = &[
     ("a", "_", "a", true),
     ("_", "a", "a", true),
     ("_", "_", "b", true),
     ("_", "_", "a", false),
 ];
 
+fn wins(row: &Winner) -> bool {
+    let (committed, accepted, excluded, wins) = *row;
+    may_win(
+        id("a"),
+        &config(committed),
+        &config(accepted),
+        &set(excluded),
+    ) == wins
+}
+
 #[test]
-fn an_excluded_node_wins_only_where_it_is_a_voter(rt: HostRuntime) -> Result<(), Fail> {
-    let a = NodeId::parse("a").ok().ok_or("a letter is an id")?;
-    for row in WINNERS {
-        let (committed, accepted, excluded, wins) = *row;
-        assert!(rt;
-            may_win(a, &config(committed), &config(accepted), &set(excluded)) == wins,
-            "committed {committed}, accepted {accepted}, excluded {excluded}"
-        );
+fn an_excluded_node_wins_only_where_it_is_a_voter(rt: HostRuntime) {
+    for (at, row) in WINNERS.iter().enumerate() {
+        assert!(rt; wins(row), "row {at}");
     }
-    Ok(())
 }

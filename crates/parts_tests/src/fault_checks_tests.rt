@@ -135,17 +135,31 @@ fn a_follower_that_lags(rt: HostRuntime) {
     }
 }
 
+// Moments, and what is to be done then. Where the leader is asked, it refuses.
+const REFUSED: &[(u64, LeaderTick)] = &[
+    (999, LeaderTick::Quiet),
+    (1_000, LeaderTick::Ask),
+    (2_000, LeaderTick::Ask),
+    (3_000, LeaderTick::Ask),
+    (3_000, LeaderTick::Lost),
+];
+
+fn is_ticked(check: &mut LeaderCheck, now: u64, want: LeaderTick) -> bool {
+    let tick = check.tick(now);
+    if tick == LeaderTick::Ask {
+        check.answer(false, now);
+    }
+    tick == want
+}
+
 #[test]
 fn a_leader_that_refuses(rt: HostRuntime) {
     let mut check = LeaderCheck::start(b(), 0);
     assert!(rt; check.leader() == b());
     check.answer(false, 500);
-    assert!(rt; check.tick(999) == LeaderTick::Quiet);
-    for now in [1_000, 2_000, 3_000] {
-        assert!(rt; check.tick(now) == LeaderTick::Ask, "at {now}");
-        check.answer(false, now);
+    for (now, want) in REFUSED {
+        assert!(rt; is_ticked(&mut check, *now, *want), "at {now}");
     }
-    assert!(rt; check.tick(3_000) == LeaderTick::Lost);
 }
 
 // A law is an empty function: its contract says it all, and the call shows that it can be called.

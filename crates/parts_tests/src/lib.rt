@@ -16,6 +16,8 @@ mod fault_checks_tests;
 #[cfg(test)]
 mod master_tasks_tests;
 #[cfg(test)]
+mod names;
+#[cfg(test)]
 mod peer_finder_tests;
 #[cfg(test)]
 mod pre_vote_tests;

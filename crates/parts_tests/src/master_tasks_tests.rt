@@ -1,4 +1,5 @@
 //! Requests with the states and the answers that they come to. An answer is told as the line that its client gets.
+use crate::names::{config, id, set};
 use client_lines::{LineFault, Reply, write_reply};
 use cluster_state::{
     Ask, ClusterState, ClusterValue, Request, Settings, SharedState, StateId, Text, value_to_json,
@@ -6,7 +7,7 @@ use cluster_state::{
 use master_tasks::*;
 use std::alloc::{AllocError, Global};
 use std::test::*;
-use voting_config::{NodeId, NodeSet, VotingConfig};
+use voting_config::{NodeSet, VotingConfig};
 
 // What a client wishes, as it stands in a table.
 #[derive(Clone, Copy)]
@@ -29,18 +30,6 @@ enum Occasion {
     Applied(&'static str),
     // It is this late, and a, b and c are the voters.
     Late(u64),
-}
-
-fn id(text: &str) -> NodeId {
-    NodeId::parse(text).unwrap_or_default()
-}
-
-fn set(text: &str) -> NodeSet {
-    NodeSet::parse(text).unwrap_or(NodeSet::new())
-}
-
-fn config(text: &str) -> VotingConfig {
-    VotingConfig::of(&set(text))
 }
 
 fn text(alloc: Global, text: &str) -> Result<Text, AllocError> {
@@ -270,19 +259,21 @@ fn accepted(alloc: Global, voters: &str, exclusions: &str) -> Result<SharedState
     state(alloc, voters, "a,b,c", exclusions, one_setting(alloc)?)
 }
 
-fn comes(
-    alloc: Global,
-    term: u64,
-    (voters, exclusions): (&str, &str),
-    wishes: &[Wish],
-    want: &str,
-) -> Result<bool, Fail> {
+// The leader's term, voters and exclusions in state 1/1, what clients wish, and what comes of that.
+type Outcome = (
+    u64,
+    (&'static str, &'static str),
+    &'static [Wish],
+    &'static str,
+);
+
+fn comes(alloc: Global, row: &Outcome) -> Result<bool, Fail> {
+    let (term, (voters, exclusions), wishes, want) = *row;
     let accepted = accepted(alloc, voters, exclusions)?;
     comes_of(alloc, term, &accepted, wishes, want)
 }
 
-// The leader's term, voters and exclusions in state 1/1, what clients wish, and what comes of that.
-const OUTCOMES: &[(u64, (&str, &str), &[Wish], &str)] = &[
+const OUTCOMES: &[Outcome] = &[
     (
         1,
         ("a,b,c", "_"),
@@ -366,15 +357,14 @@ const OUTCOMES: &[(u64, (&str, &str), &[Wish], &str)] = &[
 
 #[test]
 fn requests_make_this_state_or_get_this_answer(rt: HostRuntime) -> Result<(), Fail> {
-    for row in OUTCOMES {
-        let (term, accepted, wishes, want) = *row;
-        assert!(rt; comes(rt.alloc(), term, accepted, wishes, want)?, "{want}");
+    for (at, row) in OUTCOMES.iter().enumerate() {
+        assert!(rt; comes(rt.alloc(), row)?, "row {at}");
     }
     Ok(())
 }
 
 // What comes of one request, first and later.
-const TWICE: [&str; 2] = [
+const TWICE: &[&str] = &[
     r#"abc {"exclusions":[],"master":"a","members":["a","b","c"],"settings":{"v":"x","w":"1"}}"#,
     r#"same {"acked":{"term":1,"version":1},"id":1}"#,
 ];
@@ -409,7 +399,7 @@ fn a_request_is_processed_once(rt: HostRuntime) -> Result<(), Fail> {
 }
 
 // What a client wishes where there are as many settings as there may be, and what comes of it.
-const FULL: [(&[Wish], &str); 2] = [
+const FULL: &[(&[Wish], &str)] = &[
     (
         &[Wish::Put("w", "")],
         r#"same {"id":1,"too_many_settings":1025}"#,
@@ -428,7 +418,7 @@ fn full_of_settings(alloc: Global) -> Result<SharedState, AllocError> {
 #[test]
 fn a_1025th_setting_is_refused(rt: HostRuntime) -> Result<(), Fail> {
     let accepted = full_of_settings(rt.alloc())?;
-    for (wishes, want) in &FULL {
+    for (wishes, want) in FULL {
         assert!(rt; comes_of(rt.alloc(), 1, &accepted, wishes, want)?, "{want}");
     }
     Ok(())
@@ -614,13 +604,12 @@ fn is_behind_earlier(text: &[u8], want: &str) -> bool {
     }
 }
 
+// Occasions one after the other, how many of three requests wait on then, and the replies to the others.
+type Answers = (&'static [Occasion], usize, &'static str);
+
 // Whether so many of the three requests wait on after these occasions, and the others got these replies.
-fn are_replied(
-    alloc: Global,
-    occasions: &[Occasion],
-    left: usize,
-    want: &str,
-) -> Result<bool, Fail> {
+fn are_replied(alloc: Global, row: &Answers) -> Result<bool, Fail> {
+    let (occasions, left, want) = *row;
     let mut tasks = three(alloc)?;
     let mut out = begun(alloc)?;
     for occasion in occasions {
@@ -630,8 +619,7 @@ fn are_replied(
     Ok(tasks.open_count() == left && is_behind_earlier(&text, want))
 }
 
-// Occasions one after the other, how many of three requests wait on then, and the replies to the others.
-const ANSWERED: &[(&[Occasion], usize, &str)] = &[
+const ANSWERED: &[Answers] = &[
     (
         &[Occasion::Failed(4)],
         0,
@@ -672,9 +660,8 @@ fn replies_have_room_for_as_many_as_was_said(rt: HostRuntime) -> Result<(), Fail
 
 #[test]
 fn each_occasion_answers_its_requests(rt: HostRuntime) -> Result<(), Fail> {
-    for row in ANSWERED {
-        let (occasions, left, want) = *row;
-        assert!(rt; are_replied(rt.alloc(), occasions, left, want)?, "{want}");
+    for (at, row) in ANSWERED.iter().enumerate() {
+        assert!(rt; are_replied(rt.alloc(), row)?, "row {at}");
     }
     Ok(())
 }

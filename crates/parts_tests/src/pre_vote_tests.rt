@@ -1,16 +1,9 @@
 //! Rounds of pre-votes, answer by answer. The answers follow from docs/policy.md.
+use crate::names::{config, id};
 use cluster_state::StateId;
 use pre_vote::*;
 use std::test::*;
-use voting_config::{NodeId, NodeSet, Roster, VotingConfig};
-
-fn id(text: &str) -> NodeId {
-    NodeId::parse(text).unwrap_or_default()
-}
-
-fn config(text: &str) -> VotingConfig {
-    VotingConfig::of(&NodeSet::parse(text).unwrap_or(NodeSet::new()))
-}
+use voting_config::{Roster, VotingConfig};
 
 fn version(version: u64) -> StateId {
     StateId { term: 1, version }
@@ -102,12 +95,11 @@ const WORDS: &[(&[AnswerOf], &[&str], u64)] = &[
 ];
 
 fn is_roster(roster: &Roster, wanted: &[&str]) -> bool {
-    let ids = roster.as_slice();
-    ids.len() == wanted.len()
-        && wanted
-            .iter()
-            .enumerate()
-            .all(|(i, text)| ids[i] == id(text))
+    let mut is_same = roster.len() == wanted.len();
+    for (found, text) in roster.as_slice().iter().zip(wanted) {
+        is_same = is_same && *found == id(text);
+    }
+    is_same
 }
 
 fn has_word(answers: &[AnswerOf], roster: &[&str], word: u64) -> bool {

@@ -1,17 +1,9 @@
 //! A publication from its start to its end, in time and late. The moments were worked out from the time that docs/policy.md
 //! gives a publication.
+use crate::names::{id, set};
 use cluster_state::StateId;
 use publication::*;
 use std::test::*;
-use voting_config::{NodeId, NodeSet};
-
-fn id(text: &str) -> NodeId {
-    NodeId::parse(text).unwrap_or_default()
-}
-
-fn set(text: &str) -> NodeSet {
-    NodeSet::parse(text).unwrap_or(NodeSet::new())
-}
 
 fn state(version: u64) -> StateId {
     StateId { term: 1, version }

@@ -1,14 +1,12 @@
 //! Live nodes and voters, with the voters that they become. The voters follow from the rule of docs/policy.md.
+use crate::names::{config, id, set};
 use reconfigurator::*;
 use std::test::*;
-use voting_config::{NodeId, NodeSet, VotingConfig};
-
-fn set(text: &str) -> NodeSet {
-    NodeSet::parse(text).unwrap_or(NodeSet::new())
-}
 
 // Live nodes, excluded ones, voters, whether they may become fewer, and the voters that are aimed at.
-const VOTERS: &[(&str, &str, &str, bool, &str)] = &[
+type Row = (&'static str, &'static str, &'static str, bool, &'static str);
+
+const VOTERS: &[Row] = &[
     ("a,b,c,d", "_", "a,b,c", true, "a,b,c"),
     ("a,b,c,d,e", "_", "a,b,c", true, "a,b,c,d,e"),
     ("a,b", "_", "a,b", true, "a"),
@@ -19,17 +17,16 @@ const VOTERS: &[(&str, &str, &str, bool, &str)] = &[
     ("a,b,c", "_", "a,b,c,d,e", false, "a,b,c,d,e"),
 ];
 
+// Whether these are what a aims at.
+fn become_these(row: &Row) -> bool {
+    let (live, excluded, voters, shrink, want) = *row;
+    let aim = target(&set(live), &set(excluded), id("a"), &config(voters), shrink);
+    aim.is_same(&config(want))
+}
+
 #[test]
-fn the_voters_become_these(rt: HostRuntime) -> Result<(), Fail> {
-    let a = NodeId::parse("a").ok().ok_or("a letter is an id")?;
-    for row in VOTERS {
-        let (live, excluded, config, shrink, want) = *row;
-        let config = VotingConfig::of(&set(config));
-        let voters = target(&set(live), &set(excluded), a, &config, shrink);
-        assert!(rt;
-            voters.is_same(&VotingConfig::of(&set(want))),
-            "live {live}, excluded {excluded}"
-        );
+fn the_voters_become_these(rt: HostRuntime) {
+    for (at, row) in VOTERS.iter().enumerate() {
+        assert!(rt; become_these(row), "row {at}");
     }
-    Ok(())
 }

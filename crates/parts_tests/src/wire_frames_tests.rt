@@ -3,34 +3,29 @@ ghost use Rattle.std.specs.Prelude.{IfOk};
 ghost use Rattle.wire_frames.specs.Frames.{IsFitFrame};
 ghost use Rattle.wire_frames.specs.Messages.{IsFitMessage};
 
+use crate::names::{id, set};
 use cluster_state::{ClusterState, FieldError, SharedState, StateId};
 use std::alloc::{AllocError, Global};
 use std::test::Fail;
-use voting_config::{NodeId, NodeSet};
 use wire_frames::{
     Frame, FrameError, FrameReader, FrameView, Kind, MessageView, WireMessage, law_cut,
     law_first_frame, law_one_frame, law_stream, write_frame,
 };
 
 // The frame of a join from a to b in term 1, with 0/0 as the last accepted state.
-const JOIN: [u8; 33] = [
+const JOIN: &[u8; 33] = &[
     0, 0, 0, 29, 2, 1, 97, 1, 98, 0, 0, 0, 0, 0, 0, 0, 1, 0, 0, 0, 0, 0, 0, 0, 0, 0, 0, 0, 0, 0, 0,
     0, 0,
 ];
 
 // A pre-vote ask from a to b.
-const ASK: [u8; 9] = [0, 0, 0, 5, 9, 1, 97, 1, 98];
+const ASK: &[u8] = &[0, 0, 0, 5, 9, 1, 97, 1, 98];
 
-// The same, and then a frame that is too long.
-const ASK_AND_TOO_LONG: [u8; 13] = [0, 0, 0, 5, 9, 1, 97, 1, 98, 0, 0x80, 0, 1];
+// The ask without its first byte.
+const ASK_BUT_A_BYTE: &[u8] = &[0, 0, 5, 9, 1, 97, 1, 98];
 
-fn letter(byte: u8) -> NodeId {
-    NodeId::from_bytes(&[byte]).unwrap_or_default()
-}
-
-fn set(text: &str) -> NodeSet {
-    NodeSet::parse(text).unwrap_or(NodeSet::new())
-}
+// The ask, and then a frame that is too long.
+const ASK_AND_TOO_LONG: &[u8] = &[0, 0, 0, 5, 9, 1, 97, 1, 98, 0, 0x80, 0, 1];
 
 fn says_join(message: &WireMessage) -> bool {
     match message {
@@ -42,7 +37,7 @@ fn says_join(message: &WireMessage) -> bool {
 fn is_join(frame: FrameView) -> bool {
     match &frame.message() {
         MessageView::Other(message) => {
-            frame.from() == letter(b'a') && frame.to() == letter(b'b') && says_join(message)
+            frame.from() == id("a") && frame.to() == id("b") && says_join(message)
         }
         MessageView::Publish(_) => false,
     }
@@ -96,17 +91,19 @@ fn ends_the_join(reader: &mut FrameReader, bytes: &[u8]) -> bool {
 }
 
 #[test]
-fn a_join_byte_by_byte(rt: HostRuntime) {
+fn a_join_byte_by_byte(rt: HostRuntime) -> Result<(), Fail> {
+    let (begun, last) = JOIN.split_at_checked(32).ok_or("a join has 33 bytes")?;
     let mut reader = FrameReader::new(rt.alloc());
-    for byte in &JOIN[..32] {
+    for byte in begun {
         assert!(rt; gives(&mut reader, &[*byte], 0, None));
     }
-    assert!(rt; ends_the_join(&mut reader, &JOIN[32..]));
+    assert!(rt; ends_the_join(&mut reader, last));
+    Ok(())
 }
 
 // The join with other bytes at these places.
 fn join_with(changes: &[(usize, u8)]) -> [u8; 33] {
-    let mut bytes = JOIN;
+    let mut bytes = *JOIN;
     for (place, byte) in changes {
         if let Some(slot) = bytes.get_mut(*place) {
             *slot = *byte;
@@ -249,15 +246,15 @@ const BOTH_AND_A_BYTE: &[u8; 43] =
 fn two_frames_and_what_begins_a_third(rt: HostRuntime) {
     let mut reader = FrameReader::new(rt.alloc());
     assert!(rt; gives(&mut reader, BOTH_AND_A_BYTE, 2, None));
-    assert!(rt; gives(&mut reader, &ASK[1..], 1, None));
+    assert!(rt; gives(&mut reader, ASK_BUT_A_BYTE, 1, None));
 }
 
 #[test]
 fn a_fault_behind_a_frame(rt: HostRuntime) {
     let mut reader = FrameReader::new(rt.alloc());
     let fault = Some(FrameError::TooLong);
-    assert!(rt; gives(&mut reader, &ASK_AND_TOO_LONG, 1, fault));
-    assert!(rt; gives(&mut reader, &ASK, 0, fault));
+    assert!(rt; gives(&mut reader, ASK_AND_TOO_LONG, 1, fault));
+    assert!(rt; gives(&mut reader, ASK, 0, fault));
 }
 
 // Whether a reader that passes over the frames in these bytes has this fault after them, and gives none of them.
@@ -270,7 +267,7 @@ fn skips(alloc: Global, bytes: &[u8], fault: Option<FrameError>) -> Result<bool,
 #[test]
 fn frames_are_passed_over(rt: HostRuntime) -> Result<(), Fail> {
     assert!(rt; skips(rt.alloc(), BOTH_AND_A_BYTE, None)?);
-    assert!(rt; skips(rt.alloc(), &ASK_AND_TOO_LONG, Some(FrameError::TooLong))?);
+    assert!(rt; skips(rt.alloc(), ASK_AND_TOO_LONG, Some(FrameError::TooLong))?);
     Ok(())
 }
 
@@ -311,7 +308,7 @@ fn message(alloc: Global, kind: Kind) -> Result<WireMessage, AllocError>
 {
     match kind {
         Kind::StartJoin => Ok(WireMessage::StartJoin {
-            candidate: letter(b'c'),
+            candidate: id("c"),
             term: 1,
         }),
         Kind::Join => Ok(WireMessage::Join { term: 1, last: ID }),
@@ -327,9 +324,7 @@ fn message(alloc: Global, kind: Kind) -> Result<WireMessage, AllocError>
         }),
         Kind::PreVoteAsk => Ok(WireMessage::PreVoteAsk),
         Kind::PreVoteAnswer => Ok(WireMessage::PreVoteAnswer { term: 1, last: ID }),
-        Kind::PreVoteRefuse => Ok(WireMessage::PreVoteRefuse {
-            leader: letter(b'c'),
-        }),
+        Kind::PreVoteRefuse => Ok(WireMessage::PreVoteRefuse { leader: id("c") }),
         Kind::FollowerCheck => Ok(WireMessage::FollowerCheck { term: 3 }),
         Kind::FollowerAnswer => Ok(WireMessage::FollowerAnswer {
             good: true,
@@ -354,8 +349,8 @@ fn frame(alloc: Global, kind: Kind) -> Result<Frame, AllocError>
     ensures { IfOk result IsFitFrame }
 {
     Ok(Frame {
-        from: letter(b'a'),
-        to: letter(b'b'),
+        from: id("a"),
+        to: id("b"),
         message: message(alloc, kind)?,
     })
 }
