@@ -128,8 +128,9 @@ impl Running {
 
     // Reads what is there by the system's answer.
     fn read_by(&mut self, answer: Option<&pollfd>) {
-        if answer.is_some_and(|answer| answer.revents != 0) {
-            self.read();
+        match answer {
+            Some(answer) if answer.revents != 0 => self.read(),
+            _ => {}
         }
     }
 
@@ -212,22 +213,19 @@ impl Children {
 
     /// Ends a child at once.
     pub fn kill(&mut self, child: SystemChild) -> Result<(), HostError> {
-        let Some(mut running) = self.take(&child) else {
-            return Err(HostError::Failed);
-        };
-        match end(&mut running.process) {
-            Ok(()) => Ok(()),
-            Err(error) => Err(error_of(error)),
+        match self.take(&child) {
+            Some(mut running) => end(&mut running.process).map_err(error_of),
+            None => Err(HostError::Failed),
         }
     }
 
     fn take(&mut self, child: &SystemChild) -> Option<Running> {
-        let number = child.number;
-        let place = self
-            .running
-            .iter()
-            .position(|running| running.number == number)?;
-        Some(self.running.remove(place))
+        for place in 0..self.running.len() {
+            if self.running[place].number == child.number {
+                return Some(self.running.remove(place));
+            }
+        }
+        None
     }
 
     // Reads the output of this child and of all others until it has ended.

@@ -249,7 +249,7 @@ impl Connection {
             || self.over
             || self.is_ready
             || !self.incoming.is_empty()
-            || self.coming != Coming::More
+            || !matches!(self.coming, Coming::More)
     }
 
     // What has come by now, in the order of this count. Where memory runs out, nothing is taken.
@@ -261,13 +261,13 @@ impl Connection {
         if self.over {
             return Ok(Heard::End);
         }
-        if self.is_ready && self.coming == Coming::More && self.is_unclear() {
+        if self.is_ready && matches!(self.coming, Coming::More) && self.is_unclear() {
             self.read_once()?;
         }
         if !self.goes_on && self.take_stop() {
             return Ok(Heard::Stop);
         }
-        if self.is_unclear() && (self.coming == Coming::More || self.incoming.is_empty()) {
+        if self.is_unclear() && (matches!(self.coming, Coming::More) || self.incoming.is_empty()) {
             return Ok(self.heard_nothing());
         }
         self.give(framing, order)

@@ -122,14 +122,13 @@ impl<F: Framing + Copy + Drop> Host for SystemHost<'_, F> {
     }
 
     fn spawn(&mut self, program: &str, words: &[String]) -> Result<SystemChild, HostError> {
-        let (Some(held), Some(running)) = (self.held.checked_add(1), self.running.checked_add(1))
-        else {
+        if self.held == u64::MAX || self.running == u64::MAX {
             return Err(self.failed());
-        };
+        }
         match self.children.spawn(self.rt, program, words) {
             Ok(child) => {
-                self.held = held;
-                self.running = running;
+                self.held += 1;
+                self.running += 1;
                 Ok(child)
             }
             Err(HostError::Memory) => Err(HostError::Memory),

@@ -46,10 +46,10 @@ impl<R: Net + Clock + RandomSource + Drop, F: Framing + Drop> SocketLink<R, F> {
     ) -> Result<SocketLink<R, F>, HostError>
         ensures fresh { IfOk result (λ link. ⟦<SocketLink<R, F> as Link>⟧.faults link ≡ 0) }
     {
-        let sockets = Sockets::open(&rt, alloc, settings)?;
         let Ok(opened) = Instant::now(&rt) else {
             return Err(HostError::Failed);
         };
+        let sockets = Sockets::open(&rt, alloc, settings)?;
         Ok(SocketLink {
             rt,
             framing,

@@ -59,7 +59,7 @@ struct Guest {
 }
 
 // What is known of the connections that wait to be accepted.
-#[derive(Clone, Copy, PartialEq, Eq)]
+#[derive(Clone, Copy)]
 enum Backlog {
     // There is none, until the listener is reported.
     Empty,
@@ -75,6 +75,24 @@ enum Verdict {
     Enters(u64),
     Waits,
     Leaves,
+}
+
+// How a connection leads to a node.
+#[derive(Clone, Copy)]
+enum Way {
+    // The node's frames came on it.
+    Heard,
+    // It was opened to the node.
+    Dialled,
+}
+
+// In which order connections lose their numbers.
+#[derive(Clone, Copy)]
+enum Rank {
+    // Those that are idle and whose numbers owe no reply, the oldest first.
+    Idle,
+    // All, the one that was silent longest first.
+    Silent,
 }
 
 // The sockets of a link.
@@ -211,10 +229,9 @@ impl Sockets {
 
     // Waits until something may have come, so many milliseconds at most.
     fn wait(&mut self, time: u64) -> io::Result<()> {
-        let time = if self.backlog == Backlog::Waits {
-            0
-        } else {
-            time
+        let time = match self.backlog {
+            Backlog::Waits => 0,
+            Backlog::Empty | Backlog::Refused => time,
         };
         self.looks = 0;
         match self
@@ -340,7 +357,7 @@ impl Sockets {
     // Takes the connections that wait, up to the first that takes the place of another: so each is looked at before it can
     // lose its own.
     fn accept(&mut self, now: u64) {
-        if self.backlog == Backlog::Empty {
+        if matches!(self.backlog, Backlog::Empty) {
             return;
         }
         self.backlog = Backlog::Waits;
@@ -439,9 +456,12 @@ impl Sockets {
 
     // Whether one that waits for a number says that the node is to end.
     fn asks_to_stop<F: Framing>(&self, framing: &F) -> bool {
-        self.lobby
-            .iter()
-            .any(|guest| guest.connection.prefix(framing) == Prefix::Stop)
+        for guest in &self.lobby {
+            if matches!(guest.connection.prefix(framing), Prefix::Stop) {
+                return true;
+            }
+        }
+        false
     }
 
     // A number that is free, or else that of the oldest idle connection. It owes no reply.
@@ -450,9 +470,7 @@ impl Sockets {
         if free.is_some() {
             return free;
         }
-        self.least_by(|number, connection| {
-            (connection.is_idle() && self.owed_by(number) == 0).then_some(connection.age())
-        })
+        self.least_of(Rank::Idle)
     }
 
     // The same, or else one without a connection that owes replies, since a peer gets none; or else the number of the
@@ -462,22 +480,20 @@ impl Sockets {
         if place.is_some() {
             return place;
         }
-        let owing = (1..CONNECTIONS).find(|number| self.is_unused(*number));
+        let owing = self.unused_number(u64::MAX);
         if owing.is_some() {
             return owing;
         }
-        self.least_by(|_, connection| Some(connection.heard()))
+        self.least_of(Rank::Silent)
     }
 
-    // Of the connections that lead to no listed peer and have a value, the number of the one with the least.
-    fn least_by<P: Fn(u64, &Connection) -> Option<u64> + Drop>(&self, value: P) -> Option<u64>
-        requires { P.IsAlwaysCallable value }
-    {
+    // Of the connections that lead to no listed peer and have a place in this order, the number of the first.
+    fn least_of(&self, rank: Rank) -> Option<u64> {
         let mut found = None;
         let mut least = u64::MAX;
         for number in 1..CONNECTIONS {
             if let Some(Some(connection)) = self.connections.get(number as usize) {
-                let own = value(number, connection).unwrap_or(u64::MAX);
+                let own = self.rank_of(number, connection, rank);
                 if own < least && !self.leads_to_peer(number, connection) {
                     least = own;
                     found = Some(number);
@@ -485,6 +501,15 @@ impl Sockets {
             }
         }
         found
+    }
+
+    // A connection's place in an order, or the greatest number where it has none.
+    fn rank_of(&self, number: u64, connection: &Connection, rank: Rank) -> u64 {
+        match rank {
+            Rank::Silent => connection.heard(),
+            Rank::Idle if connection.is_idle() && self.owed_by(number) == 0 => connection.age(),
+            Rank::Idle => u64::MAX,
+        }
     }
 
     // Whether it was opened to a listed peer, or is the newest one that brings a listed peer's frames.
@@ -498,16 +523,7 @@ impl Sockets {
         let Some(id) = connection.sender() else {
             return false;
         };
-        self.peers.contains_key(&id) && self.heard_from(id) == Some(number)
-    }
-
-    // The newest connection that brings the frames of a node.
-    fn heard_from(&self, id: NodeId) -> Option<u64> {
-        self.newest_where(|connection| connection.sender() == Some(id))
-    }
-
-    fn is_unused(&self, number: u64) -> bool {
-        matches!(self.connections.get(number as usize), Some(None))
+        self.peers.contains_key(&id) && self.newest_by(Way::Heard, id) == Some(number)
     }
 
     fn owed_by(&self, number: u64) -> u64 {
@@ -640,18 +656,13 @@ impl Sockets {
         }
     }
 
+    // Writes what waits of each connection.
     fn flush_all(&mut self) {
-        for number in 1..CONNECTIONS {
-            self.flush(number);
+        for slot in &mut self.connections {
+            if let Some(connection) = slot {
+                connection.flush(self.poll.registry());
+            }
         }
-    }
-
-    // Writes what waits of the connection with this number.
-    fn flush(&mut self, number: u64) {
-        let Some(Some(connection)) = self.connections.get_mut(number as usize) else {
-            return;
-        };
-        connection.flush(self.poll.registry());
     }
 
     // Sends each piece, or loses it. What goes over one connection is written together.
@@ -713,11 +724,11 @@ impl Sockets {
     // dialled where there is none. The newest, since a peer that came back after a crash may leave an old one that tells
     // nothing of its end.
     fn number_of(&mut self, rt: &impl Net, now: u64, id: NodeId) -> Option<u64> {
-        let heard = self.heard_from(id);
+        let heard = self.newest_by(Way::Heard, id);
         if heard.is_some() {
             return heard;
         }
-        let dialled = self.newest_where(|connection| connection.peer() == Some(id));
+        let dialled = self.newest_by(Way::Dialled, id);
         if dialled.is_some() {
             return dialled;
         }
@@ -744,16 +755,14 @@ impl Sockets {
         Some(listed.address)
     }
 
-    // The number of the newest connection that passes the test.
-    fn newest_where<P: Fn(&Connection) -> bool + Drop>(&self, test: P) -> Option<u64>
-        requires { P.IsAlwaysCallable test }
-    {
+    // The number of the newest connection that leads to a node in this way.
+    fn newest_by(&self, way: Way, id: NodeId) -> Option<u64> {
         let mut found = None;
         let mut newest = 0;
         for number in 1..CONNECTIONS {
             if let Some(Some(connection)) = self.connections.get(number as usize) {
                 let is_newer = !connection.is_over() && connection.age() >= newest;
-                if is_newer && test(connection) {
+                if is_newer && leads_to(connection, way) == Some(id) {
                     newest = connection.age();
                     found = Some(number);
                 }
@@ -764,7 +773,26 @@ impl Sockets {
 
     // A number without a connection that owes no reply.
     fn free_number(&self) -> Option<u64> {
-        (1..CONNECTIONS).find(|number| self.is_unused(*number) && self.owed_by(*number) == 0)
+        self.unused_number(0)
+    }
+
+    // A number without a connection that owes so many replies at most.
+    fn unused_number(&self, most_owed: u64) -> Option<u64> {
+        for number in 1..CONNECTIONS {
+            let is_unused = matches!(self.connections.get(number as usize), Some(None));
+            if is_unused && self.owed_by(number) <= most_owed {
+                return Some(number);
+            }
+        }
+        None
+    }
+}
+
+// The node that a connection leads to in this way.
+fn leads_to(connection: &Connection, way: Way) -> Option<NodeId> {
+    match way {
+        Way::Heard => connection.sender(),
+        Way::Dialled => connection.peer(),
     }
 }
 
