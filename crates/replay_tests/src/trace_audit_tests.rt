@@ -118,7 +118,7 @@ const BAD: [(&str, &str); 26] = [
 ];
 
 // What stands after the election, and the verdict.
-const CLAUSES: [(&str, &str); 24] = [
+const CLAUSES: [(&str, &str); 25] = [
     // a restart
     (
         "crashed a\nrecord a 1 0/0 a,b,c a,b,c\nact a refused:NotStarted join a a 1 0/0\n",
@@ -197,6 +197,8 @@ const CLAUSES: [(&str, &str); 24] = [
         "act b refused:NotForMe(c) join b a 1 0/0\n",
         "zen: line 22: Outcome\n",
     ),
+    // a join that was sent, but for the term of the last accepted state
+    ("act a ok join c a 1 1/0\n", "zen: line 22: Unsent\n"),
     // a bad line comes before any verdict
     (
         "act a stopped startjoin a 2\nfoo\n",
