@@ -43,11 +43,11 @@ voting_only_of look = if is_some (look (codes "voting-only")) then text_at (code
 
 abbrev pub node_of : Look → Option ProgramCommand
 node_of look =
-    link_of look >>= λ link.
-    text_at (codes "dir") look >>= λ dir.
     text_at (codes "initial") look >>= initial_of >>= λ initial.
     voting_only_of look >>= λ voting_only.
     text_at (codes "turns") look >>= number_of >>= λ turns.
+    link_of look >>= λ link.
+    text_at (codes "dir") look >>= λ dir.
     Some (command.Node (record {
       link = link;
       dir = dir;
@@ -76,10 +76,10 @@ port_of t = number_within 1 65533 t
 
 abbrev pub trial_of : Look → Option ProgramCommand
 trial_of look =
-    text_at (codes "program") look >>= λ program.
-    text_at (codes "dir") look >>= λ dir.
     text_at (codes "port") look >>= port_of >>= λ port.
     text_at (codes "turns") look >>= number_of >>= λ turns.
+    text_at (codes "program") look >>= λ program.
+    text_at (codes "dir") look >>= λ dir.
     Some (command.Trial (record { program = program; dir = dir; port = port; turns = turns }))
 
 abbrev pub rescue_of : Look → Option ProgramCommand

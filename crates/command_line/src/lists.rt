@@ -81,7 +81,12 @@ fn peer(alloc: Global, item: &str) -> Result<Peer, WordsError>
 fn has_peer(peers: &[Peer], id: NodeId) -> bool
     ensures { result ≡ list_any (λ p. same p.id id) peers.now }
 {
-    peers.iter().any(|peer| peer.id == id)
+    for peer in peers {
+        if peer.id == id {
+            return true;
+        }
+    }
+    false
 }
 
 // The peers with one more, where the item is a peer whose id is not in yet.

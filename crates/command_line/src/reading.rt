@@ -7,7 +7,7 @@ ghost use Rattle.command_line.specs.Commands.{level_of, replay_of, inspect_of, l
 
 use crate::lists::{initial, peers, up};
 use crate::shape::program;
-use crate::values::{address, id, is_set, number, number_within, text, value};
+use crate::values::{address, id_at, is_set, needed, number_at, number_within, text};
 use crate::{LinkWords, MAX_PORT, MAX_STEPS, NodeWords, ProgramCommand, TrialWords, WordsError};
 use clap::error::ErrorKind;
 use clap::{ArgMatches, Error};
@@ -31,7 +31,7 @@ fn level(text: &str) -> Option<Level>
 fn read_replay(matches: &ArgMatches<'_>) -> Result<ProgramCommand, WordsError>
     ensures { Gives result (replay_of (first_value (found_of matches.now))) }
 {
-    match value(matches, "level").and_then(level) {
+    match level(needed(matches, "level")?) {
         Some(level) => Ok(ProgramCommand::Replay(level)),
         None => Err(WordsError::Usage),
     }
@@ -47,12 +47,13 @@ fn read_inspect(alloc: Global, matches: &ArgMatches<'_>) -> Result<ProgramComman
 fn read_link(alloc: Global, matches: &ArgMatches<'_>) -> Result<LinkWords, WordsError>
     ensures { Gives result (link_of (first_value (found_of matches.now))) }
 {
-    let me = value(matches, "id").and_then(id).ok_or(WordsError::Usage)?;
-    let listen = value(matches, "listen")
-        .and_then(address)
-        .ok_or(WordsError::Usage)?;
+    let me = id_at(matches, "id")?;
+    let listen = needed(matches, "listen")?;
+    let Some(listen) = address(listen) else {
+        return Err(WordsError::Usage);
+    };
+    let peers = peers(alloc, needed(matches, "peers")?)?;
     let listen = String::from_str(alloc, listen)?;
-    let peers = peers(alloc, value(matches, "peers").ok_or(WordsError::Usage)?)?;
     Ok(LinkWords::of(LinkSettings { me, listen, peers }))
 }
 
@@ -63,22 +64,17 @@ fn read_voting_only(alloc: Global, matches: &ArgMatches<'_>) -> Result<NodeSet, 
     if matches.get_str("voting-only").is_none() {
         return Ok(NodeSet::new());
     }
-    initial(
-        alloc,
-        value(matches, "voting-only").ok_or(WordsError::Usage)?,
-    )
+    initial(alloc, needed(matches, "voting-only")?)
 }
 
 fn read_node(alloc: Global, matches: &ArgMatches<'_>) -> Result<ProgramCommand, WordsError>
     ensures { Gives result (node_of (first_value (found_of matches.now))) }
 {
+    let initial = initial(alloc, needed(matches, "initial")?)?;
+    let voting_only = read_voting_only(alloc, matches)?;
+    let turns = number_at(matches, "turns")?;
     let link = read_link(alloc, matches)?;
     let dir = text(alloc, matches, "dir")?;
-    let initial = initial(alloc, value(matches, "initial").ok_or(WordsError::Usage)?)?;
-    let voting_only = read_voting_only(alloc, matches)?;
-    let turns = value(matches, "turns")
-        .and_then(number)
-        .ok_or(WordsError::Usage)?;
     Ok(ProgramCommand::Node(NodeWords {
         link,
         dir,
@@ -98,13 +94,11 @@ fn steps(text: &str) -> Option<u64>
 fn read_generate(matches: &ArgMatches<'_>) -> Result<ProgramCommand, WordsError>
     ensures { Gives result (generate_of (first_value (found_of matches.now))) }
 {
-    let number = value(matches, "number")
-        .and_then(number)
-        .ok_or(WordsError::Usage)?;
-    let steps = value(matches, "steps")
-        .and_then(steps)
-        .ok_or(WordsError::Usage)?;
-    Ok(ProgramCommand::Generate { number, steps })
+    let number = number_at(matches, "number")?;
+    match steps(needed(matches, "steps")?) {
+        Some(steps) => Ok(ProgramCommand::Generate { number, steps }),
+        None => Err(WordsError::Usage),
+    }
 }
 
 fn port(text: &str) -> Option<u64>
@@ -116,14 +110,12 @@ fn port(text: &str) -> Option<u64>
 fn read_trial(alloc: Global, matches: &ArgMatches<'_>) -> Result<ProgramCommand, WordsError>
     ensures { Gives result (trial_of (first_value (found_of matches.now))) }
 {
+    let Some(port) = port(needed(matches, "port")?) else {
+        return Err(WordsError::Usage);
+    };
+    let turns = number_at(matches, "turns")?;
     let program = text(alloc, matches, "program")?;
     let dir = text(alloc, matches, "dir")?;
-    let port = value(matches, "port")
-        .and_then(port)
-        .ok_or(WordsError::Usage)?;
-    let turns = value(matches, "turns")
-        .and_then(number)
-        .ok_or(WordsError::Usage)?;
     Ok(ProgramCommand::Trial(TrialWords {
         program,
         dir,
@@ -135,7 +127,7 @@ fn read_trial(alloc: Global, matches: &ArgMatches<'_>) -> Result<ProgramCommand,
 fn read_rescue(alloc: Global, matches: &ArgMatches<'_>) -> Result<ProgramCommand, WordsError>
     ensures { Gives result (rescue_of (first_value (found_of matches.now))) }
 {
-    let up = up(alloc, value(matches, "up").ok_or(WordsError::Usage)?)?;
+    let up = up(alloc, needed(matches, "up")?)?;
     Ok(ProgramCommand::Rescue(up))
 }
 
@@ -145,7 +137,7 @@ fn read_unsafe_bootstrap(
 ) -> Result<ProgramCommand, WordsError>
     ensures { Gives result (unsafe_bootstrap_of (first_value (found_of matches.now))) }
 {
-    let id = value(matches, "id").and_then(id).ok_or(WordsError::Usage)?;
+    let id = id_at(matches, "id")?;
     let dir = text(alloc, matches, "dir")?;
     Ok(ProgramCommand::UnsafeBootstrap { id, dir })
 }
@@ -214,7 +206,12 @@ fn is_fair(word: &str) -> bool
 fn are_fair(words: &[String]) -> bool
     ensures { result ≡ list_all (λ w. fair (string_bytes w)) words.now }
 {
-    words.iter().all(|word| is_fair(word.as_str()))
+    for word in words {
+        if !is_fair(word.as_str()) {
+            return false;
+        }
+    }
+    true
 }
 
 fn is_memory(e: &Error) -> bool

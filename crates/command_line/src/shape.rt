@@ -1,8 +1,8 @@
 //! The command line as clap knows it: each command with its options and flags.
-ghost use Rattle.std.specs.Prelude.{◌≡◌, IfOk, codes};
+ghost use Rattle.std.specs.Prelude.{◌≡◌, IfOk, codes, map};
 ghost use Rattle.clap.specs.Words.{App, app_of, with_subcommand};
 ghost use Rattle.command_line.specs.Given.{CommandForm, option, flag};
-ghost use Rattle.command_line.specs.Program.{raw, raw_of, bare_app, HasOneMore, IsLeaf, replay_takes, inspect_takes, node_place_takes, node_takes, generate_takes, trial_takes, rescue_takes, unsafe_bootstrap_takes, detach_cluster_takes, audit_takes, program_app};
+ghost use Rattle.command_line.specs.Program.{raw, raw_of, bare_app, HasOneMore, IsLeaf, replay_takes, inspect_takes, node_takes, generate_takes, trial_takes, rescue_takes, unsafe_bootstrap_takes, detach_cluster_takes, audit_takes, program_app};
 
 use clap::{Arg, ArgAction, Command};
 use std::alloc::{AllocError, Global};
@@ -27,70 +27,73 @@ fn with_flag<'a>(
     command.arg(Arg::new(alloc, name).long(name).action(ArgAction::SetTrue))
 }
 
+// A command with these options.
+fn leaf<'a>(alloc: Global, name: &'a str, options: &[&'a str]) -> Result<Command<'a>, AllocError>
+    ensures { IfOk result (IsLeaf name.entry.now (map (λ t. option t.now) options.now)) }
+{
+    let mut command = Command::new(alloc, name);
+    for option in options {
+        command = with_option(alloc, command, *option)?;
+    }
+    Ok(command)
+}
+
 fn replay<'a>(alloc: Global) -> Result<Command<'a>, AllocError>
     ensures { IfOk result (IsLeaf (codes "replay") replay_takes) }
 {
-    with_option(alloc, Command::new(alloc, "replay"), "level")
+    leaf(alloc, "replay", &["level"])
 }
 
 fn inspect<'a>(alloc: Global) -> Result<Command<'a>, AllocError>
     ensures { IfOk result (IsLeaf (codes "inspect") inspect_takes) }
 {
-    with_option(alloc, Command::new(alloc, "inspect"), "dir")
-}
-
-// Who and where a node is.
-fn node_place<'a>(alloc: Global) -> Result<Command<'a>, AllocError>
-    ensures { IfOk result (IsLeaf (codes "node") node_place_takes) }
-{
-    let command = with_option(alloc, Command::new(alloc, "node"), "id")?;
-    let command = with_option(alloc, command, "dir")?;
-    let command = with_option(alloc, command, "listen")?;
-    with_option(alloc, command, "peers")
+    leaf(alloc, "inspect", &["dir"])
 }
 
 fn node<'a>(alloc: Global) -> Result<Command<'a>, AllocError>
     ensures { IfOk result (IsLeaf (codes "node") node_takes) }
 {
-    let command = with_option(alloc, node_place(alloc)?, "initial")?;
-    let command = with_option(alloc, command, "voting-only")?;
-    let command = with_option(alloc, command, "turns")?;
+    let options = [
+        "id",
+        "dir",
+        "listen",
+        "peers",
+        "initial",
+        "voting-only",
+        "turns",
+    ];
+    let command = leaf(alloc, "node", &options)?;
     with_flag(alloc, command, "no-shrink")
 }
 
 fn generate<'a>(alloc: Global) -> Result<Command<'a>, AllocError>
     ensures { IfOk result (IsLeaf (codes "generate") generate_takes) }
 {
-    let command = with_option(alloc, Command::new(alloc, "generate"), "number")?;
-    with_option(alloc, command, "steps")
+    leaf(alloc, "generate", &["number", "steps"])
 }
 
 fn trial<'a>(alloc: Global) -> Result<Command<'a>, AllocError>
     ensures { IfOk result (IsLeaf (codes "trial") trial_takes) }
 {
-    let command = with_option(alloc, Command::new(alloc, "trial"), "program")?;
-    let command = with_option(alloc, command, "dir")?;
-    let command = with_option(alloc, command, "port")?;
-    with_option(alloc, command, "turns")
+    leaf(alloc, "trial", &["program", "dir", "port", "turns"])
 }
 
 fn rescue<'a>(alloc: Global) -> Result<Command<'a>, AllocError>
     ensures { IfOk result (IsLeaf (codes "rescue") rescue_takes) }
 {
-    with_option(alloc, Command::new(alloc, "rescue"), "up")
+    leaf(alloc, "rescue", &["up"])
 }
 
 fn unsafe_bootstrap<'a>(alloc: Global) -> Result<Command<'a>, AllocError>
     ensures { IfOk result (IsLeaf (codes "unsafe-bootstrap") unsafe_bootstrap_takes) }
 {
-    let command = with_option(alloc, Command::new(alloc, "unsafe-bootstrap"), "id")?;
-    with_option(alloc, command, "dir")
+    leaf(alloc, "unsafe-bootstrap", &["id", "dir"])
 }
 
 fn detach_cluster<'a>(alloc: Global) -> Result<Command<'a>, AllocError>
     ensures { IfOk result (IsLeaf (codes "detach-cluster") detach_cluster_takes) }
 {
-    with_option(alloc, Command::new(alloc, "detach-cluster"), "dir")
+    leaf(alloc, "detach-cluster", &["dir"])
 }
 
 fn audit<'a>(alloc: Global) -> Command<'a>
