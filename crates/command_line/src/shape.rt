@@ -2,7 +2,7 @@
 ghost use Rattle.std.specs.Prelude.{◌≡◌, IfOk, codes, map};
 ghost use Rattle.clap.specs.Words.{App, app_of, with_subcommand};
 ghost use Rattle.command_line.specs.Given.{CommandForm, option, flag};
-ghost use Rattle.command_line.specs.Program.{raw, raw_of, bare_app, HasOneMore, IsLeaf, replay_takes, inspect_takes, node_takes, generate_takes, trial_takes, rescue_takes, unsafe_bootstrap_takes, detach_cluster_takes, audit_takes, program_app};
+ghost use Rattle.command_line.specs.Program.{raw, raw_of, bare_app, HasOneMore, IsLeaf, node_takes, program_app};
 
 use clap::{Arg, ArgAction, Command};
 use std::alloc::{AllocError, Global};
@@ -38,18 +38,6 @@ fn leaf<'a>(alloc: Global, name: &'a str, options: &[&'a str]) -> Result<Command
     Ok(command)
 }
 
-fn replay<'a>(alloc: Global) -> Result<Command<'a>, AllocError>
-    ensures { IfOk result (IsLeaf (codes "replay") replay_takes) }
-{
-    leaf(alloc, "replay", &["level"])
-}
-
-fn inspect<'a>(alloc: Global) -> Result<Command<'a>, AllocError>
-    ensures { IfOk result (IsLeaf (codes "inspect") inspect_takes) }
-{
-    leaf(alloc, "inspect", &["dir"])
-}
-
 fn node<'a>(alloc: Global) -> Result<Command<'a>, AllocError>
     ensures { IfOk result (IsLeaf (codes "node") node_takes) }
 {
@@ -64,42 +52,6 @@ fn node<'a>(alloc: Global) -> Result<Command<'a>, AllocError>
     ];
     let command = leaf(alloc, "node", &options)?;
     with_flag(alloc, command, "no-shrink")
-}
-
-fn generate<'a>(alloc: Global) -> Result<Command<'a>, AllocError>
-    ensures { IfOk result (IsLeaf (codes "generate") generate_takes) }
-{
-    leaf(alloc, "generate", &["number", "steps"])
-}
-
-fn trial<'a>(alloc: Global) -> Result<Command<'a>, AllocError>
-    ensures { IfOk result (IsLeaf (codes "trial") trial_takes) }
-{
-    leaf(alloc, "trial", &["program", "dir", "port", "turns"])
-}
-
-fn rescue<'a>(alloc: Global) -> Result<Command<'a>, AllocError>
-    ensures { IfOk result (IsLeaf (codes "rescue") rescue_takes) }
-{
-    leaf(alloc, "rescue", &["up"])
-}
-
-fn unsafe_bootstrap<'a>(alloc: Global) -> Result<Command<'a>, AllocError>
-    ensures { IfOk result (IsLeaf (codes "unsafe-bootstrap") unsafe_bootstrap_takes) }
-{
-    leaf(alloc, "unsafe-bootstrap", &["id", "dir"])
-}
-
-fn detach_cluster<'a>(alloc: Global) -> Result<Command<'a>, AllocError>
-    ensures { IfOk result (IsLeaf (codes "detach-cluster") detach_cluster_takes) }
-{
-    leaf(alloc, "detach-cluster", &["dir"])
-}
-
-fn audit<'a>(alloc: Global) -> Command<'a>
-    ensures { IsLeaf (codes "audit") audit_takes result }
-{
-    Command::new(alloc, "audit")
 }
 
 // The program before its commands.
@@ -131,13 +83,16 @@ fn with_command<'a>(
 pub fn program<'a>(alloc: Global) -> Result<Command<'a>, AllocError>
     ensures { IfOk result (λ c. app_of c ≡ program_app) }
 {
-    let program = with_command(bare(alloc), replay(alloc))?;
-    let program = with_command(program, inspect(alloc))?;
+    let program = with_command(bare(alloc), leaf(alloc, "replay", &["level"]))?;
+    let program = with_command(program, leaf(alloc, "inspect", &["dir"]))?;
     let program = with_command(program, node(alloc))?;
-    let program = with_command(program, generate(alloc))?;
-    let program = with_command(program, trial(alloc))?;
-    let program = with_command(program, rescue(alloc))?;
-    let program = with_command(program, unsafe_bootstrap(alloc))?;
-    let program = with_command(program, detach_cluster(alloc))?;
-    with_command(program, Ok(audit(alloc)))
+    let program = with_command(program, leaf(alloc, "generate", &["number", "steps"]))?;
+    let program = with_command(
+        program,
+        leaf(alloc, "trial", &["program", "dir", "port", "turns"]),
+    )?;
+    let program = with_command(program, leaf(alloc, "rescue", &["up"]))?;
+    let program = with_command(program, leaf(alloc, "unsafe-bootstrap", &["id", "dir"]))?;
+    let program = with_command(program, leaf(alloc, "detach-cluster", &["dir"]))?;
+    with_command(program, leaf(alloc, "audit", &[]))
 }

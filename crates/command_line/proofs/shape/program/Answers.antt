@@ -29,12 +29,12 @@ zen_8 = with_subcommand zen_7 (raw_of (codes "detach-cluster", detach_cluster_ta
 
 pub returns : goal.returns
 returns c =
-    let one = c.in_ok-program.ensures bare_app (codes "replay", replay_takes) c.bare.ensures c.replay.ensures in
-    let two = c.in_ok-program-2.ensures zen_1 (codes "inspect", inspect_takes) one c.inspect.ensures in
+    let one = c.in_ok-program.ensures bare_app (codes "replay", replay_takes) c.bare.ensures c.leaf.ensures in
+    let two = c.in_ok-program-2.ensures zen_1 (codes "inspect", inspect_takes) one c.leaf-2.ensures in
     let three = c.in_ok-program-3.ensures zen_2 (codes "node", node_takes) two c.node.ensures in
-    let four = c.in_ok-program-4.ensures zen_3 (codes "generate", generate_takes) three c.generate.ensures in
-    let five = c.in_ok-program-5.ensures zen_4 (codes "trial", trial_takes) four c.trial.ensures in
-    let six = c.in_ok-program-6.ensures zen_5 (codes "rescue", rescue_takes) five c.rescue.ensures in
-    let seven = c.in_ok-program-7.ensures zen_6 (codes "unsafe-bootstrap", unsafe_bootstrap_takes) six c.unsafe_bootstrap.ensures in
-    let eight = c.in_ok-program-8.ensures zen_7 (codes "detach-cluster", detach_cluster_takes) seven c.detach_cluster.ensures in
-    c.with_command-9.ensures zen_8 (codes "audit", audit_takes) eight c.audit.ensures
+    let four = c.in_ok-program-4.ensures zen_3 (codes "generate", generate_takes) three c.leaf-3.ensures in
+    let five = c.in_ok-program-5.ensures zen_4 (codes "trial", trial_takes) four c.leaf-4.ensures in
+    let six = c.in_ok-program-6.ensures zen_5 (codes "rescue", rescue_takes) five c.leaf-5.ensures in
+    let seven = c.in_ok-program-7.ensures zen_6 (codes "unsafe-bootstrap", unsafe_bootstrap_takes) six c.leaf-6.ensures in
+    let eight = c.in_ok-program-8.ensures zen_7 (codes "detach-cluster", detach_cluster_takes) seven c.leaf-7.ensures in
+    c.with_command-9.ensures zen_8 (codes "audit", audit_takes) eight c.leaf-8.ensures
