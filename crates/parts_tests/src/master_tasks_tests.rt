@@ -227,15 +227,26 @@ fn last_settled(tasks: &mut MasterTasks) -> Option<(usize, u64, u64)> {
     Some((place, arrived, settled.request.id))
 }
 
+fn is_copied_full(tasks: &MasterTasks) -> bool {
+    match tasks.copy() {
+        Ok(copy) => copy.open_count() == MAX_OPEN,
+        Err(_) => false,
+    }
+}
+
+// Whether no request is taken until the last one is settled.
+fn is_full_until_settled(tasks: &mut MasterTasks) -> bool {
+    tasks.is_full()
+        && refused(tasks, 9) == Some(9)
+        && tasks.open_count() == MAX_OPEN
+        && last_settled(tasks) == Some((63, 5, 7))
+        && !tasks.is_full()
+}
+
 #[test]
 fn a_65th_request_is_refused(rt: HostRuntime) -> Result<(), Fail> {
     let mut tasks = full(rt.alloc())?;
-    assert!(rt; tasks.is_full());
-    assert!(rt; refused(&mut tasks, 9) == Some(9));
-    assert!(rt; tasks.copy()?.open_count() == MAX_OPEN);
-    assert!(rt; tasks.open_count() == MAX_OPEN);
-    assert!(rt; last_settled(&mut tasks) == Some((63, 5, 7)));
-    assert!(rt; !tasks.is_full());
+    assert!(rt; is_copied_full(&tasks) && is_full_until_settled(&mut tasks));
     tasks.add_member(id("a"));
     tasks.clear();
     assert!(rt; tasks.open_count() == 0);
@@ -254,9 +265,19 @@ fn comes_of(
     Ok(text.as_slice() == want.as_bytes())
 }
 
-// State 1/1, with members a, b and c and one setting.
+// State 1/1, with one setting.
+fn state_of(
+    alloc: Global,
+    voters: &str,
+    members: &str,
+    exclusions: &str,
+) -> Result<SharedState, AllocError> {
+    state(alloc, voters, members, exclusions, one_setting(alloc)?)
+}
+
+// The same with members a, b and c.
 fn accepted(alloc: Global, voters: &str, exclusions: &str) -> Result<SharedState, AllocError> {
-    state(alloc, voters, "a,b,c", exclusions, one_setting(alloc)?)
+    state_of(alloc, voters, "a,b,c", exclusions)
 }
 
 // The leader's term, voters and exclusions in state 1/1, what clients wish, and what comes of that.
@@ -375,14 +396,11 @@ fn one_request(alloc: Global) -> Result<MasterTasks, Fail> {
     Ok(tasks)
 }
 
-fn comes_next(
-    alloc: Global,
-    tasks: &mut MasterTasks,
-    accepted: &SharedState,
-    want: &str,
-) -> Result<bool, AllocError> {
-    let text = next(alloc, tasks, 1, accepted)?;
-    Ok(text.as_slice() == want.as_bytes())
+fn comes_next(alloc: Global, tasks: &mut MasterTasks, accepted: &SharedState, want: &str) -> bool {
+    match next(alloc, tasks, 1, accepted) {
+        Ok(text) => text.as_slice() == want.as_bytes(),
+        Err(_) => false,
+    }
 }
 
 #[test]
@@ -391,7 +409,7 @@ fn a_request_is_processed_once(rt: HostRuntime) -> Result<(), Fail> {
     let mut tasks = one_request(rt.alloc())?;
     for want in TWICE {
         assert!(rt;
-            comes_next(rt.alloc(), &mut tasks, &accepted, want)?,
+            comes_next(rt.alloc(), &mut tasks, &accepted, want),
             "{want}"
         );
     }
@@ -454,12 +472,35 @@ fn has(next: &Next, voters: &VotingConfig, members: &str) -> bool {
     }
 }
 
+// Whether leader a makes a new state with these voters and members of an accepted one.
+fn makes(
+    alloc: Global,
+    accepted: &SharedState,
+    removals: &str,
+    additions: &[&str],
+    voters: &VotingConfig,
+    members: &str,
+) -> bool {
+    match after_changes(alloc, accepted, removals, additions) {
+        Ok(next) => has(&next, voters, members),
+        Err(_) => false,
+    }
+}
+
 // Whether leader a, who accepted a state with these voters, makes a new one with the same voters and these members.
-fn is_made(alloc: Global, voters: &str, change: Change) -> Result<bool, Fail> {
+fn is_made(alloc: Global, voters: &str, change: Change) -> bool {
     let (members, removals, additions, after) = change;
-    let accepted = state(alloc, voters, members, "_", one_setting(alloc)?)?;
-    let next = after_changes(alloc, &accepted, removals, additions)?;
-    Ok(has(&next, &accepted.config, after))
+    match state_of(alloc, voters, members, "_") {
+        Ok(accepted) => makes(
+            alloc,
+            &accepted,
+            removals,
+            additions,
+            &accepted.config,
+            after,
+        ),
+        Err(_) => false,
+    }
 }
 
 // Members that are to go, and sets of members that are to come, one after the other.
@@ -495,39 +536,34 @@ const CHANGES: &[Change] = &[
 ];
 
 #[test]
-fn members_leave_and_join_up_to_32(rt: HostRuntime) -> Result<(), Fail> {
+fn members_leave_and_join_up_to_32(rt: HostRuntime) {
     for (at, change) in CHANGES.iter().enumerate() {
-        assert!(rt; is_made(rt.alloc(), "a,b,c", *change)?, "row {at}");
+        assert!(rt; is_made(rt.alloc(), "a,b,c", *change), "row {at}");
     }
-    Ok(())
 }
 
 // Who is excluded where node c joins a, the only voter, and b; and the voters after that.
 const JOINED: &[(&str, &str)] = &[("_", "a,b,c"), ("c", "a")];
 
-fn are_voters_with_c(alloc: Global, excluded: &str, voters: &str) -> Result<bool, Fail> {
-    let accepted = state(alloc, "a", "a,b", excluded, one_setting(alloc)?)?;
-    let next = after_changes(alloc, &accepted, "_", &["c"])?;
-    Ok(has(&next, &config(voters), "a,b,c"))
+fn are_voters_with_c(alloc: Global, excluded: &str, voters: &str) -> bool {
+    match state_of(alloc, "a", "a,b", excluded) {
+        Ok(accepted) => makes(alloc, &accepted, "_", &["c"], &config(voters), "a,b,c"),
+        Err(_) => false,
+    }
 }
 
 #[test]
-fn a_node_that_was_excluded_before_it_joins_does_not_vote(rt: HostRuntime) -> Result<(), Fail> {
+fn a_node_that_was_excluded_before_it_joins_does_not_vote(rt: HostRuntime) {
     for (excluded, voters) in JOINED {
-        assert!(rt;
-            are_voters_with_c(rt.alloc(), excluded, voters)?,
-            "{voters}"
-        );
+        assert!(rt; are_voters_with_c(rt.alloc(), excluded, voters), "{voters}");
     }
-    Ok(())
 }
 
 const ONE_TOO_MANY: Change = ("_", "_", &[ALL_BUT_A, "a"], ALL_BUT_A);
 
 #[test]
-fn a_33rd_member_is_left_out(rt: HostRuntime) -> Result<(), Fail> {
-    assert!(rt; is_made(rt.alloc(), "c", ONE_TOO_MANY)?);
-    Ok(())
+fn a_33rd_member_is_left_out(rt: HostRuntime) {
+    assert!(rt; is_made(rt.alloc(), "c", ONE_TOO_MANY));
 }
 
 fn process(alloc: Global, tasks: &mut MasterTasks) -> Result<(), AllocError> {
@@ -607,16 +643,20 @@ fn is_behind_earlier(text: &[u8], want: &str) -> bool {
 // Occasions one after the other, how many of three requests wait on then, and the replies to the others.
 type Answers = (&'static [Occasion], usize, &'static str);
 
-// Whether so many of the three requests wait on after these occasions, and the others got these replies.
-fn are_replied(alloc: Global, row: &Answers) -> Result<bool, Fail> {
-    let (occasions, left, want) = *row;
+// How many of the three requests wait on after these occasions, and the replies to the others.
+fn replied(alloc: Global, occasions: &[Occasion]) -> Result<(usize, Vec<u8>), Fail> {
     let mut tasks = three(alloc)?;
     let mut out = begun(alloc)?;
     for occasion in occasions {
         reply_on(&mut tasks, *occasion, &mut out);
     }
-    let text = appended(alloc, out)?;
-    Ok(tasks.open_count() == left && is_behind_earlier(&text, want))
+    Ok((tasks.open_count(), appended(alloc, out)?))
+}
+
+fn are_replied(alloc: Global, row: &Answers) -> Result<bool, Fail> {
+    let (occasions, left, want) = *row;
+    let (count, text) = replied(alloc, occasions)?;
+    Ok(count == left && is_behind_earlier(&text, want))
 }
 
 const ANSWERED: &[Answers] = &[
@@ -652,10 +692,16 @@ const ANSWERED: &[Answers] = &[
     ),
 ];
 
+fn have_room(alloc: Global, count: usize) -> bool {
+    match Replies::with_room(alloc, count) {
+        Ok(replies) => replies.room() == count,
+        Err(_) => false,
+    }
+}
+
 #[test]
-fn replies_have_room_for_as_many_as_was_said(rt: HostRuntime) -> Result<(), Fail> {
-    assert!(rt; Replies::with_room(rt.alloc(), 12)?.room() == 12);
-    Ok(())
+fn replies_have_room_for_as_many_as_was_said(rt: HostRuntime) {
+    assert!(rt; have_room(rt.alloc(), 12));
 }
 
 #[test]

@@ -71,13 +71,14 @@ struct Parts<'a> {
 }
 
 // Whether a new reader gives so many frames for the two parts, with this fault after them.
-fn are_given(alloc: Global, parts: Parts) -> Result<bool, AllocError> {
+fn are_given(alloc: Global, parts: Parts) -> bool {
     let mut reader = FrameReader::new(alloc);
-    reader.push(parts.first)?;
+    let is_first = reader.push(parts.first).is_ok();
     let (before, _) = given(&mut reader);
-    reader.push(parts.second)?;
+    let is_second = reader.push(parts.second).is_ok();
     let (after, fault) = given(&mut reader);
-    Ok(before.saturating_add(after) == parts.frames && fault == parts.fault)
+    let is_so = before.saturating_add(after) == parts.frames && fault == parts.fault;
+    is_first && is_second && is_so
 }
 
 fn ends_the_join(reader: &mut FrameReader, bytes: &[u8]) -> bool {
@@ -161,7 +162,7 @@ const FAULTS: &[(&str, &[(usize, u8)], &[u8], usize, Option<FrameError>)] = &[
 ];
 
 #[test]
-fn the_first_fault_of_a_frame_is_named(rt: HostRuntime) -> Result<(), Fail> {
+fn the_first_fault_of_a_frame_is_named(rt: HostRuntime) {
     for row in FAULTS {
         let (name, changes, second, frames, fault) = *row;
         let first = join_with(changes);
@@ -171,9 +172,8 @@ fn the_first_fault_of_a_frame_is_named(rt: HostRuntime) -> Result<(), Fail> {
             frames,
             fault,
         };
-        assert!(rt; are_given(rt.alloc(), parts)?, "{name}");
+        assert!(rt; are_given(rt.alloc(), parts), "{name}");
     }
-    Ok(())
 }
 
 // Bytes that come in two parts and are no frame, and their fault.
@@ -195,7 +195,7 @@ const LENGTHS: &[(&str, &[u8], &[u8], Option<FrameError>)] = &[
 ];
 
 #[test]
-fn a_frame_of_more_than_8_388_608_bytes_is_too_long(rt: HostRuntime) -> Result<(), Fail> {
+fn a_frame_of_more_than_8_388_608_bytes_is_too_long(rt: HostRuntime) {
     for row in LENGTHS {
         let (name, first, second, fault) = *row;
         let parts = Parts {
@@ -204,9 +204,8 @@ fn a_frame_of_more_than_8_388_608_bytes_is_too_long(rt: HostRuntime) -> Result<(
             frames: 0,
             fault,
         };
-        assert!(rt; are_given(rt.alloc(), parts)?, "{name}");
+        assert!(rt; are_given(rt.alloc(), parts), "{name}");
     }
-    Ok(())
 }
 
 // The join, and then the ask.
@@ -223,19 +222,18 @@ fn two<'a>(first: &'a [u8], second: &'a [u8]) -> Parts<'a> {
     }
 }
 
-fn are_two_cut_at(alloc: Global, place: usize) -> Result<bool, AllocError> {
+fn are_two_cut_at(alloc: Global, place: usize) -> bool {
     match BOTH.split_at_checked(place) {
         Some((first, second)) => are_given(alloc, two(first, second)),
-        None => Ok(false),
+        None => false,
     }
 }
 
 #[test]
-fn two_frames_cut_at_each_place(rt: HostRuntime) -> Result<(), Fail> {
+fn two_frames_cut_at_each_place(rt: HostRuntime) {
     for place in 0..42 {
-        assert!(rt; are_two_cut_at(rt.alloc(), place)?, "cut at {place}");
+        assert!(rt; are_two_cut_at(rt.alloc(), place), "cut at {place}");
     }
-    Ok(())
 }
 
 // The same, and the first byte of another ask.
@@ -258,17 +256,15 @@ fn a_fault_behind_a_frame(rt: HostRuntime) {
 }
 
 // Whether a reader that passes over the frames in these bytes has this fault after them, and gives none of them.
-fn skips(alloc: Global, bytes: &[u8], fault: Option<FrameError>) -> Result<bool, AllocError> {
+fn skips(alloc: Global, bytes: &[u8], fault: Option<FrameError>) -> bool {
     let mut reader = FrameReader::new(alloc);
-    reader.push(bytes)?;
-    Ok(reader.skip_frames() == fault && given(&mut reader) == (0, fault))
+    reader.push(bytes).is_ok() && reader.skip_frames() == fault && given(&mut reader) == (0, fault)
 }
 
 #[test]
-fn frames_are_passed_over(rt: HostRuntime) -> Result<(), Fail> {
-    assert!(rt; skips(rt.alloc(), BOTH_AND_A_BYTE, None)?);
-    assert!(rt; skips(rt.alloc(), ASK_AND_TOO_LONG, Some(FrameError::TooLong))?);
-    Ok(())
+fn frames_are_passed_over(rt: HostRuntime) {
+    assert!(rt; skips(rt.alloc(), BOTH_AND_A_BYTE, None));
+    assert!(rt; skips(rt.alloc(), ASK_AND_TOO_LONG, Some(FrameError::TooLong)));
 }
 
 // The body of a frame from a to b.
@@ -290,11 +286,35 @@ fn is_frame_of(bytes: &[u8], body: &[u8]) -> bool {
     }
 }
 
+fn copied(alloc: Global, read: &FrameView) -> Result<Frame, AllocError>
+    ensures { IfOk result IsFitFrame }
+{
+    let frame = read.frame(alloc)?;
+    frame.copy()
+}
+
+fn is_written_as(alloc: Global, frame: &Frame, bytes: &[u8]) -> bool
+    requires { IsFitFrame frame.now }
+{
+    match write_frame(alloc, frame) {
+        Ok(written) => written.as_slice() == bytes,
+        Err(_) => false,
+    }
+}
+
+fn is_copied_so(alloc: Global, read: &FrameView, bytes: &[u8]) -> bool {
+    match copied(alloc, read) {
+        Ok(copy) => is_written_as(alloc, &copy, bytes),
+        Err(_) => false,
+    }
+}
+
 // Whether a message of the kind with this byte is read from a body, whose copy is written as these bytes.
-fn is_read_back(alloc: Global, kind: u8, body: &[u8], bytes: &[u8]) -> Result<bool, Fail> {
-    let read = FrameView::of(body).ok().ok_or("a frame")?;
-    let again = write_frame(alloc, &read.frame(alloc)?.copy()?)?;
-    Ok(again.as_slice() == bytes && Kind::of(kind) == Some(read.kind()))
+fn is_read_back(alloc: Global, kind: u8, body: &[u8], bytes: &[u8]) -> bool {
+    match FrameView::of(body) {
+        Ok(read) => Kind::of(kind) == Some(read.kind()) && is_copied_so(alloc, &read, bytes),
+        Err(_) => false,
+    }
 }
 
 const ID: StateId = StateId {
@@ -355,12 +375,23 @@ fn frame(alloc: Global, kind: Kind) -> Result<Frame, AllocError>
     })
 }
 
+// Whether a frame is written as a length and this body, and is read back from it.
+fn is_body_of(alloc: Global, frame: &Frame, byte: u8, body: &[u8]) -> bool
+    requires { IsFitFrame frame.now }
+{
+    match write_frame(alloc, frame) {
+        Ok(bytes) => {
+            is_frame_of(bytes.as_slice(), body) && is_read_back(alloc, byte, body, bytes.as_slice())
+        }
+        Err(_) => false,
+    }
+}
+
 // Whether a frame of the kind has its byte, and these bytes after the ids, and is read back from them.
-fn is_spelled(alloc: Global, kind: Kind, byte: u8, fields: &[u8]) -> Result<bool, Fail> {
-    let bytes = write_frame(alloc, &frame(alloc, kind)?)?;
+fn is_spelled(alloc: Global, kind: Kind, byte: u8, fields: &[u8]) -> Result<bool, AllocError> {
+    let frame = frame(alloc, kind)?;
     let body = body(alloc, byte, fields)?;
-    let is_read = is_read_back(alloc, byte, &body, bytes.as_slice())?;
-    Ok(is_read && is_frame_of(bytes.as_slice(), &body))
+    Ok(is_body_of(alloc, &frame, byte, &body))
 }
 
 // Kinds, their bytes, and the bytes of the fields behind the ids.
