@@ -68,7 +68,7 @@ type Answer = (
     &'static [u8],
 );
 
-const ANSWERS: [Answer; 17] = [
+const ANSWERS: [Answer; 18] = [
     // two of three go on
     (ELECTED, UP_A_AND_B, Status::Ok, GOES_ON),
     // one of three does not
@@ -169,6 +169,14 @@ const ANSWERS: [Answer; 17] = [
         UP_A_AND_B,
         Status::Ok,
         GOES_ON_WITH_THE_LAST,
+    ),
+    // a node is in a greater term than the one that has the newest state
+    (
+        b"nodes a,b\ninitial a,b\nboot a\nboot b\nstartjoin b a 1\n",
+        UP_A_AND_B,
+        Status::Ok,
+        b"startjoin a a 2\nstartjoin b a 2\ndeliver a 2\ndeliver a 3\nvalue a 1 rescue a,b\n\
+          deliver a 4\ndeliver b 4\ndeliver a 5\ndeliver a 6\n",
     ),
     // no schedule
     (
