@@ -247,6 +247,36 @@ fn two_frames_and_what_begins_a_third(rt: HostRuntime) {
     assert!(rt; gives(&mut reader, ASK_BUT_A_BYTE, 1, None));
 }
 
+// The publication of an empty state, and then the ask.
+const PUBLICATION_AND_ASK: &[u8; 42] =
+    b"\0\0\0\x1d\x11\x01a\x01b\0\0\0\0\0\0\0\x01\0\0\0\0\0\0\0\0\0\0\0\0\0\0\0\0\0\0\0\x05\x09\x01a\x01b";
+
+const EMPTY_STATE: &[u8; 24] = b"\0\0\0\0\0\0\0\x01\0\0\0\0\0\0\0\0\0\0\0\0\0\0\0\0";
+
+fn is_publication(frame: FrameView, state: &[u8]) -> bool {
+    match &frame.message() {
+        MessageView::Publish(view) => *view.bytes() == *state,
+        MessageView::Other(_) => false,
+    }
+}
+
+// Whether a publication stands first in these bytes, whose state has those.
+fn lends(reader: &mut FrameReader, bytes: &[u8], state: &[u8]) -> bool {
+    if reader.push(bytes).is_err() {
+        return false;
+    }
+    match reader.next() {
+        Some(Ok(frame)) => is_publication(frame, state),
+        _ => false,
+    }
+}
+
+#[test]
+fn a_state_has_no_bytes_of_the_next_frame(rt: HostRuntime) {
+    let mut reader = FrameReader::new(rt.alloc());
+    assert!(rt; lends(&mut reader, PUBLICATION_AND_ASK, EMPTY_STATE));
+}
+
 #[test]
 fn a_fault_behind_a_frame(rt: HostRuntime) {
     let mut reader = FrameReader::new(rt.alloc());
