@@ -169,6 +169,16 @@ module _ {K : Type 0} (k : Ghosts K) where
       ∙ ap (λ (x : List Id). drop_all (to_drop_for_checks old.followers.watched old.moment) Checks ++ drop_all (to_drop_for_lag old.followers.watched old.moment) Lag ++ Notes FollowersChecked ∷ send_all s x m) ask_is
       ∙ ap (λ (n : ℕ). drop_all (to_drop_for_checks old.followers.watched old.moment) Checks ++ drop_all (to_drop_for_lag old.followers.watched old.moment) Lag ++ Notes FollowersChecked ∷ send_all s (to_ask old.followers.watched old.moment) (message.FollowerCheck n)) term_is)
 
+  -- where all stay, those that are due are asked
+  pub checks_kept : (old : Coordinator K) (followers : Followers) (o o1 : Shown) (ask : List Id) (term : ℕ) → list_all (λ (f : Follower). stays f old.moment) old.followers.watched ≡ true
+      → ask ≡ to_ask old.followers.watched old.moment → term ≡ (view old).node.term → followers ≡ followers_ticked old.followers old.moment
+      → o1 ≡ record o { frames = o.frames ++ map (λ (to : Id). frame_to old.settings.me (message.FollowerCheck term) to) ask }
+      → Make old (record old { followers = followers }) o o1 (checks_followers old.settings (view old))
+  checks_kept old followers o o1 ask term all ask_is term_is followers_are o1_is =
+      let nobody = nobody_dropped old.followers.watched old.moment all in
+      let same : o ≡ record o { drops = o.drops ++ [] } = ap (λ (l : List MemberDrop). record o { drops = l }) (sym (append-nil o.drops)) in
+      checks_made old followers old.tasks old.tasks o o o o1 [] [] ask term (sym nobody.0) (sym nobody.1) ask_is term_is followers_are refl refl same same o1_is
+
   pub ticks_gone : (old mid new : Coordinator K) (o o0 o1 o2 : Shown) → o0 ≡ o → has_timed_out old.publication old.moment ≡ false → Make old mid o0 o1 (ticks_members old.settings (view old)) → Make mid new o1 o2 (goes_on mid.settings (view mid))
       → Make old new o o2 (ticks_leader old.settings (view old))
   ticks_gone old mid new o o0 o1 o2 same late members next =

@@ -18,12 +18,12 @@ use Rattle.coordinator.specs.declared.step.Entries.{Entries}
 use Rattle.coordinator.specs.declared.step.StepError.{StepError}
 use Rattle.coordinator.specs.declared.step.StepError.TheVariants as step_error
 
--- how many deeds, drops and frames an event comes to at most
+-- how many deeds, drops and frames an event comes to at most; of a client's line, where room is made once it is known to need any, none
 abbrev pub deeds_for : Event → ℕ
 deeds_for Start = 0
 deeds_for (Tick now word) = event_deeds
 deeds_for (FrameCame frame) = event_deeds
-deeds_for (LineCame conn line) = event_deeds
+deeds_for (LineCame conn line) = 0
 
 abbrev pub drops_for : Event → ℕ
 drops_for Start = 0
@@ -37,7 +37,7 @@ abbrev pub frames_for : Event → ℕ
 frames_for Start = 0
 frames_for (Tick now word) = to_three_sets
 frames_for (FrameCame frame) = to_set_and_one
-frames_for (LineCame conn line) = to_set_and_one
+frames_for (LineCame conn line) = 0
 
 -- the entries are the deeds and the drops of these items
 pub record AreEntries (e : Event) (items : List Item) (entries : Entries) : Type 0 where

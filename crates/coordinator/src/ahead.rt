@@ -101,34 +101,28 @@ impl<K: Keeper> Coordinator<K> {
         Ok(Some(plan))
     }
 
-    // The plan of a node that will be this, once it has counted the join of p.
-    fn plan_ahead(&self, alloc: Global, ahead: Ahead, p: NodeId) -> Result<Option<Plan>, AllocError>
-        ensures { IfOk result (λ plan. IsPlannedAhead self.now.settings (view_in K.Keeper self.now) ahead p plan) }
+    // The plan of a node that will be this, once it has counted the join of p, which the votes and tasks then have.
+    fn plan_ahead(
+        &self,
+        alloc: Global,
+        ahead: &mut Ahead,
+        p: NodeId,
+    ) -> Result<Option<Plan>, AllocError>
+        ensures { IfOk result (λ plan. IsPlannedAhead self.now.settings (view_in K.Keeper self.now) ahead.old p plan) }
     {
-        let Ahead {
-            term,
-            votes,
-            won,
-            leads,
-            tasks,
-        } = ahead;
-        if !votes.has_room(p) {
+        if !ahead.votes.has_room(p) {
             return Ok(None);
         }
-        let mut votes = votes;
-        votes.add(p);
-        let mut tasks = tasks;
-        if self.wins_with(won, &mut votes) {
-            let sources = votes.sources();
-            tasks.add_member(self.settings.me);
-            add_members(&mut tasks, sources.as_slice());
-            let plan = self.plan_with(alloc, term, &tasks, &sources)?;
-            return Ok(plan);
+        ahead.votes.add(p);
+        if self.wins_with(ahead.won, &mut ahead.votes) {
+            let sources = ahead.votes.sources();
+            ahead.tasks.add_member(self.settings.me);
+            add_members(&mut ahead.tasks, sources.as_slice());
+            return self.plan_with(alloc, ahead.term, &ahead.tasks, &sources);
         }
-        if leads {
-            tasks.add_member(p);
-            let plan = self.plan_with(alloc, term, &tasks, &votes.sources())?;
-            return Ok(plan);
+        if ahead.leads {
+            ahead.tasks.add_member(p);
+            return self.plan_with(alloc, ahead.term, &ahead.tasks, &ahead.votes.sources());
         }
         Ok(None)
     }
@@ -143,7 +137,7 @@ impl<K: Keeper> Coordinator<K> {
         ensures { IfOk result
             (λ plan. IsPlannedAhead self.now.settings (view_in K.Keeper self.now) (ahead_of (view_in K.Keeper self.now) term) p plan) }
     {
-        let ahead = self.ahead(alloc, term)?;
-        self.plan_ahead(alloc, ahead, p)
+        let mut ahead = self.ahead(alloc, term)?;
+        self.plan_ahead(alloc, &mut ahead, p)
     }
 }

@@ -24,15 +24,10 @@ impl<K: Keeper> Coordinator<K> {
     {
         let mut tasks = self.tasks.copy()?;
         tasks.add_member(p);
-        let plan = self.plan_with(
-            alloc,
-            self.core.term(),
-            &tasks,
-            &self.core.votes().sources(),
-        )?;
-        Ok(plan)
+        self.plan_of(alloc, &tasks)
     }
 
+    /// Who asks is to become a member, where its term is none above the node's; else the term rises first.
     pub(crate) fn on_join_ask(
         &mut self,
         out: &mut Output,
@@ -48,13 +43,13 @@ impl<K: Keeper> Coordinator<K> {
             return Ok(());
         }
         if term <= self.core.term() {
-            let Ok(plan) = self.plan_member(out.alloc, p) else {
+            let Ok(mut plan) = self.plan_member(out.alloc, p) else {
                 return Err(EventError::Memory);
             };
             let Ok(()) = out.make_room(self.tasks.open_count(), &plan) else {
                 return Err(EventError::Memory);
             };
-            self.take_member(out, p, plan);
+            self.take_member(out, p, &mut plan);
             return Ok(());
         }
         self.on_start_join(out, self.settings.me, term)

@@ -61,13 +61,13 @@ impl<K: Keeper> Coordinator<K> {
     }
 
     // A leader that heard of the commit goes on as planned.
-    fn finish_publication(&mut self, out: &mut Output, plan: Option<Plan>)
+    fn finish_publication(&mut self, out: &mut Output, plan: &mut Option<Plan>)
         requires ready { IsReady self.old }
         requires plan { IsPlanned self.old.settings
-            (moved_all self.old.settings (view_in K.Keeper self.old) (acks_exclusions self.old.settings (view_in K.Keeper self.old))) plan }
+            (moved_all self.old.settings (view_in K.Keeper self.old) (acks_exclusions self.old.settings (view_in K.Keeper self.old))) plan.old }
         requires deeds { 2 ≤ out.old.deeds.room }
         requires frames { to_set ≤ out.old.frames.room }
-        requires replies { length self.old.tasks.waiting + replies_planned plan ≤ out.old.replies.room }
+        requires replies { length self.old.tasks.waiting + replies_planned plan.old ≤ out.old.replies.room }
         ensures does { Does K.Keeper self.old self.new out.old out.new finishes true }
     {
         self.ack_exclusions(out);
@@ -75,12 +75,18 @@ impl<K: Keeper> Coordinator<K> {
     }
 
     // Takes the commit, and goes on as planned.
-    fn take_commit(&mut self, out: &mut Output, p: NodeId, id: StateId, plan: Option<Plan>) -> Acted
+    fn take_commit(
+        &mut self,
+        out: &mut Output,
+        p: NodeId,
+        id: StateId,
+        plan: &mut Option<Plan>,
+    ) -> Acted
         requires ready { IsReady self.old }
-        requires plan { IsPlannedCommit self.old.settings (view_in K.Keeper self.old) plan }
+        requires plan { IsPlannedCommit self.old.settings (view_in K.Keeper self.old) plan.old }
         requires deeds { 3 ≤ out.old.deeds.room }
         requires frames { to_set ≤ out.old.frames.room }
-        requires replies { length self.old.tasks.waiting + replies_planned plan ≤ out.old.replies.room }
+        requires replies { length self.old.tasks.waiting + replies_planned plan.old ≤ out.old.replies.room }
         ensures does { Does K.Keeper self.old self.new out.old out.new (λ s v. on_commit s v p id) (is_ok result) }
     {
         let commit = ApplyCommit {
@@ -115,13 +121,13 @@ impl<K: Keeper> Coordinator<K> {
         requires frames { to_set ≤ out.old.frames.room }
         ensures does { DoesAll K.Keeper self.old self.new out.old out.new (λ s v. on_commit s v p id) result }
     {
-        let Ok(plan) = self.plan_commit(out.alloc) else {
+        let Ok(mut plan) = self.plan_commit(out.alloc) else {
             return Err(EventError::Memory);
         };
         let Ok(()) = out.make_room(self.tasks.open_count(), &plan) else {
             return Err(EventError::Memory);
         };
-        match self.take_commit(out, p, id, plan) {
+        match self.take_commit(out, p, id, &mut plan) {
             Ok(()) => Ok(()),
             Err(_) => Err(EventError::Struck),
         }

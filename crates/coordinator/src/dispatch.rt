@@ -149,8 +149,6 @@ impl<K: Keeper> Coordinator<K> {
     // A line of a client, by its connection.
     fn on_line(&mut self, out: &mut Output, conn: u64, line: &Line) -> Result<(), EventError>
         requires ready { IsReady self.old }
-        requires deeds { event_deeds ≤ out.old.deeds.room }
-        requires frames { to_set_and_one ≤ out.old.frames.room }
         ensures { DoesEvent K.Keeper self.old self.new (event.Client conn line.now) out.old out.new result }
     {
         self.takes_line(out, conn, line)

@@ -46,13 +46,13 @@ impl<K: Keeper> Coordinator<K> {
     }
 
     // It leads from now on, and goes on as planned.
-    fn win(&mut self, out: &mut Output, plan: Option<Plan>)
+    fn win(&mut self, out: &mut Output, plan: &mut Option<Plan>)
         requires ready { IsReady self.old }
         requires plan { IsPlanned self.old.settings
-            (moved_all self.old.settings (view_in K.Keeper self.old) (winning self.old.settings (view_in K.Keeper self.old))) plan }
+            (moved_all self.old.settings (view_in K.Keeper self.old) (winning self.old.settings (view_in K.Keeper self.old))) plan.old }
         requires deeds { 3 ≤ out.old.deeds.room }
         requires frames { to_set ≤ out.old.frames.room }
-        requires replies { replies_planned plan ≤ out.old.replies.room }
+        requires replies { replies_planned plan.old ≤ out.old.replies.room }
         ensures does { Does K.Keeper self.old self.new out.old out.new leads true }
     {
         self.lead(out);
@@ -60,13 +60,13 @@ impl<K: Keeper> Coordinator<K> {
     }
 
     // A node is to become a member, and the leader goes on as planned.
-    pub(crate) fn take_member(&mut self, out: &mut Output, p: NodeId, plan: Option<Plan>)
+    pub(crate) fn take_member(&mut self, out: &mut Output, p: NodeId, plan: &mut Option<Plan>)
         requires ready { IsReady self.old }
         requires plan { IsPlanned self.old.settings (moved_all self.old.settings (view_in K.Keeper self.old) (Notes (Joined (p ∷ [])) ∷ []))
-            plan }
+            plan.old }
         requires deeds { 2 ≤ out.old.deeds.room }
         requires frames { to_set ≤ out.old.frames.room }
-        requires replies { replies_planned plan ≤ out.old.replies.room }
+        requires replies { replies_planned plan.old ≤ out.old.replies.room }
         ensures does { Does K.Keeper self.old self.new out.old out.new (λ s v. takes_member s v p) true }
     {
         self.add_member(p);
@@ -80,14 +80,14 @@ impl<K: Keeper> Coordinator<K> {
         p: NodeId,
         term: u64,
         last: StateId,
-        plan: Option<Plan>,
+        plan: &mut Option<Plan>,
     )
         requires ready { IsReady self.old }
         requires plan { IsPlannedJoin self.old.settings (view_in K.Keeper self.old) p
-            (act.TakeJoin (join_from p self.old.settings.me term last)) plan }
+            (act.TakeJoin (join_from p self.old.settings.me term last)) plan.old }
         requires deeds { 4 ≤ out.old.deeds.room }
         requires frames { to_set ≤ out.old.frames.room }
-        requires replies { replies_planned plan ≤ out.old.replies.room }
+        requires replies { replies_planned plan.old ≤ out.old.replies.room }
         ensures does { Does K.Keeper self.old self.new out.old out.new (λ s v. takes_join s v p term last) true }
     {
         if !self.core.votes().has_room(p) {
@@ -139,7 +139,7 @@ impl<K: Keeper> Coordinator<K> {
         if self.is_voting_only() {
             return Ok(());
         }
-        let Ok(plan) = self.plan_join(out.alloc, p, term) else {
+        let Ok(mut plan) = self.plan_join(out.alloc, p, term) else {
             return Err(EventError::Memory);
         };
         let Ok(()) = out.make_room(self.tasks.open_count(), &plan) else {
@@ -148,7 +148,7 @@ impl<K: Keeper> Coordinator<K> {
         let me = self.settings.me;
         match self.raise_term(out, me, term) {
             Ok(()) => {
-                self.take_join(out, p, term, last, plan);
+                self.take_join(out, p, term, last, &mut plan);
                 Ok(())
             }
             Err(_) => Err(EventError::Struck),

@@ -1,17 +1,16 @@
 //! What a client's request comes to.
-ghost use Rattle.std.specs.Prelude.{◌≡◌, ◌≤◌, ◌+◌, [], ◌∷◌, true, false, Ok, None, IfOk, length};
+ghost use Rattle.std.specs.Prelude.{◌≡◌, ◌&&◌, not, false, Ok, IfOk, OnOk, OnErr};
 ghost use Rattle.cluster_state.specs.declared.reply.Answer.TheVariants as answer;
 ghost use Rattle.cluster_state.specs.declared.reply.Reply.TheVariants as reply;
 ghost use Rattle.client_lines.specs.Reading.{line_request};
 ghost use Rattle.cluster_state.specs.Puts.{bad_setting_of};
-ghost use Rattle.master_tasks.specs.Queue.{is_full_of};
+ghost use Rattle.master_tasks.specs.Queue.{is_full_of, offered, arriving};
 ghost use Rattle.master_tasks.specs.NextState.{leader_of as master_of};
 ghost use Rattle.policy_model.specs.Doing.{is_leader};
+ghost use Rattle.policy_model.specs.NextState.{is_in_flight};
 ghost use Rattle.policy_model.specs.Requests.{replies, takes_line};
 ghost use Rattle.coordinator.specs.Ahead.{HasPlan, queues_one};
 ghost use Rattle.coordinator.specs.Does.{Does, DoesAll};
-ghost use Rattle.coordinator.specs.Plans.{makes_next};
-ghost use Rattle.coordinator.specs.Rooms.{to_set};
 ghost use Rattle.coordinator.specs.Views.{view_in, IsReady};
 
 use crate::coordinator::{Coordinator, EventError};
@@ -23,6 +22,26 @@ use cluster_state::{Answer, Reply, Request};
 use master_tasks::{MAX_OPEN, MasterTasks, Outgoing};
 use state_journal::Keeper;
 use std::alloc::{AllocError, Global};
+use voting_config::MAX_IDS;
+
+// How many deeds going on comes to at most: an act, and a change of mode.
+const QUEUE_DEEDS: usize = 2;
+
+// Takes a request that came by a connection at a moment, in ms; at an error nothing changed.
+fn add_request(
+    tasks: &mut MasterTasks,
+    conn: u64,
+    now: u64,
+    request: Request,
+) -> Result<(), AllocError>
+    ensures ok { OnOk result (tasks.new ≡ offered tasks.old (arriving conn now request)) }
+    ensures err { OnErr result (tasks.new ≡ tasks.old) }
+{
+    match tasks.offer(conn, now, request) {
+        Ok(()) => Ok(()),
+        Err(_) => Err(AllocError),
+    }
+}
 
 impl<K: Keeper> Coordinator<K> {
     // What going on will take with these tasks.
@@ -36,73 +55,59 @@ impl<K: Keeper> Coordinator<K> {
             (K.record_of self.now.core.keeper).accepted (K.record_of self.now.core.keeper).committed self.now.core.join_votes
             self.now.settings.shrink) tasks.now plan) }
     {
-        let plan = self.plan_with(alloc, self.core.term(), tasks, &self.core.votes().sources())?;
-        Ok(plan)
+        self.plan_with(alloc, self.core.term(), tasks, &self.core.votes().sources())
     }
 
-    // A free leader queues a request, and makes the next state.
-    fn queue_and_make(
+    // A leader with no publication in flight queues a request, and goes on.
+    fn queue_and_go_on(
         &mut self,
         out: &mut Output,
         conn: u64,
         request: Request,
     ) -> Result<(), EventError>
         requires ready { IsReady self.old }
-        requires deeds { 2 ≤ out.old.deeds.room }
-        requires frames { to_set ≤ out.old.frames.room }
         ensures does { DoesAll K.Keeper self.old self.new out.old out.new (λ s v. queues_one s v conn request) result }
     {
+        let Ok(()) = out.make_lists(QUEUE_DEEDS, 0, MAX_IDS) else {
+            return Err(EventError::Memory);
+        };
         let Ok(mut tasks) = self.tasks.copy() else {
             return Err(EventError::Memory);
         };
-        let Ok(()) = tasks.offer(conn, self.moment, request) else {
+        let Ok(()) = add_request(&mut tasks, conn, self.moment, request) else {
             return Err(EventError::Memory);
         };
-        let Ok(plan) = self.plan_of(out.alloc, &tasks) else {
+        let Ok(mut plan) = self.plan_of(out.alloc, &tasks) else {
             return Err(EventError::Memory);
         };
         let Ok(()) = out.make_room(0, &plan) else {
             return Err(EventError::Memory);
         };
         self.tasks = tasks;
-        self.go_on(out, plan);
+        self.go_on(out, &mut plan);
         Ok(())
     }
 
-    // A leader that makes no state now queues a request: nothing is planned, and no request that waits is copied.
-    fn queue_alone(
-        &mut self,
-        out: &mut Output,
-        conn: u64,
-        request: Request,
-    ) -> Result<(), EventError>
-        requires ready { IsReady self.old }
-        requires waits { makes_next self.old.settings (view_in K.Keeper self.old) ≡ false }
-        requires frames { to_set ≤ out.old.frames.room }
-        requires deeds { 2 ≤ out.old.deeds.room }
-        ensures does { DoesAll K.Keeper self.old self.new out.old out.new (λ s v. queues_one s v conn request) result }
+    // One with a publication in flight queues a request: it shows nothing, nothing is planned, and no request that waits is copied.
+    fn queue_alone(&mut self, conn: u64, request: Request) -> Result<(), EventError>
+        requires busy { (is_leader self.old.mode && not (is_in_flight self.old.publication)) ≡ false }
+        ensures does { (out : _) → DoesAll K.Keeper self.old self.new out out (λ s v. queues_one s v conn request) result }
     {
-        let Ok(()) = out.make_room(0, &None) else {
+        let Ok(()) = add_request(&mut self.tasks, conn, self.moment, request) else {
             return Err(EventError::Memory);
         };
-        let Ok(()) = self.tasks.offer(conn, self.moment, request) else {
-            return Err(EventError::Memory);
-        };
-        self.go_on(out, None);
         Ok(())
     }
 
     // A leader queues a request, and goes on.
     fn queue(&mut self, out: &mut Output, conn: u64, request: Request) -> Result<(), EventError>
         requires ready { IsReady self.old }
-        requires deeds { 2 ≤ out.old.deeds.room }
-        requires frames { to_set ≤ out.old.frames.room }
         ensures does { DoesAll K.Keeper self.old self.new out.old out.new (λ s v. queues_one s v conn request) result }
     {
-        if self.makes_next() {
-            return self.queue_and_make(out, conn, request);
+        if self.is_free_leader() {
+            return self.queue_and_go_on(out, conn, request);
         }
-        self.queue_alone(out, conn, request)
+        self.queue_alone(conn, request)
     }
 
     // One reply, and nothing else.
@@ -124,8 +129,6 @@ impl<K: Keeper> Coordinator<K> {
         request: Request,
     ) -> Result<(), EventError>
         requires ready { IsReady self.old }
-        requires deeds { 2 ≤ out.old.deeds.room }
-        requires frames { to_set ≤ out.old.frames.room }
         ensures does { DoesAll K.Keeper self.old self.new out.old out.new (λ s v. takes_line s v conn (Ok request)) result }
     {
         let id = request.id;
@@ -152,8 +155,6 @@ impl<K: Keeper> Coordinator<K> {
         line: &Line,
     ) -> Result<(), EventError>
         requires ready { IsReady self.old }
-        requires deeds { 2 ≤ out.old.deeds.room }
-        requires frames { to_set ≤ out.old.frames.room }
         ensures does { DoesAll K.Keeper self.old self.new out.old out.new (λ s v. takes_line s v conn (line_request line.now)) result }
     {
         match read_line(out.alloc, line.as_bytes()) {

@@ -38,7 +38,7 @@ fn first_among(ids: &NodeSet, others: &NodeSet, barred: &NodeSet) -> Option<Node
 
 impl<K: Keeper> Coordinator<K> {
     // Whether it leads and has no publication in flight.
-    fn is_free_leader(&self) -> bool
+    pub(crate) fn is_free_leader(&self) -> bool
         ensures { result ≡ (is_leader self.now.mode && not (is_in_flight self.now.publication)) }
     {
         let mode = self.mode;
@@ -62,13 +62,6 @@ impl<K: Keeper> Coordinator<K> {
             &accepted.config,
             &accepted.value.exclusions,
         )
-    }
-
-    // Whether it makes the next state where it goes on.
-    pub(crate) fn makes_next(&self) -> bool
-        ensures { result ≡ makes_next self.now.settings (view_in K.Keeper self.now) }
-    {
-        self.is_free_leader() && self.may_win()
     }
 
     // Publishes a new state, which was made of the tasks of a node that was v, or becomes a candidate where that is refused.
@@ -160,13 +153,13 @@ impl<K: Keeper> Coordinator<K> {
         }
     }
 
-    /// Goes on as planned.
-    pub(crate) fn go_on(&mut self, out: &mut Output, plan: Option<Plan>)
+    /// Goes on as planned: the plan is taken where it is used.
+    pub(crate) fn go_on(&mut self, out: &mut Output, plan: &mut Option<Plan>)
         requires ready { IsReady self.old }
-        requires plan { IsPlanned self.old.settings (view_in K.Keeper self.old) plan }
+        requires plan { IsPlanned self.old.settings (view_in K.Keeper self.old) plan.old }
         requires deeds { 2 ≤ out.old.deeds.room }
         requires frames { to_set ≤ out.old.frames.room }
-        requires replies { replies_planned plan ≤ out.old.replies.room }
+        requires replies { replies_planned plan.old ≤ out.old.replies.room }
         ensures does { Does K.Keeper self.old self.new out.old out.new goes_on true }
     {
         if !self.is_free_leader() {
@@ -176,7 +169,7 @@ impl<K: Keeper> Coordinator<K> {
             self.hand_over(out);
             return;
         }
-        match plan {
+        match plan.take() {
             Some(plan) => self.make_state(out, plan),
             None => unreachable!(),
         }

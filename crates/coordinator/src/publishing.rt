@@ -86,13 +86,13 @@ impl<K: Keeper> Coordinator<K> {
         requires frames { 2 ≤ out.old.frames.room }
         ensures does { DoesAll K.Keeper self.old self.new out.old out.new (λ s v. on_publish s v p state.now) result }
     {
+        let Ok(()) = out.make_room(self.tasks.open_count(), &None) else {
+            return Err(EventError::Memory);
+        };
         let Ok(entry) = state.share() else {
             return Err(EventError::Memory);
         };
         let Ok(ready) = Ready::of(out.alloc, state) else {
-            return Err(EventError::Memory);
-        };
-        let Ok(()) = out.make_room(self.tasks.open_count(), &None) else {
             return Err(EventError::Memory);
         };
         match self.take_state(out, p, ready, entry) {

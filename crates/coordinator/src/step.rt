@@ -1,5 +1,5 @@
 //! A whole event: what it shows is given out only sealed, once its last write was synced.
-ghost use Rattle.std.specs.Prelude.{◌≡◌, ◌≤◌, ◌↔◌, false, true, is_ok, Err, IfOk};
+ghost use Rattle.std.specs.Prelude.{◌≡◌, ◌≤◌, ◌↔◌, false, true, is_ok, Err, IfOk, OnOk};
 ghost use Rattle.policy_model.specs.declared.events.Event.TheVariants.{Start};
 ghost use Rattle.policy_model.specs.Entries.{Life, log_of};
 ghost use Rattle.policy_model.specs.Fitting.{IsFitEvent};
@@ -30,7 +30,7 @@ const TICK_DROPS: usize = 2 * MAX_IDS;
 /// How many frames a tick has room for: to peers that are asked for peers, for pre-votes, and to start joins.
 const TICK_FRAMES: usize = 3 * MAX_IDS;
 
-/// How many frames another event has room for: to all members, and one more.
+/// How many frames a frame's event has room for: to all members, and one more.
 const EVENT_FRAMES: usize = MAX_IDS + 1;
 
 /// What an event comes to beside frames and replies.
@@ -112,26 +112,21 @@ fn no_output(alloc: Global) -> Output
     }
 }
 
-// Nothing shown yet, with room for what the event shows at most, but for its replies. At the start no memory is taken.
-pub(crate) fn new_output(alloc: Global, event: &Event) -> Result<Output, AllocError>
-    ensures shown { IfOk result (λ o. shown_in o ≡ nothing_shown) }
-    ensures deeds { IfOk result (λ o. deeds_for event.now ≤ o.deeds.room) }
-    ensures drops { IfOk result (λ o. drops_for event.now ≤ o.drops.room) }
-    ensures frames { IfOk result (λ o. frames_for event.now ≤ o.frames.room) }
+// Room for what an event shows at most, but for replies and for what comes of a client's line. At the start no memory is taken.
+pub(crate) fn make_lists(out: &mut Output, event: &Event) -> Result<(), AllocError>
+    ensures shown { shown_in out.new ≡ shown_in out.old }
+    ensures deeds { OnOk result (deeds_for event.now ≤ out.new.deeds.room) }
+    ensures drops { OnOk result (drops_for event.now ≤ out.new.drops.room) }
+    ensures frames { OnOk result (frames_for event.now ≤ out.new.frames.room) }
     ensures start { event.now ≡ Start → is_ok result ≡ true }
 {
     let (deeds, drops, frames) = match event {
-        Event::Start => return Ok(no_output(alloc)),
+        Event::Start | Event::Client { .. } => return Ok(()),
         Event::Tick { .. } => (MOST_DEEDS, TICK_DROPS, TICK_FRAMES),
-        Event::Frame(_) | Event::Client { .. } => (MOST_DEEDS, 0, EVENT_FRAMES),
+        Event::Frame(_) => (MOST_DEEDS, 0, EVENT_FRAMES),
     };
-    Ok(Output {
-        alloc,
-        deeds: Listed::with_room(alloc, deeds)?,
-        drops: Listed::with_room(alloc, drops)?,
-        frames: Listed::with_room(alloc, frames)?,
-        replies: Replies::new(alloc),
-    })
+    out.make_lists(deeds, drops, frames)?;
+    Ok(())
 }
 
 // What was shown, in its order.
@@ -213,7 +208,8 @@ impl<K: Keeper> Coordinator<K> {
         if self.core.keeper().stopped() {
             return Err(StepError::Stopped);
         }
-        let Ok(mut output) = new_output(alloc, &event) else {
+        let mut output = no_output(alloc);
+        let Ok(()) = make_lists(&mut output, &event) else {
             return Err(StepError::Memory);
         };
         // For the proof alone: what the event, the settings in it and the queue are, by their types.

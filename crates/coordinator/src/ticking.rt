@@ -1,9 +1,12 @@
 //! The tick of a leader.
 ghost use Rattle.std.specs.Prelude.{◌≡◌, ◌≤◌, ◌+◌, ◌++◌, [], ◌∷◌, map, true, false, IfOk, IsTrue, length};
+ghost use Rattle.std.specs.List.{list_all};
 ghost use Rattle.voting_config.specs.Ids.{Id};
-ghost use Rattle.fault_checks.specs.Followers.{to_ask, to_drop_for_checks, to_drop_for_lag};
+ghost use Rattle.fault_checks.specs.declared.followers.Follower.{Follower};
+ghost use Rattle.fault_checks.specs.Followers.{stays, to_ask, to_drop_for_checks, to_drop_for_lag};
 ghost use Rattle.policy_model.specs.Checks.{checks_followers};
 ghost use Rattle.policy_model.specs.Requests.{times_out_exclusions};
+ghost use Rattle.policy_model.specs.Doing.{becomes_candidate};
 ghost use Rattle.policy_model.specs.Rules.{has_timed_out, is_failed, ticks_leader};
 ghost use Rattle.coordinator.specs.Does.{Does, DoesAll};
 ghost use Rattle.coordinator.specs.Rooms.{Uses, tick_drops, to_set, to_two_sets};
@@ -57,8 +60,22 @@ impl<K: Keeper> Coordinator<K> {
             .time_out_exclusions(self.core.committed(), self.moment, &mut out.replies);
     }
 
+    // Followers that are due are asked. None fails or lags.
+    fn ask_followers(&mut self, out: &mut Output)
+        requires keeps { list_all (λ (f : Follower). stays f self.old.moment) self.old.followers.watched ≡ true }
+        requires frames { to_set ≤ out.old.frames.room }
+        ensures does { Does K.Keeper self.old self.new out.old out.new checks_followers true }
+        ensures uses { Uses out.old out.new 0 to_set 0 }
+    {
+        let ask = self.followers.tick_all(self.moment);
+        // For the proof alone: a set has at most `MAX_IDS` ids.
+        let _ = ask.len();
+        let check = Broadcast::FollowerCheck(self.core.term());
+        out.send_all(self.settings.me, ask.as_slice(), &check);
+    }
+
     // Followers that fail or lag are dropped, and those that are due are asked.
-    fn check_followers(&mut self, out: &mut Output)
+    fn drop_and_ask_followers(&mut self, out: &mut Output)
         requires frames { to_set ≤ out.old.frames.room }
         requires drops { tick_drops ≤ out.old.drops.room }
         ensures does { Does K.Keeper self.old self.new out.old out.new checks_followers true }
@@ -75,6 +92,20 @@ impl<K: Keeper> Coordinator<K> {
         remove_members(&mut self.tasks, lag.as_slice());
         let check = Broadcast::FollowerCheck(self.core.term());
         out.send_all(self.settings.me, ask.as_slice(), &check);
+    }
+
+    // The same. Most often none is dropped, and no sets are made then but of those to ask.
+    fn check_followers(&mut self, out: &mut Output)
+        requires frames { to_set ≤ out.old.frames.room }
+        requires drops { tick_drops ≤ out.old.drops.room }
+        ensures does { Does K.Keeper self.old self.new out.old out.new checks_followers true }
+        ensures uses { Uses out.old out.new 0 to_set 0 }
+    {
+        if self.followers.keeps_all(self.moment) {
+            self.ask_followers(out);
+        } else {
+            self.drop_and_ask_followers(out);
+        }
     }
 
     // Whether a tick changes no task before it goes on: nothing waits, so no exclusion times out, and no follower is dropped.
@@ -108,8 +139,7 @@ impl<K: Keeper> Coordinator<K> {
         let checked = followers.tick(self.moment);
         remove_members(&mut tasks, checked.checks.as_slice());
         remove_members(&mut tasks, checked.lag.as_slice());
-        let plan = self.plan_of(alloc, &tasks)?;
-        Ok(plan)
+        self.plan_of(alloc, &tasks)
     }
 
     // Whether its publication is not finished in time.
@@ -134,6 +164,18 @@ impl<K: Keeper> Coordinator<K> {
         self.check_followers(out);
     }
 
+    // A leader whose publication is not finished in time gives up.
+    fn give_up(&mut self, out: &mut Output) -> Result<(), EventError>
+        requires deeds { 1 ≤ out.old.deeds.room }
+        ensures does { DoesAll K.Keeper self.old self.new out.old out.new becomes_candidate result }
+    {
+        let Ok(()) = out.make_room(self.tasks.open_count(), &None) else {
+            return Err(EventError::Memory);
+        };
+        self.become_candidate(out);
+        Ok(())
+    }
+
     // A leader's tick, at a moment that is kept already.
     pub(crate) fn ticks_leader(&mut self, out: &mut Output) -> Result<(), EventError>
         requires ready { IsReady self.old }
@@ -143,20 +185,16 @@ impl<K: Keeper> Coordinator<K> {
         ensures does { DoesAll K.Keeper self.old self.new out.old out.new ticks_leader result }
     {
         if self.has_timed_out() {
-            let Ok(()) = out.make_room(self.tasks.open_count(), &None) else {
-                return Err(EventError::Memory);
-            };
-            self.become_candidate(out);
-            return Ok(());
+            return self.give_up(out);
         }
-        let Ok(plan) = self.plan_tick(out.alloc) else {
+        let Ok(mut plan) = self.plan_tick(out.alloc) else {
             return Err(EventError::Memory);
         };
         let Ok(()) = out.make_room(self.tasks.open_count(), &plan) else {
             return Err(EventError::Memory);
         };
         self.tick_members(out);
-        self.go_on(out, plan);
+        self.go_on(out, &mut plan);
         Ok(())
     }
 }

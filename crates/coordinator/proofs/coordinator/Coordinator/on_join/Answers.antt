@@ -15,8 +15,8 @@ pub returns-in-Ok-raise_term : goal.returns-in-Ok-raise_term
 returns-in-Ok-raise_term g c =
     record { does = joined_whole g.K.Keeper c.args.self.now c.raise_term.new.self c.take_join.new.self _ _ _ _ c.args.p c.args.term c.args.last (sym c.is_voting_only.ensures ∙ c.if-is_voting_only.false) c.in-Ok-make_room.ensures.shown c.in-Ok-raise_term.ensures.does c.take_join.ensures.does }
 
-pub returns-in-Err : goal.returns-in-Err
-returns-in-Err g c =
+pub returns : goal.returns
+returns g c =
     record { does = joined_struck g.K.Keeper c.args.self.now c.raise_term.new.self _ _ _ c.args.p c.args.term c.args.last (sym c.is_voting_only.ensures ∙ c.if-is_voting_only.false) c.in-Ok-make_room.ensures.shown c.in-Err.ensures.does }
 
 pub returns-then-is_voting_only : goal.returns-then-is_voting_only

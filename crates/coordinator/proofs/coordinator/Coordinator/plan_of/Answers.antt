@@ -1,8 +1,9 @@
 use Rattle.std.proofs.Common.{◌∙◌}
+use Rattle.std.proofs.lemmas.Result.{IfOk-weaker}
 use Rattle.coordinator.specs.Views.{view_in}
 use Rattle.coordinator.proofs.Asked.{same_plan}
 use Rattle.coordinator.proofs.coordinator.Coordinator.plan_of.Goals as goal
 
 pub returns : goal.returns
 returns g c =
-    same_plan c.args.self.now.settings (view_in g.K.Keeper c.args.self.now) c.in_ok-plan.plan c.term.result c.sources.result c.args.tasks.now c.term.ensures.term (c.sources.ensures ∙ c.votes.ensures) c.in_ok-plan.ensures
+    IfOk-weaker c.plan_with.result _ _ (λ plan has. same_plan c.args.self.now.settings (view_in g.K.Keeper c.args.self.now) plan c.term.result c.sources.result c.args.tasks.now c.term.ensures.term (c.sources.ensures ∙ c.votes.ensures) has) c.plan_with.ensures

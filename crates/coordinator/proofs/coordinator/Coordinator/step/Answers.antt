@@ -8,7 +8,7 @@ use Rattle.coordinator.proofs.coordinator.Coordinator.step.Goals as goal
 
 pub returns-clause-does : goal.returns-clause-does
 returns-clause-does g c =
-    deeds g.K.Keeper c.take_event-ended.result c.seal.result c.args.self.now c.take_event-ended.new.self c.args.event _ _ c.in-Ok.ensures.shown c.take_event-ended.ensures.does c.seal.ensures (ap (λ x. g.K.Keeper.has_stopped x) (sym c.keeper.ensures) ∙ sym c.stopped.ensures ∙ c.if-stopped.false)
+    deeds g.K.Keeper c.take_event-ended.result c.seal.result c.args.self.now c.take_event-ended.new.self c.args.event _ _ (c.in-Ok.ensures.shown ∙ c.no_output-output.ensures) c.take_event-ended.ensures.does c.seal.ensures (ap (λ x. g.K.Keeper.has_stopped x) (sym c.keeper.ensures) ∙ sym c.stopped.ensures ∙ c.if-stopped.false)
 
 pub returns-clause-stays : goal.returns-clause-stays
 returns-clause-stays g c =
@@ -24,7 +24,7 @@ returns-clause-ready g c =
 
 pub returns-clause-within : goal.returns-clause-within
 returns-clause-within g c =
-    within g.K.Keeper c.take_event-ended.result c.seal.result c.args.self.now c.take_event-ended.new.self c.args.event _ _ c.in-Ok.ensures.shown c.take_event-ended.ensures.does c.seal.ensures c.requires.fit c.law_event_holds_settings.ensures (rw (← c.open_count.ensures.count) c.open_count.ensures.few)
+    within g.K.Keeper c.take_event-ended.result c.seal.result c.args.self.now c.take_event-ended.new.self c.args.event _ _ (c.in-Ok.ensures.shown ∙ c.no_output-output.ensures) c.take_event-ended.ensures.does c.seal.ensures c.requires.fit c.law_event_holds_settings.ensures (rw (← c.open_count.ensures.count) c.open_count.ensures.few)
 
 pub returns-clause-stopped : goal.returns-clause-stopped
 returns-clause-stopped g c =
@@ -34,7 +34,7 @@ pub returns-clause-durable : goal.returns-clause-durable
 returns-clause-durable g c =
     let keeper = c.take_event-ended.new.self.core.keeper in
     let now = g.K.Keeper.moment keeper in
-    lasting g.K.Keeper c.take_event-ended.result c.seal.result c.args.self.now c.take_event-ended.new.self c.args.event _ _ c.in-Ok.ensures.shown c.take_event-ended.ensures.does c.seal.ensures (ap (λ x. g.K.Keeper.has_stopped x) (sym c.keeper.ensures) ∙ sym c.stopped.ensures ∙ c.if-stopped.false)
+    lasting g.K.Keeper c.take_event-ended.result c.seal.result c.args.self.now c.take_event-ended.new.self c.args.event _ _ (c.in-Ok.ensures.shown ∙ c.no_output-output.ensures) c.take_event-ended.ensures.does c.seal.ensures (ap (λ x. g.K.Keeper.has_stopped x) (sym c.keeper.ensures) ∙ sym c.stopped.ensures ∙ c.if-stopped.false)
     (λ told running found. (
       λ left. g.met.K.Keeper.only_kept keeper found told running left,
       λ is. subst (λ (f : Option Kept). g.K.Keeper.left_since keeper now f) (sym is) (g.met.K.Keeper.may_stay keeper now told (omega arith) running),
@@ -45,4 +45,4 @@ returns-clause-start g c = λ start up. sealed_fine c.take_event-ended.result c.
 
 pub returns-clause-few : goal.returns-clause-few
 returns-clause-few g c =
-    few g.K.Keeper c.take_event-ended.result c.seal.result c.args.self.now c.take_event-ended.new.self c.args.event _ _ c.in-Ok.ensures.shown c.take_event-ended.ensures.does c.seal.ensures c.law_event_holds_set.ensures
+    few g.K.Keeper c.take_event-ended.result c.seal.result c.args.self.now c.take_event-ended.new.self c.args.event _ _ (c.in-Ok.ensures.shown ∙ c.no_output-output.ensures) c.take_event-ended.ensures.does c.seal.ensures c.law_event_holds_set.ensures

@@ -10,7 +10,7 @@ finish_publication-requires-clause-ready g c =
 
 pub finish_publication-requires-clause-plan : goal.finish_publication-requires-clause-plan
 finish_publication-requires-clause-plan g c =
-    plan_for_finish g.K.Keeper c.args.self.now c.act_commit.new.self _ _ c.args.p c.args.id c.args.plan c.requires.plan c.in-Ok.ensures.does (sym c.in-Ok.ensures.taken ∙ c.if-not-taken.false) (sym c.is_leader.ensures ∙ c.if-is_leader.true)
+    plan_for_finish g.K.Keeper c.args.self.now c.act_commit.new.self _ _ c.args.p c.args.id c.args.plan.now c.requires.plan c.in-Ok.ensures.does (sym c.in-Ok.ensures.taken ∙ c.if-not-taken.false) (sym c.is_leader.ensures ∙ c.if-is_leader.true)
 
 pub returns-in-Err : goal.returns-in-Err
 returns-in-Err g c =

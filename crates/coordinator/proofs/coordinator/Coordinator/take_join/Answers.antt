@@ -11,7 +11,7 @@ win-requires-clause-ready g c =
 
 pub win-requires-clause-plan : goal.win-requires-clause-plan
 win-requires-clause-plan g c =
-    plan_for_win g.K.Keeper c.args.self.now c.act_join-counted.new.self _ _ c.args.p c.args.term c.args.last c.args.plan c.requires.plan c.act_join-counted.ensures.does (ap (λ (ids : List Id). has_room ids c.args.p) (sym c.votes.ensures) ∙ sym c.has_room.ensures ∙ c.if-not-has_room.false) (sym c.act_join-counted.ensures.wins ∙ c.if-counted.true)
+    plan_for_win g.K.Keeper c.args.self.now c.act_join-counted.new.self _ _ c.args.p c.args.term c.args.last c.args.plan.now c.requires.plan c.act_join-counted.ensures.does (ap (λ (ids : List Id). has_room ids c.args.p) (sym c.votes.ensures) ∙ sym c.has_room.ensures ∙ c.if-not-has_room.false) (sym c.act_join-counted.ensures.wins ∙ c.if-counted.true)
 
 pub take_member-requires-clause-ready : goal.take_member-requires-clause-ready
 take_member-requires-clause-ready g c =
@@ -19,7 +19,7 @@ take_member-requires-clause-ready g c =
 
 pub take_member-requires-clause-plan : goal.take_member-requires-clause-plan
 take_member-requires-clause-plan g c =
-    plan_for_member g.K.Keeper c.args.self.now c.act_join-counted.new.self _ _ c.args.p c.args.term c.args.last c.args.plan c.requires.plan c.act_join-counted.ensures.does (ap (λ (ids : List Id). has_room ids c.args.p) (sym c.votes.ensures) ∙ sym c.has_room.ensures ∙ c.if-not-has_room.false) (sym c.act_join-counted.ensures.wins ∙ c.if-counted.false) (sym c.act_join-counted.ensures.taken ∙ not-false _ c.if-not-counted.false) (sym c.is_leader.ensures ∙ c.if-is_leader.true)
+    plan_for_member g.K.Keeper c.args.self.now c.act_join-counted.new.self _ _ c.args.p c.args.term c.args.last c.args.plan.now c.requires.plan c.act_join-counted.ensures.does (ap (λ (ids : List Id). has_room ids c.args.p) (sym c.votes.ensures) ∙ sym c.has_room.ensures ∙ c.if-not-has_room.false) (sym c.act_join-counted.ensures.wins ∙ c.if-counted.false) (sym c.act_join-counted.ensures.taken ∙ not-false _ c.if-not-counted.false) (sym c.is_leader.ensures ∙ c.if-is_leader.true)
 
 pub returns-then-counted : goal.returns-then-counted
 returns-then-counted g c =

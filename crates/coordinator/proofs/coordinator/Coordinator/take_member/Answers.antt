@@ -10,7 +10,7 @@ go_on-requires-clause-ready g c =
 
 pub go_on-requires-clause-plan : goal.go_on-requires-clause-plan
 go_on-requires-clause-plan g c =
-    planned_there g.K.Keeper c.args.self.now c.add_member.new.self _ c.args.plan (λ s v. v) (c.add_member.ensures c.args.out.now).goes c.requires.plan
+    planned_there g.K.Keeper c.args.self.now c.add_member.new.self _ c.args.plan.now (λ s v. v) (c.add_member.ensures c.args.out.now).goes c.requires.plan
 
 pub returns : goal.returns
 returns g c =

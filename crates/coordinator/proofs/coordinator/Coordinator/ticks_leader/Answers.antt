@@ -11,7 +11,7 @@ go_on-requires-clause-ready g c =
 
 pub go_on-requires-clause-plan : goal.go_on-requires-clause-plan
 go_on-requires-clause-plan g c =
-    planned_there g.K.Keeper c.args.self.now c.tick_members.new.self _ c.in-Ok-plan_tick.plan (λ s v. v) c.tick_members.ensures.does.goes (tick_planned c.args.self.now.settings (view_in g.K.Keeper c.args.self.now) c.in-Ok-plan_tick.plan c.in-Ok-plan_tick.ensures)
+    planned_there g.K.Keeper c.args.self.now c.tick_members.new.self _ c.in-Ok.plan (λ s v. v) c.tick_members.ensures.does.goes (tick_planned c.args.self.now.settings (view_in g.K.Keeper c.args.self.now) c.in-Ok.plan c.in-Ok.ensures)
 
 pub returns : goal.returns
 returns g c =

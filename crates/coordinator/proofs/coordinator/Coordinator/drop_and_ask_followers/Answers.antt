@@ -6,7 +6,7 @@ use Rattle.coordinator.specs.Plans.{frame_to}
 use Rattle.coordinator.specs.Showing.{shown_in}
 use Rattle.coordinator.specs.Ticks.{all_removed, dropped}
 use Rattle.coordinator.proofs.Ticked.{checks_made}
-use Rattle.coordinator.proofs.coordinator.Coordinator.check_followers.Goals as goal
+use Rattle.coordinator.proofs.coordinator.Coordinator.drop_and_ask_followers.Goals as goal
 
 pub returns-clause-does : goal.returns-clause-does
 returns-clause-does g c =
