@@ -13,7 +13,7 @@ use std::test::Fail;
 use voting_config::{NodeId, NodeSet};
 
 /// The settings of a node whose listed peers are the others of these names, whose first voters are the initial ones, and which
-/// is told of these voting-only nodes.
+/// is told of these voting-only nodes. Where there are some, no configuration shrinks by itself, so that both settings are seen.
 pub(crate) fn settings_of(
     alloc: Global,
     me: &str,
@@ -27,7 +27,7 @@ pub(crate) fn settings_of(
         initial: set_of(initial)?,
         voting_only: set_of(voting_only)?,
         peers: peers_of(alloc, me, names)?,
-        shrink: true,
+        shrink: voting_only.is_empty(),
     })
 }
 
