@@ -3,6 +3,7 @@
 ghost use Rattle.std.specs.Prelude.{◌≤◌, ◌^◌};
 ghost use Rattle.cluster_state.specs.States.{IsFit};
 
+use crate::names::{config, id, set};
 use cluster_state::{
     ApplyCommit, ClusterState, ClusterValue, Join, PublishCause, PublishRequest, PublishResponse,
     SharedState, StateId, ValueCause,
@@ -11,21 +12,10 @@ use coord_state::{CoordState, NotTaken, outcome_of_value};
 use state_journal::{Keeper, PlainKeeper, Ready};
 use std::alloc::{AllocError, Global};
 use std::test::Fail;
-use voting_config::{NodeId, NodeSet, VotingConfig};
 use world_model::{ActReply, Cause, Outcome};
 
-fn a() -> NodeId {
-    NodeId::parse("a").unwrap_or(NodeId::default())
-}
-
-fn only_a() -> NodeSet {
-    let mut ids = NodeSet::new();
-    let _ = ids.insert(a());
-    ids
-}
-
 fn opened(alloc: Global) -> Result<CoordState<PlainKeeper>, AllocError> {
-    Ok(CoordState::new(a(), PlainKeeper::new(alloc)?))
+    Ok(CoordState::new(id("a"), PlainKeeper::new(alloc)?))
 }
 
 // The state of version 1 of this term, of the parent 0/0 and with the empty value.
@@ -40,8 +30,8 @@ fn published(alloc: Global, term: u64) -> ClusterState
             term: 0,
             version: 0,
         }),
-        config: VotingConfig::of(&only_a()),
-        committed: VotingConfig::of(&only_a()),
+        config: config("a"),
+        committed: config("a"),
         value: ClusterValue::empty(alloc),
     }
 }
@@ -59,48 +49,76 @@ enum Act {
     Commit,
 }
 
-fn boots(alloc: Global, node: &mut CoordState<PlainKeeper>) -> Result<bool, AllocError> {
-    let initial = Ready::initial(alloc, &only_a())?;
-    Ok(node.set_initial(initial).is_ok())
+fn boots(alloc: Global, node: &mut CoordState<PlainKeeper>) -> bool {
+    match Ready::initial(alloc, &set("a")) {
+        Ok(initial) => node.set_initial(initial).is_ok(),
+        Err(_) => false,
+    }
+}
+
+fn is_own_join(join: &Join) -> bool {
+    join.source == id("a")
+        && join.target == id("a")
+        && join.term == 1
+        && join.last_term == 0
+        && join.last_version == 0
 }
 
 // Whether it answers with its own join.
 fn starts(node: &mut CoordState<PlainKeeper>) -> bool {
-    node.start_join(a(), 1).is_ok_and(|join| {
-        join.source == a()
-            && join.target == a()
-            && join.term == 1
-            && join.last_term == 0
-            && join.last_version == 0
-    })
+    match node.start_join(id("a"), 1) {
+        Ok(join) => is_own_join(&join),
+        Err(_) => false,
+    }
 }
 
 // Whether its own join wins.
 fn wins(node: &mut CoordState<PlainKeeper>) -> bool {
     let join = Join {
-        source: a(),
-        target: a(),
+        source: id("a"),
+        target: id("a"),
         term: 1,
         last_term: 0,
         last_version: 0,
     };
-    node.votes().len() < 32 && node.join(&join).is_ok_and(|joined| joined.won)
+    if node.votes().len() >= 32 {
+        return false;
+    }
+    match node.join(&join) {
+        Ok(joined) => joined.won,
+        Err(_) => false,
+    }
+}
+
+// Whether it would refuse a state of another term.
+fn refuses_later(alloc: Global, node: &CoordState<PlainKeeper>) -> bool {
+    let cause = Cause::Publish(PublishCause::TermMismatch(1, 2));
+    match node.check_publish(&published(alloc, 2)) {
+        Ok(_) => false,
+        Err(error) => error.not_taken() == NotTaken::Refused(cause),
+    }
 }
 
 // Whether it would accept its state, and refuse one of another term.
 fn checks(alloc: Global, node: &CoordState<PlainKeeper>) -> bool {
-    let later = node.check_publish(&published(alloc, 2)).err();
-    let cause = Cause::Publish(PublishCause::TermMismatch(1, 2));
-    node.check_publish(&published(alloc, 1)).is_ok()
-        && later.map(|error| error.not_taken()) == Some(NotTaken::Refused(cause))
+    node.check_publish(&published(alloc, 1)).is_ok() && refuses_later(alloc, node)
+}
+
+fn is_own_response(sent: &PublishResponse) -> bool {
+    sent.source == id("a") && sent.target == id("a") && sent.term == 1 && sent.version == 1
+}
+
+fn is_accepted(node: &mut CoordState<PlainKeeper>, state: Ready) -> bool {
+    match node.publish_request(id("a"), state).ok() {
+        Some(sent) => is_own_response(&sent),
+        None => false,
+    }
 }
 
 // Whether it accepts its own state, and answers with its own response.
 fn accepts(alloc: Global, node: &mut CoordState<PlainKeeper>) -> bool {
     match Ready::new(alloc, published(alloc, 1)) {
-        Ok(state) => node.publish_request(a(), state).is_ok_and(|sent| {
-            sent.source == a() && sent.target == a() && sent.term == 1 && sent.version == 1
-        }),
+        Ok(state) => is_accepted(node, state),
         Err(_) => false,
     }
 }
@@ -108,23 +126,27 @@ fn accepts(alloc: Global, node: &mut CoordState<PlainKeeper>) -> bool {
 // Whether its own response lets it send the commit.
 fn responds(node: &mut CoordState<PlainKeeper>) -> bool {
     let response = PublishResponse {
-        source: a(),
-        target: a(),
+        source: id("a"),
+        target: id("a"),
         term: 1,
         version: 1,
     };
-    if node.acks().len() < 32 {
-        node.publish_response(&response).is_ok_and(|commit| {
-            commit.is_some_and(|sent| sent.source == a() && sent.term == 1 && sent.version == 1)
-        })
-    } else {
-        false
+    if node.acks().len() >= 32 {
+        return false;
     }
+    match node.publish_response(&response) {
+        Ok(Some(sent)) => is_own_commit(&sent),
+        _ => false,
+    }
+}
+
+fn is_own_commit(commit: &ApplyCommit) -> bool {
+    commit.source == id("a") && commit.term == 1 && commit.version == 1
 }
 
 fn commits(node: &mut CoordState<PlainKeeper>) -> bool {
     let commit = ApplyCommit {
-        source: a(),
+        source: id("a"),
         term: 1,
         version: 1,
     };
@@ -132,16 +154,16 @@ fn commits(node: &mut CoordState<PlainKeeper>) -> bool {
 }
 
 // Whether the act is taken, and answers as it should.
-fn does(alloc: Global, node: &mut CoordState<PlainKeeper>, act: Act) -> Result<bool, AllocError> {
+fn does(alloc: Global, node: &mut CoordState<PlainKeeper>, act: Act) -> bool {
     match act {
         Act::Boot => boots(alloc, node),
-        Act::Start => Ok(starts(node)),
-        Act::Join => Ok(wins(node)),
-        Act::Value => Ok(node.take_value(1, &VotingConfig::of(&only_a())).is_ok()),
-        Act::Check => Ok(checks(alloc, node)),
-        Act::Publish => Ok(accepts(alloc, node)),
-        Act::Respond => Ok(responds(node)),
-        Act::Commit => Ok(commits(node)),
+        Act::Start => starts(node),
+        Act::Join => wins(node),
+        Act::Value => node.take_value(1, &config("a")).is_ok(),
+        Act::Check => checks(alloc, node),
+        Act::Publish => accepts(alloc, node),
+        Act::Respond => responds(node),
+        Act::Commit => commits(node),
     }
 }
 
@@ -196,7 +218,7 @@ const ACCEPTED: Seen = Seen {
     ..PUBLISHED
 };
 
-const LIFE: [Act; 8] = [
+const LIFE: &[Act] = &[
     Act::Boot,
     Act::Start,
     Act::Join,
@@ -220,8 +242,8 @@ fn seen_after(act: Act) -> Seen {
 
 // Whether the node is its only vote and its only voter.
 fn has_only_a(node: &CoordState<PlainKeeper>) -> bool {
-    let voters = VotingConfig::of(&only_a());
-    node.votes().sources().as_slice() == only_a().as_slice()
+    let voters = config("a");
+    node.votes().sources().as_slice() == set("a").as_slice()
         && node.committed().is_same(&voters)
         && node.kept().committed.is_same(&voters)
 }
@@ -229,8 +251,8 @@ fn has_only_a(node: &CoordState<PlainKeeper>) -> bool {
 #[test]
 fn a_node_alone_wins_and_commits(rt: HostRuntime) -> Result<(), Fail> {
     let mut node = opened(rt.alloc())?;
-    for act in &LIFE {
-        let is_done = does(rt.alloc(), &mut node, *act)?;
+    for act in LIFE {
+        let is_done = does(rt.alloc(), &mut node, *act);
         assert!(rt; is_done && is_seen(&node, seen_after(*act)));
     }
     assert!(rt; has_only_a(&node));
@@ -249,9 +271,9 @@ fn refusal(outcome: &Outcome) -> Option<Cause> {
 fn a_value_is_refused_before_the_election_is_won(rt: HostRuntime) -> Result<(), Fail> {
     let alloc = rt.alloc();
     let mut node = opened(alloc)?;
-    let answer = node.take_value(7, &VotingConfig::of(&only_a()));
+    let answer = node.take_value(7, &config("a"));
     let request = PublishRequest {
-        source: a(),
+        source: id("a"),
         state: SharedState::of(alloc, published(alloc, 1))?,
     };
     let outcome = outcome_of_value(answer, request);

@@ -1,11 +1,8 @@
 //! Joins that are counted, and those that are refused. The causes follow from docs/protocol.md.
+use crate::names::{config, id};
 use cluster_state::{Join, JoinCause, StateId};
 use join_rules::join_check;
-use voting_config::{JoinVotes, MAX_IDS, NodeId, NodeSet, Roster, VotingConfig};
-
-fn id(text: &str) -> NodeId {
-    NodeId::parse(text).unwrap_or(NodeId::default())
-}
+use voting_config::{JoinVotes, MAX_IDS, NodeId, Roster, VotingConfig};
 
 // Sources in the order in which they vote, one that is taken out then, the roster, and the word of the votes over it.
 type Counted = (
@@ -30,23 +27,31 @@ fn add(votes: &mut JoinVotes, source: NodeId) {
 }
 
 fn is_roster(roster: &Roster, wanted: &[&str]) -> bool {
-    let ids = roster.as_slice();
-    ids.len() == wanted.len()
-        && wanted
-            .iter()
-            .enumerate()
-            .all(|(i, text)| ids[i] == id(text))
+    let mut is_same = roster.len() == wanted.len();
+    for (found, text) in roster.as_slice().iter().zip(wanted) {
+        is_same = is_same && *found == id(text);
+    }
+    is_same
+}
+
+fn voted((sources, out, _, _): &Counted) -> JoinVotes {
+    let mut votes = JoinVotes::new();
+    for source in *sources {
+        add(&mut votes, id(source));
+    }
+    votes.remove(id(out));
+    votes
+}
+
+fn are_counted(votes: &JoinVotes, (_, _, roster, word): &Counted) -> bool {
+    is_roster(votes.roster(), roster) && votes.word() == *word
 }
 
 #[test]
 fn votes_are_bits_at_the_places_of_their_sources(rt: HostRuntime) {
-    for (sources, out, roster, word) in VOTES {
-        let mut votes = JoinVotes::new();
-        for source in *sources {
-            add(&mut votes, id(source));
-        }
-        votes.remove(id(out));
-        assert!(rt; is_roster(votes.roster(), roster) && votes.word() == *word);
+    for row in VOTES {
+        let mut votes = voted(row);
+        assert!(rt; are_counted(&votes, row));
         votes.clear();
         assert!(rt; votes.word() == 0 && votes.len() == 0);
     }
@@ -65,10 +70,6 @@ fn a_roster_full_of_nodes_that_do_not_vote_is_made_anew(rt: HostRuntime) {
     votes.clear();
     add(&mut votes, id("z"));
     assert!(rt; is_roster(votes.roster(), &["z"]) && votes.word() == 1);
-}
-
-fn config(text: &str) -> VotingConfig {
-    VotingConfig::of(&NodeSet::parse(text).unwrap_or(NodeSet::new()))
 }
 
 // The join as the node a checks it, in term 4 and with the accepted state 1/2.

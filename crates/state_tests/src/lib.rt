@@ -9,6 +9,8 @@ mod coord_state_tests;
 #[cfg(test)]
 mod join_rules_tests;
 #[cfg(test)]
+mod names;
+#[cfg(test)]
 mod reference_model_tests;
 #[cfg(test)]
 mod voting_config_tests;

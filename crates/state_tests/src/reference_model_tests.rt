@@ -2,6 +2,7 @@
 ghost use Rattle.std.specs.Prelude.{IsTrue, IfSome};
 ghost use Rattle.cluster_state.specs.States.{IsFitId};
 
+use crate::names::{config, id};
 use cluster_state::{
     ApplyCommit, ClusterState, ClusterValue, Join, Kept, LAST_NUMBER, PublishRequest,
     PublishResponse, SharedConfig, SharedState, SharedValue, StateId,
@@ -30,14 +31,6 @@ enum Call {
     Response(&'static str),
     // Of version 1.
     Commit,
-}
-
-fn id(text: &str) -> NodeId {
-    NodeId::parse(text).unwrap_or(NodeId::default())
-}
-
-fn config(text: &str) -> VotingConfig {
-    VotingConfig::of(&NodeSet::parse(text).unwrap_or(NodeSet::new()))
 }
 
 // What a state of this version has as its parent, where each state follows the one of the version before.
@@ -349,24 +342,24 @@ fn plays(alloc: Global, me: &str, first: &[Row], then: &[Row]) -> Result<(), Fai
     node.takes(alloc, then)
 }
 
-const B_JOINS: [Row; 2] = [
+const B_JOINS: &[Row] = &[
     (Call::Boot("a,b,c"), "won=false"),
     (Call::Start(1), "join b a 1 0/0"),
 ];
 
-const C_JOINS: [Row; 2] = [
+const C_JOINS: &[Row] = &[
     (Call::Boot("a,b,c"), "won=false"),
     (Call::Start(1), "join c a 1 0/0"),
 ];
 
-const A_WINS: [Row; 4] = [
+const A_WINS: &[Row] = &[
     (Call::Boot("a,b,c"), "won=false"),
     (Call::Start(1), "join a a 1 0/0"),
     (Call::Join("a", 1, 0, 0), "won=false"),
     (Call::Join("b", 1, 0, 0), "won=true"),
 ];
 
-const A_PUBLISHES: [Row; 6] = [
+const A_PUBLISHES: &[Row] = &[
     (Call::Boot("a,b,c"), "won=false"),
     (Call::Start(1), "join a a 1 0/0"),
     (Call::Join("a", 1, 0, 0), "won=false"),
@@ -378,43 +371,43 @@ const A_PUBLISHES: [Row; 6] = [
 #[test]
 fn a_quorum_elects_once(rt: HostRuntime) -> Result<(), Fail> {
     let alloc = rt.alloc();
-    plays(alloc, "b", &B_JOINS, &[])?;
-    plays(alloc, "c", &C_JOINS, &[])?;
-    const ROWS: [Row; 2] = [
+    plays(alloc, "b", B_JOINS, &[])?;
+    plays(alloc, "c", C_JOINS, &[])?;
+    const ROWS: &[Row] = &[
         (Call::Join("b", 1, 0, 0), "won=false"),
         (Call::Boot("a,b"), "Initial(AlreadySet)"),
     ];
-    plays(alloc, "a", &A_WINS, &ROWS)
+    plays(alloc, "a", A_WINS, ROWS)
 }
 
 #[test]
 fn a_new_round_begins_without_votes(rt: HostRuntime) -> Result<(), Fail> {
-    const ROWS: [Row; 3] = [
+    const ROWS: &[Row] = &[
         (Call::Start(2), "join a a 2 0/0"),
         (Call::Join("c", 2, 0, 0), "won=false"),
         (Call::Join("a", 2, 0, 0), "won=true"),
     ];
-    plays(rt.alloc(), "a", &A_WINS, &ROWS)
+    plays(rt.alloc(), "a", A_WINS, ROWS)
 }
 
 #[test]
 fn a_quorum_commits(rt: HostRuntime) -> Result<(), Fail> {
     let alloc = rt.alloc();
-    const PUBLISHED: [Row; 1] = [(Call::Publish(1, "a,b,c"), "response b a 1/1")];
-    plays(alloc, "b", &B_JOINS, &PUBLISHED)?;
-    const COMMITTED: [Row; 3] = [
+    const PUBLISHED: &[Row] = &[(Call::Publish(1, "a,b,c"), "response b a 1/1")];
+    plays(alloc, "b", B_JOINS, PUBLISHED)?;
+    const COMMITTED: &[Row] = &[
         (Call::Response("a"), "won=false"),
         (Call::Response("b"), "commit a 1/1"),
         (Call::Commit, "won=false"),
     ];
-    plays(alloc, "a", &A_PUBLISHES, &COMMITTED)?;
-    const REFUSED: [Row; 1] = [(Call::Commit, "Commit(AcceptedTermMismatch(0, 1))")];
-    plays(alloc, "c", &C_JOINS, &REFUSED)
+    plays(alloc, "a", A_PUBLISHES, COMMITTED)?;
+    const REFUSED: &[Row] = &[(Call::Commit, "Commit(AcceptedTermMismatch(0, 1))")];
+    plays(alloc, "c", C_JOINS, REFUSED)
 }
 
 #[test]
 fn one_change_of_the_configuration(rt: HostRuntime) -> Result<(), Fail> {
-    const ROWS: [Row; 6] = [
+    const ROWS: &[Row] = &[
         (Call::Value(2, "a,b"), "publish a 1/2 1/1 ab abc "),
         (Call::Value(3, "a,b"), "Value(NotAccepted(2, 1))"),
         (Call::Commit, "Commit(Publishing(1, 2))"),
@@ -422,12 +415,12 @@ fn one_change_of_the_configuration(rt: HostRuntime) -> Result<(), Fail> {
         (Call::Publish(2, "a,b"), "Publish(VersionNotGreater(2, 2))"),
         (Call::Value(3, "a,b,c"), "Value(Reconfiguring)"),
     ];
-    plays(rt.alloc(), "a", &A_PUBLISHES, &ROWS)
+    plays(rt.alloc(), "a", A_PUBLISHES, ROWS)
 }
 
 #[test]
 fn both_configurations_have_a_quorum(rt: HostRuntime) -> Result<(), Fail> {
-    const ROWS: [Row; 8] = [
+    const ROWS: &[Row] = &[
         (Call::Value(1, "c"), "Value(NoJoinQuorum)"),
         (Call::Value(1, "a"), "publish a 1/1 0/0 a abc "),
         (Call::Publish(1, "a"), "response a a 1/1"),
@@ -437,7 +430,7 @@ fn both_configurations_have_a_quorum(rt: HostRuntime) -> Result<(), Fail> {
         (Call::Join("a", 2, 1, 1), "won=false"),
         (Call::Join("c", 2, 0, 0), "won=true"),
     ];
-    plays(rt.alloc(), "a", &A_WINS, &ROWS)
+    plays(rt.alloc(), "a", A_WINS, ROWS)
 }
 
 const NO_LIST: &[Row] = &[];
@@ -468,16 +461,16 @@ const TOO_LARGE: &[Row] = &[(
 )];
 
 // A node, and the two lists of its calls.
-const REFUSED: [(&str, &[Row], &[Row]); 4] = [
+const REFUSED: &[(&str, &[Row], &[Row])] = &[
     ("a", BEFORE, NO_LIST),
-    ("b", &B_JOINS, OTHER),
+    ("b", B_JOINS, OTHER),
     ("a", FRESHER, NO_LIST),
-    ("a", &A_WINS, TOO_LARGE),
+    ("a", A_WINS, TOO_LARGE),
 ];
 
 #[test]
 fn acts_are_refused_with_these_causes(rt: HostRuntime) -> Result<(), Fail> {
-    for (me, first, then) in &REFUSED {
+    for (me, first, then) in REFUSED {
         plays(rt.alloc(), me, first, then)?;
     }
     Ok(())

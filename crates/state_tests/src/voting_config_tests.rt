@@ -1,4 +1,6 @@
 //! Ids, sets and quorums at their limits. What is expected was counted by hand.
+use crate::names::{id, set};
+use std::test::Fail;
 use voting_config::{
     Full, IdError, MAX_IDS, NodeId, NodeSet, Roster, Tally, VotingConfig, quorum_mask, with_bit,
     without_bit,
@@ -9,14 +11,6 @@ const FULL: &str = "0,1,2,3,4,5,a,b,c,d,e,f,g,h,i,j,k,l,m,n,o,p,q,r,s,t,u,v,w,x,
 const ALL_BUT_Z: &str = "0,1,2,3,4,5,a,b,c,d,e,f,g,h,i,j,k,l,m,n,o,p,q,r,s,t,u,v,w,x,y";
 
 const ALL_BUT_0_AND_Z: &str = "1,2,3,4,5,a,b,c,d,e,f,g,h,i,j,k,l,m,n,o,p,q,r,s,t,u,v,w,x,y";
-
-fn id(text: &str) -> NodeId {
-    NodeId::parse(text).unwrap_or(NodeId::default())
-}
-
-fn set(text: &str) -> NodeSet {
-    NodeSet::parse(text).unwrap_or(NodeSet::new())
-}
 
 // Whether the set is the one that the text lists.
 fn is(ids: &NodeSet, text: &str) -> bool {
@@ -33,7 +27,7 @@ fn is_count(ids: Option<NodeSet>, wanted: Option<usize>) -> bool {
     }
 }
 
-const LISTS: [(&str, Option<usize>); 9] = [
+const LISTS: &[(&str, Option<usize>)] = &[
     ("_", Some(0)),
     ("a", Some(1)),
     ("a,b,node-1", Some(3)),
@@ -47,7 +41,7 @@ const LISTS: [(&str, Option<usize>); 9] = [
 
 #[test]
 fn a_list_is_a_set_where_its_ids_ascend(rt: HostRuntime) {
-    for (text, wanted) in &LISTS {
+    for (text, wanted) in LISTS {
         assert!(rt; is_count(NodeSet::parse(text), *wanted));
     }
 }
@@ -60,7 +54,7 @@ fn is_id(text: &str, wanted: Option<IdError>) -> bool {
     }
 }
 
-const IDS: [(&str, Option<IdError>); 6] = [
+const IDS: &[(&str, Option<IdError>)] = &[
     ("", Some(IdError::Empty)),
     ("node-1", None),
     ("a2345678901234567890123456789012", None),
@@ -71,7 +65,7 @@ const IDS: [(&str, Option<IdError>); 6] = [
 
 #[test]
 fn an_id_has_1_to_32_letters_digits_and_hyphens(rt: HostRuntime) {
-    for (text, wanted) in &IDS {
+    for (text, wanted) in IDS {
         assert!(rt; is_id(text, *wanted));
     }
     assert!(rt; id("b") > id("a") && id("b") > id("aa"));
@@ -116,11 +110,16 @@ fn holds(row: &Row) -> bool {
     does(&mut ids, *act) == *answer && is(&ids, after)
 }
 
-fn wrong_row(rows: &[Row]) -> Option<usize> {
-    rows.iter().position(|row| !holds(row))
+fn hold(rows: &[Row]) -> Result<(), Fail> {
+    for (at, row) in rows.iter().enumerate() {
+        if !holds(row) {
+            return Err(Fail::new(format_args!("row {at}")));
+        }
+    }
+    Ok(())
 }
 
-const FULL_SETS: [Row; 7] = [
+const FULL_SETS: &[Row] = &[
     ("a,b,c", Act::Insert("b"), Some(false), "a,b,c"),
     ("a,c", Act::Insert("b"), Some(true), "a,b,c"),
     ("a,b,c", Act::Remove("b"), Some(true), "a,c"),
@@ -131,13 +130,13 @@ const FULL_SETS: [Row; 7] = [
 ];
 
 #[test]
-fn a_33rd_id_is_refused(rt: HostRuntime) {
-    let wrong = wrong_row(&FULL_SETS);
-    assert!(rt; wrong == None, "row {wrong:?}");
+fn a_33rd_id_is_refused(rt: HostRuntime) -> Result<(), Fail> {
+    hold(FULL_SETS)?;
     assert!(rt; set(FULL).copy().contains(id("5")) && !set(FULL).contains(id("6")));
+    Ok(())
 }
 
-const PUTS: [Row; 4] = [
+const PUTS: &[Row] = &[
     ("b,c", Act::PutIfRoom("a"), None, "a,b,c"),
     ("a,b,c", Act::PutIfRoom("b"), None, "a,b,c"),
     (FULL, Act::PutIfRoom("6"), None, FULL),
@@ -145,23 +144,22 @@ const PUTS: [Row; 4] = [
 ];
 
 #[test]
-fn an_id_is_put_in_if_there_is_room(rt: HostRuntime) {
-    let wrong = wrong_row(&PUTS);
-    assert!(rt; wrong == None, "row {wrong:?}");
+fn an_id_is_put_in_if_there_is_room() -> Result<(), Fail> {
+    hold(PUTS)
 }
 
-const FILLS: [Row; 2] = [
+const FILLS: &[Row] = &[
     ("b,c", Act::CopyFrom("a,d,e"), None, "a,d,e"),
     ("a,d,e", Act::Clear, None, "_"),
 ];
 
 #[test]
-fn a_set_is_filled_in_its_place(rt: HostRuntime) {
-    let wrong = wrong_row(&FILLS);
-    assert!(rt; wrong == None, "row {wrong:?}");
+fn a_set_is_filled_in_its_place(rt: HostRuntime) -> Result<(), Fail> {
+    hold(FILLS)?;
     let mut config = VotingConfig::of(&set("b,c"));
     config.copy_from(&set("a,d,e"));
     assert!(rt; is(config.members(), "a,d,e"));
+    Ok(())
 }
 
 // What is asked of two sets.
@@ -202,7 +200,7 @@ fn is_so(ids: &NodeSet, others: &NodeSet, question: Question) -> bool {
     }
 }
 
-const QUESTIONS: [(&str, &str, Question, bool); 12] = [
+const QUESTIONS: &[(&str, &str, Question, bool)] = &[
     ("a,b,c", "b,d", Question::IsWithin("b"), true),
     ("a,b,c", "b,d", Question::IsWithout("a,c"), true),
     ("a,b,c", "b,d", Question::IsUnion("a,b,c,d"), true),
@@ -219,7 +217,7 @@ const QUESTIONS: [(&str, &str, Question, bool); 12] = [
 
 #[test]
 fn sets_are_put_together_and_apart(rt: HostRuntime) {
-    for (ids, others, question, wanted) in &QUESTIONS {
+    for (ids, others, question, wanted) in QUESTIONS {
         assert!(rt; is_so(&set(ids), &set(others), *question) == *wanted);
     }
 }
@@ -236,7 +234,7 @@ fn is_quorum(config: &str, votes: &str) -> bool {
     VotingConfig::of(&set(config)).is_quorum(&set(votes))
 }
 
-const QUORUMS: [(&str, &str, bool); 7] = [
+const QUORUMS: &[(&str, &str, bool)] = &[
     ("_", "a", false),
     ("a", "a", true),
     ("a,b,c", "a,b", true),
@@ -248,7 +246,7 @@ const QUORUMS: [(&str, &str, bool); 7] = [
 
 #[test]
 fn a_quorum_is_more_than_half(rt: HostRuntime) {
-    for (config, votes, wanted) in &QUORUMS {
+    for (config, votes, wanted) in QUORUMS {
         assert!(rt; is_quorum(config, votes) == *wanted);
     }
     let config = VotingConfig::of(&set("a,b"));
