@@ -38,7 +38,7 @@ pub(crate) fn is_written<D: Display>(alloc: Global, value: &D, want: &str) -> bo
 }
 
 // The most bytes that `reads` compares.
-const MOST: usize = 64;
+const MOST: usize = 96;
 
 /// Whether a side has these bytes and no more.
 pub(crate) fn reads(disk: &mut MemDisks, side: Side, want: &[u8]) -> bool {

@@ -1,12 +1,14 @@
 //! Journals in memory with the lines that show them, and each way in which an inspection ends. The lines are those of
 //! docs/formats.md.
-use crate::hosts::{Failing, host_of, is_used_once, sink_of};
+use crate::files::reads;
+use crate::hosts::{Failing, host_of, sink_of};
 use crate::journals::{
     CHANGED, NO_DIGEST, OLD_AFTER, OLD_TERM_ONE, SECOND, SECOND_CHANGED, TERM_ONE,
 };
 use journal_inspection::{Inspection, inspect};
 use std::alloc::{AllocError, Global};
 use std::test::Fail;
+use zen_disk::{MemDisks, Side};
 
 // The lines of a journal of term 1. The digest is that of 24 zero bytes.
 const TERM_ONE_LINES: &str = "term=1\naccepted=0/0\nconfig=_\ncommitted=_\nrecords=1\n\
@@ -40,7 +42,18 @@ const COMMITTED_LINES: &str = "term=0\naccepted=0/0\nconfig=_\ncommitted=_\nreco
     state={\"committed\":[],\"config\":[],\"parent\":null,\"term\":0,\
     \"value\":{\"exclusions\":[],\"master\":null,\"members\":[],\"settings\":{}},\"version\":0}\n";
 
-// Whether inspecting files with these bytes ends so and writes this text.
+// Whether the disk is given back of an inspection that ends so, unless it was given none, and has the first file as it was. A file of
+// at most nine bytes is given a header.
+fn is_left(disk: Option<MemDisks>, end: Inspection, file: &[u8]) -> bool {
+    match disk {
+        Some(mut disk) => {
+            end != Inspection::HostFault && (file.len() <= 9 || reads(&mut disk, Side::Zero, file))
+        }
+        None => end == Inspection::HostFault,
+    }
+}
+
+// Whether inspecting files with these bytes ends so, leaves the first one as it was, and writes this text.
 fn ends(
     alloc: Global,
     files: (&[u8], &[u8]),
@@ -51,8 +64,9 @@ fn ends(
     let mut sink = sink_of(alloc, failing)?;
     let mut host = host_of(alloc, files.0, files.1, failing)?;
     let end = inspect(alloc, "a", &mut sink, &mut host);
-    let is_used_once = is_used_once(host, want != Inspection::HostFault);
-    Ok(end == want && is_used_once && *sink.as_bytes() == *text.as_bytes())
+    let is_asked_once = host.asked().len() == 1;
+    let is_left = is_left(host.into_disk_back(), want, files.0);
+    Ok(end == want && is_asked_once && is_left && *sink.as_bytes() == *text.as_bytes())
 }
 
 // Two files, and what is shown of the journal in them.
