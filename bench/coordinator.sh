@@ -2,14 +2,14 @@
 # Measures coordinators over journals on disks in memory: events a second of idle followers, of checks and of puts. Each case runs
 # once with no round and then with its rounds, and the difference counts, so that the nodes' making and their election are left out.
 # Times are the processor's, the least of three runs; with valgrind the instructions of an event are counted too.
-# Usage: bench/coordinator.sh [PROGRAM]; with no PROGRAM it builds crates/coordinator_bench/out/coordinator_bench.
+# Usage: bench/coordinator.sh [PROGRAM]; with no PROGRAM it builds crates/zen_bench/out/zen_bench.
 set -eu
 top=$(cd "$(dirname "$0")/.." && pwd)
-bench=${1:-$top/crates/coordinator_bench/out/coordinator_bench}
+bench=${1:-$top/crates/zen_bench/out/zen_bench}
 work=$(mktemp -d)
 trap 'rm -rf "$work"' EXIT
 if [ $# -eq 0 ]; then
-    (cd "$top/crates/coordinator_bench" && rt run -- growths) > "$work/build" 2>&1 || { tail -n 20 "$work/build" >&2; exit 1; }
+    (cd "$top/crates/zen_bench" && rt run -- growths) > "$work/build" 2>&1 || { tail -n 20 "$work/build" >&2; exit 1; }
 fi
 
 # The events that a run of these words counts.

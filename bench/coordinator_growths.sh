@@ -1,13 +1,13 @@
 #!/bin/sh
-# Refuses each growth of the heap in turn, on the small cluster of `coordinator_bench growths`, which gives a step that finds no
+# Refuses each growth of the heap in turn, on the small cluster of `zen_bench growths`, which gives a step that finds no
 # memory its event once more. Such a step changes nothing, so the run must end with status 0 and the line that it prints with ample
 # memory, digest and all; or with status 4, where the growth was one of the program's own around the steps: an event's bytes or its
 # frame, the queue of what was sealed, the settings of a node, the words and the line.
-# Usage: bench/coordinator_growths.sh [PROGRAM]; PROGRAM is what `rt run` leaves in crates/coordinator_bench/out/coordinator_bench.
+# Usage: bench/coordinator_growths.sh [PROGRAM]; PROGRAM is what `rt run` leaves in crates/zen_bench/out/zen_bench.
 # It needs a C compiler.
 set -eu
 top=$(cd "$(dirname "$0")/.." && pwd)
-bench=${1:-$top/crates/coordinator_bench/out/coordinator_bench}
+bench=${1:-$top/crates/zen_bench/out/zen_bench}
 work=$(mktemp -d)
 trap 'rm -rf "$work"' EXIT
 cc -shared -fPIC -O1 -o "$work/refuse.so" "$top/bench/refuse_growth.c" -ldl

@@ -3,14 +3,14 @@
 # They are lent out of their bytes, or each is made by itself too, as a node does; or they are written. Instructions are counted by
 # callgrind, as the difference of two runs, so that what a run begins with is in neither; they are the same whatever else the machine
 # does. The time is the processor's, the least of three runs.
-# Usage: bench/frames.sh [PROGRAM]; with no PROGRAM it builds crates/core_bench/out/core_bench. It needs valgrind and awk.
+# Usage: bench/frames.sh [PROGRAM]; with no PROGRAM it builds crates/zen_bench/out/zen_bench. It needs valgrind and awk.
 set -eu
 top=$(cd "$(dirname "$0")/.." && pwd)
-bench=${1:-$top/crates/core_bench/out/core_bench}
+bench=${1:-$top/crates/zen_bench/out/zen_bench}
 work=$(mktemp -d)
 trap 'rm -rf "$work"' EXIT
 if [ $# -eq 0 ]; then
-    (cd "$top/crates/core_bench" && rt run -- 1 1) > "$work/build" 2>&1 || { tail -n 20 "$work/build" >&2; exit 1; }
+    (cd "$top/crates/zen_bench" && rt run -- growths) > "$work/build" 2>&1 || { tail -n 20 "$work/build" >&2; exit 1; }
 fi
 
 # The instructions of so many rounds of WHAT with a kind of frame.

@@ -2,15 +2,15 @@
 # Measures the journal of a folder: the time of a million terms set one by one, the bytes on the disk behind them, and the time and the
 # memory of an opening. The files lie in a new folder in FOLDER, or in /dev/shm, where a sync costs next to nothing, so that what is
 # measured is the program and not the device.
-# Usage: bench/journal.sh [PROGRAM [FOLDER [TERMS]]]; with no PROGRAM it builds crates/core_bench/out/core_bench.
+# Usage: bench/journal.sh [PROGRAM [FOLDER [TERMS]]]; with no PROGRAM it builds crates/zen_bench/out/zen_bench.
 set -eu
 top=$(cd "$(dirname "$0")/.." && pwd)
-bench=${1:-$top/crates/core_bench/out/core_bench}
+bench=${1:-$top/crates/zen_bench/out/zen_bench}
 terms=${3:-1000000}
 work=$(mktemp -d "${2:-/dev/shm}/journal.XXXXXX")
 trap 'rm -rf "$work"' EXIT
 if [ $# -eq 0 ]; then
-    (cd "$top/crates/core_bench" && rt run -- 1 1) > "$work/build" 2>&1 || { tail -n 20 "$work/build" >&2; exit 1; }
+    (cd "$top/crates/zen_bench" && rt run -- growths) > "$work/build" 2>&1 || { tail -n 20 "$work/build" >&2; exit 1; }
 fi
 
 # The seconds and the peak of the memory of a run that sets so many terms.

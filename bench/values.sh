@@ -5,20 +5,20 @@
 # before the rounds, of which each size has as many as make the bytes equal. The journals lie on disks in memory, which log
 # their writes, so the peak of the memory grows with the rounds.
 # Times are the processor's, and rise where a value outgrows its caches; with valgrind the instructions are counted too.
-# Usage: bench/values.sh [PROGRAM]; with no PROGRAM it builds crates/core_bench/out/core_bench.
+# Usage: bench/values.sh [PROGRAM]; with no PROGRAM it builds crates/zen_bench/out/zen_bench.
 set -eu
 top=$(cd "$(dirname "$0")/.." && pwd)
-bench=${1:-$top/crates/core_bench/out/core_bench}
+bench=${1:-$top/crates/zen_bench/out/zen_bench}
 work=$(mktemp -d)
 trap 'rm -rf "$work"' EXIT
 if [ $# -eq 0 ]; then
-    (cd "$top/crates/core_bench" && rt run -- 1 1) > "$work/build" 2>&1 || { tail -n 20 "$work/build" >&2; exit 1; }
+    (cd "$top/crates/zen_bench" && rt run -- growths) > "$work/build" 2>&1 || { tail -n 20 "$work/build" >&2; exit 1; }
 fi
 
 # The least seconds of three runs of SETTINGS and ROUNDS, and the memory.
 seconds() {
     for _ in 1 2 3; do
-        /usr/bin/time -f '%U %S %M' -o "$work/time" "$bench" "$1" "$2" > /dev/null
+        /usr/bin/time -f '%U %S %M' -o "$work/time" "$bench" values "$1" "$2" > /dev/null
         awk '{ print $1 + $2, $3 }' "$work/time"
     done | sort -n | head -n 1
 }
@@ -37,7 +37,7 @@ done | awk '{
 command -v valgrind > /dev/null || exit 0
 for settings in 256 1024; do
     rounds=$((8192 / settings))
-    valgrind --tool=callgrind --callgrind-out-file="$work/counts" "$bench" "$settings" "$rounds" > /dev/null 2>&1
+    valgrind --tool=callgrind --callgrind-out-file="$work/counts" "$bench" values "$settings" "$rounds" > /dev/null 2>&1
     echo "$settings $rounds $(awk '/^(summary|totals):/ { print $2; exit }' "$work/counts")"
 done | awk '{
     bytes = 60 + $1 * (2 + 128 + 2 + 1024)

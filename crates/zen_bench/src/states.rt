@@ -9,7 +9,8 @@ const MEMBERS: &[u8] = b"\x05\x01a\x01b\x01c\x01d\x01e";
 
 const TEXT: [u8; 1024] = [b'x'; 1024];
 
-fn add_all(bytes: &mut Vec<u8>, parts: &[&[u8]]) -> Result<(), AllocError> {
+/// Adds these parts, one after the other.
+pub fn add_all(bytes: &mut Vec<u8>, parts: &[&[u8]]) -> Result<(), AllocError> {
     for part in parts {
         bytes.extend_from_slice(part)?;
     }

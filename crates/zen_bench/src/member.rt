@@ -2,7 +2,7 @@
 ghost use Rattle.std.specs.Prelude.{◌≡◌, false, IfOk};
 ghost use Rattle.policy_model.specs.Fitting.{IsFitEvent};
 ghost use Rattle.coordinator.specs.Views.{IsReady};
-ghost use Rattle.coordinator_bench.specs.Ready.{IsReady-prop};
+ghost use Rattle.zen_bench.specs.Ready.{IsReady-prop};
 
 use crate::fault::Fault;
 use client_lines::Line;

@@ -1,7 +1,8 @@
 //! Frames out of bytes that come in pieces, as they come over a socket.
 
-use crate::states::state_bytes;
-use anyhow::{Result, bail};
+use crate::fault::{Fault, expected};
+use crate::figures::Figures;
+use crate::states::{add_all, state_bytes};
 use std::alloc::{AllocError, Global};
 use wire_frames::{FrameReader, FrameView, write_frame};
 
@@ -22,19 +23,20 @@ fn publish(alloc: Global) -> Result<Vec<u8>, AllocError> {
     let state = state_bytes(alloc, 1, 1024)?;
     let size = u32::try_from(state.len()).unwrap_or(0).saturating_add(5);
     let mut bytes = Vec::new(alloc);
-    bytes.extend_from_slice(&size.to_be_bytes())?;
-    bytes.extend_from_slice(&PUBLISH)?;
-    bytes.extend_from_slice(state.as_slice())?;
+    add_all(
+        &mut bytes,
+        &[&size.to_be_bytes(), &PUBLISH, state.as_slice()],
+    )?;
     Ok(bytes)
 }
 
 // How many frames are given now, and made where they are to be.
-fn take(alloc: Global, reader: &mut FrameReader, makes: bool) -> Result<u64> {
+fn take(alloc: Global, reader: &mut FrameReader, makes: bool) -> Result<u64, Fault> {
     let mut count: u64 = 0;
     for _ in 0..PIECE {
         match reader.next() {
             None => break,
-            Some(Err(_)) => bail!("a fault"),
+            Some(Err(_)) => return Err(Fault::Unexpected("no frame")),
             Some(Ok(frame)) => {
                 if makes {
                     let _ = frame.frame(alloc)?;
@@ -46,52 +48,64 @@ fn take(alloc: Global, reader: &mut FrameReader, makes: bool) -> Result<u64> {
     Ok(count)
 }
 
+// Has a frame come once, and says how many were given.
+fn read_once(
+    alloc: Global,
+    reader: &mut FrameReader,
+    frame: &[u8],
+    makes: bool,
+) -> Result<u64, Fault> {
+    let mut count: u64 = 0;
+    for piece in frame.chunks(PIECE) {
+        reader.push(piece)?;
+        count = count.saturating_add(take(alloc, reader, makes)?);
+    }
+    Ok(count)
+}
+
 // Has a frame come so often, and says how many were given.
-fn read(alloc: Global, frame: &[u8], makes: bool, rounds: u64) -> Result<u64> {
+fn read(alloc: Global, frame: &[u8], makes: bool, rounds: u64) -> Result<u64, Fault> {
     let mut reader = FrameReader::new(alloc);
     let mut count: u64 = 0;
     for _ in 0..rounds {
-        for piece in frame.chunks(PIECE) {
-            reader.push(piece)?;
-            count = count.saturating_add(take(alloc, &mut reader, makes)?);
-        }
+        count = count.saturating_add(read_once(alloc, &mut reader, frame, makes)?);
     }
     Ok(count)
 }
 
 // Writes the frame with this body so often, and says how often that was.
-fn write(alloc: Global, body: &[u8], rounds: u64) -> Result<u64> {
-    let Ok(view) = FrameView::of(body) else {
-        bail!("no frame");
-    };
-    let frame = view.frame(alloc)?;
-    let mut count: u64 = 0;
+fn write(alloc: Global, body: &[u8], rounds: u64) -> Result<u64, Fault> {
+    let frame = expected(FrameView::of(body), "no frame")?.frame(alloc)?;
     for _ in 0..rounds {
         let _ = write_frame(alloc, &frame)?;
-        count = count.saturating_add(1);
     }
-    Ok(count)
+    Ok(rounds)
 }
 
-fn frame_of(alloc: Global, kind: &str) -> Result<Vec<u8>> {
+fn frame_of(alloc: Global, kind: &str) -> Result<Vec<u8>, Fault> {
     match kind {
         "join" => Ok(Vec::from_slice(alloc, &JOIN)?),
         "publish" => Ok(publish(alloc)?),
-        _ => bail!("{kind} is no kind"),
+        _ => Err(Fault::Unexpected("a kind of frame is join or publish")),
+    }
+}
+
+// Lends, makes or writes a frame so often, and says how often that was.
+fn repeat(alloc: Global, what: &str, frame: &[u8], rounds: u64) -> Result<u64, Fault> {
+    match what {
+        "lend" => read(alloc, frame, false, rounds),
+        "make" => read(alloc, frame, true, rounds),
+        "write" => write(alloc, frame.get(4..).unwrap_or(&[]), rounds),
+        _ => Err(Fault::Unexpected("what is done with frames is lend, make or write")),
     }
 }
 
 /// Has a join, or a publish request of 1,024 full settings, come so often, and lends it, or makes it too; or writes it so
 /// often. Says how often that was.
-pub fn run_frames(alloc: Global, what: &str, kind: &str, rounds: u64) -> Result<u64> {
+pub fn run_frames(alloc: Global, what: &str, kind: &str, rounds: u64) -> Result<Figures, Fault> {
     let frame = frame_of(alloc, kind)?;
-    match what {
-        "lend" => read(alloc, frame.as_slice(), false, rounds),
-        "make" => read(alloc, frame.as_slice(), true, rounds),
-        "write" => match frame.as_slice().split_at_checked(4) {
-            Some((_, body)) => write(alloc, body, rounds),
-            None => bail!("no frame"),
-        },
-        _ => bail!("{what} is nothing to do with frames"),
+    match repeat(alloc, what, frame.as_slice(), rounds) {
+        Ok(count) => Ok(Figures::Frames(count)),
+        Err(fault) => Err(fault),
     }
 }

@@ -2,7 +2,7 @@
 ghost use Rattle.std.specs.Prelude.{◌≡◌, false};
 
 use crate::counts::Counts;
-use crate::fault::Fault;
+use crate::fault::{Fault, expected};
 use crate::member::{Given, Member};
 use coordinator::Sealed;
 use policy_model::{NodeIds, Settings};
@@ -17,10 +17,7 @@ const MOST_HANDED: u32 = 100_000;
 // The id of a node by its number.
 fn id(alloc: Global, number: u8) -> Result<NodeId, Fault> {
     let name = format!(in alloc; "n{number:02}")?;
-    match NodeId::parse(name.as_str()) {
-        Ok(id) => Ok(id),
-        Err(_) => Err(Fault::Unexpected("no id")),
-    }
+    expected(NodeId::parse(name.as_str()), "no id")
 }
 
 /// The ids of so many nodes.
@@ -28,7 +25,7 @@ pub fn all_ids(alloc: Global, nodes: u8) -> Result<NodeSet, Fault> {
     let mut ids = NodeSet::new();
     for number in 0..nodes {
         match id(alloc, number) {
-            Ok(added) => drop(ids.insert(added)),
+            Ok(id) => ids.put_if_room(id),
             Err(fault) => return Err(fault),
         }
     }
@@ -79,10 +76,10 @@ impl<K: Keeper + Drop> World<K> {
     }
 
     fn place_of(&self, id: NodeId) -> Result<usize, Fault> {
-        match self.members.iter().position(|member| member.me == id) {
-            Some(place) => Ok(place),
-            None => Err(Fault::Unexpected("a frame for no node")),
-        }
+        self.members
+            .iter()
+            .position(|member| member.me == id)
+            .ok_or(Fault::Unexpected("a frame for no node"))
     }
 
     // Gives it to the node at a place. What it sends waits.
@@ -117,12 +114,25 @@ impl<K: Keeper + Drop> World<K> {
         Err(Fault::Unexpected("frames without end"))
     }
 
-    /// A tick of the node at a place, so many ms after the last one of any, and what comes of it.
-    pub fn tick(&mut self, place: usize, ms: u64) -> Result<(), Fault> {
+    /// An event of the node at a place, and what comes of it.
+    pub fn event(&mut self, place: usize, given: Given) -> Result<(), Fault> {
+        self.give(place, given)?;
+        self.hand_over()
+    }
+
+    // A tick of the node at a place, so many ms after the last one of any, and what comes of it.
+    fn tick(&mut self, place: usize, ms: u64) -> Result<(), Fault> {
         self.now = self.now.wrapping_add(ms);
         let (now, word) = (self.now, place as u64);
-        self.give(place, Given::Tick { now, word })?;
-        self.hand_over()
+        self.event(place, Given::Tick { now, word })
+    }
+
+    /// So many ticks of the node at a place, each so many ms after the last one of any, and what comes of them.
+    pub fn tick_often(&mut self, place: usize, ms: u64, rounds: u64) -> Result<(), Fault> {
+        for _ in 0..rounds {
+            self.tick(place, ms)?;
+        }
+        Ok(())
     }
 
     /// All nodes tick at several moments, 250 ms apart.
@@ -136,17 +146,8 @@ impl<K: Keeper + Drop> World<K> {
         Ok(())
     }
 
-    /// A line of a client, and what comes of it.
-    pub fn line(&mut self, place: usize, text: &str) -> Result<(), Fault> {
-        self.give(place, Given::Line(text))?;
-        self.hand_over()
-    }
-
     /// The place of the node that became a leader last.
     pub fn leader(&self) -> Result<usize, Fault> {
-        match self.counts.leader {
-            Some(place) => Ok(place),
-            None => Err(Fault::Unexpected("no node leads")),
-        }
+        self.counts.leader.ok_or(Fault::Unexpected("no node leads"))
     }
 }

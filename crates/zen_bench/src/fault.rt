@@ -1,31 +1,16 @@
 //! Why a run did not come to its end.
+ghost use Rattle.std.specs.Prelude.{◌≡◌, IfOk, Ok};
+
 use std::alloc::{AllocError, AllocFailed};
 use std::io;
 
 /// Why a run did not come to its end.
-#[derive(Clone, Copy)]
+#[derive(Drop)]
 pub enum Fault {
     /// Memory was lacking outside an event and an opening.
     Memory,
     /// What came is not what was to come.
     Unexpected(&'static str),
-}
-
-impl Fault {
-    pub fn text(self) -> &'static str {
-        match self {
-            Fault::Memory => "no memory outside a step",
-            Fault::Unexpected(text) => text,
-        }
-    }
-
-    /// The exit status.
-    pub fn status(self) -> u8 {
-        match self {
-            Fault::Memory => 4,
-            Fault::Unexpected(_) => 1,
-        }
-    }
 }
 
 impl From<AllocError> for Fault {
@@ -47,5 +32,15 @@ impl From<io::Error> for Fault {
         } else {
             Fault::Unexpected("the words or the line that is printed")
         }
+    }
+}
+
+/// What came, or a fault with this text where an error came.
+pub fn expected<T, E: Drop>(came: Result<T, E>, text: &'static str) -> Result<T, Fault>
+    ensures { IfOk result (λ value. came ≡ Ok value) }
+{
+    match came {
+        Ok(value) => Ok(value),
+        Err(_) => Err(Fault::Unexpected(text)),
     }
 }
