@@ -380,10 +380,13 @@ impl MasterTasks {
     fn value_before(&self, me: NodeId, value: &ClusterValue) -> Result<ClusterValue, AllocError>
         ensures { IfOk result (λ v. v ≡ value_before_of me self.now value.now) }
     {
-        let mut before = value.copy()?;
-        before.master = Some(me);
-        before.members = self.members_after(me, &value.members);
-        Ok(before)
+        let settings = value.settings.copy()?;
+        Ok(ClusterValue {
+            master: Some(me),
+            members: self.members_after(me, &value.members),
+            exclusions: value.exclusions.copy(),
+            settings,
+        })
     }
 
     // The members with those that are to come and without those that are to go.
