@@ -1,5 +1,5 @@
 -- Passing over element after element, as a loop does that keeps the last one alone.
-use Rattle.std.proofs.Common.{◌≡◌, ℕ, ◌-◌, ◌+◌, ◌<◌, ◌≤◌, Bool, true, false, List, [], ◌∷◌, ◌++◌, Option, Some, None, Result, Ok, Err, refl, sym, ap, ◌∙◌, arith}
+use Rattle.std.proofs.Common.{◌≡◌, ℕ, ◌-◌, ◌+◌, ◌<◌, Bool, true, false, List, [], ◌∷◌, ◌++◌, Option, Some, Result, Ok, Err, refl, ◌∙◌}
 use Rattle.voting_config.specs.Ids.{Id, before, comes_after}
 use Rattle.cluster_state.specs.declared.fault.FieldError.{FieldError}
 use Rattle.cluster_state.specs.declared.fault.FieldError.TheVariants.{NotOrdered}

@@ -8,6 +8,7 @@ pub mod Settings
 pub mod Same
 pub mod Fields
 pub mod States
+pub mod Digests
 pub mod Json
 pub mod Puts
 pub mod StateIds

@@ -1,6 +1,7 @@
 //! `SharedState`: a cluster state that all who have it hold in one place, as do those who have its configuration or its value alone.
 ghost use Rattle.std.specs.Prelude.{◌≡◌, ◌↔◌, Ok, IfOk, IfErr, IfSome, IsTrue, length};
 ghost use Rattle.serde_json.specs.Written.{compact_text};
+ghost use Rattle.cluster_state.specs.Digests.{accepted_digest as accepted_digest_of};
 ghost use Rattle.cluster_state.specs.Json.{state_json};
 ghost use Rattle.cluster_state.specs.Shared.{first_of};
 ghost use Rattle.cluster_state.specs.States.{state as state_field, whole, IsFit};
@@ -15,8 +16,8 @@ use std::rc::Rc;
 use voting_config::VotingConfig;
 
 /// A cluster state that all who have it hold in one place, so that handing it on copies none of it. Beside it lie its bytes, where it came
-/// as bytes or was spelled to be published, and its JSON in the second case, so that whoever writes them copies them. Contracts see the
-/// state.
+/// as bytes or was spelled to be published, and in the second case its JSON and the digest that journals write with it, so that whoever
+/// writes them copies them. Contracts see the state.
 #[derive(Drop)]
 pub struct SharedState {
     // A list of one: a state is large, and moves into the room of a list as it is, where a call that may hand it back moves it through
@@ -68,7 +69,7 @@ impl SharedState {
     }
 
     /// [`of`](SharedState::of) for a state that is to be written and shown more than once: where it is within the limits it is spelled
-    /// here, and its bytes and its JSON are kept beside it.
+    /// here, and its bytes, their digest and its JSON are kept beside it.
     pub fn spell(alloc: Global, state: ClusterState) -> Result<SharedState, AllocError>
         ensures { IfOk result (λ s. s ≡ state) }
     {
@@ -110,6 +111,13 @@ impl SharedState {
         ensures { IfSome result (λ view. view ≡ self.now) }
     {
         self.spelled().view()
+    }
+
+    /// The digest of a journal's body that accepts the state, where it is known: the SHA-256 of the body's tag and the state's bytes.
+    pub fn accepted_digest(&self) -> Option<[u8; 32]>
+        ensures { IfSome result (λ digest. digest ≡ accepted_digest_of self.now) }
+    {
+        self.spelled().accepted_digest()
     }
 
     /// The state as compact JSON, as [`to_json`](crate::json::to_json) makes it, where it is known.

@@ -1,6 +1,8 @@
-//! A state beside its bytes and its JSON, where they are known.
-ghost use Rattle.std.specs.Prelude.{◌≡◌, Ok, IfOk, IfSome};
+//! A state beside its bytes, their digest and its JSON, where they are known.
+ghost use Rattle.std.specs.Prelude.{◌≡◌, ◌∷◌, Ok, IfOk, IfSome};
 ghost use Rattle.serde_json.specs.Written.{compact_text};
+ghost use Rattle.sha2.specs.Sha256.{sha256};
+ghost use Rattle.cluster_state.specs.Digests.{accepted_digest as accepted_digest_of, accepted_tag};
 ghost use Rattle.cluster_state.specs.Json.{state_json};
 ghost use Rattle.cluster_state.specs.States.{state as state_field, whole};
 
@@ -8,19 +10,26 @@ use crate::encoding::encode_state;
 use crate::json::to_json;
 use crate::state::ClusterState;
 use crate::view::StateView;
+use sha2::{Digest, Sha256};
 use std::alloc::{AllocError, Global};
 use std::marker::Model;
 
-/// A state beside its bytes and its JSON, where they are known, so that it is spelled no more than once. Contracts see the state.
+// The first byte of a journal's body that accepts a state.
+const ACCEPTED_TAG: u8 = 130;
+
+/// A state beside its bytes, their digest and its JSON, where they are known, so that it is spelled no more than once. Contracts see the
+/// state.
 #[derive(Drop)]
 pub(crate) struct SpelledState {
     state: ClusterState,
     bytes: Option<Vec<u8>>,
+    digest: Option<[u8; 32]>,
     json: Option<Vec<u8>>,
 }
 
 impl Model for SpelledState {
     ghost use Rattle.std.specs.Prelude.{◌≡◌, Ok, IfSome};
+    ghost use Rattle.cluster_state.specs.Digests.{accepted_digest};
     ghost use Rattle.serde_json.specs.Written.{compact_text};
     ghost use Rattle.cluster_state.specs.Json.{state_json};
     ghost use Rattle.cluster_state.specs.States.{state as state_field, whole};
@@ -31,7 +40,17 @@ impl Model for SpelledState {
     ghost view = { λ s. s.state };
 
     ghost invariant = { λ s. IfSome s.bytes (λ b. whole (state_field.at b.items) ≡ Ok s.state)
-        × IfSome s.json (λ j. j.items ≡ compact_text (state_json s.state)) };
+        × IfSome s.digest (λ d. d ≡ accepted_digest s.state) × IfSome s.json (λ j. j.items ≡ compact_text (state_json s.state)) };
+}
+
+// The SHA-256 of these bytes behind the tag of a body that accepts them.
+fn digest_of(bytes: &[u8]) -> [u8; 32]
+    ensures { result ≡ sha256 (accepted_tag ∷ bytes.now) }
+{
+    let mut hasher = Sha256::new();
+    hasher.update(&[ACCEPTED_TAG]);
+    hasher.update(bytes);
+    hasher.finalize()
 }
 
 impl SpelledState {
@@ -42,6 +61,7 @@ impl SpelledState {
         SpelledState {
             state,
             bytes: None,
+            digest: None,
             json: None,
         }
     }
@@ -55,9 +75,11 @@ impl SpelledState {
         }
         let bytes = encode_state(alloc, &state)?;
         let json = to_json(alloc, &state)?;
+        let digest = digest_of(&bytes);
         Ok(SpelledState {
             state,
             bytes: Some(bytes),
+            digest: Some(digest),
             json: Some(json),
         })
     }
@@ -76,6 +98,7 @@ impl SpelledState {
         Ok(SpelledState {
             state,
             bytes: Some(copied),
+            digest: None,
             json: None,
         })
     }
@@ -100,6 +123,13 @@ impl SpelledState {
             None => None,
             Some(bytes) => Some(StateView::of_checked(bytes)),
         }
+    }
+
+    // The digest of a body that accepts it, where it is known.
+    pub(crate) fn accepted_digest(&self) -> Option<[u8; 32]>
+        ensures { IfSome result (λ digest. digest ≡ accepted_digest_of self.now) }
+    {
+        self.digest
     }
 
     // The state's JSON, where it is known.

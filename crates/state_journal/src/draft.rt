@@ -1,6 +1,6 @@
 //! The bytes of a state, laid out so that it can be framed in no memory.
 ghost use Rattle.std.specs.Int.{w32, to_be_bytes};
-ghost use Rattle.std.specs.Prelude.{◌≡◌, ◌≤◌, ◌+◌, ◌-◌, ◌++◌, ◌∷◌, [], length, List, ℕ, IfOk};
+ghost use Rattle.std.specs.Prelude.{◌≡◌, ◌≤◌, ◌+◌, ◌-◌, ◌++◌, ◌∷◌, [], length, List, ℕ, IfOk, IfSome};
 ghost use Rattle.arrayvec.specs.ArrayVec.{array_vec_len};
 ghost use Rattle.cluster_state.specs.Fields.{id, ids};
 ghost use Rattle.cluster_state.specs.States.{IsFit};
@@ -225,6 +225,17 @@ impl Draft {
         hasher.finalize()
     }
 
+    // The digest of the body that accepts the state, which may be known already.
+    fn accepted_digest(&self, known: Option<[u8; 32]>) -> [u8; 32]
+        requires { IfSome known (λ digest. digest ≡ sha256 (130 ∷ self.now.state)) }
+        ensures { result ≡ sha256 (130 ∷ (self.now.state ++ [])) }
+    {
+        match known {
+            Some(digest) => digest,
+            None => self.digest(&[130], &[]),
+        }
+    }
+
     // Lays a frame: the state between these bytes.
     fn put_around(&mut self, head: &[u8], tail: &[u8])
         requires head { length head.now ≤ room_before }
@@ -237,29 +248,31 @@ impl Draft {
         self.len = head.len() + self.size + tail.len();
     }
 
-    // Lays a body of version 2 that is the state between these bytes, with its length and a closed gate.
-    fn lay(&mut self, before: &[u8], after: &[u8])
+    // Lays a body of version 2 that is the state between these bytes, with this digest, its length and a closed gate.
+    fn lay(&mut self, before: &[u8], after: &[u8], digest: &[u8; 32])
+        requires digest { digest.now ≡ sha256 (before.now ++ (self.old.state ++ after.now)) }
         requires before { length before.now ≤ 17 }
         requires after { length after.now ≤ 1057 }
         requires state { length self.old.state ≤ most_state_bytes }
         ensures frame { self.new.frame ≡ framed (guarded (before.now ++ (self.old.state ++ after.now))) }
         ensures same { self.new.state ≡ self.old.state }
     {
-        let digest = self.digest(before, after);
         let size = before.len() + self.len() + after.len() + DIGEST;
         let head = head_of(size as u32, before);
-        let tail = tail_of(after, &digest);
+        let tail = tail_of(after, digest);
         self.put_around(&head, &tail);
     }
 
-    // Lays the body that accepts the state, with its length and a closed gate.
+    // Lays the body that accepts the state, with its length and a closed gate. Its digest may be known already.
     #[tactic(auto, using(crate::proofs::Frames::accepted_prefix))]
-    pub(crate) fn lay_accepted(&mut self)
-        requires { length self.old.state ≤ most_state_bytes }
+    pub(crate) fn lay_accepted(&mut self, known: Option<[u8; 32]>)
+        requires size { length self.old.state ≤ most_state_bytes }
+        requires known { IfSome known (λ digest. digest ≡ sha256 (130 ∷ self.old.state)) }
         ensures frame { self.new.frame ≡ framed (guarded (130 ∷ self.old.state)) }
         ensures same { self.new.state ≡ self.old.state }
     {
-        self.lay(&[130], &[]);
+        let digest = self.accepted_digest(known);
+        self.lay(&[130], &[], &digest);
     }
 
     // Lays the body that begins a generation with this epoch and term, the state and this committed configuration, with its length and
@@ -271,13 +284,15 @@ impl Draft {
         ensures fits { (ids most_ids).Fits committed.now }
         ensures same { self.new.state ≡ self.old.state }
     {
-        let after = set_bytes(committed.members());
+        let members = set_bytes(committed.members());
+        let after = members.as_slice();
         let e = epoch.to_be_bytes();
         let t = term.to_be_bytes();
         let before = [
             132, e[0], e[1], e[2], e[3], e[4], e[5], e[6], e[7], t[0], t[1], t[2], t[3], t[4],
             t[5], t[6], t[7],
         ];
-        self.lay(&before, &after);
+        let digest = self.digest(&before, after);
+        self.lay(&before, after, &digest);
     }
 }

@@ -229,6 +229,7 @@ impl<D: Disks> Keeper for StateJournal<D> {
             self.due,
             self.kept.term,
             &state.committed,
+            state.accepted_digest(),
         ) else {
             return Err(KeepError::Disk);
         };

@@ -1,11 +1,12 @@
 //! How a body is kept: it is appended to the side in use, or the record with it begins a generation on the other side.
-ghost use Rattle.std.specs.Prelude.{◌≡◌, ◌+◌, ◌-◌, ◌<◌, ◌≤◌, ◌^◌, true, false, ◌&&◌, not, ℕ, List, length, is_ok, IsErr, IsErrOf, OnOk, min};
+ghost use Rattle.std.specs.Prelude.{◌≡◌, ◌+◌, ◌-◌, ◌<◌, ◌≤◌, ◌^◌, true, false, ◌&&◌, not, ℕ, List, ◌∷◌, length, is_ok, IsErr, IsErrOf, OnOk, IfSome, min};
 ghost use Rattle.cluster_state.specs.Fields.{ids};
 ghost use Rattle.cluster_state.specs.declared.state.ClusterState.{ClusterState};
 ghost use Rattle.gate_log.specs.Calls.{renewal_calls};
 ghost use Rattle.gate_log.specs.Generations.{standing_in, is_generation, renewed, IsRenewed, last_epoch};
 ghost use Rattle.gate_log.specs.Journal.{framed, most_body};
 ghost use Rattle.gate_log.specs.Place.{place, renews};
+ghost use Rattle.sha2.specs.Sha256.{sha256};
 ghost use Rattle.state_journal.specs.Bodies.{body_of};
 ghost use Rattle.state_journal.specs.Drafts.{IsDraft};
 ghost use Rattle.state_journal.specs.Keeping.{generation_after, record_with, writing_calls, written_in, IsWritten};
@@ -123,16 +124,19 @@ pub(crate) fn keep_small<D: Disks>(
     log.append_small(body)
 }
 
-// Keeps the draft's state as the accepted one, with the committed configuration that it carries.
+// Keeps the draft's state as the accepted one, with the committed configuration that it carries. The digest of its body may be known
+// already.
 pub(crate) fn keep_state<D: Disks>(
     log: &mut GateLog<D>,
     draft: &mut Draft,
     due: bool,
     term: u64,
     committed: &VotingConfig,
+    known: Option<[u8; 32]>,
 ) -> Result<(), AppendError>
     requires runs { log.old.stopped ≡ false }
     requires drafted { (s : ClusterState) × IsDraft s draft.old }
+    requires known { IfSome known (λ digest. digest ≡ sha256 (130 ∷ draft.old.state)) }
     ensures ok { D.told → (s : ClusterState) → IsDraft s draft.old
         → let p = place log.old in let body = body_of (change.Accepted s) in let next = record_with term s committed.now in
         OnOk result (standing_in (D.seen log.new.disk)
@@ -155,6 +159,6 @@ pub(crate) fn keep_state<D: Disks>(
     if begins(log, due, draft.len() + 33) {
         return begin(log, draft, term, committed);
     }
-    draft.lay_accepted();
+    draft.lay_accepted(known);
     log.append_framed(draft.frame())
 }

@@ -25,8 +25,8 @@ begin-requires-clause-next g c =
     let body = guarded (130 ∷ c.args.draft.now.state) in
     next_epoch c.args.due (place c.args.log.now) body (sym (c.begins.ensures body (omega (arith, c.len.ensures, length-body (130 ∷ c.args.draft.now.state)))) ∙ c.if-begins.true)
 
-pub lay_accepted-requires : goal.lay_accepted-requires
-lay_accepted-requires g c = draft_short c.requires.drafted.0 c.args.draft.now c.requires.drafted.1
+pub lay_accepted-requires-clause-size : goal.lay_accepted-requires-clause-size
+lay_accepted-requires-clause-size g c = draft_short c.requires.drafted.0 c.args.draft.now c.requires.drafted.1
 
 pub append_framed-requires : goal.append_framed-requires
 append_framed-requires g c = (guarded (130 ∷ c.args.draft.now.state), c.frame.ensures ∙ c.lay_accepted.ensures.frame, state_plain c.args.draft.now.state)

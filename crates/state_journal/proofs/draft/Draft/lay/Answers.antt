@@ -6,6 +6,6 @@ pub returns-clause-frame : goal.returns-clause-frame
 returns-clause-frame c =
     let before = c.args.before.now in
     let after = c.args.after.now in
-    laid_frame before c.args.self.now.state after c.digest-digest.result c.deref.result.now c.deref-2.result.now c.put_around.new.self.frame (length before + c.len.result + length after + 32)
-    c.digest-digest.ensures (omega (arith, c.len.ensures)) (c.deref.ensures.0 ∙ c.head_of-head.ensures) (c.deref-2.ensures.0 ∙ c.tail_of-tail.ensures)
+    laid_frame before c.args.self.now.state after c.args.digest.now c.deref.result.now c.deref-2.result.now c.put_around.new.self.frame (length before + c.len.result + length after + 32)
+    c.requires.digest (omega (arith, c.len.ensures)) (c.deref.ensures.0 ∙ c.head_of-head.ensures) (c.deref-2.ensures.0 ∙ c.tail_of-tail.ensures)
     c.put_around.ensures.frame

@@ -6,8 +6,8 @@ use Rattle.state_journal.proofs.draft.Draft.lay_generation.Goals as goal
 
 pub returns-clause-frame : goal.returns-clause-frame
 returns-clause-frame c =
-    let after = c.set_bytes-after in
-    let lent : c.deref.result.now ≡ after.result.items = c.deref.ensures.0 in
-    generation_frame c.to_be_bytes-e.result c.to_be_bytes-t.result c.args.self.now.state c.deref.result.now c.lay.new.self.frame c.args.epoch c.args.term c.args.committed.now
+    let after = c.set_bytes-members in
+    let lent : c.as_slice-after.result.now ≡ after.result.items = c.as_slice-after.ensures.value in
+    generation_frame c.to_be_bytes-e.result c.to_be_bytes-t.result c.args.self.now.state c.as_slice-after.result.now c.lay.new.self.frame c.args.epoch c.args.term c.args.committed.now
     c.to_be_bytes-e.ensures c.to_be_bytes-t.ensures (lent ∙ after.ensures.items ∙ ap (λ l. (ids most_ids).spelling l) c.members.ensures)
     c.lay.ensures.frame

@@ -1,4 +1,6 @@
-use Rattle.std.proofs.Common.{◌≡◌, ◌≤◌, ◌+◌, Ok, false, length, refl, sym, subst, ap, ◌∙◌, arith, rules}
+use Rattle.std.proofs.Common.{◌≡◌, ◌≤◌, ◌+◌, ℕ, List, ◌∷◌, Ok, false, length, refl, sym, subst, ap, ◌∙◌, arith, rules}
+use Rattle.std.specs.Prelude.{IfSome}
+use Rattle.sha2.specs.Sha256.{sha256}
 use Rattle.cluster_state.specs.declared.state.ClusterState.{ClusterState}
 use Rattle.gate_log.specs.Generations.{standing_in}
 use Rattle.gate_log.specs.Place.{place, renews}
@@ -20,6 +22,9 @@ records_after-records-requires g c = let ready = c.ready.inside in omega (arith,
 
 pub due_after-due-requires : goal.due_after-due-requires
 due_after-due-requires g c = let ready = c.ready.inside in omega (arith, c.len-2.ensures, draft_short ready.state ready.draft ready.drafted)
+
+pub keep_state-requires-clause-known : goal.keep_state-requires-clause-known
+keep_state-requires-clause-known g c = subst (λ (bytes : List ℕ). IfSome c.accepted_digest.result (λ (d : List ℕ). d ≡ sha256 (130 ∷ bytes))) (sym c.ready.inside.drafted.spelled) c.accepted_digest.ensures
 
 pub returns-in_default-clause-any_moment : goal.returns-in_default-clause-any_moment
 returns-in_default-clause-any_moment g c = λ told running.
