@@ -114,12 +114,15 @@ pub fn value_to_json(alloc: Global, value: &ClusterValue) -> Result<Vec<u8>, All
     }
 }
 
-/// The state as compact JSON, with its keys in the order of bytes.
+/// The state as compact JSON, with its keys in the order of bytes, and no room to spare.
 pub fn to_json(alloc: Global, state: &ClusterState) -> Result<Vec<u8>, AllocError>
     ensures { IfOk result (λ text. text.items ≡ compact_text (state_json state.now)) }
 {
     match serde_json::to_vec(alloc, state) {
-        Ok(text) => Ok(text),
+        Ok(mut text) => {
+            text.shrink_to_fit();
+            Ok(text)
+        }
         Err(_) => Err(AllocError),
     }
 }
