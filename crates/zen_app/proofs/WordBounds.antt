@@ -45,11 +45,11 @@ of_inspect look = of_last IsWithin (text_at (codes "dir") look) _ (λ dir. tt)
 
 of_node : (look : Look) → OfSome IsWithin (node_of look)
 of_node look =
-    of_last IsWithin (link_of look) _ (λ link.
-    of_last IsWithin (text_at (codes "dir") look) _ (λ dir.
     of_last IsWithin (text_at (codes "initial") look >>= initial_of) _ (λ initial.
     of_last IsWithin (voting_only_of look) _ (λ voting_only.
-    of_last IsWithin (text_at (codes "turns") look >>= number_of) _ (λ turns. tt)))))
+    of_last IsWithin (text_at (codes "turns") look >>= number_of) _ (λ turns.
+    of_last IsWithin (link_of look) _ (λ link.
+    of_last IsWithin (text_at (codes "dir") look) _ (λ dir. tt)))))
 
 of_steps : (o : Option Text) → OfSome (λ (n : ℕ). n ≤ most_steps) (o >>= steps_of)
 of_steps None = tt
@@ -70,10 +70,10 @@ of_generate look =
 
 of_trial : (look : Look) → OfSome IsWithin (trial_of look)
 of_trial look =
-    of_last IsWithin (text_at (codes "program") look) _ (λ program.
-    of_last IsWithin (text_at (codes "dir") look) _ (λ dir.
     of_both (λ (n : ℕ). (1 ≤ n) × (n ≤ 65533)) IsWithin (text_at (codes "port") look >>= port_of) _ (of_port (text_at (codes "port") look)) (λ port within.
-    of_last IsWithin (text_at (codes "turns") look >>= number_of) _ (λ turns. within))))
+    of_last IsWithin (text_at (codes "turns") look >>= number_of) _ (λ turns.
+    of_last IsWithin (text_at (codes "program") look) _ (λ program.
+    of_last IsWithin (text_at (codes "dir") look) _ (λ dir. within))))
 
 of_up : (o : Option Text) → OfSome (λ (ids : List Id). 0 < length ids) (o >>= up_of)
 of_up None = tt
