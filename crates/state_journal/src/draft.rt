@@ -22,14 +22,17 @@ use voting_config::{NodeId, NodeSet, VotingConfig};
 // Where the state begins: after the length, the tag, the epoch and the term of a generation.
 const STATE_AT: usize = 21;
 
-// A committed configuration takes 1,057 bytes at most.
-const SET: usize = 1057;
+// A committed configuration takes 2,113 bytes at most.
+const SET: usize = 2113;
 
-// After it stand the digest and the closed gate.
-const ROOM: usize = SET + 33;
+// The digest and the closed gate.
+const CLOSE: usize = 33;
+
+// After a state stand a committed configuration, and these.
+const ROOM: usize = SET + CLOSE;
 
 // Enough for most states, so that the bytes are not moved as they are written.
-const FIRST_CAPACITY: usize = 2048;
+const FIRST_CAPACITY: usize = 4096;
 
 // A state's bytes with room before and after them, and the frame that was last laid around them.
 #[derive(Drop)]
@@ -56,7 +59,7 @@ impl Model for Draft {
 
 // An id after those that stand there.
 fn put_id(out: &mut ArrayVec<u8, SET>, node: NodeId)
-    requires { array_vec_len out.old + 33 ≤ 1057 }
+    requires { array_vec_len out.old + 33 ≤ 2113 }
     ensures items { out.new.items ≡ out.old.items ++ id.spelling node }
     ensures room { array_vec_len out.new ≤ array_vec_len out.old + 33 }
 {
@@ -99,12 +102,12 @@ fn head_of(size: u32, before: &[u8]) -> ArrayVec<u8, STATE_AT>
     head
 }
 
-// What stands after it: the other fields of the body, its digest, and a closed gate.
-fn tail_of(after: &[u8], digest: &[u8; 32]) -> ArrayVec<u8, ROOM>
-    requires { length after.now ≤ 1057 }
+// What stands after it: the other fields of the body, its digest, and a closed gate, for which there is room.
+fn tail_of<const N: usize>(after: &[u8], digest: &[u8; 32]) -> ArrayVec<u8, N>
+    requires { length after.now + 33 ≤ N }
     ensures { result.items ≡ after.now ++ (digest.now ++ 0 ∷ []) }
 {
-    let mut tail: ArrayVec<u8, ROOM> = ArrayVec::new();
+    let mut tail: ArrayVec<u8, N> = ArrayVec::new();
     match tail.try_extend_from_slice(after) {
         Ok(()) => {}
         Err(_) => unreachable!(),
@@ -248,18 +251,20 @@ impl Draft {
         self.len = head.len() + self.size + tail.len();
     }
 
-    // Lays a body of version 2 that is the state between these bytes, with this digest, its length and a closed gate.
-    fn lay(&mut self, before: &[u8], after: &[u8], digest: &[u8; 32])
+    // Lays a body of version 2 that is the state between these bytes, with this digest, its length and a closed gate. What stands behind the
+    // state is made in so much room, all of which is cleared first.
+    fn lay<const N: usize>(&mut self, before: &[u8], after: &[u8], digest: &[u8; 32])
         requires digest { digest.now ≡ sha256 (before.now ++ (self.old.state ++ after.now)) }
         requires before { length before.now ≤ 17 }
-        requires after { length after.now ≤ 1057 }
+        requires after { length after.now ≤ 2113 }
+        requires room { length after.now + 33 ≤ N }
         requires state { length self.old.state ≤ most_state_bytes }
         ensures frame { self.new.frame ≡ framed (guarded (before.now ++ (self.old.state ++ after.now))) }
         ensures same { self.new.state ≡ self.old.state }
     {
         let size = before.len() + self.len() + after.len() + DIGEST;
         let head = head_of(size as u32, before);
-        let tail = tail_of(after, digest);
+        let tail: ArrayVec<u8, N> = tail_of(after, digest);
         self.put_around(&head, &tail);
     }
 
@@ -272,7 +277,7 @@ impl Draft {
         ensures same { self.new.state ≡ self.old.state }
     {
         let digest = self.accepted_digest(known);
-        self.lay(&[130], &[], &digest);
+        self.lay::<CLOSE>(&[130], &[], &digest);
     }
 
     // Lays the body that begins a generation with this epoch and term, the state and this committed configuration, with its length and
@@ -293,6 +298,6 @@ impl Draft {
             t[5], t[6], t[7],
         ];
         let digest = self.digest(&before, after);
-        self.lay(&before, after, &digest);
+        self.lay::<ROOM>(&before, after, &digest);
     }
 }

@@ -25,28 +25,28 @@ pub enum IdError {
 /// The name of a node: 1 to 32 bytes of `a-z`, `0-9` and `-`, ordered by its bytes. Contracts see its bytes.
 #[derive(Clone, Copy)]
 pub struct NodeId {
+    // Behind an id of fewer than 32 bytes stand zeros, and in the last place how many bytes it has, which is less than any byte of an id. So an
+    // id takes no place for its length, of which sets have 64.
     bytes: [u8; 32],
-    len: u8,
 }
 
 impl Model for NodeId {
     ghost use Rattle.std.specs.Prelude.{take};
-    ghost use Rattle.std.specs.Prelude.{length};
     ghost use Rattle.voting_config.specs.Ids.{Id};
-    ghost use Rattle.voting_config.specs.Padded.{IsPadded, padded, padded_back, length_back};
+    ghost use Rattle.voting_config.specs.Padded.{IsPadded, padded, held_length};
     ghost use Rattle.std.specs.Coded.{coded_list, coded_ℕ};
 
     ghost Value = { Id };
 
     ghost coded = { coded_list coded_ℕ };
 
-    ghost view = { λ a. take a.len a.bytes };
+    ghost view = { λ a. take (held_length a.bytes) a.bytes };
 
-    ghost invariant = { λ a. IsPadded a.bytes a.len };
+    ghost invariant = { λ a. IsPadded a.bytes };
 
-    ghost inverse = { λ id. record { bytes = padded id; len = length id } };
+    ghost inverse = { λ id. record { bytes = padded id } };
 
-    ghost inverse_ok = { λ a h i. record { bytes = padded_back a.bytes a.len h i; len = length_back a.bytes a.len h i } };
+    ghost inverse_ok = { λ a h i. record { bytes = h.back i } };
 }
 
 impl NodeId {
@@ -85,7 +85,15 @@ impl NodeId {
         ensures value { result.now ≡ self.now }
         ensures id { IsTrue (is_id_of self.now) }
     {
-        &self.bytes[..self.len as usize]
+        &self.bytes[..self.len()]
+    }
+
+    // How many bytes the id has.
+    #[inline(always)]
+    fn len(&self) -> usize
+        ensures { result ≡ length self.now }
+    {
+        self.bytes[31].min(32) as usize
     }
 
     /// The text of the id.
@@ -134,11 +142,9 @@ fn held(text: &[u8]) -> NodeId
     ensures { result ≡ text.now }
 {
     let mut bytes = [0; 32];
+    bytes[31] = text.len() as u8;
     bytes[..text.len()].copy_from_slice(text);
-    NodeId {
-        bytes,
-        len: text.len() as u8,
-    }
+    NodeId { bytes }
 }
 
 // The first place of a byte that no id has.
@@ -197,7 +203,7 @@ impl PartialEq for NodeId {
     ghost laws = { partial_equiv_from_equiv nat_list_eq_equiv };
 
     fn eq(&self, other: &NodeId) -> bool {
-        // Zeros stand behind the bytes of an id, so that two are the same where all that they hold is.
+        // What stands behind the bytes of an id follows from them, so that two are the same where all that they hold is.
         u8x32::from_array(self.bytes) == u8x32::from_array(other.bytes)
     }
 }
