@@ -33,10 +33,10 @@ pub struct Follower {
 }
 
 impl Default for Follower {
-    ghost use Rattle.std.specs.Prelude.{codes};
+    ghost use Rattle.std.specs.Prelude.{replicate};
     ghost use Rattle.fault_checks.specs.Followers.{new_follower};
 
-    ghost is_default = { λ f. f ≡ new_follower (codes "-") 0 };
+    ghost is_default = { λ f. f ≡ new_follower (replicate 32 45) 0 };
 
     fn default() -> Follower {
         new_follower(NodeId::default(), 0)
