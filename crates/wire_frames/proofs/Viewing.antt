@@ -1,5 +1,5 @@
 -- A body that was passed over is a frame.
-use Rattle.std.proofs.Common.{◌≡◌, ℕ, Bool, true, false, List, length, Option, Some, None, Result, Ok, Err, refl, sym, ap, subst}
+use Rattle.std.proofs.Common.{◌≡◌, ℕ, Bool, true, false, List, length, Option, Some, None, Result, Ok, Err, refl, sym, ap, subst, ◌∙◌}
 use Rattle.std.specs.Prelude.{◌==◌, if◌then◌else◌, IsOk, IfOk}
 use Rattle.voting_config.specs.Ids.{Id}
 use Rattle.cluster_state.proofs.Laws.{ok_is}
@@ -26,6 +26,19 @@ use Rattle.wire_frames.specs.Parts.{ArePartsOf, GivesParts}
 pub all_passed : (k : Kind) (bytes a b rest : List ℕ) (from to : Id) (m : WireMessage) → id.at bytes ≡ Ok (from, a) → id.at a ≡ Ok (to, b) → message_at k b ≡ Ok (m, rest) → (length rest == 0) ≡ true
     → (frame : Frame) × (as_frame (whole (frame_at k bytes)) ≡ Ok frame)
 all_passed k bytes a b rest from to m first second third ended = (record { from = from; to = to; message = m }, rw (first, second, third, ended) refl)
+
+-- what reading gave, as a message, is all of the bytes where what was read is
+abbrev message_of_whole : {A : Type 0} → (A → WireMessage) → Result A StateFault → Result WireMessage StateFault
+message_of_whole make (Ok x) = Ok (make x)
+message_of_whole make (Err fault) = Err fault
+
+whole_is : {A : Type 0} (make : A → WireMessage) (read : Result (A × List ℕ) FieldError) → whole (as_message make read) ≡ message_of_whole make (whole read)
+whole_is make (Ok (x, rest)) =
+    elim (length rest == 0) as (λ b. (if b then Ok (make x) else Err whole_fault.Trailing) ≡ message_of_whole make (if b then Ok x else Err whole_fault.Trailing)) [ | true ↦ refl | false ↦ refl ]
+whole_is make (Err fault) = refl
+
+pub whole_message : {A : Type 0} (make : A → WireMessage) (read : Result (A × List ℕ) FieldError) (x : A) → whole read ≡ Ok x → whole (as_message make read) ≡ Ok (make x)
+whole_message make read x h = whole_is make read ∙ ap (message_of_whole make) h
 
 -- ---- the parts of a body
 
