@@ -102,12 +102,25 @@ fn head_of(size: u32, before: &[u8]) -> ArrayVec<u8, STATE_AT>
     head
 }
 
-// What stands after it: the other fields of the body, its digest, and a closed gate, for which there is room.
-fn tail_of<const N: usize>(after: &[u8], digest: &[u8; 32]) -> ArrayVec<u8, N>
-    requires { length after.now + 33 ≤ N }
+// What stands after it where the body has no other fields: its digest, and a closed gate.
+fn close_of(digest: &[u8; 32]) -> ArrayVec<u8, CLOSE>
+    ensures { result.items ≡ digest.now ++ 0 ∷ [] }
+{
+    let mut close: ArrayVec<u8, CLOSE> = ArrayVec::new();
+    match close.try_extend_from_slice(digest) {
+        Ok(()) => {}
+        Err(_) => unreachable!(),
+    }
+    close.push(0);
+    close
+}
+
+// What stands after it: the other fields of the body, its digest, and a closed gate.
+fn tail_of(after: &[u8], digest: &[u8; 32]) -> ArrayVec<u8, ROOM>
+    requires { length after.now ≤ 2113 }
     ensures { result.items ≡ after.now ++ (digest.now ++ 0 ∷ []) }
 {
-    let mut tail: ArrayVec<u8, N> = ArrayVec::new();
+    let mut tail: ArrayVec<u8, ROOM> = ArrayVec::new();
     match tail.try_extend_from_slice(after) {
         Ok(()) => {}
         Err(_) => unreachable!(),
@@ -251,21 +264,20 @@ impl Draft {
         self.len = head.len() + self.size + tail.len();
     }
 
-    // Lays a body of version 2 that is the state between these bytes, with this digest, its length and a closed gate. What stands behind the
-    // state is made in so much room, all of which is cleared first.
-    fn lay<const N: usize>(&mut self, before: &[u8], after: &[u8], digest: &[u8; 32])
-        requires digest { digest.now ≡ sha256 (before.now ++ (self.old.state ++ after.now)) }
+    // Lays a body of version 2 that is the state between these bytes, with its length and what stands after the state: those bytes, the
+    // digest and a closed gate.
+    fn lay(&mut self, before: &[u8], after: &[u8], tail: &[u8])
+        requires tail { tail.now ≡ after.now ++ (sha256 (before.now ++ (self.old.state ++ after.now)) ++ 0 ∷ []) }
+        requires room { length tail.now ≤ room_behind }
         requires before { length before.now ≤ 17 }
         requires after { length after.now ≤ 2113 }
-        requires room { length after.now + 33 ≤ N }
         requires state { length self.old.state ≤ most_state_bytes }
         ensures frame { self.new.frame ≡ framed (guarded (before.now ++ (self.old.state ++ after.now))) }
         ensures same { self.new.state ≡ self.old.state }
     {
         let size = before.len() + self.len() + after.len() + DIGEST;
         let head = head_of(size as u32, before);
-        let tail: ArrayVec<u8, N> = tail_of(after, digest);
-        self.put_around(&head, &tail);
+        self.put_around(&head, tail);
     }
 
     // Lays the body that accepts the state, with its length and a closed gate. Its digest may be known already.
@@ -277,7 +289,8 @@ impl Draft {
         ensures same { self.new.state ≡ self.old.state }
     {
         let digest = self.accepted_digest(known);
-        self.lay::<CLOSE>(&[130], &[], &digest);
+        let tail = close_of(&digest);
+        self.lay(&[130], &[], &tail);
     }
 
     // Lays the body that begins a generation with this epoch and term, the state and this committed configuration, with its length and
@@ -298,6 +311,7 @@ impl Draft {
             t[5], t[6], t[7],
         ];
         let digest = self.digest(&before, after);
-        self.lay::<ROOM>(&before, after, &digest);
+        let tail = tail_of(after, &digest);
+        self.lay(&before, after, &tail);
     }
 }
