@@ -19,7 +19,7 @@ use voting_config::{MAX_IDS, NodeId, NodeSet, VotingConfig};
 pub const MAX_EXCLUSIONS: u8 = 10;
 
 /// How many settings a state has at most.
-pub const MAX_SETTINGS: u16 = 4096;
+pub const MAX_SETTINGS: u16 = 1024;
 
 /// Bytes that are read field by field, seen as those that are left.
 #[derive(Drop)]

@@ -22,8 +22,8 @@ use voting_config::{NodeId, NodeSet, VotingConfig};
 // Where the state begins: after the length, the tag, the epoch and the term of a generation.
 const STATE_AT: usize = 21;
 
-// A committed configuration takes 2,113 bytes at most.
-const SET: usize = 2113;
+// A committed configuration takes 1,057 bytes at most.
+const SET: usize = 1057;
 
 // The digest and the closed gate.
 const CLOSE: usize = 33;
@@ -32,7 +32,7 @@ const CLOSE: usize = 33;
 const ROOM: usize = SET + CLOSE;
 
 // Enough for most states, so that the bytes are not moved as they are written.
-const FIRST_CAPACITY: usize = 4096;
+const FIRST_CAPACITY: usize = 2048;
 
 // A state's bytes with room before and after them, and the frame that was last laid around them.
 #[derive(Drop)]
@@ -59,7 +59,7 @@ impl Model for Draft {
 
 // An id after those that stand there.
 fn put_id(out: &mut ArrayVec<u8, SET>, node: NodeId)
-    requires { array_vec_len out.old + 33 ≤ 2113 }
+    requires { array_vec_len out.old + 33 ≤ 1057 }
     ensures items { out.new.items ≡ out.old.items ++ id.spelling node }
     ensures room { array_vec_len out.new ≤ array_vec_len out.old + 33 }
 {
@@ -117,7 +117,7 @@ fn close_of(digest: &[u8; 32]) -> ArrayVec<u8, CLOSE>
 
 // What stands after it: the other fields of the body, its digest, and a closed gate.
 fn tail_of(after: &[u8], digest: &[u8; 32]) -> ArrayVec<u8, ROOM>
-    requires { length after.now ≤ 2113 }
+    requires { length after.now ≤ 1057 }
     ensures { result.items ≡ after.now ++ (digest.now ++ 0 ∷ []) }
 {
     let mut tail: ArrayVec<u8, ROOM> = ArrayVec::new();
@@ -270,7 +270,7 @@ impl Draft {
         requires tail { tail.now ≡ after.now ++ (sha256 (before.now ++ (self.old.state ++ after.now)) ++ 0 ∷ []) }
         requires room { length tail.now ≤ room_behind }
         requires before { length before.now ≤ 17 }
-        requires after { length after.now ≤ 2113 }
+        requires after { length after.now ≤ 1057 }
         requires state { length self.old.state ≤ most_state_bytes }
         ensures frame { self.new.frame ≡ framed (guarded (before.now ++ (self.old.state ++ after.now))) }
         ensures same { self.new.state ≡ self.old.state }

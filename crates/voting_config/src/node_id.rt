@@ -26,7 +26,7 @@ pub enum IdError {
 #[derive(Clone, Copy)]
 pub struct NodeId {
     // Behind an id of fewer than 32 bytes stand zeros, and in the last place how many bytes it has, which is less than any byte of an id. So an
-    // id takes no place for its length, of which sets have 64.
+    // id takes no place for its length, of which a set has 32.
     bytes: [u8; 32],
 }
 

@@ -1,4 +1,4 @@
-//! `NodeSet`: a set of at most 64 ids, which is held in place and takes no memory of the allocator.
+//! `NodeSet`: a set of at most 32 ids, which is held in place and takes no memory of the allocator.
 ghost use Rattle.std.specs.Prelude.{◌≡◌, ℕ, ◌+◌, ◌<◌, ◌≤◌, ◌↔◌, List, [], ◌∷◌, ◌++◌, length, IsTrue, IfOk, OnOk, OnErr, IsErr, slice_get, not, Result, false, true, None, IfSome};
 ghost use Rattle.voting_config.specs.Ids.{Id, among, are_among, comes_after, has, has_room as has_room_of, IsIdSet, most_ids, outside, place_of, set_of, some_among, union as union_of, union_count_of, with_id, with_room, without_id};
 ghost use Rattle.voting_config.specs.Lists.{listed_ids};
@@ -9,7 +9,7 @@ use arrayvec::ArrayVec;
 use std::marker::Model;
 
 /// How many ids a set holds at most.
-pub const MAX_IDS: usize = 64;
+pub const MAX_IDS: usize = 32;
 
 /// A set that has [`MAX_IDS`] ids already was to take another.
 #[derive(Clone, Copy, Debug, PartialEq, Eq, thiserror::Error)]

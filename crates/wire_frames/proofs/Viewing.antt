@@ -34,7 +34,7 @@ message_of_whole make (Err fault) = Err fault
 
 whole_is : {A : Type 0} (make : A → WireMessage) (read : Result (A × List ℕ) FieldError) → whole (as_message make read) ≡ message_of_whole make (whole read)
 whole_is make (Ok (x, rest)) =
-    elim (length rest == 0) as (λ b. (if b then Ok (make x) else Err whole_fault.Trailing) ≡ message_of_whole make (if b then Ok x else Err whole_fault.Trailing)) [ | true ↦ refl | false ↦ refl ]
+    elim (length rest == 0) as (λ b. (if b then Ok (make x) else Err whole_fault.Trailing) ≡ message_of_whole make (if b then Ok x else Err whole_fault.Trailing)) [ true ↦ refl | false ↦ refl ]
 whole_is make (Err fault) = refl
 
 pub whole_message : {A : Type 0} (make : A → WireMessage) (read : Result (A × List ℕ) FieldError) (x : A) → whole read ≡ Ok x → whole (as_message make read) ≡ Ok (make x)
