@@ -1,0 +1,127 @@
+"""What bench/cluster.sh runs: PROGRAM NODES [FOLDER]."""
+import os
+import random
+import shutil
+import signal
+import sys
+import tempfile
+import time
+
+sys.dont_write_bytecode = True
+from peers import memory, running
+
+# How long each wait may take, in seconds: for the first put, for all nodes as members, and for a put after the leader's end, which begins with three
+# checks of 10 s; and all of it.
+FIRST_SECONDS, MEMBERS_SECONDS, GAP_SECONDS, ALL_SECONDS = 60, 60, 120, 300
+# How long a reply may take, and the rest before the next question.
+REPLY_SECONDS, REST = 5, 0.1
+# Where the processors had a smaller share of the time left, a node that is late says nothing.
+IDLE = 0.1
+
+
+def answered(nodes, names, request, member, end):
+    """Asks whoever of these leads until the reply has this member. Gives the leader, and what the member says."""
+    target = names[0]
+    while time.monotonic() < end:
+        try:
+            reply = nodes[target].ask(request, REPLY_SECONDS) or {}
+        except OSError:
+            reply = {}
+        if member in reply:
+            return target, reply[member]
+        leader = reply.get('not_master')
+        target = leader if leader in names else random.choice(names)
+        time.sleep(REST)
+    raise running.Broken('no put is acknowledged in time' if member == 'acked' else 'nobody leads any more')
+
+
+def put(nodes, names, key, seconds):
+    """Has a setting put. Gives the leader, and how long it took."""
+    start = time.monotonic()
+    leader, _ = answered(nodes, names, {'id': 1, 'put': {'key': key, 'value': 'v'}}, 'acked', start + seconds)
+    return leader, time.monotonic() - start
+
+
+def until_all_are_members(nodes, names):
+    """Waits until all are members of the accepted state of whoever leads. Gives the leader."""
+    end = time.monotonic() + MEMBERS_SECONDS
+    while True:
+        leader, state = answered(nodes, names, {'id': 2, 'state': {}}, 'state', end)
+        missing = sorted(set(names) - set(state['value']['members']))
+        if not missing:
+            return leader
+        if time.monotonic() > end:
+            raise running.Broken('%d of %d nodes are no members in time: %s' % (len(missing), len(names), ','.join(missing)))
+        time.sleep(REST)
+
+
+def descriptors(process):
+    return len(os.listdir('/proc/%d/fd' % process.pid))
+
+
+def measure(program, names, top):
+    """Gives a row for each thing that is measured: what it is, and its value."""
+    start = time.monotonic()
+    nodes = running.started(program, names, top)
+    try:
+        up = time.monotonic() - start
+        put(nodes, names, 'first', FIRST_SECONDS)
+        first = time.monotonic() - start
+        leader = until_all_are_members(nodes, names)
+        members = time.monotonic() - start
+        megabytes = sum(memory(node.process) for node in nodes.values())
+        counts = [descriptors(node.process) for node in nodes.values()]
+        nodes[leader].kill()
+        other, gap = put(nodes, [name for name in names if name != leader], 'second', GAP_SECONDS)
+    finally:
+        running.end(nodes)
+    return (
+        ('seconds until all listen', '%.1f' % up), ('seconds to the first acknowledged put', '%.1f' % first),
+        ('seconds until all are members', '%.1f' % members), ('memory of all, MB', '%.0f' % megabytes),
+        ('descriptors of all', '%d' % sum(counts)), ('descriptors of the node with most', '%d' % max(counts)),
+        ('seconds without an answer after SIGKILL of the leader', '%.1f' % gap),
+    )
+
+
+def processors():
+    """For how long the processors were idle by now, and for how long there were processors, in ticks."""
+    with open('/proc/stat') as it:
+        ticks = [int(word) for word in it.readline().split()[1:9]]
+    return ticks[3] + ticks[4], sum(ticks)
+
+
+def give_up(number, _):
+    """Ends the script by way of its `finally`s, so that no node is left."""
+    raise running.Broken('it had not ended after %d seconds' % ALL_SECONDS if number == signal.SIGALRM else 'it was ended')
+
+
+def report(names, rows):
+    print('| %d nodes | |' % len(names))
+    print('|---|--:|')
+    for row in rows:
+        print('| %s | %s |' % row)
+
+
+def main(words):
+    if not os.path.isfile(words[0]):
+        sys.exit('bench/cluster: no program %s' % words[0])
+    for number in (signal.SIGALRM, signal.SIGTERM, signal.SIGHUP):
+        signal.signal(number, give_up)
+    signal.alarm(ALL_SECONDS)
+    names = ['n%02d' % (number + 1) for number in range(int(words[1]))]
+    top, before = tempfile.mkdtemp(dir=words[2] if len(words) > 2 else None), processors()
+    try:
+        report(names, measure(os.path.abspath(words[0]), names, top))
+        return 0
+    except (running.Broken, OSError) as fault:
+        idle, all_of_it = (now - was for now, was in zip(processors(), before))
+        is_busy = idle < IDLE * all_of_it
+        print('bench/cluster: %s: %s' % ('not judged, the machine is busy' if is_busy else 'FAILED', fault))
+        return 2 if is_busy else 1
+    finally:
+        signal.alarm(0)
+        shutil.rmtree(top, ignore_errors=True)
+
+
+if __name__ == '__main__':
+    sys.exit(main(sys.argv[1:]))
