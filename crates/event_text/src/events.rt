@@ -28,10 +28,8 @@ fn write_drop(text: &mut Text, node: NodeId, dropped: MemberDrop) -> Result<(), 
     ensures { OnOk result (text.new ≡ text.old ++ drop_line node dropped) }
 {
     text.word("drop ")?;
-    text.id(node)?;
-    text.word(" ")?;
-    text.id(dropped.member)?;
-    text.word(" ")?;
+    text.id_and(&node, b' ')?;
+    text.id_and(&dropped.member, b' ')?;
     write_cause(text, dropped.cause)?;
     text.word("\n")
 }
