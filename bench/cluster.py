@@ -15,13 +15,17 @@ from peers import memory, running
 FIRST_SECONDS, MEMBERS_SECONDS, GAP_SECONDS, ALL_SECONDS = 60, 60, 120, 300
 # How long a reply may take, and the rest before the next question.
 REPLY_SECONDS, REST = 5, 0.1
-# Where the processors had a smaller share of the time left, a node that is late says nothing.
-IDLE = 0.1
+# A node that had to wait for a processor for a greater share of the time is late for that.
+WAIT = 0.1
+
+
+class Busy(Exception):
+    """Something did not come in time, and the machine may be why."""
 
 
 def answered(nodes, names, request, member, end):
     """Asks whoever of these leads until the reply has this member. Gives the leader, and what the member says."""
-    target = names[0]
+    target, asked, without = names[0], 0, 0
     while time.monotonic() < end:
         try:
             reply = nodes[target].ask(request, REPLY_SECONDS) or {}
@@ -29,10 +33,11 @@ def answered(nodes, names, request, member, end):
             reply = {}
         if member in reply:
             return target, reply[member]
+        asked, without = asked + 1, without + (not reply)
         leader = reply.get('not_master')
         target = leader if leader in names else random.choice(names)
         time.sleep(REST)
-    raise running.Broken('no put is acknowledged in time' if member == 'acked' else 'nobody leads any more')
+    raise running.Broken('no reply has "%s" in time; of %d requests %d found no reply at all' % (member, asked, without))
 
 
 def put(nodes, names, key, seconds):
@@ -59,6 +64,12 @@ def descriptors(process):
     return len(os.listdir('/proc/%d/fd' % process.pid))
 
 
+def waited(process):
+    """For how many seconds a process could run and had no processor."""
+    with open('/proc/%d/schedstat' % process.pid) as it:
+        return int(it.read().split()[1]) / 1e9
+
+
 def measure(program, names, top):
     """Gives a row for each thing that is measured: what it is, and its value."""
     start = time.monotonic()
@@ -72,7 +83,10 @@ def measure(program, names, top):
         megabytes = sum(memory(node.process) for node in nodes.values())
         counts = [descriptors(node.process) for node in nodes.values()]
         nodes[leader].kill()
-        other, gap = put(nodes, [name for name in names if name != leader], 'second', GAP_SECONDS)
+        _, gap = put(nodes, [name for name in names if name != leader], 'second', GAP_SECONDS)
+    except running.Broken as fault:
+        share = max(waited(node.process) for node in nodes.values() if node.is_up()) / (time.monotonic() - start)
+        raise Busy('%s; a node waited for a processor for %.0f %% of the time' % (fault, 100 * share)) if share > WAIT else fault
     finally:
         running.end(nodes)
     return (
@@ -81,13 +95,6 @@ def measure(program, names, top):
         ('descriptors of all', '%d' % sum(counts)), ('descriptors of the node with most', '%d' % max(counts)),
         ('seconds without an answer after SIGKILL of the leader', '%.1f' % gap),
     )
-
-
-def processors():
-    """For how long the processors were idle by now, and for how long there were processors, in ticks."""
-    with open('/proc/stat') as it:
-        ticks = [int(word) for word in it.readline().split()[1:9]]
-    return ticks[3] + ticks[4], sum(ticks)
 
 
 def give_up(number, _):
@@ -109,15 +116,16 @@ def main(words):
         signal.signal(number, give_up)
     signal.alarm(ALL_SECONDS)
     names = ['n%02d' % (number + 1) for number in range(int(words[1]))]
-    top, before = tempfile.mkdtemp(dir=words[2] if len(words) > 2 else None), processors()
+    top = tempfile.mkdtemp(dir=words[2] if len(words) > 2 else None)
     try:
         report(names, measure(os.path.abspath(words[0]), names, top))
         return 0
+    except Busy as fault:
+        print('bench/cluster: not judged: %s' % fault)
+        return 2
     except (running.Broken, OSError) as fault:
-        idle, all_of_it = (now - was for now, was in zip(processors(), before))
-        is_busy = idle < IDLE * all_of_it
-        print('bench/cluster: %s: %s' % ('not judged, the machine is busy' if is_busy else 'FAILED', fault))
-        return 2 if is_busy else 1
+        print('bench/cluster: FAILED: %s' % fault)
+        return 1
     finally:
         signal.alarm(0)
         shutil.rmtree(top, ignore_errors=True)
