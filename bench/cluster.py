@@ -51,7 +51,7 @@ def until_all_are_members(nodes, names):
     """Waits until all are members of the accepted state of whoever leads. Gives the leader."""
     end = time.monotonic() + MEMBERS_SECONDS
     while True:
-        leader, state = answered(nodes, names, {'id': 2, 'state': {}}, 'state', end)
+        leader, state = answered(nodes, names, {'id': 2, 'state': {}}, 'state', end + REPLY_SECONDS)
         missing = sorted(set(names) - set(state['value']['members']))
         if not missing:
             return leader
