@@ -1,5 +1,5 @@
-//! The tests of voting_config, cluster_state, join_rules, coord_state, reference_model. They stand apart, so that a check of one
-//! of these, or of what stands on it, does not prove them again.
+//! The tests of voting_config, cluster_state, join_rules, coord_state, and of the core beside the model that an audit computes. They stand
+//! apart, so that a check of one of these, or of what stands on it, does not prove them again.
 #![tactic(auto)]
 
 #[cfg(test)]
@@ -9,8 +9,8 @@ mod coord_state_tests;
 #[cfg(test)]
 mod join_rules_tests;
 #[cfg(test)]
-mod names;
+mod model_tests;
 #[cfg(test)]
-mod reference_model_tests;
+mod names;
 #[cfg(test)]
 mod voting_config_tests;

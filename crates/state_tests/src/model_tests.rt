@@ -1,6 +1,7 @@
-//! The core and the model, act for act: each answer of the core is the reply of the model.
-ghost use Rattle.std.specs.Prelude.{IsTrue, IfSome};
+//! The core and the model, act for act: each answer of the core is the reply of the model, which an audit computes by the definitions.
+ghost use Rattle.std.specs.Prelude.{◌≡◌, false, IsTrue, IfOk, IfSome};
 ghost use Rattle.cluster_state.specs.States.{IsFitId};
+ghost use Rattle.world_model.specs.Acts.{is_opening};
 
 use crate::names::{config, id};
 use cluster_state::{
@@ -8,12 +9,13 @@ use cluster_state::{
     PublishResponse, SharedConfig, SharedState, SharedValue, StateId,
 };
 use coord_state::{CoordState, outcome_of};
-use reference_model::{Entry, reply};
+use node_audit::Node;
 use state_journal::{PlainKeeper, Ready};
 use std::alloc::{AllocError, Global};
 use std::test::Fail;
+use trace_text::Ending;
 use voting_config::{MAX_IDS, NodeId, NodeSet, VotingConfig};
-use world_model::{Act, ActReply, BoxedKept, Message, Outcome};
+use world_model::{Act, ActReply, Message, Outcome};
 
 // What a node is to do. The states are those of a in term 1, and the messages are to or from a.
 #[derive(Clone, Copy)]
@@ -61,13 +63,17 @@ fn state(alloc: Global, version: u64, ids: &str) -> Result<SharedState, AllocErr
     SharedState::of(alloc, state)
 }
 
-fn value(state: SharedState) -> Result<Act, AllocError> {
+fn value(state: SharedState) -> Result<Act, AllocError>
+    ensures { IfOk result (λ act. is_opening act ≡ false) }
+{
     let version = state.version;
     let config = SharedConfig::of(state.share()?);
     Ok(Act::Value(version, config, SharedValue::of(state)))
 }
 
-fn join(source: &str, term: u64, last_term: u64, last_version: u64) -> Act {
+fn join(source: &str, term: u64, last_term: u64, last_version: u64) -> Act
+    ensures { is_opening result ≡ false }
+{
     Act::TakeJoin(Join {
         source: id(source),
         target: id("a"),
@@ -77,7 +83,9 @@ fn join(source: &str, term: u64, last_term: u64, last_version: u64) -> Act {
     })
 }
 
-fn response(source: &str) -> Act {
+fn response(source: &str) -> Act
+    ensures { is_opening result ≡ false }
+{
     Act::Response(PublishResponse {
         source: id(source),
         target: id("a"),
@@ -86,7 +94,9 @@ fn response(source: &str) -> Act {
     })
 }
 
-fn commit() -> Act {
+fn commit() -> Act
+    ensures { is_opening result ≡ false }
+{
     Act::Commit(ApplyCommit {
         source: id("a"),
         term: 1,
@@ -94,14 +104,18 @@ fn commit() -> Act {
     })
 }
 
-fn published(state: SharedState) -> Act {
+fn published(state: SharedState) -> Act
+    ensures { is_opening result ≡ false }
+{
     Act::Publish(PublishRequest {
         source: id("a"),
         state,
     })
 }
 
-fn act(alloc: Global, call: Call) -> Result<Act, AllocError> {
+fn act(alloc: Global, call: Call) -> Result<Act, AllocError>
+    ensures { IfOk result (λ act. is_opening act ≡ false) }
+{
     match call {
         Call::Boot(ids) => Ok(Act::Bootstrap(SharedConfig::of(state(alloc, 0, ids)?))),
         Call::Start(term) => Ok(Act::StartJoin(id("a"), term)),
@@ -263,33 +277,32 @@ fn outcome_text(alloc: Global, outcome: &Outcome) -> Result<String, AllocError> 
     }
 }
 
-// A node of the core, and what it did.
+// A node of the core, and the same node of the model.
 #[derive(Drop)]
 struct Driven {
     me: NodeId,
     node: CoordState<PlainKeeper>,
-    entries: Vec<Entry>,
+    model: Node,
 }
 
-// The opening of an empty journal.
-fn opening(alloc: Global) -> Result<Vec<Entry>, AllocError> {
-    let found = BoxedKept::of(alloc, Kept::empty(alloc)?)?;
-    let mut entries = Vec::new(alloc);
-    entries.push(Entry {
-        act: Act::Open(found),
-        outcome: Outcome::Answered(ActReply::Taken(None, false)),
-    })?;
-    Ok(entries)
-}
-
+// A node that was just opened over an empty journal.
 fn opened(alloc: Global, me: NodeId) -> Result<Driven, AllocError> {
     let keeper = PlainKeeper::new(alloc)?;
-    let entries = opening(alloc)?;
+    let model = Node::opened(alloc, Kept::empty(alloc)?)?;
     Ok(Driven {
         me,
         node: CoordState::new(me, keeper),
-        entries,
+        model,
     })
+}
+
+// Whether a reply wins an election, and the word that a trace has for it.
+fn ending_of(reply: &ActReply) -> (bool, Ending) {
+    match reply {
+        ActReply::Taken(_, won) => (*won, Ending::Taken),
+        ActReply::Refused(cause) => (false, Ending::Refused(*cause)),
+        ActReply::Stopped => (false, Ending::Stopped),
+    }
 }
 
 // The text itself where it is not the wanted one.
@@ -306,30 +319,32 @@ fn reads(text: Result<String, AllocError>, wanted: &str) -> Result<(), Fail> {
     Ok(())
 }
 
-impl Driven {
-    // The model answers the act so.
-    fn is_modelled(&self, alloc: Global, act: &Act, wanted: &str) -> Result<(), Fail> {
-        let modelled = reply(alloc, self.me, self.entries.as_slice(), act)?;
-        reads(reply_text(alloc, &modelled), wanted)
-    }
+// Does the act in the core and in the model, which both answer so.
+fn does(alloc: Global, driven: Driven, act: &Act, wanted: &str) -> Result<Driven, Fail>
+    requires { is_opening act.now ≡ false }
+{
+    let Driven {
+        me,
+        mut node,
+        model,
+    } = driven;
+    let modelled = model.reply(alloc, me, act)?;
+    reads(reply_text(alloc, &modelled), wanted)?;
+    let outcome = core_outcome(alloc, &mut node, act)?;
+    reads(outcome_text(alloc, &outcome), wanted)?;
+    let (won, ending) = ending_of(&modelled);
+    let model = model.ended(alloc, act, won, ending)?;
+    Ok(Driven { me, node, model })
+}
 
-    // Does the act, which the core answers so.
-    fn does(&mut self, alloc: Global, act: Act, wanted: &str) -> Result<(), Fail> {
-        let outcome = core_outcome(alloc, &mut self.node, &act)?;
-        reads(outcome_text(alloc, &outcome), wanted)?;
-        self.entries.push(Entry { act, outcome })?;
-        Ok(())
+// Does the calls, which the core and the model both answer so.
+fn takes(alloc: Global, driven: Driven, rows: &[Row]) -> Result<Driven, Fail> {
+    let mut driven = driven;
+    for (call, wanted) in rows {
+        let act = act(alloc, *call)?;
+        driven = does(alloc, driven, &act, wanted)?;
     }
-
-    // Does the calls, which the core and the model both answer so.
-    fn takes(&mut self, alloc: Global, rows: &[Row]) -> Result<(), Fail> {
-        for (call, wanted) in rows {
-            let act = act(alloc, *call)?;
-            self.is_modelled(alloc, &act, wanted)?;
-            self.does(alloc, act, wanted)?;
-        }
-        Ok(())
-    }
+    Ok(driven)
 }
 
 // A call, and what the core and the model answer.
@@ -337,9 +352,10 @@ type Row = (Call, &'static str);
 
 // A node that was just opened does the calls of both lists.
 fn plays(alloc: Global, me: &str, first: &[Row], then: &[Row]) -> Result<(), Fail> {
-    let mut node = opened(alloc, id(me))?;
-    node.takes(alloc, first)?;
-    node.takes(alloc, then)
+    let driven = opened(alloc, id(me))?;
+    let driven = takes(alloc, driven, first)?;
+    drop(takes(alloc, driven, then)?);
+    Ok(())
 }
 
 const B_JOINS: &[Row] = &[

@@ -1,7 +1,0 @@
-use Rattle.std.proofs.Common.{◌≡◌, take}
-use Rattle.world_model.specs.NodeState.{started_join_of}
-use Rattle.reference_model.specs.Model.{history_of}
-use Rattle.reference_model.proofs.round.started.Given as goal
-
-abbrev pub invariant-loop-entry : goal.invariant-loop-entry
-invariant-loop-entry l = l.started ≡ started_join_of (history_of (take l.entry-index l.entries))
