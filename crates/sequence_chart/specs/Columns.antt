@@ -36,10 +36,13 @@ abbrev pub nodes_from : List Id → List TraceLine → List Id
 nodes_from ids [] = ids
 nodes_from ids (l ∷ ls) = nodes_from (with_receiver l.said (with_room ids (node_of l.said))) ls
 
--- how many characters wide the labels of a node are, with this number before
+-- how many characters wide the labels of a node are, with this number before: with a line more, and with all of these
+abbrev pub widened : ℕ → Id → TraceLine → ℕ
+widened most n l = if bytes_eq (node_of l.said) n then max most (min 48 (length (label_of l))) else most
+
 abbrev pub widest_from : ℕ → Id → List TraceLine → ℕ
 widest_from most n [] = most
-widest_from most n (l ∷ ls) = widest_from (if bytes_eq (node_of l.said) n then max most (min 48 (length (label_of l))) else most) n ls
+widest_from most n (l ∷ ls) = widest_from (widened most n l) n ls
 
 -- a lifeline for each node, from the left
 abbrev pub columns_from : ℕ → List Id → List TraceLine → List Column

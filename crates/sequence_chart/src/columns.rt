@@ -1,6 +1,6 @@
 //! Columns: which nodes have a lifeline, and where it stands.
 ghost use Rattle.std.specs.Prelude.{◌≡◌, ◌+◌, ◌*◌, ◌≤◌, length, IfOk, []};
-ghost use Rattle.sequence_chart.specs.Columns.{node_of as node_said, with_receiver as with_receiver_of, nodes_from, widest_from, columns_from, left_of as left_of_columns};
+ghost use Rattle.sequence_chart.specs.Columns.{node_of as node_said, with_receiver as with_receiver_of, nodes_from, widened as widened_of, widest_from, columns_from, left_of as left_of_columns};
 
 use crate::labels::label;
 use std::alloc::{AllocError, Global};
@@ -62,6 +62,19 @@ pub fn nodes_of(lines: &[TraceLine]) -> NodeSet
     nodes
 }
 
+// How many characters wide the labels of a node are, with a line more.
+fn widened(alloc: Global, most: usize, node: NodeId, line: &TraceLine) -> Result<usize, AllocError>
+    requires { most ≤ 48 }
+    ensures is { IfOk result (λ w. w ≡ widened_of most node line.now) }
+    ensures few { IfOk result (λ w. w ≤ 48) }
+{
+    if node_of(&line.said) != node {
+        return Ok(most);
+    }
+    let text = label(alloc, line)?;
+    Ok(most.max(text.len().min(48)))
+}
+
 // How many characters wide the labels of a node are, and its name.
 #[tactic(auto, using(voting_config::specs::Padded::id_length))]
 fn widest(alloc: Global, node: NodeId, lines: &[TraceLine]) -> Result<u32, AllocError>
@@ -70,10 +83,7 @@ fn widest(alloc: Global, node: NodeId, lines: &[TraceLine]) -> Result<u32, Alloc
 {
     let mut most = node.as_bytes().len();
     for line in lines {
-        if node_of(&line.said).as_bytes() == node.as_bytes() {
-            let text = label(alloc, line)?;
-            most = most.max(text.len().min(48));
-        }
+        most = widened(alloc, most, node, line)?;
     }
     Ok(most as u32)
 }
