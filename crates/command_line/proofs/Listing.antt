@@ -1,13 +1,14 @@
 -- Lists of ids and of peers, one item after another.
 use Rattle.std.proofs.Common.{◌≡◌, ◌∙◌, refl, sym, ap, ℕ, suc, ◌+◌, ◌<◌, ◌≤◌, Bool, true, false, cond, not, ◌||◌, ◌&&◌, arith}
 use Rattle.std.proofs.Common.{List, [], ◌∷◌, ◌++◌, length, map, fold, append_assoc, get_or, drop, Bor, Option, Some, None, option_and_then}
-use Rattle.std.specs.Prelude.{◌==◌, nat_le}
-use Rattle.std.specs.List.{list_all, list_any}
+use Rattle.std.specs.Prelude.{◌==◌, nat_le, nat_lt}
+use Rattle.std.specs.List.{list_all, list_any, position_or_len}
 use Rattle.std.proofs.Math.Seq.{drop-cons}
 use Rattle.std.proofs.Math.Bool.{or_comm, or-false}
 use Rattle.std.proofs.lemmas.Bool.Decides.{nat_tests}
 use Rattle.std.proofs.lemmas.List.{append-nil, length-append}
-use Rattle.std.proofs.lemmas.List.Folds.{list_any-append}
+use Rattle.std.proofs.lemmas.List.Folds.{list_any-append, list_any_at}
+use Rattle.std.proofs.lemmas.List.Sums.{passes_at_first}
 use Rattle.voting_config.specs.Ids.{Id, same, has, put, with_id, is_id}
 use Rattle.voting_config.proofs.Sorted.{has-with_id}
 use Rattle.voting_config.proofs.Sets.{length-with_id-absent}
@@ -17,7 +18,8 @@ use Rattle.command_line.specs.declared.command.WordsError.{WordsError}
 use Rattle.command_line.specs.declared.command.WordsError.TheVariants.{Usage, Memory}
 use Rattle.command_line.specs.Answers.{Fails}
 use Rattle.command_line.specs.Given.{Text}
-use Rattle.command_line.specs.Lists.{are_new, set_in, id_in, is_peer, peer_in, peer_of, peers_in, with_new_id, with_new_peer, ids_of}
+use Rattle.command_line.specs.Lists.{are_new, set_in, id_in, is_peer, peer_in, peer_of, peers_in, with_new_id, with_new_peer, ids_of, address_in, is_equals}
+use Rattle.command_line.specs.Values.{id_of}
 
 -- the list that is put together from these items, one after another, onto what was found
 abbrev pub all_put : {X : Type 0} → (Text → List X → Option (List X)) → List Text → List X → Option (List X)
@@ -172,3 +174,28 @@ pub with_told : (item : Text) (peers : List Peer) (p : Peer) (b : Bool)
 with_told item peers p b is has_id =
     ap (λ (o : Option ToldPeer). option_and_then (λ peer. cond (has peer.id (ids_of (map told_peer peers))) None (Some (map told_peer peers ++ peer ∷ []))) o) is
     ∙ rw (← has_told p.id peers, has_id, told_push peers p) refl
+
+known : (b : Bool) (t id : Id) → cond b (Some t) None ≡ Some id → (b ≡ true) × (t ≡ id)
+known true t id e = (refl, cc)
+known false t id e = cc
+
+not_empty : (t : Text) → (length t == 0) ≡ false → nat_lt 0 (length t) ≡ true
+not_empty [] e = sym e
+not_empty (b ∷ bs) e = grind (arith, nat_tests)
+
+all_three : (a b c : Bool) → a ≡ true → b ≡ true → c ≡ true → (a && b && c) ≡ true
+all_three a b c x y z = rw (x, y, z) refl
+
+-- an item with an equals sign, an id before it and something behind it
+pub peer_split : (item name address told : Text) (id : Id)
+    → (position_or_len is_equals item < length item) × (name ≡ id_in item) × (address ≡ address_in item) → id_of name ≡ Some id → (length address == 0) ≡ false → told ≡ address
+    → peer_of item ≡ Some (record { id = id; address = told })
+peer_split item name address told id (within, before, behind) is full same_text =
+    let named : (is_id name ≡ true) × (name ≡ id) = known (is_id name) name id is in
+    let a : list_any is_equals item ≡ true = list_any_at is_equals item (position_or_len is_equals item) 0 within (passes_at_first is_equals item 0 within) in
+    let b : is_id (id_in item) ≡ true = ap is_id (sym before) ∙ named.0 in
+    let c : nat_lt 0 (length (address_in item)) ≡ true = ap (λ (t : Text). nat_lt 0 (length t)) (sym behind) ∙ not_empty address full in
+    let first : id_in item ≡ id = sym before ∙ named.1 in
+    let second : address_in item ≡ told = sym behind ∙ sym same_text in
+    ap (λ (b : Bool). let o : Option ToldPeer = cond b (Some (peer_in item)) None in o) (all_three _ _ _ a b c)
+    ∙ (λ i. Some (record { id = first i; address = second i }))
