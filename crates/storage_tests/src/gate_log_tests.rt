@@ -3,15 +3,15 @@
 use crate::files::{disk_of, is_written, reads};
 use crate::strikes::orders;
 use gate_log::{AppendError, Fault, GateLog, LogError, Opened, Why};
-use std::alloc::Global;
+use std::alloc::{AllocError, Global};
 use std::test::Fail;
 use zen_disk::{Fuse, MemDisks, Order, Side, Struck};
 
 type Log = GateLog<Fuse<MemDisks>>;
 
-const BODY: [u8; 9] = [1, 0, 0, 0, 0, 0, 0, 0, 1];
+const BODY: &[u8] = &[1, 0, 0, 0, 0, 0, 0, 0, 1];
 
-const FRAME: [u8; 14] = [0, 0, 0, 9, 1, 0, 0, 0, 0, 0, 0, 0, 1, 0];
+const FRAME: &[u8] = &[0, 0, 0, 9, 1, 0, 0, 0, 0, 0, 0, 0, 1, 0];
 
 // The body that begins the first generation, and the second.
 const FIRST: &[u8] = &[4, 0, 0, 0, 0, 0, 0, 0, 1];
@@ -44,9 +44,9 @@ fn renew(log: &mut Log) -> Result<(), AppendError> {
 
 fn answer(log: &mut Log, act: Act) -> Result<(), AppendError> {
     match act {
-        Act::Append => log.append(&BODY),
-        Act::AppendSmall => log.append_small(&BODY),
-        Act::AppendFramed => log.append_framed(&FRAME),
+        Act::Append => log.append(BODY),
+        Act::AppendSmall => log.append_small(BODY),
+        Act::AppendFramed => log.append_framed(FRAME),
         Act::AppendAbc => log.append(b"abc"),
         Act::AppendDe => log.append(b"de"),
         Act::Renew => renew(log),
@@ -108,7 +108,7 @@ fn write_each(alloc: Global, rows: &[Row], side: Side, bytes: &[u8]) -> Result<(
 
 const ONE_BODY: &[u8] = b"ZENJRNL1\x01\0\0\0\x09\x01\0\0\0\0\0\0\0\x01\0";
 
-const APPENDS: [Row; 3] = [
+const APPENDS: &[Row] = &[
     (Act::Append, Ok(()), (Side::Zero, 0, 14), None),
     (Act::AppendSmall, Ok(()), (Side::Zero, 0, 14), None),
     (Act::AppendFramed, Ok(()), (Side::Zero, 0, 14), None),
@@ -116,7 +116,7 @@ const APPENDS: [Row; 3] = [
 
 #[test]
 fn appends_these_bytes(rt: HostRuntime) -> Result<(), Fail> {
-    for row in &APPENDS {
+    for row in APPENDS {
         write_each(rt.alloc(), &[*row], Side::Zero, ONE_BODY)?;
     }
     Ok(())
@@ -124,7 +124,7 @@ fn appends_these_bytes(rt: HostRuntime) -> Result<(), Fail> {
 
 const TWO_BODIES: &[u8] = b"ZENJRNL1\x01\0\0\0\x09\x04\0\0\0\0\0\0\0\x01\x01\0\0\0\x02de\0";
 
-const RENEWAL: [Row; 3] = [
+const RENEWAL: &[Row] = &[
     (Act::AppendAbc, Ok(()), (Side::Zero, 0, 8), None),
     (Act::Renew, Ok(()), (Side::One, 1, 0), None),
     (Act::AppendDe, Ok(()), (Side::One, 1, 7), None),
@@ -132,7 +132,7 @@ const RENEWAL: [Row; 3] = [
 
 #[test]
 fn renews_these_bytes(rt: HostRuntime) -> Result<(), Fail> {
-    write_each(rt.alloc(), &RENEWAL, Side::One, TWO_BODIES)
+    write_each(rt.alloc(), RENEWAL, Side::One, TWO_BODIES)
 }
 
 // Appends a body of so many zero bytes.
@@ -144,13 +144,13 @@ fn append_zeros(alloc: Global, log: &mut Log, len: usize) -> Result<(), AppendEr
 }
 
 // The length of a body, the answer to it, and the tail after it.
-const LONG_BODIES: [(usize, Result<(), AppendError>, u64); 2] = [
+const LONG_BODIES: &[(usize, Result<(), AppendError>, u64)] = &[
     (8_388_609, Err(AppendError::TooLong), 0),
     (8_388_608, Ok(()), 8_388_613),
 ];
 
 fn are_long_bodies(alloc: Global, log: &mut Log) -> bool {
-    for (len, want, tail) in &LONG_BODIES {
+    for (len, want, tail) in LONG_BODIES {
         let is_so = append_zeros(alloc, log, *len) == *want && log.tail() == *tail;
         if !is_so || log.stopped() {
             return false;
@@ -173,7 +173,7 @@ const FAULT: Option<Struck> = Some(Struck::Fault);
 
 const STOPPED: Result<(), AppendError> = Err(AppendError::Stopped);
 
-const AFTER_A_FAULT: [Row; 4] = [
+const AFTER_A_FAULT: &[Row] = &[
     (Act::FailNext, Ok(()), AT_FIRST, None),
     (Act::AppendAbc, STRUCK, AT_FIRST, FAULT),
     (Act::AppendAbc, STOPPED, AT_FIRST, FAULT),
@@ -182,7 +182,7 @@ const AFTER_A_FAULT: [Row; 4] = [
 
 #[test]
 fn stays_stopped(rt: HostRuntime) -> Result<(), Fail> {
-    write_each(rt.alloc(), &AFTER_A_FAULT, Side::Zero, EMPTY)
+    write_each(rt.alloc(), AFTER_A_FAULT, Side::Zero, EMPTY)
 }
 
 // The side in use and its epoch, and the bodies of each side.
@@ -273,6 +273,12 @@ fn finds(alloc: Global, disk: MemDisks, want: &Found<'_>) -> bool {
     }
 }
 
+// Whether this is found in two files.
+fn is_found(alloc: Global, zero: &[u8], one: &[u8], want: &Found<'_>) -> Result<bool, AllocError> {
+    let disk = disk_of(alloc, zero, one)?;
+    Ok(finds(alloc, disk, want))
+}
+
 // What no row wants: an act before the last one was not taken.
 const NOT_READY: Result<(), AppendError> = Err(AppendError::TooLong);
 
@@ -342,7 +348,7 @@ fn strike_each(alloc: Global, acts: &[Act], strikes: &[Strike]) -> Result<(), Fa
 
 const STRUCK: Result<(), AppendError> = Err(AppendError::Disk);
 
-const STRUCK_APPEND: [Strike; 5] = [
+const STRUCK_APPEND: &[Strike] = &[
     (STRUCK, "----"),
     (STRUCK, "----"),
     (STRUCK, "-aa-"),
@@ -352,10 +358,10 @@ const STRUCK_APPEND: [Strike; 5] = [
 
 #[test]
 fn strikes_each_call_of_an_append(rt: HostRuntime) -> Result<(), Fail> {
-    strike_each(rt.alloc(), &[Act::AppendAbc], &STRUCK_APPEND)
+    strike_each(rt.alloc(), &[Act::AppendAbc], STRUCK_APPEND)
 }
 
-const STRUCK_RENEWAL: [Strike; 5] = [
+const STRUCK_RENEWAL: &[Strike] = &[
     (STRUCK, "aaaa"),
     (STRUCK, "aaaa"),
     (STRUCK, "arra"),
@@ -366,10 +372,10 @@ const STRUCK_RENEWAL: [Strike; 5] = [
 #[test]
 fn strikes_each_call_of_a_first_renewal(rt: HostRuntime) -> Result<(), Fail> {
     let acts = [Act::AppendAbc, Act::Renew];
-    strike_each(rt.alloc(), &acts, &STRUCK_RENEWAL)
+    strike_each(rt.alloc(), &acts, STRUCK_RENEWAL)
 }
 
-const STRUCK_SECOND_RENEWAL: [Strike; 7] = [
+const STRUCK_SECOND_RENEWAL: &[Strike] = &[
     (STRUCK, "rerr"),
     (STRUCK, "rere"),
     (STRUCK, "eeee"),
@@ -382,7 +388,7 @@ const STRUCK_SECOND_RENEWAL: [Strike; 7] = [
 #[test]
 fn strikes_each_call_of_a_renewal_onto_a_side_with_bodies(rt: HostRuntime) -> Result<(), Fail> {
     let acts = [Act::AppendAbc, Act::Renew, Act::Renew];
-    strike_each(rt.alloc(), &acts, &STRUCK_SECOND_RENEWAL)
+    strike_each(rt.alloc(), &acts, STRUCK_SECOND_RENEWAL)
 }
 
 const EMPTY: &[u8] = b"ZENJRNL1\0";
@@ -437,7 +443,7 @@ const CUT_IN_ITS_LENGTH: &[u8] = b"ZENJRNL1\x01\0\0\0";
 const ONE_TOO_LONG: &[u8] = b"ZENJRNL1\x01\0\x80\0\x01";
 
 // Two files, and the first fault of both.
-const FAULTS: [(&[u8], &[u8], &str); 25] = [
+const FAULTS: &[(&[u8], &[u8], &str)] = &[
     (NO_HEADER, b"", "Header"),
     (CUT, b"", "Cut(8)"),
     (CUT_LENGTH, b"", "Cut(8)"),
@@ -467,15 +473,17 @@ const FAULTS: [(&[u8], &[u8], &str); 25] = [
 
 #[test]
 fn names_the_first_fault(rt: HostRuntime) -> Result<(), Fail> {
-    for (zero, one, want) in &FAULTS {
-        let disk = disk_of(rt.alloc(), zero, one)?;
-        assert!(rt; finds(rt.alloc(), disk, &Found::Refused(want)), "{want}");
+    for (zero, one, want) in FAULTS {
+        assert!(rt;
+            is_found(rt.alloc(), zero, one, &Found::Refused(want))?,
+            "{want}"
+        );
     }
     Ok(())
 }
 
 // Two files, the side in use and its epoch.
-const SIDES: [(&[u8], &[u8], Side, u64); 13] = [
+const SIDES: &[(&[u8], &[u8], Side, u64)] = &[
     (b"", b"", Side::Zero, 0),
     (b"ABCDEFGHI", EMPTY, Side::Zero, 0),
     (PLAIN, b"", Side::Zero, 0),
@@ -498,9 +506,8 @@ const SIDES: [(&[u8], &[u8], Side, u64); 13] = [
 
 #[test]
 fn takes_the_side_of_the_greater_epoch(rt: HostRuntime) -> Result<(), Fail> {
-    for (zero, one, side, epoch) in &SIDES {
-        let disk = disk_of(rt.alloc(), zero, one)?;
-        assert!(rt; finds(rt.alloc(), disk, &Found::InUse(*side, *epoch)));
+    for (zero, one, side, epoch) in SIDES {
+        assert!(rt; is_found(rt.alloc(), zero, one, &Found::InUse(*side, *epoch))?);
     }
     Ok(())
 }

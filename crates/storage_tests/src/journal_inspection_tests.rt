@@ -81,7 +81,7 @@ fn show_each(alloc: Global, table: &[Shown]) -> Result<(), Fail> {
     Ok(())
 }
 
-const ONE_SIDE: [Shown; 3] = [
+const ONE_SIDE: &[Shown] = &[
     (TERM_ONE, b"", TERM_ONE_LINES),
     (OLD_TERM_ONE, b"", TERM_ONE_LINES),
     (ACCEPTED, b"", ACCEPTED_LINES),
@@ -89,11 +89,11 @@ const ONE_SIDE: [Shown; 3] = [
 
 #[test]
 fn a_journal_is_shown_in_seven_lines(rt: HostRuntime) -> Result<(), Fail> {
-    show_each(rt.alloc(), &ONE_SIDE)
+    show_each(rt.alloc(), ONE_SIDE)
 }
 
 // Behind a gate that is closed nothing counts.
-const EMPTY_ONES: [Shown; 3] = [
+const EMPTY_ONES: &[Shown] = &[
     (b"", b"", EMPTY_LINES),
     (b"ABCDEFGHI", b"", EMPTY_LINES),
     (b"ZENJRNL1\x02\0\0\0\x01\x05", b"", EMPTY_LINES),
@@ -101,25 +101,25 @@ const EMPTY_ONES: [Shown; 3] = [
 
 #[test]
 fn nine_bytes_are_an_empty_journal(rt: HostRuntime) -> Result<(), Fail> {
-    show_each(rt.alloc(), &EMPTY_ONES)
+    show_each(rt.alloc(), EMPTY_ONES)
 }
 
 // A body that commits the empty state.
-const COMMITS: [Shown; 1] = [(b"ZENJRNL1\x01\0\0\0\x01\x03\0", b"", COMMITTED_LINES)];
+const COMMITS: &[Shown] = &[(b"ZENJRNL1\x01\0\0\0\x01\x03\0", b"", COMMITTED_LINES)];
 
 #[test]
 fn a_commit_alone_is_a_journal_of_one_record(rt: HostRuntime) -> Result<(), Fail> {
-    show_each(rt.alloc(), &COMMITS)
+    show_each(rt.alloc(), COMMITS)
 }
 
-const SECONDS: [Shown; 2] = [
+const SECONDS: &[Shown] = &[
     (TERM_ONE, SECOND, SECOND_LINES),
     (OLD_TERM_ONE, SECOND, SECOND_LINES),
 ];
 
 #[test]
 fn the_newer_generation_is_shown(rt: HostRuntime) -> Result<(), Fail> {
-    show_each(rt.alloc(), &SECONDS)
+    show_each(rt.alloc(), SECONDS)
 }
 
 const CUT: &[u8] = b"ZENJRNL1\x01\0\0\0\xff\0";
@@ -129,7 +129,7 @@ const TAG: &[u8] = b"ZENJRNL1\x01\0\0\0\x01\x05\0";
 const TERM_ZERO: &[u8] = b"ZENJRNL1\x01\0\0\0\x09\x01\0\0\0\0\0\0\0\0\0";
 
 // The two files, and why they are no journal.
-const FAULTS: [(&[u8], &[u8], &str); 23] = [
+const FAULTS: &[(&[u8], &[u8], &str)] = &[
     (b"ABCDEFGHIJ", b"", "Header"),
     (b"ZENJRNL1\x01\0\0\0", b"", "Cut(8)"),
     (b"ZENJRNL1\x01\0\x80\0\x01", b"", "Long(8)"),
@@ -182,12 +182,12 @@ fn refuse_each(alloc: Global, table: &[(&[u8], &[u8], &str)]) -> Result<(), Fail
 
 #[test]
 fn files_that_are_no_journal_are_refused_by_their_first_fault(rt: HostRuntime) -> Result<(), Fail> {
-    refuse_each(rt.alloc(), &FAULTS)
+    refuse_each(rt.alloc(), FAULTS)
 }
 
 // A failing call, how it ends an inspection of the journal of term 1, and how much is written: the sink takes 100 bytes a call. The
 // other file is empty and is given a header: seven calls of the disk.
-const ENDS: [(Failing, Inspection, usize); 9] = [
+const ENDS: &[(Failing, Inspection, usize)] = &[
     (Failing::Host(1), Inspection::HostFault, 0),
     (Failing::Disk(1), Inspection::DiskFault, 0),
     (Failing::Disk(2), Inspection::DiskFault, 0),
@@ -213,7 +213,7 @@ fn is_cut_short(
 
 #[test]
 fn a_fault_of_the_host_its_disk_or_the_sink_ends_it(rt: HostRuntime) -> Result<(), Fail> {
-    for (failing, end, length) in &ENDS {
+    for (failing, end, length) in ENDS {
         let is_cut = is_cut_short(rt.alloc(), *failing, *end, *length)?;
         assert!(&rt; is_cut);
     }

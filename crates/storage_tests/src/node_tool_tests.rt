@@ -214,7 +214,7 @@ fn struck(alloc: Global, alone: &str, file: &[u8], order: Order) -> Result<Found
 
 // What each call leaves: where it is stopped and all that is not synced is lost, is kept or becomes 01, and where it fails.
 // True where it is the new record.
-const CALLS: [[bool; 4]; 4] = [
+const CALLS: &[[bool; 4]] = &[
     [false, false, false, false],
     [false, false, false, false],
     [false, true, true, false],
@@ -223,7 +223,7 @@ const CALLS: [[bool; 4]; 4] = [
 
 fn strike_each(alloc: Global, alone: &str, file: &[u8], new: Found) -> Result<(), Fail> {
     let mut call = 0u64;
-    for leaves in &CALLS {
+    for leaves in CALLS {
         call = call.saturating_add(1);
         let orders = orders(call);
         for (order, is_new) in orders.iter().zip(leaves) {
@@ -236,9 +236,11 @@ fn strike_each(alloc: Global, alone: &str, file: &[u8], new: Found) -> Result<()
     Ok(())
 }
 
+const FILES: &[&[u8]] = &[ACCEPTED, BEGUN, FULL];
+
 #[test]
 fn each_device_call_leaves_the_old_record_or_the_new(rt: HostRuntime) -> Result<(), Fail> {
-    for file in [ACCEPTED, BEGUN, FULL] {
+    for file in FILES {
         strike_each(rt.alloc(), "b", file, Found::Alone)?;
         strike_each(rt.alloc(), "_", file, Found::Out)?;
     }

@@ -103,7 +103,7 @@ fn is_kept<K: Keeper>(keeper: &K, term: u64, members: &str) -> bool {
 }
 
 // Acts, and the ids of both configurations after each.
-const PLAIN: [(Act, &str); 5] = [
+const PLAIN: &[(Act, &str)] = &[
     (Act::Terms(1, 1), "_"),
     (Act::Accept(How::Initial), "b"),
     (Act::Accept(How::Shared), "b"),
@@ -123,7 +123,7 @@ fn keeps_each(alloc: Global, keeper: &mut PlainKeeper, rows: &[(Act, &str)]) -> 
 #[test]
 fn a_plain_keeper_keeps(rt: HostRuntime) -> Result<(), Fail> {
     let mut keeper = PlainKeeper::new(rt.alloc())?;
-    assert!(&rt; keeps_each(rt.alloc(), &mut keeper, &PLAIN));
+    assert!(&rt; keeps_each(rt.alloc(), &mut keeper, PLAIN));
     Ok(())
 }
 
@@ -192,7 +192,7 @@ const TERM_1425: &[u8] =
     b"ZENJRNL1\x01\0\0\0\x4a\x84\0\0\0\0\0\0\0\x01\0\0\0\0\0\0\x05\x91\0\0\0\0\0\0\0\0\0\0\0\0\0\0\0\0\0\0\0\0\0\0\0\0\0\
     \x46\xe8\x82\x23\xe8\x57\xa8\xcd\xf2\x61\xf8\xe2\x7c\xa1\x43\x22\x0d\x48\x5d\xa4\xd4\xa5\x88\xd7\x1f\x5f\x8a\xb4\xac\xb9\x07\x8d\0";
 
-const FIRST_TERM: [Run; 1] = [(
+const FIRST_TERM: &[Run] = &[(
     &[(Act::Nothing, 0, 0, "_"), (Act::Terms(1, 1), 1, 1, "_")],
     File::Is(TERM_ONE),
     File::Is(EMPTY),
@@ -200,11 +200,11 @@ const FIRST_TERM: [Run; 1] = [(
 
 #[test]
 fn keeps_these_bytes(rt: HostRuntime) -> Result<(), Fail> {
-    run_each(rt.alloc(), b"", b"", &FIRST_TERM)?;
-    run_each(rt.alloc(), b"ABCDEFGHI", b"", &FIRST_TERM)
+    run_each(rt.alloc(), b"", b"", FIRST_TERM)?;
+    run_each(rt.alloc(), b"ABCDEFGHI", b"", FIRST_TERM)
 }
 
-const LONG_TAIL: [Run; 4] = [
+const LONG_TAIL: &[Run] = &[
     (
         &[(Act::Terms(1, 1424), 1424, 1424, "_")],
         File::Long(65_513),
@@ -225,11 +225,11 @@ const LONG_TAIL: [Run; 4] = [
 
 #[test]
 fn renews_at_a_long_tail(rt: HostRuntime) -> Result<(), Fail> {
-    run_each(rt.alloc(), b"", b"", &LONG_TAIL)
+    run_each(rt.alloc(), b"", b"", LONG_TAIL)
 }
 
 // 1,409 bodies of 46 bytes and 19 of 38 take 65,536 bytes, which is not too long yet.
-const FULL_TAIL: [Run; 1] = [(
+const FULL_TAIL: &[Run] = &[(
     &[
         (Act::Terms(1, 1409), 1409, 1409, "_"),
         (Act::Commit(19), 1428, 1409, "_"),
@@ -241,7 +241,7 @@ const FULL_TAIL: [Run; 1] = [(
 
 #[test]
 fn a_tail_may_be_full(rt: HostRuntime) -> Result<(), Fail> {
-    run_each(rt.alloc(), b"", b"", &FULL_TAIL)
+    run_each(rt.alloc(), b"", b"", FULL_TAIL)
 }
 
 // The second generation, which keeps term 1,425 and the initial state of b.
@@ -250,7 +250,7 @@ const TERM_1425_OF_B: &[u8] =
     \x01\x62\0\0\0\0\0\x01\x01\x62\
     \xa9\x2a\x44\x8c\x25\x73\xfb\x1c\x61\xa9\xa2\xb4\x33\x3e\x86\xbe\x10\xa2\xf6\x2c\xe1\x64\x6d\xb8\x65\xe9\xa4\xcd\xcb\x86\xfc\xb7\0";
 
-const BACK_ON_SIDE_ZERO: [Run; 2] = [
+const BACK_ON_SIDE_ZERO: &[Run] = &[
     (
         &[
             (Act::Nothing, 1, 2, "_"),
@@ -267,10 +267,10 @@ const BACK_ON_SIDE_ZERO: [Run; 2] = [
 
 #[test]
 fn renews_again_on_side_zero(rt: HostRuntime) -> Result<(), Fail> {
-    run_each(rt.alloc(), TERM_ONE, SECOND, &BACK_ON_SIDE_ZERO)
+    run_each(rt.alloc(), TERM_ONE, SECOND, BACK_ON_SIDE_ZERO)
 }
 
-const KEPT: [Run; 2] = [
+const KEPT: &[Run] = &[
     (
         &[
             (Act::Terms(7, 7), 1, 7, "_"),
@@ -285,7 +285,7 @@ const KEPT: [Run; 2] = [
 
 #[test]
 fn finds_what_it_kept(rt: HostRuntime) -> Result<(), Fail> {
-    run_each(rt.alloc(), b"", b"", &KEPT)
+    run_each(rt.alloc(), b"", b"", KEPT)
 }
 
 // The first generation of version 1, which keeps term 2 and no state.
@@ -308,7 +308,7 @@ const B_AFTER_OLD: &[u8] =
     \x20\x22\x20\x15\xc9\x73\x11\x56\x23\xde\x71\x56\xbe\x70\xf0\xd2\x8f\xa5\x4e\xe1\xa8\x34\xa5\x7e\xa5\xdf\x4e\x13\xc8\x33\x3a\xfc\0";
 
 // Where a body in use is of version 1, the first act begins a generation, in which the next acts go on.
-const AFTER_VERSION_1: [Run; 3] = [
+const AFTER_VERSION_1: &[Run] = &[
     (&[(Act::Nothing, 1, 1, "_")], File::Same, File::Is(EMPTY)),
     (
         &[(Act::Terms(2, 2), 1, 2, "_")],
@@ -322,7 +322,7 @@ const AFTER_VERSION_1: [Run; 3] = [
     ),
 ];
 
-const AFTER_TWO_OF_VERSION_1: [Run; 3] = [
+const AFTER_TWO_OF_VERSION_1: &[Run] = &[
     (&[(Act::Nothing, 1, 2, "_")], File::Same, File::Same),
     (
         &[(Act::Terms(3, 3), 1, 3, "_")],
@@ -338,17 +338,12 @@ const AFTER_TWO_OF_VERSION_1: [Run; 3] = [
 
 #[test]
 fn renews_after_version_1(rt: HostRuntime) -> Result<(), Fail> {
-    run_each(rt.alloc(), OLD_TERM_ONE, b"", &AFTER_VERSION_1)?;
-    run_each(
-        rt.alloc(),
-        OLD_TERM_ONE,
-        OLD_SECOND,
-        &AFTER_TWO_OF_VERSION_1,
-    )
+    run_each(rt.alloc(), OLD_TERM_ONE, b"", AFTER_VERSION_1)?;
+    run_each(rt.alloc(), OLD_TERM_ONE, OLD_SECOND, AFTER_TWO_OF_VERSION_1)
 }
 
 // The act may be any of the three.
-const STATE_OF_VERSION_1: [Run; 2] = [
+const STATE_OF_VERSION_1: &[Run] = &[
     (
         &[(Act::Nothing, 2, 7, "b"), (Act::Commit(1), 1, 7, "b")],
         File::Same,
@@ -357,7 +352,7 @@ const STATE_OF_VERSION_1: [Run; 2] = [
     (&[(Act::Nothing, 1, 7, "b")], File::Same, File::Same),
 ];
 
-const ACCEPTED_AFTER_VERSION_1: [Run; 2] = [
+const ACCEPTED_AFTER_VERSION_1: &[Run] = &[
     (
         &[
             (Act::Nothing, 2, 7, "b"),
@@ -371,8 +366,8 @@ const ACCEPTED_AFTER_VERSION_1: [Run; 2] = [
 
 #[test]
 fn keeps_the_state_of_version_1(rt: HostRuntime) -> Result<(), Fail> {
-    run_each(rt.alloc(), OLD_B, b"", &STATE_OF_VERSION_1)?;
-    run_each(rt.alloc(), OLD_B, b"", &ACCEPTED_AFTER_VERSION_1)
+    run_each(rt.alloc(), OLD_B, b"", STATE_OF_VERSION_1)?;
+    run_each(rt.alloc(), OLD_B, b"", ACCEPTED_AFTER_VERSION_1)
 }
 
 // The generation of the last epoch, of version 1, which keeps term 2 and no state.
@@ -385,7 +380,7 @@ const LAST: &[u8] =
     \x06\x96\xea\xb3\x8e\x78\xa1\xc4\x9c\x81\x86\x64\xc2\x7d\x3f\xc3\x55\x33\x9f\x02\x46\x76\x7b\x8b\x10\x76\x08\x86\x89\x7c\x3b\x8e\0";
 
 // There is no generation after the last one: neither after version 1 nor at a long tail.
-const LAST_OF_VERSION_1: [Run; 2] = [
+const LAST_OF_VERSION_1: &[Run] = &[
     (
         &[(Act::Terms(3, 4), 3, 4, "_")],
         File::Same,
@@ -398,7 +393,7 @@ const LAST_OF_VERSION_1: [Run; 2] = [
     ),
 ];
 
-const LAST_AT_A_LONG_TAIL: [Run; 1] = [(
+const LAST_AT_A_LONG_TAIL: &[Run] = &[(
     &[(Act::Terms(3, 1427), 1426, 1427, "_")],
     File::Same,
     File::Long(65_638),
@@ -406,8 +401,8 @@ const LAST_AT_A_LONG_TAIL: [Run; 1] = [(
 
 #[test]
 fn goes_on_in_the_last_epoch(rt: HostRuntime) -> Result<(), Fail> {
-    run_each(rt.alloc(), OLD_TERM_ONE, OLD_LAST, &LAST_OF_VERSION_1)?;
-    run_each(rt.alloc(), TERM_ONE, LAST, &LAST_AT_A_LONG_TAIL)
+    run_each(rt.alloc(), OLD_TERM_ONE, OLD_LAST, LAST_OF_VERSION_1)?;
+    run_each(rt.alloc(), TERM_ONE, LAST, LAST_AT_A_LONG_TAIL)
 }
 
 // The answer to a term that this order strikes.
@@ -468,7 +463,7 @@ fn strike_each(alloc: Global, files: &Files, term: u32, calls: &[&[u64]]) -> Res
 // the other side has a generation it is cleared before, with two calls more.
 type Renewal = (&'static [u8], &'static [u8], u32, &'static [&'static [u64]]);
 
-const RENEWALS: [Renewal; 2] = [
+const RENEWALS: &[Renewal] = &[
     (
         OLD_TERM_ONE,
         EMPTY,
@@ -490,11 +485,15 @@ const RENEWALS: [Renewal; 2] = [
     ),
 ];
 
+fn strike_renewal(alloc: Global, renewal: &Renewal) -> Result<(), Fail> {
+    let (zero, one, term, calls) = *renewal;
+    strike_each(alloc, &files_of(alloc, zero, one)?, term, calls)
+}
+
 #[test]
 fn a_renewal_that_is_struck_leaves_one_of_two_records(rt: HostRuntime) -> Result<(), Fail> {
-    for (zero, one, term, calls) in &RENEWALS {
-        let files = files_of(rt.alloc(), zero, one)?;
-        strike_each(rt.alloc(), &files, *term, calls)?;
+    for renewal in RENEWALS {
+        strike_renewal(rt.alloc(), renewal)?;
     }
     Ok(())
 }
@@ -511,7 +510,7 @@ const OLDER: &[u8] =
 type Refused = (&'static [u8], &'static [u8], &'static str);
 
 // Bodies of version 1 on side zero.
-const OLD_FAULTS: [Refused; 15] = [
+const OLD_FAULTS: &[Refused] = &[
     (b"ABCDEFGHIJ", b"", "Header"),
     (b"ZENJRNL1\x01\0\0\0\xff\0", b"", "Cut(8)"),
     (b"ZENJRNL1\x01\xff\0\0\0\0", b"", "Long(8)"),
@@ -550,7 +549,7 @@ const OLD_FAULTS: [Refused; 15] = [
 ];
 
 // The same of bodies of version 2: a digest that is not theirs comes before their fields.
-const FAULTS: [Refused; 17] = [
+const FAULTS: &[Refused] = &[
     (CHANGED, b"", "Damaged(8)"),
     (OLD_AFTER, b"", "Order(54)"),
     (
@@ -629,7 +628,7 @@ const FAULTS: [Refused; 17] = [
     (b"ZENJRNL1\x01\0\0\0\x01\x85\0", b"", "Body(8,Tag)"),
 ];
 
-const FAULTS_OF_BOTH: [Refused; 18] = [
+const FAULTS_OF_BOTH: &[Refused] = &[
     (OLD_SECOND, OLD_SECOND, "Twin"),
     (SECOND, SECOND, "Twin"),
     (SECOND, OLD_SECOND, "Twin"),
@@ -700,13 +699,13 @@ fn refuses_each(alloc: Global, rows: &[Refused]) -> Result<(), Fail> {
 
 #[test]
 fn names_the_first_fault(rt: HostRuntime) -> Result<(), Fail> {
-    refuses_each(rt.alloc(), &OLD_FAULTS)?;
-    refuses_each(rt.alloc(), &FAULTS)
+    refuses_each(rt.alloc(), OLD_FAULTS)?;
+    refuses_each(rt.alloc(), FAULTS)
 }
 
 #[test]
 fn names_the_first_fault_of_both(rt: HostRuntime) -> Result<(), Fail> {
-    refuses_each(rt.alloc(), &FAULTS_OF_BOTH)
+    refuses_each(rt.alloc(), FAULTS_OF_BOTH)
 }
 
 // The digests of bodies that set term 1 and term 2.
@@ -758,7 +757,7 @@ const NEWER: &[u8] =
 type Gate = (Side, usize, (u64, u64, &'static str, u64));
 
 // Two files, and those of their gates without which another record is found.
-const FILES: [(&[u8], &[u8], &[Gate]); 2] = [
+const FILES: &[(&[u8], &[u8], &[Gate])] = &[
     (
         COMMITTED,
         EMPTY,
@@ -817,7 +816,12 @@ fn is_kept_or_refused(
 
 // The record that is found once this gate is closed, where it is another one.
 fn left_by<'a>(gates: &'a [Gate], side: Side, place: usize) -> Option<&'a Gate> {
-    gates.iter().find(|gate| gate.0 == side && gate.1 == place)
+    for gate in gates {
+        if gate.0 == side && gate.1 == place {
+            return Some(gate);
+        }
+    }
+    None
 }
 
 fn is_left(alloc: Global, files: &Files, gate: &Gate) -> Result<bool, Fail> {
@@ -865,7 +869,10 @@ fn is_as_before(
     }
 }
 
-// Whether the lowest and the highest bit of this byte may be changed.
+// The lowest and the highest bit of a byte.
+const BITS: &[u8] = &[1, 128];
+
+// Whether those bits of this byte may be changed.
 fn may_change(
     alloc: Global,
     files: &Files,
@@ -874,8 +881,8 @@ fn may_change(
     side: Side,
     place: usize,
 ) -> Result<bool, Fail> {
-    for bit in [1, 128] {
-        let changed = changed(alloc, files, side, place, bit)?;
+    for bit in BITS {
+        let changed = changed(alloc, files, side, place, *bit)?;
         if !is_as_before(alloc, &changed, kept, left_by(gates, side, place))? {
             return Ok(false);
         }
@@ -902,16 +909,25 @@ fn each_may_change(
     Ok(())
 }
 
-fn each_byte_may_change(alloc: Global, files: &Files, gates: &[Gate]) -> Result<(), Fail> {
+fn both_may_change(alloc: Global, files: &Files, gates: &[Gate]) -> Result<(), Fail> {
     let whole = opened(alloc, &files.0, &files.1)?;
     each_may_change(alloc, files, whole.kept(), gates, Side::Zero)?;
     each_may_change(alloc, files, whole.kept(), gates, Side::One)
 }
 
+fn each_byte_may_change(
+    alloc: Global,
+    zero: &[u8],
+    one: &[u8],
+    gates: &[Gate],
+) -> Result<(), Fail> {
+    both_may_change(alloc, &files_of(alloc, zero, one)?, gates)
+}
+
 #[test]
 fn a_changed_byte_makes_no_other_record(rt: HostRuntime) -> Result<(), Fail> {
-    for (zero, one, gates) in &FILES {
-        each_byte_may_change(rt.alloc(), &files_of(rt.alloc(), zero, one)?, gates)?;
+    for (zero, one, gates) in FILES {
+        each_byte_may_change(rt.alloc(), zero, one, gates)?;
     }
     Ok(())
 }

@@ -63,7 +63,7 @@ fn do_each(alloc: Global, rows: &[Row]) -> Result<(), Fail> {
     Ok(())
 }
 
-const CRASHES: [Row; 4] = [
+const CRASHES: &[Row] = &[
     (&[], b"abcde", b"vwxyz"),
     (&[Act::Crash(Way::Kept)], b"abcde", b"vwxyz"),
     (&[Act::Crash(Way::Kept), LOSE], b"abc", b"vwx"),
@@ -76,21 +76,21 @@ const CRASHES: [Row; 4] = [
 
 #[test]
 fn a_crash_loses_keeps_or_tears_what_is_not_synced(rt: HostRuntime) -> Result<(), Fail> {
-    do_each(rt.alloc(), &CRASHES)
+    do_each(rt.alloc(), CRASHES)
 }
 
-const SYNCS: [Row; 2] = [
+const SYNCS: &[Row] = &[
     (&[Act::Sync(Side::Zero), LOSE], b"abcde", b"vwx"),
     (&[Act::Sync(Side::One), LOSE], b"abc", b"vwxyz"),
 ];
 
 #[test]
 fn a_sync_keeps_one_side(rt: HostRuntime) -> Result<(), Fail> {
-    do_each(rt.alloc(), &SYNCS)
+    do_each(rt.alloc(), SYNCS)
 }
 
 // Syncs, and whether they fail.
-const SOME_FAIL: [(Side, bool); 5] = [
+const SOME_FAIL: &[(Side, bool)] = &[
     (Side::Zero, false),
     (Side::One, true),
     (Side::One, false),
@@ -110,7 +110,7 @@ fn are_syncs(disk: &mut MemDisks, syncs: &[(Side, bool)]) -> bool {
 #[test]
 fn fails_where_listed(rt: HostRuntime) -> Result<(), Fail> {
     let mut disk = new_disk(rt.alloc(), &[2, 4])?;
-    assert!(&rt; are_syncs(&mut disk, &SOME_FAIL));
+    assert!(&rt; are_syncs(&mut disk, SOME_FAIL));
     Ok(())
 }
 
@@ -139,7 +139,7 @@ const STOP: Option<Struck> = Some(Struck::Stop);
 type Strike = (Call, bool, Option<Struck>, Option<u64>, Option<u64>);
 
 // The fault comes at the second call, and the stop at the third.
-const STRIKES: [Strike; 4] = [
+const STRIKES: &[Strike] = &[
     (Call::Len, true, None, Some(2), Some(1)),
     (
         Call::Write(Side::Zero, b"ABCDE"),
@@ -184,7 +184,7 @@ fn strikes_as_ordered(rt: HostRuntime) -> Result<(), Fail> {
     let mut fuse = Fuse::new(new_disk(rt.alloc(), &[])?);
     fuse.arm(Order::Stop(3, Way::Torn(7)));
     fuse.arm(Order::Fault(2));
-    let are_struck = are_struck(&mut fuse, &STRIKES);
+    let are_struck = are_struck(&mut fuse, STRIKES);
     assert!(&rt; are_struck && both_read(fuse.into_disk(), b"abc", b"\x07\x07x"));
     Ok(())
 }
