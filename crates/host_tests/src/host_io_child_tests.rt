@@ -80,7 +80,7 @@ const LENGTH: usize = 5000004;
 const LAST: &str =
     "head -c 5000000 /dev/zero; while [ ! -e host_io_c1 ] || [ ! -e host_io_c2 ]; do sleep 0.05; done; echo end";
 
-const TEXTS: [&str; 3] = [
+const TEXTS: &[&str] = &[
     LAST,
     "head -c 5000000 /dev/zero; : > host_io_c1; echo end",
     "head -c 5000000 /dev/zero; : > host_io_c2; echo end",

@@ -111,11 +111,11 @@ fn a_node_with_another_status_makes_a_trial_fail(rt: HostRuntime) -> Result<(), 
 }
 
 fn are_words(words: &[String], wanted: &[&str]) -> bool {
-    let mut wanted_words = wanted.iter();
-    words.len() == wanted.len()
-        && words.iter().all(|word| wanted_words
-            .next()
-            .is_some_and(|wanted| word.as_str() == *wanted))
+    let mut are_same = words.len() == wanted.len();
+    for (word, wanted) in words.iter().zip(wanted) {
+        are_same = are_same && word.as_str() == *wanted;
+    }
+    are_same
 }
 
 // Whether a call started a node with these words.
@@ -221,15 +221,16 @@ const NO_WINS: &[&str] = &[
     "", "\n", " won", "won\t1", "WON\n", "wonder\n", "x won\n", "wo\nn\n",
 ];
 
-fn have_all_won(outputs: &[&str]) -> bool {
-    outputs.iter().all(|output| has_won(output.as_bytes()))
-}
-
-fn has_none_won(outputs: &[&str]) -> bool {
-    outputs.iter().all(|output| !has_won(output.as_bytes()))
+// Whether all of them have won, or none.
+fn have_won(outputs: &[&str], wanted: bool) -> bool {
+    let mut are_so = true;
+    for output in outputs {
+        are_so = are_so && has_won(output.as_bytes()) == wanted;
+    }
+    are_so
 }
 
 #[test]
 fn a_win_is_a_line_whose_first_word_is_won(rt: HostRuntime) {
-    assert!(rt; have_all_won(WINS) && has_none_won(NO_WINS));
+    assert!(rt; have_won(WINS, true) && have_won(NO_WINS, false));
 }
