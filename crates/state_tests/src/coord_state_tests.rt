@@ -12,6 +12,7 @@ use coord_state::{CoordState, NotTaken, outcome_of_value};
 use state_journal::{Keeper, PlainKeeper, Ready};
 use std::alloc::{AllocError, Global};
 use std::test::Fail;
+use voting_config::MAX_IDS;
 use world_model::{ActReply, Cause, Outcome};
 
 fn opened(alloc: Global) -> Result<CoordState<PlainKeeper>, AllocError> {
@@ -81,7 +82,7 @@ fn wins(node: &mut CoordState<PlainKeeper>) -> bool {
         last_term: 0,
         last_version: 0,
     };
-    if node.votes().len() >= 32 {
+    if node.votes().len() >= MAX_IDS {
         return false;
     }
     match node.join(&join) {
@@ -131,7 +132,7 @@ fn responds(node: &mut CoordState<PlainKeeper>) -> bool {
         term: 1,
         version: 1,
     };
-    if node.acks().len() >= 32 {
+    if node.acks().len() >= MAX_IDS {
         return false;
     }
     match node.publish_response(&response) {

@@ -57,7 +57,9 @@ fn is_id(text: &str, wanted: Option<IdError>) -> bool {
 const IDS: &[(&str, Option<IdError>)] = &[
     ("", Some(IdError::Empty)),
     ("node-1", None),
+    ("a234567890123456789012345678901", None),
     ("a2345678901234567890123456789012", None),
+    ("--------------------------------", None),
     ("a23456789012345678901234567890123", Some(IdError::TooLong)),
     ("a.b", Some(IdError::BadByte(1))),
     ("Node", Some(IdError::BadByte(0))),
@@ -69,6 +71,36 @@ fn an_id_has_1_to_32_letters_digits_and_hyphens(rt: HostRuntime) {
         assert!(rt; is_id(text, *wanted));
     }
     assert!(rt; id("b") > id("a") && id("b") > id("aa"));
+    assert!(rt; NodeId::default() == id("--------------------------------"));
+}
+
+// Two ids, of which the first comes before the second. An id of 32 bytes leaves no byte that would say how long it is.
+const ASCENDING: &[(&str, &str)] = &[
+    ("-", "--------------------------------"),
+    (
+        "-------------------------------",
+        "--------------------------------",
+    ),
+    ("-------------------------------0", "0"),
+    (
+        "a234567890123456789012345678901",
+        "a2345678901234567890123456789010",
+    ),
+    (
+        "a2345678901234567890123456789012",
+        "a234567890123456789012345678902",
+    ),
+];
+
+fn is_before(one: NodeId, other: NodeId) -> bool {
+    one < other && one != other && NodeSet::of(&[other, one]).as_slice() == [one, other].as_slice()
+}
+
+#[test]
+fn ids_of_31_and_32_bytes_are_in_their_order(rt: HostRuntime) {
+    for (one, other) in ASCENDING {
+        assert!(rt; is_before(id(one), id(other)), "{one}");
+    }
 }
 
 // What is done to a set.
