@@ -213,10 +213,12 @@ fn refusal(alloc: Global, words: &[String]) -> Result<Option<ErrorKind>, AllocEr
     }
 }
 
+const HELPS: &[&str] = &["--help", "replay --help"];
+
 // `read_words` says `Usage` for all that clap refuses. Clap itself prints no help of its own.
 #[test]
 fn clap_knows_no_help(rt: HostRuntime) -> Result<(), Fail> {
-    for line in ["--help", "replay --help"] {
+    for line in HELPS {
         let words = words_of(rt.alloc(), line)?;
         assert!(rt;
             refusal(rt.alloc(), &words)? == Some(ErrorKind::UnknownArgument),

@@ -100,7 +100,7 @@ fn message(alloc: Global, place: usize) -> Result<WireMessage, AllocError> {
     }
 }
 
-const MESSAGES: [&str; 18] = [
+const MESSAGES: &[&str] = &[
     "publish {\"committed\":[\"a\"],\"config\":[\"a\"],\"parent\":{\"term\":1,\"version\":4},\"term\":2,\"value\":{\"exclusions\":[],\"master\":null,\"members\":[],\"settings\":{}},\"version\":1}",
     "startjoin a 1",
     "join 1 0/0",

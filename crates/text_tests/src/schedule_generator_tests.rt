@@ -72,7 +72,7 @@ fn is_last(alloc: Global, number: u64, steps: u64, wanted: &str) -> Result<bool,
 
 // What the second generator draws of other forms: each configuration, each way in which a disk is left, a later term,
 // and a message that lies as far back as there are messages.
-const DRAWN: [(u64, u64, &str); 8] = [
+const DRAWN: &[(u64, u64, &str)] = &[
     (7, 31, "value a 31 s30 a,b"),
     (7, 36, "fuse b 4 none"),
     (7, 38, "fuse d 3 all"),
@@ -85,7 +85,7 @@ const DRAWN: [(u64, u64, &str); 8] = [
 
 #[test]
 fn each_form_is_drawn(rt: HostRuntime) -> Result<(), Fail> {
-    for (number, steps, wanted) in &DRAWN {
+    for (number, steps, wanted) in DRAWN {
         assert!(rt; is_last(rt.alloc(), *number, *steps, wanted)?, "{wanted}");
     }
     Ok(())

@@ -48,7 +48,16 @@ fn third_line_is_bad(alloc: Global, level: Level, line: &str, why: WhyBad) -> bo
     fault_of_many(alloc, level, 1, line.as_bytes()) == Some((3, why))
 }
 
-const CORE_LINES: [(&str, WhyBad); 39] = [
+fn third_lines_are_bad(alloc: Global, level: Level, rows: &[(&str, WhyBad)]) -> Result<(), Fail> {
+    for (line, why) in rows {
+        if !third_line_is_bad(alloc, level, line, *why) {
+            return Err(Fail::new(format_args!("at {line}")));
+        }
+    }
+    Ok(())
+}
+
+const CORE_LINES: &[(&str, WhyBad)] = &[
     ("voting-only a\n", WhyBad::Verb),
     ("tick a 0 0\n", WhyBad::Verb),
     ("client a x\n", WhyBad::Verb),
@@ -91,14 +100,11 @@ const CORE_LINES: [(&str, WhyBad); 39] = [
 ];
 
 #[test]
-fn names_the_reason_of_a_third_line_at_level_core(rt: HostRuntime) {
-    let a = rt.alloc();
-    for (line, why) in &CORE_LINES {
-        assert!(rt; third_line_is_bad(a, Level::Core, line, *why), "at {line}");
-    }
+fn names_the_reason_of_a_third_line_at_level_core(rt: HostRuntime) -> Result<(), Fail> {
+    third_lines_are_bad(rt.alloc(), Level::Core, CORE_LINES)
 }
 
-const NODE_LINES: [(&str, WhyBad); 32] = [
+const NODE_LINES: &[(&str, WhyBad)] = &[
     ("voting-only\n", WhyBad::Header),
     ("voting-only \n", WhyBad::Header),
     ("voting-only _\n", WhyBad::Header),
@@ -134,26 +140,14 @@ const NODE_LINES: [(&str, WhyBad); 32] = [
 ];
 
 #[test]
-fn names_the_reason_of_a_third_line_at_level_node(rt: HostRuntime) {
-    let a = rt.alloc();
-    for (line, why) in &NODE_LINES {
-        assert!(rt; third_line_is_bad(a, Level::Node, line, *why), "at {line}");
-    }
+fn names_the_reason_of_a_third_line_at_level_node(rt: HostRuntime) -> Result<(), Fail> {
+    third_lines_are_bad(rt.alloc(), Level::Node, NODE_LINES)
 }
 
-// Whether a text is bad at both levels.
-fn is_bad_header(alloc: Global, text: &str, line: usize, why: WhyBad) -> bool {
-    let text = text.as_bytes();
-    let want = Some((line, why));
-    fault(alloc, Level::Core, text) == want && fault(alloc, Level::Node, text) == want
-}
+// A text, the line that is bad at both levels, and why.
+type Header = (&'static str, usize, WhyBad);
 
-fn is_read(alloc: Global, text: &[u8]) -> bool {
-    read_schedule(alloc, text, Level::Core).is_ok()
-        && read_schedule(alloc, text, Level::Node).is_ok()
-}
-
-const HEADERS: [(&str, usize, WhyBad); 7] = [
+const HEADERS: &[Header] = &[
     ("nodes a\ninitial _\n", 2, WhyBad::Header),
     ("nodes a\ninitial b\n", 2, WhyBad::Header),
     ("nodes a\ninitial a", 2, WhyBad::NoNewline),
@@ -163,17 +157,32 @@ const HEADERS: [(&str, usize, WhyBad); 7] = [
     ("\n", 1, WhyBad::Header),
 ];
 
+fn is_bad_header(alloc: Global, row: &Header) -> bool {
+    let (text, line, why) = *row;
+    let want = Some((line, why));
+    fault(alloc, Level::Core, text.as_bytes()) == want
+        && fault(alloc, Level::Node, text.as_bytes()) == want
+}
+
+fn is_read(alloc: Global, text: &[u8]) -> bool {
+    read_schedule(alloc, text, Level::Core).is_ok()
+        && read_schedule(alloc, text, Level::Node).is_ok()
+}
+
+fn are_read(alloc: Global) -> bool {
+    is_read(alloc, b"") && is_read(alloc, HEADER)
+}
+
 #[test]
 fn names_the_reason_of_a_header(rt: HostRuntime) {
-    let a = rt.alloc();
-    for (text, line, why) in &HEADERS {
-        assert!(rt; is_bad_header(a, text, *line, *why), "at {text}");
+    for (at, row) in HEADERS.iter().enumerate() {
+        assert!(rt; is_bad_header(rt.alloc(), row), "row {at}");
     }
-    assert!(rt; is_read(a, b"") && is_read(a, HEADER));
+    assert!(rt; are_read(rt.alloc()));
 }
 
 // Where a third header line does not stand third.
-const LATER: [(&str, usize); 3] = [
+const LATER: &[(&str, usize)] = &[
     ("nodes a\ninitial a\nvoting-only a\nvoting-only a\n", 4),
     ("nodes a\ninitial a\ntick a 0 0\nvoting-only a\n", 4),
     ("nodes a\ninitial a\nvoting-only a\ntick a 0 0\nboot a\n", 5),
@@ -182,7 +191,7 @@ const LATER: [(&str, usize); 3] = [
 #[test]
 fn takes_a_third_header_line_at_its_place_alone(rt: HostRuntime) {
     let a = rt.alloc();
-    for (text, line) in &LATER {
+    for (text, line) in LATER {
         assert!(rt;
             fault(a, Level::Node, text.as_bytes()) == Some((*line, WhyBad::Verb)),
             "at {text}"
@@ -264,14 +273,14 @@ fn shows_client(alloc: Global, text: &str, shown: &str) -> bool {
     }
 }
 
-const CLIENTS: [(&str, &str); 2] = [
+const CLIENTS: &[(&str, &str)] = &[
     ("nodes a\ninitial a\nclient a put x  1 \n", "put x  1 "),
     ("nodes a\ninitial a\nclient a \n", ""),
 ];
 
 #[test]
 fn shows_a_clients_line_with_its_spaces(rt: HostRuntime) {
-    for (text, shown) in &CLIENTS {
+    for (text, shown) in CLIENTS {
         assert!(rt; shows_client(rt.alloc(), text, shown), "{shown}");
     }
 }
@@ -327,15 +336,20 @@ fn write_fault(text: &mut Text) -> Result<(), AllocError> {
     )
 }
 
+fn has_begun(text: &mut Text) -> bool {
+    text.word("act ").is_ok() && text.len() == 4
+}
+
+fn shows_fault(text: &mut Text) -> bool {
+    write_fault(text).is_ok() && text.as_bytes() == b"zen: bad schedule at line 3: Id\n".as_slice()
+}
+
 #[test]
-fn prints_a_fault(rt: HostRuntime) -> Result<(), Fail> {
+fn prints_a_fault(rt: HostRuntime) {
     let mut text = Text::new(rt.alloc());
-    text.word("act ")?;
-    assert!(rt; text.len() == 4);
+    assert!(rt; has_begun(&mut text));
     text.clear();
-    write_fault(&mut text)?;
-    assert!(rt; text.as_bytes() == b"zen: bad schedule at line 3: Id\n".as_slice());
-    Ok(())
+    assert!(rt; shows_fault(&mut text));
 }
 
 // Whether a text of a million lines is read, and not with a line more.
@@ -366,14 +380,14 @@ fn fault_of_big(
 }
 
 // Texts of 16,777,217 bytes. Where the first line is bad, that comes first.
-const BIG: [(&[u8], u8, usize, usize, WhyBad); 2] = [
+const BIG: &[(&[u8], u8, usize, usize, WhyBad)] = &[
     (HEADER, b'x', 16_777_199, 3, WhyBad::TooBig),
     (b"", b'\n', 16_777_217, 1, WhyBad::Header),
 ];
 
 #[test]
 fn names_a_text_that_is_too_big(rt: HostRuntime) -> Result<(), Fail> {
-    for (header, byte, count, line, why) in &BIG {
+    for (header, byte, count, line, why) in BIG {
         let bad = fault_of_big(rt.alloc(), header, *byte, *count)?;
         assert!(rt; bad == Some((*line, *why)));
     }
@@ -387,11 +401,11 @@ fn fault_of_long(alloc: Global, bytes: usize) -> Option<(usize, WhyBad)> {
     fault(alloc, Level::Core, text.as_slice())
 }
 
-const LONG_LINES: [(usize, WhyBad); 2] = [(16384, WhyBad::Verb), (16385, WhyBad::TooLong)];
+const LONG_LINES: &[(usize, WhyBad)] = &[(16384, WhyBad::Verb), (16385, WhyBad::TooLong)];
 
 #[test]
 fn names_a_line_that_is_too_long(rt: HostRuntime) {
-    for (bytes, why) in &LONG_LINES {
+    for (bytes, why) in LONG_LINES {
         assert!(rt;
             fault_of_long(rt.alloc(), *bytes) == Some((3, *why)),
             "at {bytes}"

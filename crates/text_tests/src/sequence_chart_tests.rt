@@ -30,7 +30,7 @@ fn shows(alloc: Global, trace: &str, part: &str) -> bool {
     }
 }
 
-const DRAWN: [&str; 3] = [
+const DRAWN: &[&str] = &[
     "<path class='arrow' marker-end='url(#head)' d='M324 72L186 82'><title>m1 b-&gt;a join 1 0/0</title></path>",
     "<title>act a ok join b a 1 0/0</title>ok join b a 1 0/0</text>",
     "<use href='#star' class='won t1'",
@@ -38,7 +38,7 @@ const DRAWN: [&str; 3] = [
 
 #[test]
 fn an_election_is_drawn(rt: HostRuntime) {
-    for part in &DRAWN {
+    for part in DRAWN {
         assert!(rt; shows(rt.alloc(), ELECTION, part), "{part}");
     }
 }
@@ -62,7 +62,7 @@ const REFUSED: &str = "> startjoin a a 1\n\
     act a refused:TermNotGreater(1,1) startjoin a 1\n";
 
 // The last row has a line whose characters `<`, `>` and `&` are escaped.
-const ALSO_DRAWN: [(&str, &str); 7] = [
+const ALSO_DRAWN: &[(&str, &str)] = &[
     (
         TWO_MESSAGES,
         "<title>m1 b-&gt;a join 1 0/0</title></path><use href='#end' class='end'",
@@ -83,7 +83,7 @@ const ALSO_DRAWN: [(&str, &str); 7] = [
 
 #[test]
 fn messages_stops_and_refusals_are_drawn(rt: HostRuntime) {
-    for (trace, part) in &ALSO_DRAWN {
+    for (trace, part) in ALSO_DRAWN {
         assert!(rt; shows(rt.alloc(), trace, part), "{part}");
     }
 }

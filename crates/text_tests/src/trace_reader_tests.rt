@@ -49,7 +49,7 @@ fn ending_of(alloc: Global, text: &str) -> Result<Option<Ending>, Fail> {
     }
 }
 
-const ENDINGS: [(&str, Ending); 5] = [
+const ENDINGS: &[(&str, Ending)] = &[
     ("> boot a\nact a ok boot a\n", Ending::Taken),
     (
         "> boot a\nact a refused:AlreadySet boot a\n",
@@ -62,7 +62,7 @@ const ENDINGS: [(&str, Ending); 5] = [
 
 #[test]
 fn each_ending_is_read(rt: HostRuntime) -> Result<(), Fail> {
-    for (text, ending) in &ENDINGS {
+    for (text, ending) in ENDINGS {
         assert!(rt; ending_of(rt.alloc(), text)? == Some(*ending), "{text}");
     }
     Ok(())
@@ -95,7 +95,7 @@ fn is_bad(alloc: Global, text: &str, line: usize, why: WhyBad) -> bool {
 }
 
 // Texts that are no trace: which line is the first bad one, and why.
-const BAD: [(&str, usize, WhyBad); 14] = [
+const BAD: &[(&str, usize, WhyBad)] = &[
     ("act a ok boot a\n", 1, WhyBad::Header),
     ("> boot a", 1, WhyBad::NoNewline),
     ("> boot a\n\n", 2, WhyBad::Verb),
@@ -114,7 +114,7 @@ const BAD: [(&str, usize, WhyBad); 14] = [
 
 #[test]
 fn bad_lines_are_named(rt: HostRuntime) -> Result<(), Fail> {
-    for (text, line, why) in &BAD {
+    for (text, line, why) in BAD {
         assert!(rt; is_bad(rt.alloc(), text, *line, *why), "{text}");
     }
     Ok(())

@@ -290,7 +290,7 @@ fn is_publication(alloc: Global, part: Publication, wanted: &str) -> Result<bool
     goes_on(alloc, &text, wanted)
 }
 
-const PUBLICATIONS: [(Publication, &str); 10] = [
+const PUBLICATIONS: &[(Publication, &str)] = &[
     (
         Publication::Value,
         "value 5 _ {\"exclusions\":[],\"master\":null,\"members\":[],\"settings\":{}}",
@@ -323,7 +323,7 @@ const PUBLICATIONS: [(Publication, &str); 10] = [
 
 #[test]
 fn lines_of_publications(rt: HostRuntime) -> Result<(), Fail> {
-    for (part, wanted) in &PUBLICATIONS {
+    for (part, wanted) in PUBLICATIONS {
         assert!(rt; is_publication(rt.alloc(), *part, wanted)?, "{wanted}");
     }
     Ok(())
@@ -370,7 +370,7 @@ fn is_stop(alloc: Global, stop: Stop, wanted: &str) -> Result<bool, AllocError> 
     goes_on(alloc, &text, wanted)
 }
 
-const STOPS: [(Stop, &str); 5] = [
+const STOPS: &[(Stop, &str)] = &[
     (Stop::Crashed, "crashed a\n"),
     (Stop::Down, "down a\n"),
     (Stop::Disk, "disk a\n"),
@@ -380,7 +380,7 @@ const STOPS: [(Stop, &str); 5] = [
 
 #[test]
 fn lines_of_stops(rt: HostRuntime) -> Result<(), Fail> {
-    for (stop, wanted) in &STOPS {
+    for (stop, wanted) in STOPS {
         assert!(rt; is_stop(rt.alloc(), *stop, wanted)?, "{wanted}");
     }
     Ok(())
