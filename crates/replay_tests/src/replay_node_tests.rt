@@ -69,7 +69,7 @@ fn are_restarted(alloc: Global, row: &Row) -> bool {
         && both_hold(stopped_between(alloc, way), zero, one)
 }
 
-const STOPS: [Row; 3] = [
+const STOPS: &[Row] = &[
     (Way::Lost, b"ab", b"xyz"),
     (Way::Kept, b"abcd", b"xwz"),
     (Way::Torn(b'q'), b"abqq", b"xqz"),
@@ -77,7 +77,7 @@ const STOPS: [Row; 3] = [
 
 #[test]
 fn a_restarted_disk_holds_what_the_stop_left_on_both_sides(rt: HostRuntime) {
-    for row in &STOPS {
+    for row in STOPS {
         assert!(rt; are_restarted(rt.alloc(), row));
     }
 }

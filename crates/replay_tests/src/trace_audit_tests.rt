@@ -40,7 +40,7 @@ pub const UNSENT: &str = "initial a,b,c\n\
     > deliver a 2\nact a ok join b a 2 0/0\nwon a 1\n";
 
 // Texts that are bad, whatever they show.
-const BAD: [(&str, &str); 26] = [
+const BAD: &[(&str, &str)] = &[
     ("", "zen: bad trace at line 1: Header\n"),
     ("initial a,b,c\nfoo\n", "zen: bad trace at line 2: Word\n"),
     ("initial a,b,c", "zen: bad trace at line 1: NoNewline\n"),
@@ -118,7 +118,7 @@ const BAD: [(&str, &str); 26] = [
 ];
 
 // What stands after the election, and the verdict.
-const CLAUSES: [(&str, &str); 25] = [
+const CLAUSES: &[(&str, &str)] = &[
     // a restart
     (
         "crashed a\nrecord a 1 0/0 a,b,c a,b,c\nact a refused:NotStarted join a a 1 0/0\n",
@@ -220,19 +220,19 @@ fn judges_all(rt: &impl Abort, alloc: Global, rows: &[(&str, &str)]) -> Result<(
     Ok(())
 }
 
-const ELECTIONS: [(&str, &str); 2] = [
+const ELECTIONS: &[(&str, &str)] = &[
     (ELECTION, "legal=8\nwinners=1\ncommitted=0\nwon a 1\n"),
     (UNSENT, "zen: line 20: Unsent\n"),
 ];
 
 #[test]
 fn an_election_is_legal(rt: HostRuntime) -> Result<(), Fail> {
-    judges_all(&rt, rt.alloc(), &ELECTIONS)
+    judges_all(&rt, rt.alloc(), ELECTIONS)
 }
 
 #[test]
 fn bad_texts_are_refused_by_their_first_bad_line(rt: HostRuntime) -> Result<(), Fail> {
-    judges_all(&rt, rt.alloc(), &BAD)
+    judges_all(&rt, rt.alloc(), BAD)
 }
 
 // Whether this is the verdict on the election and what stands after it.
@@ -244,7 +244,7 @@ fn is_judged_after(alloc: Global, more: &str, line: &str) -> Result<bool, Fail> 
 
 #[test]
 fn the_first_clause_that_breaks_is_named(rt: HostRuntime) -> Result<(), Fail> {
-    for (more, line) in &CLAUSES {
+    for (more, line) in CLAUSES {
         let is_judged = is_judged_after(rt.alloc(), more, line)?;
         assert!(rt; is_judged, "{more}");
     }
@@ -252,7 +252,7 @@ fn the_first_clause_that_breaks_is_named(rt: HostRuntime) -> Result<(), Fail> {
 }
 
 // The state that is published, in two spellings, one with another value, and one with another parent; and the verdict on what comes of it.
-const STATES: [(&str, &str); 4] = [
+const STATES: &[(&str, &str)] = &[
     (
         "{\"committed\":[\"a\",\"b\",\"c\"],\"config\":[\"a\",\"b\",\"c\"],\"parent\":{\"term\":0,\"version\":0},\"term\":1,\"value\":{\"exclusions\":[],\"master\":null,\"members\":[],\"settings\":{\"v\":\"x\"}},\"version\":1}",
         "legal=14\nwinners=1\ncommitted=1\nwon a 1\n",
@@ -272,7 +272,7 @@ const STATES: [(&str, &str); 4] = [
 ];
 
 // A publication, up to each place where its state stands.
-const PUBLICATION: [&str; 2] = [
+const PUBLICATION: &[&str] = &[
     "> value a 1 x a,b,c\n\
     act a ok value 1 a,b,c {\"exclusions\":[],\"master\":null,\"members\":[],\"settings\":{\"v\":\"x\"}}\n\
     m4 a->* publish\n\
@@ -288,7 +288,7 @@ const COMMIT: &str = "\nm6 b->a response 1/1\n\
 // A publication after the election, and all that comes of it.
 fn published(alloc: Global, state: &str) -> Result<String, AllocError> {
     let mut text = String::new(alloc);
-    for part in &PUBLICATION {
+    for part in PUBLICATION {
         text.push_str(part)?;
         text.push_str(state)?;
     }
@@ -303,7 +303,7 @@ fn is_taken(alloc: Global, state: &str, line: &str) -> Result<bool, Fail> {
 
 #[test]
 fn a_state_that_is_taken_is_the_one_that_was_published(rt: HostRuntime) -> Result<(), Fail> {
-    for (state, line) in &STATES {
+    for (state, line) in STATES {
         let is_taken = is_taken(rt.alloc(), state, line)?;
         assert!(rt; is_taken, "{state}");
     }

@@ -78,41 +78,41 @@ fn replays_all(rt: &impl Abort, alloc: Global, level: Level, rows: &[Traced]) ->
 
 #[test]
 fn elections_and_publications_have_these_traces(rt: HostRuntime) -> Result<(), Fail> {
-    replays_all(&rt, rt.alloc(), Level::Core, &RULES)
+    replays_all(&rt, rt.alloc(), Level::Core, RULES)
 }
 
 #[test]
 fn stops_faults_and_restarts_have_these_traces(rt: HostRuntime) -> Result<(), Fail> {
-    replays_all(&rt, rt.alloc(), Level::Core, &STOPS)
+    replays_all(&rt, rt.alloc(), Level::Core, STOPS)
 }
 
 #[test]
 fn elections_that_would_be_unsafe_without_one_guard_are_refused(
     rt: HostRuntime,
 ) -> Result<(), Fail> {
-    replays_all(&rt, rt.alloc(), Level::Core, &SAFE_JOINS)
+    replays_all(&rt, rt.alloc(), Level::Core, SAFE_JOINS)
 }
 
 #[test]
 fn values_that_would_be_unsafe_without_one_guard_are_refused(rt: HostRuntime) -> Result<(), Fail> {
-    replays_all(&rt, rt.alloc(), Level::Core, &SAFE_VALUES)
+    replays_all(&rt, rt.alloc(), Level::Core, SAFE_VALUES)
 }
 
 #[test]
 fn commits_that_would_be_unsafe_without_one_guard_are_refused(rt: HostRuntime) -> Result<(), Fail> {
-    replays_all(&rt, rt.alloc(), Level::Core, &SAFE_COMMITS)
+    replays_all(&rt, rt.alloc(), Level::Core, SAFE_COMMITS)
 }
 
 #[test]
 fn publications_that_would_be_unsafe_without_one_guard_are_refused(
     rt: HostRuntime,
 ) -> Result<(), Fail> {
-    replays_all(&rt, rt.alloc(), Level::Core, &SAFE_PUBLICATIONS)
+    replays_all(&rt, rt.alloc(), Level::Core, SAFE_PUBLICATIONS)
 }
 
 #[test]
 fn whole_nodes_have_these_traces(rt: HostRuntime) -> Result<(), Fail> {
-    replays_all(&rt, rt.alloc(), Level::Node, &WHOLE_NODES)
+    replays_all(&rt, rt.alloc(), Level::Node, WHOLE_NODES)
 }
 
 // A node that has elected itself is handed so many puts of different keys, while it publishes the first of them.
@@ -152,7 +152,7 @@ enum Strike {
 }
 
 // Each strike with its line, up to the number of the call and after it.
-const STRIKES: [(Strike, &str, &str); 5] = [
+const STRIKES: &[(Strike, &str, &str)] = &[
     (Strike::FuseNone, "fuse a ", " none\n"),
     (Strike::FuseAll, "fuse a ", " all\n"),
     (Strike::FuseOpen, "fuse a ", " torn:01\n"),
@@ -258,7 +258,7 @@ fn is_found_again(
 
 #[test]
 fn what_a_struck_device_call_leaves_is_found_again(rt: HostRuntime) -> Result<(), Fail> {
-    for (strike, line, end_of_line) in &STRIKES {
+    for (strike, line, end_of_line) in STRIKES {
         for call in 1..=20 {
             let is_found = is_found_again(rt.alloc(), *strike, call, line, end_of_line)?;
             assert!(rt; is_found, "{line}{call}{end_of_line}");
@@ -269,7 +269,7 @@ fn what_a_struck_device_call_leaves_is_found_again(rt: HostRuntime) -> Result<()
 
 // Terms of node a that begin a generation, and how many device calls that takes: 1,424 terms are a full tail, and the side of the
 // second generation has records already.
-const RENEWALS: [(u64, u64); 2] = [(1_425, 4), (2_850, 6)];
+const RENEWALS: &[(u64, u64)] = &[(1_425, 4), (2_850, 6)];
 
 fn write_terms(text: &mut Text, first: u64, last: u64) -> Result<(), AllocError> {
     for term in first..=last {
@@ -326,7 +326,7 @@ fn is_renewed_or_not(
 }
 
 fn strike_renewal(alloc: Global, term: u64, calls: u64) -> Result<(), Fail> {
-    for (strike, line, end) in &STRIKES {
+    for (strike, line, end) in STRIKES {
         for call in 1..=calls {
             if !is_renewed_or_not(alloc, *strike, term, (call, calls), (*line, *end))? {
                 return Err(Fail::new(format_args!("term {term}, {line}{call}{end}")));
@@ -338,14 +338,14 @@ fn strike_renewal(alloc: Global, term: u64, calls: u64) -> Result<(), Fail> {
 
 #[test]
 fn a_renewal_that_is_struck_leaves_one_of_two_terms(rt: HostRuntime) -> Result<(), Fail> {
-    for (term, calls) in &RENEWALS {
+    for (term, calls) in RENEWALS {
         strike_renewal(rt.alloc(), *term, *calls)?;
     }
     Ok(())
 }
 
 // Schedules that are none, each with what is written of its first bad line.
-const BAD_LINES: [(Level, &[u8], &[u8]); 12] = [
+const BAD_LINES: &[(Level, &[u8], &[u8])] = &[
     (
         Level::Node,
         b"nodes a\ninitial a\nboot a\n",
@@ -429,11 +429,11 @@ fn is_refused(
 
 #[test]
 fn the_first_bad_line_and_its_reason_are_written(rt: HostRuntime) -> Result<(), Fail> {
-    refuse_each(rt.alloc(), &BAD_LINES)
+    refuse_each(rt.alloc(), BAD_LINES)
 }
 
 // A text that is one byte too big: what it begins with, what the rest of it is made of, how often, and its fault.
-const TOO_BIG: [(&[u8], &[u8], usize, &[u8]); 2] = [
+const TOO_BIG: &[(&[u8], &[u8], usize, &[u8])] = &[
     (
         b"",
         b"\n",
@@ -477,7 +477,7 @@ fn is_too_big(
 fn a_schedule_of_16_777_217_bytes_is_refused_at_its_first_bad_line(
     rt: HostRuntime,
 ) -> Result<(), Fail> {
-    for (prefix, part, count, line) in &TOO_BIG {
+    for (prefix, part, count, line) in TOO_BIG {
         let is_refused = is_too_big(rt.alloc(), prefix, part, *count, line)?;
         assert!(rt; is_refused, "{count}");
     }
@@ -510,7 +510,7 @@ fn ends_unread(
     ends(alloc, &case, status, Written::Whole(text), asked)
 }
 
-const OTHERS: [&[&str]; 9] = [
+const OTHERS: &[&[&str]] = &[
     &["replay", "--level", "none"],
     &["replay", "--level", "node", "core"],
     &["replay", "--level"],
@@ -532,7 +532,7 @@ fn other_words_are_a_usage_and_nothing_is_read_or_opened(rt: HostRuntime) -> Res
 }
 
 // Words, what is written first, and how many calls of the host are made.
-const IN_ONE_WORD: [(&[&str], &[u8], usize); 2] = [
+const IN_ONE_WORD: &[(&[&str], &[u8], usize)] = &[
     (
         &["replay", "--level=core"],
         b"> boot a\nact a ok boot a\n",
@@ -557,7 +557,7 @@ fn begins(
 
 #[test]
 fn an_option_may_stand_in_one_word_with_its_value(rt: HostRuntime) -> Result<(), Fail> {
-    for (words, text, asked) in &IN_ONE_WORD {
+    for (words, text, asked) in IN_ONE_WORD {
         let begins = begins(rt.alloc(), words, text, *asked)?;
         assert!(rt; begins, "{asked}");
     }
@@ -570,7 +570,7 @@ const ELECTION: &[Passage] = &[THREE_BOOT, THREE_JOIN, A_WINS_OF_THREE];
 // The numbers of the reads and writes that fail, and the status that comes of it.
 type Fault = (&'static str, &'static [u64], &'static [u64], Status);
 
-const FAULTS: [Fault; 3] = [
+const FAULTS: &[Fault] = &[
     ("the second read", &[2], &[], Status::ReadFault),
     ("the first write", &[], &[1], Status::WriteFault),
     ("the third write", &[], &[3], Status::WriteFault),
@@ -599,7 +599,7 @@ fn ends_by(
 #[test]
 fn a_fault_of_the_input_or_output_ends_the_run(rt: HostRuntime) -> Result<(), Fail> {
     let (schedule, trace) = texts(rt.alloc(), THREE, ELECTION)?;
-    for fault in &FAULTS {
+    for fault in FAULTS {
         let (name, _, _, _) = fault;
         let ends = ends_by(rt.alloc(), &schedule, &trace, fault)?;
         assert!(rt; ends, "{name}");
@@ -621,7 +621,7 @@ const ONE_STEP: &[u8] =
 
 // Words that read no input, the status, what is written, and how many calls of the host are made. The first node of the trial can't be
 // started.
-const DRAWN_OR_TRIED: [(&[&str], Status, &[u8], usize); 4] = [
+const DRAWN_OR_TRIED: &[(&[&str], Status, &[u8], usize)] = &[
     (
         &["generate", "--number", "7", "--steps", "0"],
         Status::Ok,
@@ -667,7 +667,7 @@ fn a_schedule_is_drawn_and_a_trial_asks_for_its_nodes(rt: HostRuntime) -> Result
     Ok(())
 }
 
-const CODES: [(Status, u8); 16] = [
+const CODES: &[(Status, u8)] = &[
     (Status::Ok, 0),
     (Status::Usage, 2),
     (Status::BadSchedule, 3),
@@ -688,14 +688,14 @@ const CODES: [(Status, u8); 16] = [
 
 #[test]
 fn each_status_has_its_exit_code(rt: HostRuntime) {
-    for (status, code) in &CODES {
+    for (status, code) in CODES {
         assert!(rt; status.code() == *code, "{code}");
     }
 }
 
 // Seeds whose schedules elect, commit, crash and fail most, and what a second replay, in another language, makes of those schedules: a trace of so
 // many bytes, whose SHA-256 begins so.
-const DRAWN: [(u64, usize, &[u8]); 5] = [
+const DRAWN: &[(u64, usize, &[u8])] = &[
     (1_045, 12_412, b"\x24\xa3\x50\x19\x08\x49\x2b\x75"),
     (1_254, 13_776, b"\x43\xcf\xca\x56\xc8\xe4\x53\xc0"),
     (1_703, 14_130, b"\x42\xa3\x12\x0c\x37\xaa\x00\x58"),
@@ -743,7 +743,7 @@ fn is_replayed(alloc: Global, seed: u64, length: usize, digest: &[u8]) -> Result
 
 #[test]
 fn random_schedules_replay_as_by_the_second_replay(rt: HostRuntime) -> Result<(), Fail> {
-    for (seed, length, digest) in &DRAWN {
+    for (seed, length, digest) in DRAWN {
         let is_replayed = is_replayed(rt.alloc(), *seed, *length, digest)?;
         assert!(rt; is_replayed, "{seed}");
     }

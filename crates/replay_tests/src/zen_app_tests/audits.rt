@@ -10,7 +10,7 @@ const AUDIT: &[&str] = &["audit"];
 const ONE_BOOT: &[u8] = b"initial a\nact a ok boot a\n";
 
 // A recorded trace, the status, and what is written.
-const TRACES: [(&str, Status, &[u8]); 4] = [
+const TRACES: &[(&str, Status, &[u8])] = &[
     (
         ELECTION,
         Status::Ok,
@@ -37,19 +37,19 @@ fn is_judged(alloc: Global, trace: &str, status: Status, text: &[u8]) -> Result<
 
 #[test]
 fn an_audit_says_whether_a_trace_is_legal(rt: HostRuntime) -> Result<(), Fail> {
-    for (trace, status, text) in &TRACES {
+    for (trace, status, text) in TRACES {
         let is_judged = is_judged(rt.alloc(), trace, *status, text)?;
         assert!(rt; is_judged, "{trace}");
     }
     Ok(())
 }
 
-const FAULTS: [Fault; 2] = [
+const FAULTS: &[Fault] = &[
     (ONE_BOOT, Call::Read, &[1], Status::ReadFault, b""),
     (ONE_BOOT, Call::Write, &[1], Status::WriteFault, b""),
 ];
 
 #[test]
 fn an_audit_ends_at_a_fault(rt: HostRuntime) -> Result<(), Fail> {
-    all_end_by(&rt, rt.alloc(), AUDIT, &FAULTS, 0)
+    all_end_by(&rt, rt.alloc(), AUDIT, FAULTS, 0)
 }

@@ -52,7 +52,7 @@ const RENEWED_SHOWN: &[u8] =
     b"term=4682\naccepted=0/0\nconfig=_\ncommitted=_\nrecords=1\nsha256=9d908ecfb6b256de";
 
 // Two files that are a journal, and what is shown of it first.
-const SHOWN: [(&[u8], &[u8], &[u8]); 13] = [
+const SHOWN: &[(&[u8], &[u8], &[u8])] = &[
     (b"", b"", EMPTY_SHOWN),
     (b"ABCDEFGHI", b"", EMPTY_SHOWN),
     (b"ZENJRNL1\x02\0\0\0\x01\x05", b"", EMPTY_SHOWN),
@@ -104,7 +104,7 @@ fn inspect_each(alloc: Global, rows: &[(&[u8], &[u8], &[u8])], status: Status) -
 // Also that of two generations the newer one is shown.
 #[test]
 fn the_journal_in_a_folder_is_shown(rt: HostRuntime) -> Result<(), Fail> {
-    inspect_each(rt.alloc(), &SHOWN, Status::Ok)
+    inspect_each(rt.alloc(), SHOWN, Status::Ok)
 }
 
 // Whether a side has the nine bytes of a journal with no record.
@@ -130,7 +130,7 @@ fn an_empty_folder_gets_an_empty_journal(rt: HostRuntime) -> Result<(), Fail> {
 }
 
 // Two files that are no journal, and what is written of their first fault.
-const OTHER_FILES: [(&[u8], &[u8], &[u8]); 20] = [
+const OTHER_FILES: &[(&[u8], &[u8], &[u8])] = &[
     (b"ABCDEFGHIJ", b"", b"zen: not a journal: Header\n"),
     (CUT, b"", b"zen: not a journal: Cut(8)\n"),
     (b"ZENJRNL1\x01\0\0\0", b"", b"zen: not a journal: Cut(8)\n"),
@@ -185,7 +185,7 @@ const OTHER_FILES: [(&[u8], &[u8], &[u8]); 20] = [
 fn files_that_are_no_journal_are_refused_for_their_first_fault(
     rt: HostRuntime,
 ) -> Result<(), Fail> {
-    inspect_each(rt.alloc(), &OTHER_FILES, Status::NotAJournal)
+    inspect_each(rt.alloc(), OTHER_FILES, Status::NotAJournal)
 }
 
 // Whether an inspection of this file whose device calls of these numbers fail ends with that.
@@ -198,11 +198,13 @@ fn fails<'a>(alloc: Global, file: &'a [u8], calls: &'a [u64]) -> Result<bool, Al
     ends(alloc, &case, Status::DiskFault, Written::Whole(b""), 1)
 }
 
-// Opening makes four device calls for each side that is empty, and three for one with a journal.
+// A file, and how many device calls opening makes: four for each side that is empty, and three for one with a journal.
+const OPENINGS: &[(&[u8], u64)] = &[(b"", 8), (TERM_ONE, 7)];
+
 #[test]
 fn a_fault_of_the_disk_ends_an_inspection(rt: HostRuntime) -> Result<(), Fail> {
-    for (file, calls) in [(b"".as_slice(), 8), (TERM_ONE, 7)] {
-        for call in 1..=calls {
+    for (file, calls) in OPENINGS {
+        for call in 1..=*calls {
             let fails = fails(rt.alloc(), file, &[call])?;
             assert!(rt; fails, "{call}");
         }
@@ -211,7 +213,7 @@ fn a_fault_of_the_disk_ends_an_inspection(rt: HostRuntime) -> Result<(), Fail> {
 }
 
 // The first two rows: no call of the disk comes after the eight that open two empty files, or the seven that open one journal.
-const FAULTS: [Fault; 5] = [
+const FAULTS: &[Fault] = &[
     (b"", Call::Device, &[9], Status::Ok, b"term=0\n"),
     (TERM_ONE, Call::Device, &[8], Status::Ok, b"term=1\n"),
     (TERM_ONE, Call::Opening, &[1], Status::HostFault, b""),
@@ -221,5 +223,5 @@ const FAULTS: [Fault; 5] = [
 
 #[test]
 fn a_fault_of_the_host_or_the_output_ends_an_inspection(rt: HostRuntime) -> Result<(), Fail> {
-    all_end_by(&rt, rt.alloc(), INSPECT.words, &FAULTS, 1)
+    all_end_by(&rt, rt.alloc(), INSPECT.words, FAULTS, 1)
 }

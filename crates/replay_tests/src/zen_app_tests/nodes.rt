@@ -46,7 +46,7 @@ type End = (
     usize,
 );
 
-const ENDS: [End; 3] = [
+const ENDS: &[End] = &[
     // it takes its turns
     (
         THREE_TURNS,
@@ -94,14 +94,14 @@ fn a_node_ends_with_what_it_has_met(rt: HostRuntime) -> Result<(), Fail> {
 }
 
 // There is no folder, and the disk fails as it is opened.
-const EARLY_FAULTS: [Fault; 2] = [
+const EARLY_FAULTS: &[Fault] = &[
     (b"", Call::Opening, &[1], Status::HostFault, b""),
     (b"", Call::Device, &[1], Status::DiskFault, b""),
 ];
 
 // There is no link, it fails, and the disk and the output do. The opening of two empty files makes eight device calls: the ninth is the
 // first one of the first act.
-const FAULTS: [Fault; 4] = [
+const FAULTS: &[Fault] = &[
     (b"", Call::Opening, &[2], Status::HostFault, b""),
     (
         b"",
@@ -128,8 +128,8 @@ const FAULTS: [Fault; 4] = [
 
 #[test]
 fn a_node_ends_at_a_fault(rt: HostRuntime) -> Result<(), Fail> {
-    all_end_by(&rt, rt.alloc(), THREE_TURNS, &EARLY_FAULTS, 1)?;
-    all_end_by(&rt, rt.alloc(), THREE_TURNS, &FAULTS, 2)
+    all_end_by(&rt, rt.alloc(), THREE_TURNS, EARLY_FAULTS, 1)?;
+    all_end_by(&rt, rt.alloc(), THREE_TURNS, FAULTS, 2)
 }
 
 #[test]

@@ -7,7 +7,7 @@ use text::Boxed;
 use voting_config::{NodeId, NodeSet};
 use zen_disk::Way;
 
-const NAMES: [&str; 5] = ["a", "b-2", "0", "node-of-thirty-two-bytes-0123456", "z9"];
+const NAMES: &[&str] = &["a", "b-2", "0", "node-of-thirty-two-bytes-0123456", "z9"];
 
 const TEXTS: [&str; 3] = ["x", "a-value", "0123456789abcdefghijklmnopqrstuv"];
 

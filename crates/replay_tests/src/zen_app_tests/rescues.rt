@@ -68,7 +68,7 @@ type Answer = (
     &'static [u8],
 );
 
-const ANSWERS: [Answer; 18] = [
+const ANSWERS: &[Answer] = &[
     // two of three go on
     (ELECTED, UP_A_AND_B, Status::Ok, GOES_ON),
     // one of three does not
@@ -208,7 +208,7 @@ fn a_schedule_is_gone_on_with_or_it_is_said_why_not(rt: HostRuntime) -> Result<(
 }
 
 // The last two: the first write of a plan, and that of a refusal.
-const FAULTS: [Fault; 3] = [
+const FAULTS: &[Fault] = &[
     (ELECTED, Call::Read, &[1], Status::ReadFault, b""),
     (ELECTED, Call::Write, &[1], Status::WriteFault, b""),
     (b"", Call::Write, &[1], Status::WriteFault, b""),
@@ -216,7 +216,7 @@ const FAULTS: [Fault; 3] = [
 
 #[test]
 fn a_rescue_ends_at_a_fault(rt: HostRuntime) -> Result<(), Fail> {
-    all_end_by(&rt, rt.alloc(), UP_A_AND_B, &FAULTS, 0)
+    all_end_by(&rt, rt.alloc(), UP_A_AND_B, FAULTS, 0)
 }
 
 fn joined(alloc: Global, prefix: &[u8], rest: &[u8]) -> Result<Vec<u8>, AllocError> {
@@ -235,7 +235,7 @@ fn goes_on(alloc: Global, case: &Case<'_>, ending: &[u8]) -> Result<bool, AllocE
 
 // The steps of the schedule of number 7, counted from 0, that send a message. With them a generator in another language drew a schedule whose trace has
 // the digest that `generate` writes.
-const SENDS: [u64; 30] = [
+const SENDS: &[u64] = &[
     7, 9, 14, 26, 30, 93, 101, 108, 111, 121, 127, 148, 325, 351, 356, 400, 470, 518, 572, 634,
     691, 738, 804, 805, 833, 895, 904, 906, 908, 915,
 ];
@@ -259,7 +259,7 @@ fn drawn(alloc: Global, steps: u64) -> Result<Text, AllocError> {
 }
 
 // After 1,000 lines b is down, a and d have an order left, and c is alone. After 900 a and b are up, in terms 1 and 9.
-const DRAWN: [(&[&str], &str); 3] = [
+const DRAWN: &[(&[&str], &str)] = &[
     (
         &["rescue", "--up", "c"],
         "zen: no rescue: NoQuorum(1/3,0/2)\n",
@@ -287,7 +287,8 @@ fn drawn_lines_go_on(alloc: Global) -> Result<bool, AllocError> {
 fn drawn_lines_are_refused(alloc: Global) -> Result<bool, AllocError> {
     let text = drawn(alloc, 1000)?;
     let mut are_refused = true;
-    for (words, line) in DRAWN {
+    for row in DRAWN {
+        let (words, line) = *row;
         let case = Case {
             words,
             input: text.as_bytes(),

@@ -11,7 +11,7 @@ use super::passages::*;
 pub type Traced = (&'static str, Passage, &'static [Passage]);
 
 /// Elections, values and commits.
-pub const RULES: [Traced; 10] = [
+pub const RULES: &[Traced] = &[
     (
         "three nodes elect a master",
         THREE,
@@ -190,7 +190,7 @@ pub const RULES: [Traced; 10] = [
 ];
 
 /// Stops, faults and restarts.
-pub const STOPS: [Traced; 9] = [
+pub const STOPS: &[Traced] = &[
     (
         "joins count in their round alone",
         THREE,
@@ -357,7 +357,7 @@ pub const STOPS: [Traced; 9] = [
 ];
 
 /// The shortest schedules that would be unsafe, or break what safety rests on, were one guard left out: those of a first configuration, of starting a join, of joins and of an election.
-pub const SAFE_JOINS: [Traced; 11] = [
+pub const SAFE_JOINS: &[Traced] = &[
     (
         "joins are counted after a restart only once a join was started",
         ONE,
@@ -645,7 +645,7 @@ pub const SAFE_JOINS: [Traced; 11] = [
 ];
 
 /// The shortest schedules that would be unsafe, or break what safety rests on, were one guard left out: those of values and of accepting a published state.
-pub const SAFE_VALUES: [Traced; 8] = [
+pub const SAFE_VALUES: &[Traced] = &[
     (
         "no second reconfiguration",
         TWO_VOTER_A,
@@ -888,7 +888,7 @@ pub const SAFE_VALUES: [Traced; 8] = [
 ];
 
 /// The shortest schedules that would be unsafe, or break what safety rests on, were one guard left out: those of responses and commits.
-pub const SAFE_COMMITS: [Traced; 3] = [
+pub const SAFE_COMMITS: &[Traced] = &[
     (
         "no commit while publishing a new configuration",
         TWO_VOTER_A,
@@ -1030,7 +1030,7 @@ pub const SAFE_COMMITS: [Traced; 3] = [
 ];
 
 // The same of answers to a publication, and of the quorums that it wants.
-pub const SAFE_PUBLICATIONS: [Traced; 4] = [
+pub const SAFE_PUBLICATIONS: &[Traced] = &[
     (
         "commit without VersionMismatch",
         TWO_VOTER_A,
@@ -1163,7 +1163,7 @@ pub const SAFE_PUBLICATIONS: [Traced; 4] = [
 ];
 
 /// Whole nodes: elections, requests of clients, and stops.
-pub const WHOLE_NODES: [Traced; 7] = [
+pub const WHOLE_NODES: &[Traced] = &[
     (
         "a node elects itself, and acks a put at its commit",
         ONE,

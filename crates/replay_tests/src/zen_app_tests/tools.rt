@@ -30,7 +30,7 @@ type Use = (
     &'static [u8],
 );
 
-const USES: [Use; 6] = [
+const USES: &[Use] = &[
     (
         GO_ALONE,
         COMMITTED,
@@ -82,7 +82,7 @@ fn a_tool_changes_a_record_or_refuses_it(rt: HostRuntime) -> Result<(), Fail> {
 }
 
 // The first call of the disk after the seven that open it, the host, and the output.
-const FAULTS: [Fault; 3] = [
+const FAULTS: &[Fault] = &[
     (COMMITTED, Call::Device, &[8], Status::DiskFault, b""),
     (COMMITTED, Call::Opening, &[1], Status::HostFault, b""),
     (COMMITTED, Call::Write, &[1], Status::WriteFault, b""),
@@ -90,5 +90,5 @@ const FAULTS: [Fault; 3] = [
 
 #[test]
 fn a_tool_ends_at_a_fault(rt: HostRuntime) -> Result<(), Fail> {
-    all_end_by(&rt, rt.alloc(), GO_ALONE, &FAULTS, 1)
+    all_end_by(&rt, rt.alloc(), GO_ALONE, FAULTS, 1)
 }
