@@ -121,16 +121,6 @@ impl Sent {
     }
 }
 
-fn started(
-    alloc: Global,
-    name: &str,
-    names: &[&str],
-    voters: &[&str],
-    voting_only: &[&str],
-) -> Result<Member, Fail> {
-    Member::start(alloc, settings_of(alloc, name, names, voters, voting_only)?)
-}
-
 // Nodes, and all frames that they sent, in order.
 #[derive(Drop)]
 struct World {
@@ -147,15 +137,27 @@ impl World {
         voters: &[&str],
         voting_only: &[&str],
     ) -> Result<World, Fail> {
-        let mut members = Vec::new(alloc);
-        for name in names {
-            members.push(started(alloc, name, names, voters, voting_only)?)?;
-        }
-        Ok(World {
+        let mut world = World {
             alloc,
-            members,
+            members: Vec::new(alloc),
             sent: Vec::new(alloc),
-        })
+        };
+        for name in names {
+            world.start(name, names, voters, voting_only)?;
+        }
+        Ok(world)
+    }
+
+    fn start(
+        &mut self,
+        name: &str,
+        names: &[&str],
+        voters: &[&str],
+        voting_only: &[&str],
+    ) -> Result<(), Fail> {
+        let settings = settings_of(self.alloc, name, names, voters, voting_only)?;
+        self.members.push(Member::start(self.alloc, settings)?)?;
+        Ok(())
     }
 
     fn place_of(&self, name: NodeId) -> usize {
@@ -255,11 +257,16 @@ impl World {
         Ok(())
     }
 
+    // The event shows these lines.
+    fn event_shows(&mut self, event: &str, lines: &[&str]) -> Result<(), Fail> {
+        let text = self.happens(event)?;
+        is_shown(event, &text, lines)
+    }
+
     // Each event shows the lines behind it.
     fn follows(&mut self, rows: &[(&str, &[&str])]) -> Result<(), Fail> {
         for (event, lines) in rows {
-            let text = self.happens(event)?;
-            is_shown(event, &text, lines)?;
+            self.event_shows(event, lines)?;
         }
         Ok(())
     }
@@ -414,11 +421,17 @@ fn put(alloc: Global, number: u64) -> Result<String, AllocError> {
     )
 }
 
+fn put_one(world: &mut World, number: u64) -> Result<(), Fail> {
+    let event = put(world.alloc, number)?;
+    let _ = world.happens(event.as_str())?;
+    Ok(())
+}
+
 // A leader of 64 puts, of which it publishes the first.
 fn full(alloc: Global) -> Result<World, Fail> {
     let mut world = leader(alloc)?;
     for number in 1..=64 {
-        let _ = world.happens(put(alloc, number)?.as_str())?;
+        put_one(&mut world, number)?;
     }
     Ok(world)
 }
@@ -666,9 +679,10 @@ const TO_NOBODY: Passage = &[
     ("tick a 21 7", &[]),
 ];
 
+const ABC: &[&str] = &["a", "b", "c"];
+
 fn hands_over_past(alloc: Global, voting_only: &[&str], passage: Passage) -> Result<(), Fail> {
-    let names = ["a", "b", "c"];
-    let mut world = World::of(alloc, names.as_slice(), names.as_slice(), voting_only)?;
+    let mut world = World::of(alloc, ABC, ABC, voting_only)?;
     world.follows(EXCLUDED)?;
     world.follows(passage)
 }
@@ -746,7 +760,7 @@ const DROPS: Passage = &[
 fn a_leader_drops_who_lags_and_who_fails_its_checks_by_ascending_id(
     rt: HostRuntime,
 ) -> Result<(), Fail> {
-    follow(rt.alloc(), &["a", "b", "c"], &["a"], DROPS)
+    follow(rt.alloc(), ABC, &["a"], DROPS)
 }
 
 // Two voters find each other, and a asks b for a pre-vote. An answer of the last term ends the round, so that a further one

@@ -7,10 +7,12 @@ fn id(text: &str) -> NodeId {
     NodeId::parse(text).unwrap_or_default()
 }
 
+const LISTED: &[&str] = &["b", "a", "b"];
+
 #[test]
 fn listed_peers_keep_their_order(rt: HostRuntime) {
     let mut ids = Vec::new(rt.alloc());
-    for text in ["b", "a", "b"] {
+    for text in LISTED {
         assert!(rt; ids.push(id(text)).is_ok());
     }
     let settings = Settings {
