@@ -25,8 +25,8 @@ pub enum IdError {
 /// The name of a node: 1 to 32 bytes of `a-z`, `0-9` and `-`, ordered by its bytes. Contracts see its bytes.
 #[derive(Clone, Copy)]
 pub struct NodeId {
-    // Behind an id of fewer than 32 bytes stand zeros, and in the last place how many bytes it has, which is less than any byte of an id. So an
-    // id takes no place for its length, of which a set has 32.
+    // Behind an id of fewer than 32 bytes stand zeros, and in the last place how many bytes it has, which is less than any byte of an id.
+    // So its length takes no place of its own, of which a set would have 32.
     bytes: [u8; 32],
 }
 
