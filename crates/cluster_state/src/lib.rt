@@ -40,4 +40,6 @@ pub use shared::{SharedConfig, SharedState, SharedValue};
 pub use state::{ClusterState, ClusterValue, Kept, LAST_NUMBER, StateId};
 pub use text::Text;
 pub use view::StateView;
-pub use writing::{write_flag, write_id, write_ids, write_optional_id, write_state_id, write_term};
+pub use writing::{
+    write_flag, write_id, write_id_list, write_ids, write_optional_id, write_state_id, write_term,
+};

@@ -7,6 +7,5 @@ use Rattle.coordinator.specs.declared.sending.Broadcast.TheVariants as broadcast
 abbrev pub message_of : Broadcast → WireMessage
 message_of (broadcast.StartJoin candidate term) = message.StartJoin candidate term
 message_of (broadcast.Commit id) = message.Commit id
-message_of (broadcast.PeersAsk known) = message.PeersAsk known
 message_of broadcast.PreVoteAsk = message.PreVoteAsk
 message_of (broadcast.FollowerCheck term) = message.FollowerCheck term

@@ -7,6 +7,7 @@ pub mod Does
 pub mod Rooms
 pub mod Plans
 pub mod Broadcasts
+pub mod Asks
 pub mod Commits
 pub mod Ahead
 pub mod Ticks

@@ -1,22 +1,24 @@
 //! How nodes find each other, and a master to join.
-ghost use Rattle.std.specs.Prelude.{◌≡◌, ◌≤◌, ◌<◌, [], ◌∷◌, true, length, is_ok};
+ghost use Rattle.std.specs.Prelude.{◌≡◌, ◌≤◌, ◌<◌, [], ◌∷◌, true, length, is_ok, IfOk};
 ghost use Rattle.voting_config.specs.Ids.{most_ids, with_id};
 ghost use Rattle.policy_model.specs.Events.{Notes, Met, Heard};
 ghost use Rattle.policy_model.specs.Doing.{is_candidate as is_candidate_of, leader_of as leader_of_mode, then_rule};
 ghost use Rattle.policy_model.specs.Discovery.{is_node as is_node_of, meets_first, asks_peers, answers_peers, on_peers_ask, seeks_master, hears_peer, on_peers_answer};
 ghost use Rattle.policy_model.specs.Parts.{met};
+ghost use Rattle.coordinator.specs.Asks.{ArePlannedAsks};
 ghost use Rattle.coordinator.specs.Does.{Does, DoesAll};
 ghost use Rattle.coordinator.specs.Rooms.{Uses, to_set};
 ghost use Rattle.coordinator.specs.Views.{IsReady};
 
 use crate::coordinator::{Acted, Coordinator, EventError};
-use crate::output::Output;
-use crate::sending::Broadcast;
+use crate::output::{Listed, Output};
+use crate::plan::ask_frames;
 use peer_finder::PeerFinder;
 use policy_model::Mode;
 use state_journal::Keeper;
-use voting_config::{NodeId, NodeSet};
-use wire_frames::WireMessage;
+use std::alloc::{AllocError, Global};
+use voting_config::{IdList, IdRoom, MAX_IDS, NodeId, NodeSet};
+use wire_frames::{Frame, WireMessage};
 
 /// Whether a node in this mode is a candidate.
 pub(crate) fn is_candidate(mode: Mode) -> bool
@@ -89,33 +91,54 @@ impl<K: Keeper> Coordinator<K> {
         );
     }
 
-    // Asks all peers, where discovery is due.
-    pub(crate) fn ask_peers(&mut self, out: &mut Output)
+    /// The frames that ask all peers, where discovery is due.
+    pub(crate) fn plan_asks(&self, alloc: Global) -> Result<Option<Listed<Frame>>, AllocError>
+        ensures { IfOk result (λ asks. ArePlannedAsks self.now.settings.me self.now.finder self.now.moment asks) }
+    {
+        if !self.finder.is_due(self.moment) {
+            return Ok(None);
+        }
+        let known = self.finder.known_set();
+        let asks = ask_frames(alloc, self.settings.me, &known)?;
+        Ok(Some(asks))
+    }
+
+    // Asks all peers with the frames that were made, where discovery is due.
+    pub(crate) fn ask_peers(&mut self, out: &mut Output, asks: Option<Listed<Frame>>)
+        requires asks { ArePlannedAsks self.old.settings.me self.old.finder self.old.moment asks }
         requires frames { to_set ≤ out.old.frames.room }
         ensures does { Does K.Keeper self.old self.new out.old out.new asks_peers true }
         ensures uses { Uses out.old out.new 0 to_set 0 }
     {
-        if !self.finder.is_due(self.moment) {
-            return;
+        match asks {
+            None => {}
+            Some(asks) => {
+                self.finder.asked(self.moment);
+                out.frames.append(asks);
+            }
         }
-        let known = self.finder.known_set();
-        self.finder.asked(self.moment);
-        let ask = Broadcast::PeersAsk(known.copy());
-        self.send_all(out, &known, &ask);
     }
 
     // Who asks for peers is met, with those that it knows, and is answered with the leader, the term and all peers.
-    pub(crate) fn on_peers_ask(&mut self, out: &mut Output, from: NodeId, known: &NodeSet)
+    pub(crate) fn on_peers_ask(
+        &mut self,
+        out: &mut Output,
+        from: NodeId,
+        known: &IdList,
+    ) -> Result<(), EventError>
         requires frames { 1 ≤ out.old.frames.room }
-        ensures does { Does K.Keeper self.old self.new out.old out.new (λ s v. on_peers_ask s v from known.now) true }
-        ensures uses { Uses out.old out.new 0 1 0 }
+        ensures does { DoesAll K.Keeper self.old self.new out.old out.new (λ s v. on_peers_ask s v from known.now) result }
     {
+        let Ok(room) = IdRoom::of(out.alloc, MAX_IDS) else {
+            return Err(EventError::Memory);
+        };
         self.meet(from, known);
-        self.answer_peers(out, from);
+        self.answer_peers(out, from, room);
+        Ok(())
     }
 
     // A node is met, and those that it knows.
-    fn meet(&mut self, from: NodeId, known: &NodeSet)
+    fn meet(&mut self, from: NodeId, known: &IdList)
         ensures does { (out : _) → Does K.Keeper self.old self.new out out (λ s v. Notes (Met (from ∷ known.now)) ∷ []) true }
         ensures rest { self.new ≡ record self.old { finder = self.new.finder } }
     {
@@ -123,22 +146,27 @@ impl<K: Keeper> Coordinator<K> {
         meet_all(&mut self.finder, known.as_slice());
     }
 
-    fn answer_peers(&self, out: &mut Output, to: NodeId)
+    // A node is answered with the leader, the term and all peers, which take the room that was taken for them.
+    fn answer_peers(&self, out: &mut Output, to: NodeId, room: IdRoom)
+        requires room { most_ids ≤ room }
         requires frames { 1 ≤ out.old.frames.room }
         ensures does { Does K.Keeper self.now self.now out.old out.new (λ s v. answers_peers s v to) true }
         ensures uses { Uses out.old out.new 0 1 0 }
     {
         let me = self.settings.me;
+        let known = with(self.finder.known_set(), me);
+        // For the proof alone: a set has at most `MAX_IDS` ids.
+        let _ = known.len();
         let answer = WireMessage::PeersAnswer {
             master: leader_of(me, self.mode),
             term: self.core.term(),
-            known: with(self.finder.known_set(), me),
+            known: room.fill(&known),
         };
         self.send(out, to, answer);
     }
 
     // A peer is met, and a candidate keeps its answer.
-    fn take_peers_answer(&mut self, out: &mut Output, answer: &PeerAnswer, known: &NodeSet) -> Acted
+    fn take_peers_answer(&mut self, out: &mut Output, answer: &PeerAnswer, known: &IdList) -> Acted
         requires ready { IsReady self.old }
         requires deeds { 2 ≤ out.old.deeds.room }
         requires frames { 1 ≤ out.old.frames.room }
@@ -158,7 +186,7 @@ impl<K: Keeper> Coordinator<K> {
         from: NodeId,
         master: &Option<NodeId>,
         term: u64,
-        known: &NodeSet,
+        known: &IdList,
     ) -> Result<(), EventError>
         requires ready { IsReady self.old }
         requires deeds { 2 ≤ out.old.deeds.room }

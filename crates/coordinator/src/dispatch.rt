@@ -46,10 +46,7 @@ impl<K: Keeper> Coordinator<K> {
             WireMessage::Response(id) => self.on_response(out, p, *id),
             WireMessage::Commit(id) => self.on_commit(out, p, *id),
             WireMessage::JoinAsk { term } => self.on_join_ask(out, p, *term),
-            WireMessage::PeersAsk { known } => {
-                self.on_peers_ask(out, p, known);
-                Ok(())
-            }
+            WireMessage::PeersAsk { known } => self.on_peers_ask(out, p, known),
             WireMessage::PeersAnswer {
                 master,
                 term,

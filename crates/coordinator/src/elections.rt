@@ -8,6 +8,7 @@ ghost use Rattle.policy_model.specs.Rules.{ticks_candidate};
 ghost use Rattle.policy_model.specs.Events.{Notes, RoundBegun};
 ghost use Rattle.policy_model.specs.Elections.{bootstraps, stands_for_election, free_nodes as free_nodes_of, begins_round, waits_until, waits_for_election};
 ghost use Rattle.policy_model.specs.Parts.{next_attempt as next_attempt_of, round_begun};
+ghost use Rattle.coordinator.specs.Asks.{ArePlannedAsks};
 ghost use Rattle.coordinator.specs.Bootstraps.{IsPlannedFirst};
 ghost use Rattle.coordinator.specs.Does.{Does};
 ghost use Rattle.coordinator.specs.Rooms.{Uses, to_set, to_two_sets, to_three_sets};
@@ -16,7 +17,7 @@ ghost use Rattle.coordinator.specs.Views.{view_in, IsReady};
 
 use crate::coordinator::{Acted, Coordinator, DiskFailed};
 use crate::discovery::with;
-use crate::output::Output;
+use crate::output::{Listed, Output};
 use crate::plan::{FirstState, first_state};
 use crate::sending::Broadcast;
 use cluster_state::LAST_NUMBER;
@@ -26,6 +27,7 @@ use pre_vote::PreVotes;
 use state_journal::Keeper;
 use std::alloc::{AllocError, Global};
 use voting_config::{NodeId, NodeSet};
+use wire_frames::Frame;
 
 // Attempts are counted up to this one.
 const MOST_ATTEMPTS: u64 = 99;
@@ -72,6 +74,7 @@ impl<K: Keeper> Coordinator<K> {
         requires deeds { 1 ≤ out.old.deeds.room }
         ensures does { Does K.Keeper self.old self.new out.old out.new bootstraps (is_ok result) }
         ensures uses { Uses out.old out.new 1 0 0 }
+        ensures rest { self.new ≡ record self.old { core = self.new.core } }
     {
         match first {
             None => Ok(()),
@@ -83,9 +86,15 @@ impl<K: Keeper> Coordinator<K> {
     }
 
     // Takes the first configuration, if it will, and asks all peers where discovery is due.
-    fn find_peers(&mut self, out: &mut Output, first: Option<FirstState>) -> Acted
+    fn find_peers(
+        &mut self,
+        out: &mut Output,
+        first: Option<FirstState>,
+        asks: Option<Listed<Frame>>,
+    ) -> Acted
         requires ready { IsReady self.old }
         requires first { IsPlannedFirst self.old.settings (view_in K.Keeper self.old) first }
+        requires asks { ArePlannedAsks self.old.settings.me self.old.finder self.old.moment asks }
         requires deeds { 1 ≤ out.old.deeds.room }
         requires frames { to_set ≤ out.old.frames.room }
         ensures does { Does K.Keeper self.old self.new out.old out.new (λ s v. then_rule s v (bootstraps s v) (asks_peers s))
@@ -95,27 +104,29 @@ impl<K: Keeper> Coordinator<K> {
         match self.bootstrap(out, first) {
             Err(_) => Err(DiskFailed),
             Ok(()) => {
-                self.ask_peers(out);
+                self.ask_peers(out, asks);
                 Ok(())
             }
         }
     }
 
-    // A tick of a candidate, with what it will bootstrap with.
+    // A tick of a candidate, with what it will bootstrap with and the frames that ask for peers.
     pub(crate) fn tick_candidate(
         &mut self,
         out: &mut Output,
         first: Option<FirstState>,
+        asks: Option<Listed<Frame>>,
         word: u64,
     ) -> Acted
         requires ready { IsReady self.old }
         requires first { IsPlannedFirst self.old.settings (view_in K.Keeper self.old) first }
+        requires asks { ArePlannedAsks self.old.settings.me self.old.finder self.old.moment asks }
         requires deeds { 1 ≤ out.old.deeds.room }
         requires frames { to_three_sets ≤ out.old.frames.room }
         ensures does { Does K.Keeper self.old self.new out.old out.new (λ s v. ticks_candidate s v word) (is_ok result) }
         ensures uses { Uses out.old out.new 1 to_three_sets 0 }
     {
-        match self.find_peers(out, first) {
+        match self.find_peers(out, first, asks) {
             Err(_) => Err(DiskFailed),
             Ok(()) => {
                 self.wait_for_election(out, word);

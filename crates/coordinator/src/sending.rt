@@ -20,7 +20,6 @@ use wire_frames::WireMessage;
 pub enum Broadcast {
     StartJoin(NodeId, u64),
     Commit(StateId),
-    PeersAsk(NodeSet),
     PreVoteAsk,
     FollowerCheck(u64),
 }
@@ -36,9 +35,6 @@ impl Broadcast {
                 term: *term,
             },
             Broadcast::Commit(id) => WireMessage::Commit(*id),
-            Broadcast::PeersAsk(known) => WireMessage::PeersAsk {
-                known: known.copy(),
-            },
             Broadcast::PreVoteAsk => WireMessage::PreVoteAsk,
             Broadcast::FollowerCheck(term) => WireMessage::FollowerCheck { term: *term },
         }

@@ -23,7 +23,10 @@ impl<K: Keeper> Coordinator<K> {
         let Ok(first) = self.plan_bootstrap(out.alloc) else {
             return Err(EventError::Memory);
         };
-        match self.tick_candidate(out, first, word) {
+        let Ok(asks) = self.plan_asks(out.alloc) else {
+            return Err(EventError::Memory);
+        };
+        match self.tick_candidate(out, first, asks, word) {
             Ok(()) => Ok(()),
             Err(_) => Err(EventError::Struck),
         }

@@ -8,7 +8,7 @@ use cluster_state::StateId;
 use std::alloc::{AllocError, Global};
 use text::Text;
 use trace_text::{write_state_id, write_state_json};
-use voting_config::{NodeId, NodeSet};
+use voting_config::{IdList, NodeId};
 use wire_frames::{Frame, WireMessage};
 
 fn write_answer(text: &mut Text, good: bool) -> Result<(), AllocError>
@@ -58,7 +58,7 @@ fn write_term_and_id(text: &mut Text, word: &str, term: u64, id: StateId) -> Res
     write_id(text, " ", id)
 }
 
-fn write_peers(text: &mut Text, word: &str, known: &NodeSet) -> Result<(), AllocError>
+fn write_peers(text: &mut Text, word: &str, known: &IdList) -> Result<(), AllocError>
     ensures { OnOk result (text.new ≡ text.old ++ (word.now ++ list_text known.now)) }
 {
     text.word(word)?;
@@ -69,7 +69,7 @@ fn write_peers_answer(
     text: &mut Text,
     master: Option<NodeId>,
     term: u64,
-    known: &NodeSet,
+    known: &IdList,
 ) -> Result<(), AllocError>
     ensures { OnOk result (text.new ≡ text.old ++ message_text (message.PeersAnswer master term known.now)) }
 {

@@ -7,6 +7,7 @@ use crate::names::{id, set};
 use cluster_state::{ClusterState, FieldError, SharedState, StateId};
 use std::alloc::{AllocError, Global};
 use std::test::Fail;
+use voting_config::IdList;
 use wire_frames::{
     Frame, FrameError, FrameReader, FrameView, Kind, MessageView, WireMessage, law_cut,
     law_first_frame, law_one_frame, law_stream, write_frame,
@@ -39,7 +40,8 @@ fn is_join(frame: FrameView) -> bool {
         MessageView::Other(message) => {
             frame.from() == id("a") && frame.to() == id("b") && says_join(message)
         }
-        MessageView::Publish(_) => false,
+        MessageView::Publish(_) | MessageView::PeersAsk { .. } | MessageView::PeersAnswer { .. } =>
+            false,
     }
 }
 
@@ -256,7 +258,8 @@ const EMPTY_STATE: &[u8; 24] = b"\0\0\0\0\0\0\0\x01\0\0\0\0\0\0\0\0\0\0\0\0\0\0\
 fn is_publication(frame: FrameView, state: &[u8]) -> bool {
     match &frame.message() {
         MessageView::Publish(view) => *view.bytes() == *state,
-        MessageView::Other(_) => false,
+        MessageView::PeersAsk { .. } | MessageView::PeersAnswer { .. } | MessageView::Other(_) =>
+            false,
     }
 }
 
@@ -366,11 +369,13 @@ fn message(alloc: Global, kind: Kind) -> Result<WireMessage, AllocError>
         Kind::Response => Ok(WireMessage::Response(ID)),
         Kind::Commit => Ok(WireMessage::Commit(ID)),
         Kind::JoinAsk => Ok(WireMessage::JoinAsk { term: 3 }),
-        Kind::PeersAsk => Ok(WireMessage::PeersAsk { known: set("a,b") }),
+        Kind::PeersAsk => Ok(WireMessage::PeersAsk {
+            known: IdList::of(alloc, &set("a,b"))?,
+        }),
         Kind::PeersAnswer => Ok(WireMessage::PeersAnswer {
             master: None,
             term: 3,
-            known: set("a"),
+            known: IdList::of(alloc, &set("a"))?,
         }),
         Kind::PreVoteAsk => Ok(WireMessage::PreVoteAsk),
         Kind::PreVoteAnswer => Ok(WireMessage::PreVoteAnswer { term: 1, last: ID }),

@@ -6,10 +6,10 @@ ghost use Rattle.rescue_plan.specs.Planning.{ids_of, newest, greatest, present, 
 
 use crate::answer::{Plan, PlanError, RescueRefused, UpNode};
 use cluster_state::LAST_NUMBER;
-use schedule_text::{IdList, Line, Lines, SettingText};
+use schedule_text::{Line, Lines, SettingText};
 use std::alloc::{AllocError, Global};
 use text::Boxed;
-use voting_config::{NodeId, VotingConfig};
+use voting_config::{IdList, NodeId, VotingConfig};
 
 // Of the first and the others, the first one that has accepted the newest state.
 fn newest_of<'a>(first: &'a UpNode, others: &'a [UpNode]) -> &'a UpNode

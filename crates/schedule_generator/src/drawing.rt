@@ -3,10 +3,10 @@ ghost use Rattle.std.specs.Prelude.{◌≡◌, ◌+◌, ◌<◌, ◌^◌, [], If
 ghost use Rattle.voting_config.specs.Lists.{are_ids_after, items_of};
 ghost use Rattle.schedule_generator.specs.Drawn.{config_of, drawn_line as drawn_line_of, node_of, ordinal_of, stop_line as stop_line_of, text_of, way_of};
 
-use schedule_text::{IdList, Line, SettingText};
+use schedule_text::{Line, SettingText};
 use std::alloc::{AllocError, Global};
 use text::{Boxed, Text};
-use voting_config::{NodeId, NodeSet};
+use voting_config::{IdList, NodeId, NodeSet};
 use zen_disk::Way;
 
 /// Three words of a generator, in the order in which they were drawn.

@@ -8,7 +8,6 @@ pub mod Legal
 pub mod LineByLine
 pub mod Replayed
 pub mod Showing
-pub mod SentFrames
 pub mod SoFar
 pub mod Parts
 pub mod HistoryShown

@@ -2,5 +2,4 @@
 
 pub(crate) mod node;
 pub(crate) mod replayer;
-pub(crate) mod sent_frame;
 pub(crate) mod stepping;

@@ -18,12 +18,12 @@ ghost use Rattle.schedule_replay.specs.WorldStands.{AllStand, DeliversNothing, S
 use crate::places::place_of;
 use cluster_state::{ClusterValue, Settings};
 use replay_node::{Did, ReplayNode, SentMessage, SentMessages, write_delivery, write_did};
-use schedule_text::{IdList, Line, Schedule, SettingText, write_echo};
+use schedule_text::{Line, Schedule, SettingText, write_echo};
 use std::alloc::{AllocError, Global};
 use std::mem;
 use text::Text;
 use trace_text::{write_boot, write_down_line, write_start_join, write_value};
-use voting_config::{NodeId, NodeSet, VotingConfig};
+use voting_config::{IdList, NodeId, NodeSet, VotingConfig};
 use zen_disk::{Order, Way};
 
 /// The nodes of a schedule, and the messages that they have sent.

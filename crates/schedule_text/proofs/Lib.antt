@@ -1,7 +1,6 @@
 pub mod Written
 pub mod FirstBadLaws
 pub mod FirstLines
-pub mod IdListLaws
 pub mod LineEnds
 pub mod LineLaws
 pub mod ModeLaws

@@ -2,7 +2,6 @@
 #![tactic(auto)]
 
 mod fault;
-mod id_list;
 mod laws;
 mod level;
 mod line_bytes;
@@ -17,7 +16,6 @@ mod words;
 mod writing;
 
 pub use fault::{BadSchedule, ReadError, WhyBad};
-pub use id_list::IdList;
 pub use laws::{law_first_bad_line, law_no_fault, law_one_schedule};
 pub use level::Level;
 pub use line_bytes::LineBytes;

@@ -1,12 +1,11 @@
 //! Schedules and their lines, as types.
 ghost use Rattle.std.specs.Prelude.{◌≡◌};
 
-use crate::id_list::IdList;
 use crate::line_bytes::LineBytes;
 use crate::setting_text::SettingText;
 use std::marker::Model;
 use text::Boxed;
-use voting_config::{NodeId, NodeSet};
+use voting_config::{IdList, NodeId, NodeSet};
 use zen_disk::Way;
 
 /// A line of a schedule after its header. The first id is the node that acts. `Boot`, `StartJoin` and `Value` stand at

@@ -6,10 +6,9 @@ ghost use Rattle.schedule_text.specs.Words.{config, listed, text as text_word, n
 ghost use Rattle.schedule_text.specs.Answers.{Answers};
 
 use crate::fault::{ReadError, WhyBad};
-use crate::id_list::IdList;
 use crate::setting_text::SettingText;
 use std::alloc::Global;
-use voting_config::{NodeId, NodeSet};
+use voting_config::{IdList, NodeId, NodeSet};
 
 /// The listed node that a word names, and else `Id`.
 #[inline(always)]

@@ -1,9 +1,10 @@
 //! Ids, sets and quorums at their limits. What is expected was counted by hand.
 use crate::names::{id, set};
+use std::alloc::{AllocError, Global};
 use std::test::Fail;
 use voting_config::{
-    Full, IdError, MAX_IDS, NodeId, NodeSet, Roster, Tally, VotingConfig, quorum_mask, with_bit,
-    without_bit,
+    Full, IdError, IdList, IdRoom, MAX_IDS, NodeId, NodeSet, Roster, Tally, VotingConfig,
+    quorum_mask, with_bit, without_bit,
 };
 
 const FULL: &str = "0,1,2,3,4,5,a,b,c,d,e,f,g,h,i,j,k,l,m,n,o,p,q,r,s,t,u,v,w,x,y,z";
@@ -260,6 +261,33 @@ fn a_set_is_made_of_ids_in_any_order(rt: HostRuntime) {
     let made = NodeSet::of(&ids);
     assert!(rt; is(&made, "a,b,c") && made.get(0) == Some(id("a")) && made.get(3) == None);
     assert!(rt; is(&NodeSet::of(&[]), "_") && is(&made.copy(), "a,b,c"));
+}
+
+// Whether a list of the set holds its ids, and so does a copy.
+fn is_list(list: &IdList, text: &str) -> Result<bool, AllocError> {
+    let copy = list.copy()?;
+    Ok(is(&list.to_set(), text) && copy.as_slice() == list.as_slice())
+}
+
+// Whether the set is kept as a list, made at once or in room that was taken before.
+fn is_kept(alloc: Global, text: &str) -> Result<bool, AllocError> {
+    let ids = set(text);
+    let list = IdList::of(alloc, &ids)?;
+    let room = IdRoom::of(alloc, MAX_IDS)?;
+    let filled = room.fill(&ids);
+    Ok(is_list(&list, text)? && is_list(&filled, text)?)
+}
+
+const LISTED: &[&str] = &["_", "a", "a,b,node-1", FULL];
+
+#[test]
+fn a_set_is_kept_as_a_list(rt: HostRuntime) -> Result<(), Fail> {
+    for text in LISTED {
+        assert!(rt; is_kept(rt.alloc(), text)?, "{text}");
+    }
+    let list = IdList::of(rt.alloc(), &set("a,c"))?;
+    assert!(rt; list.len() == 2 && list.contains(id("c")) && !list.contains(id("b")));
+    Ok(())
 }
 
 fn is_quorum(config: &str, votes: &str) -> bool {

@@ -11,7 +11,7 @@ use policy_model::{Deed, DropCause, MemberDrop, Mode};
 use std::alloc::{AllocError, Global};
 use std::test::*;
 use text::Text;
-use voting_config::{NodeId, NodeSet};
+use voting_config::{IdList, NodeId, NodeSet};
 use wire_frames::{Frame, WireMessage};
 use world_model::{Act, ActReply, Cause, Message as Sent, Outcome};
 
@@ -66,16 +66,18 @@ fn message(alloc: Global, place: usize) -> Result<WireMessage, AllocError> {
         3 => Ok(WireMessage::Response(state_id(1, 1))),
         4 => Ok(WireMessage::Commit(state_id(1, 2))),
         5 => Ok(WireMessage::JoinAsk { term: 7 }),
-        6 => Ok(WireMessage::PeersAsk { known: both() }),
+        6 => Ok(WireMessage::PeersAsk {
+            known: IdList::of(alloc, &both())?,
+        }),
         7 => Ok(WireMessage::PeersAnswer {
             master: None,
             term: 3,
-            known: both(),
+            known: IdList::of(alloc, &both())?,
         }),
         8 => Ok(WireMessage::PeersAnswer {
             master: Some(id("a")),
             term: 3,
-            known: NodeSet::new(),
+            known: IdList::of(alloc, &NodeSet::new())?,
         }),
         9 => Ok(WireMessage::PreVoteAsk),
         10 => Ok(WireMessage::PreVoteAnswer {

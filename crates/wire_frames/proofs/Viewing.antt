@@ -6,7 +6,7 @@ use Rattle.cluster_state.proofs.Laws.{ok_is}
 use Rattle.cluster_state.specs.declared.fault.FieldError.{FieldError}
 use Rattle.cluster_state.specs.declared.fault.StateFault.{StateFault}
 use Rattle.cluster_state.specs.declared.fault.StateFault.TheVariants as whole_fault
-use Rattle.cluster_state.specs.Field.{◌>>=◌, byte_at, flag}
+use Rattle.cluster_state.specs.Field.{◌>>=◌, byte_at, flag, optional}
 use Rattle.cluster_state.specs.Fields.{term, id}
 use Rattle.cluster_state.specs.States.{state, whole}
 use Rattle.wire_frames.specs.declared.frame.Kind.{Kind}
@@ -26,6 +26,13 @@ use Rattle.wire_frames.specs.Parts.{ArePartsOf, GivesParts}
 pub all_passed : (k : Kind) (bytes a b rest : List ℕ) (from to : Id) (m : WireMessage) → id.at bytes ≡ Ok (from, a) → id.at a ≡ Ok (to, b) → message_at k b ≡ Ok (m, rest) → (length rest == 0) ≡ true
     → (frame : Frame) × (as_frame (whole (frame_at k bytes)) ≡ Ok frame)
 all_passed k bytes a b rest from to m first second third ended = (record { from = from; to = to; message = m }, rw (first, second, third, ended) refl)
+
+pub ask_passed : (bytes rest : List ℕ) (known : List Id) → known_peers.at bytes ≡ Ok (known, rest) → (m : WireMessage) × (message_at kind.PeersAsk bytes ≡ Ok (m, rest))
+ask_passed bytes rest known first = (message.PeersAsk known, rw first refl)
+
+pub answer_passed : (bytes a b rest : List ℕ) (master : Option Id) (n : ℕ) (known : List Id) → (optional id).at bytes ≡ Ok (master, a) → term.at a ≡ Ok (n, b) → known_peers.at b ≡ Ok (known, rest)
+    → (m : WireMessage) × (message_at kind.PeersAnswer bytes ≡ Ok (m, rest))
+answer_passed bytes a b rest master n known first second third = (message.PeersAnswer master n known, rw (first, second, third) refl)
 
 -- what reading gave, as a message, is all of the bytes where what was read is
 abbrev message_of_whole : {A : Type 0} → (A → WireMessage) → Result A StateFault → Result WireMessage StateFault

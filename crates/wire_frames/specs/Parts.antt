@@ -8,19 +8,27 @@ use Rattle.wire_frames.specs.declared.frame.WireMessage.TheVariants as message
 use Rattle.wire_frames.specs.declared.view.MessageView.{MessageView}
 use Rattle.wire_frames.specs.declared.view.MessageView.TheVariants as view
 use Rattle.wire_frames.specs.declared.view.Parts.{Parts}
+use Rattle.wire_frames.specs.declared.reading.PeersAnswer.{PeersAnswer}
 use Rattle.wire_frames.specs.Kinds.{kind_of_message}
 use Rattle.wire_frames.specs.Messages.{message_at}
-use Rattle.wire_frames.specs.Plain.{IsNoPublication}
+use Rattle.wire_frames.specs.Plain.{IsPlainMessage}
+
+abbrev pub answer_of : PeersAnswer → WireMessage
+answer_of a = message.PeersAnswer a.master a.term a.known
 
 -- what a lent message says
 abbrev pub said : MessageView → WireMessage
 said (view.Publish s) = message.Publish s
+said (view.PeersAsk known) = message.PeersAsk known
+said (view.PeersAnswer master term known) = message.PeersAnswer master term known
 said (view.Other m) = m
 
--- a publication is always lent
+-- a publication is always lent, and a set of peers always in place
 abbrev pub IsOther : MessageView → Type 0
 IsOther (view.Publish s) = Unit {0}
-IsOther (view.Other m) = IsNoPublication m
+IsOther (view.PeersAsk known) = Unit {0}
+IsOther (view.PeersAnswer master term known) = Unit {0}
+IsOther (view.Other m) = IsPlainMessage m
 
 -- the parts are those of the frame that was found
 pub record ArePartsOf (p : Parts) (frame : Frame) : Type 0 where

@@ -5,7 +5,7 @@ use crate::frame::Frame;
 use std::alloc::{AllocError, Global};
 use std::marker::Model;
 
-/// A frame in a place of its own, since a frame has room for a set of ids and is handed on with its event. Contracts see the frame.
+/// A frame in a place of its own, so that the event with which it is handed on stays small. Contracts see the frame.
 #[derive(Drop)]
 pub struct BoxedFrame {
     frame: Box<Frame>,

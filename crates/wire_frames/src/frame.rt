@@ -4,7 +4,7 @@ ghost use Rattle.std.specs.Prelude.{◌≡◌, IfOk};
 
 use cluster_state::{SharedState, StateId};
 use std::alloc::AllocError;
-use voting_config::{NodeId, NodeSet};
+use voting_config::{IdList, NodeId};
 
 /// How many bytes a frame has at most after its four bytes of length.
 pub const MAX_BODY: u32 = 8_388_608;
@@ -105,13 +105,13 @@ pub enum WireMessage {
     },
     /// Which peers the sender knows, and which does the receiver know?
     PeersAsk {
-        known: NodeSet,
+        known: IdList,
     },
     /// The master that the sender follows, its term, and the peers that it knows.
     PeersAnswer {
         master: Option<NodeId>,
         term: u64,
-        known: NodeSet,
+        known: IdList,
     },
     /// Would the receiver vote for the sender?
     PreVoteAsk,
@@ -188,7 +188,7 @@ impl WireMessage {
             WireMessage::Commit(id) => WireMessage::Commit(*id),
             WireMessage::JoinAsk { term } => WireMessage::JoinAsk { term: *term },
             WireMessage::PeersAsk { known } => WireMessage::PeersAsk {
-                known: known.copy(),
+                known: known.copy()?,
             },
             WireMessage::PeersAnswer {
                 master,
@@ -197,7 +197,7 @@ impl WireMessage {
             } => WireMessage::PeersAnswer {
                 master: *master,
                 term: *term,
-                known: known.copy(),
+                known: known.copy()?,
             },
             WireMessage::PreVoteAsk => WireMessage::PreVoteAsk,
             WireMessage::PreVoteAnswer { term, last } => WireMessage::PreVoteAnswer {

@@ -15,15 +15,23 @@ use crate::boxed::BoxedFrame;
 use crate::fault::FrameError;
 use crate::frame::{Frame, Kind, WireMessage};
 use crate::lent::FrameView;
-use crate::reading::plain_message;
+use crate::reading::{PeersAnswer, peers_answer, plain_message};
 use cluster_state::{FieldError, Reader, StateView};
 use std::alloc::{AllocError, Global};
-use voting_config::NodeId;
+use voting_config::{IdList, MAX_IDS, NodeId, NodeSet};
 
-/// What a lent frame says: a state that still lies in its bytes, or any other message.
+/// What a lent frame says: a state that still lies in its bytes, peers in a set that takes no memory, or any other message.
 #[derive(Drop)]
 pub enum MessageView<'a> {
     Publish(StateView<'a>),
+    PeersAsk {
+        known: NodeSet,
+    },
+    PeersAnswer {
+        master: Option<NodeId>,
+        term: u64,
+        known: NodeSet,
+    },
     Other(WireMessage),
 }
 
@@ -100,7 +108,7 @@ impl<'a> FrameView<'a> {
         message_of(parts.kind, parts.fields)
     }
 
-    /// The frame by itself, with its state made of the bytes.
+    /// The frame by itself, with its state or its set of peers made of the bytes.
     pub fn frame(&self, alloc: Global) -> Result<Frame, AllocError>
         ensures found { IfOk result (λ f. f ≡ shown self.now) }
         ensures fit { IfOk result IsFitFrame }
@@ -145,6 +153,18 @@ fn own(alloc: Global, message: MessageView) -> Result<WireMessage, AllocError>
 {
     match message {
         MessageView::Publish(state) => Ok(WireMessage::Publish(state.decode(alloc)?)),
+        MessageView::PeersAsk { known } => Ok(WireMessage::PeersAsk {
+            known: IdList::of(alloc, &known)?,
+        }),
+        MessageView::PeersAnswer {
+            master,
+            term,
+            known,
+        } => Ok(WireMessage::PeersAnswer {
+            master,
+            term,
+            known: IdList::of(alloc, &known)?,
+        }),
         MessageView::Other(message) => Ok(message),
     }
 }
@@ -183,13 +203,13 @@ fn message_of(kind: Kind, fields: &[u8]) -> MessageView<'_>
 {
     match kind {
         Kind::Publish => lent_publication(fields),
+        Kind::PeersAsk => lent_peers_ask(fields),
+        Kind::PeersAnswer => lent_peers_answer(fields),
         Kind::StartJoin
         | Kind::Join
         | Kind::Response
         | Kind::Commit
         | Kind::JoinAsk
-        | Kind::PeersAsk
-        | Kind::PeersAnswer
         | Kind::PreVoteAsk
         | Kind::PreVoteAnswer
         | Kind::PreVoteRefuse
@@ -206,6 +226,41 @@ fn lent_publication(fields: &[u8]) -> MessageView<'_>
     ensures other { IsOther result }
 {
     MessageView::Publish(StateView::of_checked(fields))
+}
+
+fn lent_peers_ask(fields: &[u8]) -> MessageView<'_>
+    requires { IsOk (whole (message_at kind.PeersAsk fields.now)) }
+    ensures message { whole (message_at kind.PeersAsk fields.now) ≡ Ok (said result) }
+    ensures other { IsOther result }
+{
+    let mut reader = Reader::new(fields);
+    match reader.ids(MAX_IDS as u8) {
+        Ok(known) => MessageView::PeersAsk { known },
+        Err(_) => unreachable!(),
+    }
+}
+
+fn lent_peers_answer(fields: &[u8]) -> MessageView<'_>
+    requires { IsOk (whole (message_at kind.PeersAnswer fields.now)) }
+    ensures message { whole (message_at kind.PeersAnswer fields.now) ≡ Ok (said result) }
+    ensures other { IsOther result }
+{
+    let mut reader = Reader::new(fields);
+    match peers_answer(&mut reader) {
+        Ok(answer) => {
+            let PeersAnswer {
+                master,
+                term,
+                known,
+            } = answer;
+            MessageView::PeersAnswer {
+                master,
+                term,
+                known,
+            }
+        }
+        Err(_) => unreachable!(),
+    }
 }
 
 fn other_message(kind: Kind, fields: &[u8]) -> MessageView<'_>
@@ -228,6 +283,22 @@ fn pass_publication(reader: &mut Reader) -> Result<(), FieldError>
     Ok(())
 }
 
+fn pass_peers_ask(reader: &mut Reader) -> Result<(), FieldError>
+    ensures { Passes result reader.new (message_at kind.PeersAsk reader.old) }
+{
+    reader.pass_ids(MAX_IDS as u8)?;
+    Ok(())
+}
+
+fn pass_peers_answer(reader: &mut Reader) -> Result<(), FieldError>
+    ensures { Passes result reader.new (message_at kind.PeersAnswer reader.old) }
+{
+    reader.optional_id()?;
+    reader.term()?;
+    reader.pass_ids(MAX_IDS as u8)?;
+    Ok(())
+}
+
 fn pass_plain(reader: &mut Reader, kind: Kind) -> Result<(), FieldError>
     requires { IsPlain kind }
     ensures { Passes result reader.new (message_at kind reader.old) }
@@ -242,13 +313,13 @@ fn pass_message(reader: &mut Reader, kind: Kind) -> Result<(), FieldError>
 {
     match kind {
         Kind::Publish => pass_publication(reader),
+        Kind::PeersAsk => pass_peers_ask(reader),
+        Kind::PeersAnswer => pass_peers_answer(reader),
         Kind::StartJoin
         | Kind::Join
         | Kind::Response
         | Kind::Commit
         | Kind::JoinAsk
-        | Kind::PeersAsk
-        | Kind::PeersAnswer
         | Kind::PreVoteAsk
         | Kind::PreVoteAnswer
         | Kind::PreVoteRefuse

@@ -7,7 +7,7 @@ ghost use Rattle.wire_frames.specs.Frames.{SpellsBody, SpellsFrame, IsFitFrame, 
 use crate::frame::{Frame, WireMessage};
 use bytes::{BufMut, Bytes, BytesMut};
 use cluster_state::{
-    StateId, write_flag, write_id, write_ids, write_optional_id, write_shared_state,
+    StateId, write_flag, write_id, write_id_list, write_optional_id, write_shared_state,
     write_state_id, write_term,
 };
 use std::alloc::{AllocError, Global};
@@ -35,7 +35,7 @@ fn write_message(out: &mut Vec<u8>, message: &WireMessage) -> Result<(), AllocEr
         WireMessage::Response(id) => write_state_id(out, *id),
         WireMessage::Commit(id) => write_state_id(out, *id),
         WireMessage::JoinAsk { term } => write_term(out, *term),
-        WireMessage::PeersAsk { known } => write_ids(out, known),
+        WireMessage::PeersAsk { known } => write_id_list(out, known),
         WireMessage::PeersAnswer {
             master,
             term,
@@ -43,7 +43,7 @@ fn write_message(out: &mut Vec<u8>, message: &WireMessage) -> Result<(), AllocEr
         } => {
             write_optional_id(out, *master)?;
             write_term(out, *term)?;
-            write_ids(out, known)
+            write_id_list(out, known)
         }
         WireMessage::PreVoteAsk => Ok(()),
         WireMessage::PreVoteAnswer { term, last } => write_term_and_last(out, *term, *last),

@@ -1,10 +1,10 @@
 //! Schedules that are drawn at random.
 use rand_core::utils::NextWord;
 use rand_pcg::Pcg32;
-use schedule_text::{IdList, Line, Lines, MAX_ORDINAL, Schedule, SettingText};
+use schedule_text::{Line, Lines, MAX_ORDINAL, Schedule, SettingText};
 use std::alloc::{AllocError, Global};
 use text::Boxed;
-use voting_config::{NodeId, NodeSet};
+use voting_config::{IdList, NodeId, NodeSet};
 use zen_disk::Way;
 
 const NAMES: &[&str] = &["a", "b-2", "0", "node-of-thirty-two-bytes-0123456", "z9"];

@@ -16,7 +16,6 @@ ghost use Rattle.replay_node.specs.Clusters.{first_life, settings_of as settings
 ghost use Rattle.schedule_replay.specs.OpenNodes.{OpenFor};
 ghost use Rattle.schedule_replay.specs.Openings.{ClosedFor, OverJournal, Reopens, Restarts, fresh_own};
 
-use crate::cluster::sent_frame::SentFrame;
 use crate::cluster::stepping::{Ended, OpenNode, step};
 use cluster_state::SharedState;
 use coordinator::{Coordinator, Entries, Sealed};
@@ -56,15 +55,11 @@ fn take_slot(slot: &mut Slot, alloc: Global) -> Slot
 }
 
 // Adds frames to those that were sent.
-fn keep_frames(
-    alloc: Global,
-    frames: &mut Vec<SentFrame>,
-    sends: &[Frame],
-) -> Result<(), AllocError>
+fn keep_frames(frames: &mut Vec<Frame>, sends: &[Frame]) -> Result<(), AllocError>
     ensures { OnOk result (frames.new.items ≡ frames.old.items ++ sends.now) }
 {
     for frame in sends {
-        let Ok(()) = frames.push(SentFrame::of(alloc, frame)?) else {
+        let Ok(()) = frames.push(frame.copy()?) else {
             return Err(AllocError);
         };
     }
@@ -77,7 +72,7 @@ fn show_whole(
     me: NodeId,
     published: &mut Option<SharedState>,
     sealed: &Sealed,
-    frames: &mut Vec<SentFrame>,
+    frames: &mut Vec<Frame>,
     text: &mut Text,
 ) -> Result<(), AllocError>
     ensures text { OnOk result
@@ -99,7 +94,7 @@ fn show_whole(
         sends,
         sealed.replies().as_slice(),
     )?;
-    keep_frames(alloc, frames, sends)
+    keep_frames(frames, sends)
 }
 
 // Writes an event up to the act that the disk struck.
@@ -134,7 +129,7 @@ impl ClusterNode {
         &mut self,
         alloc: Global,
         event: Event,
-        frames: &mut Vec<SentFrame>,
+        frames: &mut Vec<Frame>,
         text: &mut Text,
     ) -> Result<(), AllocError>
         requires fit { IsFitEvent event }
@@ -247,7 +242,7 @@ impl ClusterNode {
         ids: &NodeSet,
         initial: &NodeSet,
         voting_only: &NodeSet,
-        frames: &mut Vec<SentFrame>,
+        frames: &mut Vec<Frame>,
         text: &mut Text,
     ) -> Result<(), AllocError>
         requires { (own : Own) × NodeFor (settings_in ids.now initial.now voting_only.now self.old.me) self.old own false }
@@ -275,7 +270,7 @@ impl ClusterNode {
         initial: &NodeSet,
         voting_only: &NodeSet,
         fuse: Fuse<MemDisks>,
-        frames: &mut Vec<SentFrame>,
+        frames: &mut Vec<Frame>,
         text: &mut Text,
     ) -> Result<(), AllocError>
         requires { (own : Own) × ClosedFor (settings_in ids.now initial.now voting_only.now self.old.me) self.old fuse own }

@@ -14,7 +14,6 @@ ghost use Rattle.schedule_replay.specs.ClusterStands.{AllFor, ClusterFor, DoesLi
 ghost use Rattle.schedule_replay.specs.ClusterTrace.{event_shown_if_up, frame_shown, restart_shown};
 
 use crate::cluster::node::ClusterNode;
-use crate::cluster::sent_frame::SentFrame;
 use crate::places::place_of;
 use client_lines::Line as ClientLine;
 use policy_model::Event;
@@ -23,13 +22,21 @@ use std::alloc::{AllocError, Global};
 use text::Text;
 use trace_text::write_down_line;
 use voting_config::{NodeId, NodeSet};
+use wire_frames::{BoxedFrame, Frame};
 use zen_disk::{Order, Way};
 
 /// The nodes of a schedule of level node, and the frames that they have sent.
 #[derive(Drop)]
 pub struct ClusterReplayer {
     pub nodes: Vec<ClusterNode>,
-    pub frames: Vec<SentFrame>,
+    pub frames: Vec<Frame>,
+}
+
+// A frame that was sent, once more, as a node takes it.
+fn boxed_copy(alloc: Global, frame: &Frame) -> Result<BoxedFrame, AllocError>
+    ensures { IfOk result (λ f. f ≡ frame.now) }
+{
+    BoxedFrame::of(alloc, frame.copy()?)
 }
 
 impl ClusterReplayer {
@@ -190,10 +197,10 @@ impl ClusterReplayer {
                 if !runs {
                     return write_down_line(text, n);
                 }
-                if frame.to() != n {
+                if frame.to != n {
                     return text.word("misrouted\n");
                 }
-                let frame = frame.frame(alloc)?;
+                let frame = boxed_copy(alloc, frame)?;
                 self.event(alloc, schedule, n, Event::Frame(frame), text)
             }
         }

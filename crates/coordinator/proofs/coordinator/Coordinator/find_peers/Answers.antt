@@ -3,7 +3,12 @@ use Rattle.coordinator.specs.Views.{view_in}
 use Rattle.policy_model.specs.Discovery.{asks_peers}
 use Rattle.policy_model.specs.Elections.{bootstraps}
 use Rattle.coordinator.proofs.Composing.{ends_rule, fails_before}
+use Rattle.coordinator.proofs.Discovering.{asks_kept}
 use Rattle.coordinator.proofs.coordinator.Coordinator.find_peers.Goals as goal
+
+pub ask_peers-requires-clause-asks : goal.ask_peers-requires-clause-asks
+ask_peers-requires-clause-asks g c =
+    asks_kept g.K.Keeper c.args.self.now c.bootstrap.new.self c.args.asks c.bootstrap.ensures.rest c.requires.asks
 
 pub returns-in-Ok-clause-does : goal.returns-in-Ok-clause-does
 returns-in-Ok-clause-does g c =

@@ -11,7 +11,7 @@ returns-in-StartJoin g c =
 
 pub returns-in-PeersAsk : goal.returns-in-PeersAsk
 returns-in-PeersAsk g c =
-    record { does = subst (λ (m : WireMessage). DoesAll g.K.Keeper c.args.self.now c.on_peers_ask.new.self c.args.out.now c.on_peers_ask.new.out (λ s v. takes_message s v c.args.p m) (Ok tt)) (sym c.in-PeersAsk.is) c.on_peers_ask.ensures.does }
+    record { does = subst (λ (m : WireMessage). DoesAll g.K.Keeper c.args.self.now c.on_peers_ask.new.self c.args.out.now c.on_peers_ask.new.out (λ s v. takes_message s v c.args.p m) c.on_peers_ask.result) (sym c.in-PeersAsk.is) c.on_peers_ask.ensures.does }
 
 pub returns-in-PeersAnswer : goal.returns-in-PeersAnswer
 returns-in-PeersAnswer g c =

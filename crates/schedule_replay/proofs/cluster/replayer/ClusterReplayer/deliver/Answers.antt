@@ -3,7 +3,7 @@ use Rattle.std.proofs.lemmas.Bool.{not-false}
 use Rattle.std.proofs.lemmas.Result.{on_ok_weaker}
 use Rattle.std.proofs.lemmas.Option.{slice_get_past}
 use Rattle.wire_frames.specs.declared.frame.Frame.{Frame}
-use Rattle.voting_config.specs.Ids.{Id, same}
+use Rattle.voting_config.specs.Ids.{same}
 use Rattle.replay_node.specs.Clusters.{Cluster, own_world, settings_of}
 use Rattle.replay_node.specs.NodeWorld.{needs_opening}
 use Rattle.schedule_replay.specs.ClusterStands.{AllFor}
@@ -29,7 +29,7 @@ returns-then-ne c =
     let old = c.args.self.now in
     let up : (d : Cluster) → AllFor ids initial voting_only ids old.nodes.items d → true ≡ not (needs_opening (own_world (settings_of ids initial voting_only c.args.n) d)) = λ d s. sym c.if-not-runs.false ∙ c.runs-runs.ensures d s in
     let at = lent_at old.frames.items c.as_slice.result.now (c.args.ordinal - 1) c.in-Some.frame.now c.as_slice.ensures.value c.in-Some.ensures.lookup.3.0 c.in-Some.ensures.lookup.1 in
-    let other : same c.in-Some.frame.now.to c.args.n ≡ false = subst (λ (i : Id). same i c.args.n ≡ false) c.to.ensures (not_true _ c.if-ne.ensures) in
+    let other : same c.in-Some.frame.now.to c.args.n ≡ false = not_true _ c.if-ne.ensures in
     record { done = on_ok_weaker c.word-then-ne.result (misrouted ids initial voting_only c.args.n old.nodes.items old.frames.items c.args.ordinal c.in-Some.frame.now c.args.text.now c.word-then-ne.new.self at up other) c.word-then-ne.ensures }
   where
     not_true : (b : Bool) → true ≡ not b → b ≡ false
@@ -45,8 +45,8 @@ returns-in_ok-frame-in-Some c =
     let up : (d : Cluster) → AllFor ids initial voting_only ids old.nodes.items d → true ≡ not (needs_opening (own_world (settings_of ids initial voting_only c.args.n) d)) = λ d s. sym c.if-not-runs.false ∙ c.runs-runs.ensures d s in
     let at = lent_at old.frames.items c.as_slice.result.now (c.args.ordinal - 1) c.in-Some.frame.now c.as_slice.ensures.value c.in-Some.ensures.lookup.3.0 c.in-Some.ensures.lookup.1 in
     let copied : c.in_ok-frame-in-Some.frame ≡ c.in-Some.frame.now = c.in_ok-frame-in-Some.ensures in
-    let to : same c.to.result c.args.n ≡ true = not-false _ (sym c.if-ne.ensures) in
-    let mine : same c.in_ok-frame-in-Some.frame.to c.args.n ≡ true = ap (λ (f : Frame). same f.to c.args.n) copied ∙ subst (λ (i : Id). same i c.args.n ≡ true) c.to.ensures to in
+    let to : same c.in-Some.frame.now.to c.args.n ≡ true = not-false _ (sym c.if-ne.ensures) in
+    let mine : same c.in_ok-frame-in-Some.frame.to c.args.n ≡ true = ap (λ (f : Frame). same f.to c.args.n) copied ∙ to in
     record {
       done = on_ok_weaker c.event.result (handed_over ids initial voting_only c.args.n old.nodes.items old.frames.items c.args.ordinal c.in_ok-frame-in-Some.frame c.event.new.self.nodes.items c.event.new.self.frames.items c.args.text.now c.event.new.text
           (at ∙ ap (λ (f : Frame). Some f) (sym copied)) up mine) c.event.ensures.done;
