@@ -1,8 +1,9 @@
 //! `JoinVotes`: the nodes that joined, or answered a publication or a pre-vote request.
 ghost use Rattle.std.specs.Prelude.{◌≡◌, ◌<◌, ◌⊎◌, ◌&&◌, [], length, true, IsTrue, count_ones};
-ghost use Rattle.voting_config.specs.Ids.{has, has_room as has_room_of, with_id, without_id, most_ids, is_quorum_of, are_among};
+ghost use Rattle.voting_config.specs.Ids.{has, has_room as has_room_of, with_id, without_id, most_ids, is_quorum_of, are_among, IsIdSet};
 
 use crate::config::VotingConfig;
+use crate::id_list::IdList;
 use crate::mask::Mask;
 use crate::node_id::NodeId;
 use crate::node_set::{MAX_IDS, NodeSet};
@@ -153,16 +154,12 @@ impl JoinVotes {
         self.word
     }
 
-    /// Whether the votes are a quorum of the configuration.
-    pub fn is_quorum_of(&self, config: &VotingConfig) -> bool
+    /// Whether the votes are a quorum of the configuration of these ids.
+    pub fn is_quorum_of(&self, config: &IdList) -> bool
         ensures { result ≡ is_quorum_of config.now self.now }
     {
-        let members = config.members();
-        quorum_mask(
-            self.word,
-            self.roster.mask(members),
-            members.as_slice().len(),
-        )
+        let members = config.as_slice();
+        quorum_mask(self.word, self.roster.mask_of_ids(members), members.len())
     }
 
     /// Whether the votes are a quorum both of the committed configuration and of a current one. No id of the one is looked up among those
@@ -171,8 +168,26 @@ impl JoinVotes {
         ensures value { result ≡ (is_quorum_of committed.now self.old && is_quorum_of current.now self.old) }
         ensures same { self.new ≡ self.old }
     {
+        self.are_quorums(committed.members().as_slice(), current.members().as_slice())
+    }
+
+    /// [`is_quorum_of_both`](JoinVotes::is_quorum_of_both), where the current configuration is that of a state.
+    pub fn is_quorum_with_state(&mut self, committed: &VotingConfig, current: &IdList) -> bool
+        ensures value { result ≡ (is_quorum_of committed.now self.old && is_quorum_of current.now self.old) }
+        ensures same { self.new ≡ self.old }
+    {
+        self.are_quorums(committed.members().as_slice(), current.as_slice())
+    }
+
+    // The same of the ids of two configurations.
+    fn are_quorums(&mut self, committed: &[NodeId], current: &[NodeId]) -> bool
+        requires committed { IsIdSet committed.now }
+        requires current { IsIdSet current.now }
+        ensures value { result ≡ (is_quorum_of committed.now self.old && is_quorum_of current.now self.old) }
+        ensures same { self.new ≡ self.old }
+    {
         // Most votes are counted while they are too few.
-        if self.len() <= committed.members().as_slice().len() / 2 {
+        if self.len() <= committed.len() / 2 {
             return false;
         }
         self.committed.stand_for(committed, &self.roster);

@@ -1,9 +1,9 @@
 //! `Mask`: a configuration as a word over a roster.
 ghost use Rattle.std.specs.Prelude.{◌≡◌, ◌<◌, ◌^◌, cond, bit_or, length, IsTrue, []};
-ghost use Rattle.voting_config.specs.Ids.{has};
+ghost use Rattle.voting_config.specs.Ids.{has, IsIdSet};
 ghost use Rattle.voting_config.specs.Rosters.{are_distinct, mask_of, is_quorum_mask};
 
-use crate::config::VotingConfig;
+use crate::ids::are_same;
 use crate::node_id::NodeId;
 use crate::node_set::NodeSet;
 use crate::roster::{Roster, quorum_mask, with_bit};
@@ -11,7 +11,7 @@ use crate::roster::{Roster, quorum_mask, with_bit};
 /// A configuration, and a word that tells which of the ids of a roster are in it. Whoever holds it mends the word as the roster grows.
 #[derive(Drop)]
 pub struct Mask {
-    config: VotingConfig,
+    config: NodeSet,
     word: u64,
 }
 
@@ -21,7 +21,7 @@ impl Mask {
         ensures { result ≡ record { config = []; word = 0 } }
     {
         Mask {
-            config: VotingConfig::of(&NodeSet::new()),
+            config: NodeSet::new(),
             word: 0,
         }
     }
@@ -31,7 +31,7 @@ impl Mask {
         ensures { result ≡ self.now }
     {
         Mask {
-            config: VotingConfig::of(self.config.members()),
+            config: self.config.copy(),
             word: self.word,
         }
     }
@@ -41,7 +41,7 @@ impl Mask {
         requires { place < 64 }
         ensures { self.new ≡ record self.old { word = cond (has id self.old.config) (bit_or self.old.word (2 ^ place)) self.old.word } }
     {
-        if self.config.members().contains(id) {
+        if self.config.contains(id) {
             self.word = with_bit(self.word, place);
         }
     }
@@ -50,16 +50,17 @@ impl Mask {
     pub fn renew(&mut self, roster: &Roster)
         ensures { self.new ≡ record self.old { word = mask_of roster.now self.old.config } }
     {
-        self.word = roster.mask(self.config.members());
+        self.word = roster.mask(&self.config);
     }
 
-    /// Makes it that of this configuration, where it is not.
-    pub fn stand_for(&mut self, config: &VotingConfig, roster: &Roster)
-        requires { self.old.word ≡ mask_of roster.now self.old.config }
+    // Makes it that of the configuration of these ids, where it is not.
+    pub(crate) fn stand_for(&mut self, config: &[NodeId], roster: &Roster)
+        requires set { IsIdSet config.now }
+        requires word { self.old.word ≡ mask_of roster.now self.old.config }
         ensures { self.new ≡ record { config = config.now; word = mask_of roster.now config.now } }
     {
-        if !self.config.is_same(config) {
-            self.config.copy_from(config.members());
+        if !are_same(self.config.as_slice(), config) {
+            self.config.copy_from_slice(config);
             self.renew(roster);
         }
     }
@@ -69,6 +70,6 @@ impl Mask {
         ensures value { result ≡ is_quorum_mask votes self.now.word (length self.now.config) }
         ensures distinct { IsTrue (are_distinct self.now.config) }
     {
-        quorum_mask(votes, self.word, self.config.members().as_slice().len())
+        quorum_mask(votes, self.word, self.config.as_slice().len())
     }
 }

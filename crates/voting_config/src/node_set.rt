@@ -1,15 +1,16 @@
-//! `NodeSet`: a set of at most 32 ids, which is held in place and takes no memory of the allocator.
+//! `NodeSet`: a set of at most 64 ids, which is held in place and takes no memory of the allocator.
 ghost use Rattle.std.specs.Prelude.{◌≡◌, ℕ, ◌+◌, ◌<◌, ◌≤◌, ◌↔◌, List, [], ◌∷◌, ◌++◌, length, IsTrue, IfOk, OnOk, OnErr, IsErr, slice_get, not, Result, false, true, None, IfSome};
 ghost use Rattle.voting_config.specs.Ids.{Id, among, are_among, comes_after, has, has_room as has_room_of, IsIdSet, most_ids, outside, place_of, set_of, some_among, union as union_of, union_count_of, with_id, with_room, without_id};
 ghost use Rattle.voting_config.specs.Lists.{listed_ids};
 
+use crate::ids::{ids_within, ids_without, is_among};
 use crate::lists::read_ids;
 use crate::node_id::NodeId;
 use arrayvec::ArrayVec;
 use std::marker::Model;
 
 /// How many ids a set holds at most.
-pub const MAX_IDS: usize = 32;
+pub const MAX_IDS: usize = 64;
 
 /// A set that has [`MAX_IDS`] ids already was to take another.
 #[derive(Clone, Copy, Debug, PartialEq, Eq, thiserror::Error)]
@@ -89,7 +90,7 @@ impl NodeSet {
     pub fn contains(&self, id: NodeId) -> bool
         ensures { result ≡ has id self.now }
     {
-        self.ids.as_slice().contains(&id)
+        is_among(self.ids.as_slice(), id)
     }
 
     /// The ids, ascending.
@@ -212,28 +213,14 @@ impl NodeSet {
     pub fn within(&self, others: &NodeSet) -> NodeSet
         ensures { result ≡ among self.now others.now }
     {
-        let mut kept = NodeSet::new();
-        let ids = self.as_slice();
-        for id in ids {
-            if others.contains(*id) {
-                kept.push(*id);
-            }
-        }
-        kept
+        ids_within(self.as_slice(), others)
     }
 
     /// Those of the ids that the others do not have.
     pub fn without(&self, others: &NodeSet) -> NodeSet
         ensures { result ≡ outside self.now others.now }
     {
-        let mut kept = NodeSet::new();
-        let ids = self.as_slice();
-        for id in ids {
-            if !others.contains(*id) {
-                kept.push(*id);
-            }
-        }
-        kept
+        ids_without(self.as_slice(), others)
     }
 
     /// Whether the others have one of the ids.
@@ -276,13 +263,21 @@ impl NodeSet {
                 .count()
     }
 
+    // Makes it the set of these ids, in its place.
+    pub(crate) fn copy_from_slice(&mut self, ids: &[NodeId])
+        requires { IsIdSet ids.now }
+        ensures { self.new ≡ ids.now }
+    {
+        self.ids.clear();
+        // There is as much room as in a set, so this is no error.
+        let _ = self.ids.try_extend_from_slice(ids);
+    }
+
     /// Makes the set the same as the other, in its place.
     pub fn copy_from(&mut self, other: &NodeSet)
         ensures { self.new ≡ other.now }
     {
-        self.ids.clear();
-        // There is as much room as in the other, so this is no error.
-        let _ = self.ids.try_extend_from_slice(other.ids.as_slice());
+        self.copy_from_slice(other.as_slice());
     }
 
     /// The same set once more.

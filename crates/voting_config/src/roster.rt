@@ -4,6 +4,7 @@ ghost use Rattle.std.specs.Int.{bit_at, bit_not, w64};
 ghost use Rattle.voting_config.specs.Ids.{has, has_room as has_room_of, most_ids};
 ghost use Rattle.voting_config.specs.Rosters.{IsRoster, admitted, are_distinct, mask_of, marked, place_on, is_quorum_mask};
 
+use crate::ids::is_among;
 use crate::node_id::NodeId;
 use crate::node_set::{Full, MAX_IDS, NodeSet};
 use arrayvec::ArrayVec;
@@ -117,10 +118,18 @@ impl Roster {
         ensures value { result ≡ mask_of self.now set.now }
         ensures fits { result < 2 ^ length self.now }
     {
+        self.mask_of_ids(set.as_slice())
+    }
+
+    // The same of ids that are listed.
+    pub(crate) fn mask_of_ids(&self, set: &[NodeId]) -> u64
+        ensures value { result ≡ mask_of self.now set.now }
+        ensures fits { result < 2 ^ length self.now }
+    {
         let ids = self.ids.as_slice();
         let mut word = 0;
         for place in 0..ids.len() {
-            if set.contains(ids[place]) {
+            if is_among(set, ids[place]) {
                 word = with_bit(word, place as u8);
             }
         }

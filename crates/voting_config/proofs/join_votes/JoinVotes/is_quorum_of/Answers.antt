@@ -7,8 +7,8 @@ use Rattle.voting_config.proofs.join_votes.JoinVotes.is_quorum_of.Goals as goal
 
 pub returns : goal.returns
 returns c =
-    let members = c.members-members.result.now in
+    let members = c.as_slice-members.result.now in
     c.quorum_mask.ensures
-    ∙ (λ i. is_quorum_mask c.self.inside.word (c.mask.ensures.value i) (length (c.as_slice.ensures.value i)))
-    ∙ is_quorum _ _ _ _ _ _ c.self.invariant members (distinct_of members c.as_slice.ensures.is_set.ascending)
-    ∙ (λ i. is_quorum_of (c.members-members.ensures i) (c.self.view_is i))
+    ∙ (λ i. is_quorum_mask c.self.inside.word (c.mask_of_ids.ensures.value i) (length members))
+    ∙ is_quorum _ _ _ _ _ _ c.self.invariant members (distinct_of members (rw (← c.as_slice-members.ensures.value) at c.as_slice-members.ensures.is_set.ascending))
+    ∙ (λ i. is_quorum_of (c.as_slice-members.ensures.value i) (c.self.view_is i))

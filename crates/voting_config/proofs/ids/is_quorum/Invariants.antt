@@ -1,7 +1,7 @@
 use Rattle.std.proofs.Common.{◌≡◌, ◌≤◌, ◌*◌, length, take}
 use Rattle.std.specs.List.{count_by}
 use Rattle.voting_config.specs.Ids.{has}
-use Rattle.voting_config.proofs.config.VotingConfig.is_quorum.Given as goal
+use Rattle.voting_config.proofs.ids.is_quorum.Given as goal
 
 abbrev pub invariant-loop-id : goal.invariant-loop-id
 invariant-loop-id l = record {

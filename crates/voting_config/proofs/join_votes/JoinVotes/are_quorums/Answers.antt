@@ -4,18 +4,16 @@ use Rattle.voting_config.specs.Rosters.{are_distinct, ids_at, is_quorum_mask}
 use Rattle.voting_config.specs.declared.mask.Mask.{Mask}
 use Rattle.voting_config.proofs.Rosters.{ascends-set_of}
 use Rattle.voting_config.proofs.Counting.{is_quorum, too_few}
-use Rattle.voting_config.proofs.join_votes.JoinVotes.is_quorum_of_both.Goals as goal
-use Rattle.voting_config.proofs.join_votes.JoinVotes.is_quorum_of_both.Goals.{then-is_quorum, else-is_quorum}
+use Rattle.voting_config.proofs.join_votes.JoinVotes.are_quorums.Goals as goal
+use Rattle.voting_config.proofs.join_votes.JoinVotes.are_quorums.Goals.{then-is_quorum, else-is_quorum}
 
-pub returns-then-len-as_slice-clause-value : goal.returns-then-len-as_slice-clause-value
-returns-then-len-as_slice-clause-value c =
+pub returns-then-len-committed-clause-value : goal.returns-then-len-committed-clause-value
+returns-then-len-committed-clause-value c =
     let config : List Id = c.args.committed.now in
     let votes : List Id = c.args.self.now in
-    let same : c.as_slice.result.now ≡ config = c.as_slice.ensures.value ∙ c.members.ensures in
-    let config_ascends : ascends config ≡ true = subst (λ (l : List Id). ascends l ≡ true) c.members.ensures c.as_slice.ensures.is_set.ascending in
     let votes_ascend : ascends votes ≡ true = subst (λ (l : List Id). ascends l ≡ true) c.self.view_is (ascends-set_of (ids_at c.self.inside.roster c.self.inside.word)) in
-    let half : length votes ≤ length config / 2 = rw (← same) (rw c.len.ensures at c.if-len-as_slice.true) in
-    too_few config votes config_ascends votes_ascend half (is_quorum_of c.args.current.now votes)
+    let half : length votes ≤ length config / 2 = rw c.len.ensures at c.if-len-committed.true in
+    too_few config votes c.requires.committed.ascending votes_ascend half (is_quorum_of c.args.current.now votes)
 
 pub returns-clause-value : goal.returns-clause-value
 returns-clause-value c =

@@ -1,6 +1,6 @@
 use Rattle.std.proofs.Common.{◌≡◌, take}
 use Rattle.voting_config.specs.Ids.{among}
-use Rattle.voting_config.proofs.node_set.NodeSet.within.Given as goal
+use Rattle.voting_config.proofs.ids.ids_within.Given as goal
 
 abbrev pub invariant-loop-id : goal.invariant-loop-id
 invariant-loop-id l = l.kept ≡ among (take l.id-index l.ids) l.others
