@@ -17,9 +17,9 @@ use Rattle.client_lines.specs.Requests.{node_id_of, node_ids_of, are_distinct, a
 use Rattle.voting_config.proofs.Sets.{length-with_id-absent}
 use Rattle.client_lines.proofs.Distinct.{has-append, are_distinct-again, are_distinct-push}
 
--- one more id, that is not in yet, where 32 are not in yet
+-- one more id, that is not in yet, where 64 are not in yet
 abbrev pub with_new_id : Id → List Id → Option (List Id)
-with_new_id id found = cond (has id found) None (cond (length found == 32) None (Some (with_id id found)))
+with_new_id id found = cond (has id found) None (cond (length found == 64) None (Some (with_id id found)))
 
 -- the ids found so far, with those that follow
 abbrev pub ids_from : Items → List Id → Option (List Id)
@@ -32,17 +32,17 @@ record IsSetOf (found prefix : List Id) : Type 0 where
   size : length found ≡ length prefix
   set : found ≡ set_of prefix
   distinct : are_distinct prefix ≡ true
-  few : length prefix ≤ 32
+  few : length prefix ≤ 64
 
-as_set-some : (ids : List Id) → are_distinct ids ≡ true → length ids ≤ 32 → as_set ids ≡ Some (set_of ids)
-as_set-some ids d few = let e : nat_le (length ids) 32 ≡ true = grind (arith, nat_tests) in rw (d, e) refl
+as_set-some : (ids : List Id) → are_distinct ids ≡ true → length ids ≤ 64 → as_set ids ≡ Some (set_of ids)
+as_set-some ids d few = let e : nat_le (length ids) 64 ≡ true = grind (arith, nat_tests) in rw (d, e) refl
 
 as_set-again : (ids : List Id) → are_distinct ids ≡ false → as_set ids ≡ None
 as_set-again ids d = rw d refl
 
-as_set-many : (ids : List Id) → 32 < length ids → as_set ids ≡ None
+as_set-many : (ids : List Id) → 64 < length ids → as_set ids ≡ None
 as_set-many ids many =
-    let e : nat_le (length ids) 32 ≡ false = grind (arith, nat_tests) in
+    let e : nat_le (length ids) 64 ≡ false = grind (arith, nat_tests) in
     rw e (elim (are_distinct ids) as (λ b. cond (b && false) (Some (set_of ids)) None ≡ None) [ true ↦ refl | false ↦ refl ])
 
 -- whatever ids follow, there is no set
@@ -57,7 +57,7 @@ goes_over : (prefix : List Id) (x : Id) (o : Option (List Id))
 goes_over prefix x None = refl
 goes_over prefix x (Some ids) = ap as_set (append_assoc prefix (x ∷ []) ids)
 
-IsSetOf-with_id : (x : Id) (found prefix : List Id) → IsSetOf found prefix → has x found ≡ false → length found < 32 → IsSetOf (with_id x found) (prefix ++ x ∷ [])
+IsSetOf-with_id : (x : Id) (found prefix : List Id) → IsSetOf found prefix → has x found ≡ false → length found < 64 → IsSetOf (with_id x found) (prefix ++ x ∷ [])
 IsSetOf-with_id x found prefix s new room = record {
   members = λ q. has-with_id q x found ∙ or_comm (same x q) (has q found) ∙ ap (λ (b : Bool). b || same x q) (s.members q) ∙ sym (has-append q prefix (x ∷ []) ∙ ap (λ (b : Bool). has q prefix || b) (or-false (same x q)));
   size = let longer = length-with_id-absent x found new in rw (longer, length-append, s.size) (omega arith);
@@ -77,16 +77,16 @@ ids_from-node_ids_of (item d ds) found prefix s =
     one : (x : Id) → (IsSetOf (with_id x found) (prefix ++ x ∷ []) → ids_from ds (with_id x found) ≡ option_and_then as_set (option_map (λ ids. (prefix ++ x ∷ []) ++ ids) (node_ids_of ds)))
         → option_and_then (λ more. ids_from ds more) (with_new_id x found) ≡ option_and_then as_set (option_map (λ ids. prefix ++ ids) (option_map (λ ids. x ∷ ids) (node_ids_of ds)))
     one x later =
-        elim (has x found) as (λ b. has x found ≡ b → option_and_then (λ more. ids_from ds more) (cond b None (cond (length found == 32) None (Some (with_id x found)))) ≡ option_and_then as_set (option_map (λ ids. prefix ++ ids) (option_map (λ ids. x ∷ ids) (node_ids_of ds)))) [
+        elim (has x found) as (λ b. has x found ≡ b → option_and_then (λ more. ids_from ds more) (cond b None (cond (length found == 64) None (Some (with_id x found)))) ≡ option_and_then as_set (option_map (λ ids. prefix ++ ids) (option_map (λ ids. x ∷ ids) (node_ids_of ds)))) [
           | true ↦ λ e. none_follows prefix x (node_ids_of ds) (λ ids. as_set-again (prefix ++ x ∷ ids) (are_distinct-again x prefix ids (sym (s.members x) ∙ e)))
           | false ↦ λ e.
-              elim (length found == 32) as (λ b. (length found == 32) ≡ b → option_and_then (λ more. ids_from ds more) (cond b None (Some (with_id x found))) ≡ option_and_then as_set (option_map (λ ids. prefix ++ ids) (option_map (λ ids. x ∷ ids) (node_ids_of ds)))) [
+              elim (length found == 64) as (λ b. (length found == 64) ≡ b → option_and_then (λ more. ids_from ds more) (cond b None (Some (with_id x found))) ≡ option_and_then as_set (option_map (λ ids. prefix ++ ids) (option_map (λ ids. x ∷ ids) (node_ids_of ds)))) [
                 | true ↦ λ f.
-                    let full : length found ≡ 32 = grind (arith, nat_tests) in
-                    let many : (ids : List Id) → 32 < length (prefix ++ x ∷ ids) = λ ids. rw length-append (omega (arith, full, s.size)) in
+                    let full : length found ≡ 64 = grind (arith, nat_tests) in
+                    let many : (ids : List Id) → 64 < length (prefix ++ x ∷ ids) = λ ids. rw length-append (omega (arith, full, s.size)) in
                     none_follows prefix x (node_ids_of ds) (λ ids. as_set-many (prefix ++ x ∷ ids) (many ids))
                 | false ↦ λ f.
-                    let room : length found < 32 = grind (arith, nat_tests, s.size, s.few) in
+                    let room : length found < 64 = grind (arith, nat_tests, s.size, s.few) in
                     later (IsSetOf-with_id x found prefix s e room) ∙ goes_over prefix x (node_ids_of ds)
               ] refl
         ] refl

@@ -44,7 +44,7 @@ each_setting (x ∷ xs) fits = omega (arith, each_setting xs fits.1, setting_sho
 settings_short : (xs : List Setting) → settings.Fits xs → length (settings.spelling xs) ≤ 2 + 1156 * most_settings
 settings_short xs fits = omega (arith, fits.0, each_setting xs fits.2, length-append (two_bytes (length xs)) (flat_map setting.spelling xs), length-two (length xs))
 
-pub value_short : (v : ClusterValue) → value.Fits v → length (value.spelling v) ≤ 1185500
+pub value_short : (v : ClusterValue) → value.Fits v → length (value.spelling v) ≤ 4737500
 value_short v fits =
     omega (
       arith,
@@ -67,7 +67,7 @@ parent_short (Some i) = omega (arith, length-state_id i)
 lineage_short : (i : StateId) (o : Option StateId) → length (lineage.spelling (i, o)) ≤ 33
 lineage_short i o = omega (arith, length-append (state_id.spelling i) ((optional state_id).spelling o), length-state_id i, parent_short o)
 
-pub state_short : (s : ClusterState) → state.Fits s → length (state.spelling s) ≤ 1200000
+pub state_short : (s : ClusterState) → state.Fits s → length (state.spelling s) ≤ 4800000
 state_short s fits =
     omega (
       arith,

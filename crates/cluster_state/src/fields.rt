@@ -13,13 +13,13 @@ use crate::fault::{FieldError, ReadError};
 use crate::settings::Settings;
 use std::alloc::Global;
 use std::marker::Model;
-use voting_config::{MAX_IDS, NodeId, NodeSet, VotingConfig};
+use voting_config::{IdList, MAX_IDS, NodeId, NodeSet, VotingConfig};
 
 /// How many exclusions from voting a state has at most.
 pub const MAX_EXCLUSIONS: u8 = 10;
 
 /// How many settings a state has at most.
-pub const MAX_SETTINGS: u16 = 1024;
+pub const MAX_SETTINGS: u16 = 4096;
 
 /// Bytes that are read field by field, seen as those that are left.
 #[derive(Drop)]
@@ -184,6 +184,16 @@ impl<'a> Reader<'a> {
             return Err(FieldError::TooMany);
         }
         self.elements(count)
+    }
+
+    /// The same, in memory of its own.
+    pub fn id_list(&mut self, alloc: Global, limit: u8) -> Result<IdList, ReadError>
+        requires { limit ≤ most_ids }
+        ensures { ReadsInMemory result self.new ((ids limit).at self.old) }
+    {
+        let ids = self.ids(limit)?;
+        let list = IdList::of(alloc, &ids)?;
+        Ok(list)
     }
 
     /// A voting configuration.

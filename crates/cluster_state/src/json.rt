@@ -8,9 +8,9 @@ use crate::settings::Settings;
 use crate::state::{ClusterState, ClusterValue, StateId};
 use serde::{Described, Serialize, Serializer};
 use std::alloc::{AllocError, Global};
-use voting_config::{NodeId, NodeSet};
+use voting_config::{IdList, NodeId};
 
-fn send_ids<S: Serializer>(ids: &NodeSet, out: &mut S) -> Result<(), S::Error>
+fn send_ids<S: Serializer>(ids: &IdList, out: &mut S) -> Result<(), S::Error>
     ensures { OnOk result (SendsValue (ids_json ids.now) (S.written out.old) (S.written out.new)) }
 {
     let listed = ids.as_slice();
@@ -89,9 +89,9 @@ impl Serialize for ClusterState {
     fn serialize<S: Serializer>(&self, out: &mut S) -> Result<(), S::Error> {
         out.begin_map(Some(6))?;
         out.key("committed")?;
-        send_ids(self.committed.members(), out)?;
+        send_ids(&self.committed, out)?;
         out.key("config")?;
-        send_ids(self.config.members(), out)?;
+        send_ids(&self.config, out)?;
         out.key("parent")?;
         send_parent(self.parent, out)?;
         out.key("term")?;

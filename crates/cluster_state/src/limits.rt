@@ -45,8 +45,7 @@ fn are_fit_settings(settings: &Settings) -> bool
 fn is_fit_value(value: &ClusterValue) -> bool
     ensures { IsTrue result ↔ IsFitValue value.now }
 {
-    value.exclusions.as_slice().len() <= MAX_EXCLUSIONS as usize
-        && are_fit_settings(&value.settings)
+    value.exclusions.len() <= MAX_EXCLUSIONS as usize && are_fit_settings(&value.settings)
 }
 
 fn is_fit_parent(parent: Option<StateId>) -> bool

@@ -13,7 +13,7 @@ use std::alloc::{AllocError, AllocFailed, Global};
 use std::marker::Model;
 use std::ops::Deref;
 use std::rc::Rc;
-use voting_config::VotingConfig;
+use voting_config::IdList;
 
 /// A cluster state that all who have it hold in one place, so that handing it on copies none of it. Beside it lie its bytes, where it came
 /// as bytes or was spelled to be published, and in the second case its JSON and the digest that journals write with it, so that whoever
@@ -167,11 +167,11 @@ impl Model for SharedConfig {
 }
 
 impl Deref for SharedConfig {
-    type Target = VotingConfig;
+    type Target = IdList;
 
     ghost deref_gives = { λ c config. config ≡ c };
 
-    fn deref(&self) -> &VotingConfig {
+    fn deref(&self) -> &IdList {
         let state: &ClusterState = &self.state;
         &state.config
     }

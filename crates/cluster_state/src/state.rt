@@ -4,14 +4,14 @@ ghost use Rattle.std.specs.Prelude.{◌≡◌, IfOk};
 use crate::settings::Settings;
 use crate::shared::SharedState;
 use std::alloc::{AllocError, Global};
-use voting_config::{NodeId, NodeSet, VotingConfig};
+use voting_config::{IdList, NodeId, NodeSet, VotingConfig};
 
 /// What the nodes agree on.
 #[derive(Drop)]
 pub struct ClusterValue {
     pub master: Option<NodeId>,
-    pub members: NodeSet,
-    pub exclusions: NodeSet,
+    pub members: IdList,
+    pub exclusions: IdList,
     pub settings: Settings,
 }
 
@@ -61,15 +61,15 @@ impl StateId {
 pub const LAST_NUMBER: u64 = 1 << 62;
 
 /// A cluster state: its id, the id of the state that it was made from, the voting configuration, the committed
-/// configuration as the publisher knew it, and the value that the nodes agree on.
+/// configuration as the publisher knew it, and the value that the nodes agree on. Its sets take what they hold, since states are kept.
 #[derive(Drop)]
 pub struct ClusterState {
     pub term: u64,
     pub version: u64,
     /// The id of the state that the publisher had accepted. A state that was not published has none.
     pub parent: Option<StateId>,
-    pub config: VotingConfig,
-    pub committed: VotingConfig,
+    pub config: IdList,
+    pub committed: IdList,
     pub value: ClusterValue,
 }
 
@@ -91,8 +91,8 @@ impl ClusterValue {
     {
         ClusterValue {
             master: None,
-            members: NodeSet::new(),
-            exclusions: NodeSet::new(),
+            members: IdList::new(alloc),
+            exclusions: IdList::new(alloc),
             settings: Settings::new(alloc),
         }
     }
@@ -102,8 +102,8 @@ impl ClusterValue {
         ensures { result ≡ same_value self.now other.now }
     {
         self.master == other.master
-            && self.members.as_slice() == other.members.as_slice()
-            && self.exclusions.as_slice() == other.exclusions.as_slice()
+            && self.members.is_same(&other.members)
+            && self.exclusions.is_same(&other.exclusions)
             && self.settings.is_same(&other.settings)
     }
 
@@ -113,8 +113,8 @@ impl ClusterValue {
     {
         Ok(ClusterValue {
             master: self.master,
-            members: self.members.copy(),
-            exclusions: self.exclusions.copy(),
+            members: self.members.copy()?,
+            exclusions: self.exclusions.copy()?,
             settings: self.settings.copy()?,
         })
     }
@@ -127,7 +127,7 @@ impl Kept {
     pub fn empty(alloc: Global) -> Result<Kept, AllocError>
         ensures { IfOk result (λ kept. kept ≡ empty_record) }
     {
-        let accepted = SharedState::of(alloc, ClusterState::initial(alloc, &NodeSet::new()))?;
+        let accepted = SharedState::of(alloc, ClusterState::initial(alloc, &NodeSet::new())?)?;
         Ok(Kept {
             term: 0,
             accepted,
@@ -139,7 +139,7 @@ impl Kept {
     pub fn accept(&mut self, state: SharedState)
         ensures { self.new ≡ record (self.old) { accepted = state; committed = state.committed } }
     {
-        self.committed.copy_from(state.committed.members());
+        self.committed.copy_from(&state.committed);
         self.accepted = state;
     }
 
@@ -147,7 +147,7 @@ impl Kept {
     pub fn commit(&mut self)
         ensures { self.new ≡ record (self.old) { committed = self.old.accepted.config } }
     {
-        self.committed.copy_from(self.accepted.config.members());
+        self.committed.copy_from(&self.accepted.config);
     }
 }
 
@@ -156,17 +156,19 @@ impl ClusterState {
     ghost use Rattle.cluster_state.specs.States.{id_of};
 
     /// The state 0/0 that a bootstrap with this configuration makes the accepted one.
-    pub fn initial(alloc: Global, config: &NodeSet) -> ClusterState
-        ensures { result ≡ initial_state config.now }
+    pub fn initial(alloc: Global, config: &NodeSet) -> Result<ClusterState, AllocError>
+        ensures { IfOk result (λ s. s ≡ initial_state config.now) }
     {
-        ClusterState {
+        let committed = IdList::of(alloc, config)?;
+        let config = committed.copy()?;
+        Ok(ClusterState {
             term: 0,
             version: 0,
             parent: None,
-            config: VotingConfig::of(config),
-            committed: VotingConfig::of(config),
+            config,
+            committed,
             value: ClusterValue::empty(alloc),
-        }
+        })
     }
 
     /// The state's term and version.
@@ -187,8 +189,8 @@ impl ClusterState {
             term: self.term,
             version: self.version,
             parent: self.parent,
-            config: VotingConfig::of(self.config.members()),
-            committed: VotingConfig::of(self.committed.members()),
+            config: self.config.copy()?,
+            committed: self.committed.copy()?,
             value: self.value.copy()?,
         })
     }

@@ -51,12 +51,12 @@ item_fails put items i d found total Memory within h so_far = tt
 record HasPrefix (found prefix : List Id) : Type 0 where
   members : (q : Id) → has q found ≡ has q prefix
   size : length found ≡ length prefix
-  few : length prefix ≤ 32
+  few : length prefix ≤ 64
 
 has_push : (q x : Id) (prefix : List Id) → has q (prefix ++ x ∷ []) ≡ (has q prefix || same x q)
 has_push q x prefix = list_any-append (λ y. same y q) prefix (x ∷ []) ∙ ap (λ (b : Bool). has q prefix || b) (or-false (same x q))
 
-HasPrefix-with_id : (x : Id) (found prefix : List Id) → HasPrefix found prefix → has x found ≡ false → length found < 32 → HasPrefix (with_id x found) (prefix ++ x ∷ [])
+HasPrefix-with_id : (x : Id) (found prefix : List Id) → HasPrefix found prefix → has x found ≡ false → length found < 64 → HasPrefix (with_id x found) (prefix ++ x ∷ [])
 HasPrefix-with_id x found prefix s new room = record {
   members = λ q. has-with_id q x found ∙ or_comm (same x q) (has q found) ∙ ap (λ (b : Bool). b || same x q) (s.members q) ∙ sym (has_push q x prefix);
   size = let longer = length-with_id-absent x found new in rw (longer, length-append, s.size) (omega arith);
@@ -74,7 +74,7 @@ abbrev followed : List Text → Option (List Id) → Option (List Id)
 followed ts o = option_and_then (λ more. all_put with_new_id ts more) o
 
 abbrev tried : List Text → List Id → Option Id → Option (List Id)
-tried ts found o = followed ts (option_and_then (λ id. cond (has id found || length found == 32) None (Some (with_id id found))) o)
+tried ts found o = followed ts (option_and_then (λ id. cond (has id found || length found == 64) None (Some (with_id id found))) o)
 
 not_last : (a b : Bool) (ids : List Id) → None ≡ those (a && b && false) ids
 not_last true true ids = refl
@@ -86,41 +86,41 @@ not_middle true c ids = refl
 not_middle false c ids = refl
 
 abbrev IsTold : List Text → List Id → List Id → Type 0
-IsTold ts found prefix = HasPrefix found prefix → all_put with_new_id ts found ≡ those (list_all is_id ts && are_new prefix ts && nat_le (length prefix + length ts) 32) (onto found ts)
+IsTold ts found prefix = HasPrefix found prefix → all_put with_new_id ts found ≡ those (list_all is_id ts && are_new prefix ts && nat_le (length prefix + length ts) 64) (onto found ts)
 
 ids_told : (ts : List Text) (found prefix : List Id) → IsTold ts found prefix
 ids_told [] found prefix s =
-    let few : nat_le (length prefix + 0) 32 ≡ true = grind (arith, nat_tests, s.few) in
+    let few : nat_le (length prefix + 0) 64 ≡ true = grind (arith, nat_tests, s.few) in
     rw few refl
 ids_told (t ∷ ts) found prefix s =
     elim (is_id t) as (λ b. tried ts found (cond b (Some t) None)
-    ≡ those ((b && list_all is_id ts) && (not (has t prefix) && are_new (prefix ++ t ∷ []) ts) && nat_le (length prefix + suc (length ts)) 32) (onto (with_id t found) ts)) [
+    ≡ those ((b && list_all is_id ts) && (not (has t prefix) && are_new (prefix ++ t ∷ []) ts) && nat_le (length prefix + suc (length ts)) 64) (onto (with_id t found) ts)) [
       | false ↦ refl
       | true ↦ rw (← s.members t) (one (has t found) refl (λ h. ids_told ts (with_id t found) (prefix ++ t ∷ []) h))
     ]
   where
-    room : (b : Bool) → has t found ≡ false → (length found == 32) ≡ b → IsTold ts (with_id t found) (prefix ++ t ∷ [])
+    room : (b : Bool) → has t found ≡ false → (length found == 64) ≡ b → IsTold ts (with_id t found) (prefix ++ t ∷ [])
         → followed ts (cond b None (Some (with_id t found)))
-        ≡ those (list_all is_id ts && are_new (prefix ++ t ∷ []) ts && nat_le (length prefix + suc (length ts)) 32) (onto (with_id t found) ts)
+        ≡ those (list_all is_id ts && are_new (prefix ++ t ∷ []) ts && nat_le (length prefix + suc (length ts)) 64) (onto (with_id t found) ts)
     room true e f later =
-        let full : length found ≡ 32 = grind (arith, nat_tests) in
-        let many : nat_le (length prefix + suc (length ts)) 32 ≡ false = grind (arith, nat_tests, full, s.size) in
+        let full : length found ≡ 64 = grind (arith, nat_tests) in
+        let many : nat_le (length prefix + suc (length ts)) 64 ≡ false = grind (arith, nat_tests, full, s.size) in
         rw many (not_last (list_all is_id ts) _ _)
     room false e f later =
-        let fits : length found < 32 = grind (arith, nat_tests, s.size, s.few) in
+        let fits : length found < 64 = grind (arith, nat_tests, s.size, s.few) in
         let longer : length (prefix ++ t ∷ []) + length ts ≡ length prefix + suc (length ts) = rw length-append (omega arith) in
         later (HasPrefix-with_id t found prefix s e fits) ∙ rw longer refl
 
     one : (b : Bool) → has t found ≡ b → IsTold ts (with_id t found) (prefix ++ t ∷ [])
-        → followed ts (cond (b || length found == 32) None (Some (with_id t found)))
-        ≡ those (list_all is_id ts && (not b && are_new (prefix ++ t ∷ []) ts) && nat_le (length prefix + suc (length ts)) 32) (onto (with_id t found) ts)
+        → followed ts (cond (b || length found == 64) None (Some (with_id t found)))
+        ≡ those (list_all is_id ts && (not b && are_new (prefix ++ t ∷ []) ts) && nat_le (length prefix + suc (length ts)) 64) (onto (with_id t found) ts)
     one true e later = not_middle (list_all is_id ts) _ _
-    one false e later = room (length found == 32) e refl later
+    one false e later = room (length found == 64) e refl later
 
 pub all_ids : (ts : List Text) → all_put with_new_id ts [] ≡ set_in ts
 all_ids ts =
     let none : 0 + length ts ≡ length ts = omega arith in
-    ids_told ts [] [] (record { members = λ q. refl; size = refl; few = omega arith }) ∙ ap (λ (n : ℕ). those (list_all is_id ts && are_new [] ts && nat_le n 32) (onto [] ts)) none
+    ids_told ts [] [] (record { members = λ q. refl; size = refl; few = omega arith }) ∙ ap (λ (n : ℕ). those (list_all is_id ts && are_new [] ts && nat_le n 64) (onto [] ts)) none
 
 -- ---- peers
 

@@ -19,7 +19,7 @@ pub data Calls : Type 0 where
   Then : (calls : Calls) → (call : Call) → Calls
 
 abbrev pub most_peers : ℕ
-most_peers = 31
+most_peers = 63
 
 -- how long after peers were asked they are asked again, in ms
 abbrev pub find_peers_interval : ℕ

@@ -13,7 +13,7 @@ use std::marker::Model;
 use voting_config::{NodeId, NodeSet};
 
 /// How many peers are known at most.
-pub const MAX_PEERS: usize = 31;
+pub const MAX_PEERS: usize = 63;
 
 /// `discovery.find_peers_interval`, in ms: how long after peers were asked they are asked again. 1 s by default
 /// (Elasticsearch reference 7.x, Discovery and cluster formation settings).

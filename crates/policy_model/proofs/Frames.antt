@@ -416,31 +416,31 @@ module _ (s : Settings) where
   few-value : (v : View) → IsSmallView v → length (next.value_now s v).members ≤ most_ids
   few-value v f = few-next (as_master s v.node) v.tasks f.members
 
-  few-publishes : (v made : View) → IsSmallView v → IsSmallView made → Few 32 made (next.publishes s v made)
+  few-publishes : (v made : View) → IsSmallView v → IsSmallView made → Few 64 made (next.publishes s v made)
   few-publishes v made f g =
-      few-act 32 made (next.value_act s v) _ g (few-value v f) (λ h.
-      few-if 32 _ (doing.takes s made (next.value_act s v)) _ _ (few-sends 32 _ _ _ (few-value v f) h) (few-more 0 32 _ _ (omega arith) (few-becomes_candidate _ h)))
+      few-act 64 made (next.value_act s v) _ g (few-value v f) (λ h.
+      few-if 64 _ (doing.takes s made (next.value_act s v)) _ _ (few-sends 64 _ _ _ (few-value v f) h) (few-more 0 64 _ _ (omega arith) (few-becomes_candidate _ h)))
 
-  few-makes_state : (v : View) → IsSmallView v → Few 32 v (next.makes_state s v)
+  few-makes_state : (v : View) → IsSmallView v → Few 64 v (next.makes_state s v)
   few-makes_state v f =
       let answers = next_answers (as_master s v.node) v.tasks in
-      few-append 0 32 v (doing.reply_all s answers) _ (few-replies v answers f)
+      few-append 0 64 v (doing.reply_all s answers) _ (few-replies v answers f)
       (rw (moved_all-replies s v answers) (λ g.
-      few-item 32 v (Notes StateMade) _ refl f (λ h.
-      few-if 32 _ (is_nothing_new (as_master s v.node) v.tasks) _ _ (none-within 32 _ h) (few-publishes v _ f h))))
+      few-item 64 v (Notes StateMade) _ refl f (λ h.
+      few-if 64 _ (is_nothing_new (as_master s v.node) v.tasks) _ _ (none-within 64 _ h) (few-publishes v _ f h))))
 
-  few-asks_successor : (u v : View) (o : Option Id) → IsSmallView u → IsSmallView v → Few 32 u (next.asks_successor s v o)
-  few-asks_successor u v None g f = none-within 32 u g
-  few-asks_successor u v (Some id) g f = few-if 32 u (nat_le (v.node.term + 1) last_number) _ _ (few-sends 32 u _ _ f.targets g) (none-within 32 u g)
+  few-asks_successor : (u v : View) (o : Option Id) → IsSmallView u → IsSmallView v → Few 64 u (next.asks_successor s v o)
+  few-asks_successor u v None g f = none-within 64 u g
+  few-asks_successor u v (Some id) g f = few-if 64 u (nat_le (v.node.term + 1) last_number) _ _ (few-sends 64 u _ _ f.targets g) (none-within 64 u g)
 
-  few-hands_over : (v : View) → IsSmallView v → Few 32 v (next.hands_over s v)
+  few-hands_over : (v : View) → IsSmallView v → Few 64 v (next.hands_over s v)
   few-hands_over v f =
-      few-if 32 v (is_due v.handover_due v.moment) _ _ (few-item 32 v _ _ refl f (λ g. few-asks_successor _ v (next.successor_of s v) g f)) (none-within 32 v f)
+      few-if 64 v (is_due v.handover_due v.moment) _ _ (few-item 64 v _ _ refl f (λ g. few-asks_successor _ v (next.successor_of s v) g f)) (none-within 64 v f)
 
-  few-goes_on : (v : View) → IsSmallView v → Few 32 v (next.goes_on s v)
+  few-goes_on : (v : View) → IsSmallView v → Few 64 v (next.goes_on s v)
   few-goes_on v f =
-      few-if 32 v (doing.is_leader v.mode && not (next.is_in_flight v.publication)) _ _
-      (few-if 32 v (doing.may_win s v) _ _ (few-makes_state v f) (few-hands_over v f)) (none-within 32 v f)
+      few-if 64 v (doing.is_leader v.mode && not (next.is_in_flight v.publication)) _ _
+      (few-if 64 v (doing.may_win s v) _ _ (few-makes_state v f) (few-hands_over v f)) (none-within 64 v f)
 
   -- ---- elections
 
@@ -448,13 +448,13 @@ module _ (s : Settings) where
   few-takes_config v None f = few-none v f
   few-takes_config v (Some config) f = few-act 0 v (Bootstrap config) [] f tt (λ g. few-none _ g)
 
-  few-known : (v : View) → IsSmallView v → length (known_set v.finder) ≤ 31
+  few-known : (v : View) → IsSmallView v → length (known_set v.finder) ≤ 63
   few-known v f =
       let set = length-set_of (ids_of v.finder.peers) in
       let ids = length-map v.finder.peers (λ (p : Peer). p.id) in
       omega (arith, f.peers, set, ids)
 
-  few-free : (v : View) → IsSmallView v → length (free_set v.finder) ≤ 31
+  few-free : (v : View) → IsSmallView v → length (free_set v.finder) ≤ 63
   few-free v f =
       let free = filter (λ (p : Peer). is_free p.answer) v.finder.peers in
       let set = length-set_of (ids_of free) in
@@ -462,47 +462,47 @@ module _ (s : Settings) where
       let some = fewer (λ (p : Peer). is_free p.answer) v.finder.peers in
       omega (arith, f.peers, set, ids, some)
 
-  few-stands : (u v : View) (term : ℕ) → IsSmallView u → IsSmallView v → Few 32 u (elections.stands_for_election s v term)
+  few-stands : (u v : View) (term : ℕ) → IsSmallView u → IsSmallView v → Few 64 u (elections.stands_for_election s v term)
   few-stands u v term g f =
       let all = length-with_id-le s.me (known_set v.finder) in
       let known = few-known v f in
-      let most : length (with_id s.me (known_set v.finder)) ≤ 32 = omega (arith, all, known) in
-      few-item 32 u _ _ refl g (λ h. few-if 32 _ (nat_le term last_number) _ _ (few-sends 32 _ _ _ most h) (none-within 32 _ h))
+      let most : length (with_id s.me (known_set v.finder)) ≤ 64 = omega (arith, all, known) in
+      few-item 64 u _ _ refl g (λ h. few-if 64 _ (nat_le term last_number) _ _ (few-sends 64 _ _ _ most h) (none-within 64 _ h))
 
-  few-begins_round : (v : View) (word : ℕ) → IsSmallView v → Few 63 v (elections.begins_round s v word)
+  few-begins_round : (v : View) (word : ℕ) → IsSmallView v → Few 127 v (elections.begins_round s v word)
   few-begins_round v word f =
       let others = few-others s.me (free_set v.finder) in
       let free = few-free v f in
-      let most : length (without_id s.me (elections.free_nodes s v)) ≤ 31 = omega (arith, others, free) in
-      few-item 63 v _ _ refl f (λ g.
-      few-append 31 32 _ _ _ (few-sends 31 _ _ message.PreVoteAsk most g)
-      (λ h. few-if 32 _ _ _ _ (few-stands _ v (v.node.term + 1) h f) (none-within 32 _ h)))
+      let most : length (without_id s.me (elections.free_nodes s v)) ≤ 63 = omega (arith, others, free) in
+      few-item 127 v _ _ refl f (λ g.
+      few-append 63 64 _ _ _ (few-sends 63 _ _ message.PreVoteAsk most g)
+      (λ h. few-if 64 _ _ _ _ (few-stands _ v (v.node.term + 1) h f) (none-within 64 _ h)))
 
-  few-waits_until : (v : View) (word : ℕ) (o : Option ℕ) → IsSmallView v → Few 63 v (elections.waits_until s v word o)
-  few-waits_until v word None f = few-item 63 v _ _ refl f (λ g. none-within 63 _ g)
-  few-waits_until v word (Some deadline) f = few-if 63 v (is_due deadline v.moment) _ _ (few-begins_round v word f) (none-within 63 v f)
+  few-waits_until : (v : View) (word : ℕ) (o : Option ℕ) → IsSmallView v → Few 127 v (elections.waits_until s v word o)
+  few-waits_until v word None f = few-item 127 v _ _ refl f (λ g. none-within 127 _ g)
+  few-waits_until v word (Some deadline) f = few-if 127 v (is_due deadline v.moment) _ _ (few-begins_round v word f) (none-within 127 v f)
 
-  few-waits : (v : View) (word : ℕ) → IsSmallView v → Few 63 v (elections.waits_for_election s v word)
-  few-waits v word f = few-if 63 v _ _ _ (few-waits_until v word v.deadline f) (few-item 63 v _ _ refl f (λ g. none-within 63 _ g))
+  few-waits : (v : View) (word : ℕ) → IsSmallView v → Few 127 v (elections.waits_for_election s v word)
+  few-waits v word f = few-if 127 v _ _ _ (few-waits_until v word v.deadline f) (few-item 127 v _ _ refl f (λ g. none-within 127 _ g))
 
   few-pre_vote_reply : (v : View) (p : Id) (r : PreVoteReply) → IsSmallView v → Few 1 v (elections.pre_vote_reply s v p r)
   few-pre_vote_reply v p PreVoteAnswer f = few-send 0 v _ _ f (λ g. few-none v g)
   few-pre_vote_reply v p (PreVoteRefused leader) f = few-send 0 v _ _ f (λ g. few-none v g)
 
-  few-goes_to_election : (u v : View) (a : RoundAdded) → IsSmallView u → IsSmallView v → Few 32 u (elections.goes_to_election s v a)
-  few-goes_to_election u v Counted g f = none-within 32 u g
-  few-goes_to_election u v Fresher g f = none-within 32 u g
+  few-goes_to_election : (u v : View) (a : RoundAdded) → IsSmallView u → IsSmallView v → Few 64 u (elections.goes_to_election s v a)
+  few-goes_to_election u v Counted g f = none-within 64 u g
+  few-goes_to_election u v Fresher g f = none-within 64 u g
   few-goes_to_election u v (Quorum term) g f = few-stands u v term g f
 
-  few-on_pre_vote_answer : (v : View) (round : Option Round) (p : Id) (term : ℕ) (last : StateId) → IsSmallView v → Few 32 v (elections.on_pre_vote_answer s v round p term last)
-  few-on_pre_vote_answer v None p term last f = none-within 32 v f
-  few-on_pre_vote_answer v (Some r) p term last f = few-if 32 v _ _ _ (few-item 32 v _ _ refl f (λ g. few-goes_to_election _ v _ g f)) (none-within 32 v f)
+  few-on_pre_vote_answer : (v : View) (round : Option Round) (p : Id) (term : ℕ) (last : StateId) → IsSmallView v → Few 64 v (elections.on_pre_vote_answer s v round p term last)
+  few-on_pre_vote_answer v None p term last f = none-within 64 v f
+  few-on_pre_vote_answer v (Some r) p term last f = few-if 64 v _ _ _ (few-item 64 v _ _ refl f (λ g. few-goes_to_election _ v _ g f)) (none-within 64 v f)
 
   -- ---- discovery
 
-  few-asks_peers : (v : View) → IsSmallView v → Few 31 v (discovery.asks_peers s v)
+  few-asks_peers : (v : View) → IsSmallView v → Few 63 v (discovery.asks_peers s v)
   few-asks_peers v f =
-      few-if 31 v (is_due v.finder.due v.moment) _ _ (few-item 31 v _ _ refl f (λ g. few-sends 31 _ _ _ (few-known v f) g)) (none-within 31 v f)
+      few-if 63 v (is_due v.finder.due v.moment) _ _ (few-item 63 v _ _ refl f (λ g. few-sends 63 _ _ _ (few-known v f) g)) (none-within 63 v f)
 
   few-asked_for_peers : (v : View) (p : Id) (ids : List Id) → IsSmallView v → Few 1 v (discovery.on_peers_ask s v p ids)
   few-asked_for_peers v p ids f = few-item 1 v _ _ refl f (λ g. few-send 0 _ _ _ g (λ h. few-none _ h))
@@ -521,31 +521,31 @@ module _ (s : Settings) where
 
   -- ---- joins
 
-  few-leads : (v : View) → IsSmallView v → Few 32 v (joins.leads s v)
-  few-leads v f = few-item 32 v _ _ refl f (λ g. few-item 32 _ _ _ refl g (λ h. few-goes_on _ h))
+  few-leads : (v : View) → IsSmallView v → Few 64 v (joins.leads s v)
+  few-leads v f = few-item 64 v _ _ refl f (λ g. few-item 64 _ _ _ refl g (λ h. few-goes_on _ h))
 
-  few-takes_member : (v : View) (p : Id) → IsSmallView v → Few 32 v (joins.takes_member s v p)
-  few-takes_member v p f = few-item 32 v _ _ refl f (λ g. few-goes_on _ g)
+  few-takes_member : (v : View) (p : Id) → IsSmallView v → Few 64 v (joins.takes_member s v p)
+  few-takes_member v p f = few-item 64 v _ _ refl f (λ g. few-goes_on _ g)
 
-  few-after_join : (v after : View) (act : Act) (p : Id) → IsSmallView after → Few 32 after (joins.after_join s v after act p)
+  few-after_join : (v after : View) (act : Act) (p : Id) → IsSmallView after → Few 64 after (joins.after_join s v after act p)
   few-after_join v after act p f =
-      few-if 32 after (joins.wins_now (doing.reply_now s v act)) _ _ (few-leads after f)
-      (few-if 32 after (doing.takes s v act && doing.is_leader after.mode) _ _ (few-takes_member after p f) (none-within 32 after f))
+      few-if 64 after (joins.wins_now (doing.reply_now s v act)) _ _ (few-leads after f)
+      (few-if 64 after (doing.takes s v act && doing.is_leader after.mode) _ _ (few-takes_member after p f) (none-within 64 after f))
 
-  few-takes_join : (v : View) (p : Id) (term : ℕ) (last : StateId) → IsSmallView v → Few 32 v (joins.takes_join s v p term last)
+  few-takes_join : (v : View) (p : Id) (term : ℕ) (last : StateId) → IsSmallView v → Few 64 v (joins.takes_join s v p term last)
   few-takes_join v p term last f =
       let act : Act = TakeJoin (joins.join_from p s.me term last) in
-      few-if 32 v (has_room v.node.join_votes p) _ _ (few-act 32 v act _ f tt (λ g. few-after_join v (doing.after_act s v act) act p g)) (none-within 32 v f)
+      few-if 64 v (has_room v.node.join_votes p) _ _ (few-act 64 v act _ f tt (λ g. few-after_join v (doing.after_act s v act) act p g)) (none-within 64 v f)
 
-  few-on_join : (v : View) (p : Id) (term : ℕ) (last : StateId) → IsSmallView v → Few 33 v (joins.on_join s v p term last)
+  few-on_join : (v : View) (p : Id) (term : ℕ) (last : StateId) → IsSmallView v → Few 65 v (joins.on_join s v p term last)
   few-on_join v p term last f =
-      few-if 33 v (doing.is_voting_only s s.me) _ _ (none-within 33 v f)
-      (few-then 1 32 v _ (λ u. joins.takes_join s u p term last) (few-raises_term v s.me term f) (λ u g. few-takes_join u p term last g))
+      few-if 65 v (doing.is_voting_only s s.me) _ _ (none-within 65 v f)
+      (few-then 1 64 v _ (λ u. joins.takes_join s u p term last) (few-raises_term v s.me term f) (λ u g. few-takes_join u p term last g))
 
-  few-asked_to_join : (v : View) (p : Id) (term : ℕ) → IsSmallView v → Few 32 v (joins.on_join_ask s v p term)
+  few-asked_to_join : (v : View) (p : Id) (term : ℕ) → IsSmallView v → Few 64 v (joins.on_join_ask s v p term)
   few-asked_to_join v p term f =
-      few-if 32 v (not (doing.is_leader v.mode)) _ _ (none-within 32 v f)
-      (few-if 32 v (nat_le term v.node.term) _ _ (few-takes_member v p f) (few-more 1 32 v _ (omega arith) (few-on_start_join v s.me term f)))
+      few-if 64 v (not (doing.is_leader v.mode)) _ _ (none-within 64 v f)
+      (few-if 64 v (nat_le term v.node.term) _ _ (few-takes_member v p f) (few-more 1 64 v _ (omega arith) (few-on_start_join v s.me term f)))
 
   -- ---- publications
 
@@ -559,47 +559,47 @@ module _ (s : Settings) where
   few-published_to : (v : View) (p : Id) (state : ClusterState) → IsSmallView v → length state.value.members ≤ most_ids → Few 2 v (publications.on_publish s v p state)
   few-published_to v p state f few = few-then 1 1 v _ (λ u. publications.accepts s u p state) (few-raises_term v p state.term f) (λ u g. few-accepts u p state g few)
 
-  few-sends_commit : (v : View) (sent : Bool) (p : Id) (id : StateId) → IsSmallView v → Few 32 v (publications.sends_commit s v sent p id)
+  few-sends_commit : (v : View) (sent : Bool) (p : Id) (id : StateId) → IsSmallView v → Few 64 v (publications.sends_commit s v sent p id)
   few-sends_commit v sent p id f =
       let some = fewer (λ x. has x (next.targets_of v.publication)) (next.responders_of v.publication) in
-      let most : length (among (next.responders_of v.publication) (next.targets_of v.publication)) ≤ 32 = omega (arith, f.responders, some) in
-      few-if 32 v sent _ _ (few-more 1 32 v _ (omega arith) (few-send 0 v _ _ f (λ g. few-none v g)))
-      (few-append 32 0 v _ _
-      (few-append 32 0 v _ _
-      (few-sends 32 v _ _ most f)
+      let most : length (among (next.responders_of v.publication) (next.targets_of v.publication)) ≤ 64 = omega (arith, f.responders, some) in
+      few-if 64 v sent _ _ (few-more 1 64 v _ (omega arith) (few-send 0 v _ _ f (λ g. few-none v g)))
+      (few-append 64 0 v _ _
+      (few-append 64 0 v _ _
+      (few-sends 64 v _ _ most f)
       (λ g. few-replies _ _ g)) (λ g. few-item 0 _ _ _ refl g (λ h. few-none _ h)))
 
-  few-on_response : (v : View) (p : Id) (id : StateId) → IsSmallView v → Few 32 v (publications.on_response s v p id)
+  few-on_response : (v : View) (p : Id) (id : StateId) → IsSmallView v → Few 64 v (publications.on_response s v p id)
   few-on_response v p id f =
       let act : Act = Response (record { source = p; target = s.me; term = id.term; version = id.version }) in
-      few-if 32 v (doing.is_leader v.mode && is_some v.publication && has_room v.node.publish_votes p) _ _
-      (few-act 32 v act _ f tt (λ g.
-      few-if 32 _ _ _ _ (few-sends_commit (doing.after_act s v act) (publications.is_commit_sent v.publication) p id g) (none-within 32 _ g))) (none-within 32 v f)
+      few-if 64 v (doing.is_leader v.mode && is_some v.publication && has_room v.node.publish_votes p) _ _
+      (few-act 64 v act _ f tt (λ g.
+      few-if 64 _ _ _ _ (few-sends_commit (doing.after_act s v act) (publications.is_commit_sent v.publication) p id g) (none-within 64 _ g))) (none-within 64 v f)
 
   few-acks_exclusions : (v : View) → IsSmallView v → Few 0 v (publications.acks_exclusions s v)
   few-acks_exclusions v f = few-append 0 0 v _ _ (few-replies v _ f) (λ g. few-item 0 _ (Notes ExclusionsAcked) [] refl g (λ h. few-none _ h))
 
-  few-told_commit : (v : View) (p : Id) (id : StateId) → IsSmallView v → Few 32 v (publications.on_commit s v p id)
+  few-told_commit : (v : View) (p : Id) (id : StateId) → IsSmallView v → Few 64 v (publications.on_commit s v p id)
   few-told_commit v p id f =
       let act : Act = Commit (record { source = p; term = id.term; version = id.version }) in
       let after : View = doing.after_act s v act in
-      few-act 32 v act _ f tt (λ g.
-      few-if 32 after (doing.takes s v act && doing.is_leader after.mode) _ _
-      (few-then 0 32 after _ (next.goes_on s) (few-acks_exclusions after g) few-goes_on) (none-within 32 after g))
+      few-act 64 v act _ f tt (λ g.
+      few-if 64 after (doing.takes s v act && doing.is_leader after.mode) _ _
+      (few-then 0 64 after _ (next.goes_on s) (few-acks_exclusions after g) few-goes_on) (none-within 64 after g))
 
   -- ---- checks
 
-  few-checks_followers : (v : View) → IsSmallView v → Few 32 v (checks.checks_followers s v)
+  few-checks_followers : (v : View) → IsSmallView v → Few 64 v (checks.checks_followers s v)
   few-checks_followers v f =
       let asked = filter (λ (x : FollowerState). is_asked x v.moment) v.followers.watched in
       let some = fewer (λ (x : FollowerState). is_asked x v.moment) v.followers.watched in
       let ids = length-map asked (λ (x : FollowerState). x.id) in
-      let most : length (to_ask v.followers.watched v.moment) ≤ 32 = omega (arith, f.watched, some, ids) in
+      let most : length (to_ask v.followers.watched v.moment) ≤ 64 = omega (arith, f.watched, some, ids) in
       let failed : List Item = checks.drop_all (to_drop_for_checks v.followers.watched v.moment) Checks in
       let late : List Item = checks.drop_all (to_drop_for_lag v.followers.watched v.moment) Lag in
-      few-append 0 32 v (failed ++ late) (Notes FollowersChecked ∷ doing.send_all s (to_ask v.followers.watched v.moment) (message.FollowerCheck v.node.term))
+      few-append 0 64 v (failed ++ late) (Notes FollowersChecked ∷ doing.send_all s (to_ask v.followers.watched v.moment) (message.FollowerCheck v.node.term))
       (few-append 0 0 v failed late (few-drops _ Checks v f) (λ g. few-drops _ Lag _ g))
-      (λ g. few-item 32 _ (Notes FollowersChecked) _ refl g (λ h. few-sends 32 _ _ (message.FollowerCheck v.node.term) most h))
+      (λ g. few-item 64 _ (Notes FollowersChecked) _ refl g (λ h. few-sends 64 _ _ (message.FollowerCheck v.node.term) most h))
 
   few-does_check : (u v : View) (leader : Id) (t : LeaderTick) → IsSmallView u → Few 1 u (checks.does_check s u leader t)
   few-does_check u v leader leader_tick_is.Quiet f = none-within 1 u f
@@ -634,53 +634,53 @@ module _ (s : Settings) where
   few-times_out : (v : View) → IsSmallView v → Few 0 v (requests.times_out_exclusions s v)
   few-times_out v f = few-append 0 0 v _ _ (few-replies v _ f) (λ g. few-item 0 _ (Notes ExclusionsTimedOut) [] refl g (λ h. few-none _ h))
 
-  few-queues : (v : View) (conn : ℕ) (request : Request) (bad : Option ℕ) → IsSmallView v → Few 32 v (requests.queues s v conn request bad)
-  few-queues v conn request (Some size) f = few-reply 32 v _ f
-  few-queues v conn request None f = few-if 32 v (is_full_of v.tasks) _ _ (few-reply 32 v _ f) (few-item 32 v _ _ refl f (λ g. few-goes_on _ g))
+  few-queues : (v : View) (conn : ℕ) (request : Request) (bad : Option ℕ) → IsSmallView v → Few 64 v (requests.queues s v conn request bad)
+  few-queues v conn request (Some size) f = few-reply 64 v _ f
+  few-queues v conn request None f = few-if 64 v (is_full_of v.tasks) _ _ (few-reply 64 v _ f) (few-item 64 v _ _ refl f (λ g. few-goes_on _ g))
 
-  few-line : (v : View) (conn : ℕ) (read : Result Request LineFault) → IsSmallView v → Few 32 v (requests.takes_line s v conn read)
-  few-line v conn (Err fault) f = few-reply 32 v _ f
-  few-line v conn (Ok request) f = few-if 32 v (doing.is_leader v.mode) _ _ (few-queues v conn request (bad_setting_of request.ask) f) (few-reply 32 v _ f)
+  few-line : (v : View) (conn : ℕ) (read : Result Request LineFault) → IsSmallView v → Few 64 v (requests.takes_line s v conn read)
+  few-line v conn (Err fault) f = few-reply 64 v _ f
+  few-line v conn (Ok request) f = few-if 64 v (doing.is_leader v.mode) _ _ (few-queues v conn request (bad_setting_of request.ask) f) (few-reply 64 v _ f)
 
   -- ---- events
 
-  few-candidate : (v : View) (word : ℕ) → IsSmallView v → Few 94 v (rules.ticks_candidate s v word)
+  few-candidate : (v : View) (word : ℕ) → IsSmallView v → Few 190 v (rules.ticks_candidate s v word)
   few-candidate v word f =
-      few-then 31 63 v _ (λ u. elections.waits_for_election s u word)
-      (few-then 0 31 v _ (discovery.asks_peers s) (few-takes_config v (decision_of s.initial (answered_set v.finder) s.me (not (is_empty v.node.accepted.config))) f) few-asks_peers)
+      few-then 63 127 v _ (λ u. elections.waits_for_election s u word)
+      (few-then 0 63 v _ (discovery.asks_peers s) (few-takes_config v (decision_of s.initial (answered_set v.finder) s.me (not (is_empty v.node.accepted.config))) f) few-asks_peers)
       (λ u g. few-waits u word g)
 
-  few-leader : (v : View) → IsSmallView v → Few 64 v (rules.ticks_leader s v)
+  few-leader : (v : View) → IsSmallView v → Few 128 v (rules.ticks_leader s v)
   few-leader v f =
-      few-if 64 v (rules.has_timed_out v.publication v.moment) _ _ (few-more 0 64 v _ (omega arith) (few-becomes_candidate v f))
-      (few-then 32 32 v _ (next.goes_on s) (few-then 0 32 v _ (checks.checks_followers s) (few-times_out v f) few-checks_followers) few-goes_on)
+      few-if 128 v (rules.has_timed_out v.publication v.moment) _ _ (few-more 0 128 v _ (omega arith) (few-becomes_candidate v f))
+      (few-then 64 64 v _ (next.goes_on s) (few-then 0 64 v _ (checks.checks_followers s) (few-times_out v f) few-checks_followers) few-goes_on)
 
-  few-ticks : (v : View) (word : ℕ) (m : Mode) → IsSmallView v → Few 94 v (rules.ticks s v word m)
+  few-ticks : (v : View) (word : ℕ) (m : Mode) → IsSmallView v → Few 190 v (rules.ticks s v word m)
   few-ticks v word Candidate f = few-candidate v word f
-  few-ticks v word Leader f = few-more 64 94 v _ (omega arith) (few-leader v f)
-  few-ticks v word (Follower leader) f = few-more 1 94 v _ (omega arith) (few-checks_leader v leader v.leader_check f)
+  few-ticks v word Leader f = few-more 128 190 v _ (omega arith) (few-leader v f)
+  few-ticks v word (Follower leader) f = few-more 1 190 v _ (omega arith) (few-checks_leader v leader v.leader_check f)
 
-  few-message : (v : View) (p : Id) (m : WireMessage) → IsSmallView v → HoldsSet m → Few 33 v (rules.takes_message s v p m)
-  few-message v p (message.StartJoin candidate term) f h = few-more 1 33 v _ (omega arith) (few-on_start_join v candidate term f)
+  few-message : (v : View) (p : Id) (m : WireMessage) → IsSmallView v → HoldsSet m → Few 65 v (rules.takes_message s v p m)
+  few-message v p (message.StartJoin candidate term) f h = few-more 1 65 v _ (omega arith) (few-on_start_join v candidate term f)
   few-message v p (message.Join term last) f h = few-on_join v p term last f
-  few-message v p (message.Publish state) f h = few-more 2 33 v _ (omega arith) (few-published_to v p state f h)
-  few-message v p (message.Response id) f h = few-more 32 33 v _ (omega arith) (few-on_response v p id f)
-  few-message v p (message.Commit id) f h = few-more 32 33 v _ (omega arith) (few-told_commit v p id f)
-  few-message v p (message.JoinAsk term) f h = few-more 32 33 v _ (omega arith) (few-asked_to_join v p term f)
-  few-message v p (message.PeersAsk known) f h = few-more 1 33 v _ (omega arith) (few-asked_for_peers v p known f)
-  few-message v p (message.PeersAnswer master term known) f h = few-more 1 33 v _ (omega arith) (few-told_peers v p master term known f)
-  few-message v p message.PreVoteAsk f h = few-more 1 33 v _ (omega arith) (few-pre_vote_reply v p _ f)
-  few-message v p (message.PreVoteAnswer term last) f h = few-more 32 33 v _ (omega arith) (few-on_pre_vote_answer v v.round p term last f)
-  few-message v p (message.PreVoteRefuse leader) f h = few-item 33 v _ _ refl f (λ g. none-within 33 _ g)
-  few-message v p (message.FollowerCheck term) f h = few-more 2 33 v _ (omega arith) (few-checked_by_leader v p term f)
-  few-message v p (message.FollowerAnswer good term applied) f h = few-more 0 33 v _ (omega arith) (few-note v (doing.is_leader v.mode) (FollowerAnswered p good applied) f)
-  few-message v p (message.LeaderCheck term) f h = few-more 1 33 v _ (omega arith) (few-send 0 v _ _ f (λ g. few-none v g))
-  few-message v p (message.LeaderAnswer good) f h = few-more 0 33 v _ (omega arith) (few-note v (doing.follows_node v.mode p) (LeaderAnswered good) f)
+  few-message v p (message.Publish state) f h = few-more 2 65 v _ (omega arith) (few-published_to v p state f h)
+  few-message v p (message.Response id) f h = few-more 64 65 v _ (omega arith) (few-on_response v p id f)
+  few-message v p (message.Commit id) f h = few-more 64 65 v _ (omega arith) (few-told_commit v p id f)
+  few-message v p (message.JoinAsk term) f h = few-more 64 65 v _ (omega arith) (few-asked_to_join v p term f)
+  few-message v p (message.PeersAsk known) f h = few-more 1 65 v _ (omega arith) (few-asked_for_peers v p known f)
+  few-message v p (message.PeersAnswer master term known) f h = few-more 1 65 v _ (omega arith) (few-told_peers v p master term known f)
+  few-message v p message.PreVoteAsk f h = few-more 1 65 v _ (omega arith) (few-pre_vote_reply v p _ f)
+  few-message v p (message.PreVoteAnswer term last) f h = few-more 64 65 v _ (omega arith) (few-on_pre_vote_answer v v.round p term last f)
+  few-message v p (message.PreVoteRefuse leader) f h = few-item 65 v _ _ refl f (λ g. none-within 65 _ g)
+  few-message v p (message.FollowerCheck term) f h = few-more 2 65 v _ (omega arith) (few-checked_by_leader v p term f)
+  few-message v p (message.FollowerAnswer good term applied) f h = few-more 0 65 v _ (omega arith) (few-note v (doing.is_leader v.mode) (FollowerAnswered p good applied) f)
+  few-message v p (message.LeaderCheck term) f h = few-more 1 65 v _ (omega arith) (few-send 0 v _ _ f (λ g. few-none v g))
+  few-message v p (message.LeaderAnswer good) f h = few-more 0 65 v _ (omega arith) (few-note v (doing.follows_node v.mode p) (LeaderAnswered good) f)
 
   few-event : (v : View) (event : Event) → IsSmallView v → EventHoldsSet event → Few (most_frames event) v (rules.next_of s v event)
   few-event v Start f h = few-item 0 v _ _ refl f (λ g. few-item 0 _ _ _ refl g (λ k. few-none _ k))
   few-event v (Tick now word) f h = few-ticks v word v.mode f
-  few-event v (FrameCame frame) f h = few-if 33 v (same frame.to s.me) _ _ (few-message v frame.from frame.message f h) (none-within 33 v f)
+  few-event v (FrameCame frame) f h = few-if 65 v (same frame.to s.me) _ _ (few-message v frame.from frame.message f h) (none-within 65 v f)
   few-event v (LineCame conn line) f h = few-line v conn (line_request line) f
 
 -- ---- frames by receiver

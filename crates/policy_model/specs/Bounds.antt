@@ -67,13 +67,13 @@ EventHoldsSet (Tick now word) = Unit {0}
 EventHoldsSet (FrameCame frame) = HoldsSet frame.message
 EventHoldsSet (LineCame conn line) = Unit {0}
 
--- How many frames an event sends at most. At a tick: a candidate that is a quorum alone asks 31 peers for peers and 31 for a pre-vote, and
--- starts 32 joins. A join by which the term rises and that wins: one more than a state goes to.
+-- How many frames an event sends at most. At a tick: a candidate that is a quorum alone asks 63 peers for peers and 63 for a pre-vote, and
+-- starts 64 joins. A join by which the term rises and that wins: one more than a state goes to.
 abbrev pub most_frames : Event → ℕ
 most_frames Start = 0
-most_frames (Tick now word) = 94
-most_frames (FrameCame frame) = 33
-most_frames (LineCame conn line) = 32
+most_frames (Tick now word) = 190
+most_frames (FrameCame frame) = 65
+most_frames (LineCame conn line) = 64
 
 -- few frames, and a node that stays small
 pub record SendsFew (s : Settings) (v : View) (event : Event) (items : List Item) : Type 0 where

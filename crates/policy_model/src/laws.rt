@@ -66,8 +66,8 @@ pub fn law_answers_few()
     ensures { LawAnswersFew }
 {}
 
-/// At an event a node sends 94 frames at most: at a tick, one that is a quorum alone, asks 31 peers for peers and for a
-/// pre-vote and starts 32 joins; at a frame 33, at a line 32, and at the start none. Its sets are as small afterwards.
+/// At an event a node sends 190 frames at most: at a tick, one that is a quorum alone, asks 63 peers for peers and for a
+/// pre-vote and starts 64 joins; at a frame 65, at a line 64, and at the start none. Its sets are as small afterwards.
 pub fn law_sends_few()
     ensures { LawSendsFew }
 {}
@@ -77,7 +77,7 @@ pub fn law_opened_is_small()
     ensures { LawOpenedIsSmall }
 {}
 
-/// The members of a state in memory are 32 at most, also those of a state that is published.
+/// The members of a state in memory are 64 at most, also those of a state that is published.
 pub fn law_event_holds_set(event: &Event)
     ensures { EventHoldsSet event.now }
 {

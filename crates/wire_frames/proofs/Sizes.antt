@@ -14,7 +14,7 @@ use Rattle.wire_frames.specs.Frames.{SpellsBody}
 number_then : (n : ℕ) (rest : List ℕ) → length (eight_bytes n ++ rest) ≡ 8 + length rest
 number_then n rest = omega (arith, length-append (eight_bytes n) rest, length-eight n)
 
-payload_short : (m : WireMessage) → FitsMessage m → length (payload m) ≤ 1200000
+payload_short : (m : WireMessage) → FitsMessage m → length (payload m) ≤ 4800000
 payload_short (message.StartJoin c n) h = omega (arith, h.0.1, length-append (id.spelling c) (eight_bytes n), length-eight n)
 payload_short (message.Join n last) h = omega (arith, number_then n (state_id.spelling last), number_then last.term (eight_bytes last.version), length-eight last.version)
 payload_short (message.Publish s) h = state_short s h
@@ -32,7 +32,7 @@ payload_short (message.LeaderCheck n) h = omega (arith, length-eight n)
 payload_short (message.LeaderAnswer g) h = omega arith
 
 -- a body is far shorter than the limit
-pub body_short : (frame : Frame) (body : List ℕ) → SpellsBody frame body → length body ≤ 1300000
+pub body_short : (frame : Frame) (body : List ℕ) → SpellsBody frame body → length body ≤ 4900000
 body_short frame body s =
     omega (
       arith,

@@ -1,15 +1,10 @@
-use Rattle.std.proofs.Common.{subst}
 use Rattle.std.proofs.lemmas.Result.{on_ok_weaker}
-use Rattle.serde_json.specs.Events.{SendsValue}
-use Rattle.cluster_state.specs.Json.{ids_json}
 use Rattle.cluster_state.proofs.json.ClusterStateSerialize.serialize.Goals as goal
 
 -- what is written, step by step
 pub returns : goal.returns
 returns g c =
     let log = g.S.Serializer.written in
-    let committed = subst (λ ids. SendsValue (ids_json ids) (log c.key.new.self) (log c.send_ids.new.out)) c.members.ensures c.in_ok-send_ids.ensures in
-    let config = subst (λ ids. SendsValue (ids_json ids) (log c.key-2.new.self) (log c.send_ids-2.new.out)) c.members-2.ensures c.in_ok-send_ids-2.ensures in
     on_ok_weaker c.end_map.result (λ ended. (
       log c.begin_map.new.self,
       c.in_ok-begin_map.ensures,
@@ -17,12 +12,12 @@ returns g c =
         log c.key.new.self,
         log c.send_ids.new.out,
         c.in_ok-key.ensures,
-        committed,
+        c.in_ok-send_ids.ensures,
         (
           log c.key-2.new.self,
           log c.send_ids-2.new.out,
           c.in_ok-key-2.ensures,
-          config,
+          c.in_ok-send_ids-2.ensures,
           (
             log c.key-3.new.self,
             log c.send_parent.new.out,
