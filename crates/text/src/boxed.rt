@@ -16,7 +16,7 @@ impl<T> Model for Boxed<T> {
     ghost view = { λ b. b.value.value };
 }
 
-impl<T: Copy + Drop> Boxed<T> {
+impl<T: Drop> Boxed<T> {
     /// This value.
     pub fn of(alloc: Global, value: T) -> Result<Boxed<T>, AllocError>
         ensures { IfOk result (λ b. b ≡ value) }
@@ -27,6 +27,15 @@ impl<T: Copy + Drop> Boxed<T> {
         }
     }
 
+    /// The value, lent.
+    pub fn lend(&self) -> &T
+        ensures { result.now ≡ self.now }
+    {
+        &*self.value
+    }
+}
+
+impl<T: Copy + Drop> Boxed<T> {
     /// The value.
     pub fn get(&self) -> T
         ensures { result ≡ self.now }
