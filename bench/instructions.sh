@@ -47,6 +47,7 @@ unsent 50002 > "$work/schedule"; core 'deliveries of a message that nobody sent'
 deliveries 50008 > "$work/schedule"; core 'deliveries of one join'
 rounds 5800 > "$work/schedule"; core 'elections, values and commits over five nodes'
 elections 6400 32 > "$work/schedule"; core 'elections of 32 voters'
+elections 6400 63 > "$work/schedule"; core 'elections of 63 voters'
 puts 5000 > "$work/schedule"
 row 'whole nodes, puts over five nodes' "$(wc -l < "$work/schedule")" "$(millions trace "$zen" replay --level node)" -
 : > "$work/schedule"

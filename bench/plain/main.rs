@@ -27,7 +27,7 @@ const MAX_LINES: usize = 1_000_000;
 const MAX_LINE_BYTES: usize = 16_384;
 
 /// How many nodes a list has at most, and how many bytes an id.
-const MAX_NODES: usize = 32;
+const MAX_NODES: usize = 64;
 const MAX_ID_BYTES: usize = 32;
 
 /// The greatest number of a message or of a device call in a schedule.
@@ -199,7 +199,7 @@ fn check<E>(holds: bool, otherwise: E) -> Result<(), E> {
     holds.then_some(()).ok_or(otherwise)
 }
 
-/// The header's first line: 1 to 32 ids in ascending order.
+/// The header's first line: 1 to 64 ids in ascending order.
 fn read_nodes(line: &[u8]) -> Option<Ids<'_>> {
     let list = line.strip_prefix(b"nodes ")?;
     let mut ids: Vec<&str> = Vec::new();
