@@ -27,7 +27,7 @@ use cluster_state::{
 use join_rules::join_check;
 use state_journal::{ArmKeeper, Keeper, Ready};
 use std::alloc::{AllocError, Global};
-use voting_config::{JoinVotes, NodeId, NodeSet, VotingConfig};
+use voting_config::{IdList, JoinVotes, NodeId, NodeSet, VotingConfig};
 use zen_disk::Order;
 
 /// Why an act was not taken. What the call took is handed back, but where the disk failed.
@@ -220,7 +220,7 @@ impl<K: Keeper> CoordState<K> {
         self.join_votes.clear();
         self.published_version = 0;
         let config = &self.keeper.kept().accepted.config;
-        self.published_config.copy_from(config.members());
+        self.published_config.copy_from(config);
         self.publish_votes.clear();
         Ok(Join {
             source: self.me,
@@ -282,7 +282,7 @@ impl<K: Keeper> CoordState<K> {
         self.join_votes.add(j.source);
         let elected = self
             .join_votes
-            .is_quorum_of_both(&kept.committed, &kept.accepted.config);
+            .is_quorum_with_state(&kept.committed, &kept.accepted.config);
         if self.election_won || !elected {
             return Ok(Joined { won: false });
         }
@@ -292,7 +292,7 @@ impl<K: Keeper> CoordState<K> {
     }
 
     // The first cause that refuses a new value of a version with a configuration.
-    fn value_check(&self, version: u64, config: &VotingConfig) -> Result<(), ValueCause>
+    fn value_check(&self, version: u64, config: &IdList) -> Result<(), ValueCause>
         ensures { result ≡ value_checked (fields_of K.Keeper self.now) version config.now }
     {
         let kept = self.keeper.kept();
@@ -310,7 +310,7 @@ impl<K: Keeper> CoordState<K> {
             return Err(ValueCause::VersionTooLarge(version));
         }
         if !config.is_same(&kept.accepted.config)
-            && !kept.committed.is_same(&kept.accepted.config)
+            && !kept.committed.is_same_list(&kept.accepted.config)
         {
             return Err(ValueCause::Reconfiguring);
         }
@@ -325,18 +325,19 @@ impl<K: Keeper> CoordState<K> {
         &self,
         alloc: Global,
         version: u64,
-        config: VotingConfig,
+        config: IdList,
         value: ClusterValue,
     ) -> Result<PublishRequest, AllocError>
         ensures { IfOk result (λ request. request ≡ request_of K.Keeper self.now version config value) }
     {
         let kept = self.keeper.kept();
+        let committed = IdList::of(alloc, kept.committed.members())?;
         let state = ClusterState {
             term: kept.term,
             version,
             parent: Some(kept.accepted.id()),
             config,
-            committed: VotingConfig::of(kept.committed.members()),
+            committed,
             value,
         };
         Ok(PublishRequest {
@@ -346,7 +347,7 @@ impl<K: Keeper> CoordState<K> {
     }
 
     // Takes a value that nothing refuses.
-    fn begin_value(&mut self, version: u64, config: &VotingConfig)
+    fn begin_value(&mut self, version: u64, config: &IdList)
         requires runs { K.has_stopped self.old.keeper ≡ false }
         requires checked { is_ok (value_checked (fields_of K.Keeper self.old) version config.now) ≡ true }
         ensures act { (value : ClusterValue)
@@ -355,7 +356,7 @@ impl<K: Keeper> CoordState<K> {
         ensures rest { self.new ≡ record self.old { published_version = version; published_config = config.now; publish_votes = [] } }
     {
         self.published_version = version;
-        self.published_config.copy_from(config.members());
+        self.published_config.copy_from(config);
         self.publish_votes.clear();
     }
 
@@ -370,12 +371,9 @@ impl<K: Keeper> CoordState<K> {
         &mut self,
         alloc: Global,
         version: u64,
-        config: VotingConfig,
+        config: IdList,
         value: ClusterValue,
-    ) -> Result<
-        Result<PublishRequest, ActError<ValueCause, (VotingConfig, ClusterValue)>>,
-        AllocError,
-    >
+    ) -> Result<Result<PublishRequest, ActError<ValueCause, (IdList, ClusterValue)>>, AllocError>
         ensures act { IfOk result
             (λ answer. Acts K.Keeper self.old self.new (act.Value version config value) (outcome sends_request ValueRefused answer)) }
         ensures wrote { IfOk result
@@ -402,7 +400,7 @@ impl<K: Keeper> CoordState<K> {
     pub fn take_value(
         &mut self,
         version: u64,
-        config: &VotingConfig,
+        config: &IdList,
     ) -> Result<(), ActError<ValueCause, ()>>
         ensures act { (value : ClusterValue)
             → Acts K.Keeper self.old self.new (act.Value version config.now value)

@@ -3,7 +3,7 @@ ghost use Rattle.std.specs.Prelude.{◌≡◌};
 ghost use Rattle.cluster_state.specs.JoinCheck.{join_checked};
 
 use cluster_state::{Join, JoinCause, StateId};
-use voting_config::{NodeId, VotingConfig};
+use voting_config::{IdList, NodeId};
 
 /// Whether the node `me` counts a join, by its current term, the id and the configuration of its last accepted state,
 /// and whether it has started a join since it was opened. Otherwise the first cause that refuses it, in the order in
@@ -14,7 +14,7 @@ pub fn join_check(
     me: NodeId,
     term: u64,
     accepted: StateId,
-    config: &VotingConfig,
+    config: &IdList,
     started: bool,
     join: &Join,
 ) -> Result<(), JoinCause>

@@ -18,11 +18,11 @@ room_before = 21
 
 -- and after it: a committed configuration, the digest and the closed gate
 abbrev pub room_behind : ℕ
-room_behind = 1090
+room_behind = 2146
 
 -- no state is spelled by more bytes
 abbrev pub most_state_bytes : ℕ
-most_state_bytes = 1200000
+most_state_bytes = 4800000
 
 -- a state that is ready to be kept
 pub record ToKeep : Type 0 where

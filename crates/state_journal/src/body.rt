@@ -17,6 +17,7 @@ use cluster_state::{
 };
 use sha2::{Digest, Sha256};
 use std::alloc::{AllocError, Global};
+use voting_config::MAX_IDS;
 
 // How many bytes a digest has.
 pub(crate) const DIGEST: usize = 32;
@@ -163,8 +164,8 @@ fn old_state<'a>(alloc: Global, reader: &mut Reader<'a>) -> Result<ClusterState,
 {
     let term = reader.term()?;
     let version = reader.version()?;
-    let config = reader.config()?;
-    let committed = reader.config()?;
+    let config = reader.id_list(alloc, MAX_IDS as u8)?;
+    let committed = reader.id_list(alloc, MAX_IDS as u8)?;
     let value = reader.value(alloc)?;
     Ok(ClusterState {
         term,

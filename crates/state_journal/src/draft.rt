@@ -8,7 +8,7 @@ ghost use Rattle.gate_log.specs.Journal.{framed};
 ghost use Rattle.sha2.specs.Sha256.{sha256};
 ghost use Rattle.state_journal.specs.Bodies.{guarded};
 ghost use Rattle.state_journal.specs.Drafts.{IsDraft, generation_prefix, room_before, room_behind, most_state_bytes};
-ghost use Rattle.voting_config.specs.Ids.{most_ids};
+ghost use Rattle.voting_config.specs.Ids.{most_ids, IsIdSet};
 ghost use Rattle.zen_disk.specs.Disk.{part, written};
 
 use crate::body::DIGEST;
@@ -17,13 +17,13 @@ use cluster_state::{ClusterState, SharedState, StateView, write_state};
 use sha2::{Digest, Sha256};
 use std::alloc::{AllocError, Global};
 use std::marker::Model;
-use voting_config::{NodeId, NodeSet, VotingConfig};
+use voting_config::NodeId;
 
 // Where the state begins: after the length, the tag, the epoch and the term of a generation.
 const STATE_AT: usize = 21;
 
-// A committed configuration takes 1,057 bytes at most.
-const SET: usize = 1057;
+// A committed configuration takes 2,113 bytes at most.
+const SET: usize = 2113;
 
 // The digest and the closed gate.
 const CLOSE: usize = 33;
@@ -32,7 +32,7 @@ const CLOSE: usize = 33;
 const ROOM: usize = SET + CLOSE;
 
 // Enough for most states, so that the bytes are not moved as they are written.
-const FIRST_CAPACITY: usize = 2048;
+const FIRST_CAPACITY: usize = 4096;
 
 // A state's bytes with room before and after them, and the frame that was last laid around them.
 #[derive(Drop)]
@@ -59,7 +59,7 @@ impl Model for Draft {
 
 // An id after those that stand there.
 fn put_id(out: &mut ArrayVec<u8, SET>, node: NodeId)
-    requires { array_vec_len out.old + 33 ≤ 1057 }
+    requires { array_vec_len out.old + 33 ≤ 2113 }
     ensures items { out.new.items ≡ out.old.items ++ id.spelling node }
     ensures room { array_vec_len out.new ≤ array_vec_len out.old + 33 }
 {
@@ -72,14 +72,14 @@ fn put_id(out: &mut ArrayVec<u8, SET>, node: NodeId)
 }
 
 // The bytes of a set of ids.
-fn set_bytes(set: &NodeSet) -> ArrayVec<u8, SET>
+fn set_bytes(set: &[NodeId]) -> ArrayVec<u8, SET>
+    requires { IsIdSet set.now }
     ensures items { result.items ≡ (ids most_ids).spelling set.now }
     ensures fits { (ids most_ids).Fits set.now }
 {
-    let nodes = set.as_slice();
     let mut out: ArrayVec<u8, SET> = ArrayVec::new();
-    out.push(nodes.len() as u8);
-    for node in nodes {
+    out.push(set.len() as u8);
+    for node in set {
         put_id(&mut out, *node);
     }
     out
@@ -117,7 +117,7 @@ fn close_of(digest: &[u8; 32]) -> ArrayVec<u8, CLOSE>
 
 // What stands after it: the other fields of the body, its digest, and a closed gate.
 fn tail_of(after: &[u8], digest: &[u8; 32]) -> ArrayVec<u8, ROOM>
-    requires { length after.now ≤ 1057 }
+    requires { length after.now ≤ 2113 }
     ensures { result.items ≡ after.now ++ (digest.now ++ 0 ∷ []) }
 {
     let mut tail: ArrayVec<u8, ROOM> = ArrayVec::new();
@@ -270,7 +270,7 @@ impl Draft {
         requires tail { tail.now ≡ after.now ++ (sha256 (before.now ++ (self.old.state ++ after.now)) ++ 0 ∷ []) }
         requires room { length tail.now ≤ room_behind }
         requires before { length before.now ≤ 17 }
-        requires after { length after.now ≤ 1057 }
+        requires after { length after.now ≤ 2113 }
         requires state { length self.old.state ≤ most_state_bytes }
         ensures frame { self.new.frame ≡ framed (guarded (before.now ++ (self.old.state ++ after.now))) }
         ensures same { self.new.state ≡ self.old.state }
@@ -296,13 +296,14 @@ impl Draft {
     // Lays the body that begins a generation with this epoch and term, the state and this committed configuration, with its length and
     // a closed gate.
     #[tactic(auto, unfolding(cluster_state::specs::Field::eight_bytes))]
-    pub(crate) fn lay_generation(&mut self, epoch: u64, term: u64, committed: &VotingConfig)
-        requires { length self.old.state ≤ most_state_bytes }
+    pub(crate) fn lay_generation(&mut self, epoch: u64, term: u64, committed: &[NodeId])
+        requires state { length self.old.state ≤ most_state_bytes }
+        requires set { IsIdSet committed.now }
         ensures frame { self.new.frame ≡ framed (guarded (generation_prefix epoch term self.old.state committed.now)) }
         ensures fits { (ids most_ids).Fits committed.now }
         ensures same { self.new.state ≡ self.old.state }
     {
-        let members = set_bytes(committed.members());
+        let members = set_bytes(committed);
         let after = members.as_slice();
         let e = epoch.to_be_bytes();
         let t = term.to_be_bytes();

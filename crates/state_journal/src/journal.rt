@@ -206,7 +206,7 @@ impl<D: Disks> Keeper for StateJournal<D> {
             self.due,
             &body,
             term,
-            &self.kept.committed,
+            self.kept.committed.members().as_slice(),
         ) else {
             return Err(KeepError::Disk);
         };
@@ -228,7 +228,7 @@ impl<D: Disks> Keeper for StateJournal<D> {
             &mut draft,
             self.due,
             self.kept.term,
-            &state.committed,
+            state.committed.as_slice(),
             state.accepted_digest(),
         ) else {
             return Err(KeepError::Disk);
@@ -252,7 +252,7 @@ impl<D: Disks> Keeper for StateJournal<D> {
             self.due,
             &self.mark,
             self.kept.term,
-            &self.kept.accepted.config,
+            self.kept.accepted.config.as_slice(),
         ) else {
             return Err(KeepError::Disk);
         };

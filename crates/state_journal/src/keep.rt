@@ -11,7 +11,7 @@ ghost use Rattle.state_journal.specs.Bodies.{body_of};
 ghost use Rattle.state_journal.specs.Drafts.{IsDraft};
 ghost use Rattle.state_journal.specs.Keeping.{generation_after, record_with, writing_calls, written_in, IsWritten};
 ghost use Rattle.state_journal.specs.declared.change.Change.TheVariants as change;
-ghost use Rattle.voting_config.specs.Ids.{most_ids};
+ghost use Rattle.voting_config.specs.Ids.{most_ids, IsIdSet};
 ghost use Rattle.zen_disk.specs.Faults.{Rose};
 ghost use Rattle.zen_disk.specs.Moments.{LeavesOnly};
 ghost use Rattle.zen_disk.specs.Runs.{CallsMade};
@@ -19,7 +19,7 @@ ghost use Rattle.zen_disk.specs.Sides.{other};
 
 use crate::draft::Draft;
 use gate_log::{AppendError, GateLog, LAST_EPOCH};
-use voting_config::VotingConfig;
+use voting_config::NodeId;
 use zen_disk::Disks;
 
 // How many bytes the bodies after a generation take at most.
@@ -59,11 +59,12 @@ fn begin<D: Disks>(
     log: &mut GateLog<D>,
     draft: &mut Draft,
     term: u64,
-    committed: &VotingConfig,
+    committed: &[NodeId],
 ) -> Result<(), AppendError>
     requires runs { log.old.stopped ≡ false }
     requires next { log.old.epoch < last_epoch }
     requires drafted { (s : ClusterState) × IsDraft s draft.old }
+    requires set { IsIdSet committed.now }
     ensures ok { D.told → (s : ClusterState) → IsDraft s draft.old
         → let body = generation_after (place log.old) (record_with term s committed.now) in
         OnOk result (standing_in (D.seen log.new.disk) ≡ renewed (standing_in (D.seen log.old.disk)) body) }
@@ -92,12 +93,13 @@ pub(crate) fn keep_small<D: Disks>(
     due: bool,
     body: &[u8],
     term: u64,
-    committed: &VotingConfig,
+    committed: &[NodeId],
 ) -> Result<(), AppendError>
     requires runs { log.old.stopped ≡ false }
     requires small { length body.now ≤ 64 }
     requires plain { is_generation body.now ≡ false }
     requires drafted { (s : ClusterState) × IsDraft s draft.old }
+    requires set { IsIdSet committed.now }
     ensures ok { D.told → (s : ClusterState) → IsDraft s draft.old
         → let p = place log.old in let next = record_with term s committed.now in
         OnOk result (standing_in (D.seen log.new.disk)
@@ -131,11 +133,12 @@ pub(crate) fn keep_state<D: Disks>(
     draft: &mut Draft,
     due: bool,
     term: u64,
-    committed: &VotingConfig,
+    committed: &[NodeId],
     known: Option<[u8; 32]>,
 ) -> Result<(), AppendError>
     requires runs { log.old.stopped ≡ false }
     requires drafted { (s : ClusterState) × IsDraft s draft.old }
+    requires set { IsIdSet committed.now }
     requires known { IfSome known (λ digest. digest ≡ sha256 (130 ∷ draft.old.state)) }
     ensures ok { D.told → (s : ClusterState) → IsDraft s draft.old
         → let p = place log.old in let body = body_of (change.Accepted s) in let next = record_with term s committed.now in

@@ -77,7 +77,7 @@ impl Ready {
     pub fn initial(alloc: Global, config: &NodeSet) -> Result<Ready, AllocError>
         ensures { IfOk result (λ r. r.state ≡ initial_state config.now) }
     {
-        let state = SharedState::of(alloc, ClusterState::initial(alloc, config))?;
+        let state = SharedState::of(alloc, ClusterState::initial(alloc, config)?)?;
         Ready::of(alloc, &state)
     }
 

@@ -6,6 +6,6 @@ use Rattle.state_journal.proofs.draft.set_bytes.Given as goal
 
 abbrev pub invariant-loop-node : goal.invariant-loop-node
 invariant-loop-node l = record {
-  items : l.out.items ≡ length l.nodes ∷ flat_map id.spelling (take l.node-index l.nodes);
+  items : l.out.items ≡ length l.set ∷ flat_map id.spelling (take l.node-index l.set);
   room : array_vec_len l.out ≤ 1 + 33 * l.node-index;
 }
