@@ -4,7 +4,7 @@ ghost use Rattle.cluster_state.specs.Puts.{bad_setting_of};
 
 use crate::text::Text;
 use std::alloc::AllocError;
-use voting_config::NodeSet;
+use voting_config::IdList;
 
 /// What a client asks for.
 #[derive(Drop)]
@@ -14,7 +14,7 @@ pub enum Ask {
     /// To remove a key.
     Remove { key: Text },
     /// To exclude these nodes from voting.
-    Exclude(NodeSet),
+    Exclude(IdList),
     /// To end all exclusions, which waits for the excluded nodes to be removed or not.
     Clear { wait_for_removal: bool },
     /// For the accepted state.
@@ -45,7 +45,7 @@ impl Ask {
                 value: value.copy()?,
             },
             Ask::Remove { key } => Ask::Remove { key: key.copy()? },
-            Ask::Exclude(ids) => Ask::Exclude(ids.copy()),
+            Ask::Exclude(ids) => Ask::Exclude(ids.copy()?),
             Ask::Clear { wait_for_removal } => Ask::Clear {
                 wait_for_removal: *wait_for_removal,
             },
