@@ -63,7 +63,7 @@ as_set ids = if are_distinct ids && nat_le (length ids) most_ids then Some (set_
 abbrev pub node_set_of : Items → Option (List Id)
 node_set_of ds = node_ids_of ds >>= as_set
 
--- 1 to 32 distinct ids
+-- 1 to 64 distinct ids
 abbrev pub exclude_of : Data → Option Ask
 exclude_of d = as_array d >>= λ ds. if items_len ds == 0 then None else option_map Exclude (node_set_of ds)
 

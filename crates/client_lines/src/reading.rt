@@ -1,6 +1,7 @@
 //! A line read as the request that it is, or the first reason why it is none.
-ghost use Rattle.std.specs.Prelude.{◌≡◌};
+ghost use Rattle.std.specs.Prelude.{◌≡◌, option_map};
 ghost use Rattle.serde_json.specs.View.{view, items_view};
+ghost use Rattle.cluster_state.specs.declared.request.Ask.TheVariants.{Exclude};
 ghost use Rattle.client_lines.specs.Requests.{has_members as members_are, id_of, text_at, put_of, remove_of, node_id_of, node_set_of, exclude_of, clear_of, state_of, ask_of, request_of};
 ghost use Rattle.client_lines.specs.Reading.{json_of, shaped, line_request, Reads, ReadsValue};
 
@@ -8,7 +9,7 @@ use crate::fault::LineError;
 use cluster_state::{Ask, LineFault, Request, Text};
 use serde_json::Value;
 use std::alloc::Global;
-use voting_config::{NodeId, NodeSet};
+use voting_config::{IdList, NodeId, NodeSet};
 
 /// The most bytes of a line, without its line feed.
 pub const MAX_LINE: usize = 8192;
@@ -60,9 +61,10 @@ fn read_ask(alloc: Global, value: &Value) -> Result<Ask, LineError>
     if let Some(remove) = value.get("remove") {
         return read_remove(alloc, remove);
     }
-    let ask = if let Some(exclude) = value.get("exclude") {
-        read_exclude(exclude)
-    } else if let Some(clear) = value.get("clear") {
+    if let Some(exclude) = value.get("exclude") {
+        return read_exclude(alloc, exclude);
+    }
+    let ask = if let Some(clear) = value.get("clear") {
         read_clear(clear)
     } else if let Some(state) = value.get("state") {
         read_state(state)
@@ -103,15 +105,23 @@ fn read_text(alloc: Global, value: &Value, name: &str) -> Result<Text, LineError
     Ok(Text::of(String::from_str(alloc, text)?))
 }
 
-fn read_exclude(value: &Value) -> Option<Ask>
-    ensures { result ≡ exclude_of (view value.now) }
+fn read_exclude(alloc: Global, value: &Value) -> Result<Ask, LineError>
+    ensures { Reads result (shaped (exclude_of (view value.now))) }
+{
+    let ids = ids_to_exclude(value).ok_or(LineFault::BadShape)?;
+    let ids = IdList::of(alloc, &ids)?;
+    Ok(Ask::Exclude(ids))
+}
+
+// The ids of an exclusion, one at least.
+fn ids_to_exclude(value: &Value) -> Option<NodeSet>
+    ensures { option_map Exclude result ≡ exclude_of (view value.now) }
 {
     let values = value.as_array()?;
     if values.is_empty() {
         return None;
     }
-    let ids = read_ids(values)?;
-    Some(Ask::Exclude(ids))
+    read_ids(values)
 }
 
 fn read_ids(values: &[Value]) -> Option<NodeSet>

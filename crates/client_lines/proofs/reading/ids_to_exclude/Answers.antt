@@ -2,7 +2,7 @@ use Rattle.std.proofs.Common.{◌≡◌, ◌∙◌, sym, ap, ℕ, length, vec_le
 use Rattle.std.specs.Prelude.{◌==◌}
 use Rattle.serde_json.specs.View.{view}
 use Rattle.client_lines.proofs.Exclusions.{exclude_of-some}
-use Rattle.client_lines.proofs.reading.read_exclude.Goals as goal
+use Rattle.client_lines.proofs.reading.ids_to_exclude.Goals as goal
 
 pub returns : goal.returns
 returns c =
