@@ -100,6 +100,6 @@ ids_from-start ds =
     ids_from-node_ids_of ds [] [] (record { members = λ q. refl; size = refl; set = refl; distinct = refl; few = omega arith })
     ∙ ap (option_and_then as_set) (option_map-id (node_ids_of ds))
 
--- what an exclude is, where its ids were found
-pub exclude_of-some : (d : Data) (vs : List Value) (ids : List Id) → as_array d ≡ Some (items_view vs) → (length vs == 0) ≡ false → node_set_of (items_view vs) ≡ Some ids → Some (Exclude ids) ≡ exclude_of d
-exclude_of-some d vs ids is some found = rw (is, items_len-items_view vs, some, found) refl
+-- what an exclude is, where it is an array that is not empty
+pub exclude_of-array : (d : Data) (vs : List Value) → as_array d ≡ Some (items_view vs) → (length vs == 0) ≡ false → option_map Exclude (node_set_of (items_view vs)) ≡ exclude_of d
+exclude_of-array d vs is some = rw (is, items_len-items_view vs, some) refl
