@@ -75,9 +75,9 @@ taken_all master ids count up in_it fits =
     ∙ ap (λ (xs : List Id). set_of xs) (take_all count (master ∷ without_id master ids) (omega (arith, all, fits)))
     ∙ back_in master ids up in_it
 
-pub stay : (live excluded config : List Id) (master : Id) (shrink : Bool) → live ≡ config → ascends config ≡ true → has master config ≡ true → some_among config excluded ≡ false
+chosen_again : (live excluded config : List Id) (master : Id) (shrink : Bool) → live ≡ config → ascends config ≡ true → has master config ≡ true → some_among config excluded ≡ false
     → length config ≤ size_of (length config) (length config) (length config) shrink → chosen_of live excluded master config shrink ≡ config
-stay live excluded config master shrink same up in_it apart fits =
+chosen_again live excluded config master shrink same up in_it apart fits =
     let kept = outside_apart config excluded apart in
     let count : List Id → List Id → ℕ = λ allowed voters. size_of (length allowed) (length config) (length voters) shrink in
     ap (λ (ids : List Id). chosen_of ids excluded master config shrink) same
@@ -87,3 +87,13 @@ stay live excluded config master shrink same up in_it apart fits =
 either : (b : Bool) (ids : List Id) → (if b then ids else ids) ≡ ids
 either true ids = refl
 either false ids = refl
+
+-- the members, all of whom voted, are the voters of today
+pub stay : (members votes excluded config : List Id) (master : Id) (shrink : Bool) → members ≡ config → are_among votes config ≡ true → ascends config ≡ true → has master config ≡ true
+    → some_among config excluded ≡ false → length config ≤ size_of (length config) (length config) (length config) shrink → target_of (among members votes) excluded master config shrink ≡ config
+stay members votes excluded config master shrink same voted up in_it apart fits =
+    let live = among members votes in
+    let all : live ≡ config = ap (λ (ids : List Id). among ids votes) same ∙ among_all config votes voted in
+    let again = chosen_again live excluded config master shrink all up in_it apart fits in
+    let chosen = chosen_of live excluded master config shrink in
+    ap (λ (ids : List Id). if is_quorum_of chosen live then ids else config) again ∙ either (is_quorum_of chosen live) config

@@ -2,10 +2,10 @@
 #![tactic(auto)]
 
 ghost use Rattle.std.specs.Prelude.{◌≡◌, ◌||◌, ◌+◌, ◌-◌, ◌<◌, ◌≤◌, [], ◌∷◌, length, take, IsTrue, if◌then◌else◌};
-ghost use Rattle.voting_config.specs.Ids.{has, most_ids, same_config, set_of, union};
+ghost use Rattle.voting_config.specs.Ids.{among, are_among, has, most_ids, set_of, union};
 ghost use Rattle.reconfigurator.specs.Targets.{candidates_of, chosen_of, least_size as least_size_of, odd_of, size_of, target_of};
 
-use voting_config::{NodeId, NodeSet, VotingConfig};
+use voting_config::{IdList, JoinVotes, NodeId, NodeSet, VotingConfig};
 
 /// The voting configuration that a master aims at, from the `live` nodes, those that are `excluded` from voting, the
 /// `master` itself and the configuration of today.
@@ -19,42 +19,38 @@ use voting_config::{NodeId, NodeSet, VotingConfig};
 /// reference 7.x, Voting configurations; `shrink` is `cluster.auto_shrink_voting_configuration`.)
 pub fn target(
     live: &NodeSet,
-    excluded: &NodeSet,
+    excluded: &IdList,
     master: NodeId,
-    config: &VotingConfig,
+    config: &IdList,
     shrink: bool,
 ) -> VotingConfig
     ensures { result ≡ target_of live.now excluded.now master config.now shrink }
 {
-    if all_stay(live, excluded, master, config.members(), shrink) {
-        return VotingConfig::of(config.members());
-    }
-    let chosen = VotingConfig::of(&chosen(live, excluded, master, config.members(), shrink));
+    let chosen = VotingConfig::of(&chosen(live, excluded, master, config, shrink));
     if chosen.is_quorum(live) {
         chosen
     } else {
-        VotingConfig::of(config.members())
+        VotingConfig::of_list(config)
     }
 }
 
-fn are_same(ids: &NodeSet, others: &NodeSet) -> bool
-    ensures { result ≡ same_config ids.now others.now }
-{
-    ids.as_slice() == others.as_slice()
-}
-
-// Whether it is plain that just the voters of today are chosen, as most often: they are those that are live, the master is one of them,
-// none is excluded, and as many are taken. Where it is false, `chosen` tells.
-fn all_stay(
-    live: &NodeSet,
-    excluded: &NodeSet,
+/// Whether it is plain that the configuration stays as it is, as most often: the members are the voters of today, all of them voted for the
+/// master, which is one of them, none is excluded, and as many are taken. No set is made. Where it is false, [`target`] tells, of the
+/// members that voted as the live nodes.
+pub fn stays(
+    members: &IdList,
+    votes: &JoinVotes,
+    excluded: &IdList,
     master: NodeId,
-    config: &NodeSet,
+    config: &IdList,
     shrink: bool,
 ) -> bool
-    ensures { IsTrue result → chosen_of live.now excluded.now master config.now shrink ≡ config.now }
+    ensures { IsTrue result → target_of (among members.now votes.now) excluded.now master config.now shrink ≡ config.now }
 {
-    if !are_same(live, config) {
+    if !members.is_same(config) {
+        return false;
+    }
+    if !have_voted(config, votes) {
         return false;
     }
     if !config.contains(master) {
@@ -69,19 +65,27 @@ fn all_stay(
     count <= size(count, count, count, shrink)
 }
 
+// Whether each of the ids is among the votes.
+fn have_voted(ids: &IdList, votes: &JoinVotes) -> bool
+    ensures { result ≡ are_among votes.now ids.now }
+{
+    ids.as_slice().iter().all(|id| votes.contains(*id))
+}
+
 // The best candidates.
 fn chosen(
     live: &NodeSet,
-    excluded: &NodeSet,
+    excluded: &IdList,
     master: NodeId,
-    config: &NodeSet,
+    config: &IdList,
     shrink: bool,
 ) -> NodeSet
     ensures { result ≡ chosen_of live.now excluded.now master config.now shrink }
 {
     let members = config.len();
-    let allowed = live.without(excluded);
-    let voters = config.without(excluded);
+    let excluded = excluded.to_set();
+    let allowed = live.without(&excluded);
+    let voters = config.without(&excluded);
     let size = size(allowed.len(), members, voters.len(), shrink);
     first_candidates(&allowed, &voters, master, size)
 }
