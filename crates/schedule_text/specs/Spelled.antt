@@ -34,7 +34,7 @@ abbrev pub AreVotingOnly : Level → (nodes voting_only : List Id) → Type 0
 AreVotingOnly Core nodes ids = ids ≡ []
 AreVotingOnly Node nodes ids = IsTrue (are_ids_after [] ids) × IsTrue (are_among nodes ids)
 
--- 1 to 32 nodes, some of them as the initial ones, the voting-only ones, and lines of these nodes and of the level
+-- 1 to 64 nodes, some of them as the initial ones, the voting-only ones, and lines of these nodes and of the level
 pub record IsSchedule (level : Level) (s : Schedule) : Type 0 where
   pub nodes : IsTrue (are_ids_after [] s.nodes)
   pub some_node : 0 < length s.nodes

@@ -18,7 +18,7 @@ pub enum Line {
     StartJoin(NodeId, Boxed<NodeId>, u64),
     /// A client's value reaches the node: as this version, with this text as its one setting, and with this
     /// configuration.
-    Value(NodeId, u64, Boxed<SettingText>, IdList),
+    Value(NodeId, u64, Boxed<SettingText>, Boxed<IdList>),
     /// The node is handed the message with this number, counted from 1.
     Deliver(NodeId, u64),
     /// The node crashes between two acts, and its disk is left so.

@@ -8,6 +8,7 @@ ghost use Rattle.schedule_text.specs.Answers.{Answers};
 use crate::fault::{ReadError, WhyBad};
 use crate::setting_text::SettingText;
 use std::alloc::Global;
+use text::Boxed;
 use voting_config::{IdList, NodeId, NodeSet};
 
 /// The listed node that a word names, and else `Id`.
@@ -99,7 +100,11 @@ fn is_digit(b: u8) -> bool
 }
 
 /// The listed nodes that a word lists, and else `List`.
-pub fn config_at(alloc: Global, ids: &NodeSet, word: &[u8]) -> Result<IdList, ReadError<WhyBad>>
+pub fn config_at(
+    alloc: Global,
+    ids: &NodeSet,
+    word: &[u8],
+) -> Result<Boxed<IdList>, ReadError<WhyBad>>
     ensures { Answers result ((config ids.now).at word.now) }
 {
     let Some(some) = NodeSet::from_bytes(word) else {
@@ -108,7 +113,10 @@ pub fn config_at(alloc: Global, ids: &NodeSet, word: &[u8]) -> Result<IdList, Re
     if !ids.has_all(&some) {
         return Err(ReadError::Bad(WhyBad::List));
     }
-    match IdList::of(alloc, &some) {
+    let Ok(list) = IdList::of(alloc, &some) else {
+        return Err(ReadError::Memory);
+    };
+    match Boxed::of(alloc, list) {
         Ok(list) => Ok(list),
         Err(_) => Err(ReadError::Memory),
     }

@@ -13,7 +13,7 @@ use crate::schedule::{Line, Schedule};
 use crate::setting_text::SettingText;
 use std::alloc::{AllocError, Global};
 use text::{Boxed, Text};
-use voting_config::NodeId;
+use voting_config::{IdList, NodeId};
 use zen_disk::Way;
 
 /// Writes a line of a schedule, without its line feed.
@@ -27,7 +27,7 @@ pub fn write_line(text: &mut Text, line: &Line) -> Result<(), AllocError>
         }
         Line::StartJoin(node, candidate, term) => write_start_join(text, node, candidate, *term),
         Line::Value(node, version, setting, config) => {
-            write_value(text, node, *version, setting, config.as_slice())
+            write_value(text, node, *version, setting, config)
         }
         Line::Deliver(node, message) => {
             text.word("deliver ")?;
@@ -103,7 +103,7 @@ fn write_value(
     node: &NodeId,
     version: u64,
     setting: &Boxed<SettingText>,
-    config: &[NodeId],
+    config: &Boxed<IdList>,
 ) -> Result<(), AllocError>
     ensures { OnOk result (text.new ≡ text.old ++ line_text (Line.Value node.now version setting.now config.now)) }
 {
@@ -112,7 +112,7 @@ fn write_value(
     text.number_and(version, b' ')?;
     write_setting(text, setting.get())?;
     text.word(" ")?;
-    text.ids(config)
+    text.ids(config.lend().as_slice())
 }
 
 fn write_mode(text: &mut Text, mode: Way) -> Result<(), AllocError>
