@@ -127,6 +127,7 @@ fn push_value(
     };
     let text = Boxed::of(alloc, text)?;
     let config = IdList::of(alloc, config.members())?;
+    let config = Boxed::of(alloc, config)?;
     lines.push(Line::Value(master, version, text, config))?;
     Ok(())
 }

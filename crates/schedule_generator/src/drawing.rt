@@ -80,6 +80,7 @@ fn value_line(alloc: Global, step: u64, leader: NodeId, word: u32) -> Result<Lin
     let text = text(alloc, step)?;
     let text = Boxed::of(alloc, text)?;
     let config = IdList::of(alloc, &config(word))?;
+    let config = Boxed::of(alloc, config)?;
     Ok(Line::Value(leader, 1 + step, text, config))
 }
 
