@@ -298,7 +298,7 @@ fn shown_by(line: &Line) -> First {
     match line {
         Line::Crash(_, Way::Torn(byte)) => First::Torn(*byte),
         Line::Value(_, version, text, config) => {
-            First::Value(*version, text.get().as_str().len(), config.to_set().len())
+            First::Value(*version, text.get().as_str().len(), config.lend().len())
         }
         _ => First::Other,
     }

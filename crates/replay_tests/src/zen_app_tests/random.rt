@@ -81,6 +81,7 @@ fn value(
         _ => IdList::of(alloc, initial)?,
     };
     let text = Boxed::of(alloc, text)?;
+    let config = Boxed::of(alloc, config)?;
     Ok(Some(Line::Value(leader, number(draws), text, config)))
 }
 
