@@ -13,8 +13,8 @@ use Rattle.state_journal.proofs.Refused.{only_disk, called}
 use Rattle.state_journal.proofs.Spelled.{draft_short}
 use Rattle.state_journal.proofs.keep.begin.Goals as goal
 
-pub lay_generation-requires : goal.lay_generation-requires
-lay_generation-requires g c = draft_short c.requires.drafted.0 c.args.draft.now c.requires.drafted.1
+pub lay_generation-requires-clause-state : goal.lay_generation-requires-clause-state
+lay_generation-requires-clause-state g c = draft_short c.requires.drafted.0 c.args.draft.now c.requires.drafted.1
 
 pub renew-requires : goal.renew-requires
 renew-requires g c =

@@ -1,5 +1,5 @@
 use Rattle.std.proofs.Common.{◌≡◌, ℕ, List, Ok, true, false, length, refl, sym, ap, ◌∙◌, subst, rules}
-use Rattle.voting_config.specs.Ids.{most_ids}
+use Rattle.voting_config.specs.Ids.{Id, most_ids}
 use Rattle.cluster_state.specs.Fields.{ids}
 use Rattle.cluster_state.specs.declared.state.ClusterState.{ClusterState}
 use Rattle.gate_log.specs.Generations.{is_generation, standing_in}
@@ -24,13 +24,15 @@ keep_small-requires-clause-plain g c = subst (λ (b : List ℕ). is_generation b
 pub returns-in_default-clause-any_moment : goal.returns-in_default-clause-any_moment
 returns-in_default-clause-any_moment g c = λ told running.
     let old = c.args.self.now in
-    let shown : c.deref-2.result.now ≡ old.kept.accepted = search rules in
-    commit_leaves old told running c.deref-2.result.now shown _ _ (c.deref.ensures.0 ∙ c.args.self.now.marks) c.keep_small.ensures.fits (c.keep_small.ensures.any_moment told old.kept.accepted old.drafted)
+    let accepted : c.deref-2.result.now ≡ old.kept.accepted = search rules in
+    let shown : c.as_slice.result.now ≡ old.kept.accepted.config = c.as_slice.ensures.value ∙ ap (λ (s : ClusterState). s.config) accepted in
+    commit_leaves old told running c.as_slice.result.now shown _ _ (c.deref.ensures.0 ∙ c.args.self.now.marks) c.keep_small.ensures.fits (c.keep_small.ensures.any_moment told old.kept.accepted old.drafted)
 
 pub invariant_of-self-2 : goal.invariant_of-self-2
 invariant_of-self-2 g c =
     let old = c.args.self.now in
-    let shown : c.deref-2.result.now ≡ old.kept.accepted = search rules in
+    let accepted : c.deref-2.result.now ≡ old.kept.accepted = search rules in
+    let shown : c.as_slice.result.now ≡ old.kept.accepted.config = c.as_slice.ensures.value ∙ ap (λ (s : ClusterState). s.config) accepted in
     let now = c.keep_small.new.log in
     let p = place old.log in
     let change = Committed in
@@ -39,11 +41,11 @@ invariant_of-self-2 g c =
     let ran : old.log.stopped ≡ false = sym c.stopped.ensures ∙ c.if-stopped.false in
     let may : MayFollow old.kept change = record { reads = reads_committed; order = refl } in
     let begins : renews old.due p (body_of change) ≡ true → MayBegin next =
-    λ renewing. record { bounded = old.bounded; fits = fits_of old.kept.accepted old.drafted.fits; named = subst (λ (s : ClusterState). (ids most_ids).Fits s.config) shown (c.keep_small.ensures.fits (ap (renews old.due p) same ∙ renewing)); older = old.older } in
+    λ renewing. record { bounded = old.bounded; fits = fits_of old.kept.accepted old.drafted.fits; named = subst (ids most_ids).Fits shown (c.keep_small.ensures.fits (ap (renews old.due p) same ∙ renewing)); older = old.older } in
     let grown = λ (told : g.D.Disks.told).
     subst (λ (b : List ℕ). standing_in (g.D.Disks.seen now.disk) ≡ written_in (renews old.due p b) (standing_in (g.D.Disks.seen old.log.disk)) b (generation_after p next)) same
-    (subst (λ (s : ClusterState). standing_in (g.D.Disks.seen now.disk)
-    ≡ written_in (renews old.due p c.deref.result.now) (standing_in (g.D.Disks.seen old.log.disk)) c.deref.result.now (generation_after p (record_with old.kept.term old.kept.accepted s.config))) shown
+    (subst (λ (config : List Id). standing_in (g.D.Disks.seen now.disk)
+    ≡ written_in (renews old.due p c.deref.result.now) (standing_in (g.D.Disks.seen old.log.disk)) c.deref.result.now (generation_after p (record_with old.kept.term old.kept.accepted config))) shown
     (c.in-Ok.ensures.ok told old.kept.accepted old.drafted)) in
     let size : length (body_of change) ≡ c.len.result = ap length (sym old.marks) ∙ sym c.len.ensures.value in
     let size_again : length (body_of change) ≡ c.len-2.result = ap length (sym old.marks) ∙ sym c.len-2.ensures.value in
@@ -68,5 +70,6 @@ invariant_of-self-2 g c =
 pub returns-clause-any_moment : goal.returns-clause-any_moment
 returns-clause-any_moment g c = λ told running.
     let old = c.args.self.now in
-    let shown : c.deref-2.result.now ≡ old.kept.accepted = search rules in
-    commit_leaves old told running c.deref-2.result.now shown _ _ (c.deref.ensures.0 ∙ c.args.self.now.marks) c.keep_small.ensures.fits (c.keep_small.ensures.any_moment told old.kept.accepted old.drafted)
+    let accepted : c.deref-2.result.now ≡ old.kept.accepted = search rules in
+    let shown : c.as_slice.result.now ≡ old.kept.accepted.config = c.as_slice.ensures.value ∙ ap (λ (s : ClusterState). s.config) accepted in
+    commit_leaves old told running c.as_slice.result.now shown _ _ (c.deref.ensures.0 ∙ c.args.self.now.marks) c.keep_small.ensures.fits (c.keep_small.ensures.any_moment told old.kept.accepted old.drafted)

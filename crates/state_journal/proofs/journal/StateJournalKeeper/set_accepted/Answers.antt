@@ -1,6 +1,7 @@
 use Rattle.std.proofs.Common.{◌≡◌, ◌≤◌, ◌+◌, ℕ, List, ◌∷◌, Ok, false, length, refl, sym, subst, ap, ◌∙◌, arith, rules}
 use Rattle.std.specs.Prelude.{IfSome}
 use Rattle.sha2.specs.Sha256.{sha256}
+use Rattle.voting_config.specs.Ids.{Id}
 use Rattle.cluster_state.specs.declared.state.ClusterState.{ClusterState}
 use Rattle.gate_log.specs.Generations.{standing_in}
 use Rattle.gate_log.specs.Place.{place, renews}
@@ -31,9 +32,10 @@ returns-in_default-clause-any_moment g c = λ told running.
     let old = c.args.self.now in
     let ready = c.ready.inside in
     let is : ready.state ≡ c.args.ready.state = ap (λ (r : ToKeep). r.state) c.ready.view_is in
-    let shown : c.deref.result.now ≡ ready.state = search rules in
+    let accepted : c.deref.result.now ≡ ready.state = search rules in
+    let shown : c.as_slice.result.now ≡ ready.state.committed = c.as_slice.ensures.value ∙ ap (λ (s : ClusterState). s.committed) accepted in
     let older : ready.state.term ≤ old.kept.term = subst (λ (s : ClusterState). s.term ≤ old.kept.term) (sym is) c.requires in
-    rw (sym is) (state_leaves old ready.state ready.drafted.fits older c.deref.result.now shown told running _ (c.keep_state.ensures.any_moment told ready.state ready.drafted))
+    rw (sym is) (state_leaves old ready.state ready.drafted.fits older c.as_slice.result.now shown told running _ (c.keep_state.ensures.any_moment told ready.state ready.drafted))
 
 pub invariant_of-self-2 : goal.invariant_of-self-2
 invariant_of-self-2 g c =
@@ -42,7 +44,8 @@ invariant_of-self-2 g c =
     let state = c.ready.inside.state in
     let drafted = c.ready.inside.drafted in
     let is : state ≡ c.args.ready.state = ap (λ (r : ToKeep). r.state) c.ready.view_is in
-    let here : c.deref.result.now ≡ state = search rules in
+    let accepted : c.deref.result.now ≡ state = search rules in
+    let shown : c.as_slice.result.now ≡ state.committed = c.as_slice.ensures.value ∙ ap (λ (s : ClusterState). s.committed) accepted in
     let older : state.term ≤ old.kept.term = subst (λ (s : ClusterState). s.term ≤ old.kept.term) (sym is) c.requires in
     let p = place old.log in
     let change = Accepted state in
@@ -52,8 +55,8 @@ invariant_of-self-2 g c =
     let may = state_follows old state drafted.fits older in
     let begins = state_begins old state drafted.fits older in
     let grown = λ (told : g.D.Disks.told).
-    subst (λ (s : ClusterState). standing_in (g.D.Disks.seen now.disk) ≡ written_in (renews old.due p (body_of change)) (standing_in (g.D.Disks.seen old.log.disk)) (body_of change) (generation_after p (record_with old.kept.term state s.committed)))
-    here (c.in-Ok.ensures.ok told state drafted) in
+    subst (λ (committed : List Id). standing_in (g.D.Disks.seen now.disk) ≡ written_in (renews old.due p (body_of change)) (standing_in (g.D.Disks.seen old.log.disk)) (body_of change) (generation_after p (record_with old.kept.term state committed)))
+    shown (c.in-Ok.ensures.ok told state drafted) in
     record {
       stands = λ told running.
           stands_after (is_open old told ran) change may begins (g.D.Disks.seen now.disk) (grown told) (now.settled told running).stands ∙ ap Ok (sym c.accept.ensures);
@@ -76,6 +79,7 @@ returns-clause-any_moment g c = λ told running.
     let old = c.args.self.now in
     let ready = c.ready.inside in
     let is : ready.state ≡ c.args.ready.state = ap (λ (r : ToKeep). r.state) c.ready.view_is in
-    let shown : c.deref.result.now ≡ ready.state = search rules in
+    let accepted : c.deref.result.now ≡ ready.state = search rules in
+    let shown : c.as_slice.result.now ≡ ready.state.committed = c.as_slice.ensures.value ∙ ap (λ (s : ClusterState). s.committed) accepted in
     let older : ready.state.term ≤ old.kept.term = subst (λ (s : ClusterState). s.term ≤ old.kept.term) (sym is) c.requires in
-    rw (sym is) (state_leaves old ready.state ready.drafted.fits older c.deref.result.now shown told running _ (c.keep_state.ensures.any_moment told ready.state ready.drafted))
+    rw (sym is) (state_leaves old ready.state ready.drafted.fits older c.as_slice.result.now shown told running _ (c.keep_state.ensures.any_moment told ready.state ready.drafted))
