@@ -29,7 +29,7 @@ use policy_model::Event;
 use std::alloc::{AllocError, Global};
 use text::Text;
 use wire_frames::{FrameError, FrameReader, FrameView};
-use zen_link::{Input, Link, LinkError, Sink, write_all};
+use zen_link::{CONNECTIONS, Input, Link, LinkError, Sink, write_all};
 
 /// Why a run of a node ended.
 #[derive(Clone, Copy, Debug, PartialEq, Eq)]
@@ -568,7 +568,7 @@ fn fresh_connections(alloc: Global) -> Result<Vec<Connection>, AllocError>
     ensures reads { IfOk result (λ connections. Reads connections.items NoIntakes) }
 {
     let mut connections = Vec::new(alloc);
-    for count in 0..64u64 {
+    for count in 0..CONNECTIONS {
         connections.push(Connection::Fresh)?;
     }
     Ok(connections)
@@ -576,7 +576,7 @@ fn fresh_connections(alloc: Global) -> Result<Vec<Connection>, AllocError>
 
 /// A node over a link.
 ///
-/// Of each of its 64 connections it holds what has come of one frame or of one line that is not whole: less than the length
+/// Of each of its 192 connections it holds what has come of one frame or of one line that is not whole: less than the length
 /// and the body that a frame may have, or one byte more than a line may have (`law_holds_little`). It takes the next input
 /// only when it has done all frames and lines of the last one.
 #[derive(Drop)]

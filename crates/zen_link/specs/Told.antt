@@ -27,7 +27,7 @@ counted before more = min (before + more) (2 ^ 64 - 1)
 
 -- how many connections a link has at most
 abbrev pub most_connections : ℕ
-most_connections = 64
+most_connections = 192
 
 -- the number of its connection is below that
 abbrev pub has_low_conn : Input → Bool

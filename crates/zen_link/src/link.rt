@@ -11,7 +11,7 @@ use thiserror::Error;
 use voting_config::NodeId;
 
 /// The numbers of connections are below this.
-pub const CONNECTIONS: u64 = 64;
+pub const CONNECTIONS: u64 = 192;
 
 /// What comes to a node over its link.
 #[derive(Drop)]
@@ -104,7 +104,7 @@ pub trait Link {
     /// Whether a `next` with this result leads from one to the other, as far as the link tells.
     ghost moves: { Self → Self → Result Taken LinkError → Type 0 };
 
-    /// Gives the next input; the number of its connection is below 64. `Failed` only where the count of faults rose. At an
+    /// Gives the next input; the number of its connection is below 192. `Failed` only where the count of faults rose. At an
     /// `Err` no input was taken.
     fn next(&mut self) -> Result<Input, LinkError>
         ensures takes { Takes (told self.old) (told self.new) result }
