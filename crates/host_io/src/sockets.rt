@@ -109,6 +109,8 @@ pub(crate) struct Sockets {
     // How many replies each number owes: lines that were given under it, less replies to it. One whose client is gone goes to
     // no other client before it owes none, so that a late reply reaches nobody else.
     owed: Vec<u64>,
+    // No connection has a number above this one: the others need not be looked at.
+    highest: u64,
     // Those that found no number, the oldest first.
     lobby: VecDeque<Guest>,
     // The node's frames to itself.
@@ -169,6 +171,7 @@ impl Sockets {
             peers,
             connections,
             owed,
+            highest: OWN,
             lobby: VecDeque::new(alloc),
             own: FrameQueue::new(alloc),
             last_client: OWN,
@@ -308,8 +311,9 @@ impl Sockets {
     ) -> Result<Option<Input>, AllocError>
         ensures { IfOk result (λ found. IfSome found (λ input. IsTrue (has_low_conn input))) }
     {
-        for _ in 1..CONNECTIONS {
-            let number = self.last_client % (CONNECTIONS - 1) + 1;
+        let highest = self.highest.min(CONNECTIONS - 1);
+        for _ in 0..highest {
+            let number = self.last_client % highest + 1;
             self.last_client = number;
             if self.brings_lines(number) {
                 let input = self.hear(framing, number, now)?;
@@ -329,7 +333,8 @@ impl Sockets {
     ) -> Result<Option<Input>, AllocError>
         ensures { IfOk result (λ found. IfSome found (λ input. IsTrue (has_low_conn input))) }
     {
-        for number in self.last_other.saturating_add(1)..CONNECTIONS {
+        let highest = self.highest.min(CONNECTIONS - 1);
+        for number in self.last_other.saturating_add(1)..=highest {
             self.last_other = number;
             if !self.brings_lines(number) {
                 let input = self.hear(framing, number, now)?;
@@ -491,7 +496,7 @@ impl Sockets {
     fn least_of(&self, rank: Rank) -> Option<u64> {
         let mut found = None;
         let mut least = u64::MAX;
-        for number in 1..CONNECTIONS {
+        for number in 1..=self.highest {
             if let Some(Some(connection)) = self.connections.get(number as usize) {
                 let own = self.rank_of(number, connection, rank);
                 if own < least && !self.leads_to_peer(number, connection) {
@@ -565,6 +570,7 @@ impl Sockets {
             connection.set_number(self.poll.registry(), number);
             connection.set_owes_end(matches!(slot, Some(old) if old.was_heard()));
             *slot = Some(connection);
+            self.highest = self.highest.max(number);
         }
     }
 
@@ -656,13 +662,16 @@ impl Sockets {
         }
     }
 
-    // Writes what waits of each connection.
+    // Writes what waits of each connection, and notes which number is the highest.
     fn flush_all(&mut self) {
-        for slot in &mut self.connections {
-            if let Some(connection) = slot {
+        let mut highest = OWN;
+        for number in 1..=self.highest {
+            if let Some(Some(connection)) = self.connections.get_mut(number as usize) {
                 connection.flush(self.poll.registry());
+                highest = number;
             }
         }
+        self.highest = highest;
     }
 
     // Sends each piece, or loses it. What goes over one connection is written together.
@@ -759,7 +768,7 @@ impl Sockets {
     fn newest_by(&self, way: Way, id: NodeId) -> Option<u64> {
         let mut found = None;
         let mut newest = 0;
-        for number in 1..CONNECTIONS {
+        for number in 1..=self.highest {
             if let Some(Some(connection)) = self.connections.get(number as usize) {
                 let is_newer = !connection.is_over() && connection.age() >= newest;
                 if is_newer && leads_to(connection, way) == Some(id) {
