@@ -18,7 +18,7 @@ fn write_act(text: &mut Text, alloc: Global, act: &Act) -> Result<(), AllocError
     ensures { OnOk result (text.new ≡ text.old ++ act_text act.now) }
 {
     match act {
-        Act::Bootstrap(config) => write_boot(text, config.members()),
+        Act::Bootstrap(config) => write_boot(text, config.as_slice()),
         Act::StartJoin(candidate, term) => write_start_join(text, *candidate, *term),
         Act::TakeJoin(join) => write_join(text, join),
         Act::Value(version, config, value) => write_value(text, alloc, *version, config, value),

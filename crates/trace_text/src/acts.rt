@@ -11,7 +11,7 @@ use cluster_state::{
 };
 use std::alloc::{AllocError, Global};
 use text::Text;
-use voting_config::{NodeId, NodeSet, VotingConfig};
+use voting_config::{IdList, NodeId};
 
 /// Writes a term and a version, as `1/2`.
 pub fn write_state_id(text: &mut Text, term: u64, version: u64) -> Result<(), AllocError>
@@ -63,11 +63,11 @@ pub fn write_taken_head(text: &mut Text, node: &NodeId) -> Result<(), AllocError
 }
 
 /// Writes the act by which a node takes the initial configuration.
-pub fn write_boot(text: &mut Text, initial: &NodeSet) -> Result<(), AllocError>
+pub fn write_boot(text: &mut Text, initial: &[NodeId]) -> Result<(), AllocError>
     ensures { OnOk result (text.new ≡ text.old ++ act_text (act.Bootstrap initial.now)) }
 {
     text.word("boot ")?;
-    text.ids(initial.as_slice())
+    text.ids(initial)
 }
 
 /// Writes the act by which a node starts a join.
@@ -95,7 +95,7 @@ pub fn write_value(
     text: &mut Text,
     alloc: Global,
     version: u64,
-    config: &VotingConfig,
+    config: &IdList,
     value: &ClusterValue,
 ) -> Result<(), AllocError>
     ensures { OnOk result (text.new ≡ text.old ++ act_text (act.Value version config.now value.now)) }
@@ -103,7 +103,7 @@ pub fn write_value(
     let json = value_to_json(alloc, value)?;
     text.word("value ")?;
     text.number_and(version, b' ')?;
-    text.ids(config.members().as_slice())?;
+    text.ids(config.as_slice())?;
     text.word(" ")?;
     text.bytes(json.as_slice())
 }

@@ -50,7 +50,7 @@ pub fn write_record(text: &mut Text, node: NodeId, found: &Kept) -> Result<(), A
     text.number_and(found.term, b' ')?;
     write_state_id(text, found.accepted.term, found.accepted.version)?;
     text.word(" ")?;
-    text.ids(found.accepted.config.members().as_slice())?;
+    text.ids(found.accepted.config.as_slice())?;
     text.word(" ")?;
     text.ids(found.committed.members().as_slice())?;
     text.word("\n")
