@@ -1,15 +1,22 @@
 -- A leader with nothing to do, whose accepted state is its own and stays.
-use Rattle.std.proofs.Common.{◌≡◌, ◌∙◌, ap, sym, refl, true, Bool, List, [], ◌∷◌, Option, Some}
-use Rattle.voting_config.specs.Ids.{Id, outside}
+use Rattle.std.proofs.Common.{◌≡◌, ◌∙◌, ap, sym, refl, true, List, [], ◌∷◌, Option, Some}
+use Rattle.voting_config.specs.Ids.{Id, outside, without_id}
 use Rattle.cluster_state.specs.Settings.{Setting}
 use Rattle.cluster_state.specs.declared.state.ClusterValue.{ClusterValue}
 use Rattle.master_tasks.specs.Queue.{Tasks, no_tasks}
-use Rattle.master_tasks.specs.Processing.{processed_all}
+use Rattle.master_tasks.specs.Members.{joined, members_after}
 use Rattle.master_tasks.specs.NextState.{IsAtRest, Leader, config_for, is_accepted, is_nothing_new, next_answers, next_config, next_value, processed_by, value_before, waiting_after}
 
 outside_none : (xs : List Id) → outside xs [] ≡ xs
 outside_none [] = refl
 outside_none (x ∷ xs) = ap (λ (ys : List Id). x ∷ ys) (outside_none xs)
+
+-- nobody is to come or to go
+pub members_stay : (me : Id) (t : Tasks) (members : List Id) → t.removals ≡ [] → t.additions ≡ [] → members_after me t members ≡ members
+members_stay me t members none_go none_come =
+    ap (λ (gone : List Id). joined me t.additions (outside members (without_id me gone))) none_go
+    ∙ ap (λ (more : List Id). joined me more (outside members [])) none_come
+    ∙ outside_none members
 
 abbrev valued : Option Id → List Id → List Id → List Setting → ClusterValue
 valued master members exclusions settings = record { master = master; members = members; exclusions = exclusions; settings = settings }

@@ -1,13 +1,18 @@
 -- Where nothing is new, the next state is the accepted one.
-use Rattle.std.proofs.Common.{◌≡◌, ◌&&◌, true, nat_eq, arith}
-use Rattle.std.proofs.lemmas.Bool.{and_parts}
+use Rattle.std.proofs.Common.{◌≡◌, ◌&&◌, true, nat_eq, List, [], ◌∷◌, refl, arith}
+use Rattle.std.proofs.lemmas.Bool.{and_from, and_parts}
+use Rattle.std.proofs.lemmas.Cmp.{nat_list_eq_equiv}
 use Rattle.std.proofs.lemmas.Bool.Decides.{nat_tests}
-use Rattle.voting_config.specs.Ids.{same_config}
+use Rattle.voting_config.specs.Ids.{Id, same_config}
 use Rattle.voting_config.proofs.Sets.{same_config_is}
 use Rattle.cluster_state.specs.Same.{same_value}
 use Rattle.cluster_state.proofs.Sameness.{same_value-says}
 use Rattle.master_tasks.specs.Queue.{Tasks}
 use Rattle.master_tasks.specs.NextState.{Leader, StaysAccepted, is_accepted, is_nothing_new, next_config, next_value}
+
+pub same_config-itself : (ids : List Id) → same_config ids ids ≡ true
+same_config-itself [] = refl
+same_config-itself (id ∷ ids) = and_from _ _ (nat_list_eq_equiv.refl id) (same_config-itself ids)
 
 pub stays_accepted : (l : Leader) (t : Tasks) → is_nothing_new l t ≡ true → StaysAccepted l t
 unfolding is_nothing_new is_accepted

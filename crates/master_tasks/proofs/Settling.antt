@@ -1,12 +1,8 @@
 -- One turn of the loop that answers requests.
-use Rattle.std.proofs.Common.{◌≡◌, ℕ, suc, ◌+◌, ◌-◌, ◌<◌, ◌≤◌, List, [], ◌∷◌, ◌++◌, length, take, drop, get_or, Option, None, Some, refl, sym, ap, ◌∙◌, add-one, arith}
-use Rattle.std.specs.List.{remove}
-use Rattle.std.proofs.Math.ListN.{drop_of_length-le}
-use Rattle.std.proofs.Math.Seq.{take-append_seam, drop-append_seam}
-use Rattle.std.proofs.lemmas.List.{drop_more, take_more, append_assoc, append-nil, length-append, length-drop, length-take-le, take_all}
+use Rattle.std.proofs.Common.{◌≡◌, ℕ, ◌+◌, ◌≤◌, List, ◌++◌, length, take, drop, Option}
 use Rattle.cluster_state.specs.declared.reply.Answer.{Answer}
 use Rattle.master_tasks.specs.declared.waiting.Waiting.{Waiting}
-use Rattle.master_tasks.specs.Replying.{Replies, with_sent, answer_to}
+use Rattle.master_tasks.specs.Replying.{Replies}
 use Rattle.master_tasks.specs.Answering.{answers_by, left_by}
 
 -- what is answered so far, and what is left to look at

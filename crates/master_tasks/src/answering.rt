@@ -2,11 +2,12 @@
 ghost use Rattle.std.specs.Prelude.{◌≡◌, is_some};
 ghost use Rattle.master_tasks.specs.Answering.{excluded_by, exclusion_done as exclusion_done_of, timed_out as timed_out_of};
 ghost use Rattle.master_tasks.specs.Deciding.{decided};
+ghost use Rattle.voting_config.specs.Ids.{some_among};
 
 use crate::waiting::Waiting;
 use cluster_state::{Answer, Ask, StateId};
 use election_clock::has_passed;
-use voting_config::VotingConfig;
+use voting_config::{IdList, VotingConfig};
 
 /// How long an exclusion waits, in ms: 30 s, the default of `timeout` of the voting configuration exclusions API
 /// (Elasticsearch reference 7.x).
@@ -69,7 +70,7 @@ fn exclusion_done(committed: &VotingConfig, id: StateId, w: &Waiting) -> Option<
 {
     match &w.request.ask {
         Ask::Exclude(ids) => {
-            if w.processed && !ids.meets(committed.members()) {
+            if w.processed && !some_vote(ids, committed) {
                 Some(Answer::Acked(id))
             } else {
                 None
@@ -77,6 +78,14 @@ fn exclusion_done(committed: &VotingConfig, id: StateId, w: &Waiting) -> Option<
         }
         _ => None,
     }
+}
+
+// Whether one of the ids votes.
+fn some_vote(ids: &IdList, committed: &VotingConfig) -> bool
+    ensures { result ≡ some_among ids.now committed.now }
+{
+    let voters = committed.members();
+    ids.as_slice().iter().any(|id| voters.contains(*id))
 }
 
 // An exclusion that came long ago is answered with those of its ids that still vote.

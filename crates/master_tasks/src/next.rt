@@ -2,7 +2,7 @@
 use crate::replies::Replies;
 use crate::waiting::Waiting;
 use cluster_state::ClusterValue;
-use voting_config::VotingConfig;
+use voting_config::IdList;
 
 /// What comes of a leader's tasks.
 #[derive(Drop)]
@@ -11,7 +11,7 @@ pub enum Next {
     Same(Replies),
     /// There is a state to publish, with this configuration and this value.
     New {
-        config: VotingConfig,
+        config: IdList,
         value: ClusterValue,
         replies: Replies,
     },

@@ -6,12 +6,13 @@ ghost use Rattle.exclusions.specs.Exclusions.{added_of, cleared_of};
 use crate::waiting::Waiting;
 use cluster_state::{Answer, Ask, ClusterValue, MAX_SETTINGS, SharedState, Text};
 use exclusions::AddError;
-use std::alloc::AllocError;
-use voting_config::NodeSet;
+use std::alloc::{AllocError, Global};
+use voting_config::IdList;
 
 /// Processes a request on a value, beside the accepted state: the answer, if it gets one at once. Where there is no
 /// memory, the value may be anything.
 pub fn process(
+    alloc: Global,
     accepted: &SharedState,
     value: &mut ClusterValue,
     ask: &Ask,
@@ -25,14 +26,15 @@ pub fn process(
             value.settings.remove(key.as_str());
             Ok(None)
         }
-        Ask::Exclude(ids) => Ok(exclude(value, ids)),
-        Ask::Clear { wait_for_removal } => Ok(clear(value, *wait_for_removal)),
+        Ask::Exclude(ids) => exclude(alloc, value, ids),
+        Ask::Clear { wait_for_removal } => Ok(clear(alloc, value, *wait_for_removal)),
         Ask::State => Ok(Some(Answer::State(accepted.share()?))),
     }
 }
 
 /// Processes a request, unless it was processed before.
 pub fn process_once(
+    alloc: Global,
     accepted: &SharedState,
     value: &mut ClusterValue,
     w: &Waiting,
@@ -43,7 +45,7 @@ pub fn process_once(
     if w.processed {
         return Ok(None);
     }
-    let answer = process(accepted, value, &w.request.ask)?;
+    let answer = process(alloc, accepted, value, &w.request.ask)?;
     Ok(answer)
 }
 
@@ -60,16 +62,20 @@ fn put(value: &mut ClusterValue, key: &Text, text: &Text) -> Result<Option<Answe
 }
 
 // Nodes are excluded.
-fn exclude(value: &mut ClusterValue, ids: &NodeSet) -> Option<Answer>
-    ensures value { value.new ≡ value_after value.old (excluding value.old (added_of value.old.exclusions ids.now)) }
-    ensures answer { result ≡ answer_after (excluding value.old (added_of value.old.exclusions ids.now)) }
+fn exclude(
+    alloc: Global,
+    value: &mut ClusterValue,
+    ids: &IdList,
+) -> Result<Option<Answer>, AllocError>
+    ensures value { OnOk result (value.new ≡ value_after value.old (excluding value.old (added_of value.old.exclusions ids.now))) }
+    ensures answer { IfOk result (λ a. a ≡ answer_after (excluding value.old (added_of value.old.exclusions ids.now))) }
 {
     match exclusions::add(&value.exclusions, &value.members, ids) {
         Ok(together) => {
-            value.exclusions = together;
-            None
+            value.exclusions = IdList::of(alloc, &together)?;
+            Ok(None)
         }
-        Err(error) => Some(refused(&error)),
+        Err(error) => Ok(Some(refused(&error))),
     }
 }
 
@@ -82,14 +88,14 @@ fn refused(error: &AddError) -> Answer
 }
 
 // The exclusions are cleared.
-fn clear(value: &mut ClusterValue, wait_for_removal: bool) -> Option<Answer>
+fn clear(alloc: Global, value: &mut ClusterValue, wait_for_removal: bool) -> Option<Answer>
     ensures value { value.new
         ≡ value_after value.old (clearing value.old (cleared_of value.old.exclusions value.old.members wait_for_removal)) }
     ensures answer { result ≡ answer_after (clearing value.old (cleared_of value.old.exclusions value.old.members wait_for_removal)) }
 {
     match exclusions::clear(&value.exclusions, &value.members, wait_for_removal) {
         Ok(()) => {
-            value.exclusions = NodeSet::new();
+            value.exclusions = IdList::new(alloc);
             None
         }
         Err(still) => Some(Answer::StillMember(still.0)),

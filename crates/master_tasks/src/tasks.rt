@@ -1,9 +1,11 @@
 //! `MasterTasks`: the requests that are not answered yet, the members that are to come and to go, and the next state that is made of them.
-ghost use Rattle.std.specs.Prelude.{◌≡◌, ◌↔◌, ◌<◌, ◌≤◌, length, slice_get, Some, Err, IsTrue, IfOk, IfErr, OnOk, OnErr};
+ghost use Rattle.std.specs.Prelude.{◌≡◌, ◌↔◌, ◌<◌, ◌≤◌, [], length, slice_get, Some, Err, IsTrue, IfOk, IfErr, OnOk, OnErr};
 ghost use Rattle.master_tasks.specs.declared.tasks.OfferError.TheVariants as offer_error;
 ghost use Rattle.master_tasks.specs.Answering.{answers_by, committed_in, exclusion_done, failed, left_by, timed_out, without_answered};
 ghost use Rattle.master_tasks.specs.Deciding.{decided};
 ghost use Rattle.cluster_state.specs.States.{IsFitValue};
+ghost use Rattle.reconfigurator.specs.Targets.{target_of};
+ghost use Rattle.voting_config.specs.Ids.{among};
 ghost use Rattle.master_tasks.specs.Fitting.{HaveGoodSettings, IsFitNext};
 ghost use Rattle.master_tasks.specs.Members.{members_after as members_after_of};
 ghost use Rattle.master_tasks.specs.NextState.{
@@ -26,10 +28,10 @@ use crate::processing::process_once;
 use crate::replies::Replies;
 use crate::waiting::Waiting;
 use cluster_state::{ClusterState, ClusterValue, Request, SharedState, StateId};
-use reconfigurator::target;
+use reconfigurator::{stays, target};
 use std::alloc::{AllocError, Global};
 use std::marker::Model;
-use voting_config::{NodeId, NodeSet, VotingConfig};
+use voting_config::{IdList, JoinVotes, NodeId, NodeSet, VotingConfig};
 
 /// How many requests wait at most.
 pub const MAX_OPEN: usize = 64;
@@ -102,8 +104,8 @@ impl MasterTasks {
         ensures { self.new ≡ no_tasks }
     {
         self.waiting.clear();
-        self.removals = NodeSet::new();
-        self.additions = NodeSet::new();
+        self.removals.clear();
+        self.additions.clear();
     }
 
     /// Only these requests wait, and nobody is to come or to go.
@@ -112,8 +114,8 @@ impl MasterTasks {
         ensures { self.new ≡ only waiting.items }
     {
         self.waiting = waiting;
-        self.removals = NodeSet::new();
-        self.additions = NodeSet::new();
+        self.removals.clear();
+        self.additions.clear();
     }
 
     /// How many requests are not answered yet: at most [`MAX_OPEN`].
@@ -171,14 +173,14 @@ impl MasterTasks {
         }
     }
 
-    /// The id is to become a member, unless 32 others already are to.
+    /// The id is to become a member, unless 64 others already are to.
     pub fn add_member(&mut self, id: NodeId)
         ensures { self.new ≡ to_be_added self.old id }
     {
         self.additions.put_if_room(id);
     }
 
-    /// The id is to be a member no more, unless 32 others already are to go.
+    /// The id is to be a member no more, unless 64 others already are to go.
     pub fn drop_member(&mut self, id: NodeId)
         ensures { self.new ≡ to_be_removed self.old id }
     {
@@ -262,7 +264,7 @@ impl MasterTasks {
         let mut waiting = Vec::new(self.alloc);
         let mut replies = Replies::with_room(self.alloc, self.waiting.len())?;
         for w in &self.waiting {
-            match process_once(accepted, value, w)? {
+            match process_once(self.alloc, accepted, value, w)? {
                 Some(answer) => replies.push(w.answer(answer)),
                 None => waiting.push(w.processed()?)?,
             }
@@ -274,7 +276,7 @@ impl MasterTasks {
     fn is_idle(&self) -> bool
         ensures { IsTrue result → self.now ≡ no_tasks }
     {
-        self.waiting.is_empty() && self.removals.len() == 0 && self.additions.len() == 0
+        self.waiting.is_empty() && self.keeps_members()
     }
 
     /// Whether it is plain that nothing comes of the tasks, before [`prepare`](MasterTasks::prepare) makes a value: nothing waits, nobody
@@ -285,7 +287,7 @@ impl MasterTasks {
         term: u64,
         accepted: &ClusterState,
         committed: &VotingConfig,
-        votes: &NodeSet,
+        votes: &JoinVotes,
         shrink: bool,
     ) -> bool
         ensures { IsTrue result → IsAtRest (leader_of me term accepted.now committed.now votes.now shrink) self.now }
@@ -296,7 +298,7 @@ impl MasterTasks {
         if !is_master(me, &accepted.value) {
             return false;
         }
-        stays(me, term, accepted, committed, votes, shrink)
+        accepted_stays(me, term, accepted, committed, votes, shrink)
     }
 
     /// What comes of the tasks, made by a leader in its `term` of its accepted state, the committed configuration and
@@ -311,7 +313,7 @@ impl MasterTasks {
         term: u64,
         accepted: &SharedState,
         committed: &VotingConfig,
-        votes: &NodeSet,
+        votes: &JoinVotes,
         shrink: bool,
     ) -> Result<Prepared, AllocError>
         ensures waiting { IfOk result
@@ -330,7 +332,7 @@ impl MasterTasks {
             mut waiting,
             mut replies,
         } = self.process(accepted, &mut value)?;
-        let config = config_for(me, state, committed, votes, shrink, &value);
+        let config = config_for(self.alloc, me, state, committed, votes, shrink, &value)?;
         if is_accepted(term, state, &config, &value) {
             answer_by(
                 &mut waiting,
@@ -360,7 +362,7 @@ impl MasterTasks {
         term: u64,
         accepted: &SharedState,
         committed: &VotingConfig,
-        votes: &NodeSet,
+        votes: &JoinVotes,
         shrink: bool,
     ) -> Result<Next, AllocError>
         ensures tasks { OnOk result (self.new ≡ tasks_after (leader_of me term accepted.now committed.now votes.now shrink) self.old) }
@@ -380,17 +382,37 @@ impl MasterTasks {
     fn value_before(&self, me: NodeId, value: &ClusterValue) -> Result<ClusterValue, AllocError>
         ensures { IfOk result (λ v. v ≡ value_before_of me self.now value.now) }
     {
+        let members = self.members_after(me, &value.members)?;
+        let exclusions = value.exclusions.copy()?;
         let settings = value.settings.copy()?;
         Ok(ClusterValue {
             master: Some(me),
-            members: self.members_after(me, &value.members),
-            exclusions: value.exclusions.copy(),
+            members,
+            exclusions,
             settings,
         })
     }
 
-    // The members with those that are to come and without those that are to go.
-    fn members_after(&self, me: NodeId, members: &NodeSet) -> NodeSet
+    // The members with those that are to come and without those that are to go. Most often nobody is, and no set is made then.
+    fn members_after(&self, me: NodeId, members: &IdList) -> Result<IdList, AllocError>
+        ensures { IfOk result (λ ids. ids ≡ members_after_of me self.now members.now) }
+    {
+        if self.keeps_members() {
+            return members.copy();
+        }
+        IdList::of(self.alloc, &self.members_moved(me, members))
+    }
+
+    // Whether nobody is to come or to go.
+    fn keeps_members(&self) -> bool
+        ensures removals { IsTrue result → self.now.removals ≡ [] }
+        ensures additions { IsTrue result → self.now.additions ≡ [] }
+    {
+        self.removals.len() == 0 && self.additions.len() == 0
+    }
+
+    // The members once they came and went.
+    fn members_moved(&self, me: NodeId, members: &IdList) -> NodeSet
         ensures { result ≡ members_after_of me self.now members.now }
     {
         let mut gone = self.removals.copy();
@@ -423,20 +445,70 @@ fn answer_by(waiting: &mut Vec<Waiting>, decision: &Decision, out: &mut Replies)
 // The configuration that is wanted for the value.
 #[tactic(auto, unfolding(crate::specs::NextState::config_for))]
 fn config_for(
+    alloc: Global,
     me: NodeId,
     accepted: &ClusterState,
     committed: &VotingConfig,
-    votes: &NodeSet,
+    votes: &JoinVotes,
+    shrink: bool,
+    value: &ClusterValue,
+) -> Result<IdList, AllocError>
+    ensures { IfOk result (λ config. config ≡ config_for_of me accepted.now committed.now votes.now shrink value.now) }
+{
+    if !committed.is_same_list(&accepted.config) {
+        return accepted.config.copy();
+    }
+    target_for(alloc, me, &accepted.config, votes, shrink, value)
+}
+
+// The configuration that a master aims at for the value. Most often it is that of today, and no set is made then.
+fn target_for(
+    alloc: Global,
+    me: NodeId,
+    config: &IdList,
+    votes: &JoinVotes,
+    shrink: bool,
+    value: &ClusterValue,
+) -> Result<IdList, AllocError>
+    ensures { IfOk result
+        (λ wanted. wanted ≡ target_of (among value.now.members votes.now) value.now.exclusions me config.now shrink) }
+{
+    if stays(&value.members, votes, &value.exclusions, me, config, shrink) {
+        return config.copy();
+    }
+    let wanted = aim(me, config, votes, shrink, value);
+    IdList::of(alloc, wanted.members())
+}
+
+// The same, in place, by the sets.
+fn aim(
+    me: NodeId,
+    config: &IdList,
+    votes: &JoinVotes,
     shrink: bool,
     value: &ClusterValue,
 ) -> VotingConfig
-    ensures { result ≡ config_for_of me accepted.now committed.now votes.now shrink value.now }
+    ensures { result ≡ target_of (among value.now.members votes.now) value.now.exclusions me config.now shrink }
 {
-    if !committed.is_same(&accepted.config) {
-        return VotingConfig::of(accepted.config.members());
+    let live = value.members.within(&votes.sources());
+    target(&live, &value.exclusions, me, config, shrink)
+}
+
+// Whether the configuration is the one that a master aims at for the value.
+fn is_target(
+    me: NodeId,
+    config: &IdList,
+    votes: &JoinVotes,
+    shrink: bool,
+    value: &ClusterValue,
+) -> bool
+    ensures { IsTrue result
+        → target_of (among value.now.members votes.now) value.now.exclusions me config.now shrink ≡ config.now }
+{
+    if stays(&value.members, votes, &value.exclusions, me, config, shrink) {
+        return true;
     }
-    let live = value.members.within(votes);
-    target(&live, &value.exclusions, me, &accepted.config, shrink)
+    aim(me, config, votes, shrink, value).is_same_list(config)
 }
 
 fn is_master(me: NodeId, value: &ClusterValue) -> bool
@@ -449,12 +521,12 @@ fn is_master(me: NodeId, value: &ClusterValue) -> bool
 }
 
 // Whether the accepted state is of this term, and has the configuration that is wanted for its value.
-fn stays(
+fn accepted_stays(
     me: NodeId,
     term: u64,
     accepted: &ClusterState,
     committed: &VotingConfig,
-    votes: &NodeSet,
+    votes: &JoinVotes,
     shrink: bool,
 ) -> bool
     ensures { IsTrue result
@@ -464,18 +536,30 @@ fn stays(
     if accepted.term != term {
         return false;
     }
-    let config = config_for(me, accepted, committed, votes, shrink, &accepted.value);
-    config.is_same(&accepted.config)
+    keeps_config(me, accepted, committed, votes, shrink)
+}
+
+// Whether the accepted configuration is the one that is wanted for the accepted value.
+#[tactic(auto, unfolding(crate::specs::NextState::config_for))]
+fn keeps_config(
+    me: NodeId,
+    accepted: &ClusterState,
+    committed: &VotingConfig,
+    votes: &JoinVotes,
+    shrink: bool,
+) -> bool
+    ensures { IsTrue result
+        → config_for_of me accepted.now committed.now votes.now shrink accepted.now.value ≡ accepted.now.config }
+{
+    if !committed.is_same_list(&accepted.config) {
+        return true;
+    }
+    is_target(me, &accepted.config, votes, shrink, &accepted.value)
 }
 
 // Whether the configuration and the value are the accepted ones, in this term.
 #[tactic(auto, unfolding(crate::specs::NextState::is_accepted))]
-fn is_accepted(
-    term: u64,
-    accepted: &ClusterState,
-    config: &VotingConfig,
-    value: &ClusterValue,
-) -> bool
+fn is_accepted(term: u64, accepted: &ClusterState, config: &IdList, value: &ClusterValue) -> bool
     ensures { result ≡ is_accepted_of term accepted.now config.now value.now }
 {
     accepted.term == term && value.is_same(&accepted.value) && config.is_same(&accepted.config)

@@ -1,11 +1,11 @@
-use Rattle.std.proofs.Common.{◌≡◌, ◌∙◌, ap}
-use Rattle.voting_config.specs.Ids.{without_id, outside}
-use Rattle.master_tasks.specs.Queue.{Tasks}
-use Rattle.master_tasks.specs.Members.{joined, members_after}
+use Rattle.std.proofs.Common.{◌≡◌, IfOk, List, subst, sym}
+use Rattle.voting_config.specs.Ids.{Id}
+use Rattle.master_tasks.proofs.Resting.{members_stay}
 use Rattle.master_tasks.proofs.tasks.MasterTasks.members_after.Goals as goal
 
-pub returns : goal.returns
-returns c =
-    let stayed : c.without-members.result ≡ outside c.args.members.now (without_id c.args.me c.self.inside.removals) =
-    c.without-members.ensures ∙ ap (outside c.args.members.now) (c.remove.ensures.gone ∙ ap (without_id c.args.me) c.copy-gone.ensures) in
-    c.join.ensures ∙ ap (joined c.args.me c.self.inside.additions) stayed ∙ ap (λ (t : Tasks). members_after c.args.me t c.args.members.now) c.self.view_is
+pub returns-then-keeps_members : goal.returns-then-keeps_members
+returns-then-keeps_members c =
+    let none_go = c.keeps_members.ensures.removals c.if-keeps_members.true in
+    let none_come = c.keeps_members.ensures.additions c.if-keeps_members.true in
+    subst (λ (ids : List Id). IfOk c.copy.result (λ copy. copy ≡ ids))
+    (sym (members_stay c.args.me c.args.self.now c.args.members.now none_go none_come)) c.copy.ensures

@@ -17,12 +17,12 @@ use Rattle.master_tasks.proofs.tasks.MasterTasks.prepare.Goals as goal
 abbrev new_leader : goal.Else-is_accepted → Leader
 new_leader c = leader_of c.args.me c.args.term c.args.accepted.now c.args.committed.now c.args.votes.now c.args.shrink
 
-made_new : (c : goal.Else-is_accepted) → Made (new_leader c) c.args.self.now c.process.new.value c.in_ok-waiting.field-0.waiting.items c.in_ok-waiting.field-0.replies c.config_for-config.result
+made_new : (c : goal.Else-is_accepted) → Made (new_leader c) c.args.self.now c.process.new.value c.in_ok-waiting.field-0.waiting.items c.in_ok-waiting.field-0.replies c.in_ok-config.config
 made_new c =
     made (new_leader c) c.args.self.now c.in_ok-value.value _ _ _ _
-    (rw c.deref-state.ensures at c.in_ok-value.ensures) c.in_ok-waiting.ensures.value c.in_ok-waiting.ensures.waiting c.in_ok-waiting.ensures.replies (rw c.deref-state.ensures at c.config_for-config.ensures)
+    (rw c.deref-state.ensures at c.in_ok-value.ensures) c.in_ok-waiting.ensures.value c.in_ok-waiting.ensures.waiting c.in_ok-waiting.ensures.replies (rw c.deref-state.ensures at c.in_ok-config.ensures)
 
-is_new : (c : goal.Else-is_accepted) → false ≡ is_accepted c.args.term c.args.accepted.now c.config_for-config.result c.process.new.value
+is_new : (c : goal.Else-is_accepted) → false ≡ is_accepted c.args.term c.args.accepted.now c.in_ok-config.config c.process.new.value
 is_new c = rw c.deref-state.ensures at (sym c.if-is_accepted.false ∙ c.is_accepted.ensures)
 
 pub returns-clause-waiting : goal.returns-clause-waiting
@@ -46,15 +46,15 @@ returns-clause-good c = λ good.
     subst P (sym (returns-clause-waiting c)) (good_waiting (new_leader c) c.args.self.now good)
 
 -- what was made, where nothing is new
-abbrev same_leader : goal.After-drop-value-then-is_accepted → Leader
+abbrev same_leader : goal.After-drop-value-then-is_accepted-3 → Leader
 same_leader c = leader_of c.args.me c.args.term c.args.accepted.now c.args.committed.now c.args.votes.now c.args.shrink
 
-made_same : (c : goal.After-drop-value-then-is_accepted) → Made (same_leader c) c.args.self.now c.process.new.value c.in_ok-waiting.field-0.waiting.items c.in_ok-waiting.field-0.replies c.config_for-config.result
+made_same : (c : goal.After-drop-value-then-is_accepted-3) → Made (same_leader c) c.args.self.now c.process.new.value c.in_ok-waiting.field-0.waiting.items c.in_ok-waiting.field-0.replies c.in_ok-config.config
 made_same c =
     made (same_leader c) c.args.self.now c.in_ok-value.value _ _ _ _
-    (rw c.deref-state.ensures at c.in_ok-value.ensures) c.in_ok-waiting.ensures.value c.in_ok-waiting.ensures.waiting c.in_ok-waiting.ensures.replies (rw c.deref-state.ensures at c.config_for-config.ensures)
+    (rw c.deref-state.ensures at c.in_ok-value.ensures) c.in_ok-waiting.ensures.value c.in_ok-waiting.ensures.waiting c.in_ok-waiting.ensures.replies (rw c.deref-state.ensures at c.in_ok-config.ensures)
 
-is_same : (c : goal.After-drop-value-then-is_accepted) → true ≡ is_accepted c.args.term c.args.accepted.now c.config_for-config.result c.process.new.value
+is_same : (c : goal.After-drop-value-then-is_accepted-3) → true ≡ is_accepted c.args.term c.args.accepted.now c.in_ok-config.config c.process.new.value
 is_same c = rw c.deref-state.ensures at (sym c.if-is_accepted.true ∙ c.is_accepted.ensures)
 
 pub returns-then-is_accepted-clause-waiting : goal.returns-then-is_accepted-clause-waiting
