@@ -29,7 +29,7 @@ use std::mem;
 use std::rc::Rc;
 use text::Text;
 use trace_text::{write_crashed, write_down_line, write_record, write_up_line};
-use voting_config::{NodeId, NodeSet, VotingConfig};
+use voting_config::{IdList, NodeId, NodeSet};
 use zen_disk::{Armable, Fuse, MemDisks, Order, Way};
 
 /// Whether a node's journal is open.
@@ -180,7 +180,7 @@ impl ReplayNode {
         &mut self,
         alloc: Global,
         version: u64,
-        config: &VotingConfig,
+        config: &IdList,
         settings: Settings,
     ) -> Result<Did, AllocError>
         requires { IsFitValue (record empty_value { settings = settings }) }

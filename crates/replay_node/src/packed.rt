@@ -16,8 +16,8 @@ use std::alloc::{AllocError, Global};
 use std::mem::size_of;
 use voting_config::{Full, NodeId, Roster};
 
-/// A message whose ids are places on a roster, counted from 0. A state has room in place for the most ids that its sets may hold, so it is
-/// kept as its bytes.
+/// A message whose ids are places on a roster, counted from 0. A state has lists and settings of its own, so it is kept as its bytes, which
+/// lie in one place.
 #[derive(Drop)]
 pub enum PackedMessage {
     Join {

@@ -23,7 +23,7 @@ use coord_state::{CoordState, Joined, NotTaken};
 use state_journal::{Keeper, Ready, StateJournal};
 use std::alloc::{AllocError, Global};
 use std::rc::Rc;
-use voting_config::{NodeId, NodeSet, VotingConfig};
+use voting_config::{IdList, NodeId, NodeSet};
 use zen_disk::{Fuse, MemDisks, Struck};
 
 /// A node whose journal is open on a memory disk under a fuse.
@@ -136,7 +136,7 @@ fn publication(
     state: &OpenNode,
     alloc: Global,
     version: u64,
-    config: &VotingConfig,
+    config: &IdList,
     settings: Settings,
 ) -> Result<SentMessage, AllocError>
     requires value { IsFitValue (record empty_value { settings = settings }) }
@@ -152,12 +152,12 @@ fn publication(
         term: kept.term,
         version,
         parent: Some(kept.accepted.id()),
-        config: VotingConfig::of(config.members()),
-        committed: VotingConfig::of(kept.committed.members()),
+        config: config.copy()?,
+        committed: IdList::of(alloc, kept.committed.members())?,
         value: ClusterValue {
             master: None,
-            members: NodeSet::new(),
-            exclusions: NodeSet::new(),
+            members: IdList::new(alloc),
+            exclusions: IdList::new(alloc),
             settings,
         },
     };
@@ -171,7 +171,7 @@ pub fn client_value(
     state: &mut OpenNode,
     alloc: Global,
     version: u64,
-    config: &VotingConfig,
+    config: &IdList,
     settings: Settings,
 ) -> Result<Did, AllocError>
     requires { IsFitValue (record empty_value { settings = settings }) }
