@@ -30,7 +30,7 @@ fn write_accepted(text: &mut Text, state: &ClusterState) -> Result<(), AllocErro
     text.word("/")?;
     text.number(state.version)?;
     text.word("\nconfig=")?;
-    text.ids(state.config.members().as_slice())
+    text.ids(state.config.as_slice())
 }
 
 fn write_state(alloc: Global, text: &mut Text, state: &ClusterState) -> Result<(), AllocError>

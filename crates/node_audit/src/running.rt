@@ -1,5 +1,5 @@
 //! A node that runs: what it is after its acts, what it answers, and what an act makes of it.
-ghost use Rattle.std.specs.Prelude.{◌≡◌, IfOk, OnOk, Bool, false, true, Option};
+ghost use Rattle.std.specs.Prelude.{◌≡◌, IfOk, OnOk, Bool, false, true, Option, Some};
 ghost use Rattle.cluster_state.specs.JoinCheck.{join_checked};
 ghost use Rattle.cluster_state.specs.States.{id_of};
 ghost use Rattle.voting_config.specs.Ids.{with_id};
@@ -23,7 +23,7 @@ use cluster_state::{
     StartCause, ValueCause,
 };
 use std::alloc::{AllocError, Global};
-use voting_config::{NodeId, NodeSet, VotingConfig};
+use voting_config::{IdList, NodeId, NodeSet, VotingConfig};
 use world_model::{Act, ActReply, Cause, Message};
 
 /// A node that is neither halted nor down.
@@ -45,19 +45,26 @@ impl Running {
     fn elects(&self, source: NodeId) -> bool
         ensures { result ≡ elects (seen self.now) (with_id source self.now.votes) }
     {
-        self.votes.elect_with(&self.committed, source)
-            && self.votes.elect_with(&self.accepted.config, source)
+        self.votes
+            .elect_with(self.committed.members().as_slice(), source)
+            && self
+                .votes
+                .elect_with(self.accepted.config.as_slice(), source)
     }
 
     // Whether the responses with this one commit: a quorum of the committed configuration and of the published one.
     fn commits(&self, source: NodeId) -> bool
         ensures { result ≡ commits (seen self.now) (with_id source self.now.acks) }
     {
-        self.acks.elect_with(&self.committed, source) && self.acks.elect_with(&self.config, source)
+        self.acks
+            .elect_with(self.committed.members().as_slice(), source)
+            && self
+                .acks
+                .elect_with(self.config.members().as_slice(), source)
     }
 
     /// What the node answers to the initial configuration.
-    pub fn bootstrap_reply(&self, config: &VotingConfig) -> ActReply
+    pub fn bootstrap_reply(&self, config: &IdList) -> ActReply
         ensures { result ≡ bootstrap_reply (seen self.now) config.now }
     {
         if !self.accepted.config.is_empty() {
@@ -127,13 +134,43 @@ impl Running {
         ActReply::Taken(None, !self.won && self.elects(join.source))
     }
 
+    // The state that publishes a client's value.
+    fn state_sent(
+        &self,
+        alloc: Global,
+        version: u64,
+        config: &IdList,
+        value: &ClusterValue,
+    ) -> Result<SharedState, AllocError>
+        ensures { IfOk result
+            (λ s. s
+            ≡ record {
+              term = self.now.term;
+              version = version;
+              parent = Some (id_of self.now.accepted);
+              config = config.now;
+              committed = self.now.committed;
+              value = value.now;
+            }) }
+    {
+        let state = ClusterState {
+            term: self.term,
+            version,
+            parent: Some(self.accepted.id()),
+            config: config.copy()?,
+            committed: IdList::of(alloc, self.committed.members())?,
+            value: value.copy()?,
+        };
+        SharedState::of(alloc, state)
+    }
+
     /// What the node answers to a client's value.
     pub fn value_reply(
         &self,
         alloc: Global,
         me: NodeId,
         version: u64,
-        config: &VotingConfig,
+        config: &IdList,
         value: &ClusterValue,
     ) -> Result<ActReply, AllocError>
         ensures { IfOk result (λ r. r ≡ value_reply me (seen self.now) version config.now value.now) }
@@ -153,22 +190,14 @@ impl Running {
             return refused(ValueCause::VersionTooLarge(version));
         }
         if !config.is_same(&self.accepted.config)
-            && !self.committed.is_same(&self.accepted.config)
+            && !self.committed.is_same_list(&self.accepted.config)
         {
             return refused(ValueCause::Reconfiguring);
         }
-        if !self.votes.elect(config) {
+        if !self.votes.elect(config.as_slice()) {
             return refused(ValueCause::NoJoinQuorum);
         }
-        let state = ClusterState {
-            term: self.term,
-            version,
-            parent: Some(self.accepted.id()),
-            config: VotingConfig::of(config.members()),
-            committed: VotingConfig::of(self.committed.members()),
-            value: value.copy()?,
-        };
-        let state = SharedState::of(alloc, state)?;
+        let state = self.state_sent(alloc, version, config, value)?;
         Ok(ActReply::Taken(
             Some(Message::Publish(PublishRequest { source: me, state })),
             false,
@@ -332,7 +361,7 @@ impl Running {
         self.votes.clear();
         self.won = false;
         self.version = 0;
-        self.config.copy_from(self.accepted.config.members());
+        self.config.copy_from(&self.accepted.config);
         self.acks.clear();
     }
 
@@ -349,32 +378,32 @@ impl Running {
         Ok(())
     }
 
-    fn publish(&mut self, version: u64, config: &VotingConfig)
+    fn publish(&mut self, version: u64, config: &IdList)
         ensures { (value : TheValue) (sends : Option TheMessage) (wins : Bool)
             → seen self.new ≡ node_state_after (seen self.old) (act.Value version config.now value) (Answered (Taken sends wins)) }
     {
         self.version = version;
-        self.config.copy_from(config.members());
+        self.config.copy_from(config);
         self.acks.clear();
     }
 
     fn accept(&mut self, state: SharedState)
         ensures { self.new ≡ record self.old { accepted = state; committed = state.committed } }
     {
-        self.committed.copy_from(state.committed.members());
+        self.committed.copy_from(&state.committed);
         self.accepted = state;
     }
 
     fn commit(&mut self)
         ensures { self.new ≡ record self.old { committed = self.old.accepted.config } }
     {
-        self.committed.copy_from(self.accepted.config.members());
+        self.committed.copy_from(&self.accepted.config);
     }
 
-    fn bootstrap(&mut self, alloc: Global, config: &VotingConfig) -> Result<(), AllocError>
+    fn bootstrap(&mut self, alloc: Global, config: &IdList) -> Result<(), AllocError>
         ensures { OnOk result (self.new ≡ record self.old { accepted = initial_state config.now; committed = config.now }) }
     {
-        let state = ClusterState::initial(alloc, config.members());
+        let state = ClusterState::initial(alloc, &config.to_set())?;
         let state = SharedState::of(alloc, state)?;
         self.accept(state);
         Ok(())

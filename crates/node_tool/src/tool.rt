@@ -13,7 +13,7 @@ use crate::ToolError;
 use cluster_state::{ClusterState, ClusterValue, Kept, LAST_NUMBER, SharedState};
 use state_journal::{KeepError, Keeper, Ready};
 use std::alloc::{AllocError, Global};
-use voting_config::{NodeId, NodeSet, VotingConfig};
+use voting_config::{IdList, NodeId, NodeSet};
 
 /// A tool, with what it is given.
 #[derive(Clone, Copy)]
@@ -34,17 +34,17 @@ fn ready_alone(alloc: Global, id: NodeId, kept: &Kept) -> Result<Ready, AllocErr
 {
     let accepted = &kept.accepted;
     let settings = accepted.value.settings.copy()?;
-    let only = NodeSet::of(&[id]);
+    let only = IdList::of(alloc, &NodeSet::of(&[id]))?;
     let state = ClusterState {
         term: kept.term,
         version: accepted.version + 1,
         parent: Some(accepted.id()),
-        config: VotingConfig::of(&only),
-        committed: VotingConfig::of(&only),
+        config: only.copy()?,
+        committed: only.copy()?,
         value: ClusterValue {
             master: None,
             members: only,
-            exclusions: NodeSet::new(),
+            exclusions: IdList::new(alloc),
             settings,
         },
     };

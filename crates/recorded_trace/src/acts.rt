@@ -19,14 +19,14 @@ use cluster_state::{
 };
 use schedule_text::{ReadError, WhyBad, four_words, one_word, three_words, two_words};
 use std::alloc::{AllocError, Global};
-use voting_config::{NodeId, NodeSet, VotingConfig, cut};
+use voting_config::{IdList, NodeId, NodeSet, VotingConfig, cut};
 use world_model::Act;
 
 // The act by which a node takes this configuration.
 fn bootstrap(alloc: Global, config: &NodeSet) -> Result<Act, AllocError>
     ensures { IfOk result (λ a. a ≡ act.Bootstrap config.now) }
 {
-    let state = SharedState::of(alloc, ClusterState::initial(alloc, config))?;
+    let state = SharedState::of(alloc, ClusterState::initial(alloc, config)?)?;
     Ok(Act::Bootstrap(SharedConfig::of(state)))
 }
 
@@ -85,8 +85,8 @@ fn value_act(
             term: 0,
             version,
             parent: None,
-            config: VotingConfig::of(config),
-            committed: VotingConfig::of(config),
+            config: IdList::of(alloc, config)?,
+            committed: IdList::new(alloc),
             value,
         },
     )?;
@@ -226,8 +226,8 @@ fn shown_record(
         term: id.term,
         version: id.version,
         parent: None,
-        config: VotingConfig::of(config),
-        committed: VotingConfig::of(&NodeSet::new()),
+        config: IdList::of(alloc, config)?,
+        committed: IdList::new(alloc),
         value: ClusterValue::empty(alloc),
     };
     let accepted = SharedState::of(alloc, state)?;

@@ -9,7 +9,7 @@ use cluster_state::{ClusterState, ClusterValue, Settings, StateId};
 use schedule_text::{ReadError, WhyBad};
 use serde_json::Value;
 use std::alloc::{AllocError, Global};
-use voting_config::{MAX_IDS, NodeId, NodeSet, VotingConfig};
+use voting_config::{IdList, MAX_IDS, NodeId, NodeSet};
 
 // Whether the value is an object with so many members.
 fn has_members(value: &Value, count: usize) -> bool
@@ -140,8 +140,8 @@ fn value_in(alloc: Global, value: &Value) -> Result<Option<ClusterValue>, AllocE
     };
     Ok(Some(ClusterValue {
         master,
-        members,
-        exclusions,
+        members: IdList::of(alloc, &members)?,
+        exclusions: IdList::of(alloc, &exclusions)?,
         settings,
     }))
 }
@@ -211,8 +211,8 @@ fn state_in(alloc: Global, value: &Value) -> Result<Option<ClusterState>, AllocE
         term,
         version,
         parent,
-        config: VotingConfig::of(&config),
-        committed: VotingConfig::of(&committed),
+        config: IdList::of(alloc, &config)?,
+        committed: IdList::of(alloc, &committed)?,
         value,
     }))
 }

@@ -27,7 +27,7 @@ use recorded_trace::Entry;
 use std::alloc::{AllocError, Global};
 use std::collections::BTreeMap;
 use trace_text::Ending;
-use voting_config::{NodeId, NodeSet, VotingConfig};
+use voting_config::{IdList, NodeId, NodeSet, VotingConfig};
 use world_model::{Act, ActReply, Cause, Message};
 
 /// Why an entry was not taken.
@@ -163,10 +163,10 @@ fn may_end(reply: &ActReply, act: &Act, ending: Ending) -> bool
 }
 
 // Whether a configuration is the initial one.
-fn is_initial(initial: &NodeSet, config: &VotingConfig) -> bool
+fn is_initial(initial: &NodeSet, config: &IdList) -> bool
     ensures { IsTrue result ↔ NamesInitial initial.now (act.Bootstrap config.now) }
 {
-    config.is_same(&VotingConfig::of(initial)) && !config.is_empty()
+    VotingConfig::of(initial).is_same_list(config) && !config.is_empty()
 }
 
 // Whether a bootstrap names the initial configuration.

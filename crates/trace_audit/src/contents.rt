@@ -5,7 +5,7 @@ ghost use Rattle.std.specs.List.{flat_map};
 ghost use Rattle.cluster_state.specs.Settings.{setting_of};
 ghost use Rattle.trace_audit.specs.Contents.{number_bytes, text_bytes, setting_bytes, settings_bytes, parent_bytes, contents_bytes};
 
-use cluster_state::{ClusterState, Settings, StateId, write_ids, write_optional_id};
+use cluster_state::{ClusterState, Settings, StateId, write_id_list, write_optional_id};
 use std::alloc::{AllocError, Global};
 use std::collections::BTreeMap;
 
@@ -62,11 +62,11 @@ fn write_contents(out: &mut Vec<u8>, state: &ClusterState) -> Result<(), AllocEr
     ensures { OnOk result (out.new.items ≡ out.old.items ++ contents_bytes state.now) }
 {
     write_parent(out, state.parent)?;
-    write_ids(out, state.config.members())?;
-    write_ids(out, state.committed.members())?;
+    write_id_list(out, &state.config)?;
+    write_id_list(out, &state.committed)?;
     write_optional_id(out, state.value.master)?;
-    write_ids(out, &state.value.members)?;
-    write_ids(out, &state.value.exclusions)?;
+    write_id_list(out, &state.value.members)?;
+    write_id_list(out, &state.value.exclusions)?;
     write_settings(out, &state.value.settings)
 }
 

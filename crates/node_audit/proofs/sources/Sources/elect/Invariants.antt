@@ -4,4 +4,4 @@ use Rattle.voting_config.specs.Ids.{has}
 use Rattle.node_audit.proofs.sources.Sources.elect.Given as goal
 
 abbrev pub invariant-loop-id : goal.invariant-loop-id
-invariant-loop-id l = l.present ≡ count_by (λ id. has id l.self) (take l.id-index l.members)
+invariant-loop-id l = l.present ≡ count_by (λ id. has id l.self) (take l.id-index l.config)
