@@ -37,7 +37,7 @@ fn count_with(me: NodeId, known: &NodeSet, names: &NodeSet) -> usize
     ensures value { result ≡ count_by (λ id. same me id || has id known.now) names.now }
     ensures fits { result ≤ most_ids }
 {
-    // For the proof alone: a set has 32 ids at most.
+    // For the proof alone: a set has at most `MAX_IDS` ids.
     let _ = names.len();
     names
         .as_slice()

@@ -1,3 +1,4 @@
+mod Others
 mod Ascending
 pub mod Examples
 pub mod Happened

@@ -1,7 +1,7 @@
 //! The checks of the followers by their leader: which of them fail, and which lag.
 ghost use Rattle.std.specs.Prelude.{◌≡◌, ◌<◌, ◌≤◌, length, map, filter, true, IsTrue, if◌then◌else◌};
 ghost use Rattle.std.specs.List.{list_all};
-ghost use Rattle.voting_config.specs.Ids.{with_id, most_ids, ascends};
+ghost use Rattle.voting_config.specs.Ids.{with_id, without_id, most_ids, ascends};
 ghost use Rattle.fault_checks.specs.declared.followers.Follower.{Follower as FollowerOf};
 ghost use Rattle.fault_checks.specs.Checks.{ticked_at as ticked_at_of};
 ghost use Rattle.fault_checks.specs.Choices.{is_chosen as is_chosen_of};
@@ -13,7 +13,7 @@ use arrayvec::ArrayVec;
 use cluster_state::StateId;
 use election_clock::has_passed;
 use std::marker::Model;
-use voting_config::{MAX_IDS, NodeId, NodeSet};
+use voting_config::{IdList, MAX_IDS, NodeId, NodeSet};
 
 /// A finished state that a follower has not applied, and the moment at which it fell behind it, in ms.
 #[derive(Clone, Copy)]
@@ -119,6 +119,19 @@ impl FollowerChecks {
         ensures calls { (calls : Calls) → StandsFor self.old calls → StandsFor self.new (Then calls (Watched members.now now)) }
     {
         self.watched = watched_from(self.watched.as_slice(), members.as_slice(), now);
+    }
+
+    /// [`watch`](FollowerChecks::watch) with the members other than the leader `me`. Most often they are just those who are watched, and
+    /// nothing is done then.
+    pub fn watch_others(&mut self, me: NodeId, members: &IdList, now: u64)
+        ensures now { self.new ≡ after self.old (Watched (without_id me members.now) now) }
+    {
+        if are_others(self.watched.as_slice(), me, members.as_slice()) {
+            return;
+        }
+        let mut others = members.to_set();
+        others.remove(me);
+        self.watch(&others, now);
     }
 
     /// A state is finished now, in ms: who is not behind yet and has not applied it falls behind it. Where it is the
@@ -368,6 +381,22 @@ fn watched_or_new(watched: &[Follower], id: NodeId, now: u64) -> Follower
         }
     }
     new_follower(id, now)
+}
+
+// Whether those who are watched are just the members other than the leader.
+fn are_others(watched: &[Follower], me: NodeId, members: &[NodeId]) -> bool
+    ensures { IsTrue result → ids_of watched.now ≡ without_id me members.now }
+{
+    let mut place = 0;
+    for member in members {
+        if *member != me {
+            if place >= watched.len() || watched[place].id != *member {
+                return false;
+            }
+            place += 1;
+        }
+    }
+    place == watched.len()
 }
 
 fn new_follower(id: NodeId, now: u64) -> Follower

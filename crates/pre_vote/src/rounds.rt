@@ -6,7 +6,7 @@ ghost use Rattle.pre_vote.specs.Calls.{Calls, Start, Add, has_room, is_vote as v
 
 use cluster_state::StateId;
 use std::marker::Model;
-use voting_config::{JoinVotes, MAX_IDS, NodeId, Roster, Tally, VotingConfig};
+use voting_config::{IdList, JoinVotes, MAX_IDS, NodeId, Roster, Tally, VotingConfig};
 
 /// What an answer brings about.
 #[derive(Clone, Copy, Debug, PartialEq, Eq)]
@@ -63,7 +63,7 @@ impl PreVotes {
     }
 
     /// Whether an answer of this source can be added: true exactly where the source is the node itself or has
-    /// answered, or where the node and those that have answered are fewer than 32.
+    /// answered, or where the node and those that have answered are fewer than 64.
     pub fn fits(&self, source: NodeId) -> bool
         ensures round { result ≡ fits_in source self.now }
         ensures calls { (calls : Calls) → self.now ≡ round_of calls → result ≡ has_room source calls }
@@ -91,7 +91,7 @@ impl PreVotes {
         term: u64,
         last: StateId,
         committed: &VotingConfig,
-        accepted: &VotingConfig,
+        accepted: &IdList,
     ) -> Added
         requires term { term ≤ last_number }
         requires room { IsTrue (fits_in source self.old) }
@@ -102,7 +102,7 @@ impl PreVotes {
         self.enter(source, term, last);
         if last.is_fresher(self.last) {
             Added::Fresher
-        } else if self.voters.is_quorum_of_both(committed, accepted) {
+        } else if self.voters.is_quorum_with_state(committed, accepted) {
             Added::Quorum(self.greatest + 1)
         } else {
             Added::Counted
@@ -125,7 +125,7 @@ impl PreVotes {
         }
     }
 
-    /// The roster of the voters: the node itself, and who was counted since, in the order of first sight. Where 32 are on it and another
+    /// The roster of the voters: the node itself, and who was counted since, in the order of first sight. Where 64 are on it and another
     /// one comes, it is made anew of the voters, as they ascend.
     pub fn roster(&self) -> &Roster
         ensures { IsTrue (are_among result.now self.now.voters) }

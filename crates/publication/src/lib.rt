@@ -6,7 +6,7 @@ ghost use Rattle.std.specs.Prelude.{◌≡◌};
 use cluster_state::StateId;
 use election_clock::has_passed;
 use std::marker::Model;
-use voting_config::{MAX_IDS, NodeId, NodeSet, Tally};
+use voting_config::{IdList, MAX_IDS, NodeId, NodeSet, Tally};
 
 /// `cluster.publish.timeout`, in ms: how long a publication may take until it is finished. 30 s by default
 /// (Elasticsearch reference 7.x, Discovery and cluster formation settings).
@@ -55,21 +55,23 @@ impl Publication {
     ghost use Rattle.publication.specs.Publications.{Calls, Started, Then, Responded, CommitSent, Finished, Applied, StandsFor, after, stage_of};
 
     /// A publication of the state with this id to these nodes, which starts now, in ms.
-    pub fn start(id: StateId, targets: &NodeSet, now: u64) -> Publication
+    pub fn start(id: StateId, targets: &IdList, now: u64) -> Publication
         ensures { StandsFor result (Started id targets.now now) }
     {
+        let targets = targets.to_set();
+        let laggards = Tally::of(&targets);
         Publication {
             id,
-            targets: targets.copy(),
+            targets,
             started: now,
             responders: Tally::new(),
             commit_sent: false,
             finished: false,
-            laggards: Tally::of(targets),
+            laggards,
         }
     }
 
-    /// A node responded. Where 32 others have, it is not kept.
+    /// A node responded. Where 64 others have, it is not kept.
     pub fn responded(&mut self, source: NodeId)
         ensures now { self.new ≡ after self.old (Responded source) }
         ensures calls { (calls : Calls) → StandsFor self.old calls → StandsFor self.new (Then calls (Responded source)) }
