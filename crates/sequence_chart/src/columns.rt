@@ -50,7 +50,7 @@ fn add_receiver(nodes: &mut NodeSet, said: &Said)
     nodes.put_if_room(*to);
 }
 
-/// The nodes of a trace: those that its lines tell of, and those that messages are for. Of more than 32 those that come first.
+/// The nodes of a trace: those that its lines tell of, and those that messages are for. Of more than 64 those that come first.
 pub fn nodes_of(lines: &[TraceLine]) -> NodeSet
     ensures { result ≡ nodes_from [] lines.now }
 {
@@ -97,7 +97,7 @@ pub fn columns_of(
 ) -> Result<(Vec<Column>, u32), AllocError>
     requires { left ≤ 1000 }
     ensures is { IfOk result (λ c. c.0.items ≡ columns_from left nodes.now lines.now) }
-    ensures few { IfOk result (λ c. c.1 ≤ 20000) }
+    ensures few { IfOk result (λ c. c.1 ≤ 23000) }
 {
     let mut columns = Vec::new(alloc);
     let mut left = left;
