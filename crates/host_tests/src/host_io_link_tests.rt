@@ -823,8 +823,8 @@ const IDLE: &[Row] = &[
     Client(FIRST, Connects),
     Client(FIRST, Says(b"half")),
     Here(Gives(1, b"half")),
-    // They get the numbers 2 to 63, and then the eighteen that were idle longest.
-    Crowd(Idle(80)),
+    // They get the numbers 2 to 191, and then the eighteen that were idle longest.
+    Crowd(Idle(208)),
     Here(Closes(1)),
     Client(SECOND, Connects),
     Client(SECOND, Says(b"x\n")),
