@@ -1,4 +1,5 @@
 //! Words that are commands, and words that are none. Which words are commands follows from docs/formats.md.
+use crate::long_lists::with_ids;
 use clap::error::ErrorKind;
 use command_line::{NodeWords, ProgramCommand, WordsError, program, read_words};
 use schedule_text::Level;
@@ -153,6 +154,43 @@ fn read_each(alloc: Global, rows: &[(&'static str, &'static str)]) -> Result<(),
 #[test]
 fn words_are_the_command_that_they_say(rt: HostRuntime) -> Result<(), Fail> {
     read_each(rt.alloc(), COMMANDS)
+}
+
+// What stands before a list of ids; and of the command what stands before them and after them.
+type Listed = (&'static str, &'static str, &'static str);
+
+const LISTED: &[Listed] = &[
+    (
+        "node --id a --dir d --listen h --peers _ --turns 5 --initial ",
+        "node a at h in d, peers, initial ",
+        ", voting-only, turns 5, shrink true",
+    ),
+    (
+        "node --id a --dir d --listen h --peers _ --turns 5 --initial _ --voting-only ",
+        "node a at h in d, peers, initial, voting-only ",
+        ", turns 5, shrink true",
+    ),
+    ("rescue --up ", "rescue of ", ""),
+];
+
+fn is_told(alloc: Global, words: &str, last: u8, want: &str) -> Result<bool, Fail> {
+    let line = with_ids(alloc, words, last, ",", "")?;
+    Ok(told(alloc, line.as_str())?.as_str() == want)
+}
+
+// Whether 64 ids are listed, and 65 are no list.
+fn lists_64(alloc: Global, row: &Listed) -> Result<bool, Fail> {
+    let (words, head, tail) = *row;
+    let want = with_ids(alloc, head, 64, " ", tail)?;
+    Ok(is_told(alloc, words, 64, want.as_str())? && is_told(alloc, words, 65, "usage")?)
+}
+
+#[test]
+fn a_list_has_up_to_64_ids(rt: HostRuntime) -> Result<(), Fail> {
+    for (at, row) in LISTED.iter().enumerate() {
+        assert!(rt; lists_64(rt.alloc(), row)?, "row {at}");
+    }
+    Ok(())
 }
 
 fn refuse_each(alloc: Global, lines: &[&str]) -> Result<(), Fail> {

@@ -38,7 +38,7 @@ fn state_id(term: u64, version: u64) -> StateId {
 
 // The state 2/1 of one voter, of the parent 1/4.
 fn state(alloc: Global) -> Result<SharedState, AllocError> {
-    let mut state = ClusterState::initial(alloc, &only_a());
+    let mut state = ClusterState::initial(alloc, &only_a())?;
     state.term = 2;
     state.version = 1;
     state.parent = Some(state_id(1, 4));
@@ -333,7 +333,7 @@ fn accepting(alloc: Global, outcome: Outcome) -> Result<Deed, AllocError> {
 }
 
 fn booting(alloc: Global) -> Result<Deed, AllocError> {
-    let initial = SharedState::of(alloc, ClusterState::initial(alloc, &both()))?;
+    let initial = SharedState::of(alloc, ClusterState::initial(alloc, &both())?)?;
     Ok(Deed::Act(
         Act::Bootstrap(SharedConfig::of(initial)),
         Outcome::Disk(true),

@@ -9,6 +9,8 @@ mod command_line_tests;
 #[cfg(test)]
 mod event_text_tests;
 #[cfg(test)]
+mod long_lists;
+#[cfg(test)]
 mod schedule_generator_tests;
 #[cfg(test)]
 mod schedule_text_tests;

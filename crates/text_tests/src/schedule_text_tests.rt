@@ -1,4 +1,5 @@
 //! Texts with their first bad lines, and texts that are printed as they were read. The reasons are those of docs/formats.md.
+use crate::long_lists::with_ids;
 use schedule_text::{
     BadSchedule, Level, Line, ReadError, WhyBad, read_schedule, write_bad_schedule, write_schedule,
 };
@@ -157,11 +158,15 @@ const HEADERS: &[Header] = &[
     ("\n", 1, WhyBad::Header),
 ];
 
+// Whether a text is bad at both levels.
+fn is_bad_at(alloc: Global, text: &[u8], line: usize, why: WhyBad) -> bool {
+    let want = Some((line, why));
+    fault(alloc, Level::Core, text) == want && fault(alloc, Level::Node, text) == want
+}
+
 fn is_bad_header(alloc: Global, row: &Header) -> bool {
     let (text, line, why) = *row;
-    let want = Some((line, why));
-    fault(alloc, Level::Core, text.as_bytes()) == want
-        && fault(alloc, Level::Node, text.as_bytes()) == want
+    is_bad_at(alloc, text.as_bytes(), line, why)
 }
 
 fn is_read(alloc: Global, text: &[u8]) -> bool {
@@ -179,6 +184,39 @@ fn names_the_reason_of_a_header(rt: HostRuntime) {
         assert!(rt; is_bad_header(rt.alloc(), row), "row {at}");
     }
     assert!(rt; are_read(rt.alloc()));
+}
+
+// A header with so many nodes and so many first voters.
+fn header(alloc: Global, nodes: u8, voters: u8) -> Result<String, AllocError> {
+    let head = with_ids(alloc, "nodes ", nodes, ",", "\ninitial ")?;
+    with_ids(alloc, head.as_str(), voters, ",", "\n")
+}
+
+fn is_long_header(alloc: Global, nodes: u8, voters: u8, bad: Option<usize>) -> bool {
+    match header(alloc, nodes, voters) {
+        Ok(text) => match bad {
+            None => is_read(alloc, text.as_bytes()),
+            Some(line) => is_bad_at(alloc, text.as_bytes(), line, WhyBad::Header),
+        },
+        Err(_) => false,
+    }
+}
+
+// How many nodes and how many first voters, and the line that is bad then.
+const LONG_HEADERS: &[(u8, u8, Option<usize>)] = &[
+    (64, 64, None),
+    (65, 64, Some(1)),
+    (64, 65, Some(2)),
+];
+
+#[test]
+fn a_header_lists_up_to_64_ids(rt: HostRuntime) {
+    for (nodes, voters, bad) in LONG_HEADERS {
+        assert!(rt;
+            is_long_header(rt.alloc(), *nodes, *voters, *bad),
+            "{nodes} and {voters}"
+        );
+    }
 }
 
 // Where a third header line does not stand third.

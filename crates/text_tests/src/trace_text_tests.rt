@@ -14,7 +14,7 @@ use trace_text::{
     write_publish, write_publish_message, write_record, write_response, write_response_message,
     write_start_join, write_up_line, write_value, write_won,
 };
-use voting_config::{NodeId, NodeSet, VotingConfig};
+use voting_config::{IdList, NodeId, NodeSet, VotingConfig};
 use world_model::Cause;
 
 fn a() -> NodeId {
@@ -159,7 +159,7 @@ enum Election {
 fn write_election(text: &mut Text, part: Election) -> Result<(), AllocError> {
     match part {
         Election::Head(ending) => write_act_head(text, a(), ending),
-        Election::Boot => write_boot(text, &NodeSet::new()),
+        Election::Boot => write_boot(text, &[]),
         Election::StartJoin => write_start_join(text, a(), 1),
         Election::Join => write_join(text, &join()),
         Election::JoinMessage => write_join_message(text, 7, &join()),
@@ -227,7 +227,7 @@ enum Publication {
     CommitMessage,
 }
 
-fn initial(alloc: Global) -> ClusterState {
+fn initial(alloc: Global) -> Result<ClusterState, AllocError> {
     ClusterState::initial(alloc, &NodeSet::new())
 }
 
@@ -249,20 +249,20 @@ fn commit() -> ApplyCommit {
 }
 
 fn write_config_and_value(text: &mut Text, alloc: Global) -> Result<(), AllocError> {
-    let config = VotingConfig::of(&NodeSet::new());
+    let config = IdList::new(alloc);
     write_value(text, alloc, 5, &config, &ClusterValue::empty(alloc))
 }
 
 fn write_request(text: &mut Text, alloc: Global) -> Result<(), AllocError> {
     let request = PublishRequest {
         source: a(),
-        state: SharedState::of(alloc, initial(alloc))?,
+        state: SharedState::of(alloc, initial(alloc)?)?,
     };
     write_publish(text, alloc, &request)
 }
 
 fn write_request_message(text: &mut Text, alloc: Global) -> Result<(), AllocError> {
-    let state = initial(alloc);
+    let state = initial(alloc)?;
     let json = to_json(alloc, &state)?;
     write_publish_message(text, 1, &a(), &state, json.as_slice())
 }
@@ -276,7 +276,7 @@ fn write_publication(text: &mut Text, alloc: Global, part: Publication) -> Resul
         Publication::Committed => write_committed(
             text,
             alloc,
-            &SharedState::of(alloc, initial(alloc))?,
+            &SharedState::of(alloc, initial(alloc)?)?,
         ),
         Publication::PublishMessage => write_request_message(text, alloc),
         Publication::ResponseMessage(to) => write_response_message(text, 2, &response(to)),
@@ -343,7 +343,7 @@ enum Stop {
 fn write_found(text: &mut Text, alloc: Global) -> Result<(), AllocError> {
     let mut voters = NodeSet::new();
     let _ = voters.insert(a());
-    let mut accepted = ClusterState::initial(alloc, &voters);
+    let mut accepted = ClusterState::initial(alloc, &voters)?;
     accepted.term = 2;
     accepted.version = 5;
     let found = Kept {
