@@ -2,7 +2,7 @@
 //! docs/formats.md.
 ghost use Rattle.cluster_state.specs.States.{IsFit};
 
-use crate::names::config;
+use crate::names::{config, list, set};
 use cluster_state::StateFault::{Field, Trailing};
 use cluster_state::{
     Ask, ClusterState, ClusterValue, DecodeError, FieldError, Kept, Settings, SharedConfig,
@@ -156,6 +156,19 @@ const ELEVEN_EXCLUSIONS: &[u8] = &[
     0, 0, 0, 0, 0, 0, 0, 0, 0, 0, 0, 0, 0, 0, 0, 0, 0, 0, 0, 0, 0, 11,
 ];
 
+// The empty state up to its configuration, and up to its settings: as many as there may be, of which none is there, and one more.
+const IDS_64: &[u8] = &[0, 0, 0, 0, 0, 0, 0, 0, 0, 0, 0, 0, 0, 0, 0, 0, 0, 64];
+
+const IDS_65: &[u8] = &[0, 0, 0, 0, 0, 0, 0, 0, 0, 0, 0, 0, 0, 0, 0, 0, 0, 65];
+
+const SETTINGS_4096: &[u8] = &[
+    0, 0, 0, 0, 0, 0, 0, 0, 0, 0, 0, 0, 0, 0, 0, 0, 0, 0, 0, 0, 0, 0, 16, 0,
+];
+
+const SETTINGS_4097: &[u8] = &[
+    0, 0, 0, 0, 0, 0, 0, 0, 0, 0, 0, 0, 0, 0, 0, 0, 0, 0, 0, 0, 0, 0, 16, 1,
+];
+
 const FLAG_OF_TWO: &[u8] = &[0, 0, 0, 0, 0, 0, 0, 0, 0, 0, 0, 0, 0, 0, 0, 0, 2];
 
 const PARENT_OF_A_TERM_OVER_2_TO_62: &[u8] = &[
@@ -198,6 +211,10 @@ const FAULTS: &[(&[u8], StateFault)] = &[
     (TERM_OVER_2_TO_62, Field(FieldError::TermTooLarge)),
     (VERSION_OVER_2_TO_62, Field(FieldError::VersionTooLarge)),
     (ELEVEN_EXCLUSIONS, Field(FieldError::TooMany)),
+    (IDS_64, Field(FieldError::Short)),
+    (IDS_65, Field(FieldError::TooMany)),
+    (SETTINGS_4096, Field(FieldError::Short)),
+    (SETTINGS_4097, Field(FieldError::TooMany)),
     (FLAG_OF_TWO, Field(FieldError::BadFlag)),
     (
         PARENT_OF_A_TERM_OVER_2_TO_62,
@@ -366,8 +383,8 @@ fn keys_have_1_to_128_bytes_and_values_up_to_1024(rt: HostRuntime) -> Result<(),
 
 // The state 0/0 with one configuration, and another as the committed one.
 fn reconfigured(alloc: Global, now: &str, committed: &str) -> Result<SharedState, AllocError> {
-    let mut state = ClusterState::initial(alloc, config(now).members());
-    state.committed = config(committed);
+    let mut state = ClusterState::initial(alloc, &set(now))?;
+    state.committed = list(alloc, committed)?;
     match SharedState::new(alloc, state) {
         Ok(state) => Ok(state),
         Err(_) => Err(AllocError),
@@ -375,7 +392,8 @@ fn reconfigured(alloc: Global, now: &str, committed: &str) -> Result<SharedState
 }
 
 fn has(kept: &Kept, accepted: &str, committed: &str) -> bool {
-    kept.accepted.config.is_same(&config(accepted)) && kept.committed.is_same(&config(committed))
+    config(accepted).is_same_list(&kept.accepted.config)
+        && kept.committed.is_same(&config(committed))
 }
 
 // Whether the state's configuration and value, held where the state is, are the state's.
@@ -391,12 +409,14 @@ fn accepts_and_commits(kept: Kept, state: SharedState) -> bool {
     kept.accept(state);
     let is_accepted = has(&kept, "b", "a");
     kept.commit();
-    is_accepted && has(&kept, "b", "b") && kept.accepted.committed.is_same(&config("a"))
+    is_accepted && has(&kept, "b", "b") && config("a").is_same_list(&kept.accepted.committed)
 }
 
 // Whether the initial state of this term has its bytes beside it once it is spelled and is within the limits, or neither.
 fn is_spelled_and_fit(alloc: Global, term: u64, want: bool) -> bool {
-    let mut state = ClusterState::initial(alloc, config("a").members());
+    let Ok(mut state) = ClusterState::initial(alloc, &set("a")) else {
+        return false;
+    };
     state.term = term;
     match SharedState::spell(alloc, state) {
         Ok(spelled) => spelled.view().is_some() == want && spelled.is_fit() == want,

@@ -1,9 +1,9 @@
 //! A node alone, from its first configuration to a commit. What each act promises is proved; these run it. The answers follow
 //! from docs/protocol.md.
-ghost use Rattle.std.specs.Prelude.{◌≤◌, ◌^◌};
+ghost use Rattle.std.specs.Prelude.{◌≤◌, ◌^◌, IfOk};
 ghost use Rattle.cluster_state.specs.States.{IsFit};
 
-use crate::names::{config, id, set};
+use crate::names::{config, id, list, set};
 use cluster_state::{
     ApplyCommit, ClusterState, ClusterValue, Join, PublishCause, PublishRequest, PublishResponse,
     SharedState, StateId, ValueCause,
@@ -20,21 +20,21 @@ fn opened(alloc: Global) -> Result<CoordState<PlainKeeper>, AllocError> {
 }
 
 // The state of version 1 of this term, of the parent 0/0 and with the empty value.
-fn published(alloc: Global, term: u64) -> ClusterState
+fn published(alloc: Global, term: u64) -> Result<ClusterState, AllocError>
     requires { term ≤ 2 ^ 62 }
-    ensures { IsFit result }
+    ensures { IfOk result IsFit }
 {
-    ClusterState {
+    Ok(ClusterState {
         term,
         version: 1,
         parent: Some(StateId {
             term: 0,
             version: 0,
         }),
-        config: config("a"),
-        committed: config("a"),
+        config: list(alloc, "a")?,
+        committed: list(alloc, "a")?,
         value: ClusterValue::empty(alloc),
-    }
+    })
 }
 
 // What a node alone does, in this order.
@@ -91,18 +91,28 @@ fn wins(node: &mut CoordState<PlainKeeper>) -> bool {
     }
 }
 
+// Whether it publishes its first value.
+fn publishes(alloc: Global, node: &mut CoordState<PlainKeeper>) -> bool {
+    match list(alloc, "a") {
+        Ok(config) => node.take_value(1, &config).is_ok(),
+        Err(_) => false,
+    }
+}
+
 // Whether it would refuse a state of another term.
-fn refuses_later(alloc: Global, node: &CoordState<PlainKeeper>) -> bool {
+fn refuses(node: &CoordState<PlainKeeper>, later: &ClusterState) -> bool {
     let cause = Cause::Publish(PublishCause::TermMismatch(1, 2));
-    match node.check_publish(&published(alloc, 2)) {
+    match node.check_publish(later) {
         Ok(_) => false,
         Err(error) => error.not_taken() == NotTaken::Refused(cause),
     }
 }
 
 // Whether it would accept its state, and refuse one of another term.
-fn checks(alloc: Global, node: &CoordState<PlainKeeper>) -> bool {
-    node.check_publish(&published(alloc, 1)).is_ok() && refuses_later(alloc, node)
+fn checks(alloc: Global, node: &CoordState<PlainKeeper>) -> Result<bool, AllocError> {
+    let first = published(alloc, 1)?;
+    let later = published(alloc, 2)?;
+    Ok(node.check_publish(&first).is_ok() && refuses(node, &later))
 }
 
 fn is_own_response(sent: &PublishResponse) -> bool {
@@ -117,10 +127,10 @@ fn is_accepted(node: &mut CoordState<PlainKeeper>, state: Ready) -> bool {
 }
 
 // Whether it accepts its own state, and answers with its own response.
-fn accepts(alloc: Global, node: &mut CoordState<PlainKeeper>) -> bool {
-    match Ready::new(alloc, published(alloc, 1)) {
-        Ok(state) => is_accepted(node, state),
-        Err(_) => false,
+fn accepts(alloc: Global, node: &mut CoordState<PlainKeeper>) -> Result<bool, AllocError> {
+    match Ready::new(alloc, published(alloc, 1)?) {
+        Ok(state) => Ok(is_accepted(node, state)),
+        Err(_) => Err(AllocError),
     }
 }
 
@@ -160,9 +170,9 @@ fn does(alloc: Global, node: &mut CoordState<PlainKeeper>, act: Act) -> bool {
         Act::Boot => boots(alloc, node),
         Act::Start => starts(node),
         Act::Join => wins(node),
-        Act::Value => node.take_value(1, &config("a")).is_ok(),
-        Act::Check => checks(alloc, node),
-        Act::Publish => accepts(alloc, node),
+        Act::Value => publishes(alloc, node),
+        Act::Check => checks(alloc, node) == Ok(true),
+        Act::Publish => accepts(alloc, node) == Ok(true),
         Act::Respond => responds(node),
         Act::Commit => commits(node),
     }
@@ -272,10 +282,10 @@ fn refusal(outcome: &Outcome) -> Option<Cause> {
 fn a_value_is_refused_before_the_election_is_won(rt: HostRuntime) -> Result<(), Fail> {
     let alloc = rt.alloc();
     let mut node = opened(alloc)?;
-    let answer = node.take_value(7, &config("a"));
+    let answer = node.take_value(7, &list(alloc, "a")?);
     let request = PublishRequest {
         source: id("a"),
-        state: SharedState::of(alloc, published(alloc, 1))?,
+        state: SharedState::of(alloc, published(alloc, 1)?)?,
     };
     let outcome = outcome_of_value(answer, request);
     assert!(rt; refusal(&outcome) == Some(Cause::Value(ValueCause::NotWon)));

@@ -1,8 +1,10 @@
 //! Joins that are counted, and those that are refused. The causes follow from docs/protocol.md.
-use crate::names::{config, id};
+use crate::names::{id, list, set};
 use cluster_state::{Join, JoinCause, StateId};
 use join_rules::join_check;
-use voting_config::{JoinVotes, MAX_IDS, NodeId, Roster, VotingConfig};
+use std::alloc::{AllocError, Global};
+use std::test::Fail;
+use voting_config::{IdList, JoinVotes, MAX_IDS, NodeId, Roster};
 
 // Sources in the order in which they vote, one that is taken out then, the roster, and the word of the votes over it.
 type Counted = (
@@ -60,11 +62,8 @@ fn votes_are_bits_at_the_places_of_their_sources(rt: HostRuntime) {
 #[test]
 fn a_roster_full_of_nodes_that_do_not_vote_is_made_anew(rt: HostRuntime) {
     let mut votes = JoinVotes::new();
-    for byte in "0123456789abcdefghijklmnopqrstuv".as_bytes() {
-        add(
-            &mut votes,
-            NodeId::from_bytes(&[*byte]).unwrap_or(NodeId::default()),
-        );
+    for id in set("n01..n64").as_slice() {
+        add(&mut votes, *id);
     }
     assert!(rt; votes.roster().len() == MAX_IDS);
     votes.clear();
@@ -73,7 +72,7 @@ fn a_roster_full_of_nodes_that_do_not_vote_is_made_anew(rt: HostRuntime) {
 }
 
 // The join as the node a checks it, in term 4 and with the accepted state 1/2.
-fn check(config: &VotingConfig, started: bool, join: &Join) -> Result<(), JoinCause> {
+fn check(config: &IdList, started: bool, join: &Join) -> Result<(), JoinCause> {
     let accepted = StateId {
         term: 1,
         version: 2,
@@ -101,19 +100,32 @@ const LAST: [(u64, u64, Result<(), JoinCause>); 5] = [
 ];
 
 #[test]
-fn a_fresher_join_is_refused(rt: HostRuntime) {
-    let config = config("a");
+fn a_fresher_join_is_refused(rt: HostRuntime) -> Result<(), Fail> {
+    let config = list(rt.alloc(), "a")?;
     for (last_term, last_version, wanted) in &LAST {
         let join = join("a", 4, *last_term, *last_version);
         assert!(rt; check(&config, true, &join) == *wanted);
     }
+    Ok(())
+}
+
+// Why it is refused where these are the voters, if it is.
+fn refusal(
+    alloc: Global,
+    voters: &str,
+    started: bool,
+    join: &Join,
+) -> Result<Option<JoinCause>, AllocError> {
+    let config = list(alloc, voters)?;
+    Ok(check(&config, started, join).err())
 }
 
 // The term and the last term of a join for a, whether a has started a join, its voters, and the cause.
 type Refusal = (u64, u64, bool, &'static str, JoinCause);
 
 #[test]
-fn the_first_cause_refuses_a_join(rt: HostRuntime) {
+fn the_first_cause_refuses_a_join(rt: HostRuntime) -> Result<(), Fail> {
+    let alloc = rt.alloc();
     const REFUSALS: [Refusal; 4] = [
         (3, 2, false, "_", JoinCause::TermMismatch(4, 3)),
         (4, 2, false, "_", JoinCause::NotStarted),
@@ -122,8 +134,9 @@ fn the_first_cause_refuses_a_join(rt: HostRuntime) {
     ];
     for (term, last_term, started, voters, cause) in REFUSALS {
         let join = join("a", term, last_term, 0);
-        assert!(rt; check(&config(voters), started, &join) == Err(cause));
+        assert!(rt; refusal(alloc, voters, started, &join)? == Some(cause));
     }
     let other = join("c", 3, 2, 0);
-    assert!(rt; check(&config("_"), false, &other) == Err(JoinCause::NotForMe(id("c"))));
+    assert!(rt; refusal(alloc, "_", false, &other)? == Some(JoinCause::NotForMe(id("c"))));
+    Ok(())
 }

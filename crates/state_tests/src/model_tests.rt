@@ -3,7 +3,7 @@ ghost use Rattle.std.specs.Prelude.{◌≡◌, false, IsTrue, IfOk, IfSome};
 ghost use Rattle.cluster_state.specs.States.{IsFitId};
 ghost use Rattle.world_model.specs.Acts.{is_opening};
 
-use crate::names::{config, id};
+use crate::names::{id, list};
 use cluster_state::{
     ApplyCommit, ClusterState, ClusterValue, Join, Kept, LAST_NUMBER, PublishRequest,
     PublishResponse, SharedConfig, SharedState, SharedValue, StateId,
@@ -14,7 +14,7 @@ use state_journal::{PlainKeeper, Ready};
 use std::alloc::{AllocError, Global};
 use std::test::Fail;
 use trace_text::Ending;
-use voting_config::{MAX_IDS, NodeId, NodeSet, VotingConfig};
+use voting_config::{IdList, MAX_IDS, NodeId};
 use world_model::{Act, ActReply, Message, Outcome};
 
 // What a node is to do. The states are those of a in term 1, and the messages are to or from a.
@@ -56,8 +56,8 @@ fn state(alloc: Global, version: u64, ids: &str) -> Result<SharedState, AllocErr
         term: 1,
         version,
         parent: parent(version),
-        config: config(ids),
-        committed: config("a,b,c"),
+        config: list(alloc, ids)?,
+        committed: list(alloc, "a,b,c")?,
         value: ClusterValue::empty(alloc),
     };
     SharedState::of(alloc, state)
@@ -154,8 +154,8 @@ fn ready(alloc: Global, state: &ClusterState) -> Result<Ready, AllocError> {
         term: state.term,
         version: state.version,
         parent: state.parent,
-        config: VotingConfig::of(state.config.members()),
-        committed: VotingConfig::of(state.committed.members()),
+        config: state.config.copy()?,
+        committed: state.committed.copy()?,
         value: ClusterValue::empty(alloc),
     };
     match Ready::new(alloc, fit) {
@@ -169,11 +169,11 @@ fn publishes(
     alloc: Global,
     node: &mut CoordState<PlainKeeper>,
     version: u64,
-    config: &VotingConfig,
+    config: &IdList,
     value: &ClusterValue,
 ) -> Result<Outcome, AllocError> {
     let value = value.copy()?;
-    let config = VotingConfig::of(config.members());
+    let config = config.copy()?;
     let answer = node.client_value(alloc, version, config, value)?;
     Ok(outcome_of(answer))
 }
@@ -189,7 +189,7 @@ fn core_outcome(
     }
     match act {
         Act::Bootstrap(config) => {
-            let initial = Ready::initial(alloc, config.members())?;
+            let initial = Ready::initial(alloc, &config.to_set())?;
             Ok(outcome_of(node.set_initial(initial)))
         }
         Act::StartJoin(candidate, term) => Ok(outcome_of(node.start_join(*candidate, *term))),
@@ -207,7 +207,7 @@ fn core_outcome(
 
 // What an act answered, as a text.
 
-fn ids_text(alloc: Global, ids: &NodeSet) -> Result<String, AllocError> {
+fn ids_text(alloc: Global, ids: &IdList) -> Result<String, AllocError> {
     let mut text = String::new(alloc);
     for id in ids.as_slice() {
         text.push_str(id.as_str())?;
@@ -224,8 +224,8 @@ fn parent_text(alloc: Global, parent: Option<StateId>) -> Result<String, AllocEr
 
 fn state_text(alloc: Global, state: &ClusterState) -> Result<String, AllocError> {
     let parent = parent_text(alloc, state.parent)?;
-    let config = ids_text(alloc, state.config.members())?;
-    let committed = ids_text(alloc, state.committed.members())?;
+    let config = ids_text(alloc, &state.config)?;
+    let committed = ids_text(alloc, &state.committed)?;
     let members = ids_text(alloc, &state.value.members)?;
     let term = state.term;
     let version = state.version;

@@ -1,5 +1,5 @@
 //! Ids, sets and quorums at their limits. What is expected was counted by hand.
-use crate::names::{id, set};
+use crate::names::{id, list, numbered, set};
 use std::alloc::{AllocError, Global};
 use std::test::Fail;
 use voting_config::{
@@ -7,18 +7,11 @@ use voting_config::{
     quorum_mask, with_bit, without_bit,
 };
 
-const FULL: &str = "0,1,2,3,4,5,a,b,c,d,e,f,g,h,i,j,k,l,m,n,o,p,q,r,s,t,u,v,w,x,y,z";
-
-const ALL_BUT_Z: &str = "0,1,2,3,4,5,a,b,c,d,e,f,g,h,i,j,k,l,m,n,o,p,q,r,s,t,u,v,w,x,y";
-
-const ALL_BUT_0_AND_Z: &str = "1,2,3,4,5,a,b,c,d,e,f,g,h,i,j,k,l,m,n,o,p,q,r,s,t,u,v,w,x,y";
+const FULL: &str = "n01..n64";
 
 // Whether the set is the one that the text lists.
 fn is(ids: &NodeSet, text: &str) -> bool {
-    match NodeSet::parse(text) {
-        Some(wanted) => ids.as_slice() == wanted.as_slice(),
-        None => false,
-    }
+    ids.as_slice() == set(text).as_slice()
 }
 
 fn is_count(ids: Option<NodeSet>, wanted: Option<usize>) -> bool {
@@ -37,7 +30,6 @@ const LISTS: &[(&str, Option<usize>)] = &[
     ("a,a", None),
     ("a,,b", None),
     ("a,B", None),
-    (FULL, Some(MAX_IDS)),
 ];
 
 #[test]
@@ -45,6 +37,33 @@ fn a_list_is_a_set_where_its_ids_ascend(rt: HostRuntime) {
     for (text, wanted) in LISTS {
         assert!(rt; is_count(NodeSet::parse(text), *wanted));
     }
+}
+
+// The text that lists the ids from n01 up to the one of this number.
+fn listed(alloc: Global, last: u8) -> Result<String, AllocError> {
+    let mut text = String::from_str(alloc, "n01")?;
+    for number in 2..=last {
+        text.push_str(",")?;
+        text.push_str(numbered(number).as_str())?;
+    }
+    Ok(text)
+}
+
+fn are_listed(alloc: Global, last: u8, wanted: Option<usize>) -> bool {
+    match listed(alloc, last) {
+        Ok(text) => is_count(NodeSet::parse(text.as_str()), wanted),
+        Err(_) => false,
+    }
+}
+
+const LONG_LISTS: &[(u8, Option<usize>)] = &[(63, Some(63)), (64, Some(MAX_IDS)), (65, None)];
+
+#[test]
+fn a_list_has_up_to_64_ids(rt: HostRuntime) {
+    for (last, wanted) in LONG_LISTS {
+        assert!(rt; are_listed(rt.alloc(), *last, *wanted), "up to {last}");
+    }
+    assert!(rt; MAX_IDS == 64);
 }
 
 // Whether a text is an id, or is none for this reason.
@@ -157,22 +176,23 @@ const FULL_SETS: &[Row] = &[
     ("a,c", Act::Insert("b"), Some(true), "a,b,c"),
     ("a,b,c", Act::Remove("b"), Some(true), "a,c"),
     ("a,c", Act::Remove("b"), Some(false), "a,c"),
-    (ALL_BUT_Z, Act::Insert("z"), Some(true), FULL),
-    (FULL, Act::Insert("6"), None, FULL),
-    (FULL, Act::Insert("5"), Some(false), FULL),
+    ("n01..n63", Act::Insert("n64"), Some(true), FULL),
+    (FULL, Act::Insert("n65"), None, FULL),
+    (FULL, Act::Insert("n64"), Some(false), FULL),
+    (FULL, Act::Remove("n01"), Some(true), "n02..n64"),
 ];
 
 #[test]
-fn a_33rd_id_is_refused(rt: HostRuntime) -> Result<(), Fail> {
+fn a_65th_id_is_refused(rt: HostRuntime) -> Result<(), Fail> {
     hold(FULL_SETS)?;
-    assert!(rt; set(FULL).copy().contains(id("5")) && !set(FULL).contains(id("6")));
+    assert!(rt; set(FULL).copy().contains(id("n64")) && !set(FULL).contains(id("n65")));
     Ok(())
 }
 
 const PUTS: &[Row] = &[
     ("b,c", Act::PutIfRoom("a"), None, "a,b,c"),
     ("a,b,c", Act::PutIfRoom("b"), None, "a,b,c"),
-    (FULL, Act::PutIfRoom("6"), None, FULL),
+    (FULL, Act::PutIfRoom("n65"), None, FULL),
     ("b,c", Act::Put("a"), None, "a,b,c"),
 ];
 
@@ -189,9 +209,12 @@ const FILLS: &[Row] = &[
 #[test]
 fn a_set_is_filled_in_its_place(rt: HostRuntime) -> Result<(), Fail> {
     hold(FILLS)?;
+    let list = list(rt.alloc(), "a,d,e")?;
     let mut config = VotingConfig::of(&set("b,c"));
-    config.copy_from(&set("a,d,e"));
-    assert!(rt; is(config.members(), "a,d,e"));
+    assert!(rt; !config.is_same_list(&list));
+    config.copy_from(&list);
+    assert!(rt; is(config.members(), "a,d,e") && config.is_same_list(&list));
+    assert!(rt; config.is_same(&VotingConfig::of_list(&list)));
     Ok(())
 }
 
@@ -243,9 +266,11 @@ const QUESTIONS: &[(&str, &str, Question, bool)] = &[
     ("a,b,c", "d", Question::Meets, false),
     ("a,b,c", "a,c", Question::HasAll, true),
     ("a,b,c", "b,d", Question::HasAll, false),
-    (FULL, "5", Question::HasAll, true),
-    (FULL, "5", Question::HasRoom, true),
-    (FULL, "6", Question::HasRoom, false),
+    (FULL, "n64", Question::HasAll, true),
+    (FULL, "n64", Question::HasRoom, true),
+    (FULL, "n65", Question::HasRoom, false),
+    ("n01..n32", "n33..n64", Question::IsUnion(FULL), true),
+    ("n01..n32", "n33..n65", Question::Counts(65), true),
 ];
 
 #[test]
@@ -285,8 +310,68 @@ fn a_set_is_kept_as_a_list(rt: HostRuntime) -> Result<(), Fail> {
     for text in LISTED {
         assert!(rt; is_kept(rt.alloc(), text)?, "{text}");
     }
-    let list = IdList::of(rt.alloc(), &set("a,c"))?;
+    let list = list(rt.alloc(), "a,c")?;
     assert!(rt; list.len() == 2 && list.contains(id("c")) && !list.contains(id("b")));
+    assert!(rt; !list.is_empty() && IdList::new(rt.alloc()).is_empty());
+    Ok(())
+}
+
+// What is asked of a set that is kept as a list, and of another.
+#[derive(Clone, Copy)]
+enum Asked {
+    IsWithin(&'static str),
+    IsWithout(&'static str),
+    IsSame,
+    IsQuorum,
+    Meets,
+}
+
+fn is_answered(ids: &IdList, others: &IdList, asked: Asked) -> bool {
+    match asked {
+        Asked::IsWithin(text) => is(&ids.within(&others.to_set()), text),
+        Asked::IsWithout(text) => is(&ids.without(&others.to_set()), text),
+        Asked::IsSame => ids.is_same(others),
+        Asked::IsQuorum => ids.is_quorum(&others.to_set()),
+        Asked::Meets => ids.meets(others),
+    }
+}
+
+fn are_asked(alloc: Global, ids: &str, others: &str, asked: Asked) -> Result<bool, AllocError> {
+    let ids = list(alloc, ids)?;
+    let others = list(alloc, others)?;
+    Ok(is_answered(&ids, &others, asked))
+}
+
+const ASKED: &[(&str, &str, Asked, bool)] = &[
+    ("a,b,c", "b,d", Asked::IsWithin("b"), true),
+    ("a,b,c", "d", Asked::IsWithin("_"), true),
+    (FULL, "n33..n65", Asked::IsWithin("n33..n64"), true),
+    ("a,b,c", "b,d", Asked::IsWithout("a,c"), true),
+    ("a,b,c", "_", Asked::IsWithout("a,b,c"), true),
+    (FULL, "n00..n63", Asked::IsWithout("n64"), true),
+    ("a,b,c", "a,b,c", Asked::IsSame, true),
+    ("a,b,c", "a,b", Asked::IsSame, false),
+    ("a,b,c", "a,b,d", Asked::IsSame, false),
+    ("_", "_", Asked::IsSame, true),
+    ("_", "a", Asked::IsQuorum, false),
+    ("a,b,c", "a,b,x", Asked::IsQuorum, true),
+    ("a,b,c,d", "a,b,x,y", Asked::IsQuorum, false),
+    (FULL, "n01..n32", Asked::IsQuorum, false),
+    (FULL, "n32..n64", Asked::IsQuorum, true),
+    ("a,b,c", "c,d", Asked::Meets, true),
+    ("a,b,c", "d", Asked::Meets, false),
+    (FULL, "n64,n65", Asked::Meets, true),
+    (FULL, "n65", Asked::Meets, false),
+];
+
+#[test]
+fn a_kept_set_is_asked_as_it_lies(rt: HostRuntime) -> Result<(), Fail> {
+    for (at, (ids, others, asked, wanted)) in ASKED.iter().enumerate() {
+        assert!(rt;
+            are_asked(rt.alloc(), ids, others, *asked)? == *wanted,
+            "row {at}"
+        );
+    }
     Ok(())
 }
 
@@ -302,6 +387,8 @@ const QUORUMS: &[(&str, &str, bool)] = &[
     ("a,b,c,d", "a,b,c", true),
     ("a,b,c", "a,x,y,z", false),
     ("a,b,c", "a,b,x,y", true),
+    (FULL, "n01..n32", false),
+    (FULL, "n32..n64", true),
 ];
 
 #[test]
@@ -313,17 +400,23 @@ fn a_quorum_is_more_than_half(rt: HostRuntime) {
     assert!(rt; config.is_same(&VotingConfig::of(config.members())) && !config.is_empty());
 }
 
-// A roster of these ids, in the order of their first sight.
-fn roster(ids: &[&str]) -> Roster {
-    let mut roster = Roster::new();
-    for text in ids {
+fn admit_each(roster: &mut Roster, ids: &NodeSet) {
+    for id in ids.as_slice() {
         // A row that lists too many ids fails by what it wants of the roster.
-        let _ = roster.admit(id(text));
+        let _ = roster.admit(*id);
+    }
+}
+
+// A roster of the ids of these sets, in the order of their first sight.
+fn roster(sets: &[&str]) -> Roster {
+    let mut roster = Roster::new();
+    for ids in sets {
+        admit_each(&mut roster, &set(ids));
     }
     roster
 }
 
-// Ids as they are admitted, a set, its word over their roster, and the set that this word is.
+// Sets of ids as they are admitted, a set, its word over their roster, and the set that this word is.
 const MASKS: &[(&[&str], &str, u64, &str)] = &[
     (&[], "a", 0, "_"),
     (&["b", "a"], "_", 0, "_"),
@@ -331,10 +424,15 @@ const MASKS: &[(&[&str], &str, u64, &str)] = &[
     (&["b", "a"], "a", 2, "a"),
     (&["b", "a"], "a,b,c", 3, "a,b"),
     (&["b", "a", "b", "c"], "a,c", 6, "a,c"),
+    (&[FULL], "n33", 1 << 32, "n33"),
+    (&[FULL], "n64", 1 << 63, "n64"),
+    (&[FULL], "n01,n64,n65", 1 << 63 | 1, "n01,n64"),
+    (&["n64", "n01..n63"], "n63", 1 << 63, "n63"),
+    (&[FULL], FULL, u64::MAX, FULL),
 ];
 
-fn is_mask(ids: &[&str], text: &str, wanted: u64, back: &str) -> bool {
-    let roster = roster(ids);
+fn is_mask(sets: &[&str], text: &str, wanted: u64, back: &str) -> bool {
+    let roster = roster(sets);
     let word = roster.mask(&set(text));
     word == wanted && is(&roster.marked(word), back)
 }
@@ -364,8 +462,9 @@ fn an_id_keeps_its_place(rt: HostRuntime) {
 #[test]
 fn a_full_roster_has_room_for_its_own_ids_alone(rt: HostRuntime) {
     let mut roster = Roster::of(&set(FULL));
-    assert!(rt; roster.admit(id("6")) == Err(Full) && roster.len() == MAX_IDS);
-    assert!(rt; roster.admit(id("b")) == Ok(7) && !roster.has_mark(1, id("6")));
+    assert!(rt; roster.admit(id("n65")) == Err(Full) && roster.len() == MAX_IDS);
+    assert!(rt; roster.admit(id("n64")) == Ok(63) && !roster.has_mark(1, id("n65")));
+    assert!(rt; roster.has_mark(1 << 63, id("n64")) && !roster.has_mark(1 << 62, id("n64")));
 }
 
 // Votes and a configuration as words, the configuration's size, and whether they are a quorum of it.
@@ -374,6 +473,9 @@ const QUORUMS_OF_WORDS: &[(u64, u64, usize, bool)] = &[
     (3, 3, 3, true),
     (7, 3, 4, false),
     (0, 0, 0, false),
+    // Of 64 voters the last 33, and the last 32.
+    (u64::MAX << 31, u64::MAX, 64, true),
+    (u64::MAX << 32, u64::MAX, 64, false),
 ];
 
 #[test]
@@ -382,6 +484,7 @@ fn words_tell_a_quorum(rt: HostRuntime) {
         assert!(rt; quorum_mask(*votes, *config, *size) == *wanted);
     }
     assert!(rt; with_bit(5, 1) == 7 && without_bit(7, 1) == 5);
+    assert!(rt; with_bit(1, 63) == 1 << 63 | 1 && without_bit(u64::MAX, 63) == u64::MAX >> 1);
 }
 
 // What is done to a tally.
@@ -408,7 +511,7 @@ fn add(tally: &mut Tally, id: NodeId) -> bool {
     false
 }
 
-// A set that is counted, what is done then, the set after it, and its word over the roster. An id that is taken out keeps its place; where 32
+// A set that is counted, what is done then, the set after it, and its word over the roster. An id that is taken out keeps its place; where 64
 // have places and one more is counted, those that are counted have new ones, as they ascend.
 const TALLIES: &[(&str, &[Change], &str, u64)] = &[
     ("_", &[], "_", 0),
@@ -428,16 +531,16 @@ const TALLIES: &[(&str, &[Change], &str, u64)] = &[
     ),
     ("a,b", &[Change::Remove("a"), Change::Add("a")], "a,b", 3),
     (
-        ALL_BUT_Z,
+        "n01..n63",
         &[
-            Change::Add("z"),
-            Change::Remove("0"),
-            Change::Add("00"),
-            Change::Remove("z"),
-            Change::Remove("00"),
+            Change::Add("n64"),
+            Change::Remove("n01"),
+            Change::Add("n00"),
+            Change::Remove("n64"),
+            Change::Remove("n00"),
         ],
-        ALL_BUT_0_AND_Z,
-        0x7fff_fffe,
+        "n02..n63",
+        0x7fff_ffff_ffff_fffe,
     ),
 ];
 

@@ -1,11 +1,13 @@
-//! The tests of zen_disk, gate_log, state_journal, journal_inspection, node_tool. They stand apart, so that a check of one of these, or of
-//! what stands on it, does not prove them again.
+//! The tests of zen_disk, gate_log, state_journal, journal_inspection, node_tool, and of the greatest state in a frame and a journal. They stand
+//! apart, so that a check of one of these, or of what stands on it, does not prove them again.
 #![tactic(auto)]
 
 #[cfg(test)]
 mod files;
 #[cfg(test)]
 mod gate_log_tests;
+#[cfg(test)]
+mod greatest_state_tests;
 #[cfg(test)]
 mod hosts;
 #[cfg(test)]

@@ -39,7 +39,7 @@ fn ids(text: &str) -> NodeSet {
 
 // The same state as `Ready::initial` makes, of which the bytes lie beside it.
 fn spelled(alloc: Global) -> Result<Ready, AllocError> {
-    let state = SharedState::spell(alloc, ClusterState::initial(alloc, &ids("b")))?;
+    let state = SharedState::spell(alloc, ClusterState::initial(alloc, &ids("b"))?)?;
     Ready::of(alloc, &state)
 }
 
@@ -99,7 +99,9 @@ fn does<K: Keeper>(alloc: Global, keeper: &mut K, act: Act) -> bool {
 fn is_kept<K: Keeper>(keeper: &K, term: u64, members: &str) -> bool {
     let config = VotingConfig::of(&ids(members));
     let kept = keeper.kept();
-    kept.term == term && kept.accepted.config.is_same(&config) && kept.committed.is_same(&config)
+    kept.term == term
+        && config.is_same_list(&kept.accepted.config)
+        && kept.committed.is_same(&config)
 }
 
 // Acts, and the ids of both configurations after each.
