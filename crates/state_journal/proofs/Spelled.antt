@@ -21,7 +21,7 @@ use Rattle.state_journal.specs.Bodies.{guarded, is_guarded, prefix_of, stored_in
 use Rattle.state_journal.specs.Drafts.{Drafted, HasSpelling, IsDraft, MayBegin, generation_prefix, most_state_bytes}
 use Rattle.cluster_state.proofs.Sizes.{state_short}
 use Rattle.state_journal.specs.declared.change.Change.{Change}
-use Rattle.state_journal.specs.declared.change.Generation.{Generation}
+use Rattle.state_journal.specs.Generations.{Generation}
 use Rattle.state_journal.specs.declared.change.Change.TheVariants.{Term, Accepted, Committed, Renewed}
 
 generation_of_law : (one : Field ClusterState) → IsField one → IsField (generation_of one)

@@ -14,7 +14,7 @@ use Rattle.cluster_state.specs.Fields.{term, version, ids}
 use Rattle.cluster_state.specs.States.{value, state, whole}
 use Rattle.state_journal.specs.declared.change.Change.{Change}
 use Rattle.state_journal.specs.declared.change.Change.TheVariants.{Term, Accepted, Committed, Renewed}
-use Rattle.state_journal.specs.declared.change.Generation.{Generation}
+use Rattle.state_journal.specs.Generations.{Generation}
 use Rattle.state_journal.specs.declared.why.BodyFault.{BodyFault}
 use Rattle.state_journal.specs.declared.why.BodyFault.TheVariants.{Tag, Field, Trailing}
 use Rattle.state_journal.specs.declared.why.Fault.{Fault}

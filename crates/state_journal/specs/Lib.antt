@@ -2,6 +2,7 @@ pub mod Bodies
 pub mod Changes
 pub mod Drafts
 pub mod Fit
+pub mod Generations
 pub mod Journal
 pub mod Keeping
 pub mod Laws

@@ -12,8 +12,7 @@ ghost use Rattle.state_journal.specs.declared.body.BodyError.TheVariants as body
 use crate::{BodyFault, Change, Fault, Generation};
 use arrayvec::ArrayVec;
 use cluster_state::{
-    ClusterState, DecodeError, FieldError, Kept, ReadError, Reader, SharedState, StateFault,
-    decode_state,
+    ClusterState, DecodeError, FieldError, ReadError, Reader, SharedState, StateFault, decode_state,
 };
 use sha2::{Digest, Sha256};
 use std::alloc::{AllocError, Global};
@@ -238,17 +237,15 @@ fn whole_generation(alloc: Global, bytes: &[u8]) -> Result<Change, BodyError>
     let epoch = reader.version()?;
     let term = reader.term()?;
     let accepted = SharedState::of(alloc, reader.state(alloc)?)?;
-    let committed = reader.config()?;
+    let committed = reader.id_list(alloc, MAX_IDS as u8)?;
     if !reader.is_at_end() {
         return Err(BodyError::Fault(BodyFault::Trailing));
     }
     Ok(Change::Renewed(Generation {
         epoch,
-        kept: Kept {
-            term,
-            accepted,
-            committed,
-        },
+        term,
+        accepted,
+        committed,
     }))
 }
 
@@ -268,17 +265,15 @@ fn whole_old_generation(alloc: Global, bytes: &[u8]) -> Result<Change, BodyError
     let epoch = reader.version()?;
     let term = reader.term()?;
     let accepted = SharedState::of(alloc, old_state(alloc, &mut reader)?)?;
-    let committed = reader.config()?;
+    let committed = reader.id_list(alloc, MAX_IDS as u8)?;
     if !reader.is_at_end() {
         return Err(BodyError::Fault(BodyFault::Trailing));
     }
     Ok(Change::Renewed(Generation {
         epoch,
-        kept: Kept {
-            term,
-            accepted,
-            committed,
-        },
+        term,
+        accepted,
+        committed,
     }))
 }
 

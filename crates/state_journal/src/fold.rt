@@ -1,15 +1,15 @@
 //! The record that the bodies of a journal make.
-ghost use Rattle.std.specs.Prelude.{◌≡◌, Ok, IfOk, ◌&&◌, not, false};
+ghost use Rattle.std.specs.Prelude.{◌≡◌, Ok, Err, IfOk, IfErr, OnOk, ◌&&◌, not, false};
 ghost use Rattle.cluster_state.specs.Initial.{empty_record};
 ghost use Rattle.gate_log.specs.Folded.{found_by};
 ghost use Rattle.gate_log.specs.Opened.{lists, generations_in};
 ghost use Rattle.state_journal.specs.Bodies.{is_guarded as spec_is_guarded, change_at};
 ghost use Rattle.state_journal.specs.Journal.{with_change, with_body, folded_from, record_of_bodies, on_its_side};
-ghost use Rattle.state_journal.specs.Reads.{error_at, error_on, IsFitChange, IsFitRecord, ReadsRecord, FindsRecord};
+ghost use Rattle.state_journal.specs.Reads.{error_at, error_on, IsFitChange, IsFitRecord, IsFoldError, ReadsRecord, FindsRecord};
 ghost use Rattle.state_journal.specs.declared.fold.FoldError.TheVariants as fold_error;
 
 use crate::body::{BodyError, guard_fault, is_guarded, read_body};
-use crate::{Change, Fault, Why};
+use crate::{Change, Fault, Generation, Why};
 use cluster_state::Kept;
 use std::alloc::{AllocError, Global};
 use zen_disk::Side;
@@ -64,18 +64,27 @@ fn error_of(error: BodyError, at: u64) -> FoldError
     }
 }
 
-// The record with a change whose gate stands at this offset, and whose body may come too late.
+// Makes it the record of a generation.
+fn begin(kept: &mut Kept, generation: Generation)
+    ensures { kept.new ≡ generation.kept }
+{
+    kept.term = generation.term;
+    kept.accepted = generation.accepted;
+    kept.committed.copy_from(&generation.committed);
+}
+
+// Makes a change of the record, whose gate stands at this offset, and whose body may come too late.
 #[tactic(auto, unfolding(crate::specs::Journal::with_change))]
-fn apply(kept: Kept, change: Change, at: u64, late: bool) -> Result<Kept, Fault>
-    requires kept { IsFitRecord kept }
+fn apply(kept: &mut Kept, change: Change, at: u64, late: bool) -> Result<(), Fault>
+    requires kept { IsFitRecord kept.old }
     requires change { IsFitChange change }
-    ensures next { result ≡ with_change at late kept (Ok change) }
-    ensures fit { IfOk result IsFitRecord }
+    ensures next { OnOk result (with_change at late kept.old (Ok change) ≡ Ok kept.new) }
+    ensures fault { IfErr result (λ f. with_change at late kept.old (Ok change) ≡ Err f) }
+    ensures fit { OnOk result (IsFitRecord kept.new) }
 {
     if late {
         return Err(Fault::Order(at));
     }
-    let mut kept = kept;
     match change {
         Change::Term(term) => {
             if term <= kept.term {
@@ -91,27 +100,28 @@ fn apply(kept: Kept, change: Change, at: u64, late: bool) -> Result<Kept, Fault>
         }
         Change::Committed => kept.commit(),
         Change::Renewed(generation) => {
-            if generation.kept.accepted.term > generation.kept.term {
+            if generation.accepted.term > generation.term {
                 return Err(Fault::Order(at));
             }
-            kept = generation.kept;
+            begin(kept, generation);
         }
     }
-    Ok(kept)
+    Ok(())
 }
 
-// The record with what a body spells, whose gate stands at this offset.
+// Makes the change that a body spells, whose gate stands at this offset.
 #[tactic(auto, using(crate::proofs::Folds::error_with))]
 fn add_change(
     alloc: Global,
-    kept: Kept,
+    kept: &mut Kept,
     body: &[u8],
     at: u64,
     late: bool,
-) -> Result<Kept, FoldError>
-    requires { IsFitRecord kept }
-    ensures reads { ReadsRecord result (with_change at late kept (change_at body.now)) }
-    ensures fit { IfOk result IsFitRecord }
+) -> Result<(), FoldError>
+    requires { IsFitRecord kept.old }
+    ensures next { OnOk result (with_change at late kept.old (change_at body.now) ≡ Ok kept.new) }
+    ensures fault { IfErr result (λ e. IsFoldError e (with_change at late kept.old (change_at body.now))) }
+    ensures fit { OnOk result (IsFitRecord kept.new) }
 {
     match read_body(alloc, body) {
         Ok(change) => Ok(apply(kept, change, at, late)?),
@@ -119,11 +129,18 @@ fn add_change(
     }
 }
 
-// The record with a body whose gate stands at this offset, and which may come after one of version 2.
-fn add_body(alloc: Global, kept: Kept, body: &[u8], at: u64, after: bool) -> Result<Kept, FoldError>
-    requires { IsFitRecord kept }
-    ensures reads { ReadsRecord result (with_body at after kept body.now) }
-    ensures fit { IfOk result IsFitRecord }
+// Makes the change that a body spells, which may come after one of version 2.
+fn add_body(
+    alloc: Global,
+    kept: &mut Kept,
+    body: &[u8],
+    at: u64,
+    after: bool,
+) -> Result<(), FoldError>
+    requires { IsFitRecord kept.old }
+    ensures next { OnOk result (with_body at after kept.old body.now ≡ Ok kept.new) }
+    ensures fault { IfErr result (λ e. IsFoldError e (with_body at after kept.old body.now)) }
+    ensures fit { OnOk result (IsFitRecord kept.new) }
 {
     if let Some(fault) = guard_fault(at, body) {
         return Err(FoldError::Fault(fault));
@@ -141,10 +158,10 @@ fn fold_bodies(alloc: Global, bodies: &[Vec<u8>]) -> Result<Kept, FoldError>
     let mut at: u64 = 8;
     let mut after = false;
     for body in bodies {
-        kept = match add_body(alloc, kept, body, at, after) {
-            Ok(next) => next,
+        match add_body(alloc, &mut kept, body, at, after) {
+            Ok(()) => {}
             Err(error) => return Err(error),
-        };
+        }
         after = is_guarded(body);
         // No memory holds bodies that are too many for an offset.
         let Some(next) = at.checked_add(5 + body.len() as u64) else {

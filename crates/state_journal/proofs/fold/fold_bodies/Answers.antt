@@ -13,7 +13,7 @@ returns-in-Err-clause-reads c =
     let i = c.loop-body.body-index in
     let body = c.body-item.result.items in
     let here : lists (drop i vs) ≡ body ∷ lists (drop (i + 1) vs) = lists_drop vs i c.body-item.result (omega arith) c.body-item.is in
-    let reads = subst (λ (l : List ℕ). IsFoldError c.in-Err.error (with_body c.loop-body.at c.loop-body.after c.loop-body.kept l)) c.deref.ensures.value c.in-Err.ensures.reads in
+    let reads = subst (λ (l : List ℕ). IsFoldError c.in-Err.error (with_body c.loop-body.at c.loop-body.after c.loop-body.kept l)) c.deref.ensures.value c.in-Err.ensures.fault in
     subst (IsFoldError c.in-Err.error) (sym (c.loop-body.invariant.so_far ∙ ap (λ (l : List (List ℕ)). folded_from c.loop-body.at c.loop-body.after c.loop-body.kept l) here))
     (fold_fault c.loop-body.at c.loop-body.after c.loop-body.kept body (lists (drop (i + 1) vs)) c.in-Err.error reads)
 
@@ -24,14 +24,14 @@ loop-body-preserved c =
     let body = c.body-item.result.items in
     let rest = lists (drop (i + 1) vs) in
     let here : lists (drop i vs) ≡ body ∷ rest = lists_drop vs i c.body-item.result (omega arith) c.body-item.is in
-    let reads = subst (λ (l : List ℕ). with_body c.loop-body.at c.loop-body.after c.loop-body.kept l ≡ Ok c.in-Ok.next) c.deref.ensures.value c.in-Ok.ensures.reads in
+    let reads = subst (λ (l : List ℕ). with_body c.loop-body.at c.loop-body.after c.loop-body.kept l ≡ Ok c.add_body.new.kept) c.deref.ensures.value c.in-Ok.ensures.next in
     let now : is_guarded body ≡ c.is_guarded-after.result = sym (c.is_guarded-after.ensures ∙ ap is_guarded c.deref-in-loop-body.ensures.value) in
     let more : c.loop-body.at + 5 + length body ≡ c.in-Some.next = omega (arith, c.in-Some.ensures.1, c.len.ensures, c.body-item.result.ok.0) in
     record {
       fit = c.in-Ok.ensures.fit;
       so_far =
-          c.loop-body.invariant.so_far ∙ ap (λ (l : List (List ℕ)). folded_from c.loop-body.at c.loop-body.after c.loop-body.kept l) here ∙ fold_step c.loop-body.at c.loop-body.after c.loop-body.kept c.in-Ok.next body rest reads
-          ∙ ap (λ (p : ℕ). folded_from p (is_guarded body) c.in-Ok.next rest) more ∙ ap (λ (after : Bool). folded_from c.in-Some.next after c.in-Ok.next rest) now;
+          c.loop-body.invariant.so_far ∙ ap (λ (l : List (List ℕ)). folded_from c.loop-body.at c.loop-body.after c.loop-body.kept l) here ∙ fold_step c.loop-body.at c.loop-body.after c.loop-body.kept c.add_body.new.kept body rest reads
+          ∙ ap (λ (p : ℕ). folded_from p (is_guarded body) c.add_body.new.kept rest) more ∙ ap (λ (after : Bool). folded_from c.in-Some.next after c.add_body.new.kept rest) now;
     }
 
 pub returns-clause-reads : goal.returns-clause-reads
