@@ -16,14 +16,13 @@ ghost use Rattle.schedule_replay.specs.Trace.{delivery_results, line_results, re
 ghost use Rattle.schedule_replay.specs.WorldStands.{AllStand, DeliversNothing, Stands, DoesLine, WritesLine};
 
 use crate::places::place_of;
-use cluster_state::{ClusterValue, Settings};
+use cluster_state::ClusterValue;
 use replay_node::{Did, ReplayNode, SentMessage, SentMessages, write_delivery, write_did};
 use schedule_text::{Line, Schedule, SettingText, write_echo};
 use std::alloc::{AllocError, Global};
-use std::mem;
 use text::Text;
 use trace_text::{write_boot, write_down_line, write_start_join, write_value};
-use voting_config::{IdList, NodeId, NodeSet, VotingConfig};
+use voting_config::{IdList, NodeId, NodeSet};
 use zen_disk::{Order, Way};
 
 /// The nodes of a schedule, and the messages that they have sent.
@@ -33,9 +32,6 @@ pub struct Replayer {
     pub sent: SentMessages,
     // The act in hand, as the trace shows it.
     act: Text,
-    // The configuration and the value of the line in hand. Both are large, so that these stay in their place for all lines.
-    config: VotingConfig,
-    value: ClusterValue,
 }
 
 impl Replayer {
@@ -44,14 +40,12 @@ impl Replayer {
         ensures { IfOk result (λ r. Stands ids.now r.nodes.items r.sent fresh_world) }
     {
         let nodes = fresh_nodes(alloc, ids.as_slice())?;
-        // For the proof alone: a set ascends and has 32 ids at most.
+        // For the proof alone: a set ascends and has 64 ids at most.
         let _ = ids.len();
         Ok(Replayer {
             nodes,
             sent: SentMessages::new(alloc),
             act: Text::new(alloc),
-            config: VotingConfig::of(&NodeSet::new()),
-            value: ClusterValue::empty(alloc),
         })
     }
 
@@ -101,7 +95,7 @@ impl Replayer {
                 self.start_join(alloc, ids, *n, candidate.get(), *term, text)?
             }
             Line::Value(n, version, setting, config) => {
-                self.client_value(alloc, ids, *n, *version, setting.get(), config, text)?
+                self.client_value(alloc, ids, *n, *version, setting.get(), config.lend(), text)?
             }
             Line::Deliver(_, _) => unreachable!(),
             Line::Crash(n, way) => self.crash(alloc, ids, *n, *way, text)?,
@@ -179,7 +173,7 @@ impl Replayer {
             (λ w. did_unless_down w n (act.Bootstrap initial.now)) (λ w. results_of w n (act.Bootstrap initial.now))) }
     {
         self.act.clear();
-        write_boot(&mut self.act, initial)?;
+        write_boot(&mut self.act, initial.as_slice())?;
         let place = place_of(ids.as_slice(), n);
         let nodes = self.nodes.as_mut_slice();
         let did = nodes[place].set_initial(alloc, initial)?;
@@ -226,14 +220,12 @@ impl Replayer {
             (λ w. did_unless_down w n (act.Value version config.now (value_with setting)))
             (λ w. results_of w n (act.Value version config.now (value_with setting)))) }
     {
-        self.config.copy_from(&config.to_set());
-        set_value(&mut self.value, settings_of(alloc, setting)?);
+        let value = value_of(alloc, setting)?;
         self.act.clear();
-        write_value(&mut self.act, alloc, version, &self.config, &self.value)?;
-        let settings = mem::replace(&mut self.value.settings, Settings::new(alloc));
+        write_value(&mut self.act, alloc, version, config, &value)?;
         let place = place_of(ids.as_slice(), n);
         let nodes = self.nodes.as_mut_slice();
-        let did = nodes[place].client_value(alloc, version, &self.config, settings)?;
+        let did = nodes[place].client_value(alloc, version, config, value.settings)?;
         self.finish(n, &did, text)
     }
 
@@ -327,25 +319,15 @@ fn keep_some(sent: &mut SentMessages, message: &Option<SentMessage>) -> Result<(
     }
 }
 
-// The settings that have this text under the key `v`, and no others.
-fn settings_of(alloc: Global, setting: SettingText) -> Result<Settings, AllocError>
-    ensures { IfOk result (λ settings. settings ≡ (codes "v", setting) ∷ []) }
+// The value that has this text under the key `v`, and nothing else.
+fn value_of(alloc: Global, setting: SettingText) -> Result<ClusterValue, AllocError>
+    ensures { IfOk result (λ value. value ≡ value_with setting) }
 {
-    let mut settings = Settings::new(alloc);
+    let mut value = ClusterValue::empty(alloc);
     // For the proof alone: the text of a setting has 1 to 32 bytes.
     let _ = setting.as_bytes();
-    settings.push("v", setting.as_str())?;
-    Ok(settings)
-}
-
-// Makes it the value that has these settings and nothing else, in its place.
-fn set_value(value: &mut ClusterValue, settings: Settings)
-    ensures { value.new ≡ record empty_value { settings = settings } }
-{
-    value.master = None;
-    value.members.clear();
-    value.exclusions.clear();
-    value.settings = settings;
+    value.settings.push("v", setting.as_str())?;
+    Ok(value)
 }
 
 // Nodes that have opened their journals on empty disks.

@@ -41,7 +41,7 @@ fn up_node(me: NodeId, state: &OpenNode) -> UpNode
         id: me,
         term: kept.term,
         accepted: kept.accepted.id(),
-        config: VotingConfig::of(kept.accepted.config.members()),
+        config: VotingConfig::of_list(&kept.accepted.config),
         committed: VotingConfig::of(kept.committed.members()),
     }
 }

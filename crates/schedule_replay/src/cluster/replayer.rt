@@ -52,7 +52,7 @@ impl ClusterReplayer {
             (fresh_cluster ids.now initial.now voting_only.now)) }
     {
         let nodes = fresh_nodes(alloc, ids, initial, voting_only)?;
-        // For the proof alone: a set ascends and has 32 ids at most.
+        // For the proof alone: a set ascends and has 64 ids at most.
         let _ = ids.as_slice();
         Ok(ClusterReplayer {
             nodes,

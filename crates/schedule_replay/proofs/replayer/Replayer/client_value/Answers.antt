@@ -1,9 +1,7 @@
-use Rattle.std.proofs.Common.{◌≡◌, ◌++◌, List, ap, sym, ◌∙◌}
+use Rattle.std.proofs.Common.{◌≡◌, ◌++◌, ap, sym, ◌∙◌}
 use Rattle.std.specs.declared.vec.Vec.{Vec}
 use Rattle.std.specs.declared.alloc.Global.{Global}
-use Rattle.voting_config.specs.Ids.{Id}
 use Rattle.cluster_state.specs.Initial.{empty_value}
-use Rattle.cluster_state.specs.Settings.{Setting}
 use Rattle.cluster_state.specs.declared.state.ClusterValue.{ClusterValue}
 use Rattle.world_model.specs.declared.acts.Act.TheVariants.{Value}
 use Rattle.trace_text.specs.Trace.{act_text}
@@ -18,16 +16,13 @@ bounds-nodes-place c = place_inside _ _ _ _ _ _ _ _ (record { is = c.as_slice.en
 
 pub returns : goal.returns
 returns c =
-    let config : c.copy_from.new.self ≡ c.args.config.now = c.copy_from.ensures ∙ c.to_set.ensures in
-    let plain = λ (ss : List Setting). record empty_value { settings = ss } in
-    let taken : c.replace-settings.result ≡ c.in_ok-settings_of.field-0 = c.replace-settings.ensures.value ∙ ap (λ (v : ClusterValue). v.settings) c.set_value.ensures in
-    let shown : c.set_value.new.value ≡ plain c.replace-settings.result = c.set_value.ensures ∙ ap plain (sym taken) in
-    let value : plain c.replace-settings.result ≡ value_with c.args.setting = ap plain (taken ∙ c.in_ok-settings_of.ensures) in
-    let act : Value c.args.version c.copy_from.new.self (plain c.replace-settings.result) ≡ Value c.args.version c.args.config.now (value_with c.args.setting) =
-    ap (λ (x : List Id). Value c.args.version x (plain c.replace-settings.result)) config ∙ ap (λ (x : ClusterValue). Value c.args.version c.args.config.now x) value
-    in
-    let written : c.write_value.new.text ≡ c.clear.new.self ++ act_text (Value c.args.version c.copy_from.new.self (plain c.replace-settings.result)) =
-    c.in_ok-write_value.ensures ∙ ap (λ (x : ClusterValue). c.clear.new.self ++ act_text (Value c.args.version c.copy_from.new.self x)) shown
+    let plain = λ (v : ClusterValue). record empty_value { settings = v.settings } in
+    let act_with = λ (v : ClusterValue). Value c.args.version c.args.config.now v in
+    let value : c.in_ok-value.value ≡ value_with c.args.setting = c.in_ok-value.ensures in
+    let alone : c.in_ok-value.value ≡ plain c.in_ok-value.value = value ∙ sym (ap plain value) in
+    let act : act_with (plain c.in_ok-value.value) ≡ act_with (value_with c.args.setting) = ap (λ (v : ClusterValue). act_with (plain v)) value in
+    let written : c.write_value.new.text ≡ c.clear.new.self ++ act_text (act_with (plain c.in_ok-value.value)) =
+    c.in_ok-write_value.ensures ∙ ap (λ (v : ClusterValue). c.clear.new.self ++ act_text (act_with v)) alone
     in
     record {
       done = act_done _ _ _ _ _ _ _ _ (record { is = c.as_slice.ensures.value; found = c.place_of-place.ensures; lent_is = c.as_mut_slice-nodes.ensures.value; long = c.as_mut_slice-nodes.ensures.len; stands = c.requires.stands }) c.index-nodes-place.result c.client_value.new.self c.finish.result _ _ _ _ _ _ _ _ c.in_ok-did.did c.in_ok-did.ensures act
