@@ -6,7 +6,7 @@ pub returns-in_ok-start_join-in-StartJoin : goal.returns-in_ok-start_join-in-Sta
 returns-in_ok-start_join-in-StartJoin c = record { done = this_line c.args.schedule.now.nodes c.args.schedule.now.initial _ _ _ _ _ _ c.args.line.now _ c.in-StartJoin.is (rw c.get.ensures at c.in_ok-start_join-in-StartJoin.ensures.done) }
 
 pub returns-in_ok-client_value-in-Value : goal.returns-in_ok-client_value-in-Value
-returns-in_ok-client_value-in-Value c = record { done = this_line c.args.schedule.now.nodes c.args.schedule.now.initial _ _ _ _ _ _ c.args.line.now _ c.in-Value.is (rw c.get-in-Value.ensures at c.in_ok-client_value-in-Value.ensures.done) }
+returns-in_ok-client_value-in-Value c = record { done = this_line c.args.schedule.now.nodes c.args.schedule.now.initial _ _ _ _ _ _ c.args.line.now _ c.in-Value.is (rw (c.get-in-Value.ensures, c.lend.ensures) at c.in_ok-client_value-in-Value.ensures.done) }
 
 pub returns-in-Fuse : goal.returns-in-Fuse
 returns-in-Fuse c = record { done = this_line c.args.schedule.now.nodes c.args.schedule.now.initial _ _ _ _ _ _ c.args.line.now _ c.in-Fuse.is (c.arm.ensures.done _) }
