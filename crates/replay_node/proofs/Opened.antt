@@ -1,5 +1,5 @@
 -- What an opening of a node's journal makes of the node.
-use Rattle.std.proofs.Common.{◌≡◌, ℕ, Bool, true, false, None, Some, Ok, Err, List, [], ◌++◌, length, reverse, refl, sym, ◌∙◌, ap, subst, inl, inr, ◌⊎◌, arith}
+use Rattle.std.proofs.Common.{◌≡◌, ℕ, Bool, not, true, false, None, Some, Ok, Err, List, [], ◌++◌, length, reverse, refl, sym, ◌∙◌, ap, subst, inl, inr, ◌⊎◌, arith}
 use Rattle.std.specs.Prelude.{Option, Result, ◌||◌, if◌then◌else◌}
 use Rattle.std.specs.Result.{result_ok, result_unwrap_or}
 use Rattle.voting_config.specs.Ids.{Id}
@@ -36,7 +36,7 @@ use Rattle.replay_node.specs.Opens.{ClosedStands, Opens, StaysDown}
 use Rattle.trace_text.specs.Published.{last_published}
 use Rattle.replay_node.specs.Published.{state_published}
 use Rattle.world_model.specs.Settled.{settled, is_kept, IsUnstruck}
-use Rattle.replay_node.specs.Stands.{Journal, journal_ghosts, LeavesActs, OpenStands, DownStands, SlotStands, NodeStands}
+use Rattle.replay_node.specs.Stands.{Journal, journal_ghosts, LeavesActs, OpenStands, DownStands, SlotStands, NodeStands, is_up}
 use Rattle.replay_node.specs.declared.node.ReplayNode.{ReplayNode}
 use Rattle.replay_node.specs.declared.node.Slot.{Slot}
 use Rattle.replay_node.specs.declared.node.Slot.TheVariants.{Open, Down}
@@ -227,3 +227,32 @@ pub open_needs : (old : ReplayNode) (s : CoordState Journal) → old.slot ≡ Op
 open_needs old s slot stopped w stands =
     let o : OpenStands old.me s w = subst (λ (x : Slot). SlotStands old.me x w) slot stands.slot in
     (open_asks old.me s w o ∙ stopped, record { disk = o.disk; left = o.stopped stopped })
+
+-- ---- a node that is up
+
+not_true : (b : Bool) → not b ≡ true → b ≡ false
+not_true true h = absurd cc
+not_true false h = refl
+
+not_false : (b : Bool) → not b ≡ false → b ≡ true
+not_false true h = refl
+not_false false h = absurd cc
+
+pub halted : (slot : Slot) (s : CoordState Journal) → Open s ≡ slot → is_up slot ≡ false → s.keeper.log.stopped ≡ true
+halted slot s is up = not_false s.keeper.log.stopped (ap is_up is ∙ up)
+
+slot_needs_none : (me : Id) (slot : Slot) (w : NodeWorld) → is_up slot ≡ true → SlotStands me slot w → needs_opening w ≡ false
+slot_needs_none me (Open s) w up stands = open_asks me s w stands ∙ not_true s.keeper.log.stopped up
+slot_needs_none me (Down fuse) w up stands = absurd cc
+
+pub up_needs_none : (node : ReplayNode) → is_up node.slot ≡ true → (w : NodeWorld) → NodeStands node w → needs_opening w ≡ false
+up_needs_none node up w stands = slot_needs_none node.me node.slot w up stands.slot
+
+-- it stays as it is
+pub stays_up : (node : ReplayNode) (was now : List ℕ) → is_up node.slot ≡ true → now ≡ was ++ up_line node.me → DoesLine node node after_restart (restart_text node.me) was now
+stays_up node was now up written = record {
+  me = refl;
+  stands = λ w stands. subst (λ (b : Bool). NodeStands node (if b then after_opening w else w)) (sym (up_needs_none node up w stands)) stands;
+  written = λ w stands.
+      written ∙ sym (ap (λ (b : Bool). was ++ (if b then opening_text (opening w.disk).ended node.me (found_at w) else up_line node.me)) (up_needs_none node up w stands));
+}

@@ -1,5 +1,5 @@
 -- For the contracts inside: when a node of a replay stands for what it did and for its disk.
-use Rattle.std.specs.Prelude.{◌≡◌, ◌<◌, ◌⊎◌, ℕ, true, false, Some, length}
+use Rattle.std.specs.Prelude.{◌≡◌, ◌<◌, ◌⊎◌, ℕ, Bool, not, true, false, Some, length}
 use Rattle.voting_config.specs.Ids.{Id, has, most_ids}
 use Rattle.zen_disk.specs.FileState.{both_left_by}
 use Rattle.zen_disk.specs.MemDisks.{files_of}
@@ -97,6 +97,11 @@ pub record NodeDid (old new : ReplayNode) (w : NodeWorld) (act : Act) (d : Did) 
 pub record NodeDoes (old new : ReplayNode) (act : Act) (d : Did) : Type 0 where
   pub me : new.me ≡ old.me
   pub does : (w : NodeWorld) → NodeStands old w → NodeDid old new w act d
+
+-- whether a node's journal is open and takes changes
+abbrev pub is_up : Slot → Bool
+is_up (Open state) = not state.keeper.log.stopped
+is_up (Down fuse) = false
 
 -- there is room for the source of the message among those that the node has counted
 abbrev pub HasRoomIn : CoordState Journal → Message → Type 0

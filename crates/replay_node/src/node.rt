@@ -13,7 +13,7 @@ ghost use Rattle.replay_node.specs.NodeWorld.{NodeWorld, fresh_node, after_order
 ghost use Rattle.replay_node.specs.NodeLines.{after_restart, after_stop, restart_text, stop_text, DoesLine, FindsKept};
 ghost use Rattle.replay_node.specs.Opens.{ClosedStands, Opens};
 ghost use Rattle.replay_node.specs.Sent.{message_of, message_of_some, taking};
-ghost use Rattle.replay_node.specs.Stands.{HasRoom, NodeDoes, NodeStands};
+ghost use Rattle.replay_node.specs.Stands.{HasRoom, NodeDoes, NodeStands, is_up as is_up_of};
 ghost use Rattle.replay_node.specs.StateDoes.{Closes, ClosesTo};
 
 use crate::did::Did;
@@ -249,21 +249,28 @@ impl ReplayNode {
         }
     }
 
+    // Whether its journal is open and takes changes. The slot is looked at where it lies, since it is large.
+    fn is_up(&self) -> bool
+        ensures { result ≡ is_up_of self.now.slot }
+    {
+        match &self.slot {
+            Slot::Open(state) => !state.keeper().stopped(),
+            Slot::Down(_) => false,
+        }
+    }
+
     /// Opens the node's journal again, where the node is down or its disk has failed, and writes what came of it.
     pub fn restart(&mut self, alloc: Global, text: &mut Text) -> Result<(), AllocError>
         requires { (w : NodeWorld) × NodeStands self.old w }
         ensures done { OnOk result (DoesLine self.old self.new after_restart (restart_text self.old.me) text.old text.new) }
         ensures finds { OnOk result ((w : NodeWorld) → NodeStands self.old w → FindsKept w) }
     {
+        if self.is_up() {
+            return write_up_line(text, self.me);
+        }
         match take_slot(&mut self.slot, alloc) {
             Slot::Down(fuse) => self.open(alloc, fuse, text),
-            Slot::Open(state) => {
-                if !state.keeper().stopped() {
-                    self.slot = Slot::Open(state);
-                    return write_up_line(text, self.me);
-                }
-                self.open(alloc, state.into_keeper().into_disk(), text)
-            }
+            Slot::Open(state) => self.open(alloc, state.into_keeper().into_disk(), text),
         }
     }
 
