@@ -45,22 +45,18 @@ impl Running {
     fn elects(&self, source: NodeId) -> bool
         ensures { result ≡ elects (seen self.now) (with_id source self.now.votes) }
     {
-        self.votes
-            .elect_with(self.committed.members().as_slice(), source)
-            && self
-                .votes
-                .elect_with(self.accepted.config.as_slice(), source)
+        let committed = self.committed.members().as_slice();
+        let accepted = self.accepted.config.as_slice();
+        self.votes.elect_with(committed, source) && self.votes.elect_with(accepted, source)
     }
 
     // Whether the responses with this one commit: a quorum of the committed configuration and of the published one.
     fn commits(&self, source: NodeId) -> bool
         ensures { result ≡ commits (seen self.now) (with_id source self.now.acks) }
     {
-        self.acks
-            .elect_with(self.committed.members().as_slice(), source)
-            && self
-                .acks
-                .elect_with(self.config.members().as_slice(), source)
+        let committed = self.committed.members().as_slice();
+        let published = self.config.members().as_slice();
+        self.acks.elect_with(committed, source) && self.acks.elect_with(published, source)
     }
 
     /// What the node answers to the initial configuration.
