@@ -29,10 +29,6 @@ planned_member s v p plan copy tasks copy_is tasks_is has =
     has_planned s (moved_all s v (Notes (Joined (p ∷ [])) ∷ [])) (leader_of s.me v.node.term v.node.accepted v.node.committed v.node.join_votes s.shrink) tasks plan has refl
     (tasks_is ∙ ap (λ (t : Tasks). to_be_added t p) copy_is)
 
--- a plan of these tasks is a plan of a node that has them
-pub planned_with : (s : Settings) (v : View) (plan : Option Plan) (tasks : Tasks) → HasPlan (leader_of s.me v.node.term v.node.accepted v.node.committed v.node.join_votes s.shrink) tasks plan → IsPlanned s (record v { tasks = tasks }) plan
-planned_with s v plan tasks has = has_planned s (record v { tasks = tasks }) (leader_of s.me v.node.term v.node.accepted v.node.committed v.node.join_votes s.shrink) tasks plan has refl refl
-
 pub same_plan : (s : Settings) (v : View) (plan : Option Plan) (term : ℕ) (votes : List Id) (tasks : Tasks) → term ≡ v.node.term → votes ≡ v.node.join_votes
     → HasPlan (leader_of s.me term v.node.accepted v.node.committed votes s.shrink) tasks plan → HasPlan (leader_of s.me v.node.term v.node.accepted v.node.committed v.node.join_votes s.shrink) tasks plan
 same_plan s v plan term votes tasks term_is votes_is has =

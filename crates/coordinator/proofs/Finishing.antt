@@ -1,9 +1,8 @@
 -- A publication is finished by its commit.
 use Rattle.std.proofs.Common.{◌≡◌, ℕ, Bool, true, false, ◌&&◌, List, [], ◌∷◌, ◌++◌, refl, sym, ap, subst, ◌∙◌}
 use Rattle.state_journal.specs.declared.keeper.Keeper.{Ghosts}
-use Rattle.std.specs.Prelude.{if◌then◌else◌, Option, Some}
+use Rattle.std.specs.Prelude.{if◌then◌else◌, Option}
 use Rattle.cluster_state.specs.declared.state.StateId.{StateId}
-use Rattle.cluster_state.specs.declared.state.ClusterState.{ClusterState}
 use Rattle.cluster_state.specs.declared.messages.ApplyCommit.{ApplyCommit}
 use Rattle.cluster_state.specs.States.{id_of}
 use Rattle.voting_config.specs.Ids.{Id}
@@ -25,8 +24,8 @@ use Rattle.policy_model.specs.Moves.{moved, moved_all}
 use Rattle.policy_model.specs.Doing.{is_leader, reply_all, reply_now, act_now, after_act, takes}
 use Rattle.policy_model.specs.Publications.{acks_exclusions, on_commit}
 use Rattle.policy_model.proofs.Sweeps.{moved_all-append, moved_all-replies}
-use Rattle.coordinator.specs.Plans.{IsPlan, IsPlanned}
-use Rattle.coordinator.specs.Ahead.{IsPlannedCommit, finishes}
+use Rattle.coordinator.specs.Plans.{IsPlanned}
+use Rattle.coordinator.specs.Ahead.{HasPlan, IsPlannedCommit, finishes}
 use Rattle.coordinator.specs.Showing.{Shown}
 use Rattle.coordinator.specs.Views.{view_in}
 use Rattle.coordinator.specs.Does.{Makes, Fails}
@@ -60,15 +59,15 @@ commit_planned s v c plan t l is =
     (ap (λ (x : List Id). leader_of s.me v.node.term v.node.accepted x v.node.join_votes s.shrink) (sym committed))
     (ap (λ (x : List Id). without_answered (exclusion_done x (id_of v.node.accepted)) v.tasks) (sym committed)))
 
-pub plan_commit_some : (s : Settings) (v : View) (plan : Plan) (term : ℕ) (accepted : ClusterState) (votes : List Id) (id : StateId) (copy tasks : Tasks) → term ≡ v.node.term → accepted ≡ v.node.accepted → votes ≡ v.node.join_votes → id ≡ id_of accepted → copy ≡ v.tasks
-    → tasks ≡ without_answered (exclusion_done accepted.config id) copy → IsPlan (leader_of s.me term accepted accepted.config votes s.shrink) tasks plan → IsPlannedCommit s v (Some plan)
-plan_commit_some s v plan term accepted votes id copy tasks term_is accepted_is votes_is id_is copy_is tasks_is is =
-    let tasks_here : tasks ≡ without_answered (exclusion_done accepted.config (id_of accepted)) v.tasks =
-    tasks_is ∙ ap (λ (i : StateId). without_answered (exclusion_done accepted.config i) copy) id_is ∙ ap (λ (t : Tasks). without_answered (exclusion_done accepted.config (id_of accepted)) t) copy_is in
-    λ l. subst (λ (x : List Id). IsPlan (leader_of s.me v.node.term v.node.accepted v.node.accepted.config x s.shrink) (without_answered (exclusion_done v.node.accepted.config (id_of v.node.accepted)) v.tasks) plan) votes_is
-    (subst (λ (x : ℕ). IsPlan (leader_of s.me x v.node.accepted v.node.accepted.config votes s.shrink) (without_answered (exclusion_done v.node.accepted.config (id_of v.node.accepted)) v.tasks) plan) term_is
-    (subst (λ (a : ClusterState). IsPlan (leader_of s.me term a a.config votes s.shrink) (without_answered (exclusion_done a.config (id_of a)) v.tasks) plan) accepted_is
-    (subst (λ (t : Tasks). IsPlan (leader_of s.me term accepted accepted.config votes s.shrink) t plan) tasks_here is)))
+pub committed_plan : (s : Settings) (v : View) (plan : Option Plan) (term : ℕ) (committed votes : List Id) (tasks : Tasks) → term ≡ v.node.term → committed ≡ v.node.accepted.config → votes ≡ v.node.join_votes
+    → tasks ≡ without_answered (exclusion_done committed (id_of v.node.accepted)) v.tasks → HasPlan (leader_of s.me term v.node.accepted committed votes s.shrink) tasks plan → IsPlannedCommit s v plan
+committed_plan s v plan term committed votes tasks term_is committed_is votes_is tasks_is has =
+    let accepted = v.node.accepted in
+    let left = λ (ids : List Id). without_answered (exclusion_done ids (id_of accepted)) v.tasks in
+    λ l. subst (λ (x : List Id). HasPlan (leader_of s.me v.node.term accepted x v.node.join_votes s.shrink) (left x) plan) committed_is
+    (subst (λ (x : List Id). HasPlan (leader_of s.me v.node.term accepted committed x s.shrink) (left committed) plan) votes_is
+    (subst (λ (x : ℕ). HasPlan (leader_of s.me x accepted committed votes s.shrink) (left committed) plan) term_is
+    (subst (λ (t : Tasks). HasPlan (leader_of s.me term accepted committed votes s.shrink) t plan) tasks_is has)))
 
 module _ {K : Type 0} (k : Ghosts K) where
   abbrev view : Coordinator K → View

@@ -31,7 +31,7 @@ drops_for (Tick now word) = tick_drops
 drops_for (FrameCame frame) = 0
 drops_for (LineCame conn line) = 0
 
--- room for three sets of ids at a tick, of which one asks for peers, one for pre-votes and one starts joins; no node sends more than 94
+-- room for three sets of ids at a tick, of which one asks for peers, one for pre-votes and one starts joins; no node sends more than 190
 -- (most_frames of policy_model)
 abbrev pub frames_for : Event → ℕ
 frames_for Start = 0

@@ -24,7 +24,7 @@ use coord_state::{outcome_of, outcome_of_value};
 use fault_checks::FollowerChecks;
 use publication::Publication;
 use state_journal::{Keeper, Ready};
-use voting_config::{NodeId, NodeSet};
+use voting_config::{IdList, NodeId};
 use world_model::Act;
 
 /// Whether a join was counted, and whether it won the election.
@@ -221,7 +221,7 @@ fn begin_publication(
     followers: &mut FollowerChecks,
     id: StateId,
     me: NodeId,
-    members: &NodeSet,
+    members: &IdList,
     now: u64,
 )
     ensures publication { publication.new ≡ (if taken then Some (published_at id members.now now) else publication.old) }
@@ -229,9 +229,7 @@ fn begin_publication(
 {
     if taken {
         *publication = Some(Publication::start(id, members, now));
-        let mut others = members.copy();
-        others.remove(me);
-        followers.watch(&others, now);
+        followers.watch_others(me, members, now);
     }
 }
 

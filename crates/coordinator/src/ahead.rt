@@ -14,7 +14,7 @@ use master_tasks::MasterTasks;
 use policy_model::Mode;
 use state_journal::Keeper;
 use std::alloc::{AllocError, Global};
-use voting_config::{JoinVotes, NodeId, NodeSet};
+use voting_config::{JoinVotes, NodeId, VotingConfig};
 
 /// What a node will be once its term has risen, as far as the next state is made of it.
 #[derive(Drop)]
@@ -73,20 +73,21 @@ impl<K: Keeper> Coordinator<K> {
         ensures value { result ≡ (not won && elects (view_in K.Keeper self.now).node votes.old) }
         ensures same { votes.new ≡ votes.old }
     {
-        !won && votes.is_quorum_of_both(self.core.committed(), &self.core.accepted().config)
+        !won && votes.is_quorum_with_state(self.core.committed(), &self.core.accepted().config)
     }
 
-    // What making the next state of these tasks comes to, in a term and with these votes.
-    pub(crate) fn plan_with(
+    // What making the next state of these tasks comes to, in a term, with this committed configuration and with these votes.
+    pub(crate) fn plan_over(
         &self,
         alloc: Global,
         term: u64,
+        committed: &VotingConfig,
         tasks: &MasterTasks,
-        votes: &NodeSet,
+        votes: &JoinVotes,
     ) -> Result<Option<Plan>, AllocError>
         ensures { IfOk result
             (λ plan. HasPlan (leader_of self.now.settings.me term (K.record_of self.now.core.keeper).accepted
-            (K.record_of self.now.core.keeper).committed votes.now self.now.settings.shrink) tasks.now plan) }
+            committed.now votes.now self.now.settings.shrink) tasks.now plan) }
     {
         let plan = plan_state(
             alloc,
@@ -95,10 +96,25 @@ impl<K: Keeper> Coordinator<K> {
             tasks,
             term,
             &self.core.kept().accepted,
-            self.core.committed(),
+            committed,
             votes,
         )?;
         Ok(Some(plan))
+    }
+
+    // The same, with the committed configuration of the node.
+    pub(crate) fn plan_with(
+        &self,
+        alloc: Global,
+        term: u64,
+        tasks: &MasterTasks,
+        votes: &JoinVotes,
+    ) -> Result<Option<Plan>, AllocError>
+        ensures { IfOk result
+            (λ plan. HasPlan (leader_of self.now.settings.me term (K.record_of self.now.core.keeper).accepted
+            (K.record_of self.now.core.keeper).committed votes.now self.now.settings.shrink) tasks.now plan) }
+    {
+        self.plan_over(alloc, term, self.core.committed(), tasks, votes)
     }
 
     // The plan of a node that will be this, once it has counted the join of p, which the votes and tasks then have.
@@ -118,11 +134,11 @@ impl<K: Keeper> Coordinator<K> {
             let sources = ahead.votes.sources();
             ahead.tasks.add_member(self.settings.me);
             add_members(&mut ahead.tasks, sources.as_slice());
-            return self.plan_with(alloc, ahead.term, &ahead.tasks, &sources);
+            return self.plan_with(alloc, ahead.term, &ahead.tasks, &ahead.votes);
         }
         if ahead.leads {
             ahead.tasks.add_member(p);
-            return self.plan_with(alloc, ahead.term, &ahead.tasks, &ahead.votes.sources());
+            return self.plan_with(alloc, ahead.term, &ahead.tasks, &ahead.votes);
         }
         Ok(None)
     }

@@ -1,5 +1,7 @@
 //! Commits, by which a publication is finished.
 ghost use Rattle.std.specs.Prelude.{◌≡◌, ◌≤◌, ◌+◌, [], ◌∷◌, true, length, is_ok, IfOk};
+ghost use Rattle.cluster_state.specs.States.{id_of};
+ghost use Rattle.master_tasks.specs.Answering.{exclusion_done, without_answered};
 ghost use Rattle.policy_model.specs.Publications.{acks_exclusions, on_commit};
 ghost use Rattle.policy_model.specs.Moves.{moved_all};
 ghost use Rattle.coordinator.specs.Ahead.{IsPlannedCommit, finishes};
@@ -10,12 +12,12 @@ ghost use Rattle.coordinator.specs.Views.{view_in, IsReady};
 
 use crate::coordinator::{Acted, Coordinator, DiskFailed, EventError};
 use crate::output::Output;
-use crate::plan::{Plan, plan_state};
+use crate::plan::Plan;
 use cluster_state::{ApplyCommit, StateId};
-use master_tasks::Replies;
+use master_tasks::{MasterTasks, Replies};
 use state_journal::Keeper;
 use std::alloc::{AllocError, Global};
-use voting_config::NodeId;
+use voting_config::{NodeId, VotingConfig};
 
 impl<K: Keeper> Coordinator<K> {
     // What going on will take once the accepted state is committed.
@@ -28,25 +30,48 @@ impl<K: Keeper> Coordinator<K> {
         Ok(None)
     }
 
-    // The same, of a leader.
+    // The same, of a leader. The accepted configuration is committed then, which most often is the committed one already.
     fn plan_finish(&self, alloc: Global) -> Result<Option<Plan>, AllocError>
         ensures { IfOk result (λ plan. IsPlannedCommit self.now.settings (view_in K.Keeper self.now) plan) }
     {
+        let committed = self.core.committed();
         let accepted = self.core.accepted();
+        if committed.is_same_list(&accepted.config) {
+            return self.plan_committed(alloc, committed);
+        }
+        self.plan_committed(alloc, &VotingConfig::of_list(&accepted.config))
+    }
+
+    // The same, with the configuration that is committed then. Most often nothing waits, and nothing is copied then.
+    fn plan_committed(
+        &self,
+        alloc: Global,
+        committed: &VotingConfig,
+    ) -> Result<Option<Plan>, AllocError>
+        requires { committed.now ≡ (K.record_of self.now.core.keeper).accepted.config }
+        ensures { IfOk result (λ plan. IsPlannedCommit self.now.settings (view_in K.Keeper self.now) plan) }
+    {
+        let (term, votes) = (self.core.term(), self.core.votes());
+        if self.tasks.open_count() == 0 {
+            return self.plan_over(alloc, term, committed, &self.tasks, votes);
+        }
+        let tasks = self.tasks_acked(alloc, committed)?;
+        self.plan_over(alloc, term, committed, &tasks, votes)
+    }
+
+    // The tasks without the exclusions that are done with this configuration.
+    fn tasks_acked(
+        &self,
+        alloc: Global,
+        committed: &VotingConfig,
+    ) -> Result<MasterTasks, AllocError>
+        ensures { IfOk result
+            (λ t. t ≡ without_answered (exclusion_done committed.now (id_of (K.record_of self.now.core.keeper).accepted)) self.now.tasks) }
+    {
         let mut tasks = self.tasks.copy()?;
         let mut answers = Replies::with_room(alloc, tasks.open_count())?;
-        tasks.ack_exclusions(&accepted.config, accepted.id(), &mut answers);
-        let plan = plan_state(
-            alloc,
-            self.settings.me,
-            self.settings.shrink,
-            &tasks,
-            self.core.term(),
-            &self.core.kept().accepted,
-            &accepted.config,
-            &self.core.votes().sources(),
-        )?;
-        Ok(Some(plan))
+        tasks.ack_exclusions(committed, self.core.accepted().id(), &mut answers);
+        Ok(tasks)
     }
 
     // Exclusions that are done are acknowledged.

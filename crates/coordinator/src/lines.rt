@@ -1,5 +1,5 @@
 //! What a client's request comes to.
-ghost use Rattle.std.specs.Prelude.{◌≡◌, ◌&&◌, not, false, Ok, IfOk, OnOk, OnErr};
+ghost use Rattle.std.specs.Prelude.{◌≡◌, ◌≤◌, ◌&&◌, not, false, Ok, IfOk, OnOk, OnErr};
 ghost use Rattle.cluster_state.specs.declared.reply.Answer.TheVariants as answer;
 ghost use Rattle.cluster_state.specs.declared.reply.Reply.TheVariants as reply;
 ghost use Rattle.client_lines.specs.Reading.{line_request};
@@ -11,6 +11,8 @@ ghost use Rattle.policy_model.specs.NextState.{is_in_flight};
 ghost use Rattle.policy_model.specs.Requests.{replies, takes_line};
 ghost use Rattle.coordinator.specs.Ahead.{HasPlan, queues_one};
 ghost use Rattle.coordinator.specs.Does.{Does, DoesAll};
+ghost use Rattle.coordinator.specs.Plans.{IsPlanned, replies_planned};
+ghost use Rattle.coordinator.specs.Showing.{shown_in};
 ghost use Rattle.coordinator.specs.Views.{view_in, IsReady};
 
 use crate::coordinator::{Coordinator, EventError};
@@ -55,10 +57,11 @@ impl<K: Keeper> Coordinator<K> {
             (K.record_of self.now.core.keeper).accepted (K.record_of self.now.core.keeper).committed self.now.core.join_votes
             self.now.settings.shrink) tasks.now plan) }
     {
-        self.plan_with(alloc, self.core.term(), tasks, &self.core.votes().sources())
+        self.plan_with(alloc, self.core.term(), tasks, self.core.votes())
     }
 
-    // A leader with no publication in flight queues a request, and goes on.
+    // A leader with no publication in flight queues a request, and goes on. What that takes is planned over the queue itself, so that no
+    // request that waits is copied for it; where there is no memory the request is taken out again.
     fn queue_and_go_on(
         &mut self,
         out: &mut Output,
@@ -68,24 +71,31 @@ impl<K: Keeper> Coordinator<K> {
         requires ready { IsReady self.old }
         ensures does { DoesAll K.Keeper self.old self.new out.old out.new (λ s v. queues_one s v conn request) result }
     {
+        let place = self.tasks.open_count();
         let Ok(()) = out.make_lists(QUEUE_DEEDS, 0, MAX_IDS) else {
             return Err(EventError::Memory);
         };
-        let Ok(mut tasks) = self.tasks.copy() else {
+        let Ok(()) = add_request(&mut self.tasks, conn, self.moment, request) else {
             return Err(EventError::Memory);
         };
-        let Ok(()) = add_request(&mut tasks, conn, self.moment, request) else {
+        let Ok(mut plan) = self.plan_queued(out) else {
+            self.tasks.settle(place);
             return Err(EventError::Memory);
         };
-        let Ok(mut plan) = self.plan_of(out.alloc, &tasks) else {
-            return Err(EventError::Memory);
-        };
-        let Ok(()) = out.make_room(0, &plan) else {
-            return Err(EventError::Memory);
-        };
-        self.tasks = tasks;
         self.go_on(out, &mut plan);
         Ok(())
+    }
+
+    // What going on will take with the tasks as they are, with room for its replies.
+    fn plan_queued(&self, out: &mut Output) -> Result<Option<Plan>, AllocError>
+        ensures plan { IfOk result (λ plan. IsPlanned self.now.settings (view_in K.Keeper self.now) plan) }
+        ensures replies { IfOk result (λ plan. replies_planned plan ≤ out.new.replies.room) }
+        ensures shown { shown_in out.new ≡ shown_in out.old }
+        ensures rest { (out.new.deeds ≡ out.old.deeds) × (out.new.frames ≡ out.old.frames) }
+    {
+        let plan = self.plan_of(out.alloc, &self.tasks)?;
+        out.make_room(0, &plan)?;
+        Ok(plan)
     }
 
     // One with a publication in flight queues a request: it shows nothing, nothing is planned, and no request that waits is copied.

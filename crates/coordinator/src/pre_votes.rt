@@ -12,7 +12,7 @@ use crate::output::Output;
 use cluster_state::StateId;
 use pre_vote::{Added, PreVotes, Reply, answer};
 use state_journal::Keeper;
-use voting_config::{NodeId, VotingConfig};
+use voting_config::{IdList, NodeId, VotingConfig};
 use wire_frames::WireMessage;
 
 // An answer is added to an open round, where it fits.
@@ -22,7 +22,7 @@ fn count(
     term: u64,
     last: StateId,
     committed: &VotingConfig,
-    accepted: &VotingConfig,
+    accepted: &IdList,
 ) -> Option<Added>
     requires { term ≤ last_number }
     ensures added { result ≡ counted_of round.old from term last committed.now accepted.now }

@@ -191,7 +191,7 @@ impl<K: Keeper> Coordinator<K> {
         // Few deeds and replies; and where the node was within the limits, so are its frames, and the node after it.
         ensures within { IfOk result (λ sealed. IsWithin K.Keeper self.old self.new sealed) }
 
-        // At most 94 frames, and fewer but at a tick, where the node's sets were as small as sets in memory are; so they stay.
+        // At most 190 frames, and fewer but at a tick, where the node's sets were as small as sets in memory are; so they stay.
         ensures few { IfOk result (λ sealed. IsFew K.Keeper self.old self.new event sealed) }
 
         // After Ok, where the keeper tells, a crash leaves the record of the acts with this event and nothing else.

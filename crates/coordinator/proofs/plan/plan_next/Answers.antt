@@ -8,4 +8,4 @@ returns-in-Same c =
 
 pub returns-in_ok-new-in-New : goal.returns-in_ok-new-in-New
 returns-in_ok-new-in-New c =
-    plan_new _ c.args.tasks.now c.in_ok-next.field-0.waiting c.in-New.config c.of.result c.in-New.value c.in-New.replies c.in_ok-new-in-New.new (sym c.in-New.is ∙ c.in_ok-next.ensures.next) c.in_ok-next.ensures.waiting c.in_ok-next.ensures.few (c.of.ensures ∙ c.members.ensures) (rw (c.deref.ensures, c.id.ensures, c.deref-in-New.ensures) at c.in_ok-new-in-New.ensures)
+    plan_new _ c.args.tasks.now c.in_ok-next.field-0.waiting c.in-New.config c.in_ok-committed-in-New.committed c.in-New.value c.in-New.replies c.in_ok-new-in-New.new (sym c.in-New.is ∙ c.in_ok-next.ensures.next) c.in_ok-next.ensures.waiting c.in_ok-next.ensures.few (c.in_ok-committed-in-New.ensures ∙ c.members.ensures) (rw (c.deref.ensures, c.id.ensures, c.deref-in-New.ensures) at c.in_ok-new-in-New.ensures)

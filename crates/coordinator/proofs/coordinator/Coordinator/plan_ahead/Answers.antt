@@ -1,4 +1,4 @@
-use Rattle.std.proofs.Common.{◌≡◌, List, not, ◌&&◌, ap, sym, ◌∙◌}
+use Rattle.std.proofs.Common.{List, not, ◌&&◌, ap, sym, ◌∙◌}
 use Rattle.std.proofs.lemmas.Result.{IfOk-weaker}
 use Rattle.world_model.specs.Replies.{elects}
 use Rattle.voting_config.specs.Ids.{Id}
@@ -12,15 +12,17 @@ pub returns-then-wins_with : goal.returns-then-wins_with
 returns-then-wins_with g c =
     let view = view_in g.K.Keeper c.args.self.now in
     let ahead = c.args.ahead.now in
-    let same : c.sources-sources.result ≡ c.add.new.self = c.sources-sources.ensures ∙ c.wins_with.ensures.same in
-    IfOk-weaker c.plan_with.result _ _ (λ plan has. planned_win_by c.args.self.now.settings view ahead c.args.p plan c.sources-sources.result c.add_members.new.tasks c.wins_with.result (same ∙ c.add.ensures) (c.wins_with.ensures.value ∙ ap (λ (ids : List Id). not ahead.won && elects view.node ids) (sym same)) c.if-wins_with.true (c.add_members.ensures ∙ ap (λ (t : Tasks). all_to_be_added t c.as_slice.result.now) c.add_member.ensures ∙ ap (λ (ids : List Id). all_to_be_added (to_be_added ahead.tasks c.args.self.now.settings.me) ids) c.as_slice.ensures.value) has) c.plan_with.ensures
+    let same = c.wins_with.ensures.same in
+    let votes = c.wins_with.new.votes in
+    IfOk-weaker c.plan_with.result _ _ (λ plan has. planned_win_by c.args.self.now.settings view ahead c.args.p plan votes c.add_members.new.tasks c.wins_with.result (same ∙ c.add.ensures) (c.wins_with.ensures.value ∙ ap (λ (ids : List Id). not ahead.won && elects view.node ids) (sym same)) c.if-wins_with.true (c.add_members.ensures ∙ ap (λ (t : Tasks). all_to_be_added t c.as_slice.result.now) c.add_member.ensures ∙ ap (λ (ids : List Id). all_to_be_added (to_be_added ahead.tasks c.args.self.now.settings.me) ids) (c.as_slice.ensures.value ∙ c.sources-sources.ensures)) has) c.plan_with.ensures
 
 pub returns-then-ahead : goal.returns-then-ahead
 returns-then-ahead g c =
     let view = view_in g.K.Keeper c.args.self.now in
     let ahead = c.args.ahead.now in
-    let same : c.sources.result ≡ c.add.new.self = c.sources.ensures ∙ c.wins_with.ensures.same in
-    IfOk-weaker c.plan_with-then-ahead.result _ _ (λ plan has. planned_member_by c.args.self.now.settings view ahead c.args.p plan c.sources.result c.add_member-then-ahead.new.self c.wins_with.result (same ∙ c.add.ensures) (c.wins_with.ensures.value ∙ ap (λ (ids : List Id). not ahead.won && elects view.node ids) (sym same)) c.if-wins_with.false c.add_member-then-ahead.ensures has) c.plan_with-then-ahead.ensures
+    let same = c.wins_with.ensures.same in
+    let votes = c.wins_with.new.votes in
+    IfOk-weaker c.plan_with-then-ahead.result _ _ (λ plan has. planned_member_by c.args.self.now.settings view ahead c.args.p plan votes c.add_member-then-ahead.new.self c.wins_with.result (same ∙ c.add.ensures) (c.wins_with.ensures.value ∙ ap (λ (ids : List Id). not ahead.won && elects view.node ids) (sym same)) c.if-wins_with.false c.add_member-then-ahead.ensures has) c.plan_with-then-ahead.ensures
 
 pub returns : goal.returns
 returns g c =

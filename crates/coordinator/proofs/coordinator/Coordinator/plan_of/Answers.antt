@@ -1,4 +1,3 @@
-use Rattle.std.proofs.Common.{◌∙◌}
 use Rattle.std.proofs.lemmas.Result.{IfOk-weaker}
 use Rattle.coordinator.specs.Views.{view_in}
 use Rattle.coordinator.proofs.Asked.{same_plan}
@@ -6,4 +5,4 @@ use Rattle.coordinator.proofs.coordinator.Coordinator.plan_of.Goals as goal
 
 pub returns : goal.returns
 returns g c =
-    IfOk-weaker c.plan_with.result _ _ (λ plan has. same_plan c.args.self.now.settings (view_in g.K.Keeper c.args.self.now) plan c.term.result c.sources.result c.args.tasks.now c.term.ensures.term (c.sources.ensures ∙ c.votes.ensures) has) c.plan_with.ensures
+    IfOk-weaker c.plan_with.result _ _ (λ plan has. same_plan c.args.self.now.settings (view_in g.K.Keeper c.args.self.now) plan c.term.result c.votes.result.now c.args.tasks.now c.term.ensures.term c.votes.ensures has) c.plan_with.ensures
