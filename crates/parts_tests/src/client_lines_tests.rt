@@ -1,10 +1,10 @@
 //! Requests, faults and replies with their texts, in the forms of docs/formats.md.
-use crate::names::{id, set};
+use crate::names::{id, numbered, set};
 use client_lines::*;
 use cluster_state::{ClusterState, SharedState, StateId};
 use std::alloc::{AllocError, Global};
 use std::test::*;
-use voting_config::NodeSet;
+use voting_config::IdList;
 
 const TOO_LONG: &str = "the line has more than 8192 bytes";
 
@@ -32,7 +32,7 @@ fn written_request(alloc: Global, Request { id, ask }: &Request) -> Result<Strin
     }
 }
 
-fn written_exclude(alloc: Global, id: u64, excluded: &NodeSet) -> Result<String, AllocError> {
+fn written_exclude(alloc: Global, id: u64, excluded: &IdList) -> Result<String, AllocError> {
     let mut text = format!(in alloc; "{id} exclude")?;
     for id in excluded.as_slice() {
         push_word(&mut text, id.as_str())?;
@@ -64,10 +64,6 @@ const REQUESTS: &[(&str, &str)] = &[
         "3 exclude a b node-1",
     ),
     (r#"{"exclude":["a"],"id":3}"#, "3 exclude a"),
-    (
-        r#"{"id":1,"exclude":["0","1","2","3","4","5","6","7","8","9","a","b","c","d","e","f","g","h","i","j","k","l","m","n","o","p","q","r","s","t","u","v"]}"#,
-        "1 exclude 0 1 2 3 4 5 6 7 8 9 a b c d e f g h i j k l m n o p q r s t u v",
-    ),
     (r#"{"id":4,"clear":{}}"#, "4 clear true"),
     (
         r#"{"clear":{"wait_for_removal":true},"id":4}"#,
@@ -177,8 +173,6 @@ const NO_REQUESTS: &[&str] = &[
     r#"{"id":1,"exclude":["a2345678901234567890123456789012x"]}"#,
     r#"{"id":1,"exclude":["a","b","a"]}"#,
     r#"{"id":1,"exclude":["a",null]}"#,
-    // 33 of them.
-    r#"{"id":1,"exclude":["0","1","2","3","4","5","6","7","8","9","a","b","c","d","e","f","g","h","i","j","k","l","m","n","o","p","q","r","s","t","u","v","w"]}"#,
     r#"{"id":1,"clear":[]}"#,
     r#"{"id":1,"clear":true}"#,
     r#"{"id":1,"clear":{"wait":true}}"#,
@@ -195,6 +189,48 @@ fn json_that_is_no_request_is_refused(rt: HostRuntime) {
             "of {line}"
         );
     }
+}
+
+// A text, the ids from n01 up to the one of this number, each after another text, and a last text.
+fn with_ids(
+    alloc: Global,
+    head: &str,
+    before: &str,
+    last: u8,
+    tail: &str,
+) -> Result<String, AllocError> {
+    let mut text = String::from_str(alloc, head)?;
+    for number in 1..=last {
+        text.push_str(before)?;
+        text.push_str(numbered(number).as_str())?;
+    }
+    text.push_str(tail)?;
+    Ok(text)
+}
+
+// A line that excludes the node a and those from n01 up to the one of this number.
+fn exclude(alloc: Global, last: u8) -> Result<String, AllocError> {
+    with_ids(alloc, r#"{"id":1,"exclude":["a"#, r#"",""#, last, r#""]}"#)
+}
+
+fn is_exclude_read_as(alloc: Global, last: u8, want: &str) -> bool {
+    match exclude(alloc, last) {
+        Ok(line) => is_read_as(alloc, line.as_bytes(), want),
+        Err(_) => false,
+    }
+}
+
+fn is_exclude_taken(alloc: Global, last: u8) -> bool {
+    match with_ids(alloc, "1 exclude a", " ", last, "") {
+        Ok(want) => is_exclude_read_as(alloc, last, want.as_str()),
+        Err(_) => false,
+    }
+}
+
+#[test]
+fn an_exclude_has_up_to_64_ids(rt: HostRuntime) {
+    assert!(rt; is_exclude_taken(rt.alloc(), 63));
+    assert!(rt; is_exclude_read_as(rt.alloc(), 64, BAD_SHAPE));
 }
 
 // So many arrays in one another.
@@ -401,7 +437,7 @@ fn answer(place: usize) -> Answer {
         2 => Answer::NotMaster(None),
         3 => Answer::BadSetting(129),
         4 => Answer::QueueFull(64),
-        5 => Answer::TooManySettings(1_025),
+        5 => Answer::TooManySettings(4_097),
         6 => Answer::TooManyExclusions(11),
         7 => Answer::StillMember(id("b")),
         8 => Answer::FailedToCommit(u64::MAX),
@@ -415,7 +451,7 @@ const ANSWERS: &[&str] = &[
     r#"{"id":65,"not_master":null}"#,
     r#"{"bad_setting":129,"id":65}"#,
     r#"{"id":65,"queue_full":64}"#,
-    r#"{"id":65,"too_many_settings":1025}"#,
+    r#"{"id":65,"too_many_settings":4097}"#,
     r#"{"id":65,"too_many_exclusions":11}"#,
     r#"{"id":65,"still_member":"b"}"#,
     r#"{"failed_to_commit":18446744073709551615,"id":65}"#,
@@ -437,7 +473,7 @@ const STATE: &str =
     r#"{"id":0,"state":{"committed":["a","b"],"config":["a","b"],"parent":null,"term":0,"value":{"exclusions":[],"master":null,"members":[],"settings":{"k":"\n"}},"version":0}}"#;
 
 fn state(alloc: Global) -> Result<SharedState, AllocError> {
-    let mut state = ClusterState::initial(alloc, &set("a,b"));
+    let mut state = ClusterState::initial(alloc, &set("a,b"))?;
     state.value.settings.put("k", "\n")?;
     SharedState::of(alloc, state)
 }

@@ -1,7 +1,7 @@
 //! Which exclusions are taken, and when a clear is refused. The answers follow from docs/policy.md.
-use crate::names::{config, id, set};
+use crate::names::{config, id, list};
 use exclusions::*;
-use std::alloc::Global;
+use std::alloc::{AllocError, Global};
 use std::fmt::Display;
 use std::test::*;
 use voting_config::NodeSet;
@@ -26,11 +26,12 @@ fn is_written<E: Display>(alloc: Global, error: &E, want: &str) -> bool {
 type Row = (&'static str, &'static str, &'static str, &'static str);
 
 // Whether these are excluded then, or it is refused so.
-fn is_added(alloc: Global, row: &Row) -> bool {
+fn is_added(alloc: Global, row: &Row) -> Result<bool, AllocError> {
     let (excluded, members, asked, want) = *row;
-    match add(&set(excluded), &set(members), &set(asked)) {
-        Ok(ids) => is_set(&ids, want),
-        Err(error) => is_written(alloc, &error, want),
+    let (excluded, members) = (list(alloc, excluded)?, list(alloc, members)?);
+    match add(&excluded, &members, &list(alloc, asked)?) {
+        Ok(ids) => Ok(is_set(&ids, want)),
+        Err(error) => Ok(is_written(alloc, &error, want)),
     }
 }
 
@@ -56,16 +57,17 @@ const ADDED: &[Row] = &[
 ];
 
 #[test]
-fn at_most_ten_nodes_are_excluded_members_or_not(rt: HostRuntime) {
+fn at_most_ten_nodes_are_excluded_members_or_not(rt: HostRuntime) -> Result<(), Fail> {
     for (at, row) in ADDED.iter().enumerate() {
-        assert!(rt; is_added(rt.alloc(), row), "row {at}");
+        assert!(rt; is_added(rt.alloc(), row)?, "row {at}");
     }
+    Ok(())
 }
 
-fn is_cleared(alloc: Global, wait: bool, want: &str) -> bool {
-    match clear(&set("c,d"), &set("a,b,c"), wait) {
-        Ok(()) => want == "cleared",
-        Err(error) => is_written(alloc, &error, want),
+fn is_cleared(alloc: Global, wait: bool, want: &str) -> Result<bool, AllocError> {
+    match clear(&list(alloc, "c,d")?, &list(alloc, "a,b,c")?, wait) {
+        Ok(()) => Ok(want == "cleared"),
+        Err(error) => Ok(is_written(alloc, &error, want)),
     }
 }
 
@@ -76,10 +78,13 @@ const CLEARS: &[(bool, &str)] = &[
 ];
 
 #[test]
-fn a_clear_that_waits_is_refused_while_an_excluded_node_is_a_member(rt: HostRuntime) {
+fn a_clear_that_waits_is_refused_while_an_excluded_node_is_a_member(
+    rt: HostRuntime,
+) -> Result<(), Fail> {
     for (wait, want) in CLEARS {
-        assert!(rt; is_cleared(rt.alloc(), *wait, want), "{want}");
+        assert!(rt; is_cleared(rt.alloc(), *wait, want)?, "{want}");
     }
+    Ok(())
 }
 
 // Committed voters, accepted ones, excluded nodes, and whether a may win.
@@ -92,19 +97,16 @@ const WINNERS: &[Winner] = &[
     ("_", "_", "a", false),
 ];
 
-fn wins(row: &Winner) -> bool {
+fn wins(alloc: Global, row: &Winner) -> Result<bool, AllocError> {
     let (committed, accepted, excluded, wins) = *row;
-    may_win(
-        id("a"),
-        &config(committed),
-        &config(accepted),
-        &set(excluded),
-    ) == wins
+    let (accepted, excluded) = (list(alloc, accepted)?, list(alloc, excluded)?);
+    Ok(may_win(id("a"), &config(committed), &accepted, &excluded) == wins)
 }
 
 #[test]
-fn an_excluded_node_wins_only_where_it_is_a_voter(rt: HostRuntime) {
+fn an_excluded_node_wins_only_where_it_is_a_voter(rt: HostRuntime) -> Result<(), Fail> {
     for (at, row) in WINNERS.iter().enumerate() {
-        assert!(rt; wins(row), "row {at}");
+        assert!(rt; wins(rt.alloc(), row)?, "row {at}");
     }
+    Ok(())
 }

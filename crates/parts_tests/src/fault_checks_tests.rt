@@ -1,5 +1,6 @@
 //! A follower that never answers, one that lags, and a leader that refuses, tick by tick. The moments were worked out from the
 //! numbers of docs/policy.md.
+use crate::names::{id, list};
 use cluster_state::StateId;
 use fault_checks::*;
 use std::test::*;
@@ -82,13 +83,19 @@ const SILENCE: &[(u64, Named)] = &[
 ];
 
 #[test]
-fn a_follower_that_never_answers(rt: HostRuntime) {
+fn a_follower_that_never_answers(rt: HostRuntime) -> Result<(), Fail> {
+    let members = list(rt.alloc(), "a,b")?;
     let mut checks = FollowerChecks::new();
-    checks.watch(&only_b(), 0);
+    checks.watch_others(id("a"), &members, 0);
     for row in SILENCE {
         let (now, named) = *row;
+        // Who is watched already goes on as before.
+        if now < 33_000 {
+            checks.watch_others(id("a"), &members, now);
+        }
         assert!(rt; is_named(&checks.tick(now), named), "at {now}");
     }
+    Ok(())
 }
 
 const HISTORIES: &[&[Row]] = &[

@@ -1,5 +1,5 @@
 //! Requests with the states and the answers that they come to. An answer is told as the line that its client gets.
-use crate::names::{config, id, set};
+use crate::names::{config, id, list, set, votes};
 use client_lines::{LineFault, Reply, write_reply};
 use cluster_state::{
     Ask, ClusterState, ClusterValue, Request, Settings, SharedState, StateId, Text, value_to_json,
@@ -7,7 +7,7 @@ use cluster_state::{
 use master_tasks::*;
 use std::alloc::{AllocError, Global};
 use std::test::*;
-use voting_config::{NodeSet, VotingConfig};
+use voting_config::{IdList, NodeSet, VotingConfig};
 
 // What a client wishes, as it stands in a table.
 #[derive(Clone, Copy)]
@@ -51,7 +51,7 @@ fn ask(alloc: Global, wish: Wish) -> Result<Ask, AllocError> {
     match wish {
         Wish::Put(key, value) => put(alloc, key, value),
         Wish::Remove(key) => remove(alloc, key),
-        Wish::Exclude(nodes) => Ok(Ask::Exclude(set(nodes))),
+        Wish::Exclude(nodes) => Ok(Ask::Exclude(list(alloc, nodes)?)),
         Wish::Clear { wait } => Ok(Ask::Clear {
             wait_for_removal: wait,
         }),
@@ -79,7 +79,7 @@ fn put_number(alloc: Global, settings: &mut Settings, number: u64) -> Result<(),
 
 fn as_many_settings_as_there_may_be(alloc: Global) -> Result<Settings, AllocError> {
     let mut settings = one_setting(alloc)?;
-    for number in 1..1024u64 {
+    for number in 1..4096u64 {
         put_number(alloc, &mut settings, number)?;
     }
     Ok(settings)
@@ -93,6 +93,12 @@ fn state(
     exclusions: &str,
     settings: Settings,
 ) -> Result<SharedState, AllocError> {
+    let value = ClusterValue {
+        master: Some(id("a")),
+        members: list(alloc, members)?,
+        exclusions: list(alloc, exclusions)?,
+        settings,
+    };
     let state = ClusterState {
         term: 1,
         version: 1,
@@ -100,14 +106,9 @@ fn state(
             term: 0,
             version: 0,
         }),
-        config: config(voters),
-        committed: config(voters),
-        value: ClusterValue {
-            master: Some(id("a")),
-            members: set(members),
-            exclusions: set(exclusions),
-            settings,
-        },
+        config: list(alloc, voters)?,
+        committed: list(alloc, voters)?,
+        value,
     };
     SharedState::of(alloc, state)
 }
@@ -152,10 +153,10 @@ fn write_next(alloc: Global, text: &mut Vec<u8>, next: &Next) -> Result<(), Allo
 fn write_state(
     alloc: Global,
     text: &mut Vec<u8>,
-    config: &VotingConfig,
+    config: &IdList,
     value: &ClusterValue,
 ) -> Result<(), AllocError> {
-    for id in config.members().as_slice() {
+    for id in config.as_slice() {
         text.extend_from_slice(id.as_bytes())?;
     }
     write_word(text, &value_to_json(alloc, value)?)
@@ -168,8 +169,9 @@ fn next(
     term: u64,
     accepted: &SharedState,
 ) -> Result<Vec<u8>, AllocError> {
-    let votes = set("a,b,c,d");
-    let next = tasks.next_state(id("a"), term, accepted, &accepted.config, &votes, true)?;
+    let committed = VotingConfig::of_list(&accepted.config);
+    let votes = votes("a,b,c,d");
+    let next = tasks.next_state(id("a"), term, accepted, &committed, &votes, true)?;
     written(alloc, &next)
 }
 
@@ -420,7 +422,7 @@ fn a_request_is_processed_once(rt: HostRuntime) -> Result<(), Fail> {
 const FULL: &[(&[Wish], &str)] = &[
     (
         &[Wish::Put("w", "")],
-        r#"same {"id":1,"too_many_settings":1025}"#,
+        r#"same {"id":1,"too_many_settings":4097}"#,
     ),
     (
         &[Wish::Put("v", "x")],
@@ -434,7 +436,7 @@ fn full_of_settings(alloc: Global) -> Result<SharedState, AllocError> {
 }
 
 #[test]
-fn a_1025th_setting_is_refused(rt: HostRuntime) -> Result<(), Fail> {
+fn a_4097th_setting_is_refused(rt: HostRuntime) -> Result<(), Fail> {
     let accepted = full_of_settings(rt.alloc())?;
     for (wishes, want) in FULL {
         assert!(rt; comes_of(rt.alloc(), 1, &accepted, wishes, want)?, "{want}");
@@ -442,7 +444,7 @@ fn a_1025th_setting_is_refused(rt: HostRuntime) -> Result<(), Fail> {
     Ok(())
 }
 
-const ALL_BUT_A: &str = "0,1,2,3,4,5,6,b,c,d,e,f,g,h,i,j,k,l,m,n,o,p,q,r,s,t,u,v,w,x,y,z";
+const FULL_SET: &str = "n01..n64";
 
 // Members that are accepted, those that are to go, sets of those that are to come, and the members after that.
 type Change = (
@@ -460,14 +462,15 @@ fn after_changes(
     additions: &[&str],
 ) -> Result<Next, AllocError> {
     let mut tasks = changed(alloc, removals, additions);
-    tasks.next_state(id("a"), 2, accepted, &accepted.config, &set("a,b,c"), true)
+    let committed = VotingConfig::of_list(&accepted.config);
+    tasks.next_state(id("a"), 2, accepted, &committed, &votes("a,b,c"), true)
 }
 
 fn has(next: &Next, voters: &VotingConfig, members: &str) -> bool {
     match next {
         Next::Same(_) => false,
         Next::New { config, value, .. } => {
-            config.is_same(voters) && value.members.as_slice() == set(members).as_slice()
+            voters.is_same_list(config) && value.members.as_slice() == set(members).as_slice()
         }
     }
 }
@@ -496,7 +499,7 @@ fn is_made(alloc: Global, voters: &str, change: Change) -> bool {
             &accepted,
             removals,
             additions,
-            &accepted.config,
+            &config(voters),
             after,
         ),
         Err(_) => false,
@@ -526,17 +529,15 @@ const CHANGES: &[Change] = &[
     ("a,b,c", "b", &[], "a,c"),
     ("a,b,c", "a", &[], "a,b,c"),
     ("a,b,c", "b", &["b"], "a,b,c"),
-    (ALL_BUT_A, "_", &["a"], ALL_BUT_A),
-    (
-        ALL_BUT_A,
-        "b",
-        &["7,a"],
-        "0,1,2,3,4,5,6,a,c,d,e,f,g,h,i,j,k,l,m,n,o,p,q,r,s,t,u,v,w,x,y,z",
-    ),
+    (FULL_SET, "_", &["a"], FULL_SET),
+    ("n01..n63", "_", &["n65", "n64"], FULL_SET),
+    // Of those that come the node itself takes the place that is free, and then the least id.
+    (FULL_SET, "n07", &["0,a"], "a,n01..n06,n08..n64"),
+    (FULL_SET, "n07", &["n66", "n65"], "n01..n06,n08..n65"),
 ];
 
 #[test]
-fn members_leave_and_join_up_to_32(rt: HostRuntime) {
+fn members_leave_and_join_up_to_64(rt: HostRuntime) {
     for (at, change) in CHANGES.iter().enumerate() {
         assert!(rt; is_made(rt.alloc(), "a,b,c", *change), "row {at}");
     }
@@ -559,10 +560,10 @@ fn a_node_that_was_excluded_before_it_joins_does_not_vote(rt: HostRuntime) {
     }
 }
 
-const ONE_TOO_MANY: Change = ("_", "_", &[ALL_BUT_A, "a"], ALL_BUT_A);
+const ONE_TOO_MANY: Change = ("_", "_", &[FULL_SET, "a"], FULL_SET);
 
 #[test]
-fn a_33rd_member_is_left_out(rt: HostRuntime) {
+fn a_65th_member_is_left_out(rt: HostRuntime) {
     assert!(rt; is_made(rt.alloc(), "c", ONE_TOO_MANY));
 }
 

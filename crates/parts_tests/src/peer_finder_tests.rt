@@ -1,4 +1,5 @@
 //! Which peers are kept, and when they are asked. What is expected follows from docs/policy.md.
+use crate::names::{numbered, set};
 use peer_finder::*;
 use std::test::*;
 use voting_config::NodeId;
@@ -7,35 +8,24 @@ fn letter(letter: u8) -> NodeId {
     NodeId::from_bytes(&[letter]).unwrap_or_default()
 }
 
-fn numbered(number: u8) -> NodeId {
-    NodeId::from_bytes(&[b'n', b'0' + number / 10 % 10, b'0' + number % 10]).unwrap_or_default()
-}
-
-// Whether 31 peers are known, which are numbered from this one on.
-fn are_numbered(known: &[NodeId], first: u8) -> bool {
-    let mut number = first;
-    for id in known {
-        if *id != numbered(number) {
-            return false;
-        }
-        number = number.wrapping_add(1);
-    }
-    known.len() == 31
+// Whether these peers are known, in their order.
+fn are_known(finder: &PeerFinder, peers: &str) -> bool {
+    *finder.known() == *set(peers).as_slice()
 }
 
 #[test]
-fn a_32nd_peer_is_left_out(rt: HostRuntime) {
+fn a_64th_peer_is_left_out(rt: HostRuntime) {
     let mut finder = PeerFinder::new(letter(b'a'));
     finder.add(letter(b'a'));
-    for number in 1..33 {
+    for number in 1..=64 {
         finder.add(numbered(number));
     }
-    assert!(rt; are_numbered(finder.known(), 1), "32 were met");
+    assert!(rt; are_known(&finder, "n01..n63"), "64 were met");
     finder.add(numbered(5));
-    assert!(rt; are_numbered(finder.known(), 1), "one was met again");
+    assert!(rt; are_known(&finder, "n01..n63"), "one was met again");
     finder.forget(numbered(1));
-    finder.add(numbered(32));
-    assert!(rt; are_numbered(finder.known(), 2), "the first was forgotten");
+    finder.add(numbered(64));
+    assert!(rt; are_known(&finder, "n02..n64"), "the first was forgotten");
 }
 
 // What is done to a finder, or what it is then asked.

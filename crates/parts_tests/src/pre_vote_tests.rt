@@ -1,9 +1,9 @@
 //! Rounds of pre-votes, answer by answer. The answers follow from docs/policy.md.
-use crate::names::{config, id};
+use crate::names::{config, id, list};
 use cluster_state::StateId;
 use pre_vote::*;
 use std::test::*;
-use voting_config::{Roster, VotingConfig};
+use voting_config::{IdList, Roster, VotingConfig};
 
 fn version(version: u64) -> StateId {
     StateId { term: 1, version }
@@ -15,7 +15,7 @@ struct AnswerOf(&'static str, u64, u64);
 
 // What the last answer brings about in a round of node a, which is in term 4 and has accepted version 3 with these
 // voters, where the committed voters are a, b and c.
-fn last_added(answers: &[AnswerOf], voters: &VotingConfig) -> Option<Added> {
+fn last_added(answers: &[AnswerOf], voters: &IdList) -> Option<Added> {
     let mut round = PreVotes::start(id("a"), version(3), 4);
     let committed = config("a,b,c");
     let mut last = None;
@@ -29,7 +29,7 @@ fn added(
     round: &mut PreVotes,
     AnswerOf(node, term, last): AnswerOf,
     committed: &VotingConfig,
-    voters: &VotingConfig,
+    voters: &IdList,
 ) -> Option<Added> {
     let source = id(node);
     // The contract of add bounds the term; no row has one above 9.
@@ -59,18 +59,21 @@ const ROUNDS: &[(&[AnswerOf], Added)] = &[
 ];
 
 #[test]
-fn a_fresher_node_is_no_pre_vote_and_a_quorum_names_the_term(rt: HostRuntime) {
-    let voters = config("a,b,c");
+fn a_fresher_node_is_no_pre_vote_and_a_quorum_names_the_term(rt: HostRuntime) -> Result<(), Fail> {
+    let voters = list(rt.alloc(), "a,b,c")?;
     for row in ROUNDS {
         let (answers, want) = *row;
         assert!(rt; last_added(answers, &voters) == Some(want));
     }
+    Ok(())
 }
 
 #[test]
-fn a_pre_vote_needs_a_quorum_of_both_configurations(rt: HostRuntime) {
+fn a_pre_vote_needs_a_quorum_of_both_configurations(rt: HostRuntime) -> Result<(), Fail> {
     let answers = [AnswerOf("b", 4, 3)];
-    assert!(rt; last_added(&answers, &config("a,b,c,d")) == Some(Added::Counted));
+    let voters = list(rt.alloc(), "a,b,c,d")?;
+    assert!(rt; last_added(&answers, &voters) == Some(Added::Counted));
+    Ok(())
 }
 
 // Answers one after the other in a round of node a, the roster of its voters then, and the word of them over it. A node that is no voter
@@ -102,20 +105,22 @@ fn is_roster(roster: &Roster, wanted: &[&str]) -> bool {
     is_same
 }
 
-fn has_word(answers: &[AnswerOf], roster: &[&str], word: u64) -> bool {
+fn has_word(answers: &[AnswerOf], voters: &IdList, roster: &[&str], word: u64) -> bool {
     let mut round = PreVotes::start(id("a"), version(3), 4);
-    let voters = config("a,b,c");
+    let committed = config("a,b,c");
     for answer in answers {
-        let _ = added(&mut round, *answer, &voters, &voters);
+        let _ = added(&mut round, *answer, &committed, voters);
     }
     is_roster(round.roster(), roster) && round.word() == word
 }
 
 #[test]
-fn voters_are_bits_in_the_order_of_their_votes(rt: HostRuntime) {
+fn voters_are_bits_in_the_order_of_their_votes(rt: HostRuntime) -> Result<(), Fail> {
+    let voters = list(rt.alloc(), "a,b,c")?;
     for (at, (answers, roster, word)) in WORDS.iter().enumerate() {
-        assert!(rt; has_word(answers, roster, *word), "row {at}");
+        assert!(rt; has_word(answers, &voters, roster, *word), "row {at}");
     }
+    Ok(())
 }
 
 #[test]

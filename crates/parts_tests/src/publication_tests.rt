@@ -1,6 +1,6 @@
 //! A publication from its start to its end, in time and late. The moments were worked out from the time that docs/policy.md
 //! gives a publication.
-use crate::names::{id, set};
+use crate::names::{id, list, set};
 use cluster_state::StateId;
 use publication::*;
 use std::test::*;
@@ -89,10 +89,12 @@ const CALLS: &[Call] = &[
 ];
 
 #[test]
-fn a_publication_fails_after_30_seconds_or_names_its_laggards(rt: HostRuntime) {
-    let mut publication = Publication::start(state(2), &set("a,b"), 100);
+fn a_publication_fails_after_30_seconds_or_names_its_laggards(rt: HostRuntime) -> Result<(), Fail> {
+    let targets = list(rt.alloc(), "a,b")?;
+    let mut publication = Publication::start(state(2), &targets, 100);
     for (at, call) in CALLS.iter().enumerate() {
         act(&mut publication, *call);
         assert!(rt; holds(&publication, *call), "call {at}");
     }
+    Ok(())
 }

@@ -155,6 +155,20 @@ const FAULTS: &[(&str, &[(usize, u8)], &[u8], usize, Option<FrameError>)] = &[
     ),
     ("an empty state", &[(4, 17)], &[], 1, None),
     (
+        "64 known peers, the first without a letter",
+        &[(4, 7), (9, 64)],
+        &[],
+        0,
+        Some(FrameError::Field(FieldError::BadId)),
+    ),
+    (
+        "65 known peers",
+        &[(4, 7), (9, 65)],
+        &[],
+        0,
+        Some(FrameError::Field(FieldError::TooMany)),
+    ),
+    (
         "a state that is its own parent",
         &[(3, 45), (4, 17), (16, 0), (25, 1)],
         &[0; 16],
@@ -395,7 +409,7 @@ fn message(alloc: Global, kind: Kind) -> Result<WireMessage, AllocError>
 fn publish(alloc: Global) -> Result<WireMessage, AllocError>
     ensures { IfOk result IsFitMessage }
 {
-    let state = ClusterState::initial(alloc, &set("a"));
+    let state = ClusterState::initial(alloc, &set("a"))?;
     Ok(WireMessage::Publish(SharedState::spell(alloc, state)?))
 }
 
