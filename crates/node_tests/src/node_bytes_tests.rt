@@ -161,7 +161,7 @@ fn blanks(alloc: Global, length: usize) -> Result<String, AllocError> {
 
 // The first state, with one setting, whose key and text have so many bytes.
 fn state(alloc: Global, key: usize, text: usize) -> Result<SharedState, AllocError> {
-    let mut state = ClusterState::initial(alloc, &NodeSet::new());
+    let mut state = ClusterState::initial(alloc, &NodeSet::new())?;
     put(&mut state, &blanks(alloc, key)?, &blanks(alloc, text)?)?;
     SharedState::of(alloc, state)
 }
