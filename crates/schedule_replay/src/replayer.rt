@@ -1,7 +1,6 @@
 //! `Replayer`: the nodes of a schedule of level core, and the messages that they have sent.
-ghost use Rattle.std.specs.Prelude.{◌≡◌, ◌<◌, ◌≤◌, ◌∷◌, ◌++◌, OnOk, IfOk, ℕ, List, [], None, true, length, map, codes};
+ghost use Rattle.std.specs.Prelude.{◌≡◌, ◌<◌, ◌≤◌, ◌++◌, OnOk, IfOk, ℕ, List, [], None, true, length};
 ghost use Rattle.voting_config.specs.Ids.{Id, has};
-ghost use Rattle.cluster_state.specs.Initial.{empty_value};
 ghost use Rattle.world_model.specs.declared.acts.Act.{Act};
 ghost use Rattle.world_model.specs.declared.acts.Act.TheVariants as act;
 ghost use Rattle.schedule_text.specs.declared.level.Level.TheVariants.{Core};
