@@ -20,7 +20,7 @@ use cluster_state::{
 use schedule_text::{ReadError, WhyBad, four_words, one_word, three_words, two_words};
 use std::alloc::{AllocError, Global};
 use voting_config::{IdList, NodeId, NodeSet, VotingConfig, cut};
-use world_model::Act;
+use world_model::{Act, BoxedKept};
 
 // The act by which a node takes this configuration.
 fn bootstrap(alloc: Global, config: &NodeSet) -> Result<Act, AllocError>
@@ -219,7 +219,7 @@ fn shown_record(
     id: StateId,
     config: &NodeSet,
     committed: &NodeSet,
-) -> Result<Kept, AllocError>
+) -> Result<BoxedKept, AllocError>
     ensures { IfOk result (λ k. k ≡ shown_record_of term id config.now committed.now) }
 {
     let state = ClusterState {
@@ -231,14 +231,18 @@ fn shown_record(
         value: ClusterValue::empty(alloc),
     };
     let accepted = SharedState::of(alloc, state)?;
-    Ok(Kept {
-        term,
-        accepted,
-        committed: VotingConfig::of(committed),
-    })
+    let committed = VotingConfig::of(committed);
+    BoxedKept::of(
+        alloc,
+        Kept {
+            term,
+            accepted,
+            committed,
+        },
+    )
 }
 
-fn found(alloc: Global, rest: Option<&[u8]>) -> Result<Kept, ReadError<WhyBad>>
+fn found(alloc: Global, rest: Option<&[u8]>) -> Result<BoxedKept, ReadError<WhyBad>>
     ensures { Answers result (found_at (parts_in space rest.entry)) }
 {
     let (term, id, config, committed) = four_words(rest)?;

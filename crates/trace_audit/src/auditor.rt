@@ -267,7 +267,7 @@ impl Auditor {
     {
         match entry {
             Entry::Acted(id, ending, act) => self.acted(*id, *ending, act),
-            Entry::Recorded(id, shown) => self.recorded(*id, shown),
+            Entry::Recorded(id, shown) => self.recorded(*id, shown.kept()),
         }
     }
 
