@@ -14,7 +14,7 @@ shorter x (y ∷ ys) h =
       | false ↦ λ k. let lower = shorter x ys k in omega (arith, lower)
     ] h
 
--- two sets of at most 32 ids together, one of which has the id, or which have room for it
+-- two sets of at most 64 ids together, one of which has the id, or which have room for it
 pub record HasRoom (x : Id) (to from : List Id) : Type 0 where
   pub room : (has x to || has x from || nat_lt (length to + length from) most_ids) ≡ true
   pub within : length to + length from ≤ most_ids

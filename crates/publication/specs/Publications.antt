@@ -31,7 +31,7 @@ abbrev pub start_of : Calls → ℕ
 start_of (Started id targets now) = now
 start_of (Then calls call) = start_of calls
 
--- who has responded: the first 32 of them
+-- who has responded: the first 64 of them
 abbrev pub responders_of : Calls → List Id
 responders_of (Started id targets now) = []
 responders_of (Then calls (Responded source)) = with_room (responders_of calls) source

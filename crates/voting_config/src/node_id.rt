@@ -26,7 +26,7 @@ pub enum IdError {
 #[derive(Clone, Copy)]
 pub struct NodeId {
     // Behind an id of fewer than 32 bytes stand zeros, and in the last place how many bytes it has, which is less than any byte of an id.
-    // So its length takes no place of its own, of which a set would have 32.
+    // So its length takes no place of its own, of which a set would have 64.
     bytes: [u8; 32],
 }
 
