@@ -94,7 +94,7 @@ impl<'a> Ids<'a> {
 
 /// A set of listed nodes, a bit for each: a voting configuration, or votes.
 #[derive(Clone, Copy, Default, PartialEq, Eq)]
-struct NodeSet(u32);
+struct NodeSet(u64);
 
 impl NodeSet {
     fn is_empty(self) -> bool {
