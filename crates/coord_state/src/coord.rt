@@ -280,10 +280,12 @@ impl<K: Keeper> CoordState<K> {
             return Err(ActError::Refused(cause, ()));
         }
         self.join_votes.add(j.source);
-        let elected = self
-            .join_votes
-            .is_quorum_with_state(&kept.committed, &kept.accepted.config);
-        if self.election_won || !elected {
+        // A node that has won compares no configuration again.
+        let wins = !self.election_won
+            && self
+                .join_votes
+                .is_quorum_with_state(&kept.committed, &kept.accepted.config);
+        if !wins {
             return Ok(Joined { won: false });
         }
         self.published_version = kept.accepted.version;
