@@ -3,6 +3,8 @@ use Rattle.std.specs.Prelude.{ℕ, ◌+◌, List, [], ◌∷◌, ◌++◌, codes
 use Rattle.node_trial.specs.declared.node.Trial.{Trial}
 use Rattle.node_trial.specs.declared.node.TrialNode.{TrialNode}
 use Rattle.node_trial.specs.declared.node.TrialNode.TheVariants as node
+use Rattle.node_trial.specs.declared.node.Word.{Word}
+use Rattle.node_trial.specs.declared.node.Word.TheVariants as word
 
 -- what is tried: the program, the folder, the port of the first node, and after how many inputs a node ends
 pub record ToldTrial : Type 0 where
@@ -46,6 +48,15 @@ peers_of first n = peer first (others_of n).0 ++ codes "," ++ peer first (others
 
 abbrev pub folder_of : List ℕ → TrialNode → List ℕ
 folder_of dir n = dir ++ codes "/" ++ name_of n
+
+-- a word that runs a node
+abbrev pub text_of_word : ToldTrial → TrialNode → Word → List ℕ
+text_of_word t n (word.Fixed text) = text.now
+text_of_word t n word.Id = name_of n
+text_of_word t n word.Folder = folder_of t.dir n
+text_of_word t n word.Address = address t.port n
+text_of_word t n word.Peers = peers_of t.port n
+text_of_word t n word.Turns = decimal t.turns
 
 -- the words that run a node
 abbrev pub words_of : ToldTrial → TrialNode → List (List ℕ)

@@ -1,6 +1,6 @@
 //! The three nodes of a trial, and the words that run each.
 ghost use Rattle.std.specs.Prelude.{◌≡◌, [], ◌∷◌, ◌++◌, map, string_bytes, decimal, IfOk, OnOk};
-ghost use Rattle.node_trial.specs.Nodes.{told_trial, name_of, others_of, port_of, address, peer, folder_of, peers_of, words_of};
+ghost use Rattle.node_trial.specs.Nodes.{told_trial, name_of, others_of, port_of, address, peer, folder_of, peers_of, text_of_word, words_of};
 
 use itoa::Buffer;
 use std::alloc::{AllocError, Global};
@@ -119,13 +119,66 @@ fn folder(alloc: Global, dir: &str, node: TrialNode) -> Result<String, AllocErro
     Ok(text)
 }
 
-// Adds an option and its value.
-fn add(alloc: Global, words: &mut Vec<String>, name: &str, value: String) -> Result<(), AllocError>
-    ensures { OnOk result (map string_bytes words.new.items ≡ map string_bytes words.old.items ++ name.now ∷ string_bytes value ∷ []) }
+// A word that runs a node.
+#[derive(Clone, Copy)]
+enum Word {
+    // The same for each node.
+    Fixed(&'static str),
+    Id,
+    Folder,
+    Address,
+    Peers,
+    Turns,
+}
+
+// The words that run a node: each option is followed by its value.
+const WORDS: [Word; 13] = [
+    Word::Fixed("node"),
+    Word::Fixed("--id"),
+    Word::Id,
+    Word::Fixed("--dir"),
+    Word::Folder,
+    Word::Fixed("--listen"),
+    Word::Address,
+    Word::Fixed("--peers"),
+    Word::Peers,
+    Word::Fixed("--initial"),
+    Word::Fixed("a,b,c"),
+    Word::Fixed("--turns"),
+    Word::Turns,
+];
+
+fn word_text(
+    alloc: Global,
+    trial: &Trial<'_>,
+    node: TrialNode,
+    word: Word,
+) -> Result<String, AllocError>
+    ensures { IfOk result (λ text. string_bytes text ≡ text_of_word (told_trial trial.now) node word) }
 {
-    words.push(String::from_str(alloc, name)?)?;
-    words.push(value)?;
-    Ok(())
+    match word {
+        Word::Fixed(text) => String::from_str(alloc, text),
+        Word::Id => String::from_str(alloc, node.name()),
+        Word::Folder => folder(alloc, trial.dir, node),
+        Word::Address => listen(alloc, trial.port, node),
+        Word::Peers => peers(alloc, trial.port, node),
+        Word::Turns => number(alloc, trial.turns),
+    }
+}
+
+fn word_texts(
+    alloc: Global,
+    trial: &Trial<'_>,
+    node: TrialNode,
+    words: &[Word],
+) -> Result<Vec<String>, AllocError>
+    ensures { IfOk result (λ texts. map string_bytes texts.items ≡ map (text_of_word (told_trial trial.now) node) words.now) }
+{
+    let mut texts = Vec::new(alloc);
+    for word in words {
+        texts.push(word_text(alloc, trial, node, *word)?)?;
+    }
+    Ok(texts)
 }
 
 /// The words that run a node.
@@ -136,33 +189,5 @@ pub fn node_words(
 ) -> Result<Vec<String>, AllocError>
     ensures { IfOk result (λ words. map string_bytes words.items ≡ words_of (told_trial trial.now) node) }
 {
-    let mut words = Vec::new(alloc);
-    words.push(String::from_str(alloc, "node")?)?;
-    add(
-        alloc,
-        &mut words,
-        "--id",
-        String::from_str(alloc, node.name())?,
-    )?;
-    add(alloc, &mut words, "--dir", folder(alloc, trial.dir, node)?)?;
-    add(
-        alloc,
-        &mut words,
-        "--listen",
-        listen(alloc, trial.port, node)?,
-    )?;
-    add(
-        alloc,
-        &mut words,
-        "--peers",
-        peers(alloc, trial.port, node)?,
-    )?;
-    add(
-        alloc,
-        &mut words,
-        "--initial",
-        String::from_str(alloc, "a,b,c")?,
-    )?;
-    add(alloc, &mut words, "--turns", number(alloc, trial.turns)?)?;
-    Ok(words)
+    word_texts(alloc, trial, node, &WORDS)
 }
