@@ -7,7 +7,7 @@ use Rattle.zen_disk.specs.Runs.{CallsMade, ran_on, ran_failed}
 use Rattle.zen_disk.specs.declared.side.Side.{Side}
 use Rattle.gate_log.specs.declared.open.SideError.{SideError}
 use Rattle.gate_log.specs.declared.open.SideError.TheVariants as error
-use Rattle.gate_log.specs.Opening.{DidNotFail, SideRan, RanUntil, refusal_of}
+use Rattle.gate_log.specs.Opening.{DidNotFail, IsSideFault, IsUnread, SideRan, RanUntil, refusal_of}
 use Rattle.gate_log.specs.declared.error.LogError.TheVariants.{NotAJournal}
 use Rattle.gate_log.specs.declared.why.Why.{Why}
 use Rattle.gate_log.specs.declared.why.Why.TheVariants.{Twin}
@@ -48,6 +48,22 @@ module _ {D : Type 0} (moves : D → DeviceCall → D → Bool → Type 0) (side
   refused_ran old new (error.Fault fault) calm ran = ran
   refused_ran old new error.Memory calm ran = inr ran
   refused_ran old new error.Failed calm ran = absurd calm
+
+  -- the bytes were not read
+  pub unread_ran : (old mid new : D) (len : ℕ) (e : SideError) → 9 < length file → len ≡ length file
+      → CallsMade moves (preparing_calls side file) old mid true → IsUnread moves side len mid new e → SideRan moves side file old new e
+  unread_ran old mid new len (error.Fault fault) long size ran unread = absurd unread
+  unread_ran old mid new len error.Memory long size ran unread =
+      inl (subst (λ (d : D). CallsMade moves (Sync side ∷ Len side ∷ []) old d true) (sym unread)
+      (subst (λ (calls : List DeviceCall). CallsMade moves (Sync side ∷ Len side ∷ calls) old mid true)
+      (cond-false (nat_le (length file) 9) fresh [] (lt-leb (length file) 9 long)) ran))
+  unread_ran old mid new len error.Failed long size ran unread =
+      read_ran old mid new false long ran (subst (λ (n : ℕ). moves mid (Read side 0 n) new false) size unread)
+
+  pub unread_is_no_fault : (mid new : D) (len : ℕ) (e : SideError) → IsUnread moves side len mid new e → IsSideFault side file e
+  unread_is_no_fault mid new len (error.Fault fault) unread = absurd unread
+  unread_is_no_fault mid new len error.Memory unread = tt
+  unread_is_no_fault mid new len error.Failed unread = tt
 
 -- a refused opening of both sides
 module _ {D : Type 0} (moves : D → DeviceCall → D → Bool → Type 0) (files : Files) where

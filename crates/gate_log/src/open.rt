@@ -1,12 +1,12 @@
 //! The opening of a side: it is synced, given a header where it has room for no more, and read.
-ghost use Rattle.std.specs.Prelude.{◌≡◌, ◌+◌, ◌^◌, ◌≤◌, ◌<◌, ◌++◌, ◌∷◌, [], List, ℕ, is_ok, length, vec_len, OnOk, IfOk, IfErr, IsErrOf, Ok, true, false, None};
+ghost use Rattle.std.specs.Prelude.{◌≡◌, ◌+◌, ◌^◌, ◌≤◌, ◌<◌, ◌++◌, ◌∷◌, [], List, ℕ, is_ok, length, vec_len, OnOk, IfOk, IfErr, Ok, true, false, None};
 ghost use Rattle.gate_log.specs.Calls.{preparing_calls, opening_calls};
 ghost use Rattle.gate_log.specs.Generations.{disorder as spec_disorder, StandsAsSome};
 ghost use Rattle.gate_log.specs.Journal.{header, bodies_of, IsLaid};
 ghost use Rattle.gate_log.specs.Opened.{lists};
-ghost use Rattle.gate_log.specs.Opening.{IsSideFault, DidNotFail, SideRose, SideRan};
+ghost use Rattle.gate_log.specs.Opening.{IsSideFault, IsUnread, DidNotFail, SideRose, SideRan};
 ghost use Rattle.zen_disk.specs.DeviceCall.{Len, Read, Sync};
-ghost use Rattle.zen_disk.specs.Faults.{Rose, HasCause};
+ghost use Rattle.zen_disk.specs.Faults.{HasCause};
 ghost use Rattle.zen_disk.specs.Moments.{Within, LeavesOnly};
 ghost use Rattle.zen_disk.specs.Runs.{CallsMade};
 ghost use Rattle.zen_disk.specs.Sides.{on, other, OnlyOn};
@@ -21,15 +21,9 @@ use zen_disk::{Disks, Failed, Side};
 const FRESH: [u8; 9] = *b"ZENJRNL1\0";
 
 // Why a side is not opened.
-#[derive(Clone, Copy, Debug)]
+#[derive(Clone, Copy)]
 pub(crate) enum SideError {
     Fault(Fault),
-    Memory,
-    Failed,
-}
-
-#[derive(Clone, Copy, Debug)]
-pub(crate) enum ReadError {
     Memory,
     Failed,
 }
@@ -83,7 +77,7 @@ pub(crate) fn read_all<D: Disks>(
     disk: &mut D,
     side: Side,
     len: u64,
-) -> Result<Vec<u8>, ReadError>
+) -> Result<Vec<u8>, SideError>
     requires { D.told → len ≡ length (on side (D.seen disk.old)) }
     ensures len { IfOk result (λ bytes. vec_len bytes ≡ len) }
     ensures bytes { D.told → IfOk result (λ bytes. bytes.items ≡ on side (D.seen disk.old)) }
@@ -91,16 +85,15 @@ pub(crate) fn read_all<D: Disks>(
     ensures crash { Within (D.may_leave disk.old) (D.may_leave disk.new) }
     ensures any_moment { LeavesOnly D.moment D.left_since disk.old disk.new (D.may_leave disk.old) }
     ensures moves { OnOk result (D.moves disk.old (Read side 0 len) disk.new true) }
-    ensures failed { IsErrOf result ReadError.Failed → D.moves disk.old (Read side 0 len) disk.new false }
-    ensures memory { IsErrOf result ReadError.Memory → disk.new ≡ disk.old }
+    ensures unread { IfErr result (IsUnread D.moves side len disk.old disk.new) }
     ensures later { D.faults disk.old ≤ D.faults disk.new }
-    ensures cause { IsErrOf result ReadError.Failed → Rose (D.faults disk.old) (D.faults disk.new) }
+    ensures cause { IfErr result (SideRose (D.faults disk.old) (D.faults disk.new)) }
 {
     let Ok(mut bytes) = vec![in alloc; 0; len as usize] else {
-        return Err(ReadError::Memory);
+        return Err(SideError::Memory);
     };
     let Ok(()) = disk.read(side, 0, &mut bytes) else {
-        return Err(ReadError::Failed);
+        return Err(SideError::Failed);
     };
     Ok(bytes)
 }
@@ -156,12 +149,7 @@ pub(crate) fn open_side<D: Disks>(
     }
     let bytes = match read_all(alloc, disk, side, len) {
         Ok(bytes) => bytes,
-        Err(ReadError::Memory) => return Err(SideError::Memory),
-        Err(ReadError::Failed) => return Err(SideError::Failed),
+        Err(error) => return Err(error),
     };
-    // The match changes nothing: the proof goes by its two cases.
-    match scan_side(alloc, side, &bytes) {
-        Ok(scanned) => Ok(scanned),
-        Err(error) => Err(error),
-    }
+    scan_side(alloc, side, &bytes)
 }
