@@ -1,21 +1,22 @@
 -- What the bodies of one side make of the record.
-use Rattle.std.proofs.Common.{◌≡◌, ℕ, ◌+◌, ◌<◌, List, [], ◌∷◌, ◌++◌, length, Ok, Err, refl, sym, ◌∙◌, ap, subst, Bool, true, false, get_or, drop}
+use Rattle.std.proofs.Common.{◌≡◌, ℕ, ◌+◌, ◌<◌, List, [], ◌∷◌, ◌++◌, length, Ok, Err, refl, sym, ◌∙◌, ap, subst, Bool, true, false, get_or, drop, arith}
 use Rattle.std.specs.declared.alloc.Global.{Global}
 use Rattle.std.proofs.lemmas.List.{drop_more}
 use Rattle.gate_log.specs.Opened.{lists}
 use Rattle.std.specs.Prelude.{Result, Vec, Option, None, not, ◌&&◌}
 use Rattle.std.proofs.Math.Bool.{and-false}
-use Rattle.std.proofs.lemmas.Bool.{cond-true}
+use Rattle.std.proofs.lemmas.Bool.{cond-true, ltb-true, leb-true}
 use Rattle.cluster_state.specs.declared.state.Kept.{Kept}
 use Rattle.state_journal.specs.Bodies.{is_guarded, guard_fault, body_of, change_at}
 use Rattle.state_journal.specs.Changes.{changed}
 use Rattle.state_journal.specs.Journal.{in_order, unless, with_change, with_body, goes_on_with, folded_from}
-use Rattle.state_journal.specs.Reads.{error_at, IsBodyError, IsFoldError}
+use Rattle.state_journal.specs.Reads.{error_at, IsBodyError, IsFitChange, IsFitRecord, IsFoldError}
 use Rattle.state_journal.specs.declared.body.BodyError.{BodyError}
 use Rattle.state_journal.specs.declared.body.BodyError.TheVariants.{Memory, Fault as BodyFaultOf}
 use Rattle.state_journal.specs.declared.fold.FoldError.{FoldError}
 use Rattle.state_journal.specs.declared.fold.FoldError.TheVariants.{Memory as NoMemory, Fault as FoldFault}
 use Rattle.state_journal.specs.declared.change.Change.{Change}
+use Rattle.state_journal.specs.declared.change.Change.TheVariants.{Term, Accepted, Committed, Renewed}
 use Rattle.state_journal.specs.declared.why.BodyFault.{BodyFault}
 use Rattle.state_journal.specs.declared.why.Fault.{Fault}
 use Rattle.state_journal.proofs.Spelled.{body_sound, body_guarded}
@@ -39,6 +40,17 @@ makes p after kept change reads order =
     ∙ (λ i. with_change p (after && not (body_guarded change i)) kept (reads i))
     ∙ ap (λ (late : Bool). with_change p late kept (Ok change)) (and-false after)
     ∙ in_time p kept change order
+
+-- what is in order leaves a record within the limits
+pub changed_fits : (kept : Kept) (change : Change) → IsFitRecord kept → IsFitChange change → in_order kept change ≡ true → IsFitRecord (changed kept change)
+changed_fits kept (Term term) was fits order = record { bounded = fits; fit = was.fit; older = omega (arith, was.older, ltb-true kept.term term order) }
+changed_fits kept (Accepted state) was fits order = record { bounded = was.bounded; fit = fits; older = leb-true state.term kept.term order }
+changed_fits kept Committed was fits order = record { bounded = was.bounded; fit = was.fit; older = was.older }
+changed_fits kept (Renewed generation) was fits order = record {
+  bounded = fits.0;
+  fit = fits.1;
+  older = leb-true generation.kept.accepted.term generation.kept.term order;
+}
 
 module _ (body : List ℕ) (last next : Kept) (more : (p : ℕ) (after : Bool) → with_body p after last body ≡ Ok next) where
   step : (r : Result Kept Fault) (bodies : List (List ℕ)) (p : ℕ) (after : Bool) → ((k : Kept) → folded_from p after k bodies ≡ Ok last → folded_from p after k (bodies ++ body ∷ []) ≡ Ok next)

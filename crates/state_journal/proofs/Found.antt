@@ -1,5 +1,5 @@
 -- The record that two files stand for.
-use Rattle.std.proofs.Common.{◌≡◌, ◌⊎◌, ℕ, List, [], ◌∷◌, ◌++◌, length, Ok, Err, sym, ◌∙◌, ap, inl, inr, ⊎_elim, subst, Bool, true}
+use Rattle.std.proofs.Common.{◌≡◌, ◌⊎◌, ℕ, List, [], ◌∷◌, ◌++◌, length, Ok, Err, refl, sym, ◌∙◌, ap, inl, inr, ⊎_elim, subst, Bool, true}
 use Rattle.std.specs.Prelude.{Result}
 use Rattle.std.specs.Result.{result_ok, result_unwrap_or}
 use Rattle.std.proofs.lemmas.List.{append-nil}
@@ -9,6 +9,7 @@ use Rattle.zen_disk.specs.declared.side.Side.TheVariants.{Zero, One}
 use Rattle.cluster_state.specs.declared.state.Kept.{Kept}
 use Rattle.zen_disk.specs.DeviceCall.{DeviceCall}
 use Rattle.zen_disk.specs.Runs.{CallsMade}
+use Rattle.gate_log.specs.Calls.{both_opening_calls}
 use Rattle.gate_log.specs.Opening.{RanPartly}
 use Rattle.gate_log.specs.Folded.{both_read, read_on, found_by}
 use Rattle.gate_log.specs.Generations.{Generations, generations_of, in_use, no_generations, standing_in, appended, renewed}
@@ -17,6 +18,10 @@ use Rattle.gate_log.proofs.Folded.{are_read, used, switched}
 use Rattle.state_journal.specs.Bodies.{holds_old}
 use Rattle.state_journal.specs.Changes.{IsEither}
 use Rattle.state_journal.specs.Journal.{record_of_bodies, on_its_side, found_in, found_of, record_of_files, records_of}
+use Rattle.state_journal.specs.Opening.{RanUntil, calls_until}
+use Rattle.state_journal.specs.Reads.{refusal_of}
+use Rattle.state_journal.specs.declared.fold.FoundError.{FoundError}
+use Rattle.state_journal.specs.declared.fold.FoundError.TheVariants as error
 use Rattle.state_journal.specs.declared.why.Fault.{Fault}
 use Rattle.state_journal.specs.declared.why.Why.{Why}
 
@@ -60,3 +65,11 @@ ages files g is = ap (λ (r : Result Generations LogWhy). holds_old (in_use (res
 -- all the calls were made
 pub ran_all : {D : Type 0} (moves : D → DeviceCall → D → Bool → Type 0) (calls : List DeviceCall) (old new now : D) → now ≡ new → CallsMade moves calls old new true → RanPartly moves calls old now
 ran_all moves calls old new now same ran = (calls, [], append-nil calls, subst (λ d. CallsMade moves calls old d true) (sym same) ran)
+
+-- ---- an opening of files whose bodies make no record
+
+pub not_found_ran : {D : Type 0} (moves : D → DeviceCall → D → Bool → Type 0) (files : Files) (g : Generations) (e : FoundError) (old new : D)
+    → generations_of files ≡ Ok g → CallsMade moves (both_opening_calls files) old new true → RanUntil moves files old (refusal_of e new)
+not_found_ran moves files g error.Memory old new is ran = ran_all moves (both_opening_calls files) old new new refl ran
+not_found_ran moves files g (error.Fault why) old new is ran =
+    subst (λ (r : Result Generations LogWhy). CallsMade moves (calls_until r files) old new true) (sym is) ran

@@ -1,7 +1,8 @@
 -- For the contracts inside: what reading bodies gives, unless memory ran out.
-use Rattle.std.specs.Prelude.{◌≡◌, ℕ, ◌≤◌, Result, Ok, Err}
-use Rattle.cluster_state.specs.Field.{last_number}
-use Rattle.cluster_state.specs.States.{IsFit}
+use Rattle.std.specs.Prelude.{◌≡◌, ℕ, ◌≤◌, Bool, true, false, Result, Ok, Err}
+use Rattle.cluster_state.specs.Field.{Field as FieldOf, last_number}
+use Rattle.cluster_state.specs.States.{state, IsFit}
+use Rattle.cluster_state.specs.declared.state.ClusterState.{ClusterState}
 use Rattle.cluster_state.specs.declared.fault.StateFault.{StateFault}
 use Rattle.cluster_state.specs.declared.fault.StateFault.TheVariants as fault
 use Rattle.cluster_state.specs.declared.fault.ReadError.{ReadError}
@@ -9,6 +10,7 @@ use Rattle.cluster_state.specs.declared.fault.ReadError.TheVariants as reading
 use Rattle.cluster_state.specs.declared.fault.DecodeError.{DecodeError}
 use Rattle.cluster_state.specs.declared.fault.DecodeError.TheVariants as decoding
 use Rattle.cluster_state.specs.declared.state.Kept.{Kept}
+use Rattle.state_journal.specs.Bodies.{old_state}
 use Rattle.state_journal.specs.declared.change.Change.{Change}
 use Rattle.state_journal.specs.declared.change.Change.TheVariants.{Term, Accepted, Committed, Renewed}
 use Rattle.state_journal.specs.declared.why.BodyFault.{BodyFault}
@@ -24,6 +26,13 @@ use Rattle.state_journal.specs.declared.fold.FoldError.{FoldError}
 use Rattle.state_journal.specs.declared.fold.FoldError.TheVariants as fold
 use Rattle.state_journal.specs.declared.fold.FoundError.{FoundError}
 use Rattle.state_journal.specs.declared.fold.FoundError.TheVariants as found
+use Rattle.state_journal.specs.declared.error.OpenError.{OpenError}
+use Rattle.state_journal.specs.declared.error.OpenError.TheVariants as refused
+
+-- a state, of version 1 where it is old
+abbrev pub state_of : Bool → FieldOf ClusterState
+state_of true = old_state
+state_of false = state
 
 abbrev pub fault_by : StateFault → BodyFault
 fault_by (fault.Field e) = Field e
@@ -70,6 +79,11 @@ IsFoundError (found.Fault why) read = read ≡ Err why
 abbrev pub FindsRecord : Result Kept FoundError → Result Kept Why → Type 0
 FindsRecord (Ok kept) read = read ≡ Ok kept
 FindsRecord (Err e) read = IsFoundError e read
+
+-- the answer to files whose bodies make no record
+abbrev pub refusal_of : {D : Type 0} → FoundError → D → OpenError D
+refusal_of found.Memory disk = refused.Memory disk
+refusal_of (found.Fault why) disk = refused.NotAJournal why disk
 
 -- a change within the limits
 abbrev pub IsFitChange : Change → Type 0

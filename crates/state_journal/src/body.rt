@@ -3,8 +3,8 @@ ghost use Rattle.std.specs.Prelude.{◌≡◌, ◌≤◌, ◌==◌, length, Ok, 
 ghost use Rattle.cluster_state.specs.Faults.{ReadsInMemory};
 ghost use Rattle.cluster_state.specs.Fields.{term as term_field};
 ghost use Rattle.cluster_state.specs.States.{whole, state as state_field};
-ghost use Rattle.state_journal.specs.Bodies.{body_of, guarded, guard_fault as spec_guard_fault, is_guarded as spec_is_guarded, nothing_more, change_in, change_at, change_by, change_tagged, generation as generation_field, old_state as old_state_field, old_generation as old_generation_field};
-ghost use Rattle.state_journal.specs.Reads.{error_by, error_from, ReadsChange, IsFitChange};
+ghost use Rattle.state_journal.specs.Bodies.{body_of, guarded, guard_fault as spec_guard_fault, is_guarded as spec_is_guarded, nothing_more, change_in, change_at, change_by, change_tagged, generation_of, old_state as old_state_field};
+ghost use Rattle.state_journal.specs.Reads.{error_by, error_from, state_of as spec_state_of, ReadsChange, IsFitChange};
 ghost use Rattle.state_journal.specs.declared.change.Change.TheVariants as change;
 ghost use Rattle.state_journal.specs.declared.why.BodyFault.TheVariants as fault;
 ghost use Rattle.state_journal.specs.declared.body.BodyError.TheVariants as body_error;
@@ -22,7 +22,7 @@ use voting_config::MAX_IDS;
 pub(crate) const DIGEST: usize = 32;
 
 // Why a change was not read.
-#[derive(Clone, Copy, Debug)]
+#[derive(Clone, Copy)]
 pub(crate) enum BodyError {
     Memory,
     Fault(BodyFault),
@@ -176,6 +176,20 @@ fn old_state<'a>(alloc: Global, reader: &mut Reader<'a>) -> Result<ClusterState,
     })
 }
 
+// A state, of version 1 where it is old.
+fn state_of<'a>(
+    alloc: Global,
+    reader: &mut Reader<'a>,
+    old: bool,
+) -> Result<ClusterState, ReadError>
+    ensures { ReadsInMemory result reader.new ((spec_state_of old).at reader.old) }
+{
+    if old {
+        return old_state(alloc, reader);
+    }
+    reader.state(alloc)
+}
+
 // A term and nothing else.
 fn read_term(bytes: &[u8]) -> Result<Change, BodyError>
     ensures reads { ReadsChange result (change_by change.Term (whole (term_field.at bytes.now))) }
@@ -229,14 +243,15 @@ fn read_committed(bytes: &[u8]) -> Result<Change, BodyError>
     Ok(Change::Committed)
 }
 
-// A generation and nothing else, as its fields are spelled. `read_generation` only calls it, and adds that what is read fits.
-fn whole_generation(alloc: Global, bytes: &[u8]) -> Result<Change, BodyError>
-    ensures { ReadsChange result (change_by change.Renewed (whole (generation_field.at bytes.now))) }
+// A generation, of version 1 where it is old, and nothing else, as its fields are spelled. `read_generation` only calls it, and adds that
+// what is read fits.
+fn whole_generation(alloc: Global, bytes: &[u8], old: bool) -> Result<Change, BodyError>
+    ensures { ReadsChange result (change_by change.Renewed (whole ((generation_of (spec_state_of old)).at bytes.now))) }
 {
     let mut reader = Reader::new(bytes);
     let epoch = reader.version()?;
     let term = reader.term()?;
-    let accepted = SharedState::of(alloc, reader.state(alloc)?)?;
+    let accepted = SharedState::of(alloc, state_of(alloc, &mut reader, old)?)?;
     let committed = reader.id_list(alloc, MAX_IDS as u8)?;
     if !reader.is_at_end() {
         return Err(BodyError::Fault(BodyFault::Trailing));
@@ -249,39 +264,12 @@ fn whole_generation(alloc: Global, bytes: &[u8]) -> Result<Change, BodyError>
     }))
 }
 
-// A generation and nothing else.
-fn read_generation(alloc: Global, bytes: &[u8]) -> Result<Change, BodyError>
-    ensures reads { ReadsChange result (change_by change.Renewed (whole (generation_field.at bytes.now))) }
+// A generation, of version 1 where it is old, and nothing else.
+fn read_generation(alloc: Global, bytes: &[u8], old: bool) -> Result<Change, BodyError>
+    ensures reads { ReadsChange result (change_by change.Renewed (whole ((generation_of (spec_state_of old)).at bytes.now))) }
     ensures fit { IfOk result IsFitChange }
 {
-    whole_generation(alloc, bytes)
-}
-
-// The same of version 1.
-fn whole_old_generation(alloc: Global, bytes: &[u8]) -> Result<Change, BodyError>
-    ensures { ReadsChange result (change_by change.Renewed (whole (old_generation_field.at bytes.now))) }
-{
-    let mut reader = Reader::new(bytes);
-    let epoch = reader.version()?;
-    let term = reader.term()?;
-    let accepted = SharedState::of(alloc, old_state(alloc, &mut reader)?)?;
-    let committed = reader.id_list(alloc, MAX_IDS as u8)?;
-    if !reader.is_at_end() {
-        return Err(BodyError::Fault(BodyFault::Trailing));
-    }
-    Ok(Change::Renewed(Generation {
-        epoch,
-        term,
-        accepted,
-        committed,
-    }))
-}
-
-fn read_old_generation(alloc: Global, bytes: &[u8]) -> Result<Change, BodyError>
-    ensures reads { ReadsChange result (change_by change.Renewed (whole (old_generation_field.at bytes.now))) }
-    ensures fit { IfOk result IsFitChange }
-{
-    whole_old_generation(alloc, bytes)
+    whole_generation(alloc, bytes, old)
 }
 
 // The change that fields behind this first byte spell.
@@ -300,7 +288,7 @@ fn read_tagged(alloc: Global, tag: u8, fields: &[u8]) -> Result<Change, BodyErro
         return read_committed(fields);
     }
     if tag == 132 {
-        return read_generation(alloc, fields);
+        return read_generation(alloc, fields, false);
     }
     if tag == 1 {
         return read_term(fields);
@@ -312,7 +300,7 @@ fn read_tagged(alloc: Global, tag: u8, fields: &[u8]) -> Result<Change, BodyErro
         return read_committed(fields);
     }
     if tag == 4 {
-        return read_old_generation(alloc, fields);
+        return read_generation(alloc, fields, true);
     }
     Err(BodyError::Fault(BodyFault::Tag))
 }

@@ -4,7 +4,8 @@ ghost use Rattle.cluster_state.specs.Initial.{empty_record};
 ghost use Rattle.gate_log.specs.Folded.{found_by};
 ghost use Rattle.gate_log.specs.Opened.{lists, generations_in};
 ghost use Rattle.state_journal.specs.Bodies.{is_guarded as spec_is_guarded, change_at};
-ghost use Rattle.state_journal.specs.Journal.{with_change, with_body, folded_from, record_of_bodies, on_its_side};
+ghost use Rattle.state_journal.specs.Changes.{changed};
+ghost use Rattle.state_journal.specs.Journal.{in_order, with_change, with_body, folded_from, record_of_bodies, on_its_side};
 ghost use Rattle.state_journal.specs.Reads.{error_at, error_on, IsFitChange, IsFitRecord, IsFoldError, ReadsRecord, FindsRecord};
 ghost use Rattle.state_journal.specs.declared.fold.FoldError.TheVariants as fold_error;
 
@@ -15,7 +16,7 @@ use std::alloc::{AllocError, Global};
 use zen_disk::Side;
 
 // Why the bodies of one side make no record.
-#[derive(Clone, Copy, Debug)]
+#[derive(Clone, Copy)]
 enum FoldError {
     Memory,
     Fault(Fault),
@@ -38,7 +39,7 @@ impl From<Fault> for FoldError {
 }
 
 // Why the bodies of both sides make no record.
-#[derive(Clone, Copy, Debug)]
+#[derive(Clone, Copy)]
 pub(crate) enum FoundError {
     Memory,
     Fault(Why),
@@ -73,8 +74,32 @@ fn begin(kept: &mut Kept, generation: Generation)
     kept.committed.copy_from(&generation.committed);
 }
 
-// Makes a change of the record, whose gate stands at this offset, and whose body may come too late.
-#[tactic(auto, unfolding(crate::specs::Journal::with_change))]
+// Whether a change may follow on the record.
+fn is_in_order(kept: &Kept, change: &Change) -> bool
+    ensures { result ≡ in_order kept.now change.now }
+{
+    match change {
+        Change::Term(term) => kept.term < *term,
+        Change::Accepted(state) => state.term <= kept.term,
+        Change::Committed => true,
+        Change::Renewed(generation) => generation.accepted.term <= generation.term,
+    }
+}
+
+// Makes a change of the record.
+fn make(kept: &mut Kept, change: Change)
+    ensures { kept.new ≡ changed kept.old change }
+{
+    match change {
+        Change::Term(term) => kept.term = term,
+        Change::Accepted(state) => kept.accept(state),
+        Change::Committed => kept.commit(),
+        Change::Renewed(generation) => begin(kept, generation),
+    }
+}
+
+// Makes a change, whose gate stands at this offset, and whose body may come too late, where it may follow on the record.
+#[tactic(auto, using(crate::proofs::Folds::changed_fits), unfolding(crate::specs::Journal::with_change))]
 fn apply(kept: &mut Kept, change: Change, at: u64, late: bool) -> Result<(), Fault>
     requires kept { IsFitRecord kept.old }
     requires change { IsFitChange change }
@@ -82,30 +107,10 @@ fn apply(kept: &mut Kept, change: Change, at: u64, late: bool) -> Result<(), Fau
     ensures fault { IfErr result (λ f. with_change at late kept.old (Ok change) ≡ Err f) }
     ensures fit { OnOk result (IsFitRecord kept.new) }
 {
-    if late {
+    if late || !is_in_order(kept, &change) {
         return Err(Fault::Order(at));
     }
-    match change {
-        Change::Term(term) => {
-            if term <= kept.term {
-                return Err(Fault::Order(at));
-            }
-            kept.term = term;
-        }
-        Change::Accepted(state) => {
-            if state.term > kept.term {
-                return Err(Fault::Order(at));
-            }
-            kept.accept(state);
-        }
-        Change::Committed => kept.commit(),
-        Change::Renewed(generation) => {
-            if generation.accepted.term > generation.term {
-                return Err(Fault::Order(at));
-            }
-            begin(kept, generation);
-        }
-    }
+    make(kept, change);
     Ok(())
 }
 

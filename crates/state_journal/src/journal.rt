@@ -1,5 +1,6 @@
 //! `StateJournal`: the keeper over a journal of changes in two files.
 ghost use Rattle.std.specs.Prelude.{◌≡◌, ◌≤◌, true, false, length, Ok, IfOk, IfErr};
+ghost use Rattle.gate_log.specs.Folded.{found_by};
 ghost use Rattle.cluster_state.specs.Field.{last_number};
 ghost use Rattle.cluster_state.specs.States.{IsFit};
 ghost use Rattle.gate_log.specs.Calls.{both_opening_calls};
@@ -12,18 +13,19 @@ ghost use Rattle.state_journal.specs.Bodies.{body_of, holds_old as spec_holds_ol
 ghost use Rattle.state_journal.specs.Drafts.{IsDraft};
 ghost use Rattle.state_journal.specs.Fit.{IsFit-prop, IsDraft-prop};
 ghost use Rattle.state_journal.specs.Keeping.{keeping_calls};
-ghost use Rattle.state_journal.specs.Journal.{found_of, records_of, only_record, record_stays, FoundAsSome, StoodFor};
+ghost use Rattle.state_journal.specs.Journal.{found_of, records_of, record_of_bodies, on_its_side, only_record, record_stays, FoundAsSome, StoodFor};
+ghost use Rattle.state_journal.specs.Reads.{IsFitRecord, IsFoundError};
 ghost use Rattle.state_journal.specs.declared.change.Change.TheVariants as change;
 
 use crate::body::{committed_body, is_guarded, term_body};
 use crate::draft::Draft;
 use crate::fold::{FoundError, fold_sides};
-use crate::keep::{due_after, keep_small, keep_state, records_after};
-use crate::refusal::refused;
+use crate::keep::{keep_small, keep_state, usage_after};
+use crate::refusal::{not_found, refused};
 use crate::{ArmKeeper, KeepError, Keeper, OpenError, Ready};
 use arrayvec::ArrayVec;
 use cluster_state::Kept;
-use gate_log::{GateLog, Opened};
+use gate_log::GateLog;
 use std::alloc::Global;
 use zen_disk::{Armable, Disks, Order, Side};
 
@@ -85,6 +87,39 @@ fn old_in_use(side: Side, zero: &[Vec<u8>], one: &[Vec<u8>]) -> bool
     }
 }
 
+// What the bodies of both sides make.
+#[derive(Drop)]
+struct Found {
+    kept: Kept,
+    records: u64,
+    due: bool,
+    draft: Draft,
+}
+
+// What these bodies make, of which those of this side are in use.
+fn find(alloc: Global, side: Side, zero: &[Vec<u8>], one: &[Vec<u8>]) -> Result<Found, FoundError>
+    ensures kept { IfOk result (λ f. on_its_side (found_by record_of_bodies (generations_in side zero.now one.now)) ≡ Ok f.kept) }
+    ensures why { IfErr result (λ e. IsFoundError e (on_its_side (found_by record_of_bodies (generations_in side zero.now one.now)))) }
+    ensures fit { IfOk result (λ f. IsFitRecord f.kept) }
+    ensures drafted { IfOk result (λ f. IsDraft f.kept.accepted f.draft) }
+    ensures counted { IfOk result (λ f. f.records ≡ length (in_use (generations_in side zero.now one.now))) }
+    ensures aged { IfOk result (λ f. f.due ≡ spec_holds_old (in_use (generations_in side zero.now one.now))) }
+{
+    let kept = match fold_sides(alloc, side, zero, one) {
+        Ok(kept) => kept,
+        Err(error) => return Err(error),
+    };
+    let Ok(draft) = Draft::new(alloc, &kept.accepted) else {
+        return Err(FoundError::Memory);
+    };
+    Ok(Found {
+        kept,
+        records: count_in_use(side, zero, one),
+        due: old_in_use(side, zero, one),
+        draft,
+    })
+}
+
 impl<D: Disks> StateJournal<D> {
     ghost use Rattle.state_journal.specs.Opening.{handed_back, IsWhyOf, RanUntil, RoseIfDisk};
 
@@ -117,27 +152,17 @@ impl<D: Disks> StateJournal<D> {
             Ok(opened) => opened,
             Err(error) => return Err(refused(error)),
         };
-        let kept = match fold_sides(alloc, opened.log.side(), &opened.zero, &opened.one) {
-            Ok(kept) => kept,
-            Err(FoundError::Memory) => return Err(OpenError::Memory(opened.log.into_disk())),
-            Err(FoundError::Fault(why)) => {
-                return Err(OpenError::NotAJournal(why, opened.log.into_disk()));
-            }
-        };
-        let Ok(draft) = Draft::new(alloc, &kept.accepted) else {
-            return Err(OpenError::Memory(opened.log.into_disk()));
-        };
-        let records = count_in_use(opened.log.side(), &opened.zero, &opened.one);
-        let due = old_in_use(opened.log.side(), &opened.zero, &opened.one);
-        let mark = committed_body();
-        Ok(StateJournal {
-            log: opened.log,
-            kept,
-            records,
-            due,
-            draft,
-            mark,
-        })
+        match find(alloc, opened.log.side(), &opened.zero, &opened.one) {
+            Ok(found) => Ok(StateJournal {
+                log: opened.log,
+                kept: found.kept,
+                records: found.records,
+                due: found.due,
+                draft: found.draft,
+                mark: committed_body(),
+            }),
+            Err(error) => Err(not_found(error, opened.log.into_disk())),
+        }
     }
 
     /// How many bodies are in use.
@@ -198,8 +223,7 @@ impl<D: Disks> Keeper for StateJournal<D> {
             return Err(KeepError::Stopped);
         }
         let body = term_body(term);
-        let records = records_after(&self.log, self.due, self.records, body.len());
-        let due = due_after(&self.log, self.due, body.len());
+        let usage = usage_after(&self.log, self.due, self.records, body.len());
         let Ok(()) = keep_small(
             &mut self.log,
             &mut self.draft,
@@ -211,8 +235,8 @@ impl<D: Disks> Keeper for StateJournal<D> {
             return Err(KeepError::Disk);
         };
         self.kept.term = term;
-        self.records = records;
-        self.due = due;
+        self.records = usage.records;
+        self.due = usage.due;
         Ok(())
     }
 
@@ -221,8 +245,7 @@ impl<D: Disks> Keeper for StateJournal<D> {
             return Err(KeepError::Stopped);
         }
         let Ready { state, mut draft } = ready;
-        let records = records_after(&self.log, self.due, self.records, draft.len() + 33);
-        let due = due_after(&self.log, self.due, draft.len() + 33);
+        let usage = usage_after(&self.log, self.due, self.records, draft.len() + 33);
         let Ok(()) = keep_state(
             &mut self.log,
             &mut draft,
@@ -235,8 +258,8 @@ impl<D: Disks> Keeper for StateJournal<D> {
         };
         self.kept.accept(state);
         self.draft = draft;
-        self.records = records;
-        self.due = due;
+        self.records = usage.records;
+        self.due = usage.due;
         Ok(())
     }
 
@@ -244,8 +267,7 @@ impl<D: Disks> Keeper for StateJournal<D> {
         if self.log.stopped() {
             return Err(KeepError::Stopped);
         }
-        let records = records_after(&self.log, self.due, self.records, self.mark.len());
-        let due = due_after(&self.log, self.due, self.mark.len());
+        let usage = usage_after(&self.log, self.due, self.records, self.mark.len());
         let Ok(()) = keep_small(
             &mut self.log,
             &mut self.draft,
@@ -257,8 +279,8 @@ impl<D: Disks> Keeper for StateJournal<D> {
             return Err(KeepError::Disk);
         };
         self.kept.commit();
-        self.records = records;
-        self.due = due;
+        self.records = usage.records;
+        self.due = usage.due;
         Ok(())
     }
 }

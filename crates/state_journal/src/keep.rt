@@ -33,25 +33,31 @@ fn begins<D: Disks>(log: &GateLog<D>, due: bool, len: usize) -> bool
     (due || MAX_TAIL < log.tail() + 5 + len as u64) && log.epoch() < LAST_EPOCH
 }
 
-// How many bodies are in use after one of this length is kept.
-pub(crate) fn records_after<D: Disks>(log: &GateLog<D>, due: bool, records: u64, len: usize) -> u64
-    requires { len ≤ most_body }
-    ensures one { (body : List ℕ) → length body ≡ len → renews due (place log.now) body ≡ true → result ≡ 1 }
-    ensures more { (body : List ℕ) → length body ≡ len → renews due (place log.now) body ≡ false → result ≡ min (records + 1) (2 ^ 64 - 1) }
-{
-    if begins(log, due, len) {
-        1
-    } else {
-        records.saturating_add(1)
-    }
+// How many bodies are in use, and whether a generation is due.
+#[derive(Clone, Copy)]
+pub(crate) struct Usage {
+    pub records: u64,
+    pub due: bool,
 }
 
-// Whether a generation is due still after a body of this length is kept.
-pub(crate) fn due_after<D: Disks>(log: &GateLog<D>, due: bool, len: usize) -> bool
+// The usage after a body of this length is kept, where so many were in use, and a generation may be due.
+pub(crate) fn usage_after<D: Disks>(log: &GateLog<D>, due: bool, records: u64, len: usize) -> Usage
     requires { len ≤ most_body }
-    ensures { (body : List ℕ) → length body ≡ len → result ≡ (due && not (renews due (place log.now) body)) }
+    ensures one { (body : List ℕ) → length body ≡ len → renews due (place log.now) body ≡ true → result.records ≡ 1 }
+    ensures more { (body : List ℕ) → length body ≡ len → renews due (place log.now) body ≡ false
+        → result.records ≡ min (records + 1) (2 ^ 64 - 1) }
+    ensures due { (body : List ℕ) → length body ≡ len → result.due ≡ (due && not (renews due (place log.now) body)) }
 {
-    due && !begins(log, due, len)
+    if begins(log, due, len) {
+        return Usage {
+            records: 1,
+            due: false,
+        };
+    }
+    Usage {
+        records: records.saturating_add(1),
+        due,
+    }
 }
 
 // Begins the next generation with the record of this term, the draft's state and this committed configuration.

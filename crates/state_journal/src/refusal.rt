@@ -1,8 +1,10 @@
 //! The error of two files that are no journal of changes.
 ghost use Rattle.std.specs.Prelude.{◌≡◌};
 ghost use Rattle.state_journal.specs.Journal.{fault_by, why_by};
-ghost use Rattle.state_journal.specs.Opening.{error_by};
+ghost use Rattle.state_journal.specs.Opening.{error_by, handed_back};
+ghost use Rattle.state_journal.specs.Reads.{refusal_of};
 
+use crate::fold::FoundError;
 use crate::{Fault, OpenError, Why};
 use gate_log::LogError;
 
@@ -36,5 +38,16 @@ pub(crate) fn refused<D>(error: LogError<D>) -> OpenError<D>
         LogError::NotAJournal(why, disk) => OpenError::NotAJournal(why_of(why), disk),
         LogError::Disk(disk) => OpenError::Disk(disk),
         LogError::Memory(disk) => OpenError::Memory(disk),
+    }
+}
+
+// The answer where the bodies make no record.
+pub(crate) fn not_found<D>(error: FoundError, disk: D) -> OpenError<D>
+    ensures is { result ≡ refusal_of error disk }
+    ensures back { handed_back result ≡ disk }
+{
+    match error {
+        FoundError::Memory => OpenError::Memory(disk),
+        FoundError::Fault(why) => OpenError::NotAJournal(why, disk),
     }
 }

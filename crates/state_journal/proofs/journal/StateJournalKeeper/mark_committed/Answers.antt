@@ -48,18 +48,17 @@ invariant_of-self-2 g c =
     ≡ written_in (renews old.due p c.deref.result.now) (standing_in (g.D.Disks.seen old.log.disk)) c.deref.result.now (generation_after p (record_with old.kept.term old.kept.accepted config))) shown
     (c.in-Ok.ensures.ok told old.kept.accepted old.drafted)) in
     let size : length (body_of change) ≡ c.len.result = ap length (sym old.marks) ∙ sym c.len.ensures.value in
-    let size_again : length (body_of change) ≡ c.len-2.result = ap length (sym old.marks) ∙ sym c.len-2.ensures.value in
     record {
       stands = λ told running.
           let is = is_open old told ran in
           stands_after is change may begins (g.D.Disks.seen now.disk) (grown told) (now.settled told running).stands ∙ ap Ok (sym c.commit.ensures);
       counted = λ told running.
           let is = is_open old told ran in
-          counts_by (renews old.due p (body_of change)) old.records c.records_after-records.result _ (counted_after is change may begins (g.D.Disks.seen now.disk) (grown told)) (few is)
-          (c.records_after-records.ensures.one (body_of change) size) (c.records_after-records.ensures.more (body_of change) size);
+          counts_by (renews old.due p (body_of change)) old.records c.usage_after-usage.result.records _ (counted_after is change may begins (g.D.Disks.seen now.disk) (grown told)) (few is)
+          (c.usage_after-usage.ensures.one (body_of change) size) (c.usage_after-usage.ensures.more (body_of change) size);
       aged = λ told running.
           let is = is_open old told ran in
-          c.due_after-due.ensures (body_of change) size_again ∙ due_after is change may begins (g.D.Disks.seen now.disk) (grown told);
+          c.usage_after-usage.ensures.due (body_of change) size ∙ due_after is change may begins (g.D.Disks.seen now.disk) (grown told);
       bounded = rw c.commit.ensures old.bounded;
       fit = rw c.commit.ensures old.fit;
       older = rw c.commit.ensures old.older;

@@ -18,11 +18,8 @@ use Rattle.state_journal.proofs.journal.StateJournalKeeper.set_accepted.Goals as
 pub returns-then-stopped-clause-unchanged : goal.returns-then-stopped-clause-unchanged
 returns-then-stopped-clause-unchanged g c = λ stopped. same_journal _ _ refl refl refl refl refl refl
 
-pub records_after-records-requires : goal.records_after-records-requires
-records_after-records-requires g c = let ready = c.ready.inside in omega (arith, c.len.ensures, draft_short ready.state ready.draft ready.drafted)
-
-pub due_after-due-requires : goal.due_after-due-requires
-due_after-due-requires g c = let ready = c.ready.inside in omega (arith, c.len-2.ensures, draft_short ready.state ready.draft ready.drafted)
+pub usage_after-usage-requires : goal.usage_after-usage-requires
+usage_after-usage-requires g c = let ready = c.ready.inside in omega (arith, c.len.ensures, draft_short ready.state ready.draft ready.drafted)
 
 pub keep_state-requires-clause-known : goal.keep_state-requires-clause-known
 keep_state-requires-clause-known g c = subst (λ (bytes : List ℕ). IfSome c.accepted_digest.result (λ (d : List ℕ). d ≡ sha256 (130 ∷ bytes))) (sym c.ready.inside.drafted.spelled) c.accepted_digest.ensures
@@ -51,7 +48,6 @@ invariant_of-self-2 g c =
     let change = Accepted state in
     let ran : old.log.stopped ≡ false = sym c.stopped.ensures ∙ c.if-stopped.false in
     let size : length (body_of change) ≡ c.len.result + 33 = omega (arith, c.len.ensures, length-accepted state, ap length drafted.spelled) in
-    let size_again : length (body_of change) ≡ c.len-2.result + 33 = omega (arith, c.len-2.ensures, length-accepted state, ap length drafted.spelled) in
     let may = state_follows old state drafted.fits older in
     let begins = state_begins old state drafted.fits older in
     let grown = λ (told : g.D.Disks.told).
@@ -62,11 +58,11 @@ invariant_of-self-2 g c =
           stands_after (is_open old told ran) change may begins (g.D.Disks.seen now.disk) (grown told) (now.settled told running).stands ∙ ap Ok (sym c.accept.ensures);
       counted = λ told running.
           let is = is_open old told ran in
-          counts_by (renews old.due p (body_of change)) old.records c.records_after-records.result _ (counted_after is change may begins (g.D.Disks.seen now.disk) (grown told)) (few is)
-          (c.records_after-records.ensures.one (body_of change) size) (c.records_after-records.ensures.more (body_of change) size);
+          counts_by (renews old.due p (body_of change)) old.records c.usage_after-usage.result.records _ (counted_after is change may begins (g.D.Disks.seen now.disk) (grown told)) (few is)
+          (c.usage_after-usage.ensures.one (body_of change) size) (c.usage_after-usage.ensures.more (body_of change) size);
       aged = λ told running.
           let is = is_open old told ran in
-          c.due_after-due.ensures (body_of change) size_again ∙ due_after is change may begins (g.D.Disks.seen now.disk) (grown told);
+          c.usage_after-usage.ensures.due (body_of change) size ∙ due_after is change may begins (g.D.Disks.seen now.disk) (grown told);
       bounded = rw c.accept.ensures old.bounded;
       fit = rw c.accept.ensures c.ready.inside.fit;
       older = rw c.accept.ensures older;
