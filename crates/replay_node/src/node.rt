@@ -98,27 +98,6 @@ fn keep_publication(
     }
 }
 
-// The slot that an opening leaves on this disk, which the node has used before. Writes what came of it.
-fn reopened(
-    alloc: Global,
-    me: NodeId,
-    fuse: Fuse<MemDisks>,
-    text: &mut Text,
-) -> Result<Slot, AllocError>
-    requires { (w : NodeWorld) × ClosedStands fuse w }
-    ensures { IfOk result (λ slot. (w : NodeWorld) → ClosedStands fuse w → Opens me fuse slot text.old text.new w) }
-{
-    match StateJournal::open(alloc, fuse) {
-        Ok(journal) => {
-            write_record(text, me, journal.kept())?;
-            Ok(Slot::Open(CoordState::new(me, journal)))
-        }
-        Err(OpenError::NotAJournal(_, _)) => unreachable!(),
-        Err(OpenError::Memory(_)) => Err(AllocError),
-        Err(OpenError::Disk(fuse)) => Ok(Slot::Down(stay_down(fuse, me, text)?)),
-    }
-}
-
 impl ReplayNode {
     /// A node whose journal was opened for the first time, on an empty disk.
     pub fn new(alloc: Global, me: NodeId) -> Result<ReplayNode, AllocError>
@@ -307,8 +286,18 @@ impl ReplayNode {
         ensures published { self.new.published ≡ self.old.published }
         ensures opens { OnOk result ((w : NodeWorld) → ClosedStands fuse w → Opens self.old.me fuse self.new.slot text.old text.new w) }
     {
-        let slot = reopened(alloc, self.me, fuse, text)?;
-        self.slot = slot;
-        Ok(())
+        match StateJournal::open(alloc, fuse) {
+            Ok(journal) => {
+                write_record(text, self.me, journal.kept())?;
+                self.slot = Slot::Open(CoordState::new(self.me, journal));
+                Ok(())
+            }
+            Err(OpenError::NotAJournal(_, _)) => unreachable!(),
+            Err(OpenError::Memory(_)) => Err(AllocError),
+            Err(OpenError::Disk(fuse)) => {
+                self.slot = Slot::Down(stay_down(fuse, self.me, text)?);
+                Ok(())
+            }
+        }
     }
 }
