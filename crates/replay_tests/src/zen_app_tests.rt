@@ -115,19 +115,24 @@ fn whole_nodes_have_these_traces(rt: HostRuntime) -> Result<(), Fail> {
     replays_all(&rt, rt.alloc(), Level::Node, WHOLE_NODES)
 }
 
+// A node elects itself.
+const LEADER: &str = "nodes a\ninitial a\ntick a 0 7\ntick a 8 7\n\
+    deliver a 1\ndeliver a 2\ndeliver a 3\ndeliver a 4\ndeliver a 5\n";
+
+fn write_put(text: &mut Text, number: u64) -> Result<(), AllocError> {
+    text.word("client a {\"id\":")?;
+    text.number(number)?;
+    text.word(",\"put\":{\"key\":\"k")?;
+    text.number(number)?;
+    text.word("\",\"value\":\"v\"}}\n")
+}
+
 // A node that has elected itself is handed so many puts of different keys, while it publishes the first of them.
 fn puts(alloc: Global, count: u64) -> Result<Text, AllocError> {
     let mut text = Text::new(alloc);
-    text.word(
-        "nodes a\ninitial a\ntick a 0 7\ntick a 8 7\ndeliver a 1\ndeliver a 2\ndeliver a 3\n",
-    )?;
-    text.word("deliver a 4\ndeliver a 5\n")?;
-    for put in 1..=count {
-        text.word("client a {\"id\":")?;
-        text.number(put)?;
-        text.word(",\"put\":{\"key\":\"k")?;
-        text.number(put)?;
-        text.word("\",\"value\":\"v\"}}\n")?;
+    text.word(LEADER)?;
+    for number in 1..=count {
+        write_put(&mut text, number)?;
     }
     Ok(text)
 }

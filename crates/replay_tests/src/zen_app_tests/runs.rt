@@ -119,10 +119,11 @@ fn disk(alloc: Global, case: &Case<'_>) -> Result<MemDisks, AllocError>
 fn three_ticks(alloc: Global) -> Result<Vec<Input>, AllocError>
     ensures { IfOk result (λ inputs. IsTrue (list_all has_low_conn inputs.items)) }
 {
-    let mut inputs = Vec::new(alloc);
-    inputs.push(Input::Tick { now: 1, word: 0 })?;
-    inputs.push(Input::Tick { now: 2, word: 0 })?;
-    inputs.push(Input::Tick { now: 3, word: 0 })?;
+    let inputs = vec![in alloc;
+        Input::Tick { now: 1, word: 0 },
+        Input::Tick { now: 2, word: 0 },
+        Input::Tick { now: 3, word: 0 },
+    ]?;
     Ok(inputs)
 }
 
