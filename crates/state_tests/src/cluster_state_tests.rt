@@ -10,7 +10,6 @@ use cluster_state::{
     encode_state, to_json,
 };
 use std::alloc::{AllocError, Global};
-use std::test::*;
 
 // The state 1/1 of the parent 0/0, with two equal configurations and one setting.
 const STATE: &[u8] = &[
@@ -320,14 +319,24 @@ fn removing_an_absent_setting_changes_nothing(rt: HostRuntime) {
     }
 }
 
+// Whether this value is the same as the empty one until it has a setting.
+fn differs_by_a_setting(empty: &ClusterValue, value: ClusterValue) -> bool {
+    let mut value = value;
+    let was_same = empty.is_same(&value);
+    let is_put = value.settings.put("a", "x").is_ok();
+    was_same && is_put && !empty.is_same(&value)
+}
+
+fn is_the_same_until_a_setting_differs(empty: &ClusterValue) -> bool {
+    match empty.copy() {
+        Ok(copy) => differs_by_a_setting(empty, copy),
+        Err(_) => false,
+    }
+}
+
 #[test]
-fn values_are_the_same_until_a_setting_differs(rt: HostRuntime) -> Result<(), Fail> {
-    let value = ClusterValue::empty(rt.alloc());
-    let mut other = value.copy()?;
-    assert!(rt; value.is_same(&other));
-    other.settings.put("a", "x")?;
-    assert!(rt; !value.is_same(&other));
-    Ok(())
+fn values_are_the_same_until_a_setting_differs(rt: HostRuntime) {
+    assert!(rt; is_the_same_until_a_setting_differs(&ClusterValue::empty(rt.alloc())));
 }
 
 // A text of so many bytes.
@@ -370,25 +379,26 @@ const SIZES: &[(usize, usize, Option<usize>)] = &[
 ];
 
 #[test]
-fn keys_have_1_to_128_bytes_and_values_up_to_1024(rt: HostRuntime) -> Result<(), Fail> {
+fn keys_have_1_to_128_bytes_and_values_up_to_1024(rt: HostRuntime) {
     for (key, value, want) in SIZES {
         assert!(rt;
             is_bad_put(rt.alloc(), *key, *value, *want),
             "of {key} and {value}"
         );
     }
-    assert!(rt; bad_remove(rt.alloc(), 129)? == None);
-    Ok(())
+    assert!(rt; bad_remove(rt.alloc(), 129) == Ok(None));
 }
 
 // The state 0/0 with one configuration, and another as the committed one.
-fn reconfigured(alloc: Global, now: &str, committed: &str) -> Result<SharedState, AllocError> {
-    let mut state = ClusterState::initial(alloc, &set(now))?;
-    state.committed = list(alloc, committed)?;
-    match SharedState::new(alloc, state) {
-        Ok(state) => Ok(state),
-        Err(_) => Err(AllocError),
-    }
+fn reconfigured(alloc: Global, now: &str, committed: &str) -> Result<ClusterState, AllocError> {
+    Ok(ClusterState {
+        term: 0,
+        version: 0,
+        parent: None,
+        config: list(alloc, now)?,
+        committed: list(alloc, committed)?,
+        value: ClusterValue::empty(alloc),
+    })
 }
 
 fn has(kept: &Kept, accepted: &str, committed: &str) -> bool {
@@ -412,6 +422,21 @@ fn accepts_and_commits(kept: Kept, state: SharedState) -> bool {
     is_accepted && has(&kept, "b", "b") && config("a").is_same_list(&kept.accepted.committed)
 }
 
+fn is_accepted_and_committed(alloc: Global, state: SharedState) -> bool {
+    match Kept::empty(alloc) {
+        Ok(kept) => accepts_and_commits(kept, state),
+        Err(_) => false,
+    }
+}
+
+// Whether the state is shared, and then accepted and committed.
+fn is_kept(alloc: Global, state: ClusterState) -> bool {
+    match SharedState::new(alloc, state) {
+        Ok(state) => is_shared(&state) == Ok(true) && is_accepted_and_committed(alloc, state),
+        Err(_) => false,
+    }
+}
+
 // Whether the initial state of this term has its bytes beside it once it is spelled and is within the limits, or neither.
 fn is_spelled_and_fit(alloc: Global, term: u64, want: bool) -> bool {
     let Ok(mut state) = ClusterState::initial(alloc, &set("a")) else {
@@ -430,11 +455,14 @@ fn a_state_within_the_limits_is_spelled(rt: HostRuntime) {
     assert!(rt; is_spelled_and_fit(rt.alloc(), (1 << 62) + 1, false));
 }
 
+fn is_reconfigured(alloc: Global) -> bool {
+    match reconfigured(alloc, "b", "a") {
+        Ok(state) => is_kept(alloc, state),
+        Err(_) => false,
+    }
+}
+
 #[test]
-fn a_record_accepts_a_state_and_commits_its_configuration(rt: HostRuntime) -> Result<(), Fail> {
-    let state = reconfigured(rt.alloc(), "b", "a")?;
-    let is_shared = is_shared(&state)?;
-    let is_committed = accepts_and_commits(Kept::empty(rt.alloc())?, state);
-    assert!(rt; is_shared && is_committed && !config("a").is_same(&config("b")));
-    Ok(())
+fn a_record_accepts_a_state_and_commits_its_configuration(rt: HostRuntime) {
+    assert!(rt; is_reconfigured(rt.alloc()) && !config("a").is_same(&config("b")));
 }

@@ -11,7 +11,6 @@ use cluster_state::{
 use coord_state::{CoordState, NotTaken, outcome_of_value};
 use state_journal::{Keeper, PlainKeeper, Ready};
 use std::alloc::{AllocError, Global};
-use std::test::Fail;
 use voting_config::MAX_IDS;
 use world_model::{ActReply, Cause, Outcome};
 
@@ -259,15 +258,28 @@ fn has_only_a(node: &CoordState<PlainKeeper>) -> bool {
         && node.kept().committed.is_same(&voters)
 }
 
-#[test]
-fn a_node_alone_wins_and_commits(rt: HostRuntime) -> Result<(), Fail> {
-    let mut node = opened(rt.alloc())?;
+fn lives(alloc: Global, node: &mut CoordState<PlainKeeper>) -> bool {
     for act in LIFE {
-        let is_done = does(rt.alloc(), &mut node, *act);
-        assert!(rt; is_done && is_seen(&node, seen_after(*act)));
+        if !does(alloc, node, *act) || !is_seen(node, seen_after(*act)) {
+            return false;
+        }
     }
-    assert!(rt; has_only_a(&node));
-    Ok(())
+    has_only_a(node)
+}
+
+fn lives_alone(alloc: Global) -> bool {
+    match opened(alloc) {
+        Ok(node) => {
+            let mut node = node;
+            lives(alloc, &mut node)
+        }
+        Err(_) => false,
+    }
+}
+
+#[test]
+fn a_node_alone_wins_and_commits(rt: HostRuntime) {
+    assert!(rt; lives_alone(rt.alloc()));
 }
 
 // Why an act was refused.
@@ -278,18 +290,40 @@ fn refusal(outcome: &Outcome) -> Option<Cause> {
     }
 }
 
-#[test]
-fn a_value_is_refused_before_the_election_is_won(rt: HostRuntime) -> Result<(), Fail> {
-    let alloc = rt.alloc();
-    let mut node = opened(alloc)?;
-    let answer = node.take_value(7, &list(alloc, "a")?);
+// What comes of a value, where the first one would be published.
+fn value_outcome(alloc: Global, node: &mut CoordState<PlainKeeper>) -> Result<Outcome, AllocError> {
+    let config = list(alloc, "a")?;
     let request = PublishRequest {
         source: id("a"),
         state: SharedState::of(alloc, published(alloc, 1)?)?,
     };
-    let outcome = outcome_of_value(answer, request);
-    assert!(rt; refusal(&outcome) == Some(Cause::Value(ValueCause::NotWon)));
-    assert!(rt; node.keeper().kept().term == 0);
-    assert!(rt; node.into_keeper().kept().term == 0);
-    Ok(())
+    Ok(outcome_of_value(node.take_value(7, &config), request))
+}
+
+fn is_refused(alloc: Global, node: &mut CoordState<PlainKeeper>) -> bool {
+    match value_outcome(alloc, node) {
+        Ok(outcome) => refusal(&outcome) == Some(Cause::Value(ValueCause::NotWon)),
+        Err(_) => false,
+    }
+}
+
+// Whether the node refuses a value, and keeps nothing.
+fn refuses_a_value(alloc: Global, node: CoordState<PlainKeeper>) -> bool {
+    let mut node = node;
+    let is_refused = is_refused(alloc, &mut node);
+    let term = node.keeper().kept().term;
+    let keeper = node.into_keeper();
+    is_refused && term == 0 && keeper.kept().term == 0
+}
+
+fn is_refused_when_opened(alloc: Global) -> bool {
+    match opened(alloc) {
+        Ok(node) => refuses_a_value(alloc, node),
+        Err(_) => false,
+    }
+}
+
+#[test]
+fn a_value_is_refused_before_the_election_is_won(rt: HostRuntime) {
+    assert!(rt; is_refused_when_opened(rt.alloc()));
 }

@@ -2,8 +2,7 @@
 use crate::names::{id, list, set};
 use cluster_state::{Join, JoinCause, StateId};
 use join_rules::join_check;
-use std::alloc::{AllocError, Global};
-use std::test::Fail;
+use std::alloc::Global;
 use voting_config::{IdList, JoinVotes, MAX_IDS, NodeId, Roster};
 
 // Sources in the order in which they vote, one that is taken out then, the roster, and the word of the votes over it.
@@ -91,52 +90,89 @@ fn join(target: &str, term: u64, last_term: u64, last_version: u64) -> Join {
     }
 }
 
-const LAST: [(u64, u64, Result<(), JoinCause>); 5] = [
-    (1, 1, Ok(())),
-    (1, 2, Ok(())),
-    (1, 3, Err(JoinCause::FresherVersion(2, 3))),
-    (0, 3, Ok(())),
-    (2, 1, Err(JoinCause::FresherTerm(1, 2))),
-];
-
-#[test]
-fn a_fresher_join_is_refused(rt: HostRuntime) -> Result<(), Fail> {
-    let config = list(rt.alloc(), "a")?;
-    for (last_term, last_version, wanted) in &LAST {
-        let join = join("a", 4, *last_term, *last_version);
-        assert!(rt; check(&config, true, &join) == *wanted);
-    }
-    Ok(())
-}
-
-// Why it is refused where these are the voters, if it is.
-fn refusal(
+// Whether the join is checked so where these are the voters.
+fn is_checked(
     alloc: Global,
     voters: &str,
     started: bool,
     join: &Join,
-) -> Result<Option<JoinCause>, AllocError> {
-    let config = list(alloc, voters)?;
-    Ok(check(&config, started, join).err())
+    wanted: Result<(), JoinCause>,
+) -> bool {
+    match list(alloc, voters) {
+        Ok(config) => check(&config, started, join) == wanted,
+        Err(_) => false,
+    }
 }
 
-// The term and the last term of a join for a, whether a has started a join, its voters, and the cause.
-type Refusal = (u64, u64, bool, &'static str, JoinCause);
+// What is shown, the term of a join for a with the state that is accepted, whether a has started a join, its voters, and what comes
+// of the check.
+type Checked = (
+    &'static str,
+    (u64, u64, u64),
+    bool,
+    &'static str,
+    Result<(), JoinCause>,
+);
+
+const CHECKS: [Checked; 9] = [
+    ("a_fresher_join_is_refused", (4, 1, 1), true, "a", Ok(())),
+    ("a_fresher_join_is_refused", (4, 1, 2), true, "a", Ok(())),
+    (
+        "a_fresher_join_is_refused",
+        (4, 1, 3),
+        true,
+        "a",
+        Err(JoinCause::FresherVersion(2, 3)),
+    ),
+    ("a_fresher_join_is_refused", (4, 0, 3), true, "a", Ok(())),
+    (
+        "a_fresher_join_is_refused",
+        (4, 2, 1),
+        true,
+        "a",
+        Err(JoinCause::FresherTerm(1, 2)),
+    ),
+    (
+        "the_first_cause_refuses_a_join",
+        (3, 2, 0),
+        false,
+        "_",
+        Err(JoinCause::TermMismatch(4, 3)),
+    ),
+    (
+        "the_first_cause_refuses_a_join",
+        (4, 2, 0),
+        false,
+        "_",
+        Err(JoinCause::NotStarted),
+    ),
+    (
+        "the_first_cause_refuses_a_join",
+        (4, 2, 0),
+        true,
+        "_",
+        Err(JoinCause::FresherTerm(1, 2)),
+    ),
+    (
+        "the_first_cause_refuses_a_join",
+        (4, 1, 0),
+        true,
+        "_",
+        Err(JoinCause::NoConfig),
+    ),
+];
+
+fn is_so(alloc: Global, row: &Checked) -> bool {
+    let (_, (term, last_term, last_version), started, voters, wanted) = row;
+    let join = join("a", *term, *last_term, *last_version);
+    is_checked(alloc, voters, *started, &join, *wanted)
+}
 
 #[test]
-fn the_first_cause_refuses_a_join(rt: HostRuntime) -> Result<(), Fail> {
-    let alloc = rt.alloc();
-    const REFUSALS: [Refusal; 4] = [
-        (3, 2, false, "_", JoinCause::TermMismatch(4, 3)),
-        (4, 2, false, "_", JoinCause::NotStarted),
-        (4, 2, true, "_", JoinCause::FresherTerm(1, 2)),
-        (4, 1, true, "_", JoinCause::NoConfig),
-    ];
-    for (term, last_term, started, voters, cause) in REFUSALS {
-        let join = join("a", term, last_term, 0);
-        assert!(rt; refusal(alloc, voters, started, &join)? == Some(cause));
+fn a_join_is_counted_or_refused_with_the_first_cause(rt: HostRuntime) {
+    for (at, row) in CHECKS.iter().enumerate() {
+        assert!(rt; is_so(rt.alloc(), row), "{}: row {at}", row.0);
     }
-    let other = join("c", 3, 2, 0);
-    assert!(rt; refusal(alloc, "_", false, &other)? == Some(JoinCause::NotForMe(id("c"))));
-    Ok(())
+    let (other, cause) = (join("c", 3, 2, 0), JoinCause::NotForMe(id("c")));
+    assert!(rt; is_checked(rt.alloc(), "_", false, &other, Err(cause)));
 }

@@ -1,18 +1,17 @@
 //! The core and the model, act for act: each answer of the core is the reply of the model, which an audit computes by the definitions.
-ghost use Rattle.std.specs.Prelude.{◌≡◌, false, IsTrue, IfOk, IfSome};
-ghost use Rattle.cluster_state.specs.States.{IsFitId};
+ghost use Rattle.std.specs.Prelude.{◌≡◌, false, IfOk};
 ghost use Rattle.world_model.specs.Acts.{is_opening};
 
 use crate::names::{id, list};
 use cluster_state::{
-    ApplyCommit, ClusterState, ClusterValue, Join, Kept, LAST_NUMBER, PublishRequest,
-    PublishResponse, SharedConfig, SharedState, SharedValue, StateId,
+    ApplyCommit, ClusterState, ClusterValue, Join, Kept, PublishRequest, PublishResponse,
+    SharedConfig, SharedState, SharedValue, StateId,
 };
 use coord_state::{CoordState, outcome_of};
 use node_audit::Node;
 use state_journal::{PlainKeeper, Ready};
 use std::alloc::{AllocError, Global};
-use std::test::Fail;
+use std::fmt;
 use trace_text::Ending;
 use voting_config::{IdList, MAX_IDS, NodeId};
 use world_model::{Act, ActReply, Message, Outcome};
@@ -129,53 +128,27 @@ fn act(alloc: Global, call: Call) -> Result<Act, AllocError>
     }
 }
 
-fn is_fit_id(id: StateId) -> bool
-    ensures { IsTrue result → IsFitId id }
-{
-    id.term <= LAST_NUMBER && id.version <= LAST_NUMBER
-}
-
-fn is_fit_parent(parent: Option<StateId>) -> bool
-    ensures { IsTrue result → IfSome parent IsFitId }
-{
-    match parent {
-        None => true,
-        Some(parent) => is_fit_id(parent),
+// The state ready to be kept, where it is within the limits, as in each act here.
+fn ready(alloc: Global, state: &SharedState) -> Result<Ready, AllocError> {
+    if state.is_fit() {
+        Ready::of(alloc, state)
+    } else {
+        Err(AllocError)
     }
 }
 
-// The state ready to be kept, where its value is the empty one, as in each act here.
-fn ready(alloc: Global, state: &ClusterState) -> Result<Ready, AllocError> {
-    let id = state.id();
-    if !is_fit_id(id) || !is_fit_parent(state.parent) || !id.is_above_parent(state.parent) {
-        return Err(AllocError);
-    }
-    let fit = ClusterState {
-        term: state.term,
-        version: state.version,
-        parent: state.parent,
-        config: state.config.copy()?,
-        committed: state.committed.copy()?,
-        value: ClusterValue::empty(alloc),
-    };
-    match Ready::new(alloc, fit) {
-        Ok(ready) => Ok(ready),
-        Err(_) => Err(AllocError),
-    }
-}
-
-// Publishes a copy of this value with a copy of this configuration.
+// Publishes the empty value, as in each act here, with a copy of this configuration.
 fn publishes(
     alloc: Global,
     node: &mut CoordState<PlainKeeper>,
     version: u64,
     config: &IdList,
-    value: &ClusterValue,
 ) -> Result<Outcome, AllocError> {
-    let value = value.copy()?;
     let config = config.copy()?;
-    let answer = node.client_value(alloc, version, config, value)?;
-    Ok(outcome_of(answer))
+    match node.client_value(alloc, version, config, ClusterValue::empty(alloc)) {
+        Ok(answer) => Ok(outcome_of(answer)),
+        Err(error) => Err(error),
+    }
 }
 
 // Does the act in the core.
@@ -188,17 +161,17 @@ fn core_outcome(
         return Err(AllocError);
     }
     match act {
-        Act::Bootstrap(config) => {
-            let initial = Ready::initial(alloc, &config.to_set())?;
-            Ok(outcome_of(node.set_initial(initial)))
-        }
+        Act::Bootstrap(config) => match Ready::initial(alloc, &config.to_set()) {
+            Ok(initial) => Ok(outcome_of(node.set_initial(initial))),
+            Err(error) => Err(error),
+        },
         Act::StartJoin(candidate, term) => Ok(outcome_of(node.start_join(*candidate, *term))),
         Act::TakeJoin(join) => Ok(outcome_of(node.join(join))),
-        Act::Value(version, config, value) => publishes(alloc, node, *version, config, value),
-        Act::Publish(request) => {
-            let state = ready(alloc, &request.state)?;
-            Ok(outcome_of(node.publish_request(request.source, state)))
-        }
+        Act::Value(version, config, _) => publishes(alloc, node, *version, config),
+        Act::Publish(request) => match ready(alloc, &request.state) {
+            Ok(state) => Ok(outcome_of(node.publish_request(request.source, state))),
+            Err(error) => Err(error),
+        },
         Act::Response(response) => Ok(outcome_of(node.publish_response(response))),
         Act::Commit(commit) => Ok(outcome_of(node.commit(commit))),
         Act::Open(_) => Ok(Outcome::Answered(ActReply::Taken(None, false))),
@@ -207,93 +180,142 @@ fn core_outcome(
 
 // What an act answered, as a text.
 
-fn ids_text(alloc: Global, ids: &IdList) -> Result<String, AllocError> {
-    let mut text = String::new(alloc);
-    for id in ids.as_slice() {
-        text.push_str(id.as_str())?;
-    }
-    Ok(text)
-}
+#[derive(Clone, Copy)]
+struct IdsText<'a>(&'a IdList);
 
-fn parent_text(alloc: Global, parent: Option<StateId>) -> Result<String, AllocError> {
-    match parent {
-        Some(id) => format!(in alloc; "{}/{}", id.term, id.version),
-        None => format!(in alloc; "_"),
+impl<'a> fmt::Display for IdsText<'a> {
+    fn fmt<W: fmt::Write>(&self, f: &mut fmt::Formatter<W>) -> fmt::Result {
+        for id in self.0.as_slice() {
+            write!(f, "{id}")?;
+        }
+        Ok(())
     }
 }
 
-fn state_text(alloc: Global, state: &ClusterState) -> Result<String, AllocError> {
-    let parent = parent_text(alloc, state.parent)?;
-    let config = ids_text(alloc, &state.config)?;
-    let committed = ids_text(alloc, &state.committed)?;
-    let members = ids_text(alloc, &state.value.members)?;
-    let term = state.term;
-    let version = state.version;
-    format!(in alloc; "{term}/{version} {parent} {config} {committed} {members}")
+#[derive(Clone, Copy)]
+struct ParentText(Option<StateId>);
+
+impl fmt::Display for ParentText {
+    fn fmt<W: fmt::Write>(&self, f: &mut fmt::Formatter<W>) -> fmt::Result {
+        match self.0 {
+            Some(id) => write!(f, "{}/{}", id.term, id.version),
+            None => write!(f, "_"),
+        }
+    }
 }
 
-fn message_text(alloc: Global, message: &Message) -> Result<String, AllocError> {
-    match message {
-        Message::Join(j) => {
-            format!(in alloc;
+#[derive(Clone, Copy)]
+struct StateText<'a>(&'a ClusterState);
+
+impl<'a> fmt::Display for StateText<'a> {
+    fn fmt<W: fmt::Write>(&self, f: &mut fmt::Formatter<W>) -> fmt::Result {
+        let state = self.0;
+        write!(
+            f,
+            "{}/{} {} {} {} {}",
+            state.term,
+            state.version,
+            ParentText(state.parent),
+            IdsText(&state.config),
+            IdsText(&state.committed),
+            IdsText(&state.value.members)
+        )
+    }
+}
+
+#[derive(Clone, Copy)]
+struct MessageText<'a>(&'a Message);
+
+impl<'a> fmt::Display for MessageText<'a> {
+    fn fmt<W: fmt::Write>(&self, f: &mut fmt::Formatter<W>) -> fmt::Result {
+        match self.0 {
+            Message::Join(j) => write!(
+                f,
                 "join {} {} {} {}/{}",
                 j.source, j.target, j.term, j.last_term, j.last_version
-            )
-        }
-        Message::Publish(request) => {
-            let state = state_text(alloc, &request.state)?;
-            format!(in alloc; "publish {} {}", request.source, state)
-        }
-        Message::Response(r) => {
-            format!(in alloc;
+            ),
+            Message::Publish(request) => {
+                write!(
+                    f,
+                    "publish {} {}",
+                    request.source,
+                    StateText(&request.state)
+                )
+            }
+            Message::Response(r) => write!(
+                f,
                 "response {} {} {}/{}",
                 r.source, r.target, r.term, r.version
-            )
+            ),
+            Message::Commit(c) => write!(f, "commit {} {}/{}", c.source, c.term, c.version),
         }
-        Message::Commit(c) => format!(in alloc; "commit {} {}/{}", c.source, c.term, c.version),
     }
 }
 
-fn taken_text(alloc: Global, sends: &Option<Message>, won: bool) -> Result<String, AllocError> {
-    match sends {
-        Some(message) => message_text(alloc, message),
-        None => format!(in alloc; "won={won}"),
+#[derive(Clone, Copy)]
+struct ReplyText<'a>(&'a ActReply);
+
+impl<'a> fmt::Display for ReplyText<'a> {
+    fn fmt<W: fmt::Write>(&self, f: &mut fmt::Formatter<W>) -> fmt::Result {
+        match self.0 {
+            ActReply::Taken(Some(message), _) => write!(f, "{}", MessageText(message)),
+            ActReply::Taken(None, won) => write!(f, "won={won}"),
+            ActReply::Refused(cause) => write!(f, "{cause:?}"),
+            ActReply::Stopped => write!(f, "stopped"),
+        }
     }
 }
 
-fn reply_text(alloc: Global, reply: &ActReply) -> Result<String, AllocError> {
-    match reply {
-        ActReply::Taken(sends, won) => taken_text(alloc, sends, *won),
-        ActReply::Refused(cause) => format!(in alloc; "{cause:?}"),
-        ActReply::Stopped => format!(in alloc; "stopped"),
+fn is_reply(alloc: Global, reply: &ActReply, wanted: &str) -> bool {
+    match format!(in alloc; "{}", ReplyText(reply)) {
+        Ok(text) => text.as_str() == wanted,
+        Err(_) => false,
     }
 }
 
 // A plain keeper has no faults.
-fn outcome_text(alloc: Global, outcome: &Outcome) -> Result<String, AllocError> {
+fn is_outcome(alloc: Global, outcome: &Outcome, wanted: &str) -> bool {
     match outcome {
-        Outcome::Answered(reply) => reply_text(alloc, reply),
-        Outcome::Disk(_) | Outcome::Crashed(_) => format!(in alloc; "no reply"),
+        Outcome::Answered(reply) => is_reply(alloc, reply, wanted),
+        Outcome::Disk(_) | Outcome::Crashed(_) => false,
     }
 }
 
-// A node of the core, and the same node of the model.
-#[derive(Drop)]
-struct Driven {
-    me: NodeId,
-    node: CoordState<PlainKeeper>,
-    model: Node,
+// A call, and what the core and the model answer.
+type Row = (Call, &'static str);
+
+// Whether the core answers a call so.
+fn core_does(
+    alloc: Global,
+    node: &mut CoordState<PlainKeeper>,
+    row: Row,
+) -> Result<bool, AllocError> {
+    let (call, wanted) = row;
+    let act = act(alloc, call)?;
+    match core_outcome(alloc, node, &act) {
+        Ok(outcome) => Ok(is_outcome(alloc, &outcome, wanted)),
+        Err(error) => Err(error),
+    }
 }
 
-// A node that was just opened over an empty journal.
-fn opened(alloc: Global, me: NodeId) -> Result<Driven, AllocError> {
-    let keeper = PlainKeeper::new(alloc)?;
-    let model = Node::opened(alloc, Kept::empty(alloc)?)?;
-    Ok(Driven {
-        me,
-        node: CoordState::new(me, keeper),
-        model,
-    })
+fn core_answers(alloc: Global, node: &mut CoordState<PlainKeeper>, rows: &[Row]) -> bool {
+    for row in rows {
+        if core_does(alloc, node, *row) != Ok(true) {
+            return false;
+        }
+    }
+    true
+}
+
+// Whether a node of the core that was just opened over an empty journal answers the calls of both lists so.
+fn core_plays(alloc: Global, me: NodeId, first: &[Row], then: &[Row]) -> bool {
+    match PlainKeeper::new(alloc) {
+        Ok(keeper) => {
+            let mut node = CoordState::new(me, keeper);
+            core_answers(alloc, &mut node, first) && core_answers(alloc, &mut node, then)
+        }
+        Err(_) => false,
+    }
 }
 
 // Whether a reply wins an election, and the word that a trace has for it.
@@ -305,57 +327,49 @@ fn ending_of(reply: &ActReply) -> (bool, Ending) {
     }
 }
 
-// The text itself where it is not the wanted one.
-fn same(text: String, wanted: &str) -> Result<(), String> {
-    if text.as_str() == wanted {
-        Ok(())
-    } else {
-        Err(text)
-    }
-}
-
-fn reads(text: Result<String, AllocError>, wanted: &str) -> Result<(), Fail> {
-    same(text?, wanted)?;
-    Ok(())
-}
-
-// Does the act in the core and in the model, which both answer so.
-fn does(alloc: Global, driven: Driven, act: &Act, wanted: &str) -> Result<Driven, Fail>
+// How an act ends in the model, where it answers so.
+fn model_ending(
+    alloc: Global,
+    model: &Node,
+    me: NodeId,
+    act: &Act,
+    wanted: &str,
+) -> Option<(bool, Ending)>
     requires { is_opening act.now ≡ false }
 {
-    let Driven {
-        me,
-        mut node,
-        model,
-    } = driven;
-    let modelled = model.reply(alloc, me, act)?;
-    reads(reply_text(alloc, &modelled), wanted)?;
-    let outcome = core_outcome(alloc, &mut node, act)?;
-    reads(outcome_text(alloc, &outcome), wanted)?;
-    let (won, ending) = ending_of(&modelled);
-    let model = model.ended(alloc, act, won, ending)?;
-    Ok(Driven { me, node, model })
-}
-
-// Does the calls, which the core and the model both answer so.
-fn takes(alloc: Global, driven: Driven, rows: &[Row]) -> Result<Driven, Fail> {
-    let mut driven = driven;
-    for (call, wanted) in rows {
-        let act = act(alloc, *call)?;
-        driven = does(alloc, driven, &act, wanted)?;
+    match model.reply(alloc, me, act) {
+        Ok(reply) => is_reply(alloc, &reply, wanted).then_some(ending_of(&reply)),
+        Err(_) => None,
     }
-    Ok(driven)
 }
 
-// A call, and what the core and the model answer.
-type Row = (Call, &'static str);
+// The node of the model after a call, where it answers so.
+fn model_does(alloc: Global, model: Node, me: NodeId, row: Row) -> Option<Node> {
+    let (call, wanted) = row;
+    let act = act(alloc, call).ok()?;
+    match model_ending(alloc, &model, me, &act, wanted) {
+        Some((won, ending)) => model.ended(alloc, &act, won, ending).ok(),
+        None => None,
+    }
+}
 
-// A node that was just opened does the calls of both lists.
-fn plays(alloc: Global, me: &str, first: &[Row], then: &[Row]) -> Result<(), Fail> {
-    let driven = opened(alloc, id(me))?;
-    let driven = takes(alloc, driven, first)?;
-    drop(takes(alloc, driven, then)?);
-    Ok(())
+fn model_answers(alloc: Global, model: Node, me: NodeId, rows: &[Row]) -> Option<Node> {
+    let mut model = model;
+    for row in rows {
+        model = model_does(alloc, model, me, *row)?;
+    }
+    Some(model)
+}
+
+// The same node of the model after the calls of both lists, where it answers them so.
+fn played(alloc: Global, me: NodeId, first: &[Row], then: &[Row]) -> Option<Node> {
+    let model = Node::opened(alloc, Kept::empty(alloc).ok()?).ok()?;
+    let model = model_answers(alloc, model, me, first)?;
+    model_answers(alloc, model, me, then)
+}
+
+fn model_plays(alloc: Global, me: NodeId, first: &[Row], then: &[Row]) -> bool {
+    played(alloc, me, first, then).is_some()
 }
 
 const B_JOINS: &[Row] = &[
@@ -384,72 +398,48 @@ const A_PUBLISHES: &[Row] = &[
     (Call::Publish(1, "a,b,c"), "response a a 1/1"),
 ];
 
-#[test]
-fn a_quorum_elects_once(rt: HostRuntime) -> Result<(), Fail> {
-    let alloc = rt.alloc();
-    plays(alloc, "b", B_JOINS, &[])?;
-    plays(alloc, "c", C_JOINS, &[])?;
-    const ROWS: &[Row] = &[
-        (Call::Join("b", 1, 0, 0), "won=false"),
-        (Call::Boot("a,b"), "Initial(AlreadySet)"),
-    ];
-    plays(alloc, "a", A_WINS, ROWS)
-}
+const NONE: &[Row] = &[];
 
-#[test]
-fn a_new_round_begins_without_votes(rt: HostRuntime) -> Result<(), Fail> {
-    const ROWS: &[Row] = &[
-        (Call::Start(2), "join a a 2 0/0"),
-        (Call::Join("c", 2, 0, 0), "won=false"),
-        (Call::Join("a", 2, 0, 0), "won=true"),
-    ];
-    plays(rt.alloc(), "a", A_WINS, ROWS)
-}
+const A_IS_ELECTED_ONCE: &[Row] = &[
+    (Call::Join("b", 1, 0, 0), "won=false"),
+    (Call::Boot("a,b"), "Initial(AlreadySet)"),
+];
 
-#[test]
-fn a_quorum_commits(rt: HostRuntime) -> Result<(), Fail> {
-    let alloc = rt.alloc();
-    const PUBLISHED: &[Row] = &[(Call::Publish(1, "a,b,c"), "response b a 1/1")];
-    plays(alloc, "b", B_JOINS, PUBLISHED)?;
-    const COMMITTED: &[Row] = &[
-        (Call::Response("a"), "won=false"),
-        (Call::Response("b"), "commit a 1/1"),
-        (Call::Commit, "won=false"),
-    ];
-    plays(alloc, "a", A_PUBLISHES, COMMITTED)?;
-    const REFUSED: &[Row] = &[(Call::Commit, "Commit(AcceptedTermMismatch(0, 1))")];
-    plays(alloc, "c", C_JOINS, REFUSED)
-}
+const A_WINS_AGAIN: &[Row] = &[
+    (Call::Start(2), "join a a 2 0/0"),
+    (Call::Join("c", 2, 0, 0), "won=false"),
+    (Call::Join("a", 2, 0, 0), "won=true"),
+];
 
-#[test]
-fn one_change_of_the_configuration(rt: HostRuntime) -> Result<(), Fail> {
-    const ROWS: &[Row] = &[
-        (Call::Value(2, "a,b"), "publish a 1/2 1/1 ab abc "),
-        (Call::Value(3, "a,b"), "Value(NotAccepted(2, 1))"),
-        (Call::Commit, "Commit(Publishing(1, 2))"),
-        (Call::Publish(2, "a,b"), "response a a 1/2"),
-        (Call::Publish(2, "a,b"), "Publish(VersionNotGreater(2, 2))"),
-        (Call::Value(3, "a,b,c"), "Value(Reconfiguring)"),
-    ];
-    plays(rt.alloc(), "a", A_PUBLISHES, ROWS)
-}
+const B_ACCEPTS: &[Row] = &[(Call::Publish(1, "a,b,c"), "response b a 1/1")];
 
-#[test]
-fn both_configurations_have_a_quorum(rt: HostRuntime) -> Result<(), Fail> {
-    const ROWS: &[Row] = &[
-        (Call::Value(1, "c"), "Value(NoJoinQuorum)"),
-        (Call::Value(1, "a"), "publish a 1/1 0/0 a abc "),
-        (Call::Publish(1, "a"), "response a a 1/1"),
-        (Call::Response("a"), "won=false"),
-        (Call::Response("c"), "commit a 1/1"),
-        (Call::Start(2), "join a a 2 1/1"),
-        (Call::Join("a", 2, 1, 1), "won=false"),
-        (Call::Join("c", 2, 0, 0), "won=true"),
-    ];
-    plays(rt.alloc(), "a", A_WINS, ROWS)
-}
+const A_COMMITS: &[Row] = &[
+    (Call::Response("a"), "won=false"),
+    (Call::Response("b"), "commit a 1/1"),
+    (Call::Commit, "won=false"),
+];
 
-const NO_LIST: &[Row] = &[];
+const C_HAS_NOT_ACCEPTED: &[Row] = &[(Call::Commit, "Commit(AcceptedTermMismatch(0, 1))")];
+
+const A_CHANGES_THE_VOTERS: &[Row] = &[
+    (Call::Value(2, "a,b"), "publish a 1/2 1/1 ab abc "),
+    (Call::Value(3, "a,b"), "Value(NotAccepted(2, 1))"),
+    (Call::Commit, "Commit(Publishing(1, 2))"),
+    (Call::Publish(2, "a,b"), "response a a 1/2"),
+    (Call::Publish(2, "a,b"), "Publish(VersionNotGreater(2, 2))"),
+    (Call::Value(3, "a,b,c"), "Value(Reconfiguring)"),
+];
+
+const A_BECOMES_THE_ONLY_VOTER: &[Row] = &[
+    (Call::Value(1, "c"), "Value(NoJoinQuorum)"),
+    (Call::Value(1, "a"), "publish a 1/1 0/0 a abc "),
+    (Call::Publish(1, "a"), "response a a 1/1"),
+    (Call::Response("a"), "won=false"),
+    (Call::Response("c"), "commit a 1/1"),
+    (Call::Start(2), "join a a 2 1/1"),
+    (Call::Join("a", 2, 1, 1), "won=false"),
+    (Call::Join("c", 2, 0, 0), "won=true"),
+];
 
 const BEFORE: &[Row] = &[
     (Call::Boot("_"), "Initial(EmptyConfig)"),
@@ -476,18 +466,48 @@ const TOO_LARGE: &[Row] = &[(
     "Value(VersionTooLarge(4611686018427387905))",
 )];
 
-// A node, and the two lists of its calls.
-const REFUSED: &[(&str, &[Row], &[Row])] = &[
-    ("a", BEFORE, NO_LIST),
-    ("b", B_JOINS, OTHER),
-    ("a", FRESHER, NO_LIST),
-    ("a", A_WINS, TOO_LARGE),
+// What is shown, a node, and the two lists of its calls.
+const PLAYS: &[(&str, &str, &[Row], &[Row])] = &[
+    ("a_quorum_elects_once", "b", B_JOINS, NONE),
+    ("a_quorum_elects_once", "c", C_JOINS, NONE),
+    ("a_quorum_elects_once", "a", A_WINS, A_IS_ELECTED_ONCE),
+    (
+        "a_new_round_begins_without_votes",
+        "a",
+        A_WINS,
+        A_WINS_AGAIN,
+    ),
+    ("a_quorum_commits", "b", B_JOINS, B_ACCEPTS),
+    ("a_quorum_commits", "a", A_PUBLISHES, A_COMMITS),
+    ("a_quorum_commits", "c", C_JOINS, C_HAS_NOT_ACCEPTED),
+    (
+        "one_change_of_the_configuration",
+        "a",
+        A_PUBLISHES,
+        A_CHANGES_THE_VOTERS,
+    ),
+    (
+        "both_configurations_have_a_quorum",
+        "a",
+        A_WINS,
+        A_BECOMES_THE_ONLY_VOTER,
+    ),
+    ("acts_are_refused_with_these_causes", "a", BEFORE, NONE),
+    ("acts_are_refused_with_these_causes", "b", B_JOINS, OTHER),
+    ("acts_are_refused_with_these_causes", "a", FRESHER, NONE),
+    ("acts_are_refused_with_these_causes", "a", A_WINS, TOO_LARGE),
 ];
 
 #[test]
-fn acts_are_refused_with_these_causes(rt: HostRuntime) -> Result<(), Fail> {
-    for (me, first, then) in REFUSED {
-        plays(rt.alloc(), me, first, then)?;
+fn the_core_and_the_model_answer_each_call_so(rt: HostRuntime) {
+    for (name, me, first, then) in PLAYS {
+        assert!(rt;
+            core_plays(rt.alloc(), id(me), first, then),
+            "{name}: {me}, the core"
+        );
+        assert!(rt;
+            model_plays(rt.alloc(), id(me), first, then),
+            "{name}: {me}, the model"
+        );
     }
-    Ok(())
 }

@@ -1,7 +1,6 @@
 //! Ids, sets and quorums at their limits. What is expected was counted by hand.
 use crate::names::{id, list, numbered, set};
 use std::alloc::{AllocError, Global};
-use std::test::Fail;
 use voting_config::{
     Full, IdError, IdList, IdRoom, MAX_IDS, NodeId, NodeSet, Roster, Tally, VotingConfig,
     quorum_mask, with_bit, without_bit,
@@ -153,69 +152,139 @@ fn does(ids: &mut NodeSet, act: Act) -> Option<bool> {
     None
 }
 
-// A set, what is done to it, what that answers, and the set after it.
-type Row = (&'static str, Act, Option<bool>, &'static str);
+// What is shown, a set, what is done to it, what that answers, and the set after it.
+type Row = (&'static str, &'static str, Act, Option<bool>, &'static str);
 
 fn holds(row: &Row) -> bool {
-    let (before, act, answer, after) = row;
+    let (_, before, act, answer, after) = row;
     let mut ids = set(before);
     does(&mut ids, *act) == *answer && is(&ids, after)
 }
 
-fn hold(rows: &[Row]) -> Result<(), Fail> {
-    for (at, row) in rows.iter().enumerate() {
-        if !holds(row) {
-            return Err(Fail::new(format_args!("row {at}")));
-        }
+const ACTS: &[Row] = &[
+    (
+        "a_65th_id_is_refused",
+        "a,b,c",
+        Act::Insert("b"),
+        Some(false),
+        "a,b,c",
+    ),
+    (
+        "a_65th_id_is_refused",
+        "a,c",
+        Act::Insert("b"),
+        Some(true),
+        "a,b,c",
+    ),
+    (
+        "a_65th_id_is_refused",
+        "a,b,c",
+        Act::Remove("b"),
+        Some(true),
+        "a,c",
+    ),
+    (
+        "a_65th_id_is_refused",
+        "a,c",
+        Act::Remove("b"),
+        Some(false),
+        "a,c",
+    ),
+    (
+        "a_65th_id_is_refused",
+        "n01..n63",
+        Act::Insert("n64"),
+        Some(true),
+        FULL,
+    ),
+    ("a_65th_id_is_refused", FULL, Act::Insert("n65"), None, FULL),
+    (
+        "a_65th_id_is_refused",
+        FULL,
+        Act::Insert("n64"),
+        Some(false),
+        FULL,
+    ),
+    (
+        "a_65th_id_is_refused",
+        FULL,
+        Act::Remove("n01"),
+        Some(true),
+        "n02..n64",
+    ),
+    (
+        "an_id_is_put_in_if_there_is_room",
+        "b,c",
+        Act::PutIfRoom("a"),
+        None,
+        "a,b,c",
+    ),
+    (
+        "an_id_is_put_in_if_there_is_room",
+        "a,b,c",
+        Act::PutIfRoom("b"),
+        None,
+        "a,b,c",
+    ),
+    (
+        "an_id_is_put_in_if_there_is_room",
+        FULL,
+        Act::PutIfRoom("n65"),
+        None,
+        FULL,
+    ),
+    (
+        "an_id_is_put_in_if_there_is_room",
+        "b,c",
+        Act::Put("a"),
+        None,
+        "a,b,c",
+    ),
+    (
+        "a_set_is_filled_in_its_place",
+        "b,c",
+        Act::CopyFrom("a,d,e"),
+        None,
+        "a,d,e",
+    ),
+    (
+        "a_set_is_filled_in_its_place",
+        "a,d,e",
+        Act::Clear,
+        None,
+        "_",
+    ),
+];
+
+#[test]
+fn sets_are_changed_in_their_place(rt: HostRuntime) {
+    for (at, row) in ACTS.iter().enumerate() {
+        assert!(rt; holds(row), "{}: row {at}", row.0);
     }
-    Ok(())
-}
-
-const FULL_SETS: &[Row] = &[
-    ("a,b,c", Act::Insert("b"), Some(false), "a,b,c"),
-    ("a,c", Act::Insert("b"), Some(true), "a,b,c"),
-    ("a,b,c", Act::Remove("b"), Some(true), "a,c"),
-    ("a,c", Act::Remove("b"), Some(false), "a,c"),
-    ("n01..n63", Act::Insert("n64"), Some(true), FULL),
-    (FULL, Act::Insert("n65"), None, FULL),
-    (FULL, Act::Insert("n64"), Some(false), FULL),
-    (FULL, Act::Remove("n01"), Some(true), "n02..n64"),
-];
-
-#[test]
-fn a_65th_id_is_refused(rt: HostRuntime) -> Result<(), Fail> {
-    hold(FULL_SETS)?;
     assert!(rt; set(FULL).copy().contains(id("n64")) && !set(FULL).contains(id("n65")));
-    Ok(())
 }
 
-const PUTS: &[Row] = &[
-    ("b,c", Act::PutIfRoom("a"), None, "a,b,c"),
-    ("a,b,c", Act::PutIfRoom("b"), None, "a,b,c"),
-    (FULL, Act::PutIfRoom("n65"), None, FULL),
-    ("b,c", Act::Put("a"), None, "a,b,c"),
-];
-
-#[test]
-fn an_id_is_put_in_if_there_is_room() -> Result<(), Fail> {
-    hold(PUTS)
-}
-
-const FILLS: &[Row] = &[
-    ("b,c", Act::CopyFrom("a,d,e"), None, "a,d,e"),
-    ("a,d,e", Act::Clear, None, "_"),
-];
-
-#[test]
-fn a_set_is_filled_in_its_place(rt: HostRuntime) -> Result<(), Fail> {
-    hold(FILLS)?;
-    let list = list(rt.alloc(), "a,d,e")?;
+// Whether a configuration of b and c becomes one of these ids, where it was none.
+fn becomes(list: &IdList, text: &str) -> bool {
     let mut config = VotingConfig::of(&set("b,c"));
-    assert!(rt; !config.is_same_list(&list));
-    config.copy_from(&list);
-    assert!(rt; is(config.members(), "a,d,e") && config.is_same_list(&list));
-    assert!(rt; config.is_same(&VotingConfig::of_list(&list)));
-    Ok(())
+    let is_other = !config.is_same_list(list);
+    config.copy_from(list);
+    is_other
+        && is(config.members(), text)
+        && config.is_same_list(list)
+        && config.is_same(&VotingConfig::of_list(list))
+}
+
+fn is_filled(alloc: Global, text: &str) -> bool {
+    match list(alloc, text) {
+        Ok(list) => becomes(&list, text),
+        Err(_) => false,
+    }
+}
+
+#[test]
+fn a_configuration_is_filled_in_its_place(rt: HostRuntime) {
+    assert!(rt; is_filled(rt.alloc(), "a,d,e"));
 }
 
 // What is asked of two sets.
@@ -289,31 +358,50 @@ fn a_set_is_made_of_ids_in_any_order(rt: HostRuntime) {
 }
 
 // Whether a list of the set holds its ids, and so does a copy.
-fn is_list(list: &IdList, text: &str) -> Result<bool, AllocError> {
-    let copy = list.copy()?;
-    Ok(is(&list.to_set(), text) && copy.as_slice() == list.as_slice())
+fn is_list(list: &IdList, text: &str) -> bool {
+    match list.copy() {
+        Ok(copy) => is(&list.to_set(), text) && copy.as_slice() == list.as_slice(),
+        Err(_) => false,
+    }
 }
 
-// Whether the set is kept as a list, made at once or in room that was taken before.
-fn is_kept(alloc: Global, text: &str) -> Result<bool, AllocError> {
-    let ids = set(text);
-    let list = IdList::of(alloc, &ids)?;
-    let room = IdRoom::of(alloc, MAX_IDS)?;
-    let filled = room.fill(&ids);
-    Ok(is_list(&list, text)? && is_list(&filled, text)?)
+fn is_made(alloc: Global, text: &str) -> bool {
+    match list(alloc, text) {
+        Ok(list) => is_list(&list, text),
+        Err(_) => false,
+    }
+}
+
+// Whether the set is a list in room that was taken before.
+fn is_in_room(alloc: Global, text: &str) -> bool {
+    match IdRoom::of(alloc, MAX_IDS) {
+        Ok(room) => is_list(&room.fill(&set(text)), text),
+        Err(_) => false,
+    }
 }
 
 const LISTED: &[&str] = &["_", "a", "a,b,node-1", FULL];
 
-#[test]
-fn a_set_is_kept_as_a_list(rt: HostRuntime) -> Result<(), Fail> {
-    for text in LISTED {
-        assert!(rt; is_kept(rt.alloc(), text)?, "{text}");
+fn has_a_and_c(list: &IdList) -> bool {
+    list.len() == 2 && list.contains(id("c")) && !list.contains(id("b")) && !list.is_empty()
+}
+
+fn are_a_and_c(alloc: Global) -> bool {
+    match list(alloc, "a,c") {
+        Ok(list) => has_a_and_c(&list),
+        Err(_) => false,
     }
-    let list = list(rt.alloc(), "a,c")?;
-    assert!(rt; list.len() == 2 && list.contains(id("c")) && !list.contains(id("b")));
-    assert!(rt; !list.is_empty() && IdList::new(rt.alloc()).is_empty());
-    Ok(())
+}
+
+#[test]
+fn a_set_is_kept_as_a_list(rt: HostRuntime) {
+    for text in LISTED {
+        assert!(rt;
+            is_made(rt.alloc(), text) && is_in_room(rt.alloc(), text),
+            "{text}"
+        );
+    }
+    assert!(rt; are_a_and_c(rt.alloc()) && IdList::new(rt.alloc()).is_empty());
 }
 
 // What is asked of a set that is kept as a list, and of another.
@@ -365,14 +453,13 @@ const ASKED: &[(&str, &str, Asked, bool)] = &[
 ];
 
 #[test]
-fn a_kept_set_is_asked_as_it_lies(rt: HostRuntime) -> Result<(), Fail> {
+fn a_kept_set_is_asked_as_it_lies(rt: HostRuntime) {
     for (at, (ids, others, asked, wanted)) in ASKED.iter().enumerate() {
         assert!(rt;
-            are_asked(rt.alloc(), ids, others, *asked)? == *wanted,
+            are_asked(rt.alloc(), ids, others, *asked) == Ok(*wanted),
             "row {at}"
         );
     }
-    Ok(())
 }
 
 fn is_quorum(config: &str, votes: &str) -> bool {
