@@ -29,40 +29,49 @@ fn waited(children: &mut Children, child: SystemChild) -> Result<Ended, HostErro
     children.wait(child).map_err(|unwaited| unwaited.error)
 }
 
-// The status and the output of a shell that does this.
-fn ended(rt: &HostRuntime, text: &str) -> Result<(u8, Vec<u8>), HostError> {
+// How a shell that does this ends.
+fn ended(rt: &HostRuntime, text: &str) -> Result<Ended, HostError> {
     let mut children = Children::new(rt.alloc());
     let child = spawned(rt, &mut children, text)?;
-    let ended = waited(&mut children, child)?;
-    Ok((ended.status, ended.output))
+    waited(&mut children, child)
 }
 
-fn is_ended(answer: Result<(u8, Vec<u8>), HostError>, status: u8, output: &[u8]) -> bool {
+fn is_ended(answer: Result<Ended, HostError>, status: u8, output: &[u8]) -> bool {
     match answer {
-        Ok(ended) => ended.0 == status && ended.1.as_slice() == output,
+        Ok(ended) => ended.status == status && ended.output.as_slice() == output,
         Err(_) => false,
     }
 }
 
-#[test]
-fn what_a_child_writes_and_its_status_come_back(rt: HostRuntime) {
-    assert!(rt; is_ended(ended(&rt, "printf 'a\nb'; exit 11"), 11, b"a\nb"));
-    assert!(rt; is_ended(ended(&rt, ":"), 0, b""));
-}
+// A test's name, what a shell does, the status with which it ends, and what it has written.
+const ENDS: &[(&str, &str, u8, &[u8])] = &[
+    (
+        "what_a_child_writes_and_its_status_come_back",
+        "printf 'a\nb'; exit 11",
+        11,
+        b"a\nb",
+    ),
+    ("what_a_child_writes_and_its_status_come_back", ":", 0, b""),
+    ("a_child_has_an_empty_input", "cat; echo end", 0, b"end\n"),
+    (
+        "a_signal_is_a_status_above_128",
+        "echo a; kill -9 $$",
+        137,
+        b"a\n",
+    ),
+    (
+        "a_child_that_closes_its_output_is_still_waited_for",
+        "echo a; exec >&-; sleep 0.1; exit 3",
+        3,
+        b"a\n",
+    ),
+];
 
 #[test]
-fn a_child_has_an_empty_input(rt: HostRuntime) {
-    assert!(rt; is_ended(ended(&rt, "cat; echo end"), 0, b"end\n"));
-}
-
-#[test]
-fn a_signal_is_a_status_above_128(rt: HostRuntime) {
-    assert!(rt; is_ended(ended(&rt, "echo a; kill -9 $$"), 137, b"a\n"));
-}
-
-#[test]
-fn a_child_that_closes_its_output_is_still_waited_for(rt: HostRuntime) {
-    assert!(rt; is_ended(ended(&rt, "echo a; exec >&-; sleep 0.1; exit 3"), 3, b"a\n"));
+fn a_child_ends_with_its_status_and_its_output(rt: HostRuntime) {
+    for (name, text, status, output) in ENDS {
+        assert!(rt; is_ended(ended(&rt, text), *status, output), "{name}");
+    }
 }
 
 #[test]
@@ -145,12 +154,20 @@ fn is_gone(rt: &HostRuntime, children: &mut Children) -> Result<bool, Fail> {
     Ok(was_there && !is_there(rt, number.as_str().trim())?)
 }
 
+// The same, and whether that takes less time than the child would.
+fn is_gone_at_once(rt: &HostRuntime) -> Result<bool, Fail> {
+    let began = Instant::now(rt)?;
+    let is_gone = {
+        let mut children = Children::new(rt.alloc());
+        is_gone(rt, &mut children)
+    };
+    Ok(is_gone? && began.elapsed(rt)?.as_secs() < 100)
+}
+
 #[test]
 fn a_child_that_was_killed_is_gone(rt: HostRuntime) -> Result<(), Fail> {
     let _ = fs::remove_file(&rt, "host_io_pid");
-    let began = Instant::now(&rt)?;
-    assert!(rt; is_gone(&rt, &mut Children::new(rt.alloc()))?);
-    assert!(rt; began.elapsed(&rt)?.as_secs() < 100);
+    assert!(rt; is_gone_at_once(&rt)?);
     fs::remove_file(&rt, "host_io_pid")?;
     Ok(())
 }

@@ -4,7 +4,6 @@
 use self::AtLink::*;
 use self::ByClient::*;
 use self::ByCrowd::*;
-use self::ByPeer::*;
 use self::Row::*;
 use bytes::Bytes;
 use host_io::{Framing, Piece, SocketLink, SystemHost, Target};
@@ -64,6 +63,9 @@ const LONG: usize = 4_194_304;
 // The longest frame for which there is room.
 const LONGEST: usize = 8_388_612;
 
+// The most bytes that a client reads at once.
+const ROOM: usize = 16;
+
 // The clients that rows name, in the order in which they connect.
 const FIRST: usize = 0;
 
@@ -103,6 +105,8 @@ enum AtLink {
     Closes(u64),
     // The next inputs: so many ticks.
     Ticks(u64),
+    // The next input is a tick, and one comes again though it sends itself something each time.
+    TicksAmongInputs,
     // The next input but for ticks: that the node is to end.
     Stops,
     // The next input is whatever it is.
@@ -112,20 +116,12 @@ enum AtLink {
     // It sends so many bytes of this value.
     SendsMany(u64, u8, usize),
     Drops(u64),
-    SendsItself(&'static [u8]),
+    // It sends these bytes to the node with this id.
+    SendsTo(u8, &'static [u8]),
     // It sends so many frames to its peer.
     Asks(u64),
     // Nothing is asked of it for 150 ms.
     Rests,
-}
-
-// What the peer does, node b, whose link is at the address that the link of node a has for it.
-#[derive(Clone, Copy)]
-enum ByPeer {
-    Opens,
-    IsAsked,
-    Answers,
-    Ends,
 }
 
 // What many clients do.
@@ -145,8 +141,10 @@ enum Row {
     Client(usize, ByClient),
     // At the link of node a.
     Here(AtLink),
-    // At the peer's.
-    There(ByPeer),
+    // At the link of the peer, node b, which is at the address that the link of node a has for it.
+    There(AtLink),
+    PeerOpens,
+    PeerEnds,
     Crowd(ByCrowd),
 }
 
@@ -161,42 +159,60 @@ fn free_address(rt: &HostRuntime) -> Result<String, Fail> {
     Ok(format!(in rt.alloc(); "{address}")?)
 }
 
+fn peers_of(alloc: Global, peer: Option<(u8, &str)>) -> Result<Vec<Peer>, AllocError> {
+    let mut peers = Vec::new(alloc);
+    if let Some((letter, address)) = peer {
+        let id = id(letter);
+        let address = String::from_str(alloc, address)?;
+        peers.push(Peer { id, address })?;
+    }
+    Ok(peers)
+}
+
 fn settings(
     alloc: Global,
-    me: NodeId,
+    me: u8,
     address: &str,
-    peers: Vec<Peer>,
+    peer: Option<(u8, &str)>,
 ) -> Result<LinkSettings, AllocError> {
+    let peers = peers_of(alloc, peer)?;
     Ok(LinkSettings {
-        me,
+        me: id(me),
         listen: String::from_str(alloc, address)?,
         peers,
     })
 }
 
-// A link of the node with this id, which has these peers.
+// A link of the node with this id, which listens here and has this peer, if any.
 fn open(
     rt: &HostRuntime,
-    me: NodeId,
+    me: u8,
     address: &str,
-    peers: Vec<Peer>,
+    peer: Option<(u8, &str)>,
 ) -> Result<RealLink, HostError> {
-    match settings(rt.alloc(), me, address, peers) {
+    match settings(rt.alloc(), me, address, peer) {
         Ok(settings) => SystemHost::new(rt, Pieces).open_link(&settings),
         Err(_) => Err(HostError::Memory),
     }
 }
 
-fn only_peer(alloc: Global, id: NodeId, address: &str) -> Result<Vec<Peer>, AllocError> {
-    let peer = Peer {
-        id,
-        address: String::from_str(alloc, address)?,
-    };
-    Ok(vec![in alloc; peer]?)
+// What a link is given to send: these bytes, or so many of this value.
+#[derive(Clone, Copy)]
+enum Sent {
+    Are(&'static [u8]),
+    AreMany(u8, usize),
 }
 
-fn send(alloc: Global, link: &mut RealLink, to: Target, bytes: Bytes) -> bool {
-    match vec![in alloc; Piece { to, bytes }] {
+fn out_of(alloc: Global, to: Target, sent: Sent) -> Result<Vec<Piece>, AllocError> {
+    let bytes = match sent {
+        Sent::Are(bytes) => Bytes::from_static(bytes),
+        Sent::AreMany(value, count) => Bytes::from_vec(vec![in alloc; value; count]?)?,
+    };
+    Ok(vec![in alloc; Piece { to, bytes }]?)
+}
+
+fn send(alloc: Global, link: &mut RealLink, to: Target, sent: Sent) -> bool {
+    match out_of(alloc, to, sent) {
         Ok(out) => {
             link.send(out);
             true
@@ -205,8 +221,54 @@ fn send(alloc: Global, link: &mut RealLink, to: Target, bytes: Bytes) -> bool {
     }
 }
 
-fn send_bytes(alloc: Global, link: &mut RealLink, to: Target, bytes: &'static [u8]) -> bool {
-    send(alloc, link, to, Bytes::from_static(bytes))
+fn ask(alloc: Global, link: &mut RealLink, count: u64) -> bool {
+    for _ in 0..count {
+        if !send(alloc, link, Target::Node(id(b'b')), Sent::Are(ASKED)) {
+            return false;
+        }
+    }
+    true
+}
+
+// An input that is no tick.
+#[derive(Clone, Copy)]
+enum Given {
+    Bytes(u64, &'static [u8]),
+    Closed(u64),
+    Stop,
+}
+
+fn is(input: &Input, wanted: Given) -> bool {
+    match (input, wanted) {
+        (Input::Bytes { conn, bytes }, Given::Bytes(number, wanted)) => {
+            *conn == number && bytes.as_slice() == wanted
+        }
+        (Input::Closed { conn }, Given::Closed(number)) => *conn == number,
+        (Input::Stop, Given::Stop) => true,
+        _ => false,
+    }
+}
+
+// Whether this is the next input, after so many ticks at most.
+fn gives_after(link: &mut RealLink, most: u64, wanted: Given) -> bool {
+    for _ in 0..=most {
+        match link.next() {
+            Ok(Input::Tick { .. }) => {}
+            Ok(input) => return is(&input, wanted),
+            Err(_) => return false,
+        }
+    }
+    false
+}
+
+// Whether this is the next input but for ticks, so many times.
+fn gives(link: &mut RealLink, wanted: Given, times: u64) -> bool {
+    for _ in 0..times {
+        if !gives_after(link, 99, wanted) {
+            return false;
+        }
+    }
+    true
 }
 
 // The moment of the next input, where it is a tick.
@@ -214,57 +276,6 @@ fn next_tick(link: &mut RealLink) -> Option<u64> {
     match link.next() {
         Ok(Input::Tick { now, .. }) => Some(now),
         _ => None,
-    }
-}
-
-// The next input that is no tick.
-fn next_input(link: &mut RealLink) -> Option<Input> {
-    for _ in 0..100 {
-        match link.next() {
-            Ok(Input::Tick { .. }) => {}
-            Ok(input) => return Some(input),
-            Err(_) => return None,
-        }
-    }
-    None
-}
-
-fn are_bytes(input: Option<Input>, number: u64, wanted: &[u8]) -> bool {
-    match input {
-        Some(Input::Bytes { conn, bytes }) => conn == number && bytes.as_slice() == wanted,
-        _ => false,
-    }
-}
-
-fn gives(link: &mut RealLink, number: u64, wanted: &[u8]) -> bool {
-    are_bytes(next_input(link), number, wanted)
-}
-
-fn gives_at_once(link: &mut RealLink, number: u64, wanted: &[u8]) -> bool {
-    are_bytes(link.next().ok(), number, wanted)
-}
-
-fn gives_times(link: &mut RealLink, number: u64, wanted: &[u8], count: u64) -> bool {
-    for _ in 0..count {
-        if !gives(link, number, wanted) {
-            return false;
-        }
-    }
-    true
-}
-
-fn stops(link: &mut RealLink) -> bool {
-    matches!(next_input(link), Some(Input::Stop))
-}
-
-fn goes_on(link: &mut RealLink) -> bool {
-    link.next().is_ok()
-}
-
-fn closes(link: &mut RealLink, number: u64) -> bool {
-    match next_input(link) {
-        Some(Input::Closed { conn }) => conn == number,
-        _ => false,
     }
 }
 
@@ -277,47 +288,46 @@ fn ticks(link: &mut RealLink, count: u64) -> bool {
     true
 }
 
-// Sends as many bytes of one value over a connection.
-fn send_many(alloc: Global, link: &mut RealLink, number: u64, value: u8, count: usize) -> bool {
-    match many(alloc, value, count) {
-        Ok(bytes) => send(alloc, link, Target::Connection(number), bytes),
-        Err(_) => false,
-    }
-}
-
-fn many(alloc: Global, value: u8, count: usize) -> Result<Bytes, AllocError> {
-    Ok(Bytes::from_vec(vec![in alloc; value; count]?)?)
-}
-
-fn ask(alloc: Global, link: &mut RealLink, count: u64) -> bool {
-    for _ in 0..count {
-        if !send_bytes(alloc, link, Target::Node(id(b'b')), ASKED) {
+// Whether a tick comes while there always is an input, 100 ms after the one before it or later.
+fn ticks_among_inputs(alloc: Global, link: &mut RealLink) -> bool {
+    let Some(first) = next_tick(link) else {
+        return false;
+    };
+    for _ in 0..10_000_000 {
+        if !send(alloc, link, Target::Node(id(b'a')), Sent::Are(ASKED)) {
             return false;
         }
+        if let Some(now) = next_tick(link) {
+            return first.saturating_add(100) <= now;
+        }
     }
-    true
+    false
 }
 
 // What is done with a link, or what it then gives.
 fn is_so(rt: &HostRuntime, link: &mut RealLink, row: AtLink) -> bool {
     let alloc = rt.alloc();
     match row {
-        Gives(number, wanted) => gives(link, number, wanted),
-        GivesAtOnce(number, wanted) => gives_at_once(link, number, wanted),
-        GivesTimes(number, wanted, count) => gives_times(link, number, wanted, count),
-        AtLink::Closes(number) => closes(link, number),
+        Gives(number, bytes) => gives(link, Given::Bytes(number, bytes), 1),
+        GivesAtOnce(number, bytes) => gives_after(link, 0, Given::Bytes(number, bytes)),
+        GivesTimes(number, bytes, times) => gives(link, Given::Bytes(number, bytes), times),
+        Closes(number) => gives(link, Given::Closed(number), 1),
         Ticks(count) => ticks(link, count),
-        Stops => stops(link),
-        GoesOn => goes_on(link),
+        TicksAmongInputs => ticks_among_inputs(alloc, link),
+        Stops => gives(link, Given::Stop, 1),
+        GoesOn => link.next().is_ok(),
         HasNoFault => link.fault_count() == 0,
-        Sends(number, bytes) => send_bytes(alloc, link, Target::Connection(number), bytes),
-        SendsMany(number, value, count) => send_many(alloc, link, number, value, count),
+        Sends(number, bytes) => { send(alloc, link, Target::Connection(number), Sent::Are(bytes)) }
+        SendsMany(number, value, count) => {
+            let sent = Sent::AreMany(value, count);
+            send(alloc, link, Target::Connection(number), sent)
+        }
+        SendsTo(node, bytes) => send(alloc, link, Target::Node(id(node)), Sent::Are(bytes)),
+        Asks(count) => ask(alloc, link, count),
         Drops(number) => {
             link.drop_conn(number);
             true
         }
-        SendsItself(bytes) => send_bytes(alloc, link, Target::Node(id(b'a')), bytes),
-        Asks(count) => ask(alloc, link, count),
         Rests => {
             thread::sleep(rt, Duration::from_millis(150));
             true
@@ -325,30 +335,21 @@ fn is_so(rt: &HostRuntime, link: &mut RealLink, row: AtLink) -> bool {
     }
 }
 
-fn connect(rt: &HostRuntime, address: &String) -> io::Result<TcpStream> {
-    TcpStream::connect(rt, address.as_str())
-}
-
 fn say(mut client: &TcpStream, text: &[u8]) -> bool {
     client.write_all(text).is_ok()
 }
 
-// Whether as many bytes as these come, and are these.
-fn reads(mut client: &TcpStream, wanted: &[u8]) -> bool {
-    let mut buffer = [0u8; 16];
-    match buffer.get_mut(..wanted.len()) {
-        Some(into) => client.read_exact(into).is_ok() && *into == *wanted,
-        None => false,
-    }
-}
-
-// Reads until the other side ends its writing, or there is no more room. Gives how many bytes came.
-fn read_to_end(mut client: &TcpStream, into: &mut [u8]) -> io::Result<usize> {
+// Reads until there is no more room, or the other side ends its writing. Gives how many bytes came.
+fn read_all(mut client: &TcpStream, into: &mut [u8]) -> io::Result<usize> {
     let mut count: usize = 0;
     for _ in 0..into.len() {
         let Some(rest) = into.get_mut(count..) else {
             break;
         };
+        // A read into no room waits for bytes all the same.
+        if rest.is_empty() {
+            break;
+        }
         match client.read(rest)? {
             0 => break,
             read => count = count.saturating_add(read),
@@ -357,20 +358,38 @@ fn read_to_end(mut client: &TcpStream, into: &mut [u8]) -> io::Result<usize> {
     Ok(count)
 }
 
-fn reads_to_end(client: &TcpStream, wanted: &[u8]) -> bool {
-    let mut buffer = [0u8; 16];
-    match read_to_end(client, &mut buffer) {
-        Ok(count) => count == wanted.len() && buffer.starts_with(wanted),
-        Err(_) => false,
+// Whether these bytes come where there is room for so many: for as many as these, or for more, which shows that then comes the end.
+fn reads(client: &TcpStream, wanted: &[u8], room: usize) -> bool {
+    let mut buffer = [0u8; ROOM];
+    match buffer.get_mut(..room) {
+        Some(into) => match read_all(client, into) {
+            Ok(count) => count == wanted.len() && into.starts_with(wanted),
+            Err(_) => false,
+        },
+        None => false,
     }
 }
 
-// Reads so many bytes by 4 KB at a time, while the link goes on.
+// How far a slow client reads: until so many bytes have come, or until the last one that came is this.
+#[derive(Clone, Copy)]
+enum Until {
+    Count(usize),
+    Last(u8),
+}
+
+fn is_reached(bytes: &[u8], until: Until) -> bool {
+    match until {
+        Until::Count(count) => bytes.len() >= count,
+        Until::Last(value) => bytes.last() == Some(&value),
+    }
+}
+
+// Reads by 4 KB at a time, while the link goes on.
 fn read_slowly(
     alloc: Global,
     link: &mut RealLink,
     mut client: &TcpStream,
-    count: usize,
+    until: Until,
 ) -> io::Result<Vec<u8>> {
     client.set_nonblocking(true)?;
     let mut all = Vec::new(alloc);
@@ -380,27 +399,11 @@ fn read_slowly(
             Ok(read) => all.extend_from_slice(&buffer[..read])?,
             Err(_) => drop(link.next()),
         }
-        if all.len() >= count {
+        if is_reached(&all, until) {
             break;
         }
     }
     Ok(all)
-}
-
-// How many bytes come before the first of this value.
-fn read_to_value(link: &mut RealLink, mut client: &TcpStream, value: u8) -> Option<usize> {
-    let mut count: usize = 0;
-    for _ in 0..100_000 {
-        let mut buffer = [0u8; 4096];
-        match client.read(&mut buffer) {
-            Ok(read) => match buffer[..read].iter().position(|byte| *byte == value) {
-                Some(place) => return Some(count.saturating_add(place)),
-                None => count = count.saturating_add(read),
-            },
-            Err(_) => drop(link.next()),
-        }
-    }
-    None
 }
 
 // What comes after so many bytes of this value.
@@ -420,7 +423,8 @@ fn reads_slowly(
     (value, count): (u8, usize),
     rest: &[u8],
 ) -> bool {
-    match read_slowly(alloc, link, client, rest.len().saturating_add(count)) {
+    let until = Until::Count(rest.len().saturating_add(count));
+    match read_slowly(alloc, link, client, until) {
         Ok(all) => after_many(&all, value, count) == Some(rest),
         Err(_) => false,
     }
@@ -432,24 +436,26 @@ fn after_two(bytes: &[u8]) -> Option<usize> {
     Some(rest.len())
 }
 
-// A last byte of another value shows how much came before it.
-fn reads_whole_frames(alloc: Global, link: &mut RealLink, client: &TcpStream) -> bool {
-    let Ok(all) = read_slowly(alloc, link, client, 2 * LONG) else {
-        return false;
-    };
-    let Some(more) = after_two(&all) else {
-        return false;
-    };
-    let is_sent = send_many(alloc, link, 1, 9, 1);
-    let Some(rest) = read_to_value(link, client, 9) else {
-        return false;
-    };
-    let count = more.saturating_add(rest);
-    is_sent && count % LONG == 0 && count < 4 * LONG
+// How many bytes come, by what comes after the first two long frames.
+fn count_after_two(
+    alloc: Global,
+    link: &mut RealLink,
+    client: &TcpStream,
+) -> io::Result<Option<usize>> {
+    let all = read_slowly(alloc, link, client, Until::Count(2 * LONG))?;
+    Ok(after_two(&all))
 }
 
-fn answer(alloc: Global, peer: &mut RealLink) -> bool {
-    send_bytes(alloc, peer, Target::Node(id(b'a')), ANSWERED)
+// A last byte of another value shows how much came before it.
+fn reads_whole_frames(alloc: Global, link: &mut RealLink, client: &TcpStream) -> io::Result<bool> {
+    let Some(more) = count_after_two(alloc, link, client)? else {
+        return Ok(false);
+    };
+    let is_sent = send(alloc, link, Target::Connection(1), Sent::Are(b"\x09"));
+    let rest = read_slowly(alloc, link, client, Until::Last(9))?.len();
+    // Behind the last frame comes that byte.
+    let count = more.saturating_add(rest);
+    Ok(is_sent && count % LONG == 1 && count < 4 * LONG)
 }
 
 // Whether the other side, to which nothing is sent, ends the connection within so many looks.
@@ -466,82 +472,41 @@ fn is_ended(link: &mut RealLink, mut client: &TcpStream, looks: u64) -> io::Resu
     Ok(false)
 }
 
-// What a client that is connected does, or what it then sees.
-fn is_seen(alloc: Global, link: &mut RealLink, client: &TcpStream, row: ByClient) -> bool {
-    match row {
-        Connects | Leaves => false,
-        Says(text) => say(client, text),
-        EndsWriting => client.shutdown(Shutdown::Write).is_ok(),
-        Reads(text) => reads(client, text),
-        ReadsToEnd(text) => reads_to_end(client, text),
-        ReadsSlowly(value, count, rest) => reads_slowly(alloc, link, client, (value, count), rest),
-        ReadsWholeFrames => reads_whole_frames(alloc, link, client),
-        IsEnded(looks, wanted) => match is_ended(link, client, looks) {
-            Ok(ended) => ended == wanted,
-            Err(_) => false,
-        },
-    }
-}
-
-fn idle(
+// Whether so many clients come, with the numbers from 1 on where each says a line and is answered.
+fn come(
     rt: &HostRuntime,
-    address: &String,
+    link: &mut RealLink,
+    address: &str,
     clients: &mut Vec<TcpStream>,
     count: u64,
-) -> io::Result<()> {
-    for _ in 0..count {
-        clients.push(connect(rt, address)?)?;
-    }
-    Ok(())
-}
-
-// A client that has said a line and was answered.
-fn connect_served(
-    rt: &HostRuntime,
-    link: &mut RealLink,
-    address: &String,
-) -> io::Result<Option<TcpStream>> {
-    let client = connect(rt, address)?;
-    let is_served = say(&client, b"x\n") && serve(rt.alloc(), link);
-    Ok(is_served.then_some(client))
-}
-
-// Answers the client of which bytes come next.
-fn serve(alloc: Global, link: &mut RealLink) -> bool {
-    match next_input(link) {
-        Some(Input::Bytes { conn, .. }) => {
-            send_bytes(alloc, link, Target::Connection(conn), b"z\n")
-        }
-        _ => false,
-    }
-}
-
-// As many clients as there are numbers.
-fn fill(
-    rt: &HostRuntime,
-    link: &mut RealLink,
-    address: &String,
-    clients: &mut Vec<TcpStream>,
+    are_served: bool,
 ) -> io::Result<bool> {
-    for _ in 1..CONNECTIONS {
-        match connect_served(rt, link, address)? {
-            Some(client) => clients.push(client)?,
-            None => return Ok(false),
+    for number in 1..=count {
+        let client = TcpStream::connect(rt, address)?;
+        let is_so = !are_served || is_served(rt.alloc(), link, &client, number);
+        clients.push(client)?;
+        if !is_so {
+            return Ok(false);
         }
     }
     Ok(true)
 }
 
-fn is_heard(link: &mut RealLink, wanted: &[u8]) -> bool {
-    match next_input(link) {
-        Some(Input::Bytes { bytes, .. }) => bytes.as_slice() == wanted,
-        _ => false,
-    }
+fn is_heard(link: &mut RealLink, client: &TcpStream, number: u64, line: &'static [u8]) -> bool {
+    say(client, line) && gives(link, Given::Bytes(number, line), 1)
 }
 
+fn is_served(alloc: Global, link: &mut RealLink, client: &TcpStream, number: u64) -> bool {
+    let to = Target::Connection(number);
+    is_heard(link, client, number, b"x\n") && send(alloc, link, to, Sent::Are(b"z\n"))
+}
+
+// Whether each of these clients is heard, with the numbers from 1 on.
 fn are_heard(link: &mut RealLink, clients: &[TcpStream]) -> bool {
+    let mut number = 0u64;
     for client in clients {
-        if !say(client, b"y\n") || !is_heard(link, b"y\n") {
+        number = number.saturating_add(1);
+        if !is_heard(link, client, number, b"y\n") {
             return false;
         }
     }
@@ -561,24 +526,13 @@ struct World<'a> {
 }
 
 impl World<'_> {
-    // A link with no peer.
-    fn alone(rt: &HostRuntime) -> Result<World<'_>, Fail> {
-        let address = free_address(rt)?;
-        let link = open(rt, id(b'a'), address.as_str(), Vec::new(rt.alloc()))?;
-        Ok(World::of(rt, link, address, String::new(rt.alloc())))
-    }
-
-    // A link whose peer is not open yet.
-    fn with_peer(rt: &HostRuntime) -> Result<World<'_>, Fail> {
+    // A link, and its peer, if it has one, which is not open yet.
+    fn new(rt: &HostRuntime, has_peer: bool) -> Result<World<'_>, Fail> {
         let address = free_address(rt)?;
         let peer_address = free_address(rt)?;
-        let peers = only_peer(rt.alloc(), id(b'b'), peer_address.as_str())?;
-        let link = open(rt, id(b'a'), address.as_str(), peers)?;
-        Ok(World::of(rt, link, address, peer_address))
-    }
-
-    fn of(rt: &HostRuntime, link: RealLink, address: String, peer_address: String) -> World<'_> {
-        World {
+        let peer = has_peer.then_some((b'b', peer_address.as_str()));
+        let link = open(rt, b'a', address.as_str(), peer)?;
+        Ok(World {
             rt,
             link,
             address,
@@ -586,7 +540,7 @@ impl World<'_> {
             peer_address,
             clients: [None, None, None],
             crowd: Vec::new(rt.alloc()),
-        }
+        })
     }
 
     // The place of the first row that is not so.
@@ -605,7 +559,12 @@ impl World<'_> {
             Client(client, Leaves) => self.set_client(client, false),
             Client(client, row) => self.is_seen(client, row),
             Here(row) => is_so(self.rt, &mut self.link, row),
-            There(row) => self.is_peer_so(row),
+            There(row) => match &mut self.peer {
+                Some(peer) => is_so(self.rt, peer, row),
+                None => false,
+            },
+            PeerOpens => self.set_peer(true),
+            PeerEnds => self.set_peer(false),
             Crowd(row) => self.is_crowd_so(row),
         }
     }
@@ -615,39 +574,40 @@ impl World<'_> {
             return false;
         };
         *slot = if connects {
-            connect(self.rt, &self.address).ok()
+            TcpStream::connect(self.rt, self.address.as_str()).ok()
         } else {
             None
         };
         slot.is_some() == connects
     }
 
+    // What a client that is connected does, or what it then sees.
     fn is_seen(&mut self, client: usize, row: ByClient) -> bool {
-        match self.clients.get(client) {
-            Some(Some(client)) => is_seen(self.rt.alloc(), &mut self.link, client, row),
-            _ => false,
-        }
-    }
-
-    fn is_peer_so(&mut self, row: ByPeer) -> bool {
+        let alloc = self.rt.alloc();
+        let link = &mut self.link;
+        let Some(Some(client)) = self.clients.get(client) else {
+            return false;
+        };
         match row {
-            Opens => self.set_peer(true),
-            Ends => self.set_peer(false),
-            IsAsked => match &mut self.peer {
-                Some(peer) => are_bytes(next_input(peer), 1, ASKED),
-                None => false,
-            },
-            Answers => match &mut self.peer {
-                Some(peer) => answer(self.rt.alloc(), peer),
-                None => false,
+            Connects | Leaves => false,
+            Says(text) => say(client, text),
+            EndsWriting => client.shutdown(Shutdown::Write).is_ok(),
+            Reads(text) => reads(client, text, text.len()),
+            ReadsToEnd(text) => reads(client, text, ROOM),
+            ReadsSlowly(value, count, rest) => {
+                reads_slowly(alloc, link, client, (value, count), rest)
+            }
+            ReadsWholeFrames => reads_whole_frames(alloc, link, client).unwrap_or(false),
+            IsEnded(looks, wanted) => match is_ended(link, client, looks) {
+                Ok(ended) => ended == wanted,
+                Err(_) => false,
             },
         }
     }
 
     fn set_peer(&mut self, opens: bool) -> bool {
         self.peer = if opens {
-            let peers = Vec::new(self.rt.alloc());
-            open(self.rt, id(b'b'), self.peer_address.as_str(), peers).ok()
+            open(self.rt, b'b', self.peer_address.as_str(), None).ok()
         } else {
             None
         };
@@ -656,29 +616,37 @@ impl World<'_> {
 
     fn is_crowd_so(&mut self, row: ByCrowd) -> bool {
         match row {
-            Idle(count) => idle(self.rt, &self.address, &mut self.crowd, count).is_ok(),
-            Fills => {
-                fill(self.rt, &mut self.link, &self.address, &mut self.crowd).unwrap_or(false)
-            }
+            Idle(count) => self.come(count, false),
+            Fills => self.come(CONNECTIONS - 1, true),
             IsHeard => are_heard(&mut self.link, &self.crowd),
         }
     }
-}
 
-// Says which row is not so, the first being row 0.
-fn run(world: &mut World<'_>, rows: &[Row]) -> Result<(), Fail> {
-    match world.first_untrue(rows) {
-        Some(place) => Err(Fail::new(format_args!("row {place}"))),
-        None => Ok(()),
+    fn come(&mut self, count: u64, are_served: bool) -> bool {
+        let address = self.address.as_str();
+        come(
+            self.rt,
+            &mut self.link,
+            address,
+            &mut self.crowd,
+            count,
+            are_served,
+        )
+        .unwrap_or(false)
     }
 }
 
-fn run_alone(rt: &HostRuntime, rows: &[Row]) -> Result<(), Fail> {
-    run(&mut World::alone(rt)?, rows)
-}
+// A test's name, whether the link has a peer, and its rows.
+type Test = (&'static str, bool, &'static [Row]);
 
-fn run_with_peer(rt: &HostRuntime, rows: &[Row]) -> Result<(), Fail> {
-    run(&mut World::with_peer(rt)?, rows)
+// Says which row is not so, the first being row 0.
+fn run(rt: &HostRuntime, test: &Test) -> Result<(), Fail> {
+    let (name, has_peer, rows) = *test;
+    let mut world = World::new(rt, has_peer)?;
+    match world.first_untrue(rows) {
+        Some(place) => Err(Fail::new(format_args!("{name}: row {place}"))),
+        None => Ok(()),
+    }
 }
 
 const SERVED_AND_STOPPED: &[Row] = &[
@@ -696,56 +664,29 @@ const SERVED_AND_STOPPED: &[Row] = &[
     Here(Stops),
 ];
 
-#[test]
-fn a_client_is_served_until_it_says_stop(rt: HostRuntime) -> Result<(), Fail> {
-    run_alone(&rt, SERVED_AND_STOPPED)
-}
-
-#[test]
-fn ticks_come_while_inputs_come(rt: HostRuntime) -> Result<(), Fail> {
-    let mut world = World::alone(&rt)?;
-    let Some(first) = next_tick(&mut world.link) else {
-        panic!(rt; "no tick");
-    };
-    for _ in 0..10_000_000 {
-        assert!(rt; world.is_so(Here(SendsItself(ASKED))));
-        if let Some(now) = next_tick(&mut world.link) {
-            assert!(rt; first.saturating_add(100) <= now);
-            return Ok(());
-        }
-    }
-    panic!(rt; "no tick")
-}
+const TICKS_AMONG_INPUTS: &[Row] = &[Here(TicksAmongInputs)];
 
 const FRAMES_TO_ITSELF: &[Row] = &[
-    Here(SendsItself(b"1")),
-    Here(SendsItself(b"2")),
+    Here(SendsTo(b'a', b"1")),
+    Here(SendsTo(b'a', b"2")),
     Here(Gives(0, b"12")),
-    Here(SendsItself(b"3")),
+    Here(SendsTo(b'a', b"3")),
     Here(Gives(0, b"3")),
     Here(Ticks(1)),
 ];
 
-#[test]
-fn a_nodes_frames_to_itself_come_in_order(rt: HostRuntime) -> Result<(), Fail> {
-    run_alone(&rt, FRAMES_TO_ITSELF)
-}
-
 // Whether a link opens that listens here, with a peer there where one is named.
-fn opens(rt: &HostRuntime, address: &str, peer: Option<&str>) -> Result<bool, Fail> {
-    let peers = match peer {
-        Some(peer) => only_peer(rt.alloc(), id(b'a'), peer)?,
-        None => Vec::new(rt.alloc()),
-    };
-    Ok(open(rt, id(b'a'), address, peers).is_ok())
+fn opens(rt: &HostRuntime, address: &str, peer: Option<(u8, &str)>) -> bool {
+    open(rt, b'a', address, peer).is_ok()
 }
 
 #[test]
 fn a_hosts_name_is_no_address(rt: HostRuntime) -> Result<(), Fail> {
     let numbers = free_address(&rt)?;
-    assert!(rt; !opens(&rt, "localhost:0", None)?);
-    assert!(rt; !opens(&rt, numbers.as_str(), Some("localhost:0"))?);
-    assert!(rt; opens(&rt, numbers.as_str(), None)?);
+    let numbers = numbers.as_str();
+    assert!(rt; !opens(&rt, "localhost:0", None));
+    assert!(rt; !opens(&rt, numbers, Some((b'a', "localhost:0"))));
+    assert!(rt; opens(&rt, numbers, None));
     Ok(())
 }
 
@@ -753,20 +694,15 @@ const TWO_LINKS: &[Row] = &[
     Here(Asks(100)),
     Here(Ticks(1)),
     Here(HasNoFault),
-    There(Opens),
+    PeerOpens,
     Here(Ticks(12)),
     Here(Asks(1)),
-    There(IsAsked),
-    There(Answers),
+    There(Gives(1, ASKED)),
+    There(SendsTo(b'a', ANSWERED)),
     Here(Gives(1, ANSWERED)),
-    There(Ends),
+    PeerEnds,
     Here(Closes(1)),
 ];
-
-#[test]
-fn two_links_exchange_frames_once_both_listen(rt: HostRuntime) -> Result<(), Fail> {
-    run_with_peer(&rt, TWO_LINKS)
-}
 
 const SLOW_READER: &[Row] = &[
     Client(FIRST, Connects),
@@ -778,11 +714,6 @@ const SLOW_READER: &[Row] = &[
     Here(SendsMany(1, 9, LONGEST)),
     Client(FIRST, ReadsSlowly(9, LONGEST, b"")),
 ];
-
-#[test]
-fn a_long_frame_comes_whole_to_a_slow_reader(rt: HostRuntime) -> Result<(), Fail> {
-    run_alone(&rt, SLOW_READER)
-}
 
 const NO_ROOM: &[Row] = &[
     Client(FIRST, Connects),
@@ -797,11 +728,6 @@ const NO_ROOM: &[Row] = &[
     Client(FIRST, ReadsWholeFrames),
 ];
 
-#[test]
-fn frames_for_which_there_is_no_room_are_lost_whole(rt: HostRuntime) -> Result<(), Fail> {
-    run_alone(&rt, NO_ROOM)
-}
-
 const READER_GONE: &[Row] = &[
     Client(FIRST, Connects),
     Client(FIRST, Says(b"x\n")),
@@ -813,11 +739,6 @@ const READER_GONE: &[Row] = &[
     Here(Ticks(1)),
     Here(HasNoFault),
 ];
-
-#[test]
-fn a_reader_that_goes_is_forgotten(rt: HostRuntime) -> Result<(), Fail> {
-    run_alone(&rt, READER_GONE)
-}
 
 const IDLE: &[Row] = &[
     Client(FIRST, Connects),
@@ -834,13 +755,8 @@ const IDLE: &[Row] = &[
     Client(SECOND, ReadsToEnd(b"")),
 ];
 
-#[test]
-fn idle_connections_give_way(rt: HostRuntime) -> Result<(), Fail> {
-    run_alone(&rt, IDLE)
-}
-
 const ALL_NUMBERS_TAKEN: &[Row] = &[
-    There(Opens),
+    PeerOpens,
     Crowd(Fills),
     // A connection that brings the peer's frames gets the number of the client that was silent longest.
     Client(FIRST, Connects),
@@ -854,14 +770,9 @@ const ALL_NUMBERS_TAKEN: &[Row] = &[
     Here(Gives(1, b"x\n")),
     // So does one that is dialled.
     Here(Asks(1)),
-    There(IsAsked),
+    There(Gives(1, ASKED)),
     Here(Closes(2)),
 ];
-
-#[test]
-fn clients_lock_no_peer_out(rt: HostRuntime) -> Result<(), Fail> {
-    run_with_peer(&rt, ALL_NUMBERS_TAKEN)
-}
 
 const WRITING_ENDED: &[Row] = &[
     Client(FIRST, Connects),
@@ -878,11 +789,6 @@ const WRITING_ENDED: &[Row] = &[
     Client(FIRST, ReadsToEnd(b"one\ntwo\n")),
 ];
 
-#[test]
-fn a_client_that_ends_its_writing_gets_its_replies(rt: HostRuntime) -> Result<(), Fail> {
-    run_alone(&rt, WRITING_ENDED)
-}
-
 const SLOW_AFTER_ITS_END: &[Row] = &[
     Client(FIRST, Connects),
     Client(FIRST, Says(b"x\n")),
@@ -894,11 +800,6 @@ const SLOW_AFTER_ITS_END: &[Row] = &[
     Here(GoesOn),
     Client(FIRST, ReadsSlowly(7, LONG, b"")),
 ];
-
-#[test]
-fn one_that_ends_its_writing_reads_slowly(rt: HostRuntime) -> Result<(), Fail> {
-    run_alone(&rt, SLOW_AFTER_ITS_END)
-}
 
 const LATE_REPLY: &[Row] = &[
     Client(FIRST, Connects),
@@ -923,11 +824,6 @@ const LATE_REPLY: &[Row] = &[
     Here(Gives(1, b"x\n")),
 ];
 
-#[test]
-fn a_late_reply_reaches_no_other_client(rt: HostRuntime) -> Result<(), Fail> {
-    run_alone(&rt, LATE_REPLY)
-}
-
 const LINES_AMONG_FRAMES: &[Row] = &[
     Client(FIRST, Connects),
     Client(FIRST, Says(b"1\n2\n3\n")),
@@ -941,33 +837,23 @@ const LINES_AMONG_FRAMES: &[Row] = &[
     Here(Gives(1, b"3\n")),
 ];
 
-#[test]
-fn lines_come_one_by_one_and_each_second_input_is_one(rt: HostRuntime) -> Result<(), Fail> {
-    run_alone(&rt, LINES_AMONG_FRAMES)
-}
-
 const LINES_BEFORE_A_FRAME: &[Row] = &[
-    There(Opens),
+    PeerOpens,
     Here(Asks(1)),
-    There(IsAsked),
-    There(Answers),
+    There(Gives(1, ASKED)),
+    There(SendsTo(b'a', ANSWERED)),
     Here(Gives(1, ANSWERED)),
     Client(FIRST, Connects),
     Client(FIRST, Says(b"x\n")),
     Here(Gives(2, b"x\n")),
     // A frame comes, and then more lines than may go before it.
-    There(Answers),
+    There(SendsTo(b'a', ANSWERED)),
     Client(FIRST, Says(&[b'\n'; 66])),
     Here(Rests),
     Here(GivesTimes(2, b"\n", 64)),
     Here(Gives(1, ANSWERED)),
     Here(GivesTimes(2, b"\n", 2)),
 ];
-
-#[test]
-fn lines_that_have_come_go_before_a_frame_up_to_64_of_them(rt: HostRuntime) -> Result<(), Fail> {
-    run_with_peer(&rt, LINES_BEFORE_A_FRAME)
-}
 
 const NUMBERS_KEPT: &[Row] = &[
     Crowd(Fills),
@@ -983,7 +869,69 @@ const NUMBERS_KEPT: &[Row] = &[
     Here(Stops),
 ];
 
+const TESTS: &[Test] = &[
+    (
+        "a_client_is_served_until_it_says_stop",
+        false,
+        SERVED_AND_STOPPED,
+    ),
+    ("ticks_come_while_inputs_come", false, TICKS_AMONG_INPUTS),
+    (
+        "a_nodes_frames_to_itself_come_in_order",
+        false,
+        FRAMES_TO_ITSELF,
+    ),
+    (
+        "two_links_exchange_frames_once_both_listen",
+        true,
+        TWO_LINKS,
+    ),
+    ("a_reader_that_goes_is_forgotten", false, READER_GONE),
+    ("idle_connections_give_way", false, IDLE),
+    ("clients_lock_no_peer_out", true, ALL_NUMBERS_TAKEN),
+    (
+        "a_client_that_ends_its_writing_gets_its_replies",
+        false,
+        WRITING_ENDED,
+    ),
+    (
+        "one_that_ends_its_writing_reads_slowly",
+        false,
+        SLOW_AFTER_ITS_END,
+    ),
+    ("a_late_reply_reaches_no_other_client", false, LATE_REPLY),
+    (
+        "lines_come_one_by_one_and_each_second_input_is_one",
+        false,
+        LINES_AMONG_FRAMES,
+    ),
+    (
+        "lines_that_have_come_go_before_a_frame_up_to_64_of_them",
+        true,
+        LINES_BEFORE_A_FRAME,
+    ),
+    (
+        "clients_keep_their_numbers_from_clients",
+        false,
+        NUMBERS_KEPT,
+    ),
+];
+
 #[test]
-fn clients_keep_their_numbers_from_clients(rt: HostRuntime) -> Result<(), Fail> {
-    run_alone(&rt, NUMBERS_KEPT)
+fn links_carry_what_is_sent_over_them(rt: HostRuntime) -> Result<(), Fail> {
+    for test in TESTS {
+        run(&rt, test)?;
+    }
+    Ok(())
+}
+
+// Those with many bytes stand by themselves, for the time that they take.
+#[test]
+fn a_long_frame_comes_whole_to_a_slow_reader(rt: HostRuntime) -> Result<(), Fail> {
+    run(&rt, &("slow reader", false, SLOW_READER))
+}
+
+#[test]
+fn frames_for_which_there_is_no_room_are_lost_whole(rt: HostRuntime) -> Result<(), Fail> {
+    run(&rt, &("no room", false, NO_ROOM))
 }

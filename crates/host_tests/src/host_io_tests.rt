@@ -128,16 +128,6 @@ impl<'a> World<'a> {
         }
     }
 
-    // The place of the first row that is not so.
-    fn first_untrue(&mut self, rows: &[Row]) -> Option<usize> {
-        for (place, row) in rows.iter().enumerate() {
-            if !self.is_so(*row) {
-                return Some(place);
-            }
-        }
-        None
-    }
-
     fn is_so(&mut self, row: Row) -> bool {
         match row {
             Opens(dir) => self.opens(dir),
@@ -172,15 +162,28 @@ impl<'a> World<'a> {
     }
 }
 
+// The place of the first row that is not so.
 fn first_untrue(rt: &HostRuntime, rows: &[Row]) -> Option<usize> {
-    World::new(rt).first_untrue(rows)
+    let mut world = World::new(rt);
+    let mut untrue = None;
+    for (place, row) in rows.iter().enumerate() {
+        if !world.is_so(*row) {
+            untrue = Some(place);
+            break;
+        }
+    }
+    untrue
 }
 
+// A test's name, the folder that it uses, and its rows.
+type Test = (&'static str, &'static str, &'static [Row]);
+
 // Says which row is not so, the first being row 0. What an earlier run has left in the folder is removed first.
-fn run(rt: &HostRuntime, dir: &str, rows: &[Row]) -> Result<(), Fail> {
+fn run(rt: &HostRuntime, test: &Test) -> Result<(), Fail> {
+    let (name, dir, rows) = *test;
     let _ = fs::remove_dir_all(rt, dir);
     if let Some(place) = first_untrue(rt, rows) {
-        return Err(Fail::new(format_args!("row {place}")));
+        return Err(Fail::new(format_args!("{name}: row {place}")));
     }
     let _ = fs::remove_dir_all(rt, dir);
     Ok(())
@@ -201,11 +204,6 @@ const OPENED_AGAIN: &[Row] = &[
     FileHas("host_io_kept/a/b/journal.1", b"xyz"),
 ];
 
-#[test]
-fn what_was_synced_is_read_after_a_second_opening(rt: HostRuntime) -> Result<(), Fail> {
-    run(&rt, "host_io_kept", OPENED_AGAIN)
-}
-
 const FIRST_WRITE: &[Row] = &[
     FolderIsMade("host_io_old"),
     FileIsMade("host_io_old/journal.0", b"abc"),
@@ -219,21 +217,11 @@ const FIRST_WRITE: &[Row] = &[
     FileHas("host_io_old/journal.1", b"d"),
 ];
 
-#[test]
-fn a_file_that_is_not_there_is_made_at_its_first_write(rt: HostRuntime) -> Result<(), Fail> {
-    run(&rt, "host_io_old", FIRST_WRITE)
-}
-
 const FOLDER_GONE: &[Row] = &[
     Opens("host_io_gone"),
     FolderIsRemoved("host_io_gone"),
     RefusesToWrite(Zero, 0, b"a"),
 ];
-
-#[test]
-fn a_file_that_cannot_be_made_is_a_fault_of_the_disk(rt: HostRuntime) -> Result<(), Fail> {
-    run(&rt, "host_io_gone", FOLDER_GONE)
-}
 
 const OUT_OF_BOUNDS: &[Row] = &[
     Opens("host_io_short"),
@@ -243,11 +231,6 @@ const OUT_OF_BOUNDS: &[Row] = &[
     Has(Zero, b"ab"),
 ];
 
-#[test]
-fn a_short_read_and_a_write_past_the_limit_are_faults(rt: HostRuntime) -> Result<(), Fail> {
-    run(&rt, "host_io_short", OUT_OF_BOUNDS)
-}
-
 const BARRED_FOLDER: &[Row] = &[
     FolderIsMade("host_io_barred"),
     FileIsMade("host_io_barred/file", b""),
@@ -255,9 +238,40 @@ const BARRED_FOLDER: &[Row] = &[
     RefusesToOpen("host_io_barred/file/a"),
 ];
 
+const TESTS: &[Test] = &[
+    (
+        "what_was_synced_is_read_after_a_second_opening",
+        "host_io_kept",
+        OPENED_AGAIN,
+    ),
+    (
+        "a_file_that_is_not_there_is_made_at_its_first_write",
+        "host_io_old",
+        FIRST_WRITE,
+    ),
+    (
+        "a_file_that_cannot_be_made_is_a_fault_of_the_disk",
+        "host_io_gone",
+        FOLDER_GONE,
+    ),
+    (
+        "a_short_read_and_a_write_past_the_limit_are_faults",
+        "host_io_short",
+        OUT_OF_BOUNDS,
+    ),
+    (
+        "a_folder_that_cannot_be_made_is_a_fault",
+        "host_io_barred",
+        BARRED_FOLDER,
+    ),
+];
+
 #[test]
-fn a_folder_that_cannot_be_made_is_a_fault(rt: HostRuntime) -> Result<(), Fail> {
-    run(&rt, "host_io_barred", BARRED_FOLDER)
+fn a_folder_keeps_what_is_written_or_refuses(rt: HostRuntime) -> Result<(), Fail> {
+    for test in TESTS {
+        run(&rt, test)?;
+    }
+    Ok(())
 }
 
 #[test]

@@ -9,6 +9,8 @@ mod host_io_link_tests;
 #[cfg(test)]
 mod host_io_tests;
 #[cfg(test)]
+mod hosts;
+#[cfg(test)]
 mod node_trial_tests;
 #[cfg(test)]
 mod zen_host_tests;

@@ -1,9 +1,10 @@
 //! Trials over a host in memory, and each way in which one ends. What is expected follows from docs/formats.md, A trial.
+use crate::hosts::host_of;
 use node_trial::{Trial, TrialEnd, has_won, run_trial};
 use std::alloc::{AllocError, Global};
 use std::test::Fail;
 use zen_disk::MemDisks;
-use zen_host::{Asked, Ended, MemHost};
+use zen_host::{Asked, MemHost};
 use zen_link::MemSink;
 
 const TRIAL: Trial<'static> = Trial {
@@ -18,97 +19,6 @@ type Nodes = &'static [(u8, &'static str)];
 
 // The second node has won.
 const WON: Nodes = &[(0, "mode candidate\n"), (0, "> x\nwon b 1\n"), (0, "")];
-
-#[derive(Drop)]
-struct Tried {
-    end: TrialEnd,
-    sink: MemSink,
-    host: MemHost<MemDisks>,
-}
-
-fn ended(alloc: Global, status: u8, output: &str) -> Result<Ended, AllocError> {
-    let output = Vec::from_slice(alloc, output.as_bytes())?;
-    Ok(Ended { status, output })
-}
-
-fn ends(alloc: Global, nodes: &[(u8, &str)]) -> Result<Vec<Ended>, AllocError> {
-    let mut ends = Vec::new(alloc);
-    for (status, output) in nodes {
-        ends.push(ended(alloc, *status, output)?)?;
-    }
-    Ok(ends)
-}
-
-// The host of these nodes, whose calls with these numbers fail.
-fn host_of(
-    alloc: Global,
-    nodes: &[(u8, &str)],
-    fails: &[u64],
-) -> Result<MemHost<MemDisks>, AllocError> {
-    let ends = ends(alloc, nodes)?;
-    let fails = Vec::from_slice(alloc, fails)?;
-    let disk = MemDisks::new(alloc, Vec::new(alloc), Vec::new(alloc), Vec::new(alloc));
-    Ok(MemHost::with_children(alloc, disk, ends, fails))
-}
-
-// A trial whose nodes end so, where the calls of the host with these numbers fail.
-fn trial_of(alloc: Global, nodes: &[(u8, &str)], fails: &[u64]) -> Result<Tried, AllocError> {
-    let mut host = host_of(alloc, nodes, fails)?;
-    let mut sink = MemSink::new(alloc, 100, Vec::new(alloc));
-    let end = run_trial(alloc, &TRIAL, &mut sink, &mut host);
-    Ok(Tried { end, sink, host })
-}
-
-fn wrote(tried: &Tried, text: &str) -> bool {
-    tried.sink.as_bytes() == text.as_bytes()
-}
-
-// Whether a trial whose nodes end so has this end and writes this, where no call fails.
-fn is_tried(
-    alloc: Global,
-    nodes: &[(u8, &str)],
-    end: TrialEnd,
-    text: &str,
-) -> Result<bool, AllocError> {
-    let trial = trial_of(alloc, nodes, &[])?;
-    Ok(trial.end == end && wrote(&trial, text))
-}
-
-// How the nodes end, and what the trial then writes, which passes.
-const PASSED: &[(Nodes, &str)] = &[
-    (
-        &[(11, "mode candidate\n"), (0, "> x\nwon b 1\n"), (11, "")],
-        "child a status=11\nchild b status=0\nchild c status=11\nwon=yes\n",
-    ),
-    // None has won: `won` stands in no line as its first word.
-    (
-        &[(0, "a won\n"), (0, "wont b\nwo\n"), (0, "> won")],
-        "child a status=0\nchild b status=0\nchild c status=0\nwon=no\n",
-    ),
-];
-
-#[test]
-fn a_trial_passes_where_each_node_stops_or_has_taken_its_turns(
-    rt: HostRuntime,
-) -> Result<(), Fail> {
-    for row in PASSED {
-        let (nodes, text) = *row;
-        assert!(rt;
-            is_tried(rt.alloc(), nodes, TrialEnd::Done, text)?,
-            "{text}"
-        );
-    }
-    Ok(())
-}
-
-const FAILED: Nodes = &[(0, "mode candidate\n"), (11, "> x\nwon b 1\n"), (6, "")];
-
-#[test]
-fn a_node_with_another_status_makes_a_trial_fail(rt: HostRuntime) -> Result<(), Fail> {
-    let text = "child a status=0\nchild b status=11\nchild c status=6\nwon=yes\n";
-    assert!(rt; is_tried(rt.alloc(), FAILED, TrialEnd::TrialFailed, text)?);
-    Ok(())
-}
 
 fn are_words(words: &[String], wanted: &[&str]) -> bool {
     let mut are_same = words.len() == wanted.len();
@@ -148,13 +58,6 @@ const WORDS_OF_B: &[&str] = &[
     "600",
 ];
 
-#[test]
-fn a_node_is_told_its_id_its_folder_and_its_peers(rt: HostRuntime) -> Result<(), Fail> {
-    let trial = trial_of(rt.alloc(), WON, &[])?;
-    assert!(rt; is_start(trial.host.asked().get(1), WORDS_OF_B));
-    Ok(())
-}
-
 // Whether these are the children that were killed, in order.
 fn are_killed(calls: &[Asked], wanted: &[usize]) -> bool {
     let mut left = wanted.iter();
@@ -168,49 +71,97 @@ fn are_killed(calls: &[Asked], wanted: &[usize]) -> bool {
     left.next().is_none()
 }
 
-// Whether a trial, where these calls are refused, ends by that, writes nothing, has made so many calls, of which some were to
-// kill these children, and leaves so many running.
-fn is_cut_short(
-    alloc: Global,
-    refused: &[u64],
-    count: usize,
-    children: &[usize],
-    running: u64,
-) -> Result<bool, AllocError> {
-    let trial = trial_of(alloc, WON, refused)?;
-    let calls = trial.host.asked();
-    Ok(
-        trial.end == TrialEnd::HostFault
-            && wrote(&trial, "")
-            && calls.len() == count
-            && are_killed(calls, children)
-            && trial.host.running_count() == running,
-    )
+// How the nodes end, which calls are refused, how the trial then ends, what it writes, how many calls there are, the numbers of
+// the children that the host is asked to kill, and how many of these run on, since that was refused too.
+type Row = (
+    Nodes,
+    &'static [u64],
+    TrialEnd,
+    &'static str,
+    usize,
+    &'static [usize],
+    u64,
+);
+
+// Whether a trial is so. Where no call is refused, the second node is told its words besides.
+fn is_so(alloc: Global, row: &Row) -> Result<bool, AllocError> {
+    let (nodes, refused, end, text, count, killed, running) = *row;
+    let mut host = host_of(alloc, nodes, refused)?;
+    let mut sink = MemSink::new(alloc, 100, Vec::new(alloc));
+    let is_end = run_trial(alloc, &TRIAL, &mut sink, &mut host) == end;
+    let calls = host.asked();
+    let is_told = !refused.is_empty() || is_start(calls.get(1), WORDS_OF_B);
+    let are_calls = calls.len() == count && are_killed(calls, killed);
+    let is_written = sink.as_bytes() == text.as_bytes();
+    Ok(is_end && is_told && are_calls && is_written && host.running_count() == running)
 }
 
-// Which calls are refused, how many calls there are then, the numbers of the children that the host is asked to kill, and how
-// many of these run on, since that was refused too.
-const CUT_SHORT: &[(&[u64], usize, &[usize], u64)] = &[
-    (&[1], 1, &[], 0),
-    (&[2], 3, &[1], 0),
-    (&[3], 5, &[1, 2], 0),
-    (&[4], 6, &[2, 3], 0),
-    (&[5], 6, &[3], 0),
-    (&[6], 6, &[], 0),
-    (&[4, 5], 6, &[2, 3], 1),
-    (&[3, 4], 5, &[1, 2], 1),
-    (&[3, 4, 5], 5, &[1, 2], 2),
+const SOME_STOPPED: &str = "child a status=11\nchild b status=0\nchild c status=11\nwon=yes\n";
+
+const B_WON: &str = "child a status=0\nchild b status=0\nchild c status=0\nwon=yes\n";
+
+const NONE_WON: &str = "child a status=0\nchild b status=0\nchild c status=0\nwon=no\n";
+
+const BAD_STATUS: &str = "child a status=0\nchild b status=11\nchild c status=6\nwon=yes\n";
+
+const SOME_STOP: Nodes = &[(11, "mode candidate\n"), (0, "> x\nwon b 1\n"), (11, "")];
+
+// `won` stands in no line as its first word.
+const NO_WIN: Nodes = &[(0, "a won\n"), (0, "wont b\nwo\n"), (0, "> won")];
+
+const FAILED: Nodes = &[(0, "mode candidate\n"), (11, "> x\nwon b 1\n"), (6, "")];
+
+const PASSED: &[Row] = &[
+    (SOME_STOP, &[], TrialEnd::Done, SOME_STOPPED, 6, &[], 0),
+    (NO_WIN, &[], TrialEnd::Done, NONE_WON, 6, &[], 0),
 ];
 
+const OTHER_STATUS: &[Row] = &[(FAILED, &[], TrialEnd::TrialFailed, BAD_STATUS, 6, &[], 0)];
+
+const TOLD: &[Row] = &[(WON, &[], TrialEnd::Done, B_WON, 6, &[], 0)];
+
+const CUT_SHORT: &[Row] = &[
+    (WON, &[1], TrialEnd::HostFault, "", 1, &[], 0),
+    (WON, &[2], TrialEnd::HostFault, "", 3, &[1], 0),
+    (WON, &[3], TrialEnd::HostFault, "", 5, &[1, 2], 0),
+    (WON, &[4], TrialEnd::HostFault, "", 6, &[2, 3], 0),
+    (WON, &[5], TrialEnd::HostFault, "", 6, &[3], 0),
+    (WON, &[6], TrialEnd::HostFault, "", 6, &[], 0),
+    (WON, &[4, 5], TrialEnd::HostFault, "", 6, &[2, 3], 1),
+    (WON, &[3, 4], TrialEnd::HostFault, "", 5, &[1, 2], 1),
+    (WON, &[3, 4, 5], TrialEnd::HostFault, "", 5, &[1, 2], 2),
+];
+
+const TESTS: &[(&str, &[Row])] = &[
+    (
+        "a_trial_passes_where_each_node_stops_or_has_taken_its_turns",
+        PASSED,
+    ),
+    (
+        "a_node_with_another_status_makes_a_trial_fail",
+        OTHER_STATUS,
+    ),
+    ("a_node_is_told_its_id_its_folder_and_its_peers", TOLD),
+    (
+        "where_a_call_is_refused_the_host_is_asked_to_kill_those_that_still_run",
+        CUT_SHORT,
+    ),
+];
+
+// Says which row is not so, the first being row 0.
+fn run(alloc: Global, name: &str, rows: &[Row]) -> Result<(), Fail> {
+    for (place, row) in rows.iter().enumerate() {
+        if !is_so(alloc, row)? {
+            return Err(Fail::new(format_args!("{name}: row {place}")));
+        }
+    }
+    Ok(())
+}
+
 #[test]
-fn where_a_call_is_refused_the_host_is_asked_to_kill_those_that_still_run(
-    rt: HostRuntime,
-) -> Result<(), Fail> {
-    for (refused, count, children, running) in CUT_SHORT {
-        assert!(rt;
-            is_cut_short(rt.alloc(), refused, *count, children, *running)?,
-            "{refused:?}"
-        );
+fn a_trial_ends_writes_and_asks_its_host(rt: HostRuntime) -> Result<(), Fail> {
+    for (name, rows) in TESTS {
+        run(rt.alloc(), name, rows)?;
     }
     Ok(())
 }

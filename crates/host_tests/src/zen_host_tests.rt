@@ -1,7 +1,6 @@
 //! A host in memory: its disk, its link and its children. What is expected follows from what the host was told to refuse.
-ghost use Rattle.std.specs.Prelude.{◌≡◌, IfOk};
-
 use self::Row::*;
+use crate::hosts::{disk, host_of};
 use std::alloc::{AllocError, Global};
 use std::test::Fail;
 use voting_config::NodeId;
@@ -46,17 +45,26 @@ fn settings(alloc: Global) -> Result<LinkSettings, AllocError> {
     })
 }
 
-// A child that ends with this status, and writes this.
-fn ended(alloc: Global, status: u8, output: &str) -> Result<Ended, AllocError> {
-    let output = Vec::from_slice(alloc, output.as_bytes())?;
-    Ok(Ended { status, output })
-}
-
 fn is_end(answer: Result<Ended, HostError>, status: u8, output: &str) -> bool {
     match answer {
         Ok(ended) => ended.status == status && ended.output.as_slice() == output.as_bytes(),
         Err(_) => false,
     }
+}
+
+// Keeps what was given.
+fn keep<T: Drop>(slot: &mut Option<T>, answer: Result<T, HostError>) -> Result<(), HostError> {
+    match answer {
+        Ok(value) => {
+            *slot = Some(value);
+            Ok(())
+        }
+        Err(error) => Err(error),
+    }
+}
+
+fn is_refused<T: Drop>(answer: Result<T, HostError>) -> bool {
+    matches!(answer, Err(HostError::Failed))
 }
 
 fn words(alloc: Global, count: usize) -> Result<Vec<String>, AllocError> {
@@ -92,30 +100,26 @@ enum Row {
     AreRunning(u64),
 }
 
-fn disk(alloc: Global) -> Result<MemDisks, AllocError>
-    ensures { IfOk result (λ disk. ⟦<MemDisks as Disks>⟧.faults disk ≡ 0) }
-{
-    let bytes = Vec::from_slice(alloc, b"ab")?;
-    Ok(MemDisks::new(alloc, bytes, Vec::new(alloc), Vec::new(alloc)))
-}
-
-// The first child ends with status 3 and writes "x", the second one with 0.
-fn ends(alloc: Global) -> Result<Vec<Ended>, AllocError> {
-    Ok(vec![in alloc; ended(alloc, 3, "x")?, ended(alloc, 0, "")?]?)
+// A host with a link, of which these calls are refused.
+fn host_with_link(alloc: Global, refused: &[u64]) -> Result<MemHost<MemDisks>, AllocError> {
+    let refused = Vec::from_slice(alloc, refused)?;
+    let disk = disk(alloc)?;
+    let link = MemLink::new(alloc, Vec::new(alloc), Vec::new(alloc));
+    Ok(MemHost::with_link(alloc, disk, link, refused))
 }
 
 // A host, and what it gave: its disk, its link, and those of its children that run.
 #[derive(Drop)]
-struct World {
+struct World<'a> {
     alloc: Global,
-    host: MemHost<MemDisks>,
+    host: &'a mut MemHost<MemDisks>,
     disk: Option<MemDisks>,
     link: Option<MemLink<()>>,
     running: Vec<Option<MemChild>>,
 }
 
-impl World {
-    fn of(alloc: Global, host: MemHost<MemDisks>) -> World {
+impl<'a> World<'a> {
+    fn of(alloc: Global, host: &'a mut MemHost<MemDisks>) -> World<'a> {
         World {
             alloc,
             host,
@@ -125,62 +129,24 @@ impl World {
         }
     }
 
-    // A host with children, of which these calls are refused.
-    fn with_children(alloc: Global, refused: &[u64]) -> Result<World, AllocError> {
-        let refused = Vec::from_slice(alloc, refused)?;
-        let ends = ends(alloc)?;
-        Ok(World::of(
-            alloc,
-            MemHost::with_children(alloc, disk(alloc)?, ends, refused),
-        ))
-    }
-
-    // A host with a link, of which these calls are refused.
-    fn with_link(alloc: Global, refused: &[u64]) -> Result<World, AllocError> {
-        let refused = Vec::from_slice(alloc, refused)?;
-        let link = MemLink::new(alloc, Vec::new(alloc), Vec::new(alloc));
-        Ok(World::of(
-            alloc,
-            MemHost::with_link(alloc, disk(alloc)?, link, refused),
-        ))
-    }
-
-    // The place of the first row that is not so.
-    fn first_untrue(&mut self, rows: &[Row]) -> Option<usize> {
-        for (place, row) in rows.iter().enumerate() {
-            if !self.is_so(*row) {
-                return Some(place);
-            }
-        }
-        None
-    }
-
     fn is_so(&mut self, row: Row) -> bool {
         match row {
-            OpensDisk(dir) => self.opens_disk(dir),
-            RefusesDisk(dir) => matches!(self.host.open_disk(dir), Err(HostError::Failed)),
+            OpensDisk(dir) => keep(&mut self.disk, self.host.open_disk(dir)).is_ok(),
+            RefusesDisk(dir) => is_refused(self.host.open_disk(dir)),
             DiskHas(len) => self.disk_has(len),
             DiskGoesBack => self.disk_goes_back(),
-            OpensLink => self.opens_link() == Ok(()),
-            RefusesLink => self.opens_link() == Err(HostError::Failed),
+            OpensLink => self.open_link().is_ok(),
+            RefusesLink => is_refused(self.open_link()),
             LinkStops => self.link_stops(),
             LinkGoesBack => self.link_goes_back(),
-            Spawns(count) => match self.spawn(count) {
-                Ok(child) => self.running.push(Some(child)).is_ok(),
-                Err(_) => false,
-            },
-            RefusesToSpawn => matches!(self.spawn(0), Err(HostError::Failed)),
+            Spawns(count) => self.spawns(count),
+            RefusesToSpawn => is_refused(self.spawn(0)),
             Waits(place, status, output) => is_end(self.wait(place), status, output),
-            RefusesToWait(place) => matches!(self.wait(place), Err(HostError::Failed)),
-            Kills(place) => self.kill(place) == Ok(()),
-            RefusesToKill(place) => self.kill(place) == Err(HostError::Failed),
+            RefusesToWait(place) => is_refused(self.wait(place)),
+            Kills(place) => self.kill(place).is_ok(),
+            RefusesToKill(place) => is_refused(self.kill(place)),
             AreRunning(count) => self.host.running_count() == count,
         }
-    }
-
-    fn opens_disk(&mut self, dir: &str) -> bool {
-        self.disk = self.host.open_disk(dir).ok();
-        self.disk.is_some()
     }
 
     fn disk_has(&mut self, len: u64) -> bool {
@@ -200,16 +166,10 @@ impl World {
         }
     }
 
-    fn opens_link(&mut self) -> Result<(), HostError> {
-        let Ok(settings) = settings(self.alloc) else {
-            return Err(HostError::Memory);
-        };
-        match self.host.open_link(&settings) {
-            Ok(link) => {
-                self.link = Some(link);
-                Ok(())
-            }
-            Err(error) => Err(error),
+    fn open_link(&mut self) -> Result<(), HostError> {
+        match settings(self.alloc) {
+            Ok(settings) => keep(&mut self.link, self.host.open_link(&settings)),
+            Err(_) => Err(HostError::Memory),
         }
     }
 
@@ -230,18 +190,17 @@ impl World {
         }
     }
 
-    fn has_disk_back(self) -> bool {
-        self.host.into_disk_back().is_some()
-    }
-
-    fn has_link_back(self) -> bool {
-        self.host.into_given_back().1.is_some()
-    }
-
     fn spawn(&mut self, count: usize) -> Result<MemChild, HostError> {
         match words(self.alloc, count) {
             Ok(words) => self.host.spawn("p", words.as_slice()),
             Err(_) => Err(HostError::Memory),
+        }
+    }
+
+    fn spawns(&mut self, count: usize) -> bool {
+        match self.spawn(count) {
+            Ok(child) => self.running.push(Some(child)).is_ok(),
+            Err(_) => false,
         }
     }
 
@@ -263,15 +222,60 @@ impl World {
     }
 }
 
-// The world after these rows and calls. Says which row is not so, the first being row 0, or that the calls were others.
-fn after(mut world: World, rows: &[Row], calls: &[Call]) -> Result<World, Fail> {
-    if let Some(place) = world.first_untrue(rows) {
-        return Err(Fail::new(format_args!("row {place}")));
+// The place of the first row that is not so.
+fn first_untrue(alloc: Global, host: &mut MemHost<MemDisks>, rows: &[Row]) -> Option<usize> {
+    let mut world = World::of(alloc, host);
+    let mut untrue = None;
+    for (place, row) in rows.iter().enumerate() {
+        if !world.is_so(*row) {
+            untrue = Some(place);
+            break;
+        }
     }
-    if are_calls(world.host.asked(), calls) {
-        Ok(world)
-    } else {
-        Err(Fail::new("the calls were others"))
+    untrue
+}
+
+// What is asked of a host: its disk or its link, which it then has back, or children.
+#[derive(Clone, Copy)]
+enum Of {
+    Disk,
+    Link,
+    Children,
+}
+
+// A host of which these calls are refused. The first child ends with status 3 and writes "x", the second one with 0.
+fn host_for(alloc: Global, of: Of, refused: &[u64]) -> Result<MemHost<MemDisks>, AllocError> {
+    match of {
+        Of::Link => host_with_link(alloc, refused),
+        Of::Disk | Of::Children => host_of(alloc, &[(3, "x"), (0, "")], refused),
+    }
+}
+
+fn is_back(host: MemHost<MemDisks>, of: Of) -> bool {
+    let (disk, link) = host.into_given_back();
+    disk.is_some() == matches!(of, Of::Disk) && link.is_some() == matches!(of, Of::Link)
+}
+
+// A test's name, what is asked for, which calls are refused, the rows, and the calls that the host has had then.
+type Test = (
+    &'static str,
+    Of,
+    &'static [u64],
+    &'static [Row],
+    &'static [Call],
+);
+
+// Says which row is not so, the first being row 0, or that the calls were others or that something else was given back.
+fn run(alloc: Global, test: &Test) -> Result<(), Fail> {
+    let (name, of, refused, rows, calls) = *test;
+    let mut host = host_for(alloc, of, refused)?;
+    let untrue = first_untrue(alloc, &mut host, rows);
+    let are_calls = are_calls(host.asked(), calls);
+    let is_back = is_back(host, of);
+    match untrue {
+        Some(place) => Err(Fail::new(format_args!("{name}: row {place}"))),
+        None if are_calls && is_back => Ok(()),
+        None => Err(Fail::new(format_args!("{name}: other calls, or something else is back"))),
     }
 }
 
@@ -285,28 +289,9 @@ const DISK: &[Row] = &[
 
 const DISK_CALLS: &[Call] = &[(b'd', 1, true), (b'd', 1, false), (b'd', 1, true)];
 
-#[test]
-fn a_host_gives_its_disk_and_takes_it_back(rt: HostRuntime) -> Result<(), Fail> {
-    let world = after(World::with_children(rt.alloc(), &[1])?, DISK, DISK_CALLS)?;
-    assert!(rt; world.has_disk_back());
-    Ok(())
-}
-
 const LINK: &[Row] = &[RefusesLink, OpensLink, LinkStops, LinkGoesBack];
 
 const LINK_CALLS: &[Call] = &[(b'l', 1, true), (b'l', 1, false)];
-
-#[test]
-fn a_host_gives_its_link_and_takes_it_back(rt: HostRuntime) -> Result<(), Fail> {
-    let world = after(World::with_link(rt.alloc(), &[1])?, LINK, LINK_CALLS)?;
-    assert!(rt; world.has_link_back());
-    Ok(())
-}
-
-fn run_children(alloc: Global, refused: &[u64], rows: &[Row], calls: &[Call]) -> Result<(), Fail> {
-    let _ = after(World::with_children(alloc, refused)?, rows, calls)?;
-    Ok(())
-}
 
 const THREE_CHILDREN: &[Row] = &[
     Spawns(1),
@@ -328,11 +313,6 @@ const THREE_CHILDREN_CALLS: &[Call] = &[
     (b'w', 1, false),
 ];
 
-#[test]
-fn children_end_in_the_order_in_which_they_are_spawned(rt: HostRuntime) -> Result<(), Fail> {
-    run_children(rt.alloc(), &[2, 5], THREE_CHILDREN, THREE_CHILDREN_CALLS)
-}
-
 const KILLINGS: &[Row] = &[
     Spawns(0),
     Spawns(0),
@@ -349,7 +329,41 @@ const KILLING_CALLS: &[Call] = &[
     (b'k', 1, false),
 ];
 
+const TESTS: &[Test] = &[
+    (
+        "a_host_gives_its_disk_and_takes_it_back",
+        Of::Disk,
+        &[1],
+        DISK,
+        DISK_CALLS,
+    ),
+    (
+        "a_host_gives_its_link_and_takes_it_back",
+        Of::Link,
+        &[1],
+        LINK,
+        LINK_CALLS,
+    ),
+    (
+        "children_end_in_the_order_in_which_they_are_spawned",
+        Of::Children,
+        &[2, 5],
+        THREE_CHILDREN,
+        THREE_CHILDREN_CALLS,
+    ),
+    (
+        "a_killing_is_told",
+        Of::Children,
+        &[3],
+        KILLINGS,
+        KILLING_CALLS,
+    ),
+];
+
 #[test]
-fn a_killing_is_told(rt: HostRuntime) -> Result<(), Fail> {
-    run_children(rt.alloc(), &[3], KILLINGS, KILLING_CALLS)
+fn a_host_in_memory_gives_takes_back_and_tells(rt: HostRuntime) -> Result<(), Fail> {
+    for test in TESTS {
+        run(rt.alloc(), test)?;
+    }
+    Ok(())
 }

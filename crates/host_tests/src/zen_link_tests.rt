@@ -28,38 +28,46 @@ fn gives(source: &mut MemSource, wanted: Option<&[u8]>) -> bool {
     }
 }
 
+// Whether each of them is given by a source whose second read fails.
+fn are_given(alloc: Global) -> Result<bool, AllocError> {
+    let mut source = abc(alloc, &[2])?;
+    let mut are_given = true;
+    for wanted in GIVEN {
+        are_given = are_given && gives(&mut source, *wanted);
+    }
+    Ok(are_given)
+}
+
 #[test]
 fn a_source_gives_its_bytes_and_fails_where_it_is_told(rt: HostRuntime) -> Result<(), Fail> {
-    let mut source = abc(rt.alloc(), &[2])?;
-    for wanted in GIVEN {
-        assert!(rt; gives(&mut source, *wanted));
-    }
+    assert!(rt; are_given(rt.alloc())?);
     Ok(())
 }
 
-// How many bytes may be read, and those that are.
-const READ: &[(usize, &[u8])] = &[(4, b"abc"), (2, b"ab"), (0, b"")];
+// The reads that fail, how many bytes may be read, and those that are, or None where the input is not read.
+type Read = (&'static [u64], usize, Option<&'static [u8]>);
 
-fn is_read(alloc: Global, most: usize, read: &[u8]) -> Result<bool, AllocError> {
-    let mut source = abc(alloc, &[])?;
+const READ: &[Read] = &[
+    (&[], 4, Some(b"abc")),
+    (&[], 2, Some(b"ab")),
+    (&[], 0, Some(b"")),
+    (&[2], 4, None),
+];
+
+fn is_read(alloc: Global, row: &Read) -> Result<bool, AllocError> {
+    let (fails, most, wanted) = *row;
+    let mut source = abc(alloc, fails)?;
     match read_input(alloc, &mut source, most) {
-        Ok(bytes) => Ok(bytes.as_slice() == read),
-        Err(_) => Ok(false),
+        Ok(bytes) => Ok(wanted == Some(bytes.as_slice())),
+        Err(error) => Ok(wanted.is_none() && error == InputError::Read),
     }
-}
-
-// The second read fails.
-fn fails(alloc: Global) -> Result<bool, AllocError> {
-    let mut source = abc(alloc, &[2])?;
-    Ok(matches!(read_input(alloc, &mut source, 4), Err(InputError::Read)))
 }
 
 #[test]
 fn an_input_is_read_to_its_end_or_as_far_as_it_may_be(rt: HostRuntime) -> Result<(), Fail> {
-    for (most, read) in READ {
-        assert!(rt; is_read(rt.alloc(), *most, read)?);
+    for row in READ {
+        assert!(rt; is_read(rt.alloc(), row)?);
     }
-    assert!(rt; fails(rt.alloc())?);
     Ok(())
 }
 
@@ -82,54 +90,98 @@ fn script(alloc: Global) -> Result<Vec<Input>, AllocError>
     Ok(vec![in alloc; Input::Bytes { conn: 3, bytes }, Input::Closed { conn: 3 }]?)
 }
 
+// A letter for what a link gives.
+fn input_letter(input: &Input) -> u8 {
+    match input {
+        Input::Bytes { .. } => b'b',
+        Input::Closed { .. } => b'c',
+        Input::Tick { .. } => b't',
+        Input::Stop => b's',
+    }
+}
+
 // A letter for what went over a link.
 fn letter(traffic: &Traffic<u8>) -> u8 {
     match traffic {
-        Traffic::Took(Input::Bytes { .. }) => b'b',
-        Traffic::Took(Input::Closed { .. }) => b'c',
-        Traffic::Took(Input::Tick { .. }) => b't',
-        Traffic::Took(Input::Stop) => b's',
+        Traffic::Took(input) => input_letter(input),
         Traffic::Gave(value) => *value,
         Traffic::Dropped(_) => b'd',
     }
 }
 
-fn letters(alloc: Global, link: &MemLink<u8>) -> Result<Vec<u8>, AllocError> {
-    let mut letters = Vec::new(alloc);
-    for traffic in link.traffic().unwrap_or(&[]) {
-        letters.push(letter(traffic))?;
+fn are_letters(traffic: &[Traffic<u8>], wanted: &[u8]) -> bool {
+    let mut left = wanted.iter();
+    for traffic in traffic {
+        if left.next() != Some(&letter(traffic)) {
+            return false;
+        }
     }
-    Ok(letters)
+    left.next().is_none()
 }
 
-// A link whose second call fails, which then is sent a value and drops the connection.
-fn used(alloc: Global) -> Result<MemLink<u8>, AllocError> {
+// What is done with a link.
+#[derive(Clone, Copy)]
+enum Act {
+    // It is asked for an input, and gives that of this letter, or fails where that is `!`.
+    Asks(u8),
+    Sends(u8),
+    DropsConn(u64),
+}
+
+fn gives_letter(link: &mut MemLink<u8>, wanted: u8) -> bool {
+    match link.next() {
+        Ok(input) => input_letter(&input) == wanted,
+        Err(error) => error == LinkError::Failed && wanted == b'!',
+    }
+}
+
+fn does(link: &mut MemLink<u8>, act: Act) -> bool {
+    match act {
+        Act::Asks(wanted) => return gives_letter(link, wanted),
+        Act::Sends(value) => link.send(value),
+        Act::DropsConn(number) => link.drop_conn(number),
+    }
+    true
+}
+
+// A test's name, what is done with a link whose second call fails, the letters of what went over it, and how often it was asked.
+const LINKS: &[(&str, &[Act], &[u8], u64)] = &[
+    (
+        "a_link_in_memory_tells_what_went_over_it",
+        &[
+            Act::Asks(b'b'),
+            Act::Asks(b'!'),
+            Act::Sends(b'7'),
+            Act::DropsConn(3),
+            Act::Asks(b'c'),
+            Act::Asks(b's'),
+        ],
+        b"b7dcs",
+        4,
+    ),
+    (
+        "a_link_in_memory_gives_its_script_and_fails_where_it_is_told",
+        &[Act::Asks(b'b'), Act::Asks(b'!'), Act::Asks(b'c')],
+        b"bc",
+        3,
+    ),
+];
+
+// Whether a link does these, tells this, and was asked so often.
+fn is_used(alloc: Global, acts: &[Act], told: &[u8], asks: u64) -> Result<bool, AllocError> {
     let mut link = MemLink::new(alloc, script(alloc)?, vec![in alloc; 2u64]?);
-    let _ = link.next();
-    let _ = link.next();
-    link.send(b'7');
-    link.drop_conn(3);
-    let _ = link.next();
-    let _ = link.next();
-    Ok(link)
+    let mut are_so = true;
+    for act in acts {
+        are_so = are_so && does(&mut link, *act);
+    }
+    let is_told = are_letters(link.traffic().unwrap_or(&[]), told);
+    Ok(are_so && is_told && link.fault_count() == 1 && link.ask_count() == asks)
 }
 
 #[test]
-fn a_link_in_memory_tells_what_went_over_it(rt: HostRuntime) -> Result<(), Fail> {
-    let link = used(rt.alloc())?;
-    assert!(rt; letters(rt.alloc(), &link)?.as_slice() == b"b7dcs".as_slice());
-    assert!(rt; link.fault_count() == 1);
-    assert!(rt; link.ask_count() == 4);
-    Ok(())
-}
-
-#[test]
-fn a_link_in_memory_gives_its_script_and_fails_where_it_is_told(
-    rt: HostRuntime,
-) -> Result<(), Fail> {
-    let mut link = MemLink::<u8>::new(rt.alloc(), script(rt.alloc())?, vec![in rt.alloc(); 2u64]?);
-    assert!(rt; matches!(link.next(), Ok(Input::Bytes { .. })));
-    assert!(rt; matches!(link.next(), Err(LinkError::Failed)));
-    assert!(rt; matches!(link.next(), Ok(Input::Closed { .. })));
+fn a_link_in_memory_is_used(rt: HostRuntime) -> Result<(), Fail> {
+    for (name, acts, told, asks) in LINKS {
+        assert!(rt; is_used(rt.alloc(), acts, told, *asks)?, "{name}");
+    }
     Ok(())
 }
