@@ -1,7 +1,6 @@
 //! Disks in memory with given files, what their files hold, and how a fault is written.
 use std::alloc::{AllocError, Global};
 use std::fmt::Display;
-use std::test::Fail;
 use zen_disk::{Disks, MemDisks, Side};
 
 /// The bytes of side zero and of side one.
@@ -17,16 +16,17 @@ pub(crate) fn disk_of(alloc: Global, zero: &[u8], one: &[u8]) -> Result<MemDisks
     Ok(MemDisks::new(alloc, zero, one, Vec::new(alloc)))
 }
 
-fn content(alloc: Global, disk: &mut MemDisks, side: Side) -> Result<Vec<u8>, Fail> {
-    let len = disk.len(side)?;
-    let mut bytes = vec![in alloc; 0; len as usize]?;
-    disk.read(side, 0, &mut bytes)?;
-    Ok(bytes)
+fn content(alloc: Global, disk: &mut MemDisks, side: Side) -> Option<Vec<u8>> {
+    let len = disk.len(side).ok()?;
+    let mut bytes = vec![in alloc; 0; len as usize].ok()?;
+    disk.read(side, 0, &mut bytes).ok()?;
+    Some(bytes)
 }
 
-pub(crate) fn files_in(alloc: Global, disk: &mut MemDisks) -> Result<Files, Fail> {
+/// What both sides hold, where memory is left and no call fails.
+pub(crate) fn files_in(alloc: Global, disk: &mut MemDisks) -> Option<Files> {
     let zero = content(alloc, disk, Side::Zero)?;
-    Ok((zero, content(alloc, disk, Side::One)?))
+    Some((zero, content(alloc, disk, Side::One)?))
 }
 
 /// Whether this is how a value is written.
@@ -38,7 +38,7 @@ pub(crate) fn is_written<D: Display>(alloc: Global, value: &D, want: &str) -> bo
 }
 
 // The most bytes that `reads` compares.
-const MOST: usize = 96;
+const MOST: usize = 192;
 
 /// Whether a side has these bytes and no more.
 pub(crate) fn reads(disk: &mut MemDisks, side: Side, want: &[u8]) -> bool {
@@ -51,4 +51,10 @@ pub(crate) fn reads(disk: &mut MemDisks, side: Side, want: &[u8]) -> bool {
     let mut bytes = [0; MOST];
     let read = &mut bytes[..want.len()];
     disk.read(side, 0, read).is_ok() && *read == *want
+}
+
+/// Whether both sides of a disk have these bytes and no more.
+pub(crate) fn both_read(disk: MemDisks, zero: &[u8], one: &[u8]) -> bool {
+    let mut disk = disk;
+    reads(&mut disk, Side::Zero, zero) && reads(&mut disk, Side::One, one)
 }

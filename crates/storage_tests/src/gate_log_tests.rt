@@ -74,15 +74,10 @@ fn is_answered(log: &mut Log, row: &Row) -> bool {
         && log.disk().struck() == struck
 }
 
-fn log_on(alloc: Global, disk: MemDisks) -> Result<Log, Fail> {
-    match GateLog::open(alloc, Fuse::new(disk)) {
-        Ok(opened) => Ok(opened.log),
-        Err(_) => Err(Fail::new("not opened")),
-    }
-}
-
-fn empty_log(alloc: Global) -> Result<Log, Fail> {
-    log_on(alloc, disk_of(alloc, b"", b"")?)
+fn empty_log(alloc: Global) -> Option<Log> {
+    let disk = disk_of(alloc, b"", b"").ok()?;
+    let opened = GateLog::open(alloc, Fuse::new(disk)).ok()?;
+    Some(opened.log)
 }
 
 fn are_answered(log: &mut Log, rows: &[Row]) -> bool {
@@ -94,33 +89,23 @@ fn are_answered(log: &mut Log, rows: &[Row]) -> bool {
     true
 }
 
-// Does these acts on an empty journal, after which a side has these bytes.
-fn write_each(alloc: Global, rows: &[Row], side: Side, bytes: &[u8]) -> Result<(), Fail> {
-    let mut log = empty_log(alloc)?;
+// Whether these acts on an empty journal are answered so, and a side has these bytes after them.
+fn is_written_so(alloc: Global, rows: &[Row], side: Side, bytes: &[u8]) -> bool {
+    let Some(mut log) = empty_log(alloc) else {
+        return false;
+    };
     let are_answered = are_answered(&mut log, rows);
     let mut disk = log.into_disk().into_disk();
-    if are_answered && reads(&mut disk, side, bytes) {
-        Ok(())
-    } else {
-        Err(Fail::new("another answer, or other bytes"))
-    }
+    are_answered && reads(&mut disk, side, bytes)
 }
 
 const ONE_BODY: &[u8] = b"ZENJRNL1\x01\0\0\0\x09\x01\0\0\0\0\0\0\0\x01\0";
 
-const APPENDS: &[Row] = &[
-    (Act::Append, Ok(()), (Side::Zero, 0, 14), None),
-    (Act::AppendSmall, Ok(()), (Side::Zero, 0, 14), None),
-    (Act::AppendFramed, Ok(()), (Side::Zero, 0, 14), None),
-];
+const APPEND: &[Row] = &[(Act::Append, Ok(()), (Side::Zero, 0, 14), None)];
 
-#[test]
-fn appends_these_bytes(rt: HostRuntime) -> Result<(), Fail> {
-    for row in APPENDS {
-        write_each(rt.alloc(), &[*row], Side::Zero, ONE_BODY)?;
-    }
-    Ok(())
-}
+const APPEND_SMALL: &[Row] = &[(Act::AppendSmall, Ok(()), (Side::Zero, 0, 14), None)];
+
+const APPEND_FRAMED: &[Row] = &[(Act::AppendFramed, Ok(()), (Side::Zero, 0, 14), None)];
 
 const TWO_BODIES: &[u8] = b"ZENJRNL1\x01\0\0\0\x09\x04\0\0\0\0\0\0\0\x01\x01\0\0\0\x02de\0";
 
@@ -129,11 +114,6 @@ const RENEWAL: &[Row] = &[
     (Act::Renew, Ok(()), (Side::One, 1, 0), None),
     (Act::AppendDe, Ok(()), (Side::One, 1, 7), None),
 ];
-
-#[test]
-fn renews_these_bytes(rt: HostRuntime) -> Result<(), Fail> {
-    write_each(rt.alloc(), RENEWAL, Side::One, TWO_BODIES)
-}
 
 // Appends a body of so many zero bytes.
 fn append_zeros(alloc: Global, log: &mut Log, len: usize) -> Result<(), AppendError> {
@@ -149,22 +129,22 @@ const LONG_BODIES: &[(usize, Result<(), AppendError>, u64)] = &[
     (8_388_608, Ok(()), 8_388_613),
 ];
 
-fn are_long_bodies(alloc: Global, log: &mut Log) -> bool {
+// Whether an empty journal answers so, and is not stopped.
+fn are_long_bodies(alloc: Global) -> bool {
+    let Some(mut log) = empty_log(alloc) else {
+        return false;
+    };
+    let mut are_so = true;
     for (len, want, tail) in LONG_BODIES {
-        let is_so = append_zeros(alloc, log, *len) == *want && log.tail() == *tail;
-        if !is_so || log.stopped() {
-            return false;
-        }
+        are_so = are_so && append_zeros(alloc, &mut log, *len) == *want && log.tail() == *tail;
+        are_so = are_so && !log.stopped();
     }
-    true
+    are_so
 }
 
 #[test]
-fn a_body_has_at_most_8_388_608_bytes(rt: HostRuntime) -> Result<(), Fail> {
-    let mut log = empty_log(rt.alloc())?;
-    let are_so = are_long_bodies(rt.alloc(), &mut log);
-    assert!(&rt; are_so);
-    Ok(())
+fn a_body_has_at_most_8_388_608_bytes(rt: HostRuntime) {
+    assert!(rt; are_long_bodies(rt.alloc()));
 }
 
 const AT_FIRST: (Side, u64, u64) = (Side::Zero, 0, 0);
@@ -180,9 +160,20 @@ const AFTER_A_FAULT: &[Row] = &[
     (Act::Renew, STOPPED, AT_FIRST, FAULT),
 ];
 
+// A test's name, acts on an empty journal, and the side that has these bytes after them.
+const WRITTEN: &[(&str, &[Row], Side, &[u8])] = &[
+    ("appends_these_bytes", APPEND, Side::Zero, ONE_BODY),
+    ("appends_these_bytes", APPEND_SMALL, Side::Zero, ONE_BODY),
+    ("appends_these_bytes", APPEND_FRAMED, Side::Zero, ONE_BODY),
+    ("renews_these_bytes", RENEWAL, Side::One, TWO_BODIES),
+    ("stays_stopped", AFTER_A_FAULT, Side::Zero, EMPTY),
+];
+
 #[test]
-fn stays_stopped(rt: HostRuntime) -> Result<(), Fail> {
-    write_each(rt.alloc(), AFTER_A_FAULT, Side::Zero, EMPTY)
+fn a_journal_appends_renews_and_stops(rt: HostRuntime) {
+    for (name, rows, side, bytes) in WRITTEN {
+        assert!(rt; is_written_so(rt.alloc(), rows, *side, bytes), "{name}");
+    }
 }
 
 // The side in use and its epoch, and the bodies of each side.
@@ -302,11 +293,13 @@ fn leaves(
     order: Order,
     want: Result<(), AppendError>,
     left: &Left,
-) -> Result<bool, Fail> {
-    let mut log = empty_log(alloc)?;
+) -> bool {
+    let Some(mut log) = empty_log(alloc) else {
+        return false;
+    };
     let answer = answer_last(&mut log, acts, order);
     let disk = log.into_disk().into_disk();
-    Ok(answer == want && finds(alloc, disk, &Found::Left(left)))
+    answer == want && finds(alloc, disk, &Found::Left(left))
 }
 
 // What a letter of a row stands for.
@@ -323,24 +316,28 @@ fn left_by(letter: u8) -> &'static Left {
 // The answer to the last act while its call of this number is struck, and what is left in each way, a letter for each.
 type Strike = (Result<(), AppendError>, &'static str);
 
-fn are_left(alloc: Global, acts: &[Act], call: u64, strike: Strike) -> Result<bool, Fail> {
+fn are_left(alloc: Global, acts: &[Act], call: u64, strike: Strike) -> bool {
     let (want, letters) = strike;
     let orders = orders(call);
     for (order, letter) in orders.iter().zip(letters.as_bytes()) {
-        if !leaves(alloc, acts, *order, want, left_by(*letter))? {
-            return Ok(false);
+        if !leaves(alloc, acts, *order, want, left_by(*letter)) {
+            return false;
         }
     }
-    Ok(true)
+    true
 }
 
-// Strikes each call of the last act, and the call after them, which it does not make.
-fn strike_each(alloc: Global, acts: &[Act], strikes: &[Strike]) -> Result<(), Fail> {
+// A test's name, acts, and a row for each call of the last of them, and for the call after these, which it does not make.
+type StrikeTest = (&'static str, &'static [Act], &'static [Strike]);
+
+// Strikes each call of the last act, and the call after them.
+fn strike_each(alloc: Global, test: &StrikeTest) -> Result<(), Fail> {
+    let (name, acts, strikes) = *test;
     let mut call = 0u64;
     for strike in strikes {
         call = call.saturating_add(1);
-        if !are_left(alloc, acts, call, *strike)? {
-            return Err(Fail::new(format_args!("at call {call}")));
+        if !are_left(alloc, acts, call, *strike) {
+            return Err(Fail::new(format_args!("{name}: call {call}")));
         }
     }
     Ok(())
@@ -356,11 +353,6 @@ const STRUCK_APPEND: &[Strike] = &[
     (Ok(()), "aaaa"),
 ];
 
-#[test]
-fn strikes_each_call_of_an_append(rt: HostRuntime) -> Result<(), Fail> {
-    strike_each(rt.alloc(), &[Act::AppendAbc], STRUCK_APPEND)
-}
-
 const STRUCK_RENEWAL: &[Strike] = &[
     (STRUCK, "aaaa"),
     (STRUCK, "aaaa"),
@@ -368,12 +360,6 @@ const STRUCK_RENEWAL: &[Strike] = &[
     (STRUCK, "arrr"),
     (Ok(()), "rrrr"),
 ];
-
-#[test]
-fn strikes_each_call_of_a_first_renewal(rt: HostRuntime) -> Result<(), Fail> {
-    let acts = [Act::AppendAbc, Act::Renew];
-    strike_each(rt.alloc(), &acts, STRUCK_RENEWAL)
-}
 
 const STRUCK_SECOND_RENEWAL: &[Strike] = &[
     (STRUCK, "rerr"),
@@ -385,10 +371,30 @@ const STRUCK_SECOND_RENEWAL: &[Strike] = &[
     (Ok(()), "ssss"),
 ];
 
+const STRIKES: &[StrikeTest] = &[
+    (
+        "strikes_each_call_of_an_append",
+        &[Act::AppendAbc],
+        STRUCK_APPEND,
+    ),
+    (
+        "strikes_each_call_of_a_first_renewal",
+        &[Act::AppendAbc, Act::Renew],
+        STRUCK_RENEWAL,
+    ),
+    (
+        "strikes_each_call_of_a_renewal_onto_a_side_with_bodies",
+        &[Act::AppendAbc, Act::Renew, Act::Renew],
+        STRUCK_SECOND_RENEWAL,
+    ),
+];
+
 #[test]
-fn strikes_each_call_of_a_renewal_onto_a_side_with_bodies(rt: HostRuntime) -> Result<(), Fail> {
-    let acts = [Act::AppendAbc, Act::Renew, Act::Renew];
-    strike_each(rt.alloc(), &acts, STRUCK_SECOND_RENEWAL)
+fn strikes_each_call(rt: HostRuntime) -> Result<(), Fail> {
+    for test in STRIKES {
+        strike_each(rt.alloc(), test)?;
+    }
+    Ok(())
 }
 
 const EMPTY: &[u8] = b"ZENJRNL1\0";

@@ -4,7 +4,6 @@ use crate::journals::{Journal, opened};
 use cluster_state::{LAST_NUMBER, SharedState, StateView, encode_state};
 use state_journal::{Keeper, Ready};
 use std::alloc::{AllocError, Global};
-use std::test::Fail;
 use wire_frames::{FrameReader, FrameView, write_frame};
 
 // 33 bytes of numbers, three times 2,113 of 64 ids, 34 of a master, 331 of ten exclusions, and 4,096 times 1,156 of a setting behind the
@@ -94,21 +93,13 @@ fn is_read_back(alloc: Global, bytes: &[u8]) -> bool {
     }
 }
 
-#[test]
-fn it_has_few_enough_bytes_and_is_read_back(rt: HostRuntime) -> Result<(), Fail> {
-    let bytes = greatest(rt.alloc())?;
-    assert!(&rt; bytes.len() == LENGTH && LENGTH <= 4_800_000);
-    assert!(&rt; is_read_back(rt.alloc(), &bytes));
-    Ok(())
-}
-
 // The length of a body, its kind, and whose frame it is: from a to b.
 const HEAD: &[u8] = &[0, 0x48, 0x5a, 0x58, 17, 1, b'a', 1, b'b'];
 
 // The frame that publishes it.
-fn framed(alloc: Global) -> Result<Vec<u8>, AllocError> {
+fn framed(alloc: Global, bytes: &[u8]) -> Result<Vec<u8>, AllocError> {
     let mut frame = Vec::from_slice(alloc, HEAD)?;
-    frame.extend_from_slice(&greatest(alloc)?)?;
+    frame.extend_from_slice(bytes)?;
     Ok(frame)
 }
 
@@ -133,12 +124,6 @@ fn is_one_frame(alloc: Global, frame: &[u8]) -> bool {
     }
 }
 
-#[test]
-fn one_frame_publishes_it(rt: HostRuntime) -> Result<(), Fail> {
-    assert!(&rt; is_one_frame(rt.alloc(), &framed(rt.alloc())?));
-    Ok(())
-}
-
 fn keeps_its_term(journal: &mut Journal) -> bool {
     journal.kept().term < LAST_NUMBER && journal.set_term(LAST_NUMBER).is_ok()
 }
@@ -161,16 +146,52 @@ fn is_accepted(alloc: Global, journal: &mut Journal, bytes: &[u8]) -> bool {
 }
 
 // Whether the state is in the files of a journal that has accepted it. It is longer than a tail may be, so it begins a generation.
-fn is_kept(alloc: Global, bytes: &[u8]) -> Result<bool, Fail> {
+fn is_kept(alloc: Global, bytes: &[u8]) -> Option<bool> {
     let mut journal = opened(alloc, b"", b"")?;
     let is_accepted = is_accepted(alloc, &mut journal, bytes);
     let files = files_in(alloc, &mut journal.into_disk().into_disk())?;
     let again = opened(alloc, &files.0, &files.1)?;
-    Ok(is_accepted && again.records() == 1 && has_bytes(alloc, &again.kept().accepted, bytes))
+    let has_bytes = has_bytes(alloc, &again.kept().accepted, bytes);
+    Some(is_accepted && again.records() == 1 && has_bytes)
+}
+
+// What is done with its bytes.
+#[derive(Clone, Copy)]
+enum Use {
+    Read,
+    Framed,
+    Kept,
+}
+
+fn is_used_so(alloc: Global, bytes: &[u8], what: Use) -> bool {
+    match what {
+        Use::Read => bytes.len() == LENGTH && LENGTH <= 4_800_000 && is_read_back(alloc, bytes),
+        Use::Framed => match framed(alloc, bytes) {
+            Ok(frame) => is_one_frame(alloc, &frame),
+            Err(_) => false,
+        },
+        Use::Kept => is_kept(alloc, bytes) == Some(true),
+    }
+}
+
+fn is_so(alloc: Global, what: Use) -> bool {
+    match greatest(alloc) {
+        Ok(bytes) => is_used_so(alloc, &bytes, what),
+        Err(_) => false,
+    }
 }
 
 #[test]
-fn one_body_of_a_journal_keeps_it(rt: HostRuntime) -> Result<(), Fail> {
-    assert!(&rt; is_kept(rt.alloc(), &greatest(rt.alloc())?)?);
-    Ok(())
+fn it_has_few_enough_bytes_and_is_read_back(rt: HostRuntime) {
+    assert!(rt; is_so(rt.alloc(), Use::Read));
+}
+
+#[test]
+fn one_frame_publishes_it(rt: HostRuntime) {
+    assert!(rt; is_so(rt.alloc(), Use::Framed));
+}
+
+#[test]
+fn one_body_of_a_journal_keeps_it(rt: HostRuntime) {
+    assert!(rt; is_so(rt.alloc(), Use::Kept));
 }

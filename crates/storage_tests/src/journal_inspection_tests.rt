@@ -72,25 +72,11 @@ fn ends(
 // Two files, and what is shown of the journal in them.
 type Shown = (&'static [u8], &'static [u8], &'static str);
 
-fn show_each(alloc: Global, table: &[Shown]) -> Result<(), Fail> {
-    for (place, (zero, one, text)) in table.iter().enumerate() {
-        if !ends(alloc, (zero, one), Failing::Nothing, Inspection::Done, text)? {
-            return Err(Fail::new(format_args!("row {place}")));
-        }
-    }
-    Ok(())
-}
-
 const ONE_SIDE: &[Shown] = &[
     (TERM_ONE, b"", TERM_ONE_LINES),
     (OLD_TERM_ONE, b"", TERM_ONE_LINES),
     (ACCEPTED, b"", ACCEPTED_LINES),
 ];
-
-#[test]
-fn a_journal_is_shown_in_seven_lines(rt: HostRuntime) -> Result<(), Fail> {
-    show_each(rt.alloc(), ONE_SIDE)
-}
 
 // Behind a gate that is closed nothing counts.
 const EMPTY_ONES: &[Shown] = &[
@@ -99,27 +85,37 @@ const EMPTY_ONES: &[Shown] = &[
     (b"ZENJRNL1\x02\0\0\0\x01\x05", b"", EMPTY_LINES),
 ];
 
-#[test]
-fn nine_bytes_are_an_empty_journal(rt: HostRuntime) -> Result<(), Fail> {
-    show_each(rt.alloc(), EMPTY_ONES)
-}
-
 // A body that commits the empty state.
 const COMMITS: &[Shown] = &[(b"ZENJRNL1\x01\0\0\0\x01\x03\0", b"", COMMITTED_LINES)];
-
-#[test]
-fn a_commit_alone_is_a_journal_of_one_record(rt: HostRuntime) -> Result<(), Fail> {
-    show_each(rt.alloc(), COMMITS)
-}
 
 const SECONDS: &[Shown] = &[
     (TERM_ONE, SECOND, SECOND_LINES),
     (OLD_TERM_ONE, SECOND, SECOND_LINES),
 ];
 
+const SHOWN: &[(&str, &[Shown])] = &[
+    ("a_journal_is_shown_in_seven_lines", ONE_SIDE),
+    ("nine_bytes_are_an_empty_journal", EMPTY_ONES),
+    ("a_commit_alone_is_a_journal_of_one_record", COMMITS),
+    ("the_newer_generation_is_shown", SECONDS),
+];
+
+// Says which row is not so, the first being row 0.
+fn show_each(alloc: Global, name: &str, rows: &[Shown]) -> Result<(), Fail> {
+    for (place, (zero, one, text)) in rows.iter().enumerate() {
+        if !ends(alloc, (zero, one), Failing::Nothing, Inspection::Done, text)? {
+            return Err(Fail::new(format_args!("{name}: row {place}")));
+        }
+    }
+    Ok(())
+}
+
 #[test]
-fn the_newer_generation_is_shown(rt: HostRuntime) -> Result<(), Fail> {
-    show_each(rt.alloc(), SECONDS)
+fn journals_are_shown(rt: HostRuntime) -> Result<(), Fail> {
+    for (name, rows) in SHOWN {
+        show_each(rt.alloc(), name, rows)?;
+    }
+    Ok(())
 }
 
 const CUT: &[u8] = b"ZENJRNL1\x01\0\0\0\xff\0";

@@ -2,22 +2,15 @@
 use crate::files::disk_of;
 use state_journal::StateJournal;
 use std::alloc::Global;
-use std::test::Fail;
 use zen_disk::{Fuse, MemDisks};
 
 /// A journal of which a device call may be struck.
 pub(crate) type Journal = StateJournal<Fuse<MemDisks>>;
 
-fn journal_on(alloc: Global, disk: MemDisks) -> Result<Journal, Fail> {
-    match StateJournal::open(alloc, Fuse::new(disk)) {
-        Ok(journal) => Ok(journal),
-        Err(_) => Err(Fail::new("no journal")),
-    }
-}
-
-/// The journal in these files.
-pub(crate) fn opened(alloc: Global, zero: &[u8], one: &[u8]) -> Result<Journal, Fail> {
-    journal_on(alloc, disk_of(alloc, zero, one)?)
+/// The journal in these files, where they are one.
+pub(crate) fn opened(alloc: Global, zero: &[u8], one: &[u8]) -> Option<Journal> {
+    let disk = disk_of(alloc, zero, one).ok()?;
+    StateJournal::open(alloc, Fuse::new(disk)).ok()
 }
 
 /// A body that sets term 1.

@@ -199,17 +199,13 @@ fn opened_again(alloc: Global, disk: MemDisks) -> Found {
 }
 
 // What an opening finds where this order strikes a call of the tool, which answers Disk. A second use answers Stopped.
-fn struck(alloc: Global, alone: &str, file: &[u8], order: Order) -> Result<Found, Fail> {
+fn struck(alloc: Global, alone: &str, file: &[u8], order: Order) -> Option<Found> {
     let mut journal = opened(alloc, file, b"")?;
     journal.arm(order);
     let first = tool_of(alone).apply(alloc, &mut journal);
     let second = tool_of(alone).apply(alloc, &mut journal);
     let found = opened_again(alloc, journal.into_disk().into_disk());
-    if first == Err(ToolError::Disk) && second == Err(ToolError::Stopped) {
-        Ok(found)
-    } else {
-        Err(Fail::new("another answer"))
-    }
+    (first == Err(ToolError::Disk) && second == Err(ToolError::Stopped)).then_some(found)
 }
 
 // What each call leaves: where it is stopped and all that is not synced is lost, is kept or becomes 01, and where it fails.
@@ -228,7 +224,7 @@ fn strike_each(alloc: Global, alone: &str, file: &[u8], new: Found) -> Result<()
         let orders = orders(call);
         for (order, is_new) in orders.iter().zip(leaves) {
             let want = if *is_new { new } else { Found::Old };
-            if struck(alloc, alone, file, *order)? != want {
+            if struck(alloc, alone, file, *order) != Some(want) {
                 return Err(Fail::new(format_args!("call {call}")));
             }
         }
