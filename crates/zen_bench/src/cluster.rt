@@ -14,14 +14,15 @@ use voting_config::{MAX_IDS, NodeId, NodeSet};
 
 type Node = CoordState<MemJournal>;
 
-// A node that has taken the initial configuration of all.
-fn booted(alloc: Global, id: NodeId, members: &NodeSet) -> Result<Node, Fault> {
+// The node takes the initial configuration of all.
+fn boot(alloc: Global, node: &mut Node, members: &NodeSet) -> Result<(), Fault> {
     let initial = Ready::initial(alloc, members)?;
-    let mut node = CoordState::new(id, empty_journal(alloc)?);
-    match node.set_initial(initial) {
-        Ok(()) => Ok(node),
-        Err(_) => Err(Fault::Unexpected("no initial configuration")),
-    }
+    expected(node.set_initial(initial), "no initial configuration")
+}
+
+// A node over an empty journal.
+fn opened(alloc: Global, id: NodeId) -> Result<Node, Fault> {
+    Ok(CoordState::new(id, empty_journal(alloc)?))
 }
 
 fn count_join(candidate: &mut Node, join: &Join) -> Result<(), Fault> {
@@ -71,40 +72,33 @@ fn count_response(
     }
 }
 
-/// The nodes.
+// The nodes.
 #[derive(Drop)]
-pub struct Cluster {
+struct Cluster {
     alloc: Global,
     candidate: Node,
     others: Vec<Node>,
 }
 
 impl Cluster {
-    /// Nodes over empty journals, which have taken the initial configuration of all five.
-    fn booted(alloc: Global, members: &NodeSet) -> Result<Cluster, Fault> {
-        let Some((first, rest)) = members.as_slice().split_first() else {
-            return Err(Fault::Unexpected("no ids"));
-        };
-        let candidate = booted(alloc, *first, members)?;
-        let mut others = Vec::new(alloc);
-        for id in rest {
-            others.push(booted(alloc, *id, members)?)?;
+    // A node more for each of these ids.
+    fn add(&mut self, ids: &[NodeId]) -> Result<(), Fault> {
+        for id in ids {
+            self.others.push(opened(self.alloc, *id)?)?;
         }
-        Ok(Cluster {
-            alloc,
-            candidate,
-            others,
-        })
+        Ok(())
     }
 
-    // The candidate is elected by the joins of all nodes.
-    fn elect(&mut self) -> Result<(), Fault> {
+    // All nodes take their initial configuration, and the candidate is elected by their joins.
+    fn elect(&mut self, members: &NodeSet) -> Result<(), Fault> {
+        boot(self.alloc, &mut self.candidate, members)?;
         let me = self.candidate.me();
         let Ok(own) = self.candidate.start_join(me, TERM) else {
             return Err(Fault::Unexpected("no join"));
         };
         count_join(&mut self.candidate, &own)?;
         for node in self.others.iter_mut() {
+            boot(self.alloc, node, members)?;
             match node.start_join(me, TERM) {
                 Ok(join) => count_join(&mut self.candidate, &join)?,
                 Err(_) => return Err(Fault::Unexpected("no join")),
@@ -163,14 +157,19 @@ impl Cluster {
         }
     }
 
-    // An election and this many rounds.
-    fn run(&mut self, settings: u16, rounds: u64) -> Result<(), Fault> {
-        self.elect()?;
+    // A round of a value with so many settings.
+    fn round_of(&mut self, version: u64, settings: u16) -> Result<(), Fault> {
+        let bytes = state_bytes(self.alloc, version, settings)?;
+        self.round(bytes.as_slice())
+    }
+
+    // An election by these members and this many rounds. Says what is committed.
+    fn run(&mut self, members: &NodeSet, settings: u16, rounds: u64) -> Result<Figures, Fault> {
+        self.elect(members)?;
         for version in 1..=rounds {
-            let bytes = state_bytes(self.alloc, version, settings)?;
-            self.round(bytes.as_slice())?;
+            self.round_of(version, settings)?;
         }
-        Ok(())
+        Ok(self.figures())
     }
 
     // What is committed, where all that was accepted is.
@@ -193,9 +192,16 @@ pub fn run_values(alloc: Global, settings: u64, rounds: u64) -> Result<Figures, 
     let Some(members) = NodeSet::parse("a,b,c,d,e") else {
         return Err(Fault::Unexpected("no ids"));
     };
-    let mut cluster = Cluster::booted(alloc, &members)?;
-    match cluster.run(settings, rounds) {
-        Ok(()) => Ok(cluster.figures()),
+    let Some((first, rest)) = members.as_slice().split_first() else {
+        return Err(Fault::Unexpected("no ids"));
+    };
+    let mut cluster = Cluster {
+        alloc,
+        candidate: opened(alloc, *first)?,
+        others: Vec::new(alloc),
+    };
+    match cluster.add(rest) {
+        Ok(()) => cluster.run(&members, settings, rounds),
         Err(fault) => Err(fault),
     }
 }

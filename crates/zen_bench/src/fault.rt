@@ -5,7 +5,7 @@ use std::alloc::{AllocError, AllocFailed};
 use std::io;
 
 /// Why a run did not come to its end.
-#[derive(Drop)]
+#[derive(Clone, Copy)]
 pub enum Fault {
     /// Memory was lacking outside an event and an opening.
     Memory,

@@ -1,10 +1,11 @@
 //! Frames out of bytes that come in pieces, as they come over a socket.
+ghost use Rattle.wire_frames.specs.Frames.{IsFitFrame};
 
 use crate::fault::{Fault, expected};
 use crate::figures::Figures;
 use crate::states::{add_all, state_bytes};
 use std::alloc::{AllocError, Global};
-use wire_frames::{FrameReader, FrameView, write_frame};
+use wire_frames::{Frame, FrameReader, FrameView, write_frame};
 
 // As many bytes as a socket is asked for at once.
 const PIECE: usize = 4096;
@@ -73,13 +74,21 @@ fn read(alloc: Global, frame: &[u8], makes: bool, rounds: u64) -> Result<u64, Fa
     Ok(count)
 }
 
-// Writes the frame with this body so often, and says how often that was.
-fn write(alloc: Global, body: &[u8], rounds: u64) -> Result<u64, Fault> {
-    let frame = expected(FrameView::of(body), "no frame")?.frame(alloc)?;
+// Writes the frame so often, and says how often that was.
+fn write_often(alloc: Global, frame: &Frame, rounds: u64) -> Result<u64, Fault>
+    requires { IsFitFrame frame.now }
+{
     for _ in 0..rounds {
-        let _ = write_frame(alloc, &frame)?;
+        let _ = write_frame(alloc, frame)?;
     }
     Ok(rounds)
+}
+
+// Writes the frame with this body so often, and says how often that was.
+fn write(alloc: Global, body: &[u8], rounds: u64) -> Result<u64, Fault> {
+    let view = expected(FrameView::of(body), "no frame")?;
+    let frame = view.frame(alloc)?;
+    write_often(alloc, &frame, rounds)
 }
 
 fn frame_of(alloc: Global, kind: &str) -> Result<Vec<u8>, Fault> {
@@ -91,21 +100,19 @@ fn frame_of(alloc: Global, kind: &str) -> Result<Vec<u8>, Fault> {
 }
 
 // Lends, makes or writes a frame so often, and says how often that was.
-fn repeat(alloc: Global, what: &str, frame: &[u8], rounds: u64) -> Result<u64, Fault> {
-    match what {
-        "lend" => read(alloc, frame, false, rounds),
-        "make" => read(alloc, frame, true, rounds),
-        "write" => write(alloc, frame.get(4..).unwrap_or(&[]), rounds),
-        _ => Err(Fault::Unexpected("what is done with frames is lend, make or write")),
-    }
+fn repeat(alloc: Global, what: &str, frame: &[u8], rounds: u64) -> Result<Figures, Fault> {
+    let count = match what {
+        "lend" => read(alloc, frame, false, rounds)?,
+        "make" => read(alloc, frame, true, rounds)?,
+        "write" => write(alloc, frame.get(4..).unwrap_or(&[]), rounds)?,
+        _ => return Err(Fault::Unexpected("what is done with frames is lend, make or write")),
+    };
+    Ok(Figures::Frames(count))
 }
 
 /// Has a join, or a publish request of 1,024 full settings, come so often, and lends it, or makes it too; or writes it so
 /// often. Says how often that was.
 pub fn run_frames(alloc: Global, what: &str, kind: &str, rounds: u64) -> Result<Figures, Fault> {
     let frame = frame_of(alloc, kind)?;
-    match repeat(alloc, what, frame.as_slice(), rounds) {
-        Ok(count) => Ok(Figures::Frames(count)),
-        Err(fault) => Err(fault),
-    }
+    repeat(alloc, what, frame.as_slice(), rounds)
 }

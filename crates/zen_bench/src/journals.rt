@@ -22,8 +22,8 @@ pub fn empty_journal(alloc: Global) -> Result<MemJournal, Fault>
     expected(StateJournal::open(alloc, disk), "no journal")
 }
 
-// Sets so many terms after the one that the journal keeps.
-fn set_terms<D: Disks + Drop>(journal: &mut StateJournal<D>, count: u64) -> Result<(), Fault> {
+// Sets so many terms after the one that the journal keeps, and says what it keeps then.
+fn set_terms<D: Disks + Drop>(journal: &mut StateJournal<D>, count: u64) -> Result<Figures, Fault> {
     for _ in 0..count {
         let term = journal.kept().term;
         if term >= LAST {
@@ -31,18 +31,20 @@ fn set_terms<D: Disks + Drop>(journal: &mut StateJournal<D>, count: u64) -> Resu
         }
         expected(journal.set_term(term + 1), "the disk failed")?;
     }
-    Ok(())
+    Ok(Figures::Kept {
+        term: journal.kept().term,
+        records: journal.records(),
+    })
 }
 
 /// Opens the journal of a folder, sets so many terms after the one that it keeps, and says what it keeps then.
 pub fn run_terms(rt: &HostRuntime, folder: &str, count: u64) -> Result<Figures, Fault> {
     let disk = expected(FileDisks::open(rt, folder), "no folder")?;
-    let mut journal = expected(StateJournal::open(rt.alloc(), disk), "no journal")?;
-    match set_terms(&mut journal, count) {
-        Ok(()) => Ok(Figures::Kept {
-            term: journal.kept().term,
-            records: journal.records(),
-        }),
-        Err(fault) => Err(fault),
+    match StateJournal::open(rt.alloc(), disk) {
+        Ok(journal) => {
+            let mut journal = journal;
+            set_terms(&mut journal, count)
+        }
+        Err(_) => Err(Fault::Unexpected("no journal")),
     }
 }

@@ -14,7 +14,7 @@ mod states;
 mod world;
 
 use cluster::run_values;
-use fault::{Fault, expected};
+use fault::Fault;
 use figures::Figures;
 use frames::run_frames;
 use journals::run_terms;
@@ -23,13 +23,10 @@ use std::env;
 use std::process::ExitCode;
 
 const USAGE: &str =
-    "usage: values SETTINGS ROUNDS | terms FOLDER COUNT | frames lend|make|write join|publish ROUNDS | ticks ROUNDS | checks ROUNDS | puts SETTINGS ROUNDS | growths";
+    "usage: values SETTINGS ROUNDS | terms FOLDER COUNT | frames lend|make|write join|publish ROUNDS | ticks ROUNDS | checks ROUNDS | puts SETTINGS ROUNDS | growths; SETTINGS, ROUNDS and COUNT are numbers";
 
-fn number(word: &String) -> Result<u64, Fault> {
-    expected(
-        word.as_str().parse::<u64>(),
-        "SETTINGS, ROUNDS and COUNT are numbers",
-    )
+fn number(word: Option<&String>) -> Option<u64> {
+    word?.as_str().parse::<u64>().ok()
 }
 
 // Runs what the words ask for.
@@ -37,40 +34,42 @@ fn measured(rt: &HostRuntime, words: &[String]) -> Result<Figures, Fault> {
     let Some((what, rest)) = words.split_first() else {
         return Err(Fault::Unexpected(USAGE));
     };
-    match (what.as_str(), rest) {
-        ("values", [settings, rounds]) => {
-            run_values(rt.alloc(), number(settings)?, number(rounds)?)
+    let alloc = rt.alloc();
+    match (
+        what.as_str(),
+        rest,
+        number(rest.first()),
+        number(rest.last()),
+    ) {
+        ("values", [_, _], Some(settings), Some(rounds)) => run_values(alloc, settings, rounds),
+        ("terms", [folder, _], _, Some(count)) => run_terms(rt, folder.as_str(), count),
+        ("frames", [done, kind, _], _, Some(rounds)) => {
+            run_frames(alloc, done.as_str(), kind.as_str(), rounds)
         }
-        ("terms", [folder, count]) => run_terms(rt, folder.as_str(), number(count)?),
-        ("frames", [done, kind, rounds]) => run_frames(
-            rt.alloc(),
-            done.as_str(),
-            kind.as_str(),
-            number(rounds)?,
-        ),
-        ("ticks", [rounds]) => run_rounds(rt.alloc(), Round::FollowerTick, 3, 10, number(rounds)?),
-        ("checks", [rounds]) => run_rounds(rt.alloc(), Round::LeaderTick, 31, 10, number(rounds)?),
-        ("puts", [settings, rounds]) => run_rounds(
-            rt.alloc(),
-            Round::Put,
-            3,
-            number(settings)?,
-            number(rounds)?,
-        ),
-        ("growths", []) => run_growths(rt.alloc()),
+        ("ticks", [_], _, Some(rounds)) => run_rounds(alloc, Round::FollowerTick, 3, 10, rounds),
+        ("checks", [_], _, Some(rounds)) => run_rounds(alloc, Round::LeaderTick, 31, 10, rounds),
+        ("puts", [_, _], Some(settings), Some(rounds)) => {
+            run_rounds(alloc, Round::Put, 3, settings, rounds)
+        }
+        ("growths", [], _, _) => run_growths(alloc),
         _ => Err(Fault::Unexpected(USAGE)),
     }
 }
 
-// Runs what the words after the program's name ask for, and prints its figures.
+// Runs what the words ask for, and prints its figures.
+fn show(rt: &HostRuntime, words: &[String]) -> Result<(), Fault> {
+    let figures = measured(rt, words)?;
+    println!(rt; "{figures}")?;
+    Ok(())
+}
+
+// Runs what the words after the program's name ask for.
 fn run(rt: &HostRuntime) -> Result<(), Fault> {
     let mut words = Vec::new(rt.alloc());
     for word in env::args(rt)?.skip(1) {
         words.push(word)?;
     }
-    let figures = measured(rt, words.as_slice())?;
-    println!(rt; "{figures}")?;
-    Ok(())
+    show(rt, words.as_slice())
 }
 
 fn main(rt: HostRuntime) -> ExitCode {
