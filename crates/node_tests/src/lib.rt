@@ -7,16 +7,12 @@ mod client_guarantees_tests;
 #[cfg(test)]
 mod coordinator_tests;
 #[cfg(test)]
-mod members;
-#[cfg(test)]
 mod node_bytes_tests;
-#[cfg(test)]
-mod node_loop_running_tests;
 #[cfg(test)]
 mod node_loop_tests;
 #[cfg(test)]
 mod policy_model_tests;
 #[cfg(test)]
-mod shown;
+mod settings;
 #[cfg(test)]
 mod system_laws_tests;

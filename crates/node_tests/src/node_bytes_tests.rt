@@ -1,25 +1,18 @@
 //! Over real sockets on this machine. The bytes that are expected are those of docs/formats.md.
-use crate::members::{Member, settings_of};
-use client_lines::{Line, LineReader};
+use crate::settings::{OF_TWO, settings_of};
 use cluster_state::{ClusterState, SharedState};
-use coordinator::Sealed;
 use host_io::{Framing, SocketLink, SystemHost};
 use node_bytes::{SealedFrames, is_fit};
-use policy_model::Event;
+use node_loop::Node;
 use std::alloc::{AllocError, Global};
 use std::io::{Read, Write};
 use std::net::{TcpListener, TcpStream};
 use std::test::Fail;
 use voting_config::{NodeId, NodeSet};
 use wire_frames::{Frame, WireMessage};
+use zen_disk::MemDisks;
 use zen_host::Host;
-use zen_link::{Input, Link, LinkSettings, Peer};
-
-// The node a, started, whose peer and fellow voter b it has not found.
-fn start(alloc: Global) -> Result<Member, Fail> {
-    let settings = settings_of(alloc, "a", &["a", "b"], &["a", "b"], &[])?;
-    Member::start(alloc, settings)
-}
+use zen_link::{Input, Link, LinkSettings, MemSink, Peer};
 
 type RealLink = SocketLink<HostRuntime, SealedFrames>;
 
@@ -30,68 +23,50 @@ fn free_address(rt: &HostRuntime) -> Result<String, Fail> {
     Ok(format!(in rt.alloc(); "{address}")?)
 }
 
-fn open_link(
-    rt: &HostRuntime,
-    me: &str,
-    listen: &String,
-    peers: Vec<Peer>,
-) -> Result<RealLink, Fail> {
+// The link of a node that has these peers, and its address.
+fn open_link(rt: &HostRuntime, me: &str, peers: Vec<Peer>) -> Result<(RealLink, String), Fail> {
+    let address = free_address(rt)?;
     let settings = LinkSettings {
         me: NodeId::parse(me)?,
-        listen: listen.clone()?,
+        listen: address.clone()?,
         peers,
     };
-    Ok(SystemHost::new(rt, SealedFrames).open_link(&settings)?)
+    let link = SystemHost::new(rt, SealedFrames).open_link(&settings)?;
+    Ok((link, address))
 }
 
-// The bytes that come next, and their connection.
-fn next_bytes(alloc: Global, link: &mut RealLink) -> Result<(u64, Vec<u8>), Fail> {
-    for _ in 0..100 {
-        if let Ok(Input::Bytes { conn, bytes }) = link.next() {
-            return Ok((conn, Vec::from_slice(alloc, bytes.as_slice())?));
-        }
-    }
-    Err(Fail::new("nothing came"))
-}
+// How many inputs a node takes. A tick is one, and comes every 50 to 100 ms.
+const TURNS: u64 = 20;
 
-// The first line of bytes.
-fn line_of(alloc: Global, bytes: &[u8]) -> Result<Line, Fail> {
-    let mut lines = LineReader::new(alloc).feed(bytes)?.into_lines();
-    match lines.pop() {
-        Some(line) => Ok(line),
-        None => Err(Fail::new("there is no line")),
-    }
-}
-
-// What a does about the first line of bytes that came over a connection.
-fn done(alloc: Global, conn: u64, bytes: &[u8]) -> Result<Sealed, Fail> {
-    let line = line_of(alloc, bytes)?;
-    let (_, sealed) = start(alloc)?.step(alloc, Event::Client { conn, line })?;
-    Ok(sealed)
-}
-
+// The node a, whose fellow voter b it has not found, runs over this link.
 fn serve(alloc: Global, link: &mut RealLink) -> Result<(), Fail> {
-    let (conn, bytes) = next_bytes(alloc, link)?;
-    link.send(done(alloc, conn, bytes.as_slice())?);
-    Ok(())
+    let disk = MemDisks::new(alloc, Vec::new(alloc), Vec::new(alloc), Vec::new(alloc));
+    let mut out = MemSink::new(alloc, 1 << 20, Vec::new(alloc));
+    match Node::open(alloc, settings_of(alloc, &OF_TWO)?, disk) {
+        Ok(node) => {
+            let _ = node.run(link, &mut out, TURNS);
+            Ok(())
+        }
+        Err(_) => Err(Fail::new("the journal was not opened")),
+    }
 }
 
 const REPLY: &[u8; 27] = b"{\"id\":1,\"not_master\":null}\n";
 
-fn gets_reply(mut client: &TcpStream) -> Result<bool, Fail> {
+// Whether a client that asks for the state at this address, which is the link's, gets the reply.
+fn gets_reply(rt: &HostRuntime, link: &mut RealLink, address: &String) -> Result<bool, Fail> {
     let mut reply = [0u8; 27];
-    client.read_exact(&mut reply)?;
+    let client = TcpStream::connect(rt, address.as_str())?;
+    (&client).write_all(b"{\"id\":1,\"state\":{}}\n")?;
+    serve(rt.alloc(), link)?;
+    (&client).read_exact(&mut reply)?;
     Ok(reply == *REPLY)
 }
 
 #[test]
 fn a_reply_comes_as_a_line(rt: HostRuntime) -> Result<(), Fail> {
-    let address = free_address(&rt)?;
-    let mut link = open_link(&rt, "a", &address, Vec::new(rt.alloc()))?;
-    let client = TcpStream::connect(&rt, address.as_str())?;
-    (&client).write_all(b"{\"id\":1,\"state\":{}}\n")?;
-    serve(rt.alloc(), &mut link)?;
-    assert!(rt; gets_reply(&client)?);
+    let (mut link, address) = open_link(&rt, "a", Vec::new(rt.alloc()))?;
+    assert!(rt; gets_reply(&rt, &mut link, &address)?);
     Ok(())
 }
 
@@ -102,52 +77,29 @@ fn is_asked(bytes: &[u8]) -> bool {
     bytes.starts_with(ASKED) && SealedFrames.sender(bytes) == NodeId::parse("a").ok()
 }
 
-// Whether the bytes that come are that frame, where some come.
-fn came(link: &mut RealLink) -> Option<bool> {
-    match link.next() {
-        Ok(Input::Bytes { bytes, .. }) => Some(is_asked(bytes.as_slice())),
-        _ => None,
-    }
-}
-
-fn only_b(alloc: Global, address: &String) -> Result<Vec<Peer>, Fail> {
-    let id = NodeId::parse("b")?;
-    let address = address.clone()?;
-    Ok(vec![in alloc; Peer { id, address }]?)
-}
-
-// The link of a, whose peer is b, and that of b.
-fn two_links(rt: &HostRuntime) -> Result<(RealLink, RealLink), Fail> {
-    let (there, here) = (free_address(rt)?, free_address(rt)?);
-    let asked = open_link(rt, "b", &there, Vec::new(rt.alloc()))?;
-    let asking = open_link(rt, "a", &here, only_b(rt.alloc(), &there)?)?;
-    Ok((asking, asked))
-}
-
-// A tick of the node, and what it sends.
-fn tick(alloc: Global, node: Member, now: u64, link: &mut RealLink) -> Result<Member, Fail> {
-    let (next, sealed) = node.step(alloc, Event::Tick { now, word: 7 })?;
-    link.send(sealed);
-    let _ = link.next();
-    Ok(next)
-}
-
-// The node ticks once a second, until its frame comes.
-fn asks(alloc: Global, asking: &mut RealLink, asked: &mut RealLink) -> Result<bool, Fail> {
-    let mut node = start(alloc)?;
-    for second in 1..101 {
-        node = tick(alloc, node, second * 1000, asking)?;
-        if let Some(is_asked) = came(asked) {
-            return Ok(is_asked);
+// Whether the bytes that come first are that frame.
+fn came(link: &mut RealLink) -> bool {
+    for _ in 0..100 {
+        if let Ok(Input::Bytes { bytes, .. }) = link.next() {
+            return is_asked(bytes.as_slice());
         }
     }
-    Ok(false)
+    false
+}
+
+// Whether the frame by which a asks b comes to b's link, whose address this is.
+fn asks(rt: &HostRuntime, asked: &mut RealLink, address: String) -> Result<bool, Fail> {
+    let id = NodeId::parse("b")?;
+    let peers = vec![in rt.alloc(); Peer { id, address }]?;
+    let (mut asking, _) = open_link(rt, "a", peers)?;
+    serve(rt.alloc(), &mut asking)?;
+    Ok(came(asked))
 }
 
 #[test]
 fn a_frame_comes_whole_to_its_receiver(rt: HostRuntime) -> Result<(), Fail> {
-    let (mut asking, mut asked) = two_links(&rt)?;
-    assert!(rt; asks(rt.alloc(), &mut asking, &mut asked)?);
+    let (mut asked, address) = open_link(&rt, "b", Vec::new(rt.alloc()))?;
+    assert!(rt; asks(&rt, &mut asked, address)?);
     Ok(())
 }
 
@@ -159,24 +111,17 @@ fn blanks(alloc: Global, length: usize) -> Result<String, AllocError> {
     Ok(text)
 }
 
-// The first state, with one setting, whose key and text have so many bytes.
-fn state(alloc: Global, key: usize, text: usize) -> Result<SharedState, AllocError> {
-    let mut state = ClusterState::initial(alloc, &NodeSet::new())?;
-    put(&mut state, &blanks(alloc, key)?, &blanks(alloc, text)?)?;
-    SharedState::of(alloc, state)
-}
-
-fn put(state: &mut ClusterState, key: &String, text: &String) -> Result<(), AllocError> {
+fn put(alloc: Global, state: &mut ClusterState, key: usize, text: usize) -> Result<(), AllocError> {
+    let key = blanks(alloc, key)?;
+    let text = blanks(alloc, text)?;
     state.value.settings.put(key.as_str(), text.as_str())
 }
 
-// A frame that publishes it.
-fn published(alloc: Global, key: usize, text: usize) -> Result<Frame, AllocError> {
-    Ok(Frame {
-        from: NodeId::default(),
-        to: NodeId::default(),
-        message: WireMessage::Publish(state(alloc, key, text)?),
-    })
+// The first state, with one setting, whose key and text have so many bytes.
+fn state(alloc: Global, key: usize, text: usize) -> Result<SharedState, AllocError> {
+    let mut state = ClusterState::initial(alloc, &NodeSet::new())?;
+    put(alloc, &mut state, key, text)?;
+    SharedState::of(alloc, state)
 }
 
 // How many bytes a setting's key and text have, and whether the frame is fit.
@@ -188,8 +133,13 @@ const LENGTHS: &[(usize, usize, bool)] = &[
     (1, 1_025, false),
 ];
 
+// Whether a frame that publishes this state is fit.
 fn is_fit_so(alloc: Global, key: usize, text: usize) -> Result<bool, AllocError> {
-    let frame = published(alloc, key, text)?;
+    let frame = Frame {
+        from: NodeId::default(),
+        to: NodeId::default(),
+        message: WireMessage::Publish(state(alloc, key, text)?),
+    };
     Ok(is_fit(&frame))
 }
 

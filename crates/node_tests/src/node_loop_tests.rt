@@ -1,17 +1,20 @@
-//! Nodes over links, sinks and disks in memory. The expected lines are those that the description of the formats gives.
+//! Nodes over links, sinks and disks in memory, from the opening of the journal to the end of the run, as the program does it.
+//! The expected lines are those that docs/formats.md gives, and of pre-votes and voting-only nodes what follows from
+//! docs/policy.md.
 ghost use Rattle.std.specs.Prelude.{◌<◌, IfOk, IsTrue};
 ghost use Rattle.std.specs.List.{list_all};
 ghost use Rattle.zen_link.specs.Told.{has_low_conn, most_connections};
 
-use self::Comes::{Gone, Letters, OnFour, OnThree, Tick};
-use crate::members::settings_of;
-use crate::shown::wrote;
+use self::Comes::{Draws, Gone, Letters, OnFour, OnThree, Tick};
+use crate::settings::{ALONE, Names, OF_TWO, settings_of};
 use bytes::Bytes;
 use coordinator::Sealed;
-use node_loop::{End, JournalNode, Node, law_crash_is_kill, law_end_is_kept, law_moment_is_cut};
+use node_loop::{End, Node, law_crash_is_kill, law_end_is_kept, law_moment_is_cut};
+use policy_model::Settings;
+use state_journal::OpenError;
 use std::alloc::{AllocError, Global};
 use std::test::Fail;
-use zen_disk::MemDisks;
+use zen_disk::{Disks, MemDisks, Side};
 use zen_link::{Input, MemLink, MemSink, Traffic};
 
 // ---- the laws
@@ -29,8 +32,10 @@ fn the_laws_can_be_called() {
 // What comes to the node at a turn.
 #[derive(Clone, Copy)]
 enum Comes {
-    // A tick at this time.
+    // A tick at this time, which draws 0.
     Tick(u64),
+    // A tick at this time, which draws this word.
+    Draws(u64, u64),
     // These bytes, over connection 3.
     OnThree(&'static [u8]),
     // The same over connection 4.
@@ -67,6 +72,7 @@ fn input(alloc: Global, comes: Comes) -> Result<Input, AllocError>
 {
     match comes {
         Tick(now) => Ok(Input::Tick { now, word: 0 }),
+        Draws(now, word) => Ok(Input::Tick { now, word }),
         OnThree(text) => Ok(bytes(3, text)),
         OnFour(text) => Ok(bytes(4, text)),
         Letters(count) => long_line(alloc, count),
@@ -126,6 +132,71 @@ const SLOWLY: &[Comes] = &[
     OnThree(b"a"),
 ];
 
+// The node finds its fellow voter b and asks it for pre-votes. An answer of the last term ends the round, so that a further one
+// finds none; the next round is answered with the term before it.
+const PRE_VOTES: &[Comes] = &[
+    Draws(0, 7),
+    OnThree(b"\0\0\0\x13\x08\x01b\x01a\0\0\0\0\0\0\0\0\0\x02\x01a\x01b"),
+    Draws(1_000, 7),
+    Draws(2_000, 7),
+    OnThree(b"\0\0\0\x1d\x0a\x01b\x01a\x40\0\0\0\0\0\0\0\0\0\0\0\0\0\0\0\0\0\0\0\0\0\0\0"),
+    OnThree(b"\0\0\0\x1d\x0a\x01b\x01a\0\0\0\0\0\0\0\0\0\0\0\0\0\0\0\0\0\0\0\0\0\0\0\0"),
+    Draws(3_000, 7),
+    OnThree(
+        b"\0\0\0\x1d\x0a\x01b\x01a\x3f\xff\xff\xff\xff\xff\xff\xff\0\0\0\0\0\0\0\0\0\0\0\0\0\0\0\0",
+    ),
+];
+
+// A join of v by itself comes last, as no sound node sends it.
+const VOTES_ONLY: &[Comes] = &[
+    Draws(0, 7),
+    Draws(8, 7),
+    Draws(100_000, 7),
+    OnThree(b"\0\0\0\x1d\x02\x01v\x01v\0\0\0\0\0\0\0\x01\0\0\0\0\0\0\0\0\0\0\0\0\0\0\0\0"),
+];
+
+// What is written of one tick, at which the node bootstraps.
+const BOOTED: &[&str] = &[
+    "record a 0 0/0 _ _",
+    "> start",
+    "> tick 1 0",
+    "act a ok boot a",
+];
+
+// What is written of three ticks.
+const TICKED: &[&str] = &[
+    "record a 0 0/0 _ _",
+    "> start",
+    "> tick 1 0",
+    "act a ok boot a",
+    "> tick 2 0",
+    "m1 a->a startjoin a 1",
+    "> tick 3 0",
+];
+
+// A history counts the frames of its own node alone.
+const PRE_VOTED: &[&str] = &[
+    "record a 0 0/0 _ _",
+    "> start",
+    "> tick 0 7",
+    "m1 a->b peersask b",
+    "> frame b peersanswer _ 0 a,b",
+    "> tick 1000 7",
+    "act a ok boot a,b",
+    "m2 a->b peersask b",
+    "> tick 2000 7",
+    "m3 a->b peersask b",
+    "m4 a->b prevoteask",
+    "> frame b prevoteanswer 4611686018427387904 0/0",
+    "> frame b prevoteanswer 0 0/0",
+    "> tick 3000 7",
+    "m5 a->b peersask b",
+    "m6 a->b prevoteask",
+    "> frame b prevoteanswer 4611686018427387903 0/0",
+    "m7 a->a startjoin a 4611686018427387904",
+    "m8 a->b startjoin a 4611686018427387904",
+];
+
 // What is written of the election.
 const ELECTED: &[&str] = &[
     "record a 0 0/0 _ _",
@@ -165,9 +236,332 @@ const ELECTED: &[&str] = &[
     "reply a {\"acked\":{\"term\":1,\"version\":2},\"id\":1}",
 ];
 
-// ---- what goes over a link
+// ---- runs
 
-fn letter<O: Drop>(traffic: &Traffic<O>) -> u8 {
+// A run of a node over an empty disk, and what is to come of it.
+#[derive(Clone, Copy)]
+struct Run {
+    name: &'static str,
+    names: Names,
+    script: &'static [Comes],
+    // The numbers of the calls of disk, link and sink that fail, the first being 1; 0 is none.
+    fails: (u64, u64, u64),
+    // Whether a write takes all that it is given, and not a few bytes of it.
+    writes_whole: bool,
+    end: End,
+    // The lines that it writes. `...` stands for any line.
+    lines: &'static [&'static str],
+    // A letter each for what goes over its link: for what is taken, given and dropped.
+    traffic: &'static [u8],
+}
+
+// A run of a turn for each input, in writes of few bytes.
+const SERVED: Run = Run {
+    name: "",
+    names: ALONE,
+    script: &[],
+    fails: (0, 0, 0),
+    writes_whole: false,
+    end: End::Turns,
+    lines: &[],
+    traffic: b"",
+};
+
+const V_ALONE: Names = Names {
+    me: "v",
+    nodes: "v",
+    initial: "v",
+    voting_only: "v",
+};
+
+const RUNS: &[Run] = &[
+    Run {
+        name: "a node takes a turn for each tick",
+        script: TICKS,
+        lines: TICKED,
+        traffic: b"gtgtgtg",
+        ..SERVED
+    },
+    Run {
+        name: "a line in two pieces is answered by a candidate",
+        script: &[OnThree(b"{\"id\":7,"), OnThree(b"\"state\":{}}\n{\"id\":8")],
+        lines: &[
+            "record a 0 0/0 _ _",
+            "> start",
+            "> client {\"id\":7,\"state\":{}}",
+            "reply a {\"id\":7,\"not_master\":null}",
+        ],
+        traffic: b"gttg",
+        ..SERVED
+    },
+    // A body of one byte, whose kind is 255.
+    Run {
+        name: "behind a fault a connection is dropped and begins anew",
+        script: &[
+            OnThree(b"\0\0\0\x01\xff"),
+            OnThree(b"{\"id\":7,\"state\":{}}\n"),
+        ],
+        lines: &[
+            "record a 0 0/0 _ _",
+            "> start",
+            "> bad 3 UnknownKind(255)",
+            "> client {\"id\":7,\"state\":{}}",
+            "reply a {\"id\":7,\"not_master\":null}",
+        ],
+        traffic: b"gtdtg",
+        ..SERVED
+    },
+    Run {
+        name: "a frame of an unknown kind drops its connection",
+        script: &[OnThree(
+            b"\0\0\0\x1d\x10\x01a\x01b\0\0\0\0\0\0\0\x01\0\0\0\0\0\0\0\0\0\0\0\0\0\0\0\0",
+        )],
+        lines: &["record a 0 0/0 _ _", "> start", "> bad 3 UnknownKind(16)"],
+        traffic: b"gtd",
+        ..SERVED
+    },
+    Run {
+        name: "so does a length above 8 MiB",
+        script: &[OnThree(b"\0\x80\0\x01")],
+        lines: &["record a 0 0/0 _ _", "> start", "> bad 3 TooLong"],
+        traffic: b"gtd",
+        ..SERVED
+    },
+    Run {
+        name: "so does a term above the last one",
+        script: &[OnThree(b"\0\0\0\x0f\x01\x01a\x01b\x01a\x40\0\0\0\0\0\0\x01")],
+        lines: &[
+            "record a 0 0/0 _ _",
+            "> start",
+            "> bad 3 Field(TermTooLarge)",
+        ],
+        traffic: b"gtd",
+        ..SERVED
+    },
+    Run {
+        name: "a connection that ends within a frame is gone",
+        script: &[OnThree(b"\0\0\0"), Gone],
+        lines: &["record a 0 0/0 _ _", "> start", "> gone 3"],
+        traffic: b"gtt",
+        ..SERVED
+    },
+    Run {
+        name: "a frame comes with its last byte",
+        script: SLOWLY,
+        lines: &[
+            "record a 0 0/0 _ _",
+            "> start",
+            "> tick 1 0",
+            "act a ok boot a",
+            "> tick 1 0",
+            "> tick 1 0",
+            "> tick 1 0",
+            "> tick 1 0",
+            "> tick 1 0",
+            "> tick 1 0",
+            "> tick 1 0",
+            "> frame a prevoteask",
+            "m1 a->a prevoteanswer 0 0/0",
+        ],
+        traffic: b"gttgttgttgttgttgttgttgttgtg",
+        ..SERVED
+    },
+    Run {
+        name: "a line of 8,192 bytes is read",
+        script: &[Letters(8_192)],
+        lines: &[
+            "record a 0 0/0 _ _",
+            "> start",
+            "...",
+            "reply a {\"error\":\"not_json\"}",
+        ],
+        traffic: b"gtg",
+        ..SERVED
+    },
+    Run {
+        name: "one of 8,193 bytes is too long",
+        script: &[Letters(8_193)],
+        lines: &[
+            "record a 0 0/0 _ _",
+            "> start",
+            "...",
+            "reply a {\"error\":\"too_long\"}",
+        ],
+        traffic: b"gtg",
+        ..SERVED
+    },
+    Run {
+        name: "an empty line and one of two requests are answered",
+        script: &[
+            OnThree(b"\n"),
+            OnThree(b"{\"id\":1,\"put\":{},\"state\":{}}\n"),
+        ],
+        lines: &[
+            "record a 0 0/0 _ _",
+            "> start",
+            "> client ",
+            "reply a {\"error\":\"not_json\"}",
+            "> client {\"id\":1,\"put\":{},\"state\":{}}",
+            "reply a {\"error\":\"bad_shape\"}",
+        ],
+        traffic: b"gtgtg",
+        ..SERVED
+    },
+    Run {
+        name: "a node alone is elected and acknowledges a put",
+        script: ELECTION,
+        lines: ELECTED,
+        traffic: b"gtgtgtgtgtgtgtgtgtgtg",
+        ..SERVED
+    },
+    Run {
+        name: "pre_votes_of_the_last_term_end_a_round_with_no_election",
+        names: OF_TWO,
+        script: PRE_VOTES,
+        lines: PRE_VOTED,
+        traffic: b"gtgtgtgtgtgtgtgtg",
+        ..SERVED
+    },
+    // A voting-only node takes the first configuration, and never stands for election, though it is a quorum alone. It does
+    // nothing with a join: its term does not even rise.
+    Run {
+        name: "a_voting_only_node_stands_for_no_election_and_counts_no_join",
+        names: V_ALONE,
+        script: VOTES_ONLY,
+        lines: &[
+            "record v 0 0/0 _ _",
+            "> start",
+            "> tick 0 7",
+            "act v ok boot v",
+            "> tick 8 7",
+            "> tick 100000 7",
+            "> frame v join 1 0/0",
+        ],
+        traffic: b"gtgtgtgtg",
+        ..SERVED
+    },
+];
+
+// These inputs, and then Stop, of as many turns as one likes.
+const ENDED: Run = Run {
+    script: TICKS,
+    writes_whole: true,
+    end: End::Stop,
+    ..SERVED
+};
+
+// A run that the disk ends within its first tick.
+const STRUCK: Run = Run {
+    end: End::Disk,
+    lines: &[
+        "record a 0 0/0 _ _",
+        "> start",
+        "> tick 1 0",
+        "act a disk boot a",
+    ],
+    traffic: b"gt",
+    ..ENDED
+};
+
+// Runs that end by what fails, or at a stop.
+const ENDS: &[Run] = &[
+    Run {
+        name: "the script is over",
+        lines: TICKED,
+        traffic: b"gtgtgtgt",
+        ..ENDED
+    },
+    Run {
+        name: "the link fails",
+        fails: (0, 1, 0),
+        end: End::Link,
+        lines: &["record a 0 0/0 _ _", "> start"],
+        traffic: b"g",
+        ..ENDED
+    },
+    // The first write is the line of the opening, the second that of the start. Nothing is sent whose lines are not written.
+    Run {
+        name: "the first write fails",
+        fails: (0, 0, 1),
+        end: End::Write,
+        ..ENDED
+    },
+    Run {
+        name: "the second write fails",
+        fails: (0, 0, 2),
+        end: End::Write,
+        lines: &["record a 0 0/0 _ _"],
+        ..ENDED
+    },
+    // The opening of an empty disk makes eight calls, and the first act that is kept four more.
+    Run {
+        name: "the disk fails in call 9",
+        fails: (9, 0, 0),
+        ..STRUCK
+    },
+    Run {
+        name: "the disk fails in call 10",
+        fails: (10, 0, 0),
+        ..STRUCK
+    },
+    Run {
+        name: "the disk fails in call 11",
+        fails: (11, 0, 0),
+        ..STRUCK
+    },
+    Run {
+        name: "the disk fails in call 12",
+        fails: (12, 0, 0),
+        ..STRUCK
+    },
+    // Where Stop comes second, one tick is done.
+    Run {
+        name: "a_run_ends_at_a_stop",
+        script: &[Tick(1)],
+        lines: BOOTED,
+        traffic: b"gtgt",
+        ..ENDED
+    },
+];
+
+const FIRST: Run = Run {
+    name: "the first run",
+    script: &[Tick(1)],
+    writes_whole: true,
+    lines: BOOTED,
+    traffic: b"gtg",
+    ..SERVED
+};
+
+const SECOND: Run = Run {
+    name: "the second run",
+    script: &[],
+    lines: &["record a 0 0/0 a a", "> start"],
+    traffic: b"gt",
+    ..ENDED
+};
+
+// ---- what is shown
+
+// Whether a sink was given these lines and no others.
+fn wrote(out: &MemSink, lines: &[&str]) -> bool {
+    let Ok(text) = str::from_utf8(out.as_bytes()) else {
+        return false;
+    };
+    let mut rest = text;
+    for line in lines {
+        let Some((shown, next)) = rest.split_once('\n') else {
+            return false;
+        };
+        if *line != "..." && shown != *line {
+            return false;
+        }
+        rest = next;
+    }
+    rest.is_empty()
+}
+
+fn letter(traffic: &Traffic<Sealed>) -> u8 {
     match traffic {
         Traffic::Took(_) => b't',
         Traffic::Gave(_) => b'g',
@@ -175,284 +569,117 @@ fn letter<O: Drop>(traffic: &Traffic<O>) -> u8 {
     }
 }
 
-// Whether this went over a link, in order: a letter each for what was taken, given and dropped.
+// Whether this went over a link, in order.
 fn went(link: &MemLink<Sealed>, letters: &[u8]) -> bool {
     let Some(traffic) = link.traffic() else {
         return false;
     };
-    traffic.len() == letters.len()
-        && traffic
-            .iter()
-            .zip(letters)
-            .all(|(traffic, wanted)| letter(traffic) == *wanted)
-}
-
-// ---- runs
-
-fn calls(alloc: Global, call: u64) -> Result<Vec<u64>, AllocError> {
-    Ok(vec![in alloc; call]?)
-}
-
-// The node a, which is the only first voter and knows no other node, over an empty disk whose call of this number fails.
-fn open(alloc: Global, fails: u64) -> Result<JournalNode<MemDisks>, Fail> {
-    let fails = calls(alloc, fails)?;
-    let disk = MemDisks::new(alloc, Vec::new(alloc), Vec::new(alloc), fails);
-    match Node::open(alloc, settings_of(alloc, "a", &["a"], &["a"], &[])?, disk) {
-        Ok(node) => Ok(node),
-        Err(_) => Err(Fail::new("the journal was not opened")),
+    for (traffic, wanted) in traffic.iter().zip(letters) {
+        if letter(traffic) != *wanted {
+            return false;
+        }
     }
+    traffic.len() == letters.len()
+}
+
+// ---- nodes
+
+// An empty disk whose call of this number fails.
+fn empty_disk(alloc: Global, fails: u64) -> Result<MemDisks, AllocError> {
+    let fails = vec![in alloc; fails]?;
+    Ok(MemDisks::new(alloc, Vec::new(alloc), Vec::new(alloc), fails))
 }
 
 // A link that gives this, and whose call of this number fails.
 fn link_of(alloc: Global, script: &[Comes], fails: u64) -> Result<MemLink<Sealed>, AllocError> {
     let inputs = inputs(alloc, script)?;
-    Ok(MemLink::new(alloc, inputs, calls(alloc, fails)?))
+    Ok(MemLink::new(alloc, inputs, vec![in alloc; fails]?))
 }
 
-// What a run is to show: the lines that it writes, and a letter each for what goes over its link.
-type Shown = (&'static [&'static str], &'static [u8]);
-
-fn is_shown(out: &MemSink, link: &MemLink<Sealed>, shown: Shown) -> bool {
-    wrote(out, shown.0) && went(link, shown.1)
+// The end of a run over a disk, and the disk that it gives back.
+fn open_and_run(
+    alloc: Global,
+    settings: Settings,
+    disk: MemDisks,
+    link: &mut MemLink<Sealed>,
+    out: &mut MemSink,
+    turns: u64,
+) -> Result<(MemDisks, End), OpenError<MemDisks>> {
+    let node = Node::open(alloc, settings, disk)?;
+    // What it lends here it gives back at the end.
+    let _ = node.disk();
+    Ok(node.run(link, out, turns))
 }
 
-// Whether the run of this script, a turn each, shows this. A write takes few bytes.
-fn is_served(alloc: Global, script: &[Comes], shown: Shown) -> Result<bool, Fail> {
-    let mut out = MemSink::new(alloc, 7, Vec::new(alloc));
-    let mut link = link_of(alloc, script, 0)?;
-    let mut node = open(alloc, 0)?;
-    let end = node.serve(&mut link, &mut out, script.len() as u64);
-    Ok(end == End::Turns && is_shown(&out, &link, shown))
+// The same of a run that is to be opened.
+fn ended(
+    alloc: Global,
+    run: &Run,
+    disk: MemDisks,
+    link: &mut MemLink<Sealed>,
+    out: &mut MemSink,
+) -> Result<(MemDisks, End), Fail> {
+    let turns = match run.end {
+        End::Turns => run.script.len() as u64,
+        _ => 9,
+    };
+    let settings = settings_of(alloc, &run.names)?;
+    match open_and_run(alloc, settings, disk, link, out, turns) {
+        Ok(ended) => Ok(ended),
+        Err(_) => Err(Fail::new("the journal was not opened")),
+    }
 }
 
-// A name, what comes, and what is shown.
-type Run = (&'static str, &'static [Comes], Shown);
-
-const RUNS: &[Run] = &[
-    (
-        "a node takes a turn for each tick",
-        TICKS,
-        (&["..."], b"gtgtgtg"),
-    ),
-    (
-        "a line in two pieces is answered by a candidate",
-        &[OnThree(b"{\"id\":7,"), OnThree(b"\"state\":{}}\n{\"id\":8")],
-        (
-            &[
-                "record a 0 0/0 _ _",
-                "> start",
-                "> client {\"id\":7,\"state\":{}}",
-                "reply a {\"id\":7,\"not_master\":null}",
-            ],
-            b"gttg",
-        ),
-    ),
-    // A body of one byte, whose kind is 255.
-    (
-        "behind a fault a connection is dropped and begins anew",
-        &[
-            OnThree(b"\0\0\0\x01\xff"),
-            OnThree(b"{\"id\":7,\"state\":{}}\n"),
-        ],
-        (
-            &[
-                "record a 0 0/0 _ _",
-                "> start",
-                "> bad 3 UnknownKind(255)",
-                "> client {\"id\":7,\"state\":{}}",
-                "reply a {\"id\":7,\"not_master\":null}",
-            ],
-            b"gtdtg",
-        ),
-    ),
-    (
-        "a frame of an unknown kind drops its connection",
-        &[OnThree(b"\0\0\0\x1d\x10\x01a\x01b\0\0\0\0\0\0\0\x01\0\0\0\0\0\0\0\0\0\0\0\0\0\0\0\0")],
-        (
-            &["record a 0 0/0 _ _", "> start", "> bad 3 UnknownKind(16)"],
-            b"gtd",
-        ),
-    ),
-    (
-        "so does a length above 8 MiB",
-        &[OnThree(b"\0\x80\0\x01")],
-        (
-            &["record a 0 0/0 _ _", "> start", "> bad 3 TooLong"],
-            b"gtd",
-        ),
-    ),
-    (
-        "so does a term above the last one",
-        &[OnThree(b"\0\0\0\x0f\x01\x01a\x01b\x01a\x40\0\0\0\0\0\0\x01")],
-        (
-            &[
-                "record a 0 0/0 _ _",
-                "> start",
-                "> bad 3 Field(TermTooLarge)",
-            ],
-            b"gtd",
-        ),
-    ),
-    (
-        "a connection that ends within a frame is gone",
-        &[OnThree(b"\0\0\0"), Gone],
-        (&["record a 0 0/0 _ _", "> start", "> gone 3"], b"gtt"),
-    ),
-    (
-        "a frame comes with its last byte",
-        SLOWLY,
-        (
-            &[
-                "record a 0 0/0 _ _",
-                "> start",
-                "> tick 1 0",
-                "act a ok boot a",
-                "> tick 1 0",
-                "> tick 1 0",
-                "> tick 1 0",
-                "> tick 1 0",
-                "> tick 1 0",
-                "> tick 1 0",
-                "> tick 1 0",
-                "> frame a prevoteask",
-                "m1 a->a prevoteanswer 0 0/0",
-            ],
-            b"gttgttgttgttgttgttgttgttgtg",
-        ),
-    ),
-    (
-        "a line of 8,192 bytes is read",
-        &[Letters(8_192)],
-        (
-            &[
-                "record a 0 0/0 _ _",
-                "> start",
-                "...",
-                "reply a {\"error\":\"not_json\"}",
-            ],
-            b"gtg",
-        ),
-    ),
-    (
-        "one of 8,193 bytes is too long",
-        &[Letters(8_193)],
-        (
-            &[
-                "record a 0 0/0 _ _",
-                "> start",
-                "...",
-                "reply a {\"error\":\"too_long\"}",
-            ],
-            b"gtg",
-        ),
-    ),
-    (
-        "an empty line and one of two requests are answered",
-        &[
-            OnThree(b"\n"),
-            OnThree(b"{\"id\":1,\"put\":{},\"state\":{}}\n"),
-        ],
-        (
-            &[
-                "record a 0 0/0 _ _",
-                "> start",
-                "> client ",
-                "reply a {\"error\":\"not_json\"}",
-                "> client {\"id\":1,\"put\":{},\"state\":{}}",
-                "reply a {\"error\":\"bad_shape\"}",
-            ],
-            b"gtgtg",
-        ),
-    ),
-    (
-        "a node alone is elected and acknowledges a put",
-        ELECTION,
-        (ELECTED, b"gtgtgtgtgtgtgtgtgtgtg"),
-    ),
-];
+// Runs a node, which ends and shows what it is to. Answers its disk.
+fn runs_so(alloc: Global, run: &Run, disk: MemDisks) -> Result<MemDisks, Fail> {
+    let most = if run.writes_whole { 1 << 20 } else { 7 };
+    let mut out = MemSink::new(alloc, most, vec![in alloc; run.fails.2]?);
+    let mut link = link_of(alloc, run.script, run.fails.1)?;
+    let (disk, end) = ended(alloc, run, disk, &mut link, &mut out)?;
+    if end == run.end && wrote(&out, run.lines) && went(&link, run.traffic) {
+        return Ok(disk);
+    }
+    Err(Fail::new(run.name))
+}
 
 #[test]
 fn a_node_serves_its_link(rt: HostRuntime) -> Result<(), Fail> {
-    for (name, script, shown) in RUNS {
-        assert!(rt; is_served(rt.alloc(), script, *shown)?, "{name}");
+    for run in RUNS {
+        let _ = runs_so(rt.alloc(), run, empty_disk(rt.alloc(), run.fails.0)?)?;
     }
     Ok(())
 }
-
-// The numbers of the calls of disk, link and sink that fail, the first being 1; 0 is none.
-type Fails = (u64, u64, u64);
-
-// Whether these inputs, and then Stop, of as many turns as one likes, end so and show this.
-fn ends_so(
-    alloc: Global,
-    script: &[Comes],
-    fails: Fails,
-    end: End,
-    shown: Shown,
-) -> Result<bool, Fail> {
-    let mut out = MemSink::new(alloc, 1 << 20, calls(alloc, fails.2)?);
-    let mut link = link_of(alloc, script, fails.1)?;
-    let mut node = open(alloc, fails.0)?;
-    let ended = node.serve(&mut link, &mut out, 9);
-    Ok(ended == end && is_shown(&out, &link, shown))
-}
-
-// What a run shows that the disk ends within its first tick.
-const STRUCK: Shown = (
-    &[
-        "record a 0 0/0 _ _",
-        "> start",
-        "> tick 1 0",
-        "act a disk boot a",
-    ],
-    b"gt",
-);
-
-const OPENED: &[&str] = &["record a 0 0/0 _ _"];
-
-// What fails, how the run ends, and what it shows.
-const ENDS: &[(Fails, End, Shown)] = &[
-    // The script is over.
-    ((0, 0, 0), End::Stop, (&["..."], b"gtgtgtgt")),
-    (
-        (0, 1, 0),
-        End::Link,
-        (&["record a 0 0/0 _ _", "> start"], b"g"),
-    ),
-    // The first write is the line of the opening, the second that of the start. Nothing is sent whose lines are not written.
-    ((0, 0, 1), End::Write, (&[], b"")),
-    ((0, 0, 2), End::Write, (OPENED, b"")),
-    // The opening of an empty disk makes eight calls, and the first act that is kept four more.
-    ((9, 0, 0), End::Disk, STRUCK),
-    ((10, 0, 0), End::Disk, STRUCK),
-    ((11, 0, 0), End::Disk, STRUCK),
-    ((12, 0, 0), End::Disk, STRUCK),
-];
 
 #[test]
 fn a_run_ends_by_what_fails(rt: HostRuntime) -> Result<(), Fail> {
-    for (fails, end, shown) in ENDS {
-        assert!(rt;
-            ends_so(rt.alloc(), TICKS, *fails, *end, *shown)?,
-            "{fails:?}"
-        );
+    for run in ENDS {
+        let _ = runs_so(rt.alloc(), run, empty_disk(rt.alloc(), run.fails.0)?)?;
     }
     Ok(())
 }
 
-// Where Stop comes second, one tick is done.
-const STOPPED: Shown = (
-    &[
-        "record a 0 0/0 _ _",
-        "> start",
-        "> tick 1 0",
-        "act a ok boot a",
-    ],
-    b"gtgt",
-);
+#[test]
+fn the_disk_of_a_run_is_opened_by_the_next_one(rt: HostRuntime) -> Result<(), Fail> {
+    let disk = runs_so(rt.alloc(), &FIRST, empty_disk(rt.alloc(), 0)?)?;
+    let _ = runs_so(rt.alloc(), &SECOND, disk)?;
+    Ok(())
+}
+
+// The disk whose first call fails, handed back.
+fn handed_back(alloc: Global, out: &mut MemSink) -> Result<MemDisks, Fail> {
+    let settings = settings_of(alloc, &ALONE)?;
+    let mut link = link_of(alloc, &[], 0)?;
+    match open_and_run(alloc, settings, empty_disk(alloc, 1)?, &mut link, out, 1) {
+        Err(OpenError::Disk(disk)) => Ok(disk),
+        _ => Err(Fail::new("the journal was opened")),
+    }
+}
 
 #[test]
-fn a_run_ends_at_a_stop(rt: HostRuntime) -> Result<(), Fail> {
-    assert!(rt; ends_so(rt.alloc(), &[Tick(1)], (0, 0, 0), End::Stop, STOPPED)?);
+fn a_disk_that_fails_at_the_opening_is_handed_back(rt: HostRuntime) -> Result<(), Fail> {
+    let mut out = MemSink::new(rt.alloc(), 1 << 20, Vec::new(rt.alloc()));
+    let mut disk = handed_back(rt.alloc(), &mut out)?;
+    assert!(rt; disk.len(Side::Zero)? == 0);
+    assert!(rt; out.as_bytes().is_empty());
     Ok(())
 }

@@ -1,6 +1,7 @@
 //! Whole runs of the program in memory: schedules with their traces, and each way in which a run ends. The traces follow from
 //! docs/policy.md and docs/formats.md, the endings from the table of statuses there.
 mod audits;
+mod coordinators;
 mod inspections;
 mod nodes;
 mod passages;
